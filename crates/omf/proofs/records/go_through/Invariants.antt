@@ -1,0 +1,17 @@
+use Rattle.std.proofs.Common.{◌≡◌, ◌-◌, List, length, Some}
+use Rattle.omf_frame.specs.Frame.{Frame}
+use Rattle.omf.specs.Records.{AreBeforeEnd, output}
+use Rattle.omf.specs.Reading.{WentThrough}
+use Rattle.omf.proofs.records.go_through.Given as goal
+
+abbrev pub invariant-loop-frame : goal.invariant-loop-frame
+invariant-loop-frame g l =
+    (fs : List Frame) × AreBeforeEnd fs
+    × (through : WentThrough (output l.form) fs (g.S.Source.remaining l.initial.source) (g.S.Source.remaining l.source) (g.K.Sink.written l.initial.sink) (g.K.Sink.written l.sink))
+    × (l.place ≡ length through.bytes)
+    × (l.buf ≡ Some l.place)
+    × (g.S.Source.failures l.source ≡ g.S.Source.failures l.initial.source)
+    × (g.K.Sink.failures l.sink ≡ g.K.Sink.failures l.initial.sink)
+
+abbrev pub decreases-loop-frame : goal.decreases-loop-frame
+decreases-loop-frame g l = 8589934592 - l.place

@@ -1,0 +1,7 @@
+use Rattle.omf.specs.Records.{output}
+use Rattle.omf.specs.declared.records.Form.TheVariants.{Listing}
+use Rattle.omf.proofs.Through.{only_answer}
+use Rattle.omf.proofs.records.show.Goals as goal
+
+pub returns-clause-only : goal.returns-clause-only
+returns-clause-only g c = λ fs last bytes rest before end are told. only_answer _ (output Listing) fs last bytes rest _ _ _ _ c.go_through.result before end are told c.go_through.ensures.output
