@@ -18,7 +18,7 @@ segment data public align=2 class=DATA
 count:  dw      3
 where:  dw      total
 far_where:
-        dd      count
+        dw      count, dgroup
 
 segment bss public align=2 class=BSS
 

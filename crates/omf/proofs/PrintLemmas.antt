@@ -9,7 +9,7 @@ use Rattle.std.proofs.lemmas.Grind.{flat_map-append}
 use Rattle.std.proofs.lemmas.Int.Digits.{digits_of_step, length-digits_of-le}
 use Rattle.omf_frame.specs.Device.{AppendsFront}
 use Rattle.omf_frame.proofs.Told.{Appends-trans, AppendsFront-more, AppendsFront-then}
-use Rattle.omf.specs.Printing.{digit, hexadecimal}
+use Rattle.omf.specs.Printing.{AppendsBut, digit, hexadecimal}
 
 -- ---- texts one after the other
 
@@ -36,11 +36,6 @@ columns_joined pieces a b c d e f g h i j is =
     pieces_joined pieces _ is
     ∙ ap (λ l. a ++ (b ++ (c ++ (d ++ l)))) (ap (λ l. e ++ (f ++ (g ++ l))) (sym (append_assoc h i (j ++ []))) ∙ sym (append_assoc e f (g ++ ((h ++ i) ++ (j ++ [])))))
 
--- one more item was written
-pub item_written : {X : Type 0} (f : X → List ℕ) (xs : List X) (i : ℕ) (d : X) (a b c : Option (List ℕ)) → i < length xs
-    → Appends a b (flat_map f (take i xs)) → Appends b c (f (get_or xs i d)) → Appends a c (flat_map f (take (i + 1) xs))
-item_written f xs i d a b c h p q = subst (Appends a c) (sym (flat_map-take_more f xs i d h)) (Appends-trans a b c _ _ p q)
-
 -- a front of one more item was written
 pub item_cut : {X : Type 0} (f : X → List ℕ) (xs : List X) (i : ℕ) (d : X) (a b c : Option (List ℕ)) → i < length xs
     → Appends a b (flat_map f (take i xs)) → AppendsFront b c (f (get_or xs i d)) → AppendsFront a c (flat_map f xs)
@@ -58,6 +53,32 @@ ok_weaker (Err e) f p = p
 pub err_weaker : {T E P Q : Type 0} (r : Result T E) → (P → Q) → OnErr r P → OnErr r Q
 err_weaker (Ok x) f p = p
 err_weaker (Err e) f p = f p
+
+-- ---- an end that is held back
+
+held_cut : (held text : List ℕ) (a b c : Option (List ℕ)) → AppendsBut held a b text → AppendsFront b c held → AppendsFront a c text
+held_cut held text a b c (front, split, done) p = subst (AppendsFront a c) (sym split) (AppendsFront-then a b c front held done p)
+
+-- a front of the end was written
+pub end_cut : {X : Type 0} (f : X → List ℕ) (xs : List X) (i : ℕ) (held : List ℕ) (a b c : Option (List ℕ)) → length xs ≤ i
+    → AppendsBut held a b (flat_map f (take i xs)) → AppendsFront b c held → AppendsFront a c (flat_map f xs)
+end_cut f xs i held a b c h kept p = subst (λ l. AppendsFront a c (flat_map f l)) (take_all i xs h) (held_cut held _ a b c kept p)
+
+-- one more piece is written or held back
+pub piece_held : {X : Type 0} (f : X → List ℕ) (xs : List X) (i : ℕ) (d : X) (held after : List ℕ) (a b c : Option (List ℕ)) → i < length xs
+    → AppendsBut held a b (flat_map f (take i xs)) → AppendsBut after b c (held ++ f (get_or xs i d)) → AppendsBut after a c (flat_map f (take (i + 1) xs))
+piece_held f xs i d held after a b c h (front, split, done) (more, parted, then) =
+    let whole : flat_map f (take (i + 1) xs) ≡ (front ++ more) ++ after =
+    flat_map-take_more f xs i d h ∙ (ap (λ l. l ++ f (get_or xs i d)) split ∙ (append_assoc front held (f (get_or xs i d)) ∙ (ap (λ l. front ++ l) parted ∙ sym (append_assoc front more after)))) in
+    (front ++ more, whole, Appends-trans a b c front more done then)
+
+-- a front of what was held back and of one more piece was written
+pub piece_cut : {X : Type 0} (f : X → List ℕ) (xs : List X) (i : ℕ) (d : X) (held : List ℕ) (a b c : Option (List ℕ)) → i < length xs
+    → AppendsBut held a b (flat_map f (take i xs)) → AppendsFront b c (held ++ f (get_or xs i d)) → AppendsFront a c (flat_map f xs)
+piece_cut f xs i d held a b c h (front, split, done) p =
+    let whole : flat_map f (take (i + 1) xs) ≡ front ++ (held ++ f (get_or xs i d)) =
+    flat_map-take_more f xs i d h ∙ (ap (λ l. l ++ f (get_or xs i d)) split ∙ append_assoc front held (f (get_or xs i d))) in
+    AppendsFront-more a c _ (flat_map f (drop (i + 1) xs)) _ (subst (AppendsFront a c) (sym whole) (AppendsFront-then a b c front _ done p)) (flat_map-split f xs (i + 1))
 
 -- ---- the digits of a number
 
@@ -80,6 +101,12 @@ pub zeros_kept : (digits : List ℕ) (s x : ℕ) → 0 < s → take s digits ≡
 zeros_kept digits s x room zeros =
     take-set-le (s - 1) digits (s - 1) x (omega arith) ∙ (sym (take-take (s - 1) s digits (omega arith)) ∙ (ap (take (s - 1)) zeros ∙ take-replicate (s - 1) s 48 (omega arith)))
 
+-- what the digits hold from a place among the zeros before them
+from_zeros : (digits : List ℕ) (m s : ℕ) → m ≤ s → take s digits ≡ replicate s 48 → drop m digits ≡ replicate (s - m) 48 ++ drop s digits
+from_zeros digits m s below zeros =
+    ap (drop m) (sym (take-append-drop s digits) ∙ ap (λ l. l ++ drop s digits) zeros)
+    ∙ (drop-append-le m (replicate s 48) (drop s digits) (omega (arith, length-replicate {A = ℕ} s 48)) ∙ ap (λ l. l ++ drop s digits) (drop-replicate m s 48))
+
 abbrev zeros_before : ℕ → List ℕ → List ℕ
 zeros_before width l = replicate (width - length l) 48 ++ l
 
@@ -87,10 +114,7 @@ pub padded : (digits : List ℕ) (s n width : ℕ) → length digits ≡ 16 → 
     → drop (min s (16 - width)) digits ≡ hexadecimal width n
 unfolding hexadecimal
 padded digits s n width all within fits zeros are =
-    let m = min s (16 - width) in
     let len : length (drop s digits) ≡ 16 - s = omega (arith, length-drop s digits) in
-    let many : s - m ≡ width - length (drop s digits) = omega (arith, len) in
-    let split : drop m digits ≡ replicate (s - m) 48 ++ drop s digits =
-    ap (drop m) (sym (take-append-drop s digits) ∙ ap (λ l. l ++ drop s digits) zeros)
-    ∙ (drop-append-le m (replicate s 48) (drop s digits) (omega (arith, length-replicate {A = ℕ} s 48)) ∙ ap (λ l. l ++ drop s digits) (drop-replicate m s 48)) in
-    split ∙ (ap (λ k. replicate k 48 ++ drop s digits) many ∙ ap (zeros_before width) (sym are))
+    let many : s - min s (16 - width) ≡ width - length (drop s digits) = omega (arith, len) in
+    from_zeros digits (min s (16 - width)) s (omega arith) zeros
+    ∙ (ap (λ k. replicate k 48 ++ drop s digits) many ∙ ap (zeros_before width) {x = drop s digits} {y = map digit (digits_of 16 n)} (sym are))

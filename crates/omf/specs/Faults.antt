@@ -1,8 +1,9 @@
--- A framing fault as a fault of the only input.
+-- A fault of reading as a fault of the only input.
 use Rattle.omf_frame.specs.declared.reading.FramingFault.{FramingFault}
 use Rattle.omf_frame.specs.declared.reading.FramingFault.TheVariants as framing
 use Rattle.omf_frame.specs.declared.reading.FrameFault.{FrameFault}
 use Rattle.omf_frame.specs.declared.reading.FrameFault.TheVariants as frame
+use Rattle.omf_record.specs.Records.{ReadingFault, Framing, NoEnd, OtherType, WrongBody}
 use Rattle.omf.specs.declared.fault.RecordFault.{RecordFault}
 use Rattle.omf.specs.declared.fault.RecordFault.TheVariants as fault
 use Rattle.omf.specs.declared.fault.LinkFault.{LinkFault}
@@ -13,6 +14,12 @@ record_fault framing.ZeroLength = fault.ZeroLength
 record_fault framing.Truncated = fault.Truncated
 record_fault framing.Closing = fault.Closing
 record_fault framing.InputTooLong = fault.InputTooLong
+
+abbrev pub reading_fault : ReadingFault → RecordFault
+reading_fault (Framing e) = record_fault e
+reading_fault NoEnd = fault.NoEnd
+reading_fault OtherType = fault.Type
+reading_fault (WrongBody at) = fault.Body at
 
 abbrev pub link_fault : FrameFault → LinkFault
 link_fault (frame.Device place) = link.Device 0 place

@@ -1,6 +1,10 @@
 pub mod Printing
 pub mod FaultLines
+pub mod Status
 pub mod Listing
+pub mod Faults
 pub mod Records
 pub mod Reading
-pub mod Faults
+pub mod Files
+pub mod Words
+pub mod Checking

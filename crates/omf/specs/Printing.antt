@@ -1,5 +1,7 @@
 -- Printed text: lists of ASCII bytes.
-use Rattle.std.specs.Prelude.{ℕ, ◌+◌, ◌-◌, ◌/◌, ◌%◌, ◌==◌, ◌&&◌, not, Bool, nat_le, nat_lt, if◌then◌else◌, List, [], ◌∷◌, ◌++◌, length, map, replicate}
+use Rattle.std.specs.declared.option.Option.{Option}
+use Rattle.std.specs.Io.KnownBytes.{Appends}
+use Rattle.std.specs.Prelude.{◌≡◌, ℕ, ◌+◌, ◌-◌, ◌/◌, ◌%◌, ◌==◌, ◌&&◌, not, Bool, nat_le, nat_lt, if◌then◌else◌, List, [], ◌∷◌, ◌++◌, length, map, replicate}
 use Rattle.std.specs.List.{flat_map}
 use Rattle.std.specs.Int.Digits.{digits_of}
 
@@ -30,3 +32,7 @@ name_byte b = if is_plain b then b ∷ [] else 92 ∷ 120 ∷ digit (b / 16) ∷
 -- a name between two quotes
 unfoldable pub printed_name : List ℕ → List ℕ
 printed_name name = 34 ∷ [] ++ flat_map name_byte name ++ 34 ∷ []
+
+-- the text was appended, but for an end of it that is held back
+abbrev pub AppendsBut : (held : List ℕ) (old new : Option (List ℕ)) → List ℕ → Type 0
+AppendsBut held old new text = (front : List ℕ) × (text ≡ front ++ held) × Appends old new front

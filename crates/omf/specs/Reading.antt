@@ -1,17 +1,22 @@
 -- What a command that goes through an input record by record takes, writes and answers.
-use Rattle.std.specs.Prelude.{◌≡◌, ℕ, List, [], ◌∷◌, ◌++◌, length, IsTrue, Some, Ok, Err, IfSome}
+use Rattle.std.specs.Prelude.{◌≡◌, ℕ, List, [], ◌∷◌, ◌++◌, ◌⊎◌, length, true, Some, Ok, Err, IfSome}
 use Rattle.std.specs.declared.option.Option.{Option}
 use Rattle.std.specs.declared.result.Result.{Result}
 use Rattle.std.specs.List.{flat_map}
 use Rattle.std.specs.Io.KnownBytes.{Consumes, Appends, Keeps}
 use Rattle.omf_frame.specs.Device.{AppendsFront}
-use Rattle.omf_frame.specs.Frame.{Frame, AreFrames}
+use Rattle.omf_record.specs.Body.{BodyOf, BodyFault, IsRecordType}
+use Rattle.omf_record.specs.Record as says
+use Rattle.omf_record.specs.declared.record.Record.{Record}
+use Rattle.omf_record.specs.View.{view}
+use Rattle.omf_record.specs.Canonical.{FitsFrame}
+use Rattle.omf_record.specs.Records.{Placed, is_end, AreRecords, AreBeforeEnd}
 use Rattle.omf_frame.specs.Reading.{TakesWhole, TakesWithin}
 use Rattle.omf.specs.declared.fault.RecordFault.{RecordFault}
 use Rattle.omf.specs.declared.fault.RecordFault.TheVariants as fault
 use Rattle.omf.specs.declared.fault.LinkFault.{LinkFault}
 use Rattle.omf.specs.declared.fault.LinkFault.TheVariants as link
-use Rattle.omf.specs.Records.{is_kind, modend, AreBeforeEnd, FaultAt, IsRewritten}
+use Rattle.omf.specs.Records.{FaultAt, IsRewritten}
 
 -- how many calls of the source failed, and of the sink
 abbrev pub source_failures : {A : Type 0} → Result A LinkFault → ℕ
@@ -34,29 +39,62 @@ TakesFaulty old new fault.InputTooLong = Keeps old new
 TakesFaulty old new _ = TakesWhole old new
 
 -- the input begins with these records, which were taken and whose output was written
-pub record WentThrough (output : Frame → List ℕ) (fs : List Frame) (old mid wold wnew : Option (List ℕ)) : Type 0 where
+pub record WentThrough (output : Placed → List ℕ) (rs : List Placed) (old mid wold wnew : Option (List ℕ)) : Type 0 where
   pub bytes : List ℕ
-  pub are_frames : AreFrames 0 fs bytes
+  pub are_records : AreRecords 0 rs bytes
   pub taken : Consumes old mid bytes
-  pub written : Appends wold wnew (flat_map output fs)
+  pub written : Appends wold wnew (flat_map output rs)
 
 -- Going through the records of an input, up to the first that ends a module: what is told of the source and of the
 -- sink before and after, and the answer. What was written before a fault of reading is the output of the records
 -- before it, whole; where the sink failed, a front of the output.
-abbrev pub GoesThrough : (output : Frame → List ℕ) (old new wold wnew : Option (List ℕ)) {A : Type 0} → Result A LinkFault → Type 0
+abbrev pub GoesThrough : (output : Placed → List ℕ) (old new wold wnew : Option (List ℕ)) {A : Type 0} → Result A LinkFault → Type 0
 GoesThrough output old new wold wnew (Ok x) =
-    (fs : List Frame) × (last : Frame) × AreBeforeEnd fs × (last.kind ≡ modend) × WentThrough output (fs ++ last ∷ []) old new wold wnew
+    (rs : List Placed) × (last : Placed) × AreBeforeEnd rs × (is_end last.says ≡ true) × WentThrough output (rs ++ last ∷ []) old new wold wnew
 GoesThrough output old new wold wnew (Err (link.Record input place fault)) =
-    (fs : List Frame) × (mid : Option (List ℕ)) × AreBeforeEnd fs × (through : WentThrough output fs old mid wold wnew)
+    (rs : List Placed) × (mid : Option (List ℕ)) × AreBeforeEnd rs × (through : WentThrough output rs old mid wold wnew)
     × (input ≡ 0) × (place ≡ length through.bytes) × IfSome mid (λ bytes. FaultAt place bytes fault) × TakesFaulty mid new fault
 GoesThrough output old new wold wnew (Err (link.Device input place)) =
-    (fs : List Frame) × (mid : Option (List ℕ)) × AreBeforeEnd fs × (through : WentThrough output fs old mid wold wnew)
+    (rs : List Placed) × (mid : Option (List ℕ)) × AreBeforeEnd rs × (through : WentThrough output rs old mid wold wnew)
     × (input ≡ 0) × (place ≡ length through.bytes) × TakesWithin mid new
 GoesThrough output old new wold wnew (Err link.Output) =
-    (fs : List Frame) × (last : Frame) × AreBeforeEnd fs × IsTrue (is_kind last.kind)
-    × (bytes : List ℕ) × AreFrames 0 (fs ++ last ∷ []) bytes × Consumes old new bytes × AppendsFront wold wnew (flat_map output (fs ++ last ∷ []))
+    (rs : List Placed) × (last : Placed) × AreBeforeEnd rs
+    × (bytes : List ℕ) × AreRecords 0 (rs ++ last ∷ []) bytes × Consumes old new bytes × AppendsFront wold wnew (flat_map output (rs ++ last ∷ []))
 GoesThrough output old new wold wnew (Err link.Memory) =
-    (fs : List Frame) × (mid : Option (List ℕ)) × AreBeforeEnd fs × WentThrough output fs old mid wold wnew × TakesWithin mid new
+    (rs : List Placed) × (mid : Option (List ℕ)) × AreBeforeEnd rs × WentThrough output rs old mid wold wnew × TakesWithin mid new
+
+-- a framed record's type is none of the twelve, or its body is none of its type
+abbrev pub IsBodyFault : (kind : ℕ) (body : List ℕ) → RecordFault → Type 0
+IsBodyFault kind body f =
+    ((IsRecordType kind → ⊥) × (f ≡ fault.Type)) ⊎ ((at : ℕ) × IsRecordType kind × BodyFault kind body at × (f ≡ fault.Body at))
+
+-- what a frame's body says, which can be written again, or the fault of its type or body
+abbrev pub Parses : {A : Type 0} → (place kind : ℕ) (body : List ℕ) → Result (Record A) LinkFault → Type 0
+Parses place kind body (Ok r) = BodyOf kind (view r) body × FitsFrame (view r)
+Parses place kind body (Err link.Memory) = Unit {0}
+Parses place kind body (Err (link.Record input at f)) = (input ≡ 0) × (at ≡ place) × IsBodyFault kind body f
+Parses place kind body (Err link.Output) = ⊥
+Parses place kind body (Err (link.Device input at)) = ⊥
+
+-- all of this was appended, or a front of it where the sink failed, and nothing where memory ran out
+abbrev pub WritesAll : List ℕ → (wold wnew : Option (List ℕ)) → Result (Unit {0}) LinkFault → Type 0
+WritesAll out wold wnew (Ok x) = Appends wold wnew out
+WritesAll out wold wnew (Err link.Output) = AppendsFront wold wnew out
+WritesAll out wold wnew (Err link.Memory) = Keeps wold wnew
+WritesAll out wold wnew (Err (link.Record input at f)) = ⊥
+WritesAll out wold wnew (Err (link.Device input at)) = ⊥
+
+-- What handling a record did: its output was written, or a front of it where the sink failed, and nothing where its body
+-- is at fault or memory ran out.
+abbrev pub Handles : (output : Placed → List ℕ) (place kind : ℕ) (body : List ℕ) (wold wnew : Option (List ℕ)) → Result (Unit {0}) LinkFault → Type 0
+Handles output place kind body wold wnew (Ok x) =
+    (r : says.Record) × BodyOf kind r body × Appends wold wnew (output (record { place = place; body = body; says = r }))
+Handles output place kind body wold wnew (Err link.Output) =
+    (r : says.Record) × BodyOf kind r body × AppendsFront wold wnew (output (record { place = place; body = body; says = r }))
+Handles output place kind body wold wnew (Err link.Memory) = Keeps wold wnew
+Handles output place kind body wold wnew (Err (link.Record input at fault)) =
+    Keeps wold wnew × (input ≡ 0) × (at ≡ place) × IsBodyFault kind body fault
+Handles output place kind body wold wnew (Err (link.Device input at)) = ⊥
 
 -- All this was written and this is left, unless a device or memory failed.
 abbrev pub Writes : (out rest : List ℕ) (new wold wnew : Option (List ℕ)) {A : Type 0} → Result A LinkFault → Type 0

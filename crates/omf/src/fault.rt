@@ -31,7 +31,7 @@ pub enum RecordFault {
     #[error("its body is wrong at byte {at}")]
     Body {
         /// The place in the body.
-        at: u16,
+        at: usize,
     },
     /// The first record isn't THEADR.
     #[error("the first record is no THEADR")]
@@ -162,7 +162,7 @@ impl RecordFault {
     }
 
     /// The place in the body, where the body is at fault.
-    pub fn place_in_body(self) -> Option<u16>
+    pub fn place_in_body(self) -> Option<usize>
         ensures { result ≡ spec.place_in_body self }
     {
         match self {
@@ -218,7 +218,7 @@ pub fn status(fault: &LinkFault) -> u8
 }
 
 // Writes the place in the body, where the body is at fault, and the line end.
-fn put_line_end<K: Sink>(sink: &mut K, place_in_body: Option<u16>) -> Result<(), IoFault>
+fn put_line_end<K: Sink>(sink: &mut K, place_in_body: Option<usize>) -> Result<(), IoFault>
     requires { K.failures sink.old < 2 ^ 64 - 1 }
     ensures count { K.failures sink.new ≡ K.failures sink.old + (if is_ok result then 0 else 1) }
     ensures appended { OnOk result (Appends (K.written sink.old) (K.written sink.new) (line_end place_in_body)) }
@@ -272,7 +272,7 @@ fn put_record_line<K: Sink>(
     number: u8,
     name: &str,
     place: u64,
-    place_in_body: Option<u16>,
+    place_in_body: Option<usize>,
 ) -> Result<(), IoFault>
     requires { K.failures sink.old < 2 ^ 64 - 1 }
     ensures count { K.failures sink.new ≡ K.failures sink.old + (if is_ok result then 0 else 1) }
@@ -314,3 +314,6 @@ pub fn fault_line<K: Sink>(fault: &LinkFault, file: &str, sink: &mut K) -> Resul
         }
     }
 }
+
+#[cfg(test)]
+mod tests;

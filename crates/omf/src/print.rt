@@ -1,10 +1,10 @@
 //! Printed text, written to a sink. Nothing here takes memory.
-ghost use Rattle.std.specs.Prelude.{◌≡◌, ℕ, ◌+◌, ◌-◌, ◌^◌, ◌<◌, ◌≤◌, OnErr, OnOk, is_ok, if◌then◌else◌};
+ghost use Rattle.std.specs.Prelude.{◌≡◌, ℕ, ◌+◌, ◌-◌, ◌^◌, ◌<◌, ◌≤◌, [], ◌++◌, IsTrue, OnErr, OnOk, false, is_ok, if◌then◌else◌};
 ghost use Rattle.std.specs.List.{flat_map};
 ghost use Rattle.std.specs.Io.KnownBytes.{Appends};
 ghost use Rattle.omf_frame.specs.Device.{AppendsFront};
 ghost use Rattle.omf.specs.Printing as spec;
-ghost use Rattle.omf.specs.Printing.{hexadecimal, name_byte, printed_name};
+ghost use Rattle.omf.specs.Printing.{AppendsBut, hexadecimal, name_byte, printed_name};
 
 use omf_frame::{IoFault, Sink, put_all};
 use std::marker::Model;
@@ -12,17 +12,93 @@ use std::marker::Model;
 /// The most hexadecimal digits that a number has.
 const MAX_DIGITS: usize = 16;
 
-/// Writes the pieces one after the other.
+/// How much of a line is held back, so that it is written at once.
+const LINE_ROOM: usize = 64;
+
+// The end of a line that isn't written yet.
+#[derive(Drop)]
+struct Line {
+    bytes: [u8; LINE_ROOM],
+    len: usize,
+}
+
+// The text that is held back.
+impl Model for Line {
+    ghost use Rattle.std.specs.Prelude.{ℕ, List, ◌≤◌, take};
+
+    ghost Value = { List ℕ };
+
+    ghost view = { λ l. take l.len l.bytes };
+
+    ghost invariant = { λ l. l.len ≤ 64 };
+}
+
+impl Line {
+    fn new() -> Line
+        ensures { result ≡ [] }
+    {
+        Line {
+            bytes: [0; LINE_ROOM],
+            len: 0,
+        }
+    }
+
+    // Writes what is held back.
+    fn put_held<K: Sink>(&mut self, sink: &mut K) -> Result<(), IoFault>
+        requires { K.failures sink.old < 2 ^ 64 - 1 }
+        ensures count { K.failures sink.new ≡ K.failures sink.old + (if is_ok result then 0 else 1) }
+        ensures appended { OnOk result (Appends (K.written sink.old) (K.written sink.new) self.old × (self.new ≡ [])) }
+        ensures failed { OnErr result (AppendsFront (K.written sink.old) (K.written sink.new) self.old) }
+    {
+        put_all(sink, &self.bytes[..self.len])?;
+        self.len = 0;
+        Ok(())
+    }
+
+    // Holds a piece back, where there is room for it.
+    fn hold(&mut self, piece: &[u8]) -> bool
+        ensures held { IsTrue result → self.new ≡ self.old ++ piece.now }
+        ensures full { result ≡ false → self.new ≡ self.old }
+    {
+        if piece.len() > LINE_ROOM - self.len {
+            return false;
+        }
+        let end = self.len + piece.len();
+        self.bytes[self.len..end].copy_from_slice(piece);
+        self.len = end;
+        true
+    }
+
+    // Writes what is held back and the piece, but for what is held back then.
+    fn put<K: Sink>(&mut self, sink: &mut K, piece: &[u8]) -> Result<(), IoFault>
+        requires { K.failures sink.old < 2 ^ 64 - 1 }
+        ensures count { K.failures sink.new ≡ K.failures sink.old + (if is_ok result then 0 else 1) }
+        ensures appended { OnOk result (AppendsBut self.new (K.written sink.old) (K.written sink.new) (self.old ++ piece.now)) }
+        ensures failed { OnErr result (AppendsFront (K.written sink.old) (K.written sink.new) (self.old ++ piece.now)) }
+    {
+        if self.hold(piece) {
+            return Ok(());
+        }
+        self.put_held(sink)?;
+        if self.hold(piece) {
+            return Ok(());
+        }
+        put_all(sink, piece)
+    }
+}
+
+/// Writes the pieces one after the other, a short line at once.
 pub fn put_pieces<K: Sink>(sink: &mut K, pieces: &[&[u8]]) -> Result<(), IoFault>
     requires { K.failures sink.old < 2 ^ 64 - 1 }
     ensures count { K.failures sink.new ≡ K.failures sink.old + (if is_ok result then 0 else 1) }
     ensures appended { OnOk result (Appends (K.written sink.old) (K.written sink.new) (flat_map (λ piece. piece.now) pieces.now)) }
     ensures failed { OnErr result (AppendsFront (K.written sink.old) (K.written sink.new) (flat_map (λ piece. piece.now) pieces.now)) }
 {
+    let mut line = Line::new();
     for piece in pieces {
-        put_all(sink, piece)?;
+        line.put(sink, piece)?;
     }
-    Ok(())
+    line.put_held(sink)
 }
 
 // The digit of a value below 16.
@@ -118,3 +194,6 @@ impl Hexadecimal {
         &self.digits[self.start..]
     }
 }
+
+#[cfg(test)]
+mod tests;

@@ -1,18 +1,19 @@
 //! Commands that go through the records of an input, up to the end of its first module.
-ghost use Rattle.std.specs.Prelude.{◌≡◌, ℕ, ◌+◌, ◌-◌, ◌^◌, ◌<◌, List, [], ◌∷◌, ◌++◌, Some, OnOk, OnErr, is_ok, if◌then◌else◌};
+ghost use Rattle.std.specs.Prelude.{◌≡◌, ℕ, ◌+◌, ◌-◌, ◌^◌, ◌<◌, true, List, [], ◌∷◌, ◌++◌, Some, OnOk, OnErr, is_ok, if◌then◌else◌};
 ghost use Rattle.std.specs.List.{flat_map};
-ghost use Rattle.std.specs.Io.KnownBytes.{Appends};
-ghost use Rattle.omf_frame.specs.Device.{AppendsFront};
-ghost use Rattle.omf_frame.specs.Frame.{Frame as PlainFrame, AreFrames};
-ghost use Rattle.omf_frame.specs.Lending.{plain_frame};
+ghost use Rattle.omf_frame.specs.Frame.{frame};
+ghost use Rattle.omf_record.specs.View.{view};
+ghost use Rattle.omf_record.specs.Canonical.{canonical, FitsFrame};
+ghost use Rattle.omf_record.specs.Records.{Placed, is_end, AreRecords, AreBeforeEnd};
 ghost use Rattle.omf.specs.Faults.{record_fault, link_fault};
-ghost use Rattle.omf.specs.Records.{is_kind, modend, AreBeforeEnd, output};
-ghost use Rattle.omf.specs.Reading.{source_failures, sink_failures, GoesThrough, Writes, AppendsRewritten};
+ghost use Rattle.omf.specs.Records.{output};
+ghost use Rattle.omf.specs.Reading.{sink_failures, source_failures, AppendsRewritten, GoesThrough, Handles, Parses, Writes, WritesAll};
 ghost use Rattle.omf.specs.declared.records.Form.TheVariants.{Listing, Rewriting};
 
 use crate::fault::{LinkFault, RecordFault};
 use crate::listing::put_head_line;
 use omf_frame::{Frame, FrameBuf, FrameFault, FramingFault, IoFault, Sink, Source, put_frame};
+use omf_record::{Record, RecordFault as BodyFault, encode_record, parse_record};
 use std::alloc::Allocator;
 
 /// The type of the record that ends a module.
@@ -23,19 +24,8 @@ const MODEND: u8 = 0x8A;
 enum Form {
     /// Its line.
     Listing,
-    /// The record, with the closing byte that makes its sum 0.
+    /// The record with its canonical body, and the closing byte that makes its sum 0.
     Rewriting,
-}
-
-/// Whether the type is one of the twelve.
-#[tactic(auto, unfolding(crate::specs::Records::is_kind))]
-fn is_known(kind: u8) -> bool
-    ensures { result ≡ is_kind kind }
-{
-    matches!(
-        kind,
-        0x80 | 0x88 | 0x8A | 0x8C | 0x90 | 0x94 | 0x96 | 0x98 | 0x9A | 0x9C | 0xA0 | 0xA2
-    )
 }
 
 /// A framing fault as a fault of the record.
@@ -65,15 +55,64 @@ fn link_fault(fault: FrameFault) -> LinkFault
     }
 }
 
-fn put_record<K: Sink>(sink: &mut K, form: Form, frame: &Frame<'_>) -> Result<(), IoFault>
-    requires { K.failures sink.old < 2 ^ 64 - 1 }
-    ensures count { K.failures sink.new ≡ K.failures sink.old + (if is_ok result then 0 else 1) }
-    ensures appended { OnOk result (Appends (K.written sink.old) (K.written sink.new) (output form (plain_frame frame.now))) }
-    ensures failed { OnErr result (AppendsFront (K.written sink.old) (K.written sink.new) (output form (plain_frame frame.now))) }
+/// What the frame's body says, or the fault of its type or body.
+fn parse<'a, A: Allocator + Copy + 'a>(
+    alloc: A,
+    frame: &Frame<'a>,
+) -> Result<Record<'a, A>, LinkFault>
+    ensures { Parses frame.now.place frame.now.kind frame.now.body.now result }
 {
+    let fault = match parse_record(alloc, frame) {
+        Ok(record) => return Ok(record),
+        Err(BodyFault::Memory) => return Err(LinkFault::Memory),
+        Err(BodyFault::OtherType) => RecordFault::Type,
+        Err(BodyFault::Body { at }) => RecordFault::Body { at },
+    };
+    Err(LinkFault::Record {
+        input: 0,
+        place: frame.place,
+        fault,
+    })
+}
+
+/// Writes the record with its canonical body.
+fn put_canonical<K: Sink, A: Allocator + Copy>(
+    alloc: A,
+    sink: &mut K,
+    kind: u8,
+    record: &Record<'_, A>,
+) -> Result<(), LinkFault>
+    requires fits { FitsFrame (view «record».now) }
+    requires working { K.failures sink.old < 2 ^ 64 - 1 }
+    ensures count { K.failures sink.new ≡ K.failures sink.old + sink_failures result }
+    ensures written { WritesAll (frame kind (canonical (view «record».now))) (K.written sink.old) (K.written sink.new) result }
+{
+    let mut body = Vec::new(alloc);
+    encode_record(record, &mut body)?;
+    match put_frame(sink, kind, body.as_slice()) {
+        Ok(()) => Ok(()),
+        Err(IoFault) => Err(LinkFault::Output),
+    }
+}
+
+/// Reads what the frame says, and writes it.
+fn put_record<'a, K: Sink, A: Allocator + Copy + 'a>(
+    alloc: A,
+    sink: &mut K,
+    form: Form,
+    frame: &Frame<'a>,
+) -> Result<(), LinkFault>
+    requires { K.failures sink.old < 2 ^ 64 - 1 }
+    ensures count { K.failures sink.new ≡ K.failures sink.old + sink_failures result }
+    ensures handles { Handles (output form) frame.now.place frame.now.kind frame.now.body.now (K.written sink.old) (K.written sink.new) result }
+{
+    let record = parse(alloc, frame)?;
     match form {
-        Form::Listing => put_head_line(sink, frame.place, frame.kind, frame.body.len()),
-        Form::Rewriting => put_frame(sink, frame.kind, frame.body),
+        Form::Listing => match put_head_line(sink, frame.place, frame.kind, frame.body.len()) {
+            Ok(()) => Ok(()),
+            Err(IoFault) => Err(LinkFault::Output),
+        },
+        Form::Rewriting => put_canonical(alloc, sink, frame.kind, &record),
     }
 }
 
@@ -101,15 +140,9 @@ fn go_through<S: Source, K: Sink, A: Allocator + Copy>(
             }),
             Err(fault) => return Err(link_fault(fault)),
         };
-        if !is_known(frame.kind) {
-            return Err(LinkFault::Record {
-                input: 0,
-                place,
-                fault: RecordFault::Type,
-            });
-        }
-        if put_record(sink, form, &frame).is_err() {
-            return Err(LinkFault::Output);
+        match put_record(alloc, sink, form, &frame) {
+            Ok(()) => {}
+            Err(fault) => return Err(fault),
         }
         if frame.kind == MODEND {
             return Ok(());
@@ -132,15 +165,15 @@ pub fn show<S: Source, K: Sink, A: Allocator + Copy>(
     // What was read and written, and the fault where one stands.
     ensures output { GoesThrough (output Listing) (S.remaining source.old) (S.remaining source.new) (K.written sink.old) (K.written sink.new) result }
     // Where the input has a module's records, their lines are written, and no byte more is read.
-    ensures only { (fs : List PlainFrame) (last : PlainFrame) (bytes rest : List ℕ) → AreBeforeEnd fs → last.kind ≡ modend
-        → AreFrames 0 (fs ++ last ∷ []) bytes → S.remaining source.old ≡ Some (bytes ++ rest)
-        → Writes (flat_map (output Listing) (fs ++ last ∷ [])) rest (S.remaining source.new) (K.written sink.old) (K.written sink.new) result }
+    ensures only { (rs : List Placed) (last : Placed) (bytes rest : List ℕ) → AreBeforeEnd rs → is_end last.says ≡ true
+        → AreRecords 0 (rs ++ last ∷ []) bytes → S.remaining source.old ≡ Some (bytes ++ rest)
+        → Writes (flat_map (output Listing) (rs ++ last ∷ [])) rest (S.remaining source.new) (K.written sink.old) (K.written sink.new) result }
 {
     go_through(alloc, source, sink, Form::Listing)
 }
 
-/// Writes each record up to the one that ends the first module, with its body as it was read and
-/// the closing byte that makes its sum 0.
+/// Writes each record up to the one that ends the first module with its canonical body, and the
+/// closing byte that makes its sum 0.
 pub fn rewrite<S: Source, K: Sink, A: Allocator + Copy>(
     alloc: A,
     source: &mut S,
@@ -154,9 +187,9 @@ pub fn rewrite<S: Source, K: Sink, A: Allocator + Copy>(
     // What was read and written, and the fault where one stands.
     ensures output { GoesThrough (output Rewriting) (S.remaining source.old) (S.remaining source.new) (K.written sink.old) (K.written sink.new) result }
     // Where the input has a module's records, they are written, and no byte more is read.
-    ensures only { (fs : List PlainFrame) (last : PlainFrame) (bytes rest : List ℕ) → AreBeforeEnd fs → last.kind ≡ modend
-        → AreFrames 0 (fs ++ last ∷ []) bytes → S.remaining source.old ≡ Some (bytes ++ rest)
-        → Writes (flat_map (output Rewriting) (fs ++ last ∷ [])) rest (S.remaining source.new) (K.written sink.old) (K.written sink.new) result }
+    ensures only { (rs : List Placed) (last : Placed) (bytes rest : List ℕ) → AreBeforeEnd rs → is_end last.says ≡ true
+        → AreRecords 0 (rs ++ last ∷ []) bytes → S.remaining source.old ≡ Some (bytes ++ rest)
+        → Writes (flat_map (output Rewriting) (rs ++ last ∷ [])) rest (S.remaining source.new) (K.written sink.old) (K.written sink.new) result }
     // What was written is records again, which are rewritten as they are.
     ensures again { OnOk result (AppendsRewritten (K.written sink.old) (K.written sink.new)) }
 {

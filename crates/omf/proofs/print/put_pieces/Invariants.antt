@@ -1,10 +1,10 @@
 use Rattle.std.proofs.Common.{◌≡◌, take}
 use Rattle.std.specs.List.{flat_map}
-use Rattle.std.specs.Io.KnownBytes.{Appends}
+use Rattle.omf.specs.Printing.{AppendsBut}
 use Rattle.omf.proofs.print.put_pieces.Given as goal
 
 abbrev pub invariant-loop-piece : goal.invariant-loop-piece
 invariant-loop-piece g l = record {
   count : g.K.Sink.failures l.sink ≡ g.K.Sink.failures l.initial.sink;
-  appended : Appends (g.K.Sink.written l.initial.sink) (g.K.Sink.written l.sink) (flat_map (λ piece. piece.now) (take l.piece-index l.pieces));
+  appended : AppendsBut l.line (g.K.Sink.written l.initial.sink) (g.K.Sink.written l.sink) (flat_map (λ piece. piece.now) (take l.piece-index l.pieces));
 }

@@ -1,13 +1,13 @@
 use Rattle.std.proofs.Common.{◌≡◌, ◌-◌, List, length, Some}
-use Rattle.omf_frame.specs.Frame.{Frame}
-use Rattle.omf.specs.Records.{AreBeforeEnd, output}
+use Rattle.omf_record.specs.Records.{Placed, AreBeforeEnd}
+use Rattle.omf.specs.Records.{output}
 use Rattle.omf.specs.Reading.{WentThrough}
 use Rattle.omf.proofs.records.go_through.Given as goal
 
 abbrev pub invariant-loop-frame : goal.invariant-loop-frame
 invariant-loop-frame g l =
-    (fs : List Frame) × AreBeforeEnd fs
-    × (through : WentThrough (output l.form) fs (g.S.Source.remaining l.initial.source) (g.S.Source.remaining l.source) (g.K.Sink.written l.initial.sink) (g.K.Sink.written l.sink))
+    (rs : List Placed) × AreBeforeEnd rs
+    × (through : WentThrough (output l.form) rs (g.S.Source.remaining l.initial.source) (g.S.Source.remaining l.source) (g.K.Sink.written l.initial.sink) (g.K.Sink.written l.sink))
     × (l.place ≡ length through.bytes)
     × (l.buf ≡ Some l.place)
     × (g.S.Source.failures l.source ≡ g.S.Source.failures l.initial.source)

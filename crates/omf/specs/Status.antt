@@ -1,0 +1,10 @@
+-- The exit status of a command.
+use Rattle.std.specs.Prelude.{ℕ, Ok, Err}
+use Rattle.std.specs.declared.result.Result.{Result}
+use Rattle.omf.specs.declared.fault.LinkFault.{LinkFault}
+use Rattle.omf.specs.FaultLines.{status}
+
+-- 0 where it is done
+abbrev pub exit_status : Result (Unit {0}) LinkFault → ℕ
+exit_status (Ok done) = 0
+exit_status (Err fault) = status fault

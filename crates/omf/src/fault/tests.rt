@@ -1,0 +1,165 @@
+use super::*;
+use omf_frame::MemSink;
+use std::test::*;
+
+fn at_record(fault: RecordFault) -> LinkFault {
+    LinkFault::Record {
+        input: 2,
+        place: 4_294_901_759,
+        fault,
+    }
+}
+
+#[test]
+fn each_fault_has_its_line_and_status(rt: HostRuntime) -> Result<(), Fail> {
+    let rows = [
+        (
+            RecordFault::ZeroLength,
+            "2 ZeroLength at record 4294901759",
+            1u8,
+        ),
+        (
+            RecordFault::Truncated,
+            "3 Truncated at record 4294901759",
+            1,
+        ),
+        (RecordFault::Closing, "4 Closing at record 4294901759", 1),
+        (RecordFault::Type, "5 Type at record 4294901759", 1),
+        (
+            RecordFault::Body { at: 65_533 },
+            "6 Body at record 4294901759 byte 65533",
+            1,
+        ),
+        (
+            RecordFault::NotHeader,
+            "7 NotHeader at record 4294901759",
+            1,
+        ),
+        (RecordFault::NoEnd, "8 NoEnd at record 4294901759", 1),
+        (
+            RecordFault::NameIndex,
+            "10 NameIndex at record 4294901759",
+            1,
+        ),
+        (
+            RecordFault::SegmentIndex,
+            "11 SegmentIndex at record 4294901759",
+            1,
+        ),
+        (
+            RecordFault::GroupIndex,
+            "12 GroupIndex at record 4294901759",
+            1,
+        ),
+        (
+            RecordFault::ExternalIndex,
+            "13 ExternalIndex at record 4294901759",
+            1,
+        ),
+        (
+            RecordFault::ThreadNotSet,
+            "14 ThreadNotSet at record 4294901759",
+            1,
+        ),
+        (
+            RecordFault::FixupBeforeData,
+            "15 FixupBeforeData at record 4294901759",
+            1,
+        ),
+        (
+            RecordFault::FixupPlace,
+            "16 FixupPlace at record 4294901759",
+            1,
+        ),
+        (
+            RecordFault::DataOutside,
+            "17 DataOutside at record 4294901759",
+            1,
+        ),
+        (
+            RecordFault::DataInAbsolute,
+            "18 DataInAbsolute at record 4294901759",
+            1,
+        ),
+        (
+            RecordFault::SelfRelativeBase,
+            "19 SelfRelativeBase at record 4294901759",
+            1,
+        ),
+        (
+            RecordFault::FrameOfLocation,
+            "20 FrameOfLocation at record 4294901759",
+            1,
+        ),
+        (
+            RecordFault::GroupOfAbsolute,
+            "21 GroupOfAbsolute at record 4294901759",
+            1,
+        ),
+        (
+            RecordFault::InputTooLong,
+            "41 InputTooLong at record 4294901759",
+            1,
+        ),
+    ];
+    for (fault, line, exit) in rows {
+        let mut room = [0u8; 80];
+        let mut sink = MemSink::over(&mut room, 3);
+        let fault = at_record(fault);
+        assert_eq!(rt; fault_line(&fault, "A.OBJ", &mut sink), Ok(()));
+        let written = sink.written();
+        assert!(rt; written.starts_with(b"omf: A.OBJ: "));
+        assert!(rt; written.ends_with(b"\n"));
+        assert_eq!(rt; &written[12..written.len() - 1], line.as_bytes());
+        assert_eq!(rt; status(&fault), exit);
+        assert_eq!(rt; fault.input(), Some(2));
+    }
+    Ok(())
+}
+
+#[test]
+fn memory_and_outputs_have_lines(rt: HostRuntime) -> Result<(), Fail> {
+    let rows = [
+        (LinkFault::Memory, "", "omf: memory\n"),
+        (LinkFault::Output, "output", "omf: output: 40 Device\n"),
+        (LinkFault::Output, "P.EXE", "omf: P.EXE: 40 Device\n"),
+        (
+            LinkFault::Device {
+                input: 1,
+                place: 26,
+            },
+            "B.OBJ",
+            "omf: B.OBJ: 1 Device at record 26\n",
+        ),
+        (
+            LinkFault::Record {
+                input: 0,
+                place: 16,
+                fault: RecordFault::Body { at: 6 },
+            },
+            "A.OBJ",
+            "omf: A.OBJ: 6 Body at record 16 byte 6\n",
+        ),
+    ];
+    for (fault, file, line) in rows {
+        for n in 0..line.len() + 1 {
+            let mut room = [0u8; 60];
+            let mut sink = MemSink::over(&mut room[..n.min(60)], 4);
+            let whole = fault_line(&fault, file, &mut sink).is_ok();
+            assert_eq!(rt; whole, n == line.len());
+            assert_eq!(rt; sink.written(), &line.as_bytes()[..n]);
+        }
+    }
+    assert_eq!(rt; status(&LinkFault::Memory), 3u8);
+    assert_eq!(rt; status(&LinkFault::Output), 3u8);
+    let device = LinkFault::Device {
+        input: 1,
+        place: 26,
+    };
+    assert_eq!(rt; status(&device), 3u8);
+    assert_eq!(rt; device.input(), Some(1));
+    assert_eq!(rt; LinkFault::Output.input(), None);
+    assert_eq!(rt; LinkFault::Output.number(), Some(40u8));
+    assert_eq!(rt; LinkFault::Memory.number(), None);
+    Ok(())
+}

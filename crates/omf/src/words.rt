@@ -1,0 +1,190 @@
+//! The words of the command line.
+ghost use Rattle.std.specs.Prelude.{◌≡◌, IfErr, IfOk, IsSome, Some, false, true};
+ghost use Rattle.clap.specs.Words.{app_of, first_of, found_of, kind_of, rows_of, rule_of, takes, with_rule, with_subcommand};
+ghost use Rattle.clap.specs.declared.Command.{out-Command as fields_of};
+ghost use Rattle.clap.specs.declared.error.ErrorKind.TheVariants.{OutOfMemory};
+ghost use Rattle.omf.specs.declared.words.WordsFault.TheVariants.{Memory};
+ghost use Rattle.omf.specs.Words as spec;
+ghost use Rattle.omf.specs.Words.{IsEntered, IsJobFor, IsJobOf, IsRefusalFor, texts};
+
+use clap::error::ErrorKind;
+use clap::{Arg, ArgMatches, Command};
+use std::alloc::{AllocError, Global};
+use thiserror::Error;
+
+/// What the words ask for: a subcommand with its values.
+#[derive(Debug, Drop)]
+pub enum Job<'a> {
+    /// List the records of a file.
+    Show {
+        /// The path of the object module.
+        file: &'a str,
+    },
+    /// Check a file.
+    Check {
+        /// The path of the object module.
+        file: &'a str,
+    },
+    /// Write the records of a file in their canonical form.
+    Rewrite {
+        /// The path of the object module.
+        from: &'a str,
+        /// The path of the file that is written.
+        to: &'a str,
+    },
+}
+
+/// Why the words are no job.
+#[derive(Debug, Drop, Error)]
+pub enum WordsFault {
+    /// They ask for help, which is this text.
+    #[error("{0}")]
+    Help(String),
+    /// They are wrong, and this text says why.
+    #[error("{0}")]
+    Wrong(String),
+    /// There was no memory.
+    #[error("out of memory")]
+    Memory,
+}
+
+impl From<AllocError> for WordsFault {
+    ghost from_gives = { λ _ e. e ≡ Memory };
+
+    fn from(_error: AllocError) -> WordsFault {
+        WordsFault::Memory
+    }
+}
+
+// A value that has to be there.
+fn needed<'a>(alloc: Global, id: &'a str) -> Arg<'a>
+    ensures rule { rule_of result ≡ spec.needed id.entry.now }
+    ensures local { result.global ≡ false }
+{
+    Arg::new(alloc, id).required(true)
+}
+
+fn with_arg<'a>(command: Command<'a>, arg: Arg<'a>) -> Result<Command<'a>, AllocError>
+    requires local { arg.global ≡ false }
+    requires above { (fields_of command).has_globals ≡ false }
+    ensures app { IfOk result (λ c. app_of c ≡ with_rule (app_of command.entry) (rule_of arg.entry)) }
+    ensures local { IfOk result (λ c. (fields_of c).has_globals ≡ false) }
+{
+    command.arg(arg)
+}
+
+fn show_command<'a>(alloc: Global) -> Result<Command<'a>, AllocError>
+    ensures app { IfOk result (λ c. app_of c ≡ spec.show_command) }
+    ensures local { IfOk result (λ c. (fields_of c).has_globals ≡ false) }
+{
+    let command = Command::new(alloc, "show").about("Lists the records of an object module");
+    with_arg(command, needed(alloc, "FILE"))
+}
+
+fn check_command<'a>(alloc: Global) -> Result<Command<'a>, AllocError>
+    ensures app { IfOk result (λ c. app_of c ≡ spec.check_command) }
+    ensures local { IfOk result (λ c. (fields_of c).has_globals ≡ false) }
+{
+    let command = Command::new(alloc, "check").about("Checks an object module");
+    with_arg(command, needed(alloc, "FILE"))
+}
+
+fn rewrite_command<'a>(alloc: Global) -> Result<Command<'a>, AllocError>
+    ensures app { IfOk result (λ c. app_of c ≡ spec.rewrite_command) }
+    ensures local { IfOk result (λ c. (fields_of c).has_globals ≡ false) }
+{
+    let command = Command::new(alloc, "rewrite").about("Writes an object module in canonical form");
+    let command = with_arg(command, needed(alloc, "IN"))?;
+    with_arg(command, needed(alloc, "OUT"))
+}
+
+fn with_command<'a>(above: Command<'a>, command: Command<'a>) -> Result<Command<'a>, AllocError>
+    requires local { (fields_of command).has_globals ≡ false }
+    requires above { (fields_of above).has_globals ≡ false }
+    ensures app { IfOk result (λ c. app_of c ≡ with_subcommand (app_of above.entry) (app_of command.entry).top) }
+    ensures local { IfOk result (λ c. (fields_of c).has_globals ≡ false) }
+{
+    above.subcommand(command)
+}
+
+fn bare_command<'a>(alloc: Global) -> Result<Command<'a>, AllocError>
+    ensures app { IfOk result (λ c. app_of c ≡ spec.bare_command) }
+    ensures local { IfOk result (λ c. (fields_of c).has_globals ≡ false) }
+{
+    Command::new(alloc, "omf")
+        .about("Reads 16-bit OMF object modules")
+        .no_binary_name(true)
+        .subcommand_required(true)
+        .arg_required_else_help(true)
+        .bin_name("omf")
+}
+
+fn omf_command<'a>(alloc: Global) -> Result<Command<'a>, AllocError>
+    ensures { IfOk result (λ c. app_of c ≡ spec.omf_command) }
+{
+    let command = with_command(bare_command(alloc)?, show_command(alloc)?)?;
+    let command = with_command(command, check_command(alloc)?)?;
+    with_command(command, rewrite_command(alloc)?)
+}
+
+// What the parser says of the words.
+fn refusal(alloc: Global, error: &clap::Error) -> WordsFault
+    ensures { kind_of error.now ≡ OutOfMemory → result ≡ WordsFault.Memory }
+{
+    if error.kind() == ErrorKind::OutOfMemory {
+        return WordsFault::Memory;
+    }
+    match error.to_string(alloc) {
+        Err(_) => WordsFault::Memory,
+        Ok(text) if error.use_stderr() => WordsFault::Wrong(text),
+        Ok(text) => WordsFault::Help(text),
+    }
+}
+
+// A value that the command asks for.
+fn value<'a>(values: &ArgMatches<'a>, id: &str) -> &'a str
+    requires { IsSome (first_of id.now (rows_of (found_of values.now))) }
+    ensures { first_of id.now (rows_of (found_of values.now)) ≡ Some result.now }
+{
+    values.get_str(id).unwrap()
+}
+
+// The job of a subcommand that the command entered, by its values.
+fn job_of<'a>(name: &str, values: &ArgMatches<'a>) -> Job<'a>
+    requires { IsEntered name.now (rows_of (found_of values.now)) }
+    ensures { IsJobOf name.now (rows_of (found_of values.now)) result }
+{
+    match name {
+        "show" => Job::Show {
+            file: value(values, "FILE"),
+        },
+        "check" => Job::Check {
+            file: value(values, "FILE"),
+        },
+        "rewrite" => Job::Rewrite {
+            from: value(values, "IN"),
+            to: value(values, "OUT"),
+        },
+        _ => unreachable!(),
+    }
+}
+
+/// The job that the words after the program's name ask for. Words that the command takes are refused
+/// for nothing but want of memory.
+pub fn parse_words<'a>(alloc: Global, words: &'a [&'a str]) -> Result<Job<'a>, WordsFault>
+    ensures job { IfOk result (IsJobFor (texts words.entry.now)) }
+    ensures refused { takes spec.omf_command (texts words.entry.now) ≡ true → IfErr result IsRefusalFor }
+{
+    let Ok(command) = omf_command(alloc) else {
+        return Err(WordsFault::Memory);
+    };
+    let matches = match command.try_get_matches_from(words) {
+        Ok(matches) => matches,
+        Err(error) => return Err(refusal(alloc, &error)),
+    };
+    let (name, values) = matches.subcommand().unwrap();
+    Ok(job_of(name, values))
+}
+
+#[cfg(test)]
+mod tests;

@@ -1,0 +1,123 @@
+-- What is kept, one record further.
+use Rattle.std.proofs.Common.{◌≡◌, ℕ, Bool, true, List, [], ◌∷◌, ◌++◌, length, map, Option, None, Some, refl}
+use Rattle.std.proofs.lemmas.List.{append-nil}
+use Rattle.std.specs.Option.{option_to_list, option_map}
+use Rattle.std.specs.List.{filter_map, enumerate_from}
+use Rattle.omf_record.specs.Record.{Record, Theadr, Coment, Modend, Extdef, Pubdef, Linnum, Lnames, Segdef, Grpdef, Ledata, Lidata, External as ExternalName, Public, Block}
+use Rattle.omf_record.specs.declared.fields.PublicBase.{PublicBase}
+use Rattle.omf_record.specs.declared.fields.SegmentDefinition.{SegmentDefinition}
+use Rattle.omf_record.specs.declared.fields.Reference.{Reference}
+use Rattle.omf_record.specs.declared.fields.Line.{Line}
+use Rattle.omf_module.specs.Before.{first, last}
+use Rattle.omf_module.specs.Tables.{Placed, names, segments, groups, externals, publics, stretches, subrecords, fixups, start, Stretch, frame_thread, target_thread, names_in, segments_in, groups_in, externals_in, publics_in, subrecords_in, stretches_in, frame_set, target_set, data_record, fixups_in, start_in, frame_used, target_used}
+use Rattle.omf_module.specs.Faults.{begun, items}
+use Rattle.omf_module.specs.Running.{State, state_of, checked, step_record, thread_numbers, slot, later}
+use Rattle.omf_module.proofs.FixupsOn.{new_data}
+use Rattle.omf_record.specs.declared.fields.ThreadNumber.TheVariants.{Zero, One, Two, Three}
+use Rattle.omf_record.specs.declared.fields.FrameMethod.{FrameMethod}
+use Rattle.omf_record.specs.declared.fields.TargetMethod.{TargetMethod}
+use Rattle.omf_record.specs.declared.fields.FrameDatum.{FrameDatum}
+use Rattle.omf_record.specs.declared.fields.FrameDatum.TheVariants as frame_datum
+use Rattle.omf_record.specs.declared.fields.TargetDatum.{TargetDatum}
+use Rattle.omf_record.specs.declared.fields.TargetDatum.TheVariants as target_datum
+use Rattle.omf_module.proofs.Lists.{flat_map_push, along_push, filter_map_append, last_append}
+
+pub begun_push : (rs : List Placed) (r : Placed) → begun (rs ++ r ∷ []) ≡ true
+begun_push [] r = refl
+begun_push (x ∷ rs) r = refl
+
+-- what is kept after one record more, table by table
+abbrev pub grown : List Placed → Placed → State
+grown rs r = record {
+  begun = true;
+  tables = record {
+    names = names rs ++ names_in r.says;
+    segments = segments rs ++ segments_in (names rs) r.says;
+    groups = groups rs ++ groups_in (names rs) r.says;
+    externals = externals rs ++ externals_in r.says;
+  };
+  publics = publics rs ++ publics_in r.says;
+  frame_threads = map (λ n. later (last (filter_map (frame_set n) (subrecords_in r.says))) (frame_thread (subrecords rs) n)) thread_numbers;
+  target_threads = map (λ n. later (last (filter_map (target_set n) (subrecords_in r.says))) (target_thread (subrecords rs) n)) thread_numbers;
+  data_records = map (data_record (fixups rs ++ map (λ x. (length (stretches rs), x)) (fixups_in (subrecords rs) r))) (enumerate_from 1 (stretches rs ++ stretches_in r.place r.says));
+  contents = option_map (λ (d : Stretch). d.contents) (later (last (stretches_in r.place r.says)) (last (stretches rs)));
+  start = later (last (option_to_list (start_in (subrecords rs) r.place r.says))) (start rs);
+}
+
+pub state_push : (rs : List Placed) (r : Placed) → state_of (rs ++ r ∷ []) ≡ grown rs r
+state_push rs r = simp (begun_push, flat_map_push, along_push, filter_map_append, last_append)
+
+-- what one record leaves: its items' first fault, or what is kept with it
+abbrev pub Steps : Record → Type 0
+Steps r = (place : ℕ) (rs : List Placed) → step_record place (record (state_of rs) { begun = true }) r ≡ checked (first (items rs r)) (state_of (rs ++ record { place = place; says = r } ∷ []))
+
+pub first_single : {A : Type 0} (o : Option A) → first (o ∷ []) ≡ o
+first_single None = refl
+first_single (Some x) = refl
+
+pub last_option : {A : Type 0} (o : Option A) → last (option_to_list o) ≡ o
+last_option None = refl
+last_option (Some x) = refl
+
+pub header_steps : (name : List ℕ) → Steps (Theadr name)
+unfolding step_record
+header_steps name place rs = rw state_push (simp append-nil)
+
+pub comment_steps : (t c : ℕ) (bytes : List ℕ) → Steps (Coment t c bytes)
+unfolding step_record
+comment_steps t c bytes place rs = rw state_push (simp append-nil)
+
+pub lines_steps : (g s : ℕ) (lines : List Line) → Steps (Linnum g s lines)
+unfolding step_record
+lines_steps g s lines place rs = rw state_push (simp append-nil)
+
+pub names_steps : (listed : List (List ℕ)) → Steps (Lnames listed)
+unfolding step_record
+names_steps listed place rs = rw state_push (simp append-nil)
+
+pub externals_steps : (local : Bool) (listed : List ExternalName) → Steps (Extdef local listed)
+unfolding step_record
+externals_steps local listed place rs = rw state_push (simp append-nil)
+
+pub publics_steps : (local : Bool) (base : PublicBase) (listed : List Public) → Steps (Pubdef local base listed)
+unfolding step_record
+publics_steps local base listed place rs = rw (state_push, first_single) (simp append-nil)
+
+pub segment_steps : (d : SegmentDefinition) → Steps (Segdef d)
+unfolding step_record
+segment_steps d place rs = rw (state_push, first_single) (simp append-nil)
+
+pub group_steps : (name : ℕ) (components : List ℕ) → Steps (Grpdef name components)
+unfolding step_record
+group_steps name components place rs = rw state_push (simp append-nil)
+
+pub no_start_steps : (main : Bool) → Steps (Modend main None)
+unfolding step_record
+no_start_steps main place rs = rw state_push (simp append-nil)
+
+pub data_steps : (segment offset : ℕ) (bytes : List ℕ) → Steps (Ledata segment offset bytes)
+unfolding step_record
+data_steps segment offset bytes place rs = rw (state_push, first_single) (simp (append-nil, new_data))
+
+pub repeated_steps : (segment offset : ℕ) (blocks : List Block) → Steps (Lidata segment offset blocks)
+unfolding step_record
+repeated_steps segment offset blocks place rs = rw (state_push, first_single) (simp (append-nil, new_data))
+
+-- what the four slots hold
+pub frame_slots : (threads : ℕ → Option FrameMethod) (d : FrameDatum) → frame_used (slot (map threads thread_numbers)) d ≡ frame_used threads d
+frame_slots threads (frame_datum.Thread Zero) = refl
+frame_slots threads (frame_datum.Thread One) = refl
+frame_slots threads (frame_datum.Thread Two) = refl
+frame_slots threads (frame_datum.Thread Three) = refl
+frame_slots threads (frame_datum.By method) = refl
+
+pub target_slots : (threads : ℕ → Option TargetMethod) (d : TargetDatum) → target_used (slot (map threads thread_numbers)) d ≡ target_used threads d
+target_slots threads (target_datum.Thread Zero) = refl
+target_slots threads (target_datum.Thread One) = refl
+target_slots threads (target_datum.Thread Two) = refl
+target_slots threads (target_datum.Thread Three) = refl
+target_slots threads (target_datum.By method) = refl
+
+pub start_steps : (main : Bool) (r : Reference) → Steps (Modend main (Some r))
+unfolding step_record
+start_steps main r place rs = rw (state_push, first_single, frame_slots (frame_thread (subrecords rs)) r.frame, target_slots (target_thread (subrecords rs)) r.target) (simp (append-nil, last_option))

@@ -1,0 +1,17 @@
+pub mod Lists
+pub mod Growing
+pub mod FixupsOn
+pub mod Subrecords
+pub mod Whole
+pub mod Stored
+pub mod Stepping
+pub mod Ranges
+pub mod LastData
+pub mod Taking
+pub mod Answering
+pub mod Once
+pub mod Together
+pub mod Fitting
+pub mod Promises
+pub mod Promised
+pub mod Only

@@ -1,0 +1,566 @@
+-- What is kept of sound records keeps the promises of a module, one record further.
+use Rattle.std.proofs.Common.{◌≡◌, ℕ, zero, suc, ◌+◌, ◌-◌, ◌<◌, ◌≤◌, Bool, true, false, not, List, [], ◌∷◌, ◌++◌, length, map, Option, None, Some, Result, Ok, Err, refl, ap, subst, ◌∙◌, arith, length-append, slice_get, cond, nat_le, nat_lt}
+use Rattle.std.specs.Prelude.{IfSome}
+use Rattle.std.specs.List.{AllByRecursion}
+use Rattle.std.specs.Option.{option_to_list}
+use Rattle.std.proofs.lemmas.List.{append-nil}
+use Rattle.std.proofs.lemmas.Bool.Decides.{nat_tests}
+use Rattle.omf_record.specs.Record.{Record, Public, External as ExternalName, Theadr, Coment, Modend, Extdef, Pubdef, Linnum, Lnames, Segdef, Grpdef, Fixupp, Ledata, Lidata}
+use Rattle.omf_record.specs.Language.{each}
+use Rattle.omf_record.specs.Body.{Body, PublicText, BaseText, LengthText, AbsoluteText}
+use Rattle.omf_record.specs.Numbers.{location_width, segment_len}
+use Rattle.omf_record.specs.Expansion.{stored_from, expansion, contents, places, StandTogether}
+use Rattle.omf_record.specs.declared.fields.SegmentDefinition.{SegmentDefinition}
+use Rattle.omf_record.specs.declared.fields.SegmentLength.{SegmentLength}
+use Rattle.omf_record.specs.declared.fields.SegmentLength.TheVariants as lengths
+use Rattle.omf_record.specs.declared.fields.Alignment.{Alignment}
+use Rattle.omf_record.specs.declared.fields.Alignment.TheVariants as align
+use Rattle.omf_record.specs.declared.fields.Combination.{Combination}
+use Rattle.omf_record.specs.declared.fields.PublicBase.{PublicBase}
+use Rattle.omf_record.specs.declared.fields.PublicBase.TheVariants as public_base
+use Rattle.omf_record.specs.declared.fields.FrameMethod.{FrameMethod}
+use Rattle.omf_record.specs.declared.fields.FrameMethod.TheVariants as by
+use Rattle.omf_record.specs.declared.fields.TargetMethod.{TargetMethod}
+use Rattle.omf_record.specs.declared.fields.TargetMethod.TheVariants as to
+use Rattle.omf_record.specs.declared.fields.Fixup.{Fixup}
+use Rattle.omf_record.specs.declared.fields.Subrecord.{Subrecord}
+use Rattle.omf_record.specs.declared.fields.Subrecord.TheVariants as sub
+use Rattle.omf_record.specs.declared.fields.Reference.{Reference}
+use Rattle.omf_module.specs.declared.fault.CheckFault.{CheckFault}
+use Rattle.omf_module.specs.declared.fault.CheckFault.TheVariants.{NameIndex, SegmentIndex, GroupIndex, ExternalIndex, FixupPlace, DataOutside, DataInAbsolute, SelfRelativeBase, GroupOfAbsolute}
+use Rattle.omf_module.specs.declared.Base.{Base}
+use Rattle.omf_module.specs.declared.Base.TheVariants.{AtFrame, InSegment}
+use Rattle.omf_module.specs.declared.FixupFrame.{FixupFrame}
+use Rattle.omf_module.specs.declared.FixupFrame.TheVariants as frames
+use Rattle.omf_module.specs.declared.FixupTarget.{FixupTarget}
+use Rattle.omf_module.specs.declared.FixupTarget.TheVariants as targets
+use Rattle.omf_module.specs.declared.ResolvedFixup.{ResolvedFixup}
+use Rattle.omf_module.specs.declared.Start.{Start}
+use Rattle.omf_module.specs.Module.{Segment, Group, External, PublicSymbol, DataRecord, Module}
+use Rattle.omf_module.specs.Before.{first, entry}
+use Rattle.omf_module.specs.Tables.{Placed, frame_used, target_used, name_at, standing_of, segment_of, group_of, base_of, public_of, external_of, frame_of, target_of, fixup_of, start_of}
+use Rattle.omf_module.specs.Faults.{number, header_fault, segment_fault, group_fault, when, ◌⊓◌, misses, passes, Tables, is_absolute, component_fault, data_fault, public_fault, frame_fault, target_fault, holds_base, lies_in, place_fault, relative_fault, fixup_fault, location_fault, start_fault}
+use Rattle.omf_module.specs.Running.{State, state_of, checked, slot, add_to_last, add_data, module_in, later, step, step_record, step_subrecord, step_subrecords, ◌>>=◌}
+use Rattle.omf_module.specs.Sound.{IsShort, FrameMeans, TargetMeans, BaseMeans, IsPart, IsMember, FixupFits, StartFits, SegmentFits, IsStanding}
+use Rattle.omf_module.proofs.Fitting.{DataFitting, Fitting}
+use Rattle.omf_module.proofs.Together.{all_weaker, stored_together, repeated_together}
+
+-- ---- longer lists
+
+less_more : {X : Type 0} (xs ys : List X) (i : ℕ) → i < length xs → i < length (xs ++ ys)
+less_more xs ys i lt = omega (arith, length-append xs ys)
+
+get_more : {X : Type 0} (xs ys : List X) (i : ℕ) (x : X) → slice_get xs i ≡ Some x → slice_get (xs ++ ys) i ≡ Some x
+get_more [] ys i x e = cc
+get_more (z ∷ xs) ys zero x e = e
+get_more (z ∷ xs) ys (suc i) x e = get_more xs ys i x e
+
+module _ (ss ss' : List Segment) (gs gs' : List Group) (es es' : List External) where
+  frame_more : (f : FixupFrame) → FrameMeans ss gs es f → FrameMeans (ss ++ ss') (gs ++ gs') (es ++ es') f
+  frame_more (frames.OfSegment i) h = less_more ss ss' i h
+  frame_more (frames.OfGroup i) h = less_more gs gs' i h
+  frame_more (frames.OfExternal i) h = less_more es es' i h
+  frame_more frames.OfLocation h = tt
+  frame_more frames.OfTarget h = tt
+
+  target_more : (f : FixupTarget) → TargetMeans ss gs es f → TargetMeans (ss ++ ss') (gs ++ gs') (es ++ es') f
+  target_more (targets.Segment i) h = less_more ss ss' i h
+  target_more (targets.Group i) h = less_more gs gs' i h
+  target_more (targets.External i) h = less_more es es' i h
+
+  base_more : (b : Base) → BaseMeans ss gs es b → BaseMeans (ss ++ ss') (gs ++ gs') (es ++ es') b
+  base_more (AtFrame f) h = h
+  base_more (InSegment i None) h = less_more ss ss' i h
+  base_more (InSegment i (Some g)) h = (less_more ss ss' i h.0, less_more gs gs' g h.1)
+
+  part_more : (i : ℕ) (s : Segment) → IsPart ss gs es i s → IsPart (ss ++ ss') (gs ++ gs') (es ++ es') i s
+  part_more i s h = (get_more ss ss' i s h.0, h.1)
+
+  member_more : (i : ℕ) → IsMember ss gs es i → IsMember (ss ++ ss') (gs ++ gs') (es ++ es') i
+  member_more i h = (h.0, part_more i h.0 h.1)
+
+  fixup_more : (d : DataRecord) (x : ResolvedFixup) → FixupFits ss gs es d x → FixupFits (ss ++ ss') (gs ++ gs') (es ++ es') d x
+  fixup_more d x h = record { frame = frame_more x.frame h.frame; target = target_more x.target h.target; together = h.together; relative = h.relative }
+
+  data_more : (d : DataRecord) → DataFitting ss gs es d → DataFitting (ss ++ ss') (gs ++ gs') (es ++ es') d
+  data_more d h = record { segment = h.segment; is_part = part_more d.segment h.segment h.is_part; inside = h.inside; fixups = all_weaker _ _ d.fixups (fixup_more d) h.fixups }
+
+  start_more : (s : Start) → StartFits ss gs es s → StartFits (ss ++ ss') (gs ++ gs') (es ++ es') s
+  start_more s h = record { frame = frame_more s.frame h.frame; target = target_more s.target h.target; no_location = h.no_location }
+
+  maybe_start_more : (o : Option Start) → IfSome o (StartFits ss gs es) → IfSome o (StartFits (ss ++ ss') (gs ++ gs') (es ++ es'))
+  maybe_start_more None h = tt
+  maybe_start_more (Some s) h = start_more s h
+
+all_append : {X : Type 0} (P : X → Type 0) (xs ys : List X) → AllByRecursion P xs → AllByRecursion P ys → AllByRecursion P (xs ++ ys)
+all_append P [] ys h k = k
+all_append P (x ∷ xs) ys h k = (h.0, all_append P xs ys h.1 k)
+
+abbrev grown : Module → List Segment → List Group → List External → Module
+grown m ss gs es = record { segments = m.segments ++ ss; groups = m.groups ++ gs; externals = m.externals ++ es; publics = m.publics; data_records = m.data_records; start = m.start }
+
+-- more segments, groups and externals
+more : (m : Module) (ss : List Segment) (gs : List Group) (es : List External) → Fitting m → AllByRecursion SegmentFits ss → AllByRecursion (λ (g : Group). IsShort g.name) gs → AllByRecursion (λ (e : External). IsShort e.name) es
+    → AllByRecursion (λ (g : Group). AllByRecursion (IsMember (m.segments ++ ss) (m.groups ++ gs) (m.externals ++ es)) g.members) gs → Fitting (grown m ss gs es)
+more m ss gs es h a b c d = record {
+  segments = all_append _ m.segments ss h.segments a;
+  group_names = all_append _ m.groups gs h.group_names b;
+  externals = all_append _ m.externals es h.externals c;
+  public_names = h.public_names;
+  groups = all_append _ m.groups gs (all_weaker _ _ m.groups (λ g k. all_weaker _ _ g.members (member_more m.segments ss m.groups gs m.externals es) k) h.groups) d;
+  publics = all_weaker _ _ m.publics (λ p k. base_more m.segments ss m.groups gs m.externals es p.base k) h.publics;
+  data_records = all_weaker _ _ m.data_records (data_more m.segments ss m.groups gs m.externals es) h.data_records;
+  start = maybe_start_more m.segments ss m.groups gs m.externals es m.start h.start;
+}
+
+-- ---- faults that don't stand
+
+when_none : (b : Bool) (f : CheckFault) → when b f ≡ None → b ≡ false
+when_none true f e = cc
+when_none false f e = refl
+
+one_of_two : (f g : CheckFault) (t : Bool) → cond t (Some f) (Some g) ≡ None → ⊥
+one_of_two f g true e = cc
+one_of_two f g false e = cc
+
+none_both : (a b : Option CheckFault) → a ⊓ b ≡ None → (a ≡ None) × (b ≡ None)
+none_both None b e = (refl, e)
+none_both (Some f) None e = cc
+none_both (Some f) (Some g) e = absurd (one_of_two f g (nat_le (number f) (number g)) e)
+
+-- an index that means something, counted from 0
+means : {X : Type 0} (xs : List X) (i : ℕ) → misses xs i ≡ false → i - 1 < length xs
+means xs zero e = cc
+means xs (suc i) e = grind (arith, nat_tests)
+
+not_less : (a b : ℕ) → nat_lt a b ≡ false → b ≤ a
+not_less a b e = grind (arith, nat_tests)
+
+not_past : {X : Type 0} (xs : List X) (i : ℕ) → passes xs i ≡ false → i ≤ length xs
+not_past xs i e = grind (arith, nat_tests)
+
+-- ---- names
+
+short_name : (ns : List (List ℕ)) (i : ℕ) → AllByRecursion IsShort ns → IsShort (name_at ns i)
+short_name ns zero h = omega arith
+short_name [] (suc n) h = omega arith
+short_name (x ∷ ns) (suc zero) h = h.0
+short_name (x ∷ ns) (suc (suc n)) h = short_name ns (suc n) h.1
+
+names_short : (listed : List (List ℕ)) (body : List ℕ) → Body (Lnames listed) body → AllByRecursion IsShort listed
+unfolding Body
+names_short [] body h = tt
+names_short (n ∷ listed) body h = (h.first.0, names_short listed h.rest h.second)
+
+externals_short : (local : Bool) (listed : List ExternalName) (body : List ℕ) → Body (Extdef local listed) body → AllByRecursion (λ (e : External). IsShort e.name) (map external_of listed)
+unfolding Body
+externals_short true listed body h = absurd h
+externals_short false [] body h = tt
+externals_short false (n ∷ listed) body h = (h.first.first.0, externals_short false listed h.rest h.second)
+
+abbrev AllPublics : List Public → List ℕ → Type 0
+AllPublics = each PublicText
+
+publics_short : (base : PublicBase) (listed : List Public) (body : List ℕ) → AllPublics listed body → AllByRecursion (λ (p : PublicSymbol). IsShort p.name × (p.offset < 65536)) (map (public_of base) listed)
+publics_short base [] body h = tt
+publics_short base (n ∷ listed) body h = ((h.first.first.0, h.first.second.first.0), publics_short base listed h.rest h.second)
+
+publics_named : (local : Bool) (base : PublicBase) (listed : List Public) (body : List ℕ) → Body (Pubdef local base listed) body → AllByRecursion (λ (p : PublicSymbol). IsShort p.name × (p.offset < 65536)) (map (public_of base) listed)
+unfolding Body
+publics_named true base listed body h = absurd h
+publics_named false base listed body h = publics_short base listed h.rest h.second
+
+base_text : (local : Bool) (base : PublicBase) (listed : List Public) (body : List ℕ) → Body (Pubdef local base listed) body → (text : List ℕ) × BaseText base text
+unfolding Body
+base_text true base listed body h = absurd h
+base_text false base listed body h = (h.front, h.first)
+
+-- ---- what each kind of record adds
+
+-- the contents of the last data record against its data
+abbrev pub LastFits : Option (List (ℕ × ℕ)) → List DataRecord → Type 0
+LastFits None ds = Unit {0}
+LastFits (Some cs) [] = Unit {0}
+LastFits (Some cs) (d ∷ []) = (at width : ℕ) → lies_in cs at width ≡ true → StandTogether at width (places d.pairs)
+LastFits (Some cs) (d ∷ e ∷ ds) = LastFits (Some cs) (e ∷ ds)
+
+pub record Promises (s : State) : Type 0 where
+  pub names : AllByRecursion IsShort s.tables.names
+  pub sound : Fitting (module_in s)
+  pub last : LastFits s.contents s.data_records
+
+abbrev ok : State → Result State CheckFault
+ok s = Ok s
+
+ok_is : (s t : State) → ok s ≡ Ok t → s ≡ t
+ok_is s t e = cc
+
+abbrev Keeping : State → State → Type 0
+Keeping s t = Promises s → Promises t
+
+by_fault : (f : Option CheckFault) (s t : State) → checked f s ≡ Ok t → (f ≡ None) × (s ≡ t)
+by_fault None s t e = (refl, cc)
+by_fault (Some f) s t e = cc
+
+all_map : {X Y : Type 0} (Q : Y → Type 0) (f : X → Y) (xs : List X) → ((x : X) → Q (f x)) → AllByRecursion Q (map f xs)
+all_map Q f [] h = tt
+all_map Q f (x ∷ xs) h = (h x, all_map Q f xs h)
+
+-- ---- LNAMES, SEGDEF, EXTDEF
+
+abbrev with_names : State → List (List ℕ) → State
+with_names s listed = record s { tables = record s.tables { names = s.tables.names ++ listed } }
+
+names_keep : (s : State) (listed : List (List ℕ)) (body : List ℕ) → Body (Lnames listed) body → Promises s → Promises (with_names s listed)
+names_keep s listed body b h = record { names = all_append _ s.tables.names listed h.names (names_short listed body b); sound = h.sound; last = h.last }
+
+abbrev with_segment : State → Segment → State
+with_segment s x = record s { tables = record s.tables { segments = s.tables.segments ++ x ∷ [] } }
+
+length_fits : (l : SegmentLength) (text : List ℕ) → LengthText l text → segment_len l ≤ 65536
+length_fits (lengths.Word n) text h = omega (arith, h.0)
+length_fits lengths.Whole text h = omega arith
+
+standing_fits : (a : Alignment) (c : Combination) (text : List ℕ) → AbsoluteText a text → IsStanding (standing_of a c)
+standing_fits (align.Absolute frame offset) c text h = (h.first.0, h.second.0)
+standing_fits align.Byte c text h = (omega arith, omega arith)
+standing_fits align.Word c text h = (omega arith, omega arith)
+standing_fits align.Paragraph c text h = (omega arith, omega arith)
+standing_fits align.Page c text h = (omega arith, omega arith)
+standing_fits align.DoubleWord c text h = (omega arith, omega arith)
+
+segment_fits : (ns : List (List ℕ)) (d : SegmentDefinition) (body : List ℕ) → Body (Segdef d) body → AllByRecursion IsShort ns → SegmentFits (segment_of ns d)
+unfolding Body
+segment_fits ns d body b h = record {
+  name = short_name ns d.name h;
+  class = short_name ns d.class h;
+  length = length_fits d.length _ b.second.second.first;
+  standing = standing_fits d.alignment d.combination _ b.second.first;
+}
+
+segment_keeps : (s : State) (d : SegmentDefinition) (body : List ℕ) → Body (Segdef d) body → Promises s → Promises (with_segment s (segment_of s.tables.names d))
+segment_keeps s d body b h =
+    let x = segment_of s.tables.names d in
+    let all = more (module_in s) (x ∷ []) [] [] h.sound (segment_fits s.tables.names d body b h.names, tt) tt tt tt in
+    record { names = h.names; sound = simp append-nil at all; last = h.last }
+
+abbrev with_externals : State → List External → State
+with_externals s es = record s { tables = record s.tables { externals = s.tables.externals ++ es } }
+
+externals_keep : (s : State) (es : List External) → AllByRecursion (λ (e : External). IsShort e.name) es → Promises s → Promises (with_externals s es)
+externals_keep s es e h =
+    let all = more (module_in s) [] [] es h.sound tt tt e tt in
+    record { names = h.names; sound = simp append-nil at all; last = h.last }
+
+-- ---- GRPDEF
+
+first_both : (o : Option CheckFault) (os : List (Option CheckFault)) → first (o ∷ os) ≡ None → (o ≡ None) × (first os ≡ None)
+first_both None os e = (refl, e)
+first_both (Some f) os e = cc
+
+member_fits : (ss : List Segment) (gs : List Group) (es : List External) (i : ℕ) → component_fault (entry ss i) ≡ None → IsMember ss gs es (i - 1)
+member_fits ss gs es zero e = cc
+member_fits ss gs es (suc n) e = go (slice_get ss n) refl e
+  where
+    go : (o : Option Segment) → slice_get ss n ≡ o → component_fault o ≡ None → IsMember ss gs es (suc n - 1)
+    go None k f = cc
+    go (Some s) k f =
+        let here : suc n - 1 ≡ n = omega arith in
+        (s, (ap (slice_get ss) here ∙ k, when_none (is_absolute s.standing) GroupOfAbsolute f))
+
+members_fit : (ss : List Segment) (gs : List Group) (es : List External) (is : List ℕ) → first (map (λ i. component_fault (entry ss i)) is) ≡ None → AllByRecursion (IsMember ss gs es) (map (λ i. i - 1) is)
+members_fit ss gs es [] e = tt
+members_fit ss gs es (i ∷ is) e =
+    let p = first_both (component_fault (entry ss i)) (map (λ i. component_fault (entry ss i)) is) e in
+    (member_fits ss gs es i p.0, members_fit ss gs es is p.1)
+
+abbrev with_group : State → Group → State
+with_group s x = record s { tables = record s.tables { groups = s.tables.groups ++ x ∷ [] } }
+
+group_keeps : (s : State) (name : ℕ) (is : List ℕ) → first (map (λ i. component_fault (entry s.tables.segments i)) is) ≡ None → Promises s → Promises (with_group s (group_of s.tables.names name is))
+group_keeps s name is e h =
+    let g = group_of s.tables.names name is in
+    let ms = members_fit s.tables.segments s.tables.groups s.tables.externals is e in
+    let ms' = all_weaker _ _ g.members (member_more s.tables.segments [] s.tables.groups (g ∷ []) s.tables.externals []) ms in
+    let all = more (module_in s) [] (g ∷ []) [] h.sound tt (short_name s.tables.names name h.names, tt) tt (ms', tt) in
+    record { names = h.names; sound = simp append-nil at all; last = h.last }
+
+-- ---- PUBDEF
+
+base_fits : (t : Tables) (b : PublicBase) (text : List ℕ) → BaseText b text → public_fault t b ≡ None → BaseMeans t.segments t.groups t.externals (base_of b)
+base_fits t (public_base.AtFrame group frame) text b e = b.second.second.0
+base_fits t (public_base.InSegment zero segment) text b e =
+    let p = none_both (when (misses t.segments segment) SegmentIndex) (when (passes t.groups 0) GroupIndex) e in
+    means t.segments segment (when_none (misses t.segments segment) SegmentIndex p.0)
+base_fits t (public_base.InSegment (suc group) segment) text b e =
+    let p = none_both (when (misses t.segments segment) SegmentIndex) (when (passes t.groups (suc group)) GroupIndex) e in
+    let g = not_past t.groups (suc group) (when_none (passes t.groups (suc group)) GroupIndex p.1) in
+    (means t.segments segment (when_none (misses t.segments segment) SegmentIndex p.0), omega (arith, g))
+
+abbrev with_publics : State → List PublicSymbol → State
+with_publics s ps = record s { publics = s.publics ++ ps }
+
+publics_keep : (s : State) (base : PublicBase) (listed : List Public) (text : List ℕ) → BaseText base text → AllByRecursion (λ (p : PublicSymbol). IsShort p.name × (p.offset < 65536)) (map (public_of base) listed) → public_fault s.tables base ≡ None → Promises s → Promises (with_publics s (map (public_of base) listed))
+publics_keep s base listed text b n e h =
+    let m = h.sound in
+    let bases = all_map (λ (p : PublicSymbol). BaseMeans s.tables.segments s.tables.groups s.tables.externals p.base) (public_of base) listed (λ p. base_fits s.tables base text b e) in
+    record {
+      names = h.names;
+      sound = record {
+        segments = m.segments;
+        group_names = m.group_names;
+        externals = m.externals;
+        public_names = all_append _ s.publics (map (public_of base) listed) m.public_names n;
+        groups = m.groups;
+        publics = all_append _ s.publics (map (public_of base) listed) m.publics bases;
+        data_records = m.data_records;
+        start = m.start;
+      };
+      last = h.last;
+    }
+
+-- ---- LEDATA, LIDATA
+
+last_push : (cs : List (ℕ × ℕ)) (ds : List DataRecord) (d : DataRecord) → LastFits (Some cs) (d ∷ []) → LastFits (Some cs) (ds ++ d ∷ [])
+last_push cs [] d h = h
+last_push cs (c ∷ []) d h = h
+last_push cs (c ∷ e ∷ ds) d h = last_push cs (e ∷ ds) d h
+
+abbrev plain : (place segment offset : ℕ) (pairs : List (ℕ × ℕ)) → DataRecord
+plain place segment offset pairs = record { place = place; segment = segment; offset = offset; pairs = pairs; fixups = [] }
+
+data_fits : (ss : List Segment) (gs : List Group) (es : List External) (place i offset n : ℕ) (pairs : List (ℕ × ℕ)) → length pairs ≡ n → data_fault (entry ss i) offset n ≡ None → DataFitting ss gs es (plain place (i - 1) offset pairs)
+data_fits ss gs es place zero offset n pairs len e = cc
+data_fits ss gs es place (suc i) offset n pairs len e = go (slice_get ss i) refl e
+  where
+    go : (o : Option Segment) → slice_get ss i ≡ o → data_fault o offset n ≡ None → DataFitting ss gs es (plain place (suc i - 1) offset pairs)
+    go None k f = cc
+    go (Some s) k f =
+        let p = none_both (when (nat_lt s.length (offset + n)) DataOutside) (when (is_absolute s.standing) DataInAbsolute) f in
+        let here : suc i - 1 ≡ i = omega arith in
+        let within = not_less s.length (offset + n) (when_none (nat_lt s.length (offset + n)) DataOutside p.0) in
+        record { segment = s; is_part = (ap (slice_get ss) here ∙ k, when_none (is_absolute s.standing) DataInAbsolute p.1); inside = omega (arith, within, len); fixups = tt }
+
+data_keeps : (s : State) (place i offset n : ℕ) (pairs cs : List (ℕ × ℕ)) → length pairs ≡ n → data_fault (entry s.tables.segments i) offset n ≡ None → ((at width : ℕ) → lies_in cs at width ≡ true → StandTogether at width (places pairs)) → Promises s
+    → Promises (add_data s place (i - 1) offset pairs cs)
+data_keeps s place i offset n pairs cs len e together h =
+    let m = h.sound in
+    let d = plain place (i - 1) offset pairs in
+    record {
+      names = h.names;
+      sound = record {
+        segments = m.segments;
+        group_names = m.group_names;
+        externals = m.externals;
+        public_names = m.public_names;
+        groups = m.groups;
+        publics = m.publics;
+        data_records = all_append _ s.data_records (d ∷ []) m.data_records (data_fits s.tables.segments s.tables.groups s.tables.externals place i offset n pairs len e, tt);
+        start = m.start;
+      };
+      last = last_push cs s.data_records d together;
+    }
+
+-- ---- FIXUPP
+
+frame_means : (t : Tables) (m : FrameMethod) → frame_fault t (Some m) ≡ None → FrameMeans t.segments t.groups t.externals (frame_of m)
+frame_means t (by.Segment i) e = means t.segments i (when_none (misses t.segments i) SegmentIndex e)
+frame_means t (by.Group i) e = means t.groups i (when_none (misses t.groups i) GroupIndex e)
+frame_means t (by.External i) e = means t.externals i (when_none (misses t.externals i) ExternalIndex e)
+frame_means t by.Location e = tt
+frame_means t by.Target e = tt
+
+target_means : (t : Tables) (m : TargetMethod) → target_fault t (Some m) ≡ None → TargetMeans t.segments t.groups t.externals (target_of m)
+target_means t (to.Segment i) e = means t.segments i (when_none (misses t.segments i) SegmentIndex e)
+target_means t (to.Group i) e = means t.groups i (when_none (misses t.groups i) GroupIndex e)
+target_means t (to.External i) e = means t.externals i (when_none (misses t.externals i) ExternalIndex e)
+
+not_false : (b : Bool) → not b ≡ false → b ≡ true
+not_false true e = refl
+not_false false e = cc
+
+place_fits : (o : Option (List (ℕ × ℕ))) (x : Fixup) (d : DataRecord) → place_fault o x ≡ None → LastFits o (d ∷ []) → StandTogether x.offset (location_width x.location) (places d.pairs)
+place_fits None x d e h = cc
+place_fits (Some cs) x d e h = h x.offset (location_width x.location) (not_false (lies_in cs x.offset (location_width x.location)) (when_none (not (lies_in cs x.offset (location_width x.location))) FixupPlace e))
+
+relative_fits : (self : Bool) (b : Bool) → cond self (when b SelfRelativeBase) None ≡ None → self ≡ true → b ≡ false
+relative_fits true b e k = when_none b SelfRelativeBase e
+relative_fits false b e k = cc
+
+-- the fix-ups are on this data
+abbrev OnData : State → DataRecord → List ResolvedFixup → Type 0
+OnData s d fs = AllByRecursion (FixupFits s.tables.segments s.tables.groups s.tables.externals d) fs
+
+fixup_fits : (s : State) (place : ℕ) (x : Fixup) (f : Option FrameMethod) (t : Option TargetMethod) (d : DataRecord) → fixup_fault s.tables f t s.contents x ≡ None → LastFits s.contents (d ∷ []) → OnData s d (option_to_list (fixup_of place x f t))
+fixup_fits s place x None t d e h = cc_list e
+  where
+    cc_list : fixup_fault s.tables None t s.contents x ≡ None → OnData s d (option_to_list (fixup_of place x None t))
+    cc_list e = tt
+fixup_fits s place x (Some f) None d e h = tt
+fixup_fits s place x (Some f) (Some t) d e h =
+    let a = none_both (frame_fault s.tables (Some f)) (target_fault s.tables (Some t) ⊓ place_fault s.contents x ⊓ relative_fault x) e in
+    let b = none_both (target_fault s.tables (Some t)) (place_fault s.contents x ⊓ relative_fault x) a.1 in
+    let c = none_both (place_fault s.contents x) (relative_fault x) b.1 in (
+      record {
+        frame = frame_means s.tables f a.0;
+        target = target_means s.tables t b.0;
+        together = place_fits s.contents x d c.0 h;
+        relative = relative_fits x.self_relative (holds_base x.location) c.1;
+      },
+      tt,
+    )
+
+refit : (ss : List Segment) (gs : List Group) (es : List External) (d : DataRecord) (fs : List ResolvedFixup) (x : ResolvedFixup) → FixupFits ss gs es d x → FixupFits ss gs es (record d { fixups = fs }) x
+refit ss gs es d fs x h = record { frame = h.frame; target = h.target; together = h.together; relative = h.relative }
+
+module _ (ss : List Segment) (gs : List Group) (es : List External) (o : Option (List (ℕ × ℕ))) (fs : List ResolvedFixup) (on : (d : DataRecord) → LastFits o (d ∷ []) → AllByRecursion (FixupFits ss gs es d) fs) where
+  fit_last : (ds : List DataRecord) → AllByRecursion (DataFitting ss gs es) ds → LastFits o ds → AllByRecursion (DataFitting ss gs es) (add_to_last fs ds)
+  fit_last [] h l = tt
+  fit_last (d ∷ []) h l =
+      let k = h.0 in
+      let all = all_append (FixupFits ss gs es d) d.fixups fs k.fixups (on d l) in
+      (record { segment = k.segment; is_part = k.is_part; inside = k.inside; fixups = all_weaker _ _ (d.fixups ++ fs) (refit ss gs es d (d.fixups ++ fs)) all }, tt)
+  fit_last (d ∷ e ∷ ds) h l = (h.0, fit_last (e ∷ ds) h.1 (last_tail o d e ds l))
+    where
+      last_tail : (o : Option (List (ℕ × ℕ))) (d e : DataRecord) (ds : List DataRecord) → LastFits o (d ∷ e ∷ ds) → LastFits o (e ∷ ds)
+      last_tail None d e ds l = tt
+      last_tail (Some cs) d e ds l = l
+
+still_last : (o : Option (List (ℕ × ℕ))) (fs : List ResolvedFixup) (ds : List DataRecord) → LastFits o ds → LastFits o (add_to_last fs ds)
+still_last None fs ds h = tt
+still_last (Some cs) fs [] h = tt
+still_last (Some cs) fs (d ∷ []) h = h
+still_last (Some cs) fs (d ∷ e ∷ []) h = h
+still_last (Some cs) fs (d ∷ e ∷ f ∷ ds) h = still_last (Some cs) fs (e ∷ f ∷ ds) h
+
+abbrev with_fixups : State → List ResolvedFixup → State
+with_fixups s fs = record s { data_records = add_to_last fs s.data_records }
+
+fixups_keep : (s : State) (fs : List ResolvedFixup) → ((d : DataRecord) → LastFits s.contents (d ∷ []) → OnData s d fs) → Promises s → Promises (with_fixups s fs)
+fixups_keep s fs on h =
+    let m = h.sound in
+    record {
+      names = h.names;
+      sound = record {
+        segments = m.segments;
+        group_names = m.group_names;
+        externals = m.externals;
+        public_names = m.public_names;
+        groups = m.groups;
+        publics = m.publics;
+        data_records = fit_last s.tables.segments s.tables.groups s.tables.externals s.contents fs on s.data_records m.data_records h.last;
+        start = m.start;
+      };
+      last = still_last s.contents fs s.data_records h.last;
+    }
+
+subrecord_keeps : (place : ℕ) (s t : State) (x : Subrecord) → step_subrecord place s x ≡ Ok t → Promises s → Promises t
+unfolding step_subrecord
+subrecord_keeps place s t (sub.SetFrame n m) e h = subst Promises (ok_is _ t e) (record { names = h.names; sound = h.sound; last = h.last })
+subrecord_keeps place s t (sub.SetTarget n m) e h = subst Promises (ok_is _ t e) (record { names = h.names; sound = h.sound; last = h.last })
+subrecord_keeps place s t (sub.Fixup x) e h =
+    let f = frame_used (slot s.frame_threads) x.reference.frame in
+    let g = target_used (slot s.target_threads) x.reference.target in
+    let p = by_fault (fixup_fault s.tables f g s.contents x) (with_fixups s (option_to_list (fixup_of place x f g))) t e in
+    subst Promises p.1 (fixups_keep s (option_to_list (fixup_of place x f g)) (λ d l. fixup_fits s place x f g d p.0 l) h)
+
+then_ok : (x : Result State CheckFault) (f : State → Result State CheckFault) (t : State) → (x >>= f) ≡ Ok t → (u : State) × (x ≡ Ok u) × (f u ≡ Ok t)
+then_ok (Ok u) f t e = (u, refl, e)
+then_ok (Err c) f t e = cc
+
+subrecords_keep : (place : ℕ) (s t : State) (xs : List Subrecord) → step_subrecords place s xs ≡ Ok t → Promises s → Promises t
+unfolding step_subrecords
+subrecords_keep place s t [] e h = subst Promises (ok_is s t e) h
+subrecords_keep place s t (x ∷ xs) e h =
+    let p = then_ok (step_subrecord place s x) (λ u. step_subrecords place u xs) t e in
+    subrecords_keep place p.0 t xs p.2 (subrecord_keeps place s p.0 x p.1 h)
+
+-- ---- MODEND
+
+no_location : (m : FrameMethod) → location_fault (Some m) ≡ None → frame_of m ≡ frames.OfLocation → ⊥
+no_location (by.Segment i) e k = cc
+no_location (by.Group i) e k = cc
+no_location (by.External i) e k = cc
+no_location by.Location e k = cc
+no_location by.Target e k = cc
+
+abbrev StartIsSound : State → Option Start → Type 0
+StartIsSound s o = IfSome o (StartFits s.tables.segments s.tables.groups s.tables.externals)
+
+start_fits : (s : State) (place : ℕ) (r : Reference) (f : Option FrameMethod) (t : Option TargetMethod) → start_fault s.tables f t ≡ None → StartIsSound s s.start → StartIsSound s (later (start_of place r f t) s.start)
+start_fits s place r None t e h = h
+start_fits s place r (Some f) None e h = h
+start_fits s place r (Some f) (Some t) e h =
+    let a = none_both (frame_fault s.tables (Some f)) (target_fault s.tables (Some t) ⊓ location_fault (Some f)) e in
+    let b = none_both (target_fault s.tables (Some t)) (location_fault (Some f)) a.1 in
+    record { frame = frame_means s.tables f a.0; target = target_means s.tables t b.0; no_location = no_location f b.1 }
+
+abbrev with_start : State → Option Start → State
+with_start s o = record s { start = later o s.start }
+
+start_keeps : (s : State) (place : ℕ) (r : Reference) (f : Option FrameMethod) (t : Option TargetMethod) → start_fault s.tables f t ≡ None → Promises s → Promises (with_start s (start_of place r f t))
+start_keeps s place r f t e h =
+    let m = h.sound in
+    record {
+      names = h.names;
+      sound = record {
+        segments = m.segments;
+        group_names = m.group_names;
+        externals = m.externals;
+        public_names = m.public_names;
+        groups = m.groups;
+        publics = m.publics;
+        data_records = m.data_records;
+        start = start_fits s place r f t e m.start;
+      };
+      last = h.last;
+    }
+
+-- ---- one record, and all
+
+length-stored : (place : ℕ) (bytes : List ℕ) → length (stored_from place bytes) ≡ length bytes
+length-stored place [] = refl
+length-stored place (b ∷ bytes) = ap suc (length-stored (place + 1) bytes)
+
+record_keeps : (place : ℕ) (s t : State) (r : Record) (body : List ℕ) → Body r body → step_record place s r ≡ Ok t → Promises s → Promises t
+unfolding step_record
+record_keeps place s t (Theadr name) body b e h = subst Promises (ok_is s t e) h
+record_keeps place s t (Coment kind class bytes) body b e h = subst Promises (ok_is s t e) h
+record_keeps place s t (Linnum group segment lines) body b e h = subst Promises (ok_is s t e) h
+record_keeps place s t (Lnames listed) body b e h = subst Promises (ok_is _ t e) (names_keep s listed body b h)
+record_keeps place s t (Segdef d) body b e h = subst Promises (by_fault (segment_fault s.tables d) _ t e).1 (segment_keeps s d body b h)
+record_keeps place s t (Grpdef name is) body b e h =
+    let p = by_fault (group_fault s.tables name is) _ t e in
+    let q = first_both (when (misses s.tables.names name) NameIndex) (map (λ i. component_fault (entry s.tables.segments i)) is) p.0 in
+    subst Promises p.1 (group_keeps s name is q.1 h)
+record_keeps place s t (Extdef local listed) body b e h = subst Promises (ok_is _ t e) (externals_keep s (map external_of listed) (externals_short local listed body b) h)
+record_keeps place s t (Pubdef local base listed) body b e h =
+    let p = by_fault (public_fault s.tables base) _ t e in
+    subst Promises p.1 (publics_keep s base listed (base_text local base listed body b).0 (base_text local base listed body b).1 (publics_named local base listed body b) p.0 h)
+record_keeps place s t (Ledata segment offset bytes) body b e h =
+    let p = by_fault (data_fault (entry s.tables.segments segment) offset (length bytes)) _ t e in
+    subst Promises p.1 (data_keeps s place segment offset (length bytes) (stored_from 0 bytes) ((0, length bytes) ∷ []) (length-stored 0 bytes) p.0 (stored_together bytes) h)
+record_keeps place s t (Lidata segment offset blocks) body b e h =
+    let p = by_fault (data_fault (entry s.tables.segments segment) offset (length (expansion blocks))) _ t e in
+    subst Promises p.1 (data_keeps s place segment offset (length (expansion blocks)) (expansion blocks) (contents blocks) refl p.0 (repeated_together blocks) h)
+record_keeps place s t (Fixupp subs) body b e h = subrecords_keep place s t subs e h
+record_keeps place s t (Modend main None) body b e h = subst Promises (ok_is s t e) h
+record_keeps place s t (Modend main (Some r)) body b e h =
+    let f = frame_used (slot s.frame_threads) r.frame in
+    let g = target_used (slot s.target_threads) r.target in
+    let p = by_fault (start_fault s.tables f g) _ t e in
+    subst Promises p.1 (start_keeps s place r f g p.0 h)
+
+pub step_keeps : (s t : State) (r : Placed) (body : List ℕ) → Body r.says body → step s r ≡ Ok t → Promises s → Promises t
+unfolding step
+step_keeps s t r body b e h =
+    let p = then_ok (checked (header_fault s.begun r.says) (record s { begun = true })) (λ u. step_record r.place u r.says) t e in
+    let q = by_fault (header_fault s.begun r.says) (record s { begun = true }) p.0 p.1 in
+    record_keeps r.place p.0 t r.says body b p.2 (subst Promises q.1 (record { names = h.names; sound = h.sound; last = h.last }))
+
+pub none_promised : Promises (state_of [])
+none_promised = record {
+  names = tt;
+  sound = record { segments = tt; group_names = tt; externals = tt; public_names = tt; groups = tt; publics = tt; data_records = tt; start = tt };
+  last = tt;
+}

@@ -1,0 +1,162 @@
+-- What stands in a store stays where it is, and what is kept at its end is there.
+use Rattle.std.proofs.Common.{◌≡◌, ℕ, ◌≤◌, List, [], ◌∷◌, ◌++◌, length, take, drop, map, refl, sym, ap, subst, ◌∙◌, arith, length-append, length-drop}
+use Rattle.std.specs.List.{AllByRecursion, zip}
+use Rattle.std.proofs.lemmas.List.{append-nil, drop-append-le, take-append-le, drop_at, take_all, map_push}
+use Rattle.omf_module.specs.declared.store.Part.{Part}
+use Rattle.omf_module.specs.declared.store.SegmentEntry.{SegmentEntry}
+use Rattle.omf_module.specs.declared.store.GroupEntry.{GroupEntry}
+use Rattle.omf_module.specs.declared.store.PublicEntry.{PublicEntry}
+use Rattle.omf_module.specs.declared.store.DataEntry.{DataEntry}
+use Rattle.omf_module.specs.declared.Base.{Base}
+use Rattle.omf_module.specs.Module.{DataRecord}
+use Rattle.omf_module.specs.Store.{Kept, part, segment, group, external, public_symbol, places_part, data_record, IsIn, SegmentIsIn, GroupIsIn, PublicIsIn, DataIsIn, Entries, kept, AreIn}
+
+pub all_push : {X : Type 0} (P : X → Type 0) (xs : List X) (x : X) → AllByRecursion P xs → P x → AllByRecursion P (xs ++ x ∷ [])
+all_push P [] x h p = (p, tt)
+all_push P (y ∷ xs) x h p = (h.0, all_push P xs x h.1 p)
+
+-- entries that say the same, and stay in bounds
+all_stay : {E V : Type 0} (see see' : E → V) (In In' : E → Type 0) → ((e : E) → In e → (see' e ≡ see e) × In' e) → (xs : List E) → AllByRecursion In xs → (map see' xs ≡ map see xs) × AllByRecursion In' xs
+all_stay see see' In In' one [] h = (refl, tt)
+all_stay see see' In In' one (x ∷ xs) h =
+    let here = one x h.0 in
+    let more = all_stay see see' In In' one xs h.1 in
+    (ap (λ v. v ∷ map see' xs) here.0 ∙ ap (λ vs. see x ∷ vs) more.0, (here.1, more.1))
+
+pub part_stays : {X : Type 0} (xs more : List X) (p : Part) → IsIn xs p → (part (xs ++ more) p ≡ part xs p) × IsIn (xs ++ more) p
+part_stays xs more p h =
+    let a : p.from ≤ length xs = omega arith in
+    let b : p.len ≤ length (drop p.from xs) = omega (arith, length-drop p.from xs) in
+    (ap (take p.len) (drop-append-le p.from xs more a) ∙ take-append-le p.len (drop p.from xs) more b, omega (arith, length-append xs more))
+
+segment_stays : (bytes more : List ℕ) (s : SegmentEntry) → SegmentIsIn bytes s → (segment (bytes ++ more) s ≡ segment bytes s) × SegmentIsIn (bytes ++ more) s
+segment_stays bytes more s h =
+    let n = part_stays bytes more s.name h.0 in
+    let c = part_stays bytes more s.class h.1 in
+    (rw (n.0, c.0) refl, (n.1, c.1))
+
+group_stays : {A : Type 0} (bytes more : List ℕ) (g : GroupEntry A) → GroupIsIn bytes g → (group (bytes ++ more) g ≡ group bytes g) × GroupIsIn (bytes ++ more) g
+group_stays bytes more g h =
+    let n = part_stays bytes more g.name h in
+    (rw n.0 refl, n.1)
+
+external_stays : (bytes more : List ℕ) (p : Part) → IsIn bytes p → (external (bytes ++ more) p ≡ external bytes p) × IsIn (bytes ++ more) p
+external_stays bytes more p h =
+    let n = part_stays bytes more p h in
+    (rw n.0 refl, n.1)
+
+public_stays : (bytes more : List ℕ) (p : PublicEntry) → PublicIsIn bytes p → (public_symbol (bytes ++ more) p ≡ public_symbol bytes p) × PublicIsIn (bytes ++ more) p
+public_stays bytes more p h =
+    let n = part_stays bytes more p.name h in
+    (rw n.0 refl, n.1)
+
+data_stays : {A : Type 0} (bytes more places more' : List ℕ) (d : DataEntry A) → DataIsIn bytes places d → (data_record (bytes ++ more) (places ++ more') d ≡ data_record bytes places d) × DataIsIn (bytes ++ more) (places ++ more') d
+data_stays bytes more places more' d h =
+    let b = part_stays bytes more d.bytes h.0 in
+    let p = part_stays places more' (places_part d) h.1 in
+    (rw (b.0, p.0) refl, (b.1, p.1))
+
+-- longer lists
+pub stays : {A : Type 0} (bytes more places more' : List ℕ) (e : Entries A) → AreIn bytes places e → (kept (bytes ++ more) (places ++ more') e ≡ kept bytes places e) × AreIn (bytes ++ more) (places ++ more') e
+stays bytes more places more' e h =
+    let n = all_stay (part bytes) (part (bytes ++ more)) (IsIn bytes) (IsIn (bytes ++ more)) (λ p k. part_stays bytes more p k) e.names h.names in
+    let s = all_stay (segment bytes) (segment (bytes ++ more)) (SegmentIsIn bytes) (SegmentIsIn (bytes ++ more)) (λ p k. segment_stays bytes more p k) e.segments h.segments in
+    let g = all_stay (group bytes) (group (bytes ++ more)) (GroupIsIn bytes) (GroupIsIn (bytes ++ more)) (λ p k. group_stays bytes more p k) e.groups h.groups in
+    let x = all_stay (external bytes) (external (bytes ++ more)) (IsIn bytes) (IsIn (bytes ++ more)) (λ p k. external_stays bytes more p k) e.externals h.externals in
+    let p = all_stay (public_symbol bytes) (public_symbol (bytes ++ more)) (PublicIsIn bytes) (PublicIsIn (bytes ++ more)) (λ p k. public_stays bytes more p k) e.publics h.publics in
+    let d = all_stay (data_record bytes places) (data_record (bytes ++ more) (places ++ more')) (DataIsIn bytes places) (DataIsIn (bytes ++ more) (places ++ more')) (λ d k. data_stays bytes more places more' d k) e.data_records h.data_records in
+    (rw (n.0, s.0, g.0, x.0, p.0, d.0) refl, record { names = n.1; segments = s.1; groups = g.1; externals = x.1; publics = p.1; data_records = d.1 })
+
+pub bytes_stay : {A : Type 0} (bytes more places : List ℕ) (e : Entries A) → AreIn bytes places e → (kept (bytes ++ more) places e ≡ kept bytes places e) × AreIn (bytes ++ more) places e
+bytes_stay bytes more places e h = rw append-nil at (stays bytes more places [] e h)
+
+-- the piece that was kept last
+abbrev pub last_of : {X : Type 0} → List X → List X → Part
+last_of xs piece = record { from = length xs; len = length piece }
+
+pub last_part : {X : Type 0} (xs piece : List X) → part (xs ++ piece) (last_of xs piece) ≡ piece
+last_part xs piece = ap (take (length piece)) (drop_at xs piece (length xs) refl) ∙ take_all (length piece) piece (omega arith)
+
+pub last_is_in : {X : Type 0} (xs piece : List X) → IsIn (xs ++ piece) (last_of xs piece)
+last_is_in xs piece = omega (arith, length-append xs piece)
+
+-- what a store says and where it lies, with one entry more
+module _ {A : Type 0} (bytes places : List ℕ) (e : Entries A) (h : AreIn bytes places e) where
+  abbrev named : Part → Entries A
+  named p = record { names = e.names ++ p ∷ []; segments = e.segments; groups = e.groups; externals = e.externals; publics = e.publics; data_records = e.data_records }
+
+  pub name_kept : (name : List ℕ) → kept (bytes ++ name) places (named (last_of bytes name)) ≡ record (kept bytes places e) { names = (kept bytes places e).names ++ name ∷ [] }
+  name_kept name =
+      let s = bytes_stay bytes name places e h in
+      let n : map (part (bytes ++ name)) (e.names ++ last_of bytes name ∷ []) ≡ map (part (bytes ++ name)) e.names ++ name ∷ [] = map_push _ e.names (last_of bytes name) ∙ ap (λ x. map (part (bytes ++ name)) e.names ++ x ∷ []) (last_part bytes name) in
+      ap (λ ns. record (kept (bytes ++ name) places e) { names = ns }) n ∙ ap (λ (k : Kept). record k { names = k.names ++ name ∷ [] }) s.0
+
+  pub name_in : (name : List ℕ) → AreIn (bytes ++ name) places (named (last_of bytes name))
+  name_in name =
+      let s = (bytes_stay bytes name places e h).1 in
+      record { names = all_push (IsIn (bytes ++ name)) e.names (last_of bytes name) s.names (last_is_in bytes name); segments = s.segments; groups = s.groups; externals = s.externals; publics = s.publics; data_records = s.data_records }
+
+  abbrev externed : Part → Entries A
+  externed p = record { names = e.names; segments = e.segments; groups = e.groups; externals = e.externals ++ p ∷ []; publics = e.publics; data_records = e.data_records }
+
+  pub external_kept : (name : List ℕ) → kept (bytes ++ name) places (externed (last_of bytes name)) ≡ record (kept bytes places e) { externals = (kept bytes places e).externals ++ record { name = name } ∷ [] }
+  external_kept name =
+      let s = bytes_stay bytes name places e h in
+      let n : map (external (bytes ++ name)) (e.externals ++ last_of bytes name ∷ []) ≡ map (external (bytes ++ name)) e.externals ++ record { name = name } ∷ [] = map_push _ e.externals (last_of bytes name) ∙ ap (λ x. map (external (bytes ++ name)) e.externals ++ record { name = x } ∷ []) (last_part bytes name) in
+      ap (λ ns. record (kept (bytes ++ name) places e) { externals = ns }) n ∙ ap (λ (k : Kept). record k { externals = k.externals ++ record { name = name } ∷ [] }) s.0
+
+  pub external_in : (name : List ℕ) → AreIn (bytes ++ name) places (externed (last_of bytes name))
+  external_in name =
+      let s = (bytes_stay bytes name places e h).1 in
+      record { names = s.names; segments = s.segments; groups = s.groups; externals = all_push (IsIn (bytes ++ name)) e.externals (last_of bytes name) s.externals (last_is_in bytes name); publics = s.publics; data_records = s.data_records }
+
+  abbrev published : PublicEntry → Entries A
+  published p = record { names = e.names; segments = e.segments; groups = e.groups; externals = e.externals; publics = e.publics ++ p ∷ []; data_records = e.data_records }
+
+  abbrev public_entry : List ℕ → Base → ℕ → PublicEntry
+  public_entry name base offset = record { name = last_of bytes name; base = base; offset = offset }
+
+  pub public_kept : (name : List ℕ) (base : Base) (offset : ℕ) → kept (bytes ++ name) places (published (public_entry name base offset)) ≡ record (kept bytes places e) { publics = (kept bytes places e).publics ++ record { name = name; base = base; offset = offset } ∷ [] }
+  public_kept name base offset =
+      let s = bytes_stay bytes name places e h in
+      let n : map (public_symbol (bytes ++ name)) (e.publics ++ public_entry name base offset ∷ []) ≡ map (public_symbol (bytes ++ name)) e.publics ++ record { name = name; base = base; offset = offset } ∷ [] = map_push _ e.publics (public_entry name base offset) ∙ ap (λ x. map (public_symbol (bytes ++ name)) e.publics ++ record { name = x; base = base; offset = offset } ∷ []) (last_part bytes name) in
+      ap (λ ns. record (kept (bytes ++ name) places e) { publics = ns }) n ∙ ap (λ (k : Kept). record k { publics = k.publics ++ record { name = name; base = base; offset = offset } ∷ [] }) s.0
+
+  pub public_in : (name : List ℕ) (base : Base) (offset : ℕ) → AreIn (bytes ++ name) places (published (public_entry name base offset))
+  public_in name base offset =
+      let s = (bytes_stay bytes name places e h).1 in
+      record { names = s.names; segments = s.segments; groups = s.groups; externals = s.externals; publics = all_push (PublicIsIn (bytes ++ name)) e.publics (public_entry name base offset) s.publics (last_is_in bytes name); data_records = s.data_records }
+
+  abbrev stored : DataEntry A → Entries A
+  stored d = record { names = e.names; segments = e.segments; groups = e.groups; externals = e.externals; publics = e.publics; data_records = e.data_records ++ d ∷ [] }
+
+  abbrev is_data : (more more' : List ℕ) → DataEntry A → Type 0
+  is_data more more' d = (d.bytes ≡ last_of bytes more) × (d.places_from ≡ length places) × (d.fixups.items ≡ []) × (length more' ≡ length more)
+
+  abbrev plain_data : DataEntry A → List (ℕ × ℕ) → DataRecord
+  plain_data d pairs = record { place = d.place; segment = d.segment; offset = d.offset; pairs = pairs; fixups = [] }
+
+  places_same : (more more' : List ℕ) (d : DataEntry A) → is_data more more' d → places_part d ≡ last_of places more'
+  places_same more more' d k = rw (k.0, k.1, k.3) refl
+
+  pub data_kept : (more more' : List ℕ) (d : DataEntry A) → is_data more more' d → kept (bytes ++ more) (places ++ more') (stored d) ≡ record (kept bytes places e) { data_records = (kept bytes places e).data_records ++ plain_data d (zip more' more) ∷ [] }
+  data_kept more more' d k =
+      let s = stays bytes more places more' e h in
+      let b : part (bytes ++ more) d.bytes ≡ more = ap (part (bytes ++ more)) k.0 ∙ last_part bytes more in
+      let p : part (places ++ more') (places_part d) ≡ more' = ap (part (places ++ more')) (places_same more more' d k) ∙ last_part places more' in
+      let one : data_record (bytes ++ more) (places ++ more') d ≡ plain_data d (zip more' more) =
+      ap (λ x. record { place = d.place; segment = d.segment; offset = d.offset; pairs = zip x (part (bytes ++ more) d.bytes); fixups = d.fixups.items }) p
+      ∙ ap (λ x. record { place = d.place; segment = d.segment; offset = d.offset; pairs = zip more' x; fixups = d.fixups.items }) b
+      ∙ ap (λ x. record { place = d.place; segment = d.segment; offset = d.offset; pairs = zip more' more; fixups = x }) k.2 in
+      let n : map (data_record (bytes ++ more) (places ++ more')) (e.data_records ++ d ∷ []) ≡ map (data_record (bytes ++ more) (places ++ more')) e.data_records ++ plain_data d (zip more' more) ∷ [] = map_push _ e.data_records d ∙ ap (λ x. map (data_record (bytes ++ more) (places ++ more')) e.data_records ++ x ∷ []) one in
+      ap (λ ns. record (kept (bytes ++ more) (places ++ more') e) { data_records = ns }) n ∙ ap (λ (k : Kept). record k { data_records = k.data_records ++ plain_data d (zip more' more) ∷ [] }) s.0
+
+  pub data_kept_as : (more more' : List ℕ) (d : DataEntry A) (pairs : List (ℕ × ℕ)) → is_data more more' d → zip more' more ≡ pairs → kept (bytes ++ more) (places ++ more') (stored d) ≡ record (kept bytes places e) { data_records = (kept bytes places e).data_records ++ plain_data d pairs ∷ [] }
+  data_kept_as more more' d pairs k z = data_kept more more' d k ∙ ap (λ zs. record (kept bytes places e) { data_records = (kept bytes places e).data_records ++ plain_data d zs ∷ [] }) z
+
+  pub data_in : (more more' : List ℕ) (d : DataEntry A) → is_data more more' d → AreIn (bytes ++ more) (places ++ more') (stored d)
+  data_in more more' d k =
+      let s = (stays bytes more places more' e h).1 in
+      let b : IsIn (bytes ++ more) d.bytes = rw k.0 (last_is_in bytes more) in
+      let p : IsIn (places ++ more') (places_part d) = subst (λ (q : Part). IsIn (places ++ more') q) (sym (places_same more more' d k)) (last_is_in places more') in
+      record { names = s.names; segments = s.segments; groups = s.groups; externals = s.externals; publics = s.publics; data_records = all_push (DataIsIn (bytes ++ more) (places ++ more')) e.data_records d s.data_records (b, p) }

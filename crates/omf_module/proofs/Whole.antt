@@ -1,0 +1,69 @@
+-- One step is one record further.
+use Rattle.std.proofs.Common.{◌≡◌, ℕ, List, [], ◌∷◌, ◌++◌, Option, None, Some, Ok, Err, refl, sym, ap, ◌∙◌}
+use Rattle.std.specs.Option.{option_map}
+use Rattle.omf_record.specs.Record.{Record, Theadr, Coment, Modend, Extdef, Pubdef, Linnum, Lnames, Segdef, Grpdef, Fixupp, Ledata, Lidata}
+use Rattle.omf_module.specs.declared.fault.CheckFault.{CheckFault}
+use Rattle.omf_module.specs.Before.{along, along_from, first}
+use Rattle.omf_module.specs.Tables.{Placed}
+use Rattle.omf_module.specs.Faults.{begun, header_fault, items, fault, first_fault}
+use Rattle.omf_module.specs.Running.{State, state_of, checked, step, step_record, ◌>>=◌}
+use Rattle.omf_module.proofs.Lists.{along_push, along_from_append}
+use Rattle.omf_module.proofs.Growing.{Steps, header_steps, comment_steps, lines_steps, names_steps, externals_steps, publics_steps, segment_steps, group_steps, no_start_steps, start_steps, data_steps, repeated_steps}
+use Rattle.omf_module.proofs.Subrecords.{fixup_steps}
+
+record_steps : (r : Record) → Steps r
+record_steps (Theadr name) = header_steps name
+record_steps (Coment t c bytes) = comment_steps t c bytes
+record_steps (Modend main None) = no_start_steps main
+record_steps (Modend main (Some r)) = start_steps main r
+record_steps (Extdef local listed) = externals_steps local listed
+record_steps (Pubdef local base listed) = publics_steps local base listed
+record_steps (Linnum g s lines) = lines_steps g s lines
+record_steps (Lnames listed) = names_steps listed
+record_steps (Segdef d) = segment_steps d
+record_steps (Grpdef name components) = group_steps name components
+record_steps (Fixupp subs) = fixup_steps subs
+record_steps (Ledata segment offset bytes) = data_steps segment offset bytes
+record_steps (Lidata segment offset blocks) = repeated_steps segment offset blocks
+
+by_header : (h : Option CheckFault) (place : ℕ) (s : State) (r : Record) (is : List (Option CheckFault)) (t : State) → step_record place s r ≡ checked (first is) t
+    → (checked h s >>= λ u. step_record place u r) ≡ checked (first (h ∷ is)) t
+by_header None place s r is t e = e
+by_header (Some f) place s r is t e = refl
+
+pub step_whole : (rs : List Placed) (r : Placed) → step (state_of rs) r ≡ checked (fault rs r.says) (state_of (rs ++ r ∷ []))
+unfolding step
+step_whole rs r = by_header (header_fault (begun rs) r.says) r.place _ r.says (items rs r.says) _ (record_steps r.says r.place rs)
+
+first_append_none : {A : Type 0} (xs ys : List (Option A)) → first xs ≡ None → first (xs ++ ys) ≡ first ys
+first_append_none [] ys e = refl
+first_append_none (None ∷ xs) ys e = first_append_none xs ys e
+first_append_none ((Some x) ∷ xs) ys e = cc
+
+pub first_append_some : {A : Type 0} (xs ys : List (Option A)) (x : A) → first xs ≡ Some x → first (xs ++ ys) ≡ Some x
+first_append_some [] ys x e = cc
+first_append_some (None ∷ xs) ys x e = first_append_some xs ys x e
+first_append_some ((Some y) ∷ xs) ys x e = e
+
+abbrev pub place_fault : List Placed → Placed → List (Option (ℕ × CheckFault))
+place_fault before r = option_map (λ f. (r.place, f)) (fault before r.says) ∷ []
+
+-- no fault so far, and one record more
+module _ (rs : List Placed) (r : Placed) (sound : first_fault rs ≡ None) where
+  by_fault : (f : Option CheckFault) (s t : State) → checked f s ≡ Ok t → (f ≡ None) × (s ≡ t)
+  by_fault None s t e = (refl, cc)
+  by_fault (Some f) s t e = cc
+
+  by_err : (f : Option CheckFault) (s : State) (g : CheckFault) → checked f s ≡ Err g → f ≡ Some g
+  by_err None s g e = cc
+  by_err (Some f) s g e = cc
+
+  pub ok_more : (t : State) → step (state_of rs) r ≡ Ok t → (t ≡ state_of (rs ++ r ∷ [])) × (first_fault (rs ++ r ∷ []) ≡ None)
+  ok_more t e =
+      let p = by_fault (fault rs r.says) (state_of (rs ++ r ∷ [])) t (sym (step_whole rs r) ∙ e) in
+      (sym p.1, rw (along_push, p.0) (first_append_none (along place_fault rs) (None ∷ []) sound))
+
+  pub err_of : (ys : List Placed) (f : CheckFault) → step (state_of rs) r ≡ Err f → first_fault (rs ++ r ∷ ys) ≡ Some (r.place, f)
+  err_of ys f e =
+      let p = by_err (fault rs r.says) (state_of (rs ++ r ∷ [])) f (sym (step_whole rs r) ∙ e) in
+      rw along_from_append (first_append_none (along place_fault rs) (along_from rs place_fault (r ∷ ys)) sound ∙ ap (λ o. first (option_map (λ f. (r.place, f)) o ∷ along_from (rs ++ r ∷ []) place_fault ys)) p)

@@ -1,0 +1,12 @@
+use Rattle.std.proofs.Common.{◌≡◌, None, sym, arith}
+use Rattle.std.proofs.lemmas.Grind.{common_steps}
+use Rattle.omf_module.specs.declared.fault.CheckFault.TheVariants.{NameIndex}
+use Rattle.omf_module.specs.Faults.{when, misses}
+use Rattle.omf_module.specs.Building.{state}
+use Rattle.omf_module.proofs.Lists.{first_none}
+use Rattle.omf_module.proofs.builder.Builder.group_fault.Goals as goal
+
+pub returns-in-None : goal.returns-in-None
+returns-in-None g c =
+    let e : when (misses (state c.args.self.now).tables.names c.args.name) NameIndex ≡ None = grind (arith, common_steps) in
+    rw c.components_fault.ensures (sym (first_none _ _ e))

@@ -1,0 +1,41 @@
+-- What a whole module says. Segments, groups and externals are numbered from 0 in their lists.
+use Rattle.std.specs.Prelude.{ℕ, List, Option}
+use Rattle.omf_module.specs.declared.Standing.{Standing}
+use Rattle.omf_module.specs.declared.Base.{Base}
+use Rattle.omf_module.specs.declared.ResolvedFixup.{ResolvedFixup}
+use Rattle.omf_module.specs.declared.Start.{Start}
+
+pub record Segment : Type 0 where
+  pub name : List ℕ
+  pub class : List ℕ
+  pub length : ℕ
+  pub standing : Standing
+
+-- its members are segments of this module
+pub record Group : Type 0 where
+  pub name : List ℕ
+  pub members : List ℕ
+
+pub record External : Type 0 where
+  pub name : List ℕ
+
+pub record PublicSymbol : Type 0 where
+  pub name : List ℕ
+  pub base : Base
+  pub offset : ℕ
+
+-- its data as pairs of a stored place and a byte, with the fix-ups on it
+pub record DataRecord : Type 0 where
+  pub place : ℕ
+  pub segment : ℕ
+  pub offset : ℕ
+  pub pairs : List (ℕ × ℕ)
+  pub fixups : List ResolvedFixup
+
+pub record Module : Type 0 where
+  pub segments : List Segment
+  pub groups : List Group
+  pub externals : List External
+  pub publics : List PublicSymbol
+  pub data_records : List DataRecord
+  pub start : Option Start

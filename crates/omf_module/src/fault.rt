@@ -1,0 +1,126 @@
+//! Why bytes are no object module.
+ghost use Rattle.std.specs.Prelude.{◌≡◌};
+ghost use Rattle.omf_module.specs.Faults as faults;
+
+use std::alloc::AllocError;
+use thiserror::Error;
+
+/// What the checks of a module refuse, on the tables as they stand before a record.
+#[derive(Clone, Copy, Debug, PartialEq, Eq, Error)]
+pub enum CheckFault {
+    /// 7: the first record isn't THEADR.
+    #[error("the first record isn't a header")]
+    NotHeader,
+    /// 10: an index of a name that isn't listed.
+    #[error("no such name")]
+    NameIndex,
+    /// 11: an index of a segment that isn't defined.
+    #[error("no such segment")]
+    SegmentIndex,
+    /// 12: an index of a group that isn't defined.
+    #[error("no such group")]
+    GroupIndex,
+    /// 13: an index of an external that isn't defined.
+    #[error("no such external name")]
+    ExternalIndex,
+    /// 14: a fix-up or start uses a thread that no earlier subrecord set.
+    #[error("the thread isn't set")]
+    ThreadNotSet,
+    /// 15: a fix-up with no data record before it.
+    #[error("a fix-up before any data")]
+    FixupBeforeData,
+    /// 16: a fix-up's location isn't wholly in the data, or not wholly in one content.
+    #[error("a fix-up outside the data")]
+    FixupPlace,
+    /// 17: data passes the segment's length.
+    #[error("data outside its segment")]
+    DataOutside,
+    /// 18: data for an absolute segment.
+    #[error("data in an absolute segment")]
+    DataInAbsolute,
+    /// 19: a self-relative fix-up of a base.
+    #[error("a self-relative base")]
+    SelfRelativeBase,
+    /// 20: the start's frame is that of its location.
+    #[error("a start without a location")]
+    FrameOfLocation,
+    /// 21: a member of a group is an absolute segment.
+    #[error("an absolute segment in a group")]
+    GroupOfAbsolute,
+}
+
+impl CheckFault {
+    /// The number under which the fault is reported.
+    pub fn number(self) -> u8
+        ensures { result ≡ faults.number self }
+    {
+        match self {
+            CheckFault::NotHeader => 7,
+            CheckFault::NameIndex => 10,
+            CheckFault::SegmentIndex => 11,
+            CheckFault::GroupIndex => 12,
+            CheckFault::ExternalIndex => 13,
+            CheckFault::ThreadNotSet => 14,
+            CheckFault::FixupBeforeData => 15,
+            CheckFault::FixupPlace => 16,
+            CheckFault::DataOutside => 17,
+            CheckFault::DataInAbsolute => 18,
+            CheckFault::SelfRelativeBase => 19,
+            CheckFault::FrameOfLocation => 20,
+            CheckFault::GroupOfAbsolute => 21,
+        }
+    }
+}
+
+/// What is wrong at the place of a record.
+#[derive(Clone, Copy, Debug, PartialEq, Eq, Error)]
+pub enum FaultKind {
+    /// 1: the source failed.
+    #[error("the source failed")]
+    Device,
+    /// 2: the length word is 0.
+    #[error("its length word is 0")]
+    ZeroLength,
+    /// 3: the input ends inside the record.
+    #[error("the input ends inside it")]
+    Truncated,
+    /// 4: the closing byte isn't 0 and the record's sum isn't 0 modulo 256.
+    #[error("its closing byte is wrong")]
+    Closing,
+    /// 5: the type isn't one of the twelve.
+    #[error("its type isn't known")]
+    Type,
+    /// 6: the body isn't one of its type, from this byte of it on.
+    #[error("its body is wrong at byte {at}")]
+    Body { at: usize },
+    /// 7 and 10 to 21: a check refuses the record.
+    #[error("{0}")]
+    Check(CheckFault),
+    /// 8: the input ends between records before MODEND.
+    #[error("the input ends before the module")]
+    NoEnd,
+    /// 41: the record would begin at a place that is too great.
+    #[error("it begins too far into the input")]
+    InputTooLong,
+}
+
+impl From<AllocError> for ModuleFault {
+    ghost use Rattle.omf_module.specs.declared.fault.ModuleFault.TheVariants.{Memory};
+
+    ghost from_gives = { λ _ e. e ≡ Memory };
+
+    fn from(_: AllocError) -> Self {
+        ModuleFault::Memory
+    }
+}
+
+/// Why no module was read.
+#[derive(Clone, Copy, Debug, PartialEq, Eq, Error)]
+pub enum ModuleFault {
+    /// There was no memory.
+    #[error("no memory")]
+    Memory,
+    /// At the record that begins at this place of the input, or where it ended.
+    #[error("record {place}: {kind}")]
+    Record { place: u64, kind: FaultKind },
+}

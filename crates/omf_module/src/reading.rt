@@ -1,0 +1,134 @@
+//! Reads the records of a module from a source, up to the first MODEND.
+ghost use Rattle.std.specs.Prelude.{◌≡◌, ℕ, ◌+◌, ◌-◌, ◌^◌, ◌<◌, ◌++◌, List, Some};
+ghost use Rattle.omf_record.specs.View.{view};
+ghost use Rattle.omf_module.specs.Tables.{Placed, module_of};
+ghost use Rattle.omf_module.specs.Building.{state};
+ghost use Rattle.omf_module.specs.Bytes.{is_end, framing_kind, ModuleBytes};
+ghost use Rattle.omf_module.specs.Reading.{failures_in, Reads, TakesRecord, IsModule};
+ghost use Rattle.omf_module.specs.Faulty.{frame_fault, record_fault, add_fault};
+
+use crate::builder::{AddFault, Builder};
+use crate::fault::{FaultKind, ModuleFault};
+use crate::lookups::Module;
+use omf_frame::{Frame, FrameBuf, FrameFault, FramingFault, Source};
+use omf_record::{Record, RecordFault, parse_record};
+use std::alloc::Allocator;
+
+fn framing_kind(fault: FramingFault) -> FaultKind
+    ensures { result ≡ framing_kind fault }
+{
+    match fault {
+        FramingFault::ZeroLength => FaultKind::ZeroLength,
+        FramingFault::Truncated => FaultKind::Truncated,
+        FramingFault::Closing => FaultKind::Closing,
+        FramingFault::InputTooLong => FaultKind::InputTooLong,
+    }
+}
+
+fn frame_fault(fault: FrameFault) -> ModuleFault
+    ensures { result ≡ frame_fault fault }
+{
+    let (place, kind) = match fault {
+        FrameFault::Device { place } => (place, FaultKind::Device),
+        FrameFault::Framing { place, fault } => (place, framing_kind(fault)),
+        FrameFault::Memory | FrameFault::Failed => return ModuleFault::Memory,
+    };
+    ModuleFault::Record { place, kind }
+}
+
+fn record_fault(place: u64, fault: RecordFault) -> ModuleFault
+    ensures { result ≡ record_fault place fault }
+{
+    let kind = match fault {
+        RecordFault::Memory => return ModuleFault::Memory,
+        RecordFault::OtherType => FaultKind::Type,
+        RecordFault::Body { at } => FaultKind::Body { at },
+    };
+    ModuleFault::Record { place, kind }
+}
+
+fn add_fault(place: u64, fault: AddFault) -> ModuleFault
+    ensures { result ≡ add_fault place fault }
+{
+    match fault {
+        AddFault::Memory => ModuleFault::Memory,
+        AddFault::Check(fault) => ModuleFault::Record {
+            place,
+            kind: FaultKind::Check(fault),
+        },
+    }
+}
+
+#[tactic(auto, unfolding(omf_record::specs::View::view))]
+fn is_end<A: Allocator + Copy>(r: &Record<'_, A>) -> bool
+    ensures { result ≡ is_end (view r.now) }
+{
+    matches!(r, Record::Modend { .. })
+}
+
+/// Takes the record of a frame, and says whether it is MODEND.
+fn take_record<'a, A: Allocator + Copy + 'a>(
+    alloc: A,
+    builder: &mut Builder<A>,
+    frame: &Frame<'a>,
+) -> Result<bool, ModuleFault>
+    ensures { TakesRecord frame.now.kind frame.now.body.now frame.now.place (state builder.old) (state builder.new) result }
+{
+    let place = frame.place;
+    let record = match parse_record(alloc, frame) {
+        Ok(record) => record,
+        Err(fault) => return Err(record_fault(place, fault)),
+    };
+    match builder.add(alloc, place, &record) {
+        Ok(()) => Ok(is_end(&record)),
+        Err(fault) => Err(add_fault(place, fault)),
+    }
+}
+
+fn read_records<A: Allocator + Copy, S: Source>(
+    alloc: A,
+    source: &mut S,
+) -> Result<Module<A>, ModuleFault>
+    requires { S.failures source.old < 2 ^ 64 - 1 }
+    ensures device { S.failures source.new ≡ S.failures source.old + failures_in result }
+    ensures reads { Reads (λ m. m) (S.remaining source.old) (S.remaining source.new) result }
+{
+    let mut buf = FrameBuf::new(alloc)?;
+    let mut builder = Builder::new(alloc);
+    let mut place = 0u64;
+    loop {
+        let frame = match buf.next_record(source) {
+            Ok(Some(frame)) => frame,
+            Ok(None) => {
+                return Err(ModuleFault::Record {
+                    place,
+                    kind: FaultKind::NoEnd,
+                });
+            }
+            Err(fault) => return Err(frame_fault(fault)),
+        };
+        if take_record(alloc, &mut builder, &frame)? {
+            return Ok(builder.finish());
+        }
+        place = frame.place + frame.body.len() as u64 + 4;
+    }
+}
+
+/// The module whose records the source gives, up to the first MODEND, which is the last that is read; else the first fault.
+///
+/// `Memory` comes only where memory was refused, and `Device` exactly where the source failed.
+pub fn read_module<A: Allocator + Copy, S: Source>(
+    alloc: A,
+    source: &mut S,
+) -> Result<Module<A>, ModuleFault>
+    requires { S.failures source.old < 2 ^ 64 - 1 }
+    // The source failed exactly where the answer is `Device`, and then once.
+    ensures device { S.failures source.new ≡ S.failures source.old + failures_in result }
+    // What was read, the answer, and where the source stands.
+    ensures reads { Reads (λ m. m) (S.remaining source.old) (S.remaining source.new) result }
+    // A whole sound module is answered, and no byte behind it read.
+    ensures whole { (rs : List Placed) (bytes rest : List ℕ) → ModuleBytes rs bytes → S.remaining source.old ≡ Some (bytes ++ rest)
+        → IsModule (λ m. m) (module_of rs) rest (S.remaining source.new) result }
+{
+    read_records(alloc, source)
+}

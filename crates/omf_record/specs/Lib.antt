@@ -1,0 +1,15 @@
+pub mod Language
+pub mod Record
+pub mod Numbers
+pub mod Body
+pub mod Canonical
+pub mod Expansion
+pub mod Reading
+pub mod Fields
+pub mod View
+pub mod Answer
+pub mod Fits
+pub mod Keeping
+pub mod Room
+pub mod Searching
+pub mod Records
