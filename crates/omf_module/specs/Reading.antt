@@ -102,3 +102,10 @@ IsModule view m rest new (Err (fault.Record place (kind.Body at))) = ⊥
 IsModule view m rest new (Err (fault.Record place (kind.Check f))) = ⊥
 IsModule view m rest new (Err (fault.Record place kind.NoEnd)) = ⊥
 IsModule view m rest new (Err (fault.Record place kind.InputTooLong)) = ⊥
+
+-- The answer is this fault at this place, unless memory or the source failed.
+abbrev pub IsFault : {A : Type 0} → ℕ → FaultKind → Result A ModuleFault → Type 0
+IsFault place f (Ok x) = ⊥
+IsFault place f (Err fault.Memory) = Unit {0}
+IsFault place f (Err (fault.Record at kind.Device)) = Unit {0}
+IsFault place f (Err (fault.Record at k)) = (at ≡ place) × (k ≡ f)

@@ -1,10 +1,11 @@
 //! Reads the records of a module from a source, up to the first MODEND.
 ghost use Rattle.std.specs.Prelude.{◌≡◌, ℕ, ◌+◌, ◌-◌, ◌^◌, ◌<◌, ◌++◌, List, Some};
 ghost use Rattle.omf_record.specs.View.{view};
+ghost use Rattle.omf_module.specs.declared.fault.FaultKind.{FaultKind};
 ghost use Rattle.omf_module.specs.Tables.{Placed, module_of};
 ghost use Rattle.omf_module.specs.Building.{state};
-ghost use Rattle.omf_module.specs.Bytes.{is_end, framing_kind, ModuleBytes};
-ghost use Rattle.omf_module.specs.Reading.{failures_in, Reads, TakesRecord, IsModule};
+ghost use Rattle.omf_module.specs.Bytes.{is_end, framing_kind, ModuleBytes, ReadingFault};
+ghost use Rattle.omf_module.specs.Reading.{failures_in, Reads, TakesRecord, IsModule, IsFault};
 ghost use Rattle.omf_module.specs.Faulty.{frame_fault, record_fault, add_fault};
 
 use crate::builder::{AddFault, Builder};
@@ -129,6 +130,9 @@ pub fn read_module<A: Allocator + Copy, S: Source>(
     // A whole sound module is answered, and no byte behind it read.
     ensures whole { (rs : List Placed) (bytes rest : List ℕ) → ModuleBytes rs bytes → S.remaining source.old ≡ Some (bytes ++ rest)
         → IsModule (λ m. m) (module_of rs) rest (S.remaining source.new) result }
+    // A reading fault is answered, at its place.
+    ensures fault { (bytes : List ℕ) (place : ℕ) (f : FaultKind) → ReadingFault bytes place f → S.remaining source.old ≡ Some bytes
+        → IsFault place f result }
 {
     read_records(alloc, source)
 }
