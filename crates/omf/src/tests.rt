@@ -1,9 +1,11 @@
+ghost use Rattle.std.specs.Prelude.{◌≡◌};
+
 pub mod objects;
 
 use super::*;
-use omf_frame::{MemSink, MemSource, put_frame};
+use omf_frame::{MemSink, MemSource, put_frame, put_index};
 use refusing::Refusing;
-use std::alloc::Global;
+use std::alloc::{Allocator, Global};
 use std::process::Abort;
 use std::test::*;
 
@@ -187,22 +189,106 @@ fn each_failing_call_is_told(rt: HostRuntime) -> Result<(), Fail> {
     Ok(())
 }
 
+/// How many bytes the lines of the records before the one at this place take.
+fn line_place(place: u64) -> usize {
+    match place {
+        0 => 0,
+        6 => 26,
+        16 => 52,
+        26 => 78,
+        38 => 104,
+        _ => 130,
+    }
+}
+
 #[test]
-fn each_refused_growth_is_want_of_memory(rt: HostRuntime) -> Result<(), Fail> {
-    for number in 1..40u64 {
-        let alloc = Refusing::nth(rt.alloc(), number);
-        let mut source = MemSource::over(&HELLO, 3, None);
-        let mut room = [0u8; 240];
-        let mut sink = MemSink::over(&mut room, 240);
-        let result = rewrite(&alloc, &mut source, &mut sink);
-        if alloc.has_refused() {
-            assert_eq!(rt; result, Err(LinkFault::Memory));
-            assert!(rt; HELLO.starts_with(sink.written()));
+fn each_failing_call_of_show_is_told(rt: HostRuntime) -> Result<(), Fail> {
+    let lines = SMALL_LINES.as_bytes();
+    for call in 1..60u64 {
+        let mut source = MemSource::over(&SMALL, 1, Some(call));
+        let mut room = [0u8; 200];
+        let mut sink = MemSink::over(&mut room, 200);
+        let result = show(rt.alloc(), &mut source, &mut sink);
+        if call < 58 {
+            let place = record_place(call - 1);
+            assert_eq!(rt; result, Err(LinkFault::Device { input: 0, place }));
+            assert_eq!(rt;
+                sink.written(),
+                &lines[..line_place(place).min(lines.len())]
+            );
         } else {
             assert_eq!(rt; result, Ok(()));
-            assert_eq!(rt; sink.written(), HELLO.as_slice());
         }
     }
+    for n in 0..lines.len() + 1 {
+        let mut source = MemSource::over(&SMALL, 9, None);
+        let mut room = [0u8; 200];
+        let mut sink = MemSink::over(&mut room[..n.min(200)], 7);
+        let whole = show(rt.alloc(), &mut source, &mut sink).is_ok();
+        assert_eq!(rt; whole, n == lines.len());
+        assert_eq!(rt; sink.written(), &lines[..n]);
+    }
+    Ok(())
+}
+
+/// A command that goes through an input.
+#[derive(Clone, Copy)]
+enum Command {
+    Show,
+    Rewrite,
+    Check,
+}
+
+fn run_command<A: Allocator + Copy>(
+    command: Command,
+    alloc: A,
+    source: &mut MemSource<'_>,
+    sink: &mut MemSink<'_>,
+) -> Result<(), LinkFault>
+    requires source { source.old.failures ≡ 0 }
+    requires sink { sink.old.failures ≡ 0 }
+{
+    match command {
+        Command::Show => show(alloc, source, sink),
+        Command::Rewrite => rewrite(alloc, source, sink),
+        Command::Check => check(alloc, source, sink),
+    }
+}
+
+#[test]
+fn each_refused_growth_is_want_of_memory(rt: HostRuntime) -> Result<(), Fail> {
+    let rows: [(Command, &[u8]); 3] = [
+        (Command::Show, HELLO_LINES.as_bytes()),
+        (Command::Rewrite, &HELLO),
+        (Command::Check, b"ok\n"),
+    ];
+    for (command, output) in rows {
+        for number in 1..90u64 {
+            let alloc = Refusing::nth(rt.alloc(), number);
+            let mut source = MemSource::over(&HELLO, 3, None);
+            let mut room = [0u8; 400];
+            let mut sink = MemSink::over(&mut room, 400);
+            let result = run_command(command, &alloc, &mut source, &mut sink);
+            if alloc.has_refused() {
+                assert_eq!(rt; result, Err(LinkFault::Memory));
+                assert!(rt; output.starts_with(sink.written()));
+            } else {
+                assert_eq!(rt; result, Ok(()));
+                assert_eq!(rt; sink.written(), output);
+            }
+        }
+    }
+    Ok(())
+}
+
+#[test]
+fn indexes_are_written_shortest(rt: HostRuntime) -> Result<(), Fail> {
+    let mut short = Vec::new(rt.alloc());
+    put_index(2, &mut short)?;
+    assert_eq!(rt; short.as_slice(), [0x02u8].as_slice());
+    let mut long = Vec::new(rt.alloc());
+    put_index(128, &mut long)?;
+    assert_eq!(rt; long.as_slice(), [0x80u8, 0x80].as_slice());
     Ok(())
 }
 
