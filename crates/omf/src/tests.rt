@@ -153,7 +153,7 @@ fn records_are_shown(rt: HostRuntime) -> Result<(), Fail> {
 }
 
 /// The number of bytes of the records before the one that holds the byte at this place.
-fn record_place(at: u64) -> u64 {
+pub fn record_place(at: u64) -> u64 {
     let mut place = 0;
     for begins in [6u64, 16, 26, 38, 47] {
         if begins <= at {

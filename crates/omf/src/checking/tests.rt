@@ -1,6 +1,7 @@
 use super::*;
+use crate::fault::status;
 use crate::tests::objects::{BIOS, GREET, GROUPS, LINES, MAIN, NEAR, TINY};
-use crate::tests::{HELLO, SMALL};
+use crate::tests::{HELLO, SMALL, record_place};
 use omf_frame::{MemSink, MemSource, put_frame};
 use std::alloc::Global;
 use std::process::Abort;
@@ -340,6 +341,61 @@ fn a_failing_device_is_told(rt: HostRuntime) -> Result<(), Fail> {
             Err(LinkFault::Output)
         );
         assert_eq!(rt; sink.written(), &b"ok\n"[..n]);
+    }
+    Ok(())
+}
+
+/// Whether the byte at this place is one of a length word.
+fn is_length(at: u64) -> bool {
+    let after = at.saturating_sub(record_place(at));
+    after == 1 || after == 2
+}
+
+/// Whether the byte at this place closes a record.
+fn is_closing(at: u64) -> bool {
+    [5u64, 15, 25, 37, 46, 56].contains(&at)
+}
+
+#[test]
+fn each_front_is_refused(rt: HostRuntime) -> Result<(), Fail> {
+    for n in 0..57u64 {
+        let place = record_place(n);
+        let fault = if place == n {
+            RecordFault::NoEnd
+        } else {
+            RecordFault::Truncated
+        };
+        let front = &SMALL[..(n as usize).min(57)];
+        answers(&rt, rt.alloc(), front, Err((place, fault)))?;
+    }
+    Ok(())
+}
+
+#[test]
+fn each_changed_byte_is_told(rt: HostRuntime) -> Result<(), Fail> {
+    for at in 0..57u64 {
+        for value in 0..=255u8 {
+            let mut input = SMALL;
+            if let Some(byte) = input.get_mut(at as usize) {
+                *byte = value;
+            }
+            if input == SMALL {
+                continue;
+            }
+            if is_length(at) {
+                let mut source = MemSource::over(&input, 3, None);
+                let mut room = [0u8; 4];
+                let mut sink = MemSink::over(&mut room, 1);
+                let result = check(rt.alloc(), &mut source, &mut sink);
+                assert!(rt; result.is_err_and(|fault| status(&fault) == 1));
+                assert!(rt; sink.written().is_empty());
+            } else if is_closing(at) && value == 0 {
+                answers(&rt, rt.alloc(), &input, Ok(()))?;
+            } else {
+                let closing = Err((record_place(at), RecordFault::Closing));
+                answers(&rt, rt.alloc(), &input, closing)?;
+            }
+        }
     }
     Ok(())
 }
