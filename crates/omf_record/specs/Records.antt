@@ -1,8 +1,7 @@
 -- The records that bytes hold, one frame after the other (TIS OMF 1.1, "Record Format"), and what stands where none begins.
-use Rattle.std.specs.Prelude.{◌≡◌, ℕ, ◌+◌, ◌<◌, Bool, true, false, List, [], ◌∷◌, ◌++◌, length, Some, None, Ok, Err}
-use Rattle.std.specs.declared.option.Option.{Option}
+use Rattle.std.specs.Prelude.{◌≡◌, ℕ, Bool, true, false, List, [], ◌∷◌, map, Some, None, Ok, Err}
 use Rattle.std.specs.List.{AllByRecursion}
-use Rattle.omf_frame.specs.Frame.{Frame, Framed, frame_at, place_limit}
+use Rattle.omf_frame.specs.Frame.{Frame, AreFrames, frame_at}
 use Rattle.omf_frame.specs.declared.reading.FramingFault.{FramingFault}
 use Rattle.omf_record.specs.Record.{Record, Modend}
 use Rattle.omf_record.specs.Body.{kind_of, Body, BodyFault, IsRecordType}
@@ -13,33 +12,40 @@ pub record Placed : Type 0 where
   pub body : List ℕ
   pub says : Record
 
+-- the frame that holds it
+abbrev pub frame_of_record : Placed → Frame
+frame_of_record r = record { place = r.place; kind = kind_of r.says; body = r.body }
+
+-- these bytes, the first of which stands at this place, are the frames of these records, joined
+abbrev pub AreRecords : (place : ℕ) → List Placed → List ℕ → Type 0
+AreRecords place rs bytes = AreFrames place (map frame_of_record rs) bytes × AllByRecursion (λ (r : Placed). Body r.says r.body) rs
+
 -- MODEND ends a module
 abbrev pub is_end : Record → Bool
 is_end (Modend main start) = true
 is_end _ = false
 
--- these bytes, the first of which stands at this place, are the frames of these records, joined
-abbrev pub AreRecords : (place : ℕ) → List Placed → List ℕ → Type 0
-AreRecords place [] bytes = bytes ≡ []
-AreRecords place (r ∷ rs) bytes =
-    (front : List ℕ) × (rest : List ℕ) × (bytes ≡ front ++ rest) × (r.place ≡ place) × (place < place_limit)
-    × Framed (kind_of r.says) r.body front × Body r.says r.body × AreRecords (place + length front) rs rest
-
 -- none of these records ends the module
 abbrev pub AreBeforeEnd : List Placed → Type 0
 AreBeforeEnd rs = AllByRecursion (λ (r : Placed). is_end r.says ≡ false) rs
 
--- why no record begins where one had to
-pub data ReadingFault : Type 0 where
-  Framing : FramingFault → ReadingFault
-  NoEnd : ReadingFault
-  OtherType : ReadingFault
-  WrongBody : (at : ℕ) → ReadingFault
+-- the last of these records ends the module, and none before it
+abbrev pub AreToEnd : List Placed → Type 0
+AreToEnd [] = ⊥
+AreToEnd (r ∷ []) = is_end r.says ≡ true
+AreToEnd (r ∷ s ∷ rs) = (is_end r.says ≡ false) × AreToEnd (s ∷ rs)
 
--- what stands at a place, the bytes from there on being these: a framing fault; the end of the input; a frame of
+-- why no record begins where one had to
+pub data NoRecord : Type 0 where
+  Framing : FramingFault → NoRecord
+  NoEnd : NoRecord
+  OtherType : NoRecord
+  WrongBody : (at : ℕ) → NoRecord
+
+-- why none begins at a place, the bytes from there on being these: a framing fault; the end of the input; a frame of
 -- another type, or whose body is none of its type
-abbrev pub StandsAt : (place : ℕ) → List ℕ → ReadingFault → Type 0
-StandsAt place bytes (Framing e) = frame_at place bytes ≡ Err e
-StandsAt place bytes NoEnd = frame_at place bytes ≡ Ok None
-StandsAt place bytes OtherType = (f : Frame) × (frame_at place bytes ≡ Ok (Some f)) × (IsRecordType f.kind → ⊥)
-StandsAt place bytes (WrongBody at) = (f : Frame) × (frame_at place bytes ≡ Ok (Some f)) × IsRecordType f.kind × BodyFault f.kind f.body at
+abbrev pub NoRecordAt : (place : ℕ) → List ℕ → NoRecord → Type 0
+NoRecordAt place bytes (Framing e) = frame_at place bytes ≡ Err e
+NoRecordAt place bytes NoEnd = frame_at place bytes ≡ Ok None
+NoRecordAt place bytes OtherType = (f : Frame) × (frame_at place bytes ≡ Ok (Some f)) × (IsRecordType f.kind → ⊥)
+NoRecordAt place bytes (WrongBody at) = (f : Frame) × (frame_at place bytes ≡ Ok (Some f)) × IsRecordType f.kind × BodyFault f.kind f.body at
