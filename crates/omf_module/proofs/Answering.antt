@@ -12,20 +12,22 @@ use Rattle.omf_frame.specs.declared.reading.FrameFault.{FrameFault}
 use Rattle.omf_frame.specs.declared.reading.FrameFault.TheVariants as frame
 use Rattle.omf_frame.specs.declared.reading.FramingFault.TheVariants as framing
 use Rattle.omf_record.specs.Record.{Record}
+use Rattle.omf_record.specs.Body.{kind_of}
+use Rattle.omf_record.specs.Records.{Placed, Framing, NoEnd, OtherType, WrongBody}
+use Rattle.omf_record.proofs.Records.{framed_len}
 use Rattle.omf_module.specs.declared.fault.FaultKind.{FaultKind}
 use Rattle.omf_module.specs.declared.fault.FaultKind.TheVariants as kind
 use Rattle.omf_module.specs.declared.fault.ModuleFault.{ModuleFault}
 use Rattle.omf_module.specs.declared.fault.ModuleFault.TheVariants as fault
 use Rattle.omf_module.specs.Module.{Module}
-use Rattle.omf_module.specs.Tables.{Placed}
 use Rattle.omf_module.specs.Running.{State, state_of, step, module_in}
-use Rattle.omf_module.specs.Bytes.{NoRecordAt}
+use Rattle.omf_module.specs.Bytes.{StopsAt}
 use Rattle.omf_module.specs.Reading.{Took, Reads, TakesRecord, IsRecordFault}
 use Rattle.omf_module.specs.Faulty.{frame_fault}
 use Rattle.omf_module.specs.Sound.{IsSound}
 use Rattle.omf_module.proofs.Whole.{ok_more, err_of}
 use Rattle.omf_module.proofs.Promised.{sound_module}
-use Rattle.omf_module.proofs.Taking.{begun, one_more, whole, joined, all_taken, refused, stops, framed_len, none_taken, within_whole, if_some_weaker, record_bytes, no_record}
+use Rattle.omf_module.proofs.Taking.{begun, one_more, whole, all_taken, refused, stops, none_taken, within_whole, if_some_weaker}
 
 abbrev reads : Option (List ℕ) → Option (List ℕ) → Result Module ModuleFault → Type 0
 reads = Reads (λ m. m)
@@ -42,20 +44,20 @@ no_memory a = ([], [], a, begun a, none_taken a)
 module _ (rs : List Placed) (front : List ℕ) (a b c : Option (List ℕ)) (t : Took rs front a b) where
   pub no_end : (place : ℕ) → place ≡ length front → IfSome b (λ bytes. frame_at place bytes ≡ Ok None) → TakesWhole b c → reads a c (Err (fault.Record place kind.NoEnd))
   unfolding Reads
-  no_end place at none stands = (rs, front, b, t, at, stands, stops rs front a b place kind.NoEnd t at (if_some_weaker b _ (λ rest. NoRecordAt place rest kind.NoEnd) (λ x e. no_record place x (Ok None) kind.NoEnd e refl) none))
+  no_end place at none stands = (rs, front, b, t, at, stands, stops rs front a b place kind.NoEnd t at (if_some_weaker b _ (λ rest. StopsAt place rest kind.NoEnd) (λ x e. (NoEnd, e, refl)) none))
 
   pub frame_stopped : (place : ℕ) (e : FrameFault) → place ≡ length front → IsAt {A = Option lent.Frame} place (Err e) → IfSome b (λ bytes. Gives plain_frame (Err e) (frame_at place bytes)) → framing_of.TakesRecord {A = Option lent.Frame} b c (Err e)
       → reads a c (Err (frame_fault e))
   unfolding Reads
   frame_stopped place (frame.Device p) at h exact stands = (rs, front, b, t, h.0 ∙ at, stands, always a)
   frame_stopped place (frame.Framing p framing.ZeroLength) at h exact stands =
-      (rs, front, b, t, h.0 ∙ at, stands, stops rs front a b p kind.ZeroLength t (h.0 ∙ at) (if_some_weaker b _ (λ rest. NoRecordAt p rest kind.ZeroLength) (λ x e. no_record p x (Err framing.ZeroLength) kind.ZeroLength (ap (λ n. frame_at n x) h.0 ∙ e) refl) exact))
+      (rs, front, b, t, h.0 ∙ at, stands, stops rs front a b p kind.ZeroLength t (h.0 ∙ at) (if_some_weaker b _ (λ rest. StopsAt p rest kind.ZeroLength) (λ x e. (Framing framing.ZeroLength, ap (λ n. frame_at n x) h.0 ∙ e, refl)) exact))
   frame_stopped place (frame.Framing p framing.Truncated) at h exact stands =
-      (rs, front, b, t, h.0 ∙ at, stands, stops rs front a b p kind.Truncated t (h.0 ∙ at) (if_some_weaker b _ (λ rest. NoRecordAt p rest kind.Truncated) (λ x e. no_record p x (Err framing.Truncated) kind.Truncated (ap (λ n. frame_at n x) h.0 ∙ e) refl) exact))
+      (rs, front, b, t, h.0 ∙ at, stands, stops rs front a b p kind.Truncated t (h.0 ∙ at) (if_some_weaker b _ (λ rest. StopsAt p rest kind.Truncated) (λ x e. (Framing framing.Truncated, ap (λ n. frame_at n x) h.0 ∙ e, refl)) exact))
   frame_stopped place (frame.Framing p framing.Closing) at h exact stands =
-      (rs, front, b, t, h.0 ∙ at, stands, stops rs front a b p kind.Closing t (h.0 ∙ at) (if_some_weaker b _ (λ rest. NoRecordAt p rest kind.Closing) (λ x e. no_record p x (Err framing.Closing) kind.Closing (ap (λ n. frame_at n x) h.0 ∙ e) refl) exact))
+      (rs, front, b, t, h.0 ∙ at, stands, stops rs front a b p kind.Closing t (h.0 ∙ at) (if_some_weaker b _ (λ rest. StopsAt p rest kind.Closing) (λ x e. (Framing framing.Closing, ap (λ n. frame_at n x) h.0 ∙ e, refl)) exact))
   frame_stopped place (frame.Framing p framing.InputTooLong) at h exact stands =
-      (rs, front, b, t, h.0 ∙ at, stands, stops rs front a b p kind.InputTooLong t (h.0 ∙ at) (if_some_weaker b _ (λ rest. NoRecordAt p rest kind.InputTooLong) (λ x e. no_record p x (Err framing.InputTooLong) kind.InputTooLong (ap (λ n. frame_at n x) h.0 ∙ e) refl) exact))
+      (rs, front, b, t, h.0 ∙ at, stands, stops rs front a b p kind.InputTooLong t (h.0 ∙ at) (if_some_weaker b _ (λ rest. StopsAt p rest kind.InputTooLong) (λ x e. (Framing framing.InputTooLong, ap (λ n. frame_at n x) h.0 ∙ e, refl)) exact))
   frame_stopped place frame.Memory at h exact stands = absurd h
   frame_stopped place frame.Failed at h exact stands = absurd h
 
@@ -63,20 +65,22 @@ module _ (rs : List Placed) (front : List ℕ) (a b c : Option (List ℕ)) (t : 
   module _ (f : Frame) (bytes : List ℕ) (at : f.place ≡ length front) (below : f.place < place_limit) (framed : Framed f.kind f.body bytes) (taken : Consumes b c bytes) (exact : IfSome b (λ rest. frame_at f.place rest ≡ Ok (Some f))) (stands : TakesWhole b c)
       (s : State) (kept : s ≡ state_of rs) where
     abbrev here : Record → Placed
-    here r = record { place = f.place; says = r }
+    here r = record { place = f.place; body = f.body; says = r }
 
-    stepped : (r : Record) (x : Result State _) → step s (here r) ≡ x → step (state_of rs) (here r) ≡ x
-    stepped r x e = ap (λ (u : State). step u (here r)) (sym kept) ∙ e
+    stepped : (r : Record) (x : Result State _) → step s f.place r ≡ x → step (state_of rs) f.place r ≡ x
+    stepped r x e = ap (λ (u : State). step u f.place r) (sym kept) ∙ e
+
+    same_kind : (r : Record) → kind_of r ≡ f.kind → Framed (kind_of r) f.body bytes
+    same_kind r e = subst (λ k. Framed k f.body bytes) (sym e) framed
 
     kind_refuses : (k : FaultKind) → IsRecordFault f.kind f.body f.place s k → reads a c (Err (fault.Record f.place k))
     unfolding Reads
-    kind_refuses kind.Type h = (rs, front, b, t, at, stands, stops rs front a b f.place kind.Type t at (if_some_weaker b _ (λ rest. NoRecordAt f.place rest kind.Type) (λ x e. no_record f.place x (Ok (Some f)) kind.Type e (inl (refl, h))) exact))
-    kind_refuses (kind.Body i) h = (rs, front, b, t, at, stands, stops rs front a b f.place (kind.Body i) t at (if_some_weaker b _ (λ rest. NoRecordAt f.place rest (kind.Body i)) (λ x e. no_record f.place x (Ok (Some f)) (kind.Body i) e (inr (i, refl, h.0, h.1))) exact))
+    kind_refuses kind.Type h = (rs, front, b, t, at, stands, stops rs front a b f.place kind.Type t at (if_some_weaker b _ (λ rest. StopsAt f.place rest kind.Type) (λ x e. (OtherType, (f, e, h), refl)) exact))
+    kind_refuses (kind.Body i) h = (rs, front, b, t, at, stands, stops rs front a b f.place (kind.Body i) t at (if_some_weaker b _ (λ rest. StopsAt f.place rest (kind.Body i)) (λ x e. (WrongBody i, (f, e, h.0, h.1), refl)) exact))
     kind_refuses (kind.Check g) h =
         let r = here h.0 in
-        let says = record_bytes f.kind h.0 f.body bytes framed h.1 in
-        let first = err_of rs r t.beginning.sound [] g (stepped h.0 (Err g) h.2) in
-        (rs, front, b, t, at, stands, refused (rs ++ r ∷ []) (front ++ bytes) a c f.place g (joined rs front a b c r bytes t at below says taken) (all_taken rs front a b c r bytes t at below says taken) first)
+        let first = err_of rs r t.beginning.sound g (stepped h.0 (Err g) h.2) in
+        (rs, front, b, t, at, stands, refused rs front a b c r bytes t at below (same_kind h.0 h.1.0) h.1.1 taken g first)
     kind_refuses kind.Device h = absurd h
     kind_refuses kind.ZeroLength h = absurd h
     kind_refuses kind.Truncated h = absurd h
@@ -96,31 +100,31 @@ module _ (rs : List Placed) (front : List ℕ) (a b c : Option (List ℕ)) (t : 
     unfolding Reads
     ends u m h e =
         let r = here h.0 in
-        let says = record_bytes f.kind h.0 f.body bytes framed h.1 in
+        let says = same_kind h.0 h.1.0 in
         let p = ok_more rs r t.beginning.sound u (stepped h.0 (Ok u) h.3) in (
           rs ++ r ∷ [],
           front ++ bytes,
-          whole rs front a b c r bytes t at below says taken h.2 p.1,
-          all_taken rs front a b c r bytes t at below says taken,
+          whole rs front a b c r bytes t at below says h.1.1 taken h.2 p.1,
+          all_taken rs front a b c r bytes t at below says h.1.1 taken,
           e ∙ ap module_in p.0,
         )
 
     pub ends_sound : (u : State) → TakesRecord f.kind f.body f.place s u (Ok true) → IsSound (module_in u)
     ends_sound u h =
         let r = here h.0 in
-        let says = record_bytes f.kind h.0 f.body bytes framed h.1 in
+        let says = same_kind h.0 h.1.0 in
         let p = ok_more rs r t.beginning.sound u (stepped h.0 (Ok u) h.3) in
-        subst (λ (v : State). IsSound (module_in v)) (sym p.0) (sound_module (rs ++ r ∷ []) (front ++ bytes) (whole rs front a b c r bytes t at below says taken h.2 p.1))
+        subst (λ (v : State). IsSound (module_in v)) (sym p.0) (sound_module (rs ++ r ∷ []) (front ++ bytes) (whole rs front a b c r bytes t at below says h.1.1 taken h.2 p.1))
 
     pub goes_on : (u : State) → TakesRecord f.kind f.body f.place s u (Ok false)
         → (rs' : List Placed) × (front' : List ℕ) × Took rs' front' a c × (f.place + length f.body + 4 ≡ length front') × (u ≡ state_of rs')
     goes_on u h =
         let r = here h.0 in
-        let says = record_bytes f.kind h.0 f.body bytes framed h.1 in
+        let says = same_kind h.0 h.1.0 in
         let p = ok_more rs r t.beginning.sound u (stepped h.0 (Ok u) h.3) in (
           rs ++ r ∷ [],
           front ++ bytes,
-          one_more rs front a b c r bytes t at below says taken h.2 p.1,
+          one_more rs front a b c r bytes t at below says h.1.1 taken h.2 p.1,
           omega (arith, at, length-append front bytes, framed_len f.kind f.body bytes framed),
           p.0,
         )

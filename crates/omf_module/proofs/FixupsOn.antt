@@ -4,9 +4,10 @@ use Rattle.std.proofs.lemmas.List.{append-nil, map-append}
 use Rattle.std.proofs.lemmas.Bool.{ne_eqb, eq-eqb}
 use Rattle.std.proofs.lemmas.List.Concat.{flat_map-append}
 use Rattle.std.specs.List.{enumerate_from}
+use Rattle.omf_record.specs.Records.{Placed}
 use Rattle.omf_module.specs.declared.ResolvedFixup.{ResolvedFixup}
 use Rattle.omf_module.specs.Before.{along_from}
-use Rattle.omf_module.specs.Tables.{Placed, Stretch, stretches, subrecords, fixups, fixups_in, fixups_on, data_record, data_records}
+use Rattle.omf_module.specs.Tables.{Stretch, stretches, subrecords, fixups, fixups_in, fixups_on, data_record, data_records}
 use Rattle.omf_module.specs.Running.{add_to_last}
 use Rattle.omf_module.proofs.Lists.{filter_map_append, enumerate_push}
 

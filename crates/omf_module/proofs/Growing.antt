@@ -8,8 +8,9 @@ use Rattle.omf_record.specs.declared.fields.PublicBase.{PublicBase}
 use Rattle.omf_record.specs.declared.fields.SegmentDefinition.{SegmentDefinition}
 use Rattle.omf_record.specs.declared.fields.Reference.{Reference}
 use Rattle.omf_record.specs.declared.fields.Line.{Line}
+use Rattle.omf_record.specs.Records.{Placed}
 use Rattle.omf_module.specs.Before.{first, last}
-use Rattle.omf_module.specs.Tables.{Placed, names, segments, groups, externals, publics, stretches, subrecords, fixups, start, Stretch, frame_thread, target_thread, names_in, segments_in, groups_in, externals_in, publics_in, subrecords_in, stretches_in, frame_set, target_set, data_record, fixups_in, start_in, frame_used, target_used}
+use Rattle.omf_module.specs.Tables.{names, segments, groups, externals, publics, stretches, subrecords, fixups, start, Stretch, frame_thread, target_thread, names_in, segments_in, groups_in, externals_in, publics_in, subrecords_in, stretches_in, frame_set, target_set, data_record, fixups_in, start_in, frame_used, target_used}
 use Rattle.omf_module.specs.Faults.{begun, items}
 use Rattle.omf_module.specs.Running.{State, state_of, checked, step_record, thread_numbers, slot, later}
 use Rattle.omf_module.proofs.FixupsOn.{new_data}
@@ -49,7 +50,7 @@ state_push rs r = simp (begun_push, flat_map_push, along_push, filter_map_append
 
 -- what one record leaves: its items' first fault, or what is kept with it
 abbrev pub Steps : Record → Type 0
-Steps r = (place : ℕ) (rs : List Placed) → step_record place (record (state_of rs) { begun = true }) r ≡ checked (first (items rs r)) (state_of (rs ++ record { place = place; says = r } ∷ []))
+Steps r = (place : ℕ) (body : List ℕ) (rs : List Placed) → step_record place (record (state_of rs) { begun = true }) r ≡ checked (first (items rs r)) (state_of (rs ++ record { place = place; body = body; says = r } ∷ []))
 
 pub first_single : {A : Type 0} (o : Option A) → first (o ∷ []) ≡ o
 first_single None = refl
@@ -61,47 +62,47 @@ last_option (Some x) = refl
 
 pub header_steps : (name : List ℕ) → Steps (Theadr name)
 unfolding step_record
-header_steps name place rs = rw state_push (simp append-nil)
+header_steps name place body rs = rw state_push (simp append-nil)
 
 pub comment_steps : (t c : ℕ) (bytes : List ℕ) → Steps (Coment t c bytes)
 unfolding step_record
-comment_steps t c bytes place rs = rw state_push (simp append-nil)
+comment_steps t c bytes place body rs = rw state_push (simp append-nil)
 
 pub lines_steps : (g s : ℕ) (lines : List Line) → Steps (Linnum g s lines)
 unfolding step_record
-lines_steps g s lines place rs = rw state_push (simp append-nil)
+lines_steps g s lines place body rs = rw state_push (simp append-nil)
 
 pub names_steps : (listed : List (List ℕ)) → Steps (Lnames listed)
 unfolding step_record
-names_steps listed place rs = rw state_push (simp append-nil)
+names_steps listed place body rs = rw state_push (simp append-nil)
 
 pub externals_steps : (local : Bool) (listed : List ExternalName) → Steps (Extdef local listed)
 unfolding step_record
-externals_steps local listed place rs = rw state_push (simp append-nil)
+externals_steps local listed place body rs = rw state_push (simp append-nil)
 
 pub publics_steps : (local : Bool) (base : PublicBase) (listed : List Public) → Steps (Pubdef local base listed)
 unfolding step_record
-publics_steps local base listed place rs = rw (state_push, first_single) (simp append-nil)
+publics_steps local base listed place body rs = rw (state_push, first_single) (simp append-nil)
 
 pub segment_steps : (d : SegmentDefinition) → Steps (Segdef d)
 unfolding step_record
-segment_steps d place rs = rw (state_push, first_single) (simp append-nil)
+segment_steps d place body rs = rw (state_push, first_single) (simp append-nil)
 
 pub group_steps : (name : ℕ) (components : List ℕ) → Steps (Grpdef name components)
 unfolding step_record
-group_steps name components place rs = rw state_push (simp append-nil)
+group_steps name components place body rs = rw state_push (simp append-nil)
 
 pub no_start_steps : (main : Bool) → Steps (Modend main None)
 unfolding step_record
-no_start_steps main place rs = rw state_push (simp append-nil)
+no_start_steps main place body rs = rw state_push (simp append-nil)
 
 pub data_steps : (segment offset : ℕ) (bytes : List ℕ) → Steps (Ledata segment offset bytes)
 unfolding step_record
-data_steps segment offset bytes place rs = rw (state_push, first_single) (simp (append-nil, new_data))
+data_steps segment offset bytes place body rs = rw (state_push, first_single) (simp (append-nil, new_data))
 
 pub repeated_steps : (segment offset : ℕ) (blocks : List Block) → Steps (Lidata segment offset blocks)
 unfolding step_record
-repeated_steps segment offset blocks place rs = rw (state_push, first_single) (simp (append-nil, new_data))
+repeated_steps segment offset blocks place body rs = rw (state_push, first_single) (simp (append-nil, new_data))
 
 -- what the four slots hold
 pub frame_slots : (threads : ℕ → Option FrameMethod) (d : FrameDatum) → frame_used (slot (map threads thread_numbers)) d ≡ frame_used threads d
@@ -120,4 +121,4 @@ target_slots threads (target_datum.By method) = refl
 
 pub start_steps : (main : Bool) (r : Reference) → Steps (Modend main (Some r))
 unfolding step_record
-start_steps main r place rs = rw (state_push, first_single, frame_slots (frame_thread (subrecords rs)) r.frame, target_slots (target_thread (subrecords rs)) r.target) (simp (append-nil, last_option))
+start_steps main r place body rs = rw (state_push, first_single, frame_slots (frame_thread (subrecords rs)) r.frame, target_slots (target_thread (subrecords rs)) r.target) (simp (append-nil, last_option))

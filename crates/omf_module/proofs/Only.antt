@@ -1,12 +1,13 @@
 -- Where the input begins with a whole sound module, it is answered; where it has a reading fault, that is answered.
 use Rattle.std.proofs.Common.{◌≡◌, ℕ, List, ◌++◌, None, Some, Ok, Err, Result, sym, ap, subst, ◌∙◌}
 use Rattle.std.specs.declared.option.Option.{Option}
+use Rattle.omf_record.specs.Records.{Placed}
 use Rattle.omf_module.specs.declared.fault.FaultKind.{FaultKind}
 use Rattle.omf_module.specs.declared.fault.FaultKind.TheVariants as kind
 use Rattle.omf_module.specs.declared.fault.ModuleFault.{ModuleFault}
 use Rattle.omf_module.specs.declared.fault.ModuleFault.TheVariants as fault
 use Rattle.omf_module.specs.Module.{Module}
-use Rattle.omf_module.specs.Tables.{Placed, module_of}
+use Rattle.omf_module.specs.Tables.{module_of}
 use Rattle.omf_module.specs.Bytes.{ModuleBytes, ReadingFault}
 use Rattle.omf_module.specs.Reading.{Reads, IsModule, IsFault}
 use Rattle.omf_module.proofs.Once.{one_module, no_fault, one_fault}

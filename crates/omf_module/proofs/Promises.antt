@@ -38,7 +38,7 @@ use Rattle.omf_module.specs.declared.ResolvedFixup.{ResolvedFixup}
 use Rattle.omf_module.specs.declared.Start.{Start}
 use Rattle.omf_module.specs.Module.{Segment, Group, External, PublicSymbol, DataRecord, Module}
 use Rattle.omf_module.specs.Before.{first, entry}
-use Rattle.omf_module.specs.Tables.{Placed, frame_used, target_used, name_at, standing_of, segment_of, group_of, base_of, public_of, external_of, frame_of, target_of, fixup_of, start_of}
+use Rattle.omf_module.specs.Tables.{frame_used, target_used, name_at, standing_of, segment_of, group_of, base_of, public_of, external_of, frame_of, target_of, fixup_of, start_of}
 use Rattle.omf_module.specs.Faults.{number, header_fault, segment_fault, group_fault, when, ◌⊓◌, misses, passes, Tables, is_absolute, component_fault, data_fault, public_fault, frame_fault, target_fault, holds_base, lies_in, place_fault, relative_fault, fixup_fault, location_fault, start_fault}
 use Rattle.omf_module.specs.Running.{State, state_of, checked, slot, add_to_last, add_data, module_in, later, step, step_record, step_subrecord, step_subrecords, ◌>>=◌}
 use Rattle.omf_module.specs.Sound.{IsShort, FrameMeans, TargetMeans, BaseMeans, IsPart, IsMember, FixupFits, StartFits, SegmentFits, IsStanding}
@@ -551,12 +551,12 @@ record_keeps place s t (Modend main (Some r)) body b e h =
     let p = by_fault (start_fault s.tables f g) _ t e in
     subst Promises p.1 (start_keeps s place r f g p.0 h)
 
-pub step_keeps : (s t : State) (r : Placed) (body : List ℕ) → Body r.says body → step s r ≡ Ok t → Promises s → Promises t
+pub step_keeps : (place : ℕ) (s t : State) (r : Record) (body : List ℕ) → Body r body → step s place r ≡ Ok t → Promises s → Promises t
 unfolding step
-step_keeps s t r body b e h =
-    let p = then_ok (checked (header_fault s.begun r.says) (record s { begun = true })) (λ u. step_record r.place u r.says) t e in
-    let q = by_fault (header_fault s.begun r.says) (record s { begun = true }) p.0 p.1 in
-    record_keeps r.place p.0 t r.says body b p.2 (subst Promises q.1 (record { names = h.names; sound = h.sound; last = h.last }))
+step_keeps place s t r body b e h =
+    let p = then_ok (checked (header_fault s.begun r) (record s { begun = true })) (λ u. step_record place u r) t e in
+    let q = by_fault (header_fault s.begun r) (record s { begun = true }) p.0 p.1 in
+    record_keeps place p.0 t r body b p.2 (subst Promises q.1 (record { names = h.names; sound = h.sound; last = h.last }))
 
 pub none_promised : Promises (state_of [])
 none_promised = record {

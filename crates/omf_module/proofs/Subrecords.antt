@@ -13,8 +13,9 @@ use Rattle.omf_record.specs.declared.fields.Subrecord.TheVariants as sub
 use Rattle.omf_module.specs.declared.fault.CheckFault.{CheckFault}
 use Rattle.omf_module.specs.declared.ResolvedFixup.{ResolvedFixup}
 use Rattle.omf_module.specs.Before.{along, along_from, first}
-use Rattle.omf_module.specs.Tables.{Placed, stretches, subrecords, fixups, frame_thread, target_thread, data_record, fixup_in}
+use Rattle.omf_module.specs.Tables.{stretches, subrecords, fixups, frame_thread, target_thread, data_record, fixup_in}
 use Rattle.omf_record.specs.Numbers.{thread_number}
+use Rattle.omf_record.specs.Records.{Placed}
 use Rattle.omf_module.specs.Faults.{tables, subrecord_item, last_contents}
 use Rattle.omf_module.specs.Running.{State, state_of, checked, step_subrecord, step_subrecords, step_record, thread_numbers, add_to_last, ◌>>=◌}
 use Rattle.omf_module.proofs.Lists.{along_push, filter_map_append, last_append}
@@ -30,8 +31,8 @@ Inside place rs done = record (state_of rs) {
   data_records = map (data_record (fixups rs ++ map (λ x. (length (stretches rs), x)) (along (λ earlier x. option_to_list (fixup_in place (subrecords rs ++ earlier) x)) done))) (enumerate_from 1 (stretches rs));
 }
 
-inside_whole : (place : ℕ) (rs : List Placed) (subs : List Subrecord) → state_of (rs ++ record { place = place; says = Fixupp subs } ∷ []) ≡ Inside place rs subs
-inside_whole place rs subs = rw state_push (simp (append-nil, filter_map_append, last_append))
+inside_whole : (place : ℕ) (body : List ℕ) (rs : List Placed) (subs : List Subrecord) → state_of (rs ++ record { place = place; body = body; says = Fixupp subs } ∷ []) ≡ Inside place rs subs
+inside_whole place body rs subs = rw state_push (simp (append-nil, filter_map_append, last_append))
 
 inside_none : (place : ℕ) (rs : List Placed) → Inside place rs [] ≡ record (state_of rs) { begun = true }
 inside_none place rs = simp append-nil
@@ -80,4 +81,4 @@ inside place rs done (x ∷ todo) = rw one (by_item place rs done todo x (item r
 
 pub fixup_steps : (subs : List Subrecord) → Steps (Fixupp subs)
 unfolding step_record
-fixup_steps subs place rs = rw (inside_whole place rs subs, ← inside_none place rs) (inside place rs [] subs)
+fixup_steps subs place body rs = rw (inside_whole place body rs subs, ← inside_none place rs) (inside place rs [] subs)

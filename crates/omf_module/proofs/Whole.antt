@@ -2,9 +2,9 @@
 use Rattle.std.proofs.Common.{◌≡◌, ℕ, List, [], ◌∷◌, ◌++◌, Option, None, Some, Ok, Err, refl, sym, ap, ◌∙◌}
 use Rattle.std.specs.Option.{option_map}
 use Rattle.omf_record.specs.Record.{Record, Theadr, Coment, Modend, Extdef, Pubdef, Linnum, Lnames, Segdef, Grpdef, Fixupp, Ledata, Lidata}
+use Rattle.omf_record.specs.Records.{Placed}
 use Rattle.omf_module.specs.declared.fault.CheckFault.{CheckFault}
 use Rattle.omf_module.specs.Before.{along, along_from, first}
-use Rattle.omf_module.specs.Tables.{Placed}
 use Rattle.omf_module.specs.Faults.{begun, header_fault, items, fault, first_fault}
 use Rattle.omf_module.specs.Running.{State, state_of, checked, step, step_record, ◌>>=◌}
 use Rattle.omf_module.proofs.Lists.{along_push, along_from_append}
@@ -31,21 +31,16 @@ by_header : (h : Option CheckFault) (place : ℕ) (s : State) (r : Record) (is :
 by_header None place s r is t e = e
 by_header (Some f) place s r is t e = refl
 
-pub step_whole : (rs : List Placed) (r : Placed) → step (state_of rs) r ≡ checked (fault rs r.says) (state_of (rs ++ r ∷ []))
+pub step_whole : (rs : List Placed) (r : Placed) → step (state_of rs) r.place r.says ≡ checked (fault rs r.says) (state_of (rs ++ r ∷ []))
 unfolding step
-step_whole rs r = by_header (header_fault (begun rs) r.says) r.place _ r.says (items rs r.says) _ (record_steps r.says r.place rs)
+step_whole rs r = by_header (header_fault (begun rs) r.says) r.place _ r.says (items rs r.says) _ (record_steps r.says r.place r.body rs)
 
 first_append_none : {A : Type 0} (xs ys : List (Option A)) → first xs ≡ None → first (xs ++ ys) ≡ first ys
 first_append_none [] ys e = refl
 first_append_none (None ∷ xs) ys e = first_append_none xs ys e
 first_append_none ((Some x) ∷ xs) ys e = cc
 
-pub first_append_some : {A : Type 0} (xs ys : List (Option A)) (x : A) → first xs ≡ Some x → first (xs ++ ys) ≡ Some x
-first_append_some [] ys x e = cc
-first_append_some (None ∷ xs) ys x e = first_append_some xs ys x e
-first_append_some ((Some y) ∷ xs) ys x e = e
-
-abbrev pub place_fault : List Placed → Placed → List (Option (ℕ × CheckFault))
+abbrev place_fault : List Placed → Placed → List (Option (ℕ × CheckFault))
 place_fault before r = option_map (λ f. (r.place, f)) (fault before r.says) ∷ []
 
 -- no fault so far, and one record more
@@ -58,12 +53,25 @@ module _ (rs : List Placed) (r : Placed) (sound : first_fault rs ≡ None) where
   by_err None s g e = cc
   by_err (Some f) s g e = cc
 
-  pub ok_more : (t : State) → step (state_of rs) r ≡ Ok t → (t ≡ state_of (rs ++ r ∷ [])) × (first_fault (rs ++ r ∷ []) ≡ None)
+  pub ok_more : (t : State) → step (state_of rs) r.place r.says ≡ Ok t → (t ≡ state_of (rs ++ r ∷ [])) × (first_fault (rs ++ r ∷ []) ≡ None)
   ok_more t e =
       let p = by_fault (fault rs r.says) (state_of (rs ++ r ∷ [])) t (sym (step_whole rs r) ∙ e) in
       (sym p.1, rw (along_push, p.0) (first_append_none (along place_fault rs) (None ∷ []) sound))
 
-  pub err_of : (ys : List Placed) (f : CheckFault) → step (state_of rs) r ≡ Err f → first_fault (rs ++ r ∷ ys) ≡ Some (r.place, f)
-  err_of ys f e =
-      let p = by_err (fault rs r.says) (state_of (rs ++ r ∷ [])) f (sym (step_whole rs r) ∙ e) in
-      rw along_from_append (first_append_none (along place_fault rs) (along_from rs place_fault (r ∷ ys)) sound ∙ ap (λ o. first (option_map (λ f. (r.place, f)) o ∷ along_from (rs ++ r ∷ []) place_fault ys)) p)
+  pub err_of : (f : CheckFault) → step (state_of rs) r.place r.says ≡ Err f → fault rs r.says ≡ Some f
+  err_of f e = by_err (fault rs r.says) (state_of (rs ++ r ∷ [])) f (sym (step_whole rs r) ∙ e)
+
+-- no fault of all is none of one
+none_of : {A : Type 0} (xs ys : List (Option A)) (o : Option A) → first (xs ++ o ∷ ys) ≡ None → o ≡ None
+none_of [] ys None e = refl
+none_of [] ys (Some x) e = cc
+none_of (None ∷ xs) ys o e = none_of xs ys o e
+none_of ((Some x) ∷ xs) ys o e = cc
+
+none_mapped : (g : CheckFault → ℕ × CheckFault) (o : Option CheckFault) → option_map g o ≡ None → o ≡ None
+none_mapped g None e = refl
+none_mapped g (Some f) e = cc
+
+pub no_fault_at : (done todo : List Placed) (r : Placed) → first_fault (done ++ r ∷ todo) ≡ None → fault done r.says ≡ None
+no_fault_at done todo r e =
+    none_mapped (λ f. (r.place, f)) (fault done r.says) (none_of (along place_fault done) (along_from (done ++ r ∷ []) place_fault todo) _ (sym (ap first (along_from_append place_fault [] done (r ∷ todo))) ∙ e))

@@ -4,6 +4,7 @@ use Rattle.std.specs.List.{list_any}
 use Rattle.omf_record.specs.Record.{Record, Theadr, Coment, Modend, Extdef, Pubdef, Linnum, Lnames, Segdef, Grpdef, Fixupp, Ledata, Lidata}
 use Rattle.omf_record.specs.Expansion.{expansion}
 use Rattle.omf_record.specs.Numbers.{location_width}
+use Rattle.omf_record.specs.Records.{Placed}
 use Rattle.omf_record.specs.declared.fields.FrameMethod.{FrameMethod}
 use Rattle.omf_record.specs.declared.fields.FrameMethod.TheVariants as by
 use Rattle.omf_record.specs.declared.fields.TargetMethod.{TargetMethod}
@@ -22,7 +23,7 @@ use Rattle.omf_module.specs.declared.Standing.{Standing}
 use Rattle.omf_module.specs.declared.Standing.TheVariants.{Absolute, Relocatable}
 use Rattle.omf_module.specs.Module.{Segment, Group, External}
 use Rattle.omf_module.specs.Before.{along, first, last, entry}
-use Rattle.omf_module.specs.Tables.{Placed, names, segments, groups, externals, Stretch, stretches, subrecords, frame_thread, target_thread, frame_used, target_used}
+use Rattle.omf_module.specs.Tables.{names, segments, groups, externals, Stretch, stretches, subrecords, frame_thread, target_thread, frame_used, target_used}
 
 -- the number under which a fault is reported
 abbrev pub number : CheckFault → ℕ

@@ -6,14 +6,15 @@ use Rattle.std.specs.Io.KnownBytes.{Consumes, Keeps}
 use Rattle.omf_frame.specs.Reading.{TakesWhole, TakesWithin}
 use Rattle.omf_record.specs.Record.{Record}
 use Rattle.omf_record.specs.Body.{BodyOf, BodyFault, IsRecordType}
+use Rattle.omf_record.specs.Records.{Placed, is_end}
 use Rattle.omf_module.specs.declared.fault.FaultKind.{FaultKind}
 use Rattle.omf_module.specs.declared.fault.FaultKind.TheVariants as kind
 use Rattle.omf_module.specs.declared.fault.ModuleFault.{ModuleFault}
 use Rattle.omf_module.specs.declared.fault.ModuleFault.TheVariants as fault
 use Rattle.omf_module.specs.Module.{Module}
-use Rattle.omf_module.specs.Tables.{Placed, module_of}
+use Rattle.omf_module.specs.Tables.{module_of}
 use Rattle.omf_module.specs.Running.{State, step}
-use Rattle.omf_module.specs.Bytes.{Beginning, ModuleBytes, ReadingFault, is_end}
+use Rattle.omf_module.specs.Bytes.{Beginning, ModuleBytes, ReadingFault}
 
 -- how many calls of the source failed
 abbrev pub device_failures : FaultKind → ℕ
@@ -75,7 +76,7 @@ Reads view old new (Err (fault.Record place kind)) =
 abbrev pub IsRecordFault : (type : ℕ) (body : List ℕ) → ℕ → State → FaultKind → Type 0
 IsRecordFault type body place s kind.Type = IsRecordType type → ⊥
 IsRecordFault type body place s (kind.Body at) = IsRecordType type × BodyFault type body at
-IsRecordFault type body place s (kind.Check fault) = (r : Record) × BodyOf type r body × (step s (record { place = place; says = r }) ≡ Err fault)
+IsRecordFault type body place s (kind.Check fault) = (r : Record) × BodyOf type r body × (step s place r ≡ Err fault)
 IsRecordFault type body place s kind.Device = ⊥
 IsRecordFault type body place s kind.ZeroLength = ⊥
 IsRecordFault type body place s kind.Truncated = ⊥
@@ -85,7 +86,7 @@ IsRecordFault type body place s kind.InputTooLong = ⊥
 
 -- taking a record of this type and body into a state: whether it ends the module, or its fault
 abbrev pub TakesRecord : (type : ℕ) (body : List ℕ) → ℕ → (s t : State) → Result Bool ModuleFault → Type 0
-TakesRecord type body place s t (Ok end) = (r : Record) × BodyOf type r body × (is_end r ≡ end) × (step s (record { place = place; says = r }) ≡ Ok t)
+TakesRecord type body place s t (Ok end) = (r : Record) × BodyOf type r body × (is_end r ≡ end) × (step s place r ≡ Ok t)
 TakesRecord type body place s t (Err fault.Memory) = Unit {0}
 TakesRecord type body place s t (Err (fault.Record at kind)) = (at ≡ place) × IsRecordFault type body place s kind
 

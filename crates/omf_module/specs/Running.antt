@@ -4,6 +4,7 @@ use Rattle.std.specs.Option.{option_to_list}
 use Rattle.omf_record.specs.Record.{Record, Theadr, Coment, Modend, Extdef, Pubdef, Linnum, Lnames, Segdef, Grpdef, Fixupp, Ledata, Lidata}
 use Rattle.omf_record.specs.Expansion.{stored_from, expansion, contents}
 use Rattle.omf_record.specs.Numbers.{thread_number}
+use Rattle.omf_record.specs.Records.{Placed}
 use Rattle.omf_record.specs.declared.fields.FrameMethod.{FrameMethod}
 use Rattle.omf_record.specs.declared.fields.TargetMethod.{TargetMethod}
 use Rattle.omf_record.specs.declared.fields.Subrecord.{Subrecord}
@@ -13,7 +14,7 @@ use Rattle.omf_module.specs.declared.ResolvedFixup.{ResolvedFixup}
 use Rattle.omf_module.specs.declared.Start.{Start}
 use Rattle.omf_module.specs.Module.{PublicSymbol, DataRecord, Module}
 use Rattle.omf_module.specs.Before.{entry}
-use Rattle.omf_module.specs.Tables.{Placed, segment_of, group_of, external_of, public_of, subrecords, frame_thread, target_thread, frame_used, target_used, fixup_of, start_of, data_records, publics, start}
+use Rattle.omf_module.specs.Tables.{segment_of, group_of, external_of, public_of, subrecords, frame_thread, target_thread, frame_used, target_used, fixup_of, start_of, data_records, publics, start}
 use Rattle.omf_module.specs.Faults.{Tables, tables, begun, last_contents, header_fault, segment_fault, group_fault, public_fault, data_fault, fixup_fault, start_fault}
 
 pub record State : Type 0 where
@@ -107,9 +108,9 @@ step_record place s (Modend main (Some r)) =
     let target = target_used (slot s.target_threads) r.target in
     checked (start_fault s.tables frame target) (record s { start = later (start_of place r frame target) s.start })
 
--- one record
-unfoldable pub step : State → Placed → Result State CheckFault
-step s r = checked (header_fault s.begun r.says) (record s { begun = true }) >>= λ t. step_record r.place t r.says
+-- one record, which stands at this place
+unfoldable pub step : State → (place : ℕ) → Record → Result State CheckFault
+step s place r = checked (header_fault s.begun r) (record s { begun = true }) >>= λ t. step_record place t r
 
 -- the module of what is kept
 abbrev pub module_in : State → Module

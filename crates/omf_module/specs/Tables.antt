@@ -5,6 +5,7 @@ use Rattle.std.specs.List.{flat_map, filter_map, enumerate_from}
 use Rattle.omf_record.specs.Record.{Record, Public, External as ExternalName, Modend, Extdef, Pubdef, Lnames, Segdef, Grpdef, Fixupp, Ledata, Lidata}
 use Rattle.omf_record.specs.Expansion.{stored_from, expansion, contents}
 use Rattle.omf_record.specs.Numbers.{thread_number, segment_len}
+use Rattle.omf_record.specs.Records.{Placed}
 use Rattle.omf_record.specs.declared.fields.SegmentDefinition.{SegmentDefinition}
 use Rattle.omf_record.specs.declared.fields.PublicBase.{PublicBase}
 use Rattle.omf_record.specs.declared.fields.PublicBase.TheVariants as public_base
@@ -38,11 +39,6 @@ use Rattle.omf_module.specs.declared.ResolvedFixup.{ResolvedFixup}
 use Rattle.omf_module.specs.declared.Start.{Start}
 use Rattle.omf_module.specs.Module.{Segment, Group, External, PublicSymbol, DataRecord, Module}
 use Rattle.omf_module.specs.Before.{along, last, entry}
-
--- a record, and the number of bytes before its first byte
-pub record Placed : Type 0 where
-  pub place : ℕ
-  pub says : Record
 
 -- ---- 96H LNAMES: List of Names Record
 

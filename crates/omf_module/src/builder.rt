@@ -528,7 +528,7 @@ impl<A: Allocator + Copy> Builder<A> {
     #[tactic(auto, unfolding(crate::specs::Running::step))]
     pub fn add(&mut self, alloc: A, place: u64, r: &Record<'_, A>) -> Result<(), AddFault>
         requires { data_len (view r.now) ≤ 65534 }
-        ensures { Gives (λ _. state self.new) result (running.step (state self.old) (record { place = place; says = view r.now })) }
+        ensures { Gives (λ _. state self.new) result (running.step (state self.old) place (view r.now)) }
     {
         if let Some(fault) = header_fault(self.begun, r) {
             return Err(AddFault::Check(fault));

@@ -1,7 +1,7 @@
 //! Laws of the definitions, each the contract of a function that does nothing.
 ghost use Rattle.std.specs.Prelude.{◌≡◌, ◌++◌, ℕ, List};
+ghost use Rattle.omf_record.specs.Records.{Placed};
 ghost use Rattle.omf_module.specs.declared.fault.FaultKind.{FaultKind};
-ghost use Rattle.omf_module.specs.Tables.{Placed};
 ghost use Rattle.omf_module.specs.Bytes.{ModuleBytes, ReadingFault};
 
 /// Bytes begin with at most one whole sound module.

@@ -1,10 +1,11 @@
 //! Reads the records of a module from a source, up to the first MODEND.
 ghost use Rattle.std.specs.Prelude.{◌≡◌, ℕ, ◌+◌, ◌-◌, ◌^◌, ◌<◌, ◌++◌, List, Some};
 ghost use Rattle.omf_record.specs.View.{view};
+ghost use Rattle.omf_record.specs.Records.{Placed, is_end};
 ghost use Rattle.omf_module.specs.declared.fault.FaultKind.{FaultKind};
-ghost use Rattle.omf_module.specs.Tables.{Placed, module_of};
+ghost use Rattle.omf_module.specs.Tables.{module_of};
 ghost use Rattle.omf_module.specs.Building.{state};
-ghost use Rattle.omf_module.specs.Bytes.{is_end, framing_kind, ModuleBytes, ReadingFault};
+ghost use Rattle.omf_module.specs.Bytes.{framing_kind, ModuleBytes, ReadingFault};
 ghost use Rattle.omf_module.specs.Reading.{failures_in, Reads, TakesRecord, IsModule, IsFault};
 ghost use Rattle.omf_module.specs.Faulty.{frame_fault, record_fault, add_fault};
 

@@ -1,5 +1,5 @@
 use Rattle.std.proofs.Common.{◌≡◌, ◌-◌, ℕ, List, length, Some}
-use Rattle.omf_module.specs.Tables.{Placed}
+use Rattle.omf_record.specs.Records.{Placed}
 use Rattle.omf_module.specs.Running.{state_of}
 use Rattle.omf_module.specs.Building.{state}
 use Rattle.omf_module.specs.Reading.{Took}
