@@ -2,6 +2,7 @@
 use Rattle.std.proofs.Common.{◌≡◌, ℕ, ◌+◌, ◌<◌, ◌≤◌, true, false, List, [], ◌∷◌, ◌++◌, length, take, None, Some, IfSome, Result, Ok, Err, refl, sym, ap, subst, ◌∙◌, append-nil, arith, length-append, inl, inr}
 use Rattle.std.proofs.lemmas.List.{length-take}
 use Rattle.std.proofs.lemmas.List.Concat.{flat_map-append}
+use Rattle.std.proofs.lemmas.Option.{IfSome_then}
 use Rattle.std.specs.declared.option.Option.{Option}
 use Rattle.std.specs.List.{flat_map}
 use Rattle.std.specs.Io.KnownBytes.{Consumes, Appends, Keeps}
@@ -15,15 +16,15 @@ use Rattle.omf_frame.specs.declared.reading.FrameFault.TheVariants as frame_faul
 use Rattle.omf_frame.specs.declared.reading.FramingFault.{FramingFault}
 use Rattle.omf_frame.specs.declared.reading.FramingFault.TheVariants as framing
 use Rattle.omf_frame.proofs.Frames.{framed-frame}
-use Rattle.omf_frame.proofs.Told.{Consumes-nil, Consumes-trans, Appends-nil, Appends-trans, Appends-kept, AppendsFront-then}
+use Rattle.omf_frame.proofs.Told.{Consumes-nil, Consumes-trans, Appends-nil, Appends-trans, Appends-kept, AppendsFront-then, within_whole}
 use Rattle.omf_record.specs.Record as says
 use Rattle.omf_record.specs.Body.{kind_of, Body, BodyOf}
 use Rattle.omf_record.specs.Canonical.{canonical}
-use Rattle.omf_record.specs.Records.{Placed, is_end, AreRecords, AreBeforeEnd, ReadingFault, Framing, NoEnd, OtherType, WrongBody, StandsAt}
+use Rattle.omf_record.specs.Records.{Placed, is_end, AreRecords, AreBeforeEnd, AreToEnd, Framing, OtherType, WrongBody, NoRecordAt}
 use Rattle.omf_record.proofs.BodyBytes.{body_bytes}
 use Rattle.omf_record.proofs.BodyLaws.{kind_ok}
 use Rattle.omf_record.proofs.CanonicalLaws.{canonical_shortest}
-use Rattle.omf_record.proofs.Records.{AreRecords-push, AreBeforeEnd-push, framed_len, only_way, no_fault, kind_end, not_end}
+use Rattle.omf_record.proofs.Records.{AreRecords-push, framed_len, only_way, no_fault}
 use Rattle.omf.specs.declared.fault.RecordFault.{RecordFault}
 use Rattle.omf.specs.declared.fault.RecordFault.TheVariants as fault
 use Rattle.omf.specs.declared.fault.LinkFault.{LinkFault}
@@ -33,15 +34,8 @@ use Rattle.omf.specs.Faults.{record_fault, reading_fault, link_fault}
 use Rattle.omf.specs.Records.{FaultAt, IsRewritten, output as written_as}
 use Rattle.omf.specs.Reading.{TakesFaulty, WentThrough, GoesThrough, Handles, Writes, WritesAll, AppendsRewritten}
 
-pub at_some : {X : Type 0} (o : Option X) (x : X) (P : X → Type 0) → o ≡ Some x → IfSome o P → P x
-at_some o x P e h = subst (λ v. IfSome v P) e h
-
-pub if_some_weaker : (o : Option (List ℕ)) (P Q : List ℕ → Type 0) → ((x : List ℕ) → P x → Q x) → IfSome o P → IfSome o Q
-if_some_weaker None P Q f h = tt
-if_some_weaker (Some x) P Q f h = f x h
-
 pub begun : (output : Placed → List ℕ) (a w : Option (List ℕ)) → (t : WentThrough output [] a a w w) × (0 ≡ length t.bytes)
-begun output a w = (record { bytes = []; are_records = refl; taken = Consumes-nil a; written = Appends-nil w }, refl)
+begun output a w = (record { bytes = []; are_records = (refl, tt); taken = Consumes-nil a; written = Appends-nil w }, refl)
 
 all_output : (output : Placed → List ℕ) (rs : List Placed) (r : Placed) → flat_map output (rs ++ r ∷ []) ≡ flat_map output rs ++ output r
 all_output output rs r = flat_map-append output rs (r ∷ []) ∙ ap (λ l. flat_map output rs ++ l) (append-nil (output r))
@@ -71,18 +65,9 @@ pub stopped : (A : Type 0) (output : Placed → List ℕ) (rs : List Placed) (a 
     → GoesThrough output a c w v {A = A} (Err (link_fault e))
 stopped A output rs a b c w v place (frame_fault.Device p) t before at h g s = (rs, b, before, t, refl, h.0 ∙ at, s)
 stopped A output rs a b c w v place (frame_fault.Framing p e) t before at h g s =
-    (rs, b, before, t, refl, h.0 ∙ at, if_some_weaker b _ (λ bytes. FaultAt p bytes (record_fault e)) (λ x k. (Framing e, ap (λ n. frame_at n x) h.0 ∙ k, refl)) g, faulty_taken b c p e s)
+    (rs, b, before, t, refl, h.0 ∙ at, IfSome_then b {Q = (λ bytes. FaultAt p bytes (record_fault e))} g (λ x k. (Framing e, ap (λ n. frame_at n x) h.0 ∙ k, refl)), faulty_taken b c p e s)
 stopped A output rs a b c w v place frame_fault.Memory t before at h g s = absurd h
 stopped A output rs a b c w v place frame_fault.Failed t before at h g s = absurd h
-
-pub none_taken : (a : Option (List ℕ)) → TakesWithin a a
-none_taken None = tt
-none_taken (Some x) = ([], refl, omega arith)
-
-pub taken_at_most : (a b : Option (List ℕ)) → TakesWhole a b → TakesWithin a b
-taken_at_most None b h = tt
-taken_at_most (Some x) None h = absurd h
-taken_at_most (Some x) (Some y) h = (take (record_len x) x, h, omega (arith, length-take (record_len x) x))
 
 abbrev placed : ℕ → List ℕ → says.Record → Placed
 placed place body r = record { place = place; body = body; says = r }
@@ -103,7 +88,7 @@ pub refused : (output : Placed → List ℕ) (rs : List Placed) (a b c w v u : O
     → AreBeforeEnd rs → f.place ≡ length t.bytes → f.place < place_limit → Framed f.kind f.body front → Consumes b c front → TakesWhole b c → IfSome b (λ bytes. frame_at f.place bytes ≡ Ok (Some f))
     → Handles output f.place f.kind f.body v u (Err e) → GoesThrough output a c w u {A = Unit {0}} (Err e)
 unfolding kept_through
-refused output rs a b c w v u f front link.Memory t before at below framed taken whole told h = (rs, b, before, kept_through output rs a b w v u t h, taken_at_most b c whole)
+refused output rs a b c w v u f front link.Memory t before at below framed taken whole told h = (rs, b, before, kept_through output rs a b w v u t h, within_whole b c whole)
 refused output rs a b c w v u f front link.Output t before at below framed taken whole told h =
     let r = placed f.place f.body h.0 in (
       rs,
@@ -117,8 +102,8 @@ refused output rs a b c w v u f front link.Output t before at below framed taken
 refused output rs a b c w v u f front (link.Device input place) t before at below framed taken whole told h = absurd h
 refused output rs a b c w v u f front (link.Record input place g) t before at below framed taken whole told h =
     elim h.3 [
-      | inl k ↦ (rs, b, before, kept_through output rs a b w v u t h.0, h.1, h.2 ∙ at, if_some_weaker b _ (λ bytes. FaultAt place bytes g) (λ x e. (OtherType, (f, ap (λ n. frame_at n x) h.2 ∙ e, k.0), k.1)) told, subst (TakesFaulty b c) (sym k.1) whole)
-      | inr k ↦ (rs, b, before, kept_through output rs a b w v u t h.0, h.1, h.2 ∙ at, if_some_weaker b _ (λ bytes. FaultAt place bytes g) (λ x e. (WrongBody k.0, (f, ap (λ n. frame_at n x) h.2 ∙ e, k.1, k.2), k.3)) told, subst (TakesFaulty b c) (sym k.3) whole)
+      | inl k ↦ (rs, b, before, kept_through output rs a b w v u t h.0, h.1, h.2 ∙ at, IfSome_then b {Q = (λ bytes. FaultAt place bytes g)} told (λ x e. (OtherType, (f, ap (λ n. frame_at n x) h.2 ∙ e, k.0), k.1)), subst (TakesFaulty b c) (sym k.1) whole)
+      | inr k ↦ (rs, b, before, kept_through output rs a b w v u t h.0, h.1, h.2 ∙ at, IfSome_then b {Q = (λ bytes. FaultAt place bytes g)} told (λ x e. (WrongBody k.0, (f, ap (λ n. frame_at n x) h.2 ∙ e, k.1, k.2), k.3)), subst (TakesFaulty b c) (sym k.3) whole)
     ]
 
 -- ---- where the input has a module's records, the answer is that
@@ -127,27 +112,27 @@ abbrev some_list : List ℕ → Option (List ℕ)
 some_list l = Some l
 
 -- what an answer other than a device's says, where the input has a module's records
-told_fault : (rs gs : List Placed) (last : Placed) (bytes rest : List ℕ) (mid : Option (List ℕ)) (place : ℕ) (g : RecordFault) (output : Placed → List ℕ) (w v : Option (List ℕ)) → AreBeforeEnd rs → is_end last.says ≡ true → AreBeforeEnd gs
-    → AreRecords 0 (rs ++ last ∷ []) bytes → (t : WentThrough output gs (Some (bytes ++ rest)) mid w v) → place ≡ length t.bytes → IfSome mid (λ l. FaultAt place l g) → ⊥
-told_fault rs gs last bytes rest None place g output w v bf ef bg h t at e = t.taken
-told_fault rs gs last bytes rest (Some l) place g output w v bf ef bg h t at e =
+told_fault : (rs gs : List Placed) (bytes rest : List ℕ) (mid : Option (List ℕ)) (place : ℕ) (g : RecordFault) (output : Placed → List ℕ) (w v : Option (List ℕ)) → AreToEnd rs → AreBeforeEnd gs
+    → AreRecords 0 rs bytes → (t : WentThrough output gs (Some (bytes ++ rest)) mid w v) → place ≡ length t.bytes → IfSome mid (λ l. FaultAt place l g) → ⊥
+told_fault rs gs bytes rest None place g output w v re bg h t at e = t.taken
+told_fault rs gs bytes rest (Some l) place g output w v re bg h t at e =
     let here : place ≡ 0 + length t.bytes = omega (arith, at) in
-    no_fault 0 rs gs last bytes t.bytes rest l e.0 bf ef bg h t.are_records t.taken (subst (λ n. StandsAt n l e.0) here e.1)
+    no_fault 0 rs gs bytes t.bytes rest l e.0 re bg h t.are_records t.taken (subst (λ n. NoRecordAt n l e.0) here e.1)
 
-only_told : (A : Type 0) (output : Placed → List ℕ) (rs : List Placed) (last : Placed) (bytes rest : List ℕ) (new w v : Option (List ℕ)) (r : Result A LinkFault) → AreBeforeEnd rs → is_end last.says ≡ true
-    → AreRecords 0 (rs ++ last ∷ []) bytes → GoesThrough output (Some (bytes ++ rest)) new w v r → Writes (flat_map output (rs ++ last ∷ [])) rest new w v r
-only_told A output rs last bytes rest None w v (Ok x) bf ef h k = absurd k.4.taken
-only_told A output rs last bytes rest (Some l) w v (Ok x) bf ef h k =
-    let one = only_way 0 rs k.0 last k.1 bytes k.4.bytes rest l bf ef k.2 k.3 h k.4.are_records k.4.taken in
-    (ap (λ (m : List ℕ). some_list m) (sym one.2), subst (Appends w v) (ap (flat_map output) (sym one.0)) k.4.written)
-only_told A output rs last bytes rest new w v (Err link.Memory) bf ef h k = tt
-only_told A output rs last bytes rest new w v (Err link.Output) bf ef h k = tt
-only_told A output rs last bytes rest new w v (Err (link.Device input place)) bf ef h k = tt
-only_told A output rs last bytes rest new w v (Err (link.Record input place g)) bf ef h k = told_fault rs k.0 last bytes rest k.1 place g output w v bf ef k.2 h k.3 k.5 k.6
+only_told : (A : Type 0) (output : Placed → List ℕ) (rs : List Placed) (bytes rest : List ℕ) (new w v : Option (List ℕ)) (r : Result A LinkFault) → AreToEnd rs → AreRecords 0 rs bytes → GoesThrough output (Some (bytes ++ rest)) new w v r
+    → Writes (flat_map output rs) rest new w v r
+only_told A output rs bytes rest None w v (Ok x) re h k = absurd k.2.taken
+only_told A output rs bytes rest (Some l) w v (Ok x) re h k =
+    let one = only_way 0 rs k.0 bytes k.2.bytes rest l re k.1 h k.2.are_records k.2.taken in
+    (ap (λ (m : List ℕ). some_list m) (sym one.2), subst (Appends w v) (ap (flat_map output) (sym one.0)) k.2.written)
+only_told A output rs bytes rest new w v (Err link.Memory) re h k = tt
+only_told A output rs bytes rest new w v (Err link.Output) re h k = tt
+only_told A output rs bytes rest new w v (Err (link.Device input place)) re h k = tt
+only_told A output rs bytes rest new w v (Err (link.Record input place g)) re h k = told_fault rs k.0 bytes rest k.1 place g output w v re k.2 h k.3 k.5 k.6
 
-pub only_answer : (A : Type 0) (output : Placed → List ℕ) (rs : List Placed) (last : Placed) (bytes rest : List ℕ) (old new w v : Option (List ℕ)) (r : Result A LinkFault) → AreBeforeEnd rs → is_end last.says ≡ true
-    → AreRecords 0 (rs ++ last ∷ []) bytes → old ≡ Some (bytes ++ rest) → GoesThrough output old new w v r → Writes (flat_map output (rs ++ last ∷ [])) rest new w v r
-only_answer A output rs last bytes rest old new w v r bf ef h e k = only_told A output rs last bytes rest new w v r bf ef h (subst (λ o. GoesThrough output o new w v r) e k)
+pub only_answer : (A : Type 0) (output : Placed → List ℕ) (rs : List Placed) (bytes rest : List ℕ) (old new w v : Option (List ℕ)) (r : Result A LinkFault) → AreToEnd rs → AreRecords 0 rs bytes → old ≡ Some (bytes ++ rest)
+    → GoesThrough output old new w v r → Writes (flat_map output rs) rest new w v r
+only_answer A output rs bytes rest old new w v r re h e k = only_told A output rs bytes rest new w v r re h (subst (λ o. GoesThrough output o new w v r) e k)
 
 -- ---- what was rewritten is records again
 
@@ -160,49 +145,27 @@ same_output : (at : ℕ) (rs : List Placed) → flat_map (written_as Rewriting) 
 same_output at [] = refl
 same_output at (r ∷ rs) = ap (λ (l : List ℕ). frame (kind_of r.says) (canonical r.says) ++ l) (same_output (at + length (frame (kind_of r.says) (canonical r.says))) rs)
 
-kind_fits : (r : Placed) (front : List ℕ) → Framed (kind_of r.says) r.body front → kind_of r.says < 256
-kind_fits r front h = h.kind_fits
-
 rewritten_are : (place at : ℕ) (rs : List Placed) (bytes : List ℕ) → at ≤ place → AreRecords place rs bytes → AreRecords at (rewritten_from at rs) (flat_map (written_as Rewriting) rs)
-rewritten_are place at [] bytes le h = refl
-rewritten_are place at (r ∷ rs) bytes le h =
-    let canon = canonical_shortest r.says r.body h.6 in
+rewritten_are place at [] bytes le h = (refl, tt)
+rewritten_are place at (r ∷ rs) bytes le (h, says) =
+    let canon = canonical_shortest r.says r.body says.0 in
     let short : length (canonical r.says) ≤ 65534 = omega (arith, canon.1, h.5.body_short) in
     let framed = framed-frame (kind_of r.says) (canonical r.says) h.5.kind_fits (body_bytes r.says (canonical r.says) canon.0) short in
     let len = framed_len (kind_of r.says) (canonical r.says) _ framed in
     let old = framed_len (kind_of r.says) r.body h.0 h.5 in
     let below : at < place_limit = omega (arith, le, h.4) in
-    let next = rewritten_are (place + length h.0) (at + length (frame (kind_of r.says) (canonical r.says))) rs h.1 (omega (arith, le, len, old, canon.1)) h.7 in
-    (frame (kind_of r.says) (canonical r.says), flat_map (written_as Rewriting) rs, refl, refl, below, framed, canon.0, next)
+    let next = rewritten_are (place + length h.0) (at + length (frame (kind_of r.says) (canonical r.says))) rs h.1 (omega (arith, le, len, old, canon.1)) (h.6, says.1) in
+    ((frame (kind_of r.says) (canonical r.says), flat_map (written_as Rewriting) rs, refl, refl, below, framed, next.0), (canon.0, next.1))
 
--- the last of them is last again, and none before it ends the module
-record Split (at : ℕ) (rs : List Placed) (last : Placed) : Type 0 where
-  front : List Placed
-  end : Placed
-  parts : rewritten_from at (rs ++ last ∷ []) ≡ front ++ end ∷ []
-  before : AreBeforeEnd front
-  same_end : end.says ≡ last.says
-
-split : (at : ℕ) (rs : List Placed) (last : Placed) → AreBeforeEnd rs → Split at rs last
-split at [] last h = record { front = []; end = placed at (canonical last.says) last.says; parts = refl; before = tt; same_end = refl }
-split at (r ∷ rs) last h =
-    let more = split (at + length (frame (kind_of r.says) (canonical r.says))) rs last h.1 in
-    let first = placed at (canonical r.says) r.says in
-    record { front = first ∷ more.front; end = more.end; parts = ap (λ l. first ∷ l) more.parts; before = (h.0, more.before); same_end = more.same_end }
+-- the last of them is the end again
+still_ended : (at : ℕ) (rs : List Placed) → AreToEnd rs → AreToEnd (rewritten_from at rs)
+still_ended at [] h = h
+still_ended at (r ∷ []) h = h
+still_ended at (r ∷ s ∷ rs) h = (h.0, still_ended (at + length (frame (kind_of r.says) (canonical r.says))) (s ∷ rs) h.1)
 
 pub again : (a b w v : Option (List ℕ)) (x : Unit {0}) → GoesThrough (written_as Rewriting) a b w v {A = Unit {0}} (Ok x) → AppendsRewritten w v
-again a b w v x k =
-    let rs = k.0 ++ k.1 ∷ [] in
-    let s = split 0 k.0 k.1 k.2 in
-    let are = rewritten_are 0 0 rs k.4.bytes (omega arith) k.4.are_records in (
-      flat_map (written_as Rewriting) rs,
-      k.4.written,
-      record {
-        records = s.front;
-        last = s.end;
-        before = s.before;
-        ends = ap is_end s.same_end ∙ k.3;
-        are_records = subst (λ l. AreRecords 0 l (flat_map (written_as Rewriting) rs)) s.parts are;
-        same = ap (flat_map (written_as Rewriting)) (sym s.parts) ∙ same_output 0 rs;
-      },
-    )
+again a b w v x k = (
+  flat_map (written_as Rewriting) k.0,
+  k.2.written,
+  record { records = rewritten_from 0 k.0; ended = still_ended 0 k.0 k.1; are_records = rewritten_are 0 0 k.0 k.2.bytes (omega arith) k.2.are_records; same = same_output 0 k.0 },
+)

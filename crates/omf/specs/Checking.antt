@@ -4,6 +4,7 @@ use Rattle.std.specs.declared.option.Option.{Option}
 use Rattle.std.specs.declared.result.Result.{Result}
 use Rattle.std.specs.Io.KnownBytes.{Consumes, Appends, Keeps}
 use Rattle.omf_frame.specs.Device.{AppendsFront}
+use Rattle.omf_record.specs.Records.{Placed}
 use Rattle.omf_module.specs.declared.fault.CheckFault.{CheckFault}
 use Rattle.omf_module.specs.declared.fault.CheckFault.TheVariants as checks
 use Rattle.omf_module.specs.declared.fault.FaultKind.{FaultKind}
@@ -11,7 +12,6 @@ use Rattle.omf_module.specs.declared.fault.FaultKind.TheVariants as kind
 use Rattle.omf_module.specs.declared.fault.ModuleFault.{ModuleFault}
 use Rattle.omf_module.specs.declared.fault.ModuleFault.TheVariants as reading
 use Rattle.omf_module.specs.Module.{Module}
-use Rattle.omf_module.specs.Tables.{Placed}
 use Rattle.omf_module.specs.Bytes.{ModuleBytes}
 use Rattle.omf_module.specs.Reading.{Reads}
 use Rattle.omf.specs.declared.fault.RecordFault.{RecordFault}

@@ -3,7 +3,7 @@ use Rattle.omf_frame.specs.declared.reading.FramingFault.{FramingFault}
 use Rattle.omf_frame.specs.declared.reading.FramingFault.TheVariants as framing
 use Rattle.omf_frame.specs.declared.reading.FrameFault.{FrameFault}
 use Rattle.omf_frame.specs.declared.reading.FrameFault.TheVariants as frame
-use Rattle.omf_record.specs.Records.{ReadingFault, Framing, NoEnd, OtherType, WrongBody}
+use Rattle.omf_record.specs.Records.{NoRecord, Framing, NoEnd, OtherType, WrongBody}
 use Rattle.omf.specs.declared.fault.RecordFault.{RecordFault}
 use Rattle.omf.specs.declared.fault.RecordFault.TheVariants as fault
 use Rattle.omf.specs.declared.fault.LinkFault.{LinkFault}
@@ -15,7 +15,7 @@ record_fault framing.Truncated = fault.Truncated
 record_fault framing.Closing = fault.Closing
 record_fault framing.InputTooLong = fault.InputTooLong
 
-abbrev pub reading_fault : ReadingFault → RecordFault
+abbrev pub reading_fault : NoRecord → RecordFault
 reading_fault (Framing e) = record_fault e
 reading_fault NoEnd = fault.NoEnd
 reading_fault OtherType = fault.Type

@@ -1,5 +1,5 @@
 -- What a command that goes through an input record by record takes, writes and answers.
-use Rattle.std.specs.Prelude.{◌≡◌, ℕ, List, [], ◌∷◌, ◌++◌, ◌⊎◌, length, true, Some, Ok, Err, IfSome}
+use Rattle.std.specs.Prelude.{◌≡◌, ℕ, List, [], ◌∷◌, ◌++◌, ◌⊎◌, length, Some, Ok, Err, IfSome}
 use Rattle.std.specs.declared.option.Option.{Option}
 use Rattle.std.specs.declared.result.Result.{Result}
 use Rattle.std.specs.List.{flat_map}
@@ -10,7 +10,7 @@ use Rattle.omf_record.specs.Record as says
 use Rattle.omf_record.specs.declared.record.Record.{Record}
 use Rattle.omf_record.specs.View.{view}
 use Rattle.omf_record.specs.Canonical.{FitsFrame}
-use Rattle.omf_record.specs.Records.{Placed, is_end, AreRecords, AreBeforeEnd}
+use Rattle.omf_record.specs.Records.{Placed, AreRecords, AreBeforeEnd, AreToEnd}
 use Rattle.omf_frame.specs.Reading.{TakesWhole, TakesWithin}
 use Rattle.omf.specs.declared.fault.RecordFault.{RecordFault}
 use Rattle.omf.specs.declared.fault.RecordFault.TheVariants as fault
@@ -49,8 +49,7 @@ pub record WentThrough (output : Placed → List ℕ) (rs : List Placed) (old mi
 -- sink before and after, and the answer. What was written before a fault of reading is the output of the records
 -- before it, whole; where the sink failed, a front of the output.
 abbrev pub GoesThrough : (output : Placed → List ℕ) (old new wold wnew : Option (List ℕ)) {A : Type 0} → Result A LinkFault → Type 0
-GoesThrough output old new wold wnew (Ok x) =
-    (rs : List Placed) × (last : Placed) × AreBeforeEnd rs × (is_end last.says ≡ true) × WentThrough output (rs ++ last ∷ []) old new wold wnew
+GoesThrough output old new wold wnew (Ok x) = (rs : List Placed) × AreToEnd rs × WentThrough output rs old new wold wnew
 GoesThrough output old new wold wnew (Err (link.Record input place fault)) =
     (rs : List Placed) × (mid : Option (List ℕ)) × AreBeforeEnd rs × (through : WentThrough output rs old mid wold wnew)
     × (input ≡ 0) × (place ≡ length through.bytes) × IfSome mid (λ bytes. FaultAt place bytes fault) × TakesFaulty mid new fault

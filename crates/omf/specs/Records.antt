@@ -1,10 +1,10 @@
 -- What is written of the records of an input, and the fault that stands where none begins.
-use Rattle.std.specs.Prelude.{◌≡◌, ℕ, true, List, [], ◌∷◌, ◌++◌, length}
+use Rattle.std.specs.Prelude.{◌≡◌, ℕ, List, length}
 use Rattle.std.specs.List.{flat_map}
 use Rattle.omf_frame.specs.Frame.{frame}
 use Rattle.omf_record.specs.Body.{kind_of}
 use Rattle.omf_record.specs.Canonical.{canonical}
-use Rattle.omf_record.specs.Records.{Placed, is_end, AreRecords, AreBeforeEnd, ReadingFault, StandsAt}
+use Rattle.omf_record.specs.Records.{Placed, AreRecords, AreToEnd, NoRecord, NoRecordAt}
 use Rattle.omf.specs.declared.fault.RecordFault.{RecordFault}
 use Rattle.omf.specs.declared.records.Form.{Form}
 use Rattle.omf.specs.declared.records.Form.TheVariants.{Listing, Rewriting}
@@ -16,15 +16,13 @@ abbrev pub output : Form → Placed → List ℕ
 output Listing r = head_line r.place (kind_of r.says) (length r.body)
 output Rewriting r = frame (kind_of r.says) (canonical r.says)
 
--- the fault that stands where a record had to begin, the bytes from there on being these
+-- the fault where no record begins and one had to, the bytes from there on being these
 abbrev pub FaultAt : ℕ → List ℕ → RecordFault → Type 0
-FaultAt place bytes fault = (e : ReadingFault) × StandsAt place bytes e × (fault ≡ reading_fault e)
+FaultAt place bytes fault = (why : NoRecord) × NoRecordAt place bytes why × (fault ≡ reading_fault why)
 
 -- the records of one module, which are rewritten as they stand
 pub record IsRewritten (bytes : List ℕ) : Type 0 where
   pub records : List Placed
-  pub last : Placed
-  pub before : AreBeforeEnd records
-  pub ends : is_end last.says ≡ true
-  pub are_records : AreRecords 0 (records ++ last ∷ []) bytes
-  pub same : flat_map (output Rewriting) (records ++ last ∷ []) ≡ bytes
+  pub ended : AreToEnd records
+  pub are_records : AreRecords 0 records bytes
+  pub same : flat_map (output Rewriting) records ≡ bytes

@@ -1,6 +1,6 @@
 //! Whether an input is a whole sound module.
 ghost use Rattle.std.specs.Prelude.{◌≡◌, ℕ, ◌+◌, ◌-◌, ◌^◌, ◌<◌, ◌++◌, List, Some};
-ghost use Rattle.omf_module.specs.Tables.{Placed};
+ghost use Rattle.omf_record.specs.Records.{Placed};
 ghost use Rattle.omf_module.specs.Bytes.{ModuleBytes};
 ghost use Rattle.omf.specs.Checking.{Checks, ChecksWhole, check_fault, fault_at, module_fault};
 ghost use Rattle.omf.specs.Reading.{sink_failures, source_failures};

@@ -1,10 +1,10 @@
 //! Commands that go through the records of an input, up to the end of its first module.
-ghost use Rattle.std.specs.Prelude.{◌≡◌, ℕ, ◌+◌, ◌-◌, ◌^◌, ◌<◌, true, List, [], ◌∷◌, ◌++◌, Some, OnOk, OnErr, is_ok, if◌then◌else◌};
+ghost use Rattle.std.specs.Prelude.{◌≡◌, ℕ, ◌+◌, ◌-◌, ◌^◌, ◌<◌, List, ◌++◌, Some, OnOk, OnErr, is_ok, if◌then◌else◌};
 ghost use Rattle.std.specs.List.{flat_map};
 ghost use Rattle.omf_frame.specs.Frame.{frame};
 ghost use Rattle.omf_record.specs.View.{view};
 ghost use Rattle.omf_record.specs.Canonical.{canonical, FitsFrame};
-ghost use Rattle.omf_record.specs.Records.{Placed, is_end, AreRecords, AreBeforeEnd};
+ghost use Rattle.omf_record.specs.Records.{Placed, AreRecords, AreToEnd};
 ghost use Rattle.omf.specs.Faults.{record_fault, link_fault};
 ghost use Rattle.omf.specs.Records.{output};
 ghost use Rattle.omf.specs.Reading.{sink_failures, source_failures, AppendsRewritten, GoesThrough, Handles, Parses, Writes, WritesAll};
@@ -165,9 +165,8 @@ pub fn show<S: Source, K: Sink, A: Allocator + Copy>(
     // What was read and written, and the fault where one stands.
     ensures output { GoesThrough (output Listing) (S.remaining source.old) (S.remaining source.new) (K.written sink.old) (K.written sink.new) result }
     // Where the input has a module's records, their lines are written, and no byte more is read.
-    ensures only { (rs : List Placed) (last : Placed) (bytes rest : List ℕ) → AreBeforeEnd rs → is_end last.says ≡ true
-        → AreRecords 0 (rs ++ last ∷ []) bytes → S.remaining source.old ≡ Some (bytes ++ rest)
-        → Writes (flat_map (output Listing) (rs ++ last ∷ [])) rest (S.remaining source.new) (K.written sink.old) (K.written sink.new) result }
+    ensures only { (rs : List Placed) (bytes rest : List ℕ) → AreToEnd rs → AreRecords 0 rs bytes → S.remaining source.old ≡ Some (bytes ++ rest)
+        → Writes (flat_map (output Listing) rs) rest (S.remaining source.new) (K.written sink.old) (K.written sink.new) result }
 {
     go_through(alloc, source, sink, Form::Listing)
 }
@@ -187,9 +186,8 @@ pub fn rewrite<S: Source, K: Sink, A: Allocator + Copy>(
     // What was read and written, and the fault where one stands.
     ensures output { GoesThrough (output Rewriting) (S.remaining source.old) (S.remaining source.new) (K.written sink.old) (K.written sink.new) result }
     // Where the input has a module's records, they are written, and no byte more is read.
-    ensures only { (rs : List Placed) (last : Placed) (bytes rest : List ℕ) → AreBeforeEnd rs → is_end last.says ≡ true
-        → AreRecords 0 (rs ++ last ∷ []) bytes → S.remaining source.old ≡ Some (bytes ++ rest)
-        → Writes (flat_map (output Rewriting) (rs ++ last ∷ [])) rest (S.remaining source.new) (K.written sink.old) (K.written sink.new) result }
+    ensures only { (rs : List Placed) (bytes rest : List ℕ) → AreToEnd rs → AreRecords 0 rs bytes → S.remaining source.old ≡ Some (bytes ++ rest)
+        → Writes (flat_map (output Rewriting) rs) rest (S.remaining source.new) (K.written sink.old) (K.written sink.new) result }
     // What was written is records again, which are rewritten as they are.
     ensures again { OnOk result (AppendsRewritten (K.written sink.old) (K.written sink.new)) }
 {

@@ -1,5 +1,6 @@
 -- What the reader answers, after each outcome of one more record.
 use Rattle.std.proofs.Common.{◌≡◌, ℕ, ◌+◌, ◌<◌, true, false, List, [], ◌∷◌, ◌++◌, length, None, Some, Ok, Err, Result, refl, sym, ap, subst, ◌∙◌, arith, length-append, inl, inr}
+use Rattle.std.proofs.lemmas.Option.{IfSome_then}
 use Rattle.std.specs.declared.option.Option.{Option}
 use Rattle.std.specs.Prelude.{IfSome}
 use Rattle.std.specs.Io.KnownBytes.{Consumes}
@@ -7,6 +8,7 @@ use Rattle.omf_frame.specs.Frame.{Frame, Framed, frame_at, place_limit}
 use Rattle.omf_frame.specs.Reading.{TakesWhole, TakesWithin, IsAt, Gives}
 use Rattle.omf_frame.specs.Reading as framing_of
 use Rattle.omf_frame.specs.Lending.{plain_frame}
+use Rattle.omf_frame.proofs.Told.{none_taken, within_whole}
 use Rattle.omf_frame.specs.declared.frame.Frame as lent
 use Rattle.omf_frame.specs.declared.reading.FrameFault.{FrameFault}
 use Rattle.omf_frame.specs.declared.reading.FrameFault.TheVariants as frame
@@ -27,7 +29,7 @@ use Rattle.omf_module.specs.Faulty.{frame_fault}
 use Rattle.omf_module.specs.Sound.{IsSound}
 use Rattle.omf_module.proofs.Whole.{ok_more, err_of}
 use Rattle.omf_module.proofs.Promised.{sound_module}
-use Rattle.omf_module.proofs.Taking.{begun, one_more, whole, all_taken, refused, stops, none_taken, within_whole, if_some_weaker}
+use Rattle.omf_module.proofs.Taking.{begun, one_more, whole, all_taken, refused, stops}
 
 abbrev reads : Option (List ℕ) → Option (List ℕ) → Result Module ModuleFault → Type 0
 reads = Reads (λ m. m)
@@ -44,20 +46,20 @@ no_memory a = ([], [], a, begun a, none_taken a)
 module _ (rs : List Placed) (front : List ℕ) (a b c : Option (List ℕ)) (t : Took rs front a b) where
   pub no_end : (place : ℕ) → place ≡ length front → IfSome b (λ bytes. frame_at place bytes ≡ Ok None) → TakesWhole b c → reads a c (Err (fault.Record place kind.NoEnd))
   unfolding Reads
-  no_end place at none stands = (rs, front, b, t, at, stands, stops rs front a b place kind.NoEnd t at (if_some_weaker b _ (λ rest. StopsAt place rest kind.NoEnd) (λ x e. (NoEnd, e, refl)) none))
+  no_end place at none stands = (rs, front, b, t, at, stands, stops rs front a b place kind.NoEnd t at (IfSome_then b {Q = (λ rest. StopsAt place rest kind.NoEnd)} none (λ x e. (NoEnd, e, refl))))
 
   pub frame_stopped : (place : ℕ) (e : FrameFault) → place ≡ length front → IsAt {A = Option lent.Frame} place (Err e) → IfSome b (λ bytes. Gives plain_frame (Err e) (frame_at place bytes)) → framing_of.TakesRecord {A = Option lent.Frame} b c (Err e)
       → reads a c (Err (frame_fault e))
   unfolding Reads
   frame_stopped place (frame.Device p) at h exact stands = (rs, front, b, t, h.0 ∙ at, stands, always a)
   frame_stopped place (frame.Framing p framing.ZeroLength) at h exact stands =
-      (rs, front, b, t, h.0 ∙ at, stands, stops rs front a b p kind.ZeroLength t (h.0 ∙ at) (if_some_weaker b _ (λ rest. StopsAt p rest kind.ZeroLength) (λ x e. (Framing framing.ZeroLength, ap (λ n. frame_at n x) h.0 ∙ e, refl)) exact))
+      (rs, front, b, t, h.0 ∙ at, stands, stops rs front a b p kind.ZeroLength t (h.0 ∙ at) (IfSome_then b {Q = (λ rest. StopsAt p rest kind.ZeroLength)} exact (λ x e. (Framing framing.ZeroLength, ap (λ n. frame_at n x) h.0 ∙ e, refl))))
   frame_stopped place (frame.Framing p framing.Truncated) at h exact stands =
-      (rs, front, b, t, h.0 ∙ at, stands, stops rs front a b p kind.Truncated t (h.0 ∙ at) (if_some_weaker b _ (λ rest. StopsAt p rest kind.Truncated) (λ x e. (Framing framing.Truncated, ap (λ n. frame_at n x) h.0 ∙ e, refl)) exact))
+      (rs, front, b, t, h.0 ∙ at, stands, stops rs front a b p kind.Truncated t (h.0 ∙ at) (IfSome_then b {Q = (λ rest. StopsAt p rest kind.Truncated)} exact (λ x e. (Framing framing.Truncated, ap (λ n. frame_at n x) h.0 ∙ e, refl))))
   frame_stopped place (frame.Framing p framing.Closing) at h exact stands =
-      (rs, front, b, t, h.0 ∙ at, stands, stops rs front a b p kind.Closing t (h.0 ∙ at) (if_some_weaker b _ (λ rest. StopsAt p rest kind.Closing) (λ x e. (Framing framing.Closing, ap (λ n. frame_at n x) h.0 ∙ e, refl)) exact))
+      (rs, front, b, t, h.0 ∙ at, stands, stops rs front a b p kind.Closing t (h.0 ∙ at) (IfSome_then b {Q = (λ rest. StopsAt p rest kind.Closing)} exact (λ x e. (Framing framing.Closing, ap (λ n. frame_at n x) h.0 ∙ e, refl))))
   frame_stopped place (frame.Framing p framing.InputTooLong) at h exact stands =
-      (rs, front, b, t, h.0 ∙ at, stands, stops rs front a b p kind.InputTooLong t (h.0 ∙ at) (if_some_weaker b _ (λ rest. StopsAt p rest kind.InputTooLong) (λ x e. (Framing framing.InputTooLong, ap (λ n. frame_at n x) h.0 ∙ e, refl)) exact))
+      (rs, front, b, t, h.0 ∙ at, stands, stops rs front a b p kind.InputTooLong t (h.0 ∙ at) (IfSome_then b {Q = (λ rest. StopsAt p rest kind.InputTooLong)} exact (λ x e. (Framing framing.InputTooLong, ap (λ n. frame_at n x) h.0 ∙ e, refl))))
   frame_stopped place frame.Memory at h exact stands = absurd h
   frame_stopped place frame.Failed at h exact stands = absurd h
 
@@ -75,8 +77,8 @@ module _ (rs : List Placed) (front : List ℕ) (a b c : Option (List ℕ)) (t : 
 
     kind_refuses : (k : FaultKind) → IsRecordFault f.kind f.body f.place s k → reads a c (Err (fault.Record f.place k))
     unfolding Reads
-    kind_refuses kind.Type h = (rs, front, b, t, at, stands, stops rs front a b f.place kind.Type t at (if_some_weaker b _ (λ rest. StopsAt f.place rest kind.Type) (λ x e. (OtherType, (f, e, h), refl)) exact))
-    kind_refuses (kind.Body i) h = (rs, front, b, t, at, stands, stops rs front a b f.place (kind.Body i) t at (if_some_weaker b _ (λ rest. StopsAt f.place rest (kind.Body i)) (λ x e. (WrongBody i, (f, e, h.0, h.1), refl)) exact))
+    kind_refuses kind.Type h = (rs, front, b, t, at, stands, stops rs front a b f.place kind.Type t at (IfSome_then b {Q = (λ rest. StopsAt f.place rest kind.Type)} exact (λ x e. (OtherType, (f, e, h), refl))))
+    kind_refuses (kind.Body i) h = (rs, front, b, t, at, stands, stops rs front a b f.place (kind.Body i) t at (IfSome_then b {Q = (λ rest. StopsAt f.place rest (kind.Body i))} exact (λ x e. (WrongBody i, (f, e, h.0, h.1), refl))))
     kind_refuses (kind.Check g) h =
         let r = here h.0 in
         let first = err_of rs r t.beginning.sound g (stepped h.0 (Err g) h.2) in

@@ -1,11 +1,10 @@
 -- Records that are taken one after the other from a source.
-use Rattle.std.proofs.Common.{◌≡◌, ℕ, ◌<◌, true, false, List, [], ◌∷◌, ◌++◌, length, take, None, Some, refl, sym, subst, arith, append_assoc, inl, inr}
+use Rattle.std.proofs.Common.{◌≡◌, ℕ, ◌<◌, true, false, List, [], ◌∷◌, ◌++◌, length, None, Some, refl, sym, subst, arith, append_assoc, inl, inr}
 use Rattle.std.specs.declared.option.Option.{Option}
 use Rattle.std.specs.Prelude.{IfSome}
 use Rattle.std.specs.Io.KnownBytes.{Consumes}
-use Rattle.std.proofs.lemmas.List.{append-nil, length-take}
-use Rattle.omf_frame.specs.Frame.{Framed, place_limit, record_len}
-use Rattle.omf_frame.specs.Reading.{TakesWhole, TakesWithin}
+use Rattle.std.proofs.lemmas.List.{append-nil}
+use Rattle.omf_frame.specs.Frame.{Framed, place_limit}
 use Rattle.omf_frame.proofs.Told.{Consumes-nil, Consumes-trans}
 use Rattle.omf_record.specs.Body.{kind_of, Body}
 use Rattle.omf_record.specs.Records.{Placed, is_end, AreRecords}
@@ -53,20 +52,3 @@ both_told P Q (Some xs) (Some ys) front t q f = subst P (sym t) (f ys q)
 
 pub stops : (rs : List Placed) (front : List ℕ) (a b : Option (List ℕ)) (place : ℕ) (f : FaultKind) → Took rs front a b → place ≡ length front → IfSome b (λ rest. StopsAt place rest f) → IfSome a (λ bytes. ReadingFault bytes place f)
 stops rs front a b place f t at n = both_told (λ bytes. ReadingFault bytes place f) (λ rest. StopsAt place rest f) a b front t.taken n (λ rest q. (rs, front, rest, refl, t.beginning, at, inr q))
-
-pub none_taken : (a : Option (List ℕ)) → TakesWithin a a
-none_taken None = tt
-none_taken (Some x) = ([], refl, omega arith)
-
-pub within_whole : (a b : Option (List ℕ)) → TakesWhole a b → TakesWithin a b
-within_whole None b h = tt
-within_whole (Some x) None h = absurd h
-within_whole (Some x) (Some y) h = (take (record_len x) x, h, omega (arith, length-take (record_len x) x))
-
-pub at_some : {X : Type 0} (o : Option X) (x : X) (P : X → Type 0) → o ≡ Some x → IfSome o P → P x
-at_some None x P e h = absurd cc
-at_some (Some y) x P e h = subst P (let f : y ≡ x = cc in f) h
-
-pub if_some_weaker : (o : Option (List ℕ)) (P Q : List ℕ → Type 0) → ((x : List ℕ) → P x → Q x) → IfSome o P → IfSome o Q
-if_some_weaker None P Q f h = tt
-if_some_weaker (Some x) P Q f h = f x h

@@ -1,5 +1,6 @@
 use Rattle.std.proofs.Common.{◌≡◌, ◌<◌, [], ◌∷◌, ◌++◌, Ok, Err, Some, None, true, false, arith, refl, sym, ap, subst, ◌∙◌}
 use Rattle.std.proofs.lemmas.Result.{err_from_is_err_and}
+use Rattle.std.proofs.lemmas.Option.{IfSome_then}
 use Rattle.std.specs.declared.option.Option.{Option}
 use Rattle.std.specs.declared.result.Result.{Result}
 use Rattle.std.specs.Prelude.{IfSome}
@@ -7,12 +8,13 @@ use Rattle.omf_frame.specs.Frame.{Framed, place_limit, frame_at}
 use Rattle.omf_frame.specs.Reading.{Gives, IsAt}
 use Rattle.omf_frame.specs.Lending.{plain_frame, next_place, IfFrame}
 use Rattle.omf_frame.specs.declared.frame.Frame.{Frame}
+use Rattle.omf_frame.proofs.Told.{at_some, none_taken}
 use Rattle.omf_frame.specs.declared.reading.FrameFault.{FrameFault}
 use Rattle.omf_record.specs.Records.{Placed, NoEnd}
-use Rattle.omf_record.proofs.Records.{AreBeforeEnd-push, kind_end, not_end}
+use Rattle.omf_record.proofs.Records.{AreBeforeEnd-push, AreToEnd-push, kind_end, not_end}
 use Rattle.omf.specs.declared.fault.RecordFault.TheVariants as fault
 use Rattle.omf.specs.Records.{output, FaultAt}
-use Rattle.omf.proofs.Through.{begun, one_more, stopped, refused, at_some, if_some_weaker, none_taken}
+use Rattle.omf.proofs.Through.{begun, one_more, stopped, refused}
 use Rattle.omf.proofs.records.go_through.Goals as goal
 
 pub loop-frame-init : goal.loop-frame-init
@@ -34,7 +36,7 @@ returns-in-Ok-None-clause-output g c =
     let told = g.S.Source.remaining c.loop-frame.source in
     let ensured = rw c.in-Ok-None.field-0-is at c.in-Ok-None.ensures.exact in
     let exact = at_some _ place (λ p. IfSome told (λ bytes. frame_at p bytes ≡ Ok None)) held ensured in
-    (rs, told, before, through, refl, at, if_some_weaker told _ (λ bytes. FaultAt place bytes fault.NoEnd) (λ bytes e. (NoEnd, e, refl)) exact, c.in-Ok-None.ensures.stands)
+    (rs, told, before, through, refl, at, IfSome_then told {Q = (λ bytes. FaultAt place bytes fault.NoEnd)} exact (λ bytes e. (NoEnd, e, refl)), c.in-Ok-None.ensures.stands)
 
 pub returns-in-Err-clause-output : goal.returns-in-Err-clause-output
 returns-in-Err-clause-output g c =
@@ -57,7 +59,7 @@ returns-in-Err-put_record-clause-output g c =
     let framed = rw c.in-Ok-Some.field-0-is at c.in-Ok-Some.ensures.frame in
     let below : f.place < place_limit = omega (arith, here.0, here.1) in
     let exact = at_some _ place (λ p. IfSome told (λ bytes. frame_at p bytes ≡ Ok (Some (plain_frame f)))) held (rw c.in-Ok-Some.field-0-is at c.in-Ok-Some.ensures.exact) in
-    let stands = if_some_weaker told _ (λ bytes. frame_at f.place bytes ≡ Ok (Some (plain_frame f))) (λ bytes e. ap (λ n. frame_at n bytes) here.1 ∙ e) exact in
+    let stands = IfSome_then told {Q = (λ bytes. frame_at f.place bytes ≡ Ok (Some (plain_frame f)))} exact (λ bytes e. ap (λ n. frame_at n bytes) here.1 ∙ e) in
     refused (output c.args.form) rs _ told _ _ _ _ (plain_frame f) framed.0 c.in-Err-put_record.fault through before (here.1 ∙ at) below framed.1 framed.2 c.in-Ok-Some.ensures.stands stands c.in-Err-put_record.ensures.handles
 
 pub returns-then-frame-clause-output : goal.returns-then-frame-clause-output
@@ -72,7 +74,7 @@ returns-then-frame-clause-output g c =
     let (r, body, wrote) = c.in-Ok.ensures.handles in
     let record_is : Placed = record { place = f.place; body = f.body.now; says = r } in
     let more = one_more (output c.args.form) rs _ _ _ _ _ _ record_is framed.0 through (here.1 ∙ at) below (subst (λ k. Framed k f.body.now framed.0) (sym body.0) framed.1) body.1 framed.2 wrote in
-    (rs, record_is, before, kind_end r (body.0 ∙ c.if-frame.true), more.0)
+    (rs ++ record_is ∷ [], AreToEnd-push rs record_is before (kind_end r (body.0 ∙ c.if-frame.true)), more.0)
 
 pub loop-frame-preserved : goal.loop-frame-preserved
 loop-frame-preserved g c =

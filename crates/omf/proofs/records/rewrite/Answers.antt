@@ -9,7 +9,7 @@ use Rattle.omf.proofs.Through.{only_answer, again}
 use Rattle.omf.proofs.records.rewrite.Goals as goal
 
 pub returns-clause-only : goal.returns-clause-only
-returns-clause-only g c = λ fs last bytes rest before end are told. only_answer _ (output Rewriting) fs last bytes rest _ _ _ _ c.go_through.result before end are told c.go_through.ensures.output
+returns-clause-only g c = λ rs bytes rest ended are told. only_answer _ (output Rewriting) rs bytes rest _ _ _ _ c.go_through.result ended are told c.go_through.ensures.output
 
 at_ok : (a b w v : Option (List ℕ)) (r : Result (Unit {0}) LinkFault) → GoesThrough (output Rewriting) a b w v r → OnOk r (AppendsRewritten w v)
 at_ok a b w v (Ok x) k = again a b w v x k

@@ -6,10 +6,11 @@ use Rattle.std.specs.Prelude.{IfSome}
 use Rattle.omf_frame.specs.Frame.{place_limit, frame_at}
 use Rattle.omf_frame.specs.Reading.{Gives, IsAt}
 use Rattle.omf_frame.specs.Lending.{plain_frame, next_place, IfFrame}
+use Rattle.omf_frame.proofs.Told.{at_some}
 use Rattle.omf_frame.specs.declared.frame.Frame.{Frame}
 use Rattle.omf_frame.specs.declared.reading.FrameFault.{FrameFault}
 use Rattle.omf_module.specs.Building.{state}
-use Rattle.omf_module.proofs.Taking.{begun, at_some}
+use Rattle.omf_module.proofs.Taking.{begun}
 use Rattle.omf_module.proofs.Answering.{no_memory, no_end, frame_stopped, refuses, ends, ends_sound, goes_on}
 use Rattle.omf_module.proofs.reading.read_records.Goals as goal
 
