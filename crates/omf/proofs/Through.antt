@@ -24,7 +24,7 @@ use Rattle.omf_record.specs.Records.{Placed, is_end, AreRecords, AreBeforeEnd, A
 use Rattle.omf_record.proofs.BodyBytes.{body_bytes}
 use Rattle.omf_record.proofs.BodyLaws.{kind_ok}
 use Rattle.omf_record.proofs.CanonicalLaws.{canonical_shortest}
-use Rattle.omf_record.proofs.Records.{AreRecords-push, framed_len, only_way, no_fault}
+use Rattle.omf_record.proofs.Records.{AreRecords-push, framed_len, placed, only_way, no_fault}
 use Rattle.omf.specs.declared.fault.RecordFault.{RecordFault}
 use Rattle.omf.specs.declared.fault.RecordFault.TheVariants as fault
 use Rattle.omf.specs.declared.fault.LinkFault.{LinkFault}
@@ -68,9 +68,6 @@ stopped A output rs a b c w v place (frame_fault.Framing p e) t before at h g s 
     (rs, b, before, t, refl, h.0 ∙ at, IfSome_then b {Q = (λ bytes. FaultAt p bytes (record_fault e))} g (λ x k. (Framing e, ap (λ n. frame_at n x) h.0 ∙ k, refl)), faulty_taken b c p e s)
 stopped A output rs a b c w v place frame_fault.Memory t before at h g s = absurd h
 stopped A output rs a b c w v place frame_fault.Failed t before at h g s = absurd h
-
-abbrev placed : ℕ → List ℕ → says.Record → Placed
-placed place body r = record { place = place; body = body; says = r }
 
 -- the canonical record was written
 pub handled : (place kind : ℕ) (body : List ℕ) (r : says.Record) (w v : Option (List ℕ)) (result : Result (Unit {0}) LinkFault) → BodyOf kind r body → WritesAll (frame kind (canonical r)) w v result → Handles (written_as Rewriting) place kind body w v result

@@ -42,8 +42,14 @@ use Rattle.omf_module.specs.Tables.{frame_used, target_used, name_at, standing_o
 use Rattle.omf_module.specs.Faults.{number, header_fault, segment_fault, group_fault, when, ◌⊓◌, misses, passes, Tables, is_absolute, component_fault, data_fault, public_fault, frame_fault, target_fault, holds_base, lies_in, place_fault, relative_fault, fixup_fault, location_fault, start_fault}
 use Rattle.omf_module.specs.Running.{State, state_of, checked, slot, add_to_last, add_data, module_in, later, step, step_record, step_subrecord, step_subrecords, ◌>>=◌}
 use Rattle.omf_module.specs.Sound.{IsShort, FrameMeans, TargetMeans, BaseMeans, IsPart, IsMember, FixupFits, StartFits, SegmentFits, IsStanding}
+use Rattle.omf_record.proofs.Expanded.{length-stored}
 use Rattle.omf_module.proofs.Fitting.{DataFitting, Fitting}
-use Rattle.omf_module.proofs.Together.{all_weaker, stored_together, repeated_together}
+use Rattle.omf_module.proofs.Whole.{by_fault}
+use Rattle.omf_module.proofs.Together.{stored_together, repeated_together}
+
+all_weaker : {X : Type 0} (P Q : X → Type 0) (xs : List X) → ((x : X) → P x → Q x) → AllByRecursion P xs → AllByRecursion Q xs
+all_weaker P Q [] f h = tt
+all_weaker P Q (x ∷ xs) f h = (f x h.0, all_weaker P Q xs f h.1)
 
 -- ---- longer lists
 
@@ -197,10 +203,6 @@ ok_is s t e = cc
 
 abbrev Keeping : State → State → Type 0
 Keeping s t = Promises s → Promises t
-
-by_fault : (f : Option CheckFault) (s t : State) → checked f s ≡ Ok t → (f ≡ None) × (s ≡ t)
-by_fault None s t e = (refl, cc)
-by_fault (Some f) s t e = cc
 
 all_map : {X Y : Type 0} (Q : Y → Type 0) (f : X → Y) (xs : List X) → ((x : X) → Q (f x)) → AllByRecursion Q (map f xs)
 all_map Q f [] h = tt
@@ -517,10 +519,6 @@ start_keeps s place r f t e h =
     }
 
 -- ---- one record, and all
-
-length-stored : (place : ℕ) (bytes : List ℕ) → length (stored_from place bytes) ≡ length bytes
-length-stored place [] = refl
-length-stored place (b ∷ bytes) = ap suc (length-stored (place + 1) bytes)
 
 record_keeps : (place : ℕ) (s t : State) (r : Record) (body : List ℕ) → Body r body → step_record place s r ≡ Ok t → Promises s → Promises t
 unfolding step_record

@@ -43,16 +43,16 @@ first_append_none ((Some x) ∷ xs) ys e = cc
 abbrev place_fault : List Placed → Placed → List (Option (ℕ × CheckFault))
 place_fault before r = option_map (λ f. (r.place, f)) (fault before r.says) ∷ []
 
+pub by_fault : (f : Option CheckFault) (s t : State) → checked f s ≡ Ok t → (f ≡ None) × (s ≡ t)
+by_fault None s t e = (refl, cc)
+by_fault (Some f) s t e = cc
+
+by_err : (f : Option CheckFault) (s : State) (g : CheckFault) → checked f s ≡ Err g → f ≡ Some g
+by_err None s g e = cc
+by_err (Some f) s g e = cc
+
 -- no fault so far, and one record more
 module _ (rs : List Placed) (r : Placed) (sound : first_fault rs ≡ None) where
-  by_fault : (f : Option CheckFault) (s t : State) → checked f s ≡ Ok t → (f ≡ None) × (s ≡ t)
-  by_fault None s t e = (refl, cc)
-  by_fault (Some f) s t e = cc
-
-  by_err : (f : Option CheckFault) (s : State) (g : CheckFault) → checked f s ≡ Err g → f ≡ Some g
-  by_err None s g e = cc
-  by_err (Some f) s g e = cc
-
   pub ok_more : (t : State) → step (state_of rs) r.place r.says ≡ Ok t → (t ≡ state_of (rs ++ r ∷ [])) × (first_fault (rs ++ r ∷ []) ≡ None)
   ok_more t e =
       let p = by_fault (fault rs r.says) (state_of (rs ++ r ∷ [])) t (sym (step_whole rs r) ∙ e) in

@@ -13,7 +13,7 @@ use Rattle.omf_record.specs.Reading.{Reader, next, ended, ending, rest_at, to_en
 use Rattle.omf_record.specs.Fields.{mapped, byte_at, word_at, index_at, name_at, reference_at, subrecord_at, segment_at, base_at, public_at, external_at, line_at, component_at, block_at, theadr_body, coment_body, modend_body, extdef_body, pubdef_body, linnum_body, lnames_body, segdef_body, grpdef_body, fixupp_body, ledata_body, lidata_body, is_attribute, is_record_kind, body_at}
 use Rattle.omf_record.proofs.Laws.{Reads, Anything, Nothing, Then, next_reads, same_reads, ended_reads, rest_reads, to_end_reads, ok_is, blank, zeros, IsBytes-zeros}
 use Rattle.omf_record.proofs.Primitives.{if_reads, Made, made_at, ending_reads, byte_then, byte_at_reads, word_reads, index_reads, name_reads, one_joined, joined_one, one_split}
-use Rattle.omf_record.proofs.Subrecords.{reference_reads, eqb-false, or_cases, or_left, or_right}
+use Rattle.omf_record.proofs.Subrecords.{reference_reads, eqb-false, or_cases, or_left, or_right, or_not}
 use Rattle.omf_record.proofs.Segments.{segment_reads, base_reads, component_item}
 use Rattle.omf_record.proofs.Items.{name_item, name_filled, public_item, public_filled, external_item, external_filled, line_item, line_filled, subrecord_item, subrecord_filled, component_filled, block_item}
 use Rattle.omf_record.proofs.BlockLaws.{block_filled}
@@ -265,10 +265,6 @@ modend_reads = byte_then Nothing is_attribute (BodyOf 0x8A) _ refl
 
 at_kind : (k n : ℕ) (r : Reader Record) → Reads Nothing (BodyOf n) r → eqb k n ≡ true → Reads Nothing (BodyOf k) r
 at_kind k n r law is = subst (λ m. Reads Nothing (BodyOf m) r) (sym (eqb-true k n is)) law
-
-or_not : (a b : Bool) → (a || b) ≡ true → a ≡ false → b ≡ true
-or_not true b h e = absurd cc
-or_not false b h e = h
 
 or_false : (a b : Bool) → a ≡ false → b ≡ false → (a || b) ≡ false
 or_false a b e h = rw (e, h) refl

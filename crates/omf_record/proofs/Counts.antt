@@ -30,10 +30,10 @@ use Rattle.omf_record.specs.Body.{bits, Acbp, AbsoluteText, LengthText, SegmentT
 use Rattle.omf_record.specs.Canonical as canon
 use Rattle.omf_record.specs.Canonical.{canonical, FitsFrame, length_word}
 use Rattle.omf_record.specs.Room.{Room, onward, ◌▹◌, no_text, empty, taking, byte_room, word_room, all_bytes, bytes_room, index_room, name_room, external_room, public_room, line_room, component_room, base_room, absolute_room, segment_room, frame_index_room, target_index_room, frame_room, target_room, displacement_room, reference_room, subrecord_room, each_room, content_room, counts_room, block_room, blocks_room, record_room}
-use Rattle.omf_record.proofs.Subrecords.{eqb-false}
+use Rattle.omf_record.proofs.Subrecords.{eqb-false, FrameFirst, TargetFirst, FixupFirst}
 use Rattle.omf_record.proofs.BlockLaws.{list_blocks}
 use Rattle.omf_record.proofs.Stored.{blocks-flat}
-use Rattle.omf_record.proofs.Shortest.{Shortest, joined_shortest, empty_shortest, word_shortest, byte_shortest, bytes_shortest, name_shortest, index_shortest, fix_data_is, FrameFirst, TargetFirst, FixupFirst, frame_first, target_first, fixup_first}
+use Rattle.omf_record.proofs.Shortest.{Shortest, joined_shortest, empty_shortest, word_shortest, byte_shortest, bytes_shortest, name_shortest, index_shortest, fix_data_is, frame_first, target_first, fixup_first}
 use Rattle.omf_record.proofs.CanonicalLaws.{acbp_is, bit_small}
 
 abbrev some : ℕ → Option ℕ

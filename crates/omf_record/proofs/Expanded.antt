@@ -7,7 +7,7 @@ use Rattle.omf_record.specs.Record.{Block, Content, Nested, Blocks, End, More, b
 use Rattle.omf_record.proofs.Stored.{stored_more, stored_front}
 use Rattle.omf_record.specs.Expansion.{stored_from, copies, stored_len, all_stored_len, expansion_at, expansions_at, expansion, expanded_len, all_expanded_len, capped}
 
-length-stored : (place : ℕ) (bytes : List ℕ) → length (stored_from place bytes) ≡ length bytes
+pub length-stored : (place : ℕ) (bytes : List ℕ) → length (stored_from place bytes) ≡ length bytes
 length-stored place [] = refl
 length-stored place (b ∷ bytes) = ap suc (length-stored (place + 1) bytes)
 

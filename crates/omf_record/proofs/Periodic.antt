@@ -1,6 +1,6 @@
 -- What repeats with a period is copies of its front.
 use Rattle.std.proofs.Common.{◌≡◌, ℕ, zero, suc, ◌+◌, ◌-◌, ◌*◌, ◌<◌, ◌≤◌, List, [], ◌∷◌, ◌++◌, length, get_or, take, drop, map, refl, sym, ap, ◌∙◌, arith}
-use Rattle.std.proofs.lemmas.List.{length-append, take-append-drop, length-take-le, take-append-le, take_at, map-append}
+use Rattle.std.proofs.lemmas.List.{length-append, get_or_append_left, get_or-append-add, take-append-drop, length-take-le, take-append-le, take_at, map-append}
 use Rattle.std.proofs.Math.Seq.{take-append-add}
 use borrow.Rule.Slice.PartMut.{put_mid, post_of}
 use Rattle.omf_record.specs.Expansion.{stored_from, copies, places, bytes}
@@ -13,15 +13,6 @@ same_elements (x ∷ xs) [] e f = absurd (omega arith)
 same_elements (x ∷ xs) (y ∷ ys) e f =
     let first : x ≡ y = f 0 (omega arith) in
     rw first (ap (λ (t : List ℕ). y ∷ t) (same_elements xs ys (omega arith) (λ k lt. f (suc k) (omega arith))))
-
-get-left : (xs ys : List ℕ) (i : ℕ) → i < length xs → get_or (xs ++ ys) i 0 ≡ get_or xs i 0
-get-left [] ys i lt = absurd (omega arith)
-get-left (x ∷ xs) ys zero lt = refl
-get-left (x ∷ xs) ys (suc i) lt = get-left xs ys i (omega arith)
-
-get-right : (xs ys : List ℕ) (i : ℕ) → get_or (xs ++ ys) (length xs + i) 0 ≡ get_or ys i 0
-get-right [] ys i = let e : 0 + i ≡ i = omega arith in ap (λ n. get_or ys n 0) e
-get-right (x ∷ xs) ys i = let e : suc (length xs) + i ≡ suc (length xs + i) = omega arith in rw e (get-right xs ys i)
 
 pub length-copies : (n : ℕ) (xs : List ℕ) → length (copies n xs) ≡ n * length xs
 length-copies zero xs = omega arith
@@ -41,8 +32,8 @@ periodic (suc n) front xs len same period =
         → xs ≡ copies (suc n) front
     whole a ys parts a-len again =
         let total : length xs ≡ length a + length ys = ap length parts ∙ length-append a ys in
-        let left : (k : ℕ) → k < length a → get_or xs k 0 ≡ get_or a k 0 = λ k lt. ap (λ t. get_or t k 0) parts ∙ get-left a ys k lt in
-        let right : (k : ℕ) → get_or xs (length front + k) 0 ≡ get_or ys k 0 = λ k. ap (λ t. get_or t (length front + k) 0) parts ∙ ap (λ m. get_or (a ++ ys) (m + k) 0) (sym a-len) ∙ get-right a ys k in
+        let left : (k : ℕ) → k < length a → get_or xs k 0 ≡ get_or a k 0 = λ k lt. ap (λ t. get_or t k 0) parts ∙ get_or_append_left a ys 0 k lt in
+        let right : (k : ℕ) → get_or xs (length front + k) 0 ≡ get_or ys k 0 = λ k. ap (λ t. get_or t (length front + k) 0) parts ∙ ap (λ m. get_or (a ++ ys) (m + k) 0) (sym a-len) ∙ get_or-append-add a ys k 0 in
         let first : a ≡ front = same_elements a front a-len (λ k lt. sym (left k lt) ∙ same k (omega (arith, a-len)) (omega (arith, total))) in
         let rest : ys ≡ copies n front = again ys (omega (arith, total, len, a-len))
         (λ k lt here. sym (right k) ∙ period k (omega (arith, total, a-len)) ∙ same k lt (omega (arith, total)))

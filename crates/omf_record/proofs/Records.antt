@@ -85,7 +85,7 @@ found f = Ok (Some f)
 found_is : (f g : Frame) → found f ≡ found g → f ≡ g
 found_is f g e = cc
 
-abbrev placed : ℕ → List ℕ → says.Record → Placed
+abbrev pub placed : ℕ → List ℕ → says.Record → Placed
 placed place body r = record { place = place; body = body; says = r }
 
 -- what stands where a record begins

@@ -24,6 +24,7 @@ use Rattle.omf_record.specs.declared.fields.ThreadNumber.TheVariants as thread
 use Rattle.omf_record.specs.Numbers.{bit, thread_number, frame_number, target_number, absent, location_number}
 use Rattle.omf_record.specs.Body.{bits, FrameIndex, TargetIndex, FrameBits, TargetBits, FrameText, TargetText, FixData, ReferenceText, SubrecordText}
 use Rattle.omf_record.specs.Canonical as canon
+use Rattle.omf_record.proofs.Subrecords.{target_number_ok, FrameFirst, TargetFirst, FixupFirst}
 
 abbrev pub Shortest : (List ℕ → Type 0) → List ℕ → Type 0
 Shortest L c = (text : List ℕ) → L text → L c × (length c ≤ length text)
@@ -109,14 +110,9 @@ frame_small (frame.External i) = omega arith
 frame_small frame.Location = omega arith
 frame_small frame.Target = omega arith
 
-target_small : (m : TargetMethod) → target_number m < 3
-target_small (target.Segment i) = omega arith
-target_small (target.Group i) = omega arith
-target_small (target.External i) = omega arith
-
 target_bits_small : (t : TargetDatum) → canon.target_bits t < 12
 target_bits_small (target_datum.Thread n) = omega (arith, thread_small n)
-target_bits_small (target_datum.By m) = omega (arith, target_small m)
+target_bits_small (target_datum.By m) = omega (arith, target_number_ok m)
 
 absent_small : (d : Option ℕ) → absent d < 2
 absent_small None = omega arith
@@ -128,7 +124,7 @@ frame_sum (frame_datum.By m) x y lx ly = let s = frame_small m in (omega arith, 
 
 target_sum : (t : TargetDatum) (f x : ℕ) → x < 2 → TargetBits t (16 * f + 4 * x + canon.target_bits t) × (bits 2 2 (16 * f + 4 * x + canon.target_bits t) ≡ x)
 target_sum (target_datum.Thread n) f x lx = let s = thread_small n in ((omega arith, omega arith), omega arith)
-target_sum (target_datum.By m) f x lx = let s = target_small m in ((omega arith, omega arith), omega arith)
+target_sum (target_datum.By m) f x lx = let s = target_number_ok m in ((omega arith, omega arith), omega arith)
 
 frame_sixteen : (f : FrameDatum) → (k : ℕ) × (canon.frame_bits f ≡ 16 * k)
 frame_sixteen (frame_datum.Thread n) = (8 + thread_number n, omega arith)
@@ -157,20 +153,11 @@ location_small Base = omega arith
 location_small Pointer = omega arith
 location_small LoaderOffset = omega arith
 
-abbrev pub FrameFirst : ThreadNumber → FrameMethod → ℕ → Type 0
-FrameFirst n m b = (bits 7 6 b ≡ 1) × (bits 4 2 b ≡ frame_number m) × (bits 1 0 b ≡ thread_number n)
-
-abbrev pub TargetFirst : ThreadNumber → TargetMethod → ℕ → Type 0
-TargetFirst n m b = (bits 7 6 b ≡ 0) × (bits 3 2 b ≡ target_number m) × (bits 1 0 b ≡ thread_number n)
-
-abbrev pub FixupFirst : Fixup → ℕ → Type 0
-FixupFirst f b = (bits 7 7 b ≡ 1) × (bits 6 6 b ≡ 1 - bit f.self_relative) × (bits 5 2 b ≡ location_number f.location) × (bits 1 0 b ≡ f.offset / 256)
-
 pub frame_first : (n : ThreadNumber) (m : FrameMethod) → (64 + 4 * frame_number m + thread_number n < 256) × FrameFirst n m (64 + 4 * frame_number m + thread_number n)
 frame_first n m = let a = frame_small m in let b = thread_small n in (omega arith, (omega arith, omega arith, omega arith))
 
 pub target_first : (n : ThreadNumber) (m : TargetMethod) → (4 * target_number m + thread_number n < 256) × TargetFirst n m (4 * target_number m + thread_number n)
-target_first n m = let a = target_small m in let b = thread_small n in (omega arith, (omega arith, omega arith, omega arith))
+target_first n m = let a = target_number_ok m in let b = thread_small n in (omega arith, (omega arith, omega arith, omega arith))
 
 bit_small : (t : Bool) → 1 - bit t < 2
 bit_small true = omega arith

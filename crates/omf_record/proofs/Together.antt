@@ -2,34 +2,25 @@
 use Rattle.std.proofs.Common.{◌≡◌, ◌≢◌, ℕ, zero, suc, ◌+◌, ◌-◌, ◌<◌, ◌≤◌, inl, inr, List, [], ◌∷◌, ◌++◌, length, get_or, refl, sym, ap, subst, ◌∙◌, arith}
 use Rattle.std.specs.List.{AllByRecursion}
 use Rattle.std.proofs.lemmas.Bool.{cases_lt}
-use Rattle.std.proofs.lemmas.List.{length-append}
+use Rattle.std.proofs.lemmas.List.{length-append, get_or_append_left, get_or-append-add}
 use Rattle.omf_record.specs.Record.{Block, Content, Nested, Blocks, End, More, blocks_of}
 use Rattle.omf_record.specs.Expansion.{stored_from, copies, stored_len, all_stored_len, expansion_at, expansions_at, expansion, places, contents_at, all_contents_at, contents, LiesInOne, StandTogether}
 use Rattle.omf_record.proofs.Searched.{lies_either, contents_low, content_high}
-
-get-left : (xs ys : List ℕ) (i : ℕ) → i < length xs → get_or (xs ++ ys) i 0 ≡ get_or xs i 0
-get-left [] ys i lt = absurd (omega arith)
-get-left (x ∷ xs) ys zero lt = refl
-get-left (x ∷ xs) ys (suc i) lt = get-left xs ys i (omega arith)
-
-get-right : (xs ys : List ℕ) (i : ℕ) → get_or (xs ++ ys) (length xs + i) 0 ≡ get_or ys i 0
-get-right [] ys i = let e : 0 + i ≡ i = omega arith in ap (λ n. get_or ys n 0) e
-get-right (x ∷ xs) ys i = let e : suc (length xs) + i ≡ suc (length xs + i) = omega arith in rw e (get-right xs ys i)
 
 -- ---- lists of places
 
 module _ (x width : ℕ) where
   together-append : (xs ys : List ℕ) → StandTogether x width xs → StandTogether x width ys → StandTogether x width (xs ++ ys)
   together-append xs ys f g i k lt hit small = elim (cases_lt i (length xs)) [
-    | inl near ↦ let h = f i k near (sym (get-left xs ys i near) ∙ hit) small in (omega (arith, h.0, length-append xs ys), get-left xs ys (i + k) h.0 ∙ h.1)
+    | inl near ↦ let h = f i k near (sym (get_or_append_left xs ys 0 i near) ∙ hit) small in (omega (arith, h.0, length-append xs ys), get_or_append_left xs ys 0 (i + k) h.0 ∙ h.1)
     | inr far ↦ later (i - length xs) (omega arith)
   ]
     where
       later : (j : ℕ) → i ≡ length xs + j → (i + k < length (xs ++ ys)) × (get_or (xs ++ ys) (i + k) 0 ≡ x + k)
       later j is =
-          let h = g j k (omega (arith, length-append xs ys)) (sym (get-right xs ys j) ∙ ap (λ n. get_or (xs ++ ys) n 0) (sym is) ∙ hit) small in
+          let h = g j k (omega (arith, length-append xs ys)) (sym (get_or-append-add xs ys j 0) ∙ ap (λ n. get_or (xs ++ ys) n 0) (sym is) ∙ hit) small in
           let there : i + k ≡ length xs + (j + k) = omega arith in
-          (omega (arith, h.0, length-append xs ys), ap (λ n. get_or (xs ++ ys) n 0) there ∙ get-right xs ys (j + k) ∙ h.1)
+          (omega (arith, h.0, length-append xs ys), ap (λ n. get_or (xs ++ ys) n 0) there ∙ get_or-append-add xs ys (j + k) 0 ∙ h.1)
 
   together-none : (xs : List ℕ) → AllByRecursion (λ q. q ≢ x) xs → StandTogether x width xs
   together-none xs all i k lt hit small = absurd (never xs all i lt hit)
@@ -97,7 +88,7 @@ other-above low high x (q ∷ xs) f lt = ((λ e. omega (arith, e, f.0.0)), other
 
 -- ---- blocks
 
-together-stored : (x width place : ℕ) (bytes : List ℕ) → place ≤ x → x + width ≤ place + length bytes → StandTogether x width (places (stored_from place bytes))
+pub together-stored : (x width place : ℕ) (bytes : List ℕ) → place ≤ x → x + width ≤ place + length bytes → StandTogether x width (places (stored_from place bytes))
 together-stored x width place bytes low high i k lt hit small =
     let len = length-stored place bytes in
     let here = stored-at place bytes i (omega (arith, len)) in
