@@ -1,14 +1,13 @@
 -- Going through records one after the other.
-use Rattle.std.proofs.Common.{◌≡◌, ℕ, ◌+◌, ◌<◌, ◌≤◌, true, false, List, [], ◌∷◌, ◌++◌, length, take, None, Some, IfSome, Result, Ok, Err, refl, sym, ap, subst, ◌∙◌, append-nil, arith, length-append, inl, inr}
-use Rattle.std.proofs.lemmas.List.{length-take}
+use Rattle.std.proofs.Common.{◌≡◌, ℕ, ◌+◌, ◌<◌, ◌≤◌, List, [], ◌∷◌, ◌++◌, length, None, Some, IfSome, Result, Ok, Err, refl, sym, ap, subst, ◌∙◌, append-nil, arith, length-append, inl, inr}
 use Rattle.std.proofs.lemmas.List.Concat.{flat_map-append}
 use Rattle.std.proofs.lemmas.Option.{IfSome_then}
 use Rattle.std.specs.declared.option.Option.{Option}
 use Rattle.std.specs.List.{flat_map}
 use Rattle.std.specs.Io.KnownBytes.{Consumes, Appends, Keeps}
 use Rattle.omf_frame.specs.Device.{AppendsFront}
-use Rattle.omf_frame.specs.Frame.{Frame, place_limit, Framed, frame_at, frame, record_len}
-use Rattle.omf_frame.specs.Reading.{Gives, IsAt, TakesRecord, TakesWhole, TakesWithin}
+use Rattle.omf_frame.specs.Frame.{Frame, place_limit, Framed, frame_at, frame}
+use Rattle.omf_frame.specs.Reading.{Gives, IsAt, TakesRecord, TakesWhole}
 use Rattle.omf_frame.specs.Lending.{plain_frame}
 use Rattle.omf_frame.specs.declared.frame.Frame.{Frame as LentFrame}
 use Rattle.omf_frame.specs.declared.reading.FrameFault.{FrameFault}
@@ -20,9 +19,8 @@ use Rattle.omf_frame.proofs.Told.{Consumes-nil, Consumes-trans, Appends-nil, App
 use Rattle.omf_record.specs.Record as says
 use Rattle.omf_record.specs.Body.{kind_of, Body, BodyOf}
 use Rattle.omf_record.specs.Canonical.{canonical}
-use Rattle.omf_record.specs.Records.{Placed, is_end, AreRecords, AreBeforeEnd, AreToEnd, Framing, OtherType, WrongBody, NoRecordAt}
+use Rattle.omf_record.specs.Records.{Placed, AreRecords, AreBeforeEnd, AreToEnd, Framing, OtherType, WrongBody, NoRecordAt}
 use Rattle.omf_record.proofs.BodyBytes.{body_bytes}
-use Rattle.omf_record.proofs.BodyLaws.{kind_ok}
 use Rattle.omf_record.proofs.CanonicalLaws.{canonical_shortest}
 use Rattle.omf_record.proofs.Records.{AreRecords-push, framed_len, placed, only_way, no_fault}
 use Rattle.omf.specs.declared.fault.RecordFault.{RecordFault}
@@ -30,8 +28,8 @@ use Rattle.omf.specs.declared.fault.RecordFault.TheVariants as fault
 use Rattle.omf.specs.declared.fault.LinkFault.{LinkFault}
 use Rattle.omf.specs.declared.fault.LinkFault.TheVariants as link
 use Rattle.omf.specs.declared.records.Form.TheVariants.{Rewriting}
-use Rattle.omf.specs.Faults.{record_fault, reading_fault, link_fault}
-use Rattle.omf.specs.Records.{FaultAt, IsRewritten, output as written_as}
+use Rattle.omf.specs.Faults.{record_fault, link_fault}
+use Rattle.omf.specs.Records.{FaultAt, output as written_as}
 use Rattle.omf.specs.Reading.{TakesFaulty, WentThrough, GoesThrough, Handles, Writes, WritesAll, AppendsRewritten}
 
 pub begun : (output : Placed → List ℕ) (a w : Option (List ℕ)) → (t : WentThrough output [] a a w w) × (0 ≡ length t.bytes)

@@ -1,11 +1,11 @@
 -- What the reader answers, after each outcome of one more record.
-use Rattle.std.proofs.Common.{◌≡◌, ℕ, ◌+◌, ◌<◌, true, false, List, [], ◌∷◌, ◌++◌, length, None, Some, Ok, Err, Result, refl, sym, ap, subst, ◌∙◌, arith, length-append, inl, inr}
+use Rattle.std.proofs.Common.{◌≡◌, ℕ, ◌+◌, ◌<◌, true, false, List, [], ◌∷◌, ◌++◌, length, None, Some, Ok, Err, Result, refl, sym, ap, subst, ◌∙◌, arith, length-append}
 use Rattle.std.proofs.lemmas.Option.{IfSome_then}
 use Rattle.std.specs.declared.option.Option.{Option}
 use Rattle.std.specs.Prelude.{IfSome}
 use Rattle.std.specs.Io.KnownBytes.{Consumes}
 use Rattle.omf_frame.specs.Frame.{Frame, Framed, frame_at, place_limit}
-use Rattle.omf_frame.specs.Reading.{TakesWhole, TakesWithin, IsAt, Gives}
+use Rattle.omf_frame.specs.Reading.{TakesWhole, IsAt, Gives}
 use Rattle.omf_frame.specs.Reading as framing_of
 use Rattle.omf_frame.specs.Lending.{plain_frame}
 use Rattle.omf_frame.proofs.Told.{none_taken, within_whole}

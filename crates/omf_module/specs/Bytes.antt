@@ -44,6 +44,7 @@ RefusedAt before place bytes f =
 abbrev pub StopsAt : (place : ℕ) → List ℕ → FaultKind → Type 0
 StopsAt place bytes f = (why : NoRecord) × NoRecordAt place bytes why × (f ≡ reading_kind why)
 
+-- the fault of what stands behind these records
 abbrev pub FaultBehind : (before : List Placed) → (place : ℕ) → List ℕ → FaultKind → Type 0
 FaultBehind before place bytes f = RefusedAt before place bytes f ⊎ StopsAt place bytes f
 

@@ -1,15 +1,14 @@
 -- The records of an input: one more, the only ones, and none where a fault stands.
-use Rattle.std.proofs.Common.{◌≡◌, ℕ, ◌+◌, ◌<◌, ◌≤◌, Bool, true, false, List, [], ◌∷◌, ◌++◌, length, take, drop, None, Some, Result, Ok, Err, refl, sym, ap, subst, ◌∙◌, append_assoc, append-nil, arith, length-append, ◌⊎◌, inl, inr}
+use Rattle.std.proofs.Common.{◌≡◌, ℕ, ◌+◌, ◌<◌, Bool, true, false, List, [], ◌∷◌, ◌++◌, length, take, drop, None, Some, Result, Ok, Err, refl, sym, ap, subst, ◌∙◌, append_assoc, append-nil, arith, length-append, ◌⊎◌, inl, inr}
 use Rattle.std.proofs.lemmas.List.{take_at, drop_at}
 use Rattle.std.proofs.lemmas.Bool.{cases_lt}
 use Rattle.std.specs.declared.option.Option.{Option}
-use Rattle.omf_frame.specs.Frame.{Frame, Framed, frame_at, frame_of, place_limit}
+use Rattle.omf_frame.specs.Frame.{Frame, Framed, frame_at, place_limit}
 use Rattle.omf_frame.specs.declared.reading.FramingFault.{FramingFault}
-use Rattle.omf_frame.specs.Primitives.{IsBytes}
-use Rattle.omf_frame.proofs.Frames.{frame_at-framed, framed-frame}
+use Rattle.omf_frame.proofs.Frames.{frame_at-framed}
 use Rattle.omf_record.specs.Record as says
 use Rattle.omf_record.specs.Record.{Theadr, Coment, Modend, Extdef, Pubdef, Linnum, Lnames, Segdef, Grpdef, Fixupp, Ledata, Lidata}
-use Rattle.omf_record.specs.Body.{kind_of, Body, BodyOf, BodyFault, IsRecordType}
+use Rattle.omf_record.specs.Body.{kind_of, Body, BodyFault, IsRecordType}
 use Rattle.omf_record.specs.Records.{Placed, frame_of_record, is_end, AreRecords, AreBeforeEnd, AreToEnd, NoRecord, Framing, NoEnd, OtherType, WrongBody, NoRecordAt}
 use Rattle.omf_record.proofs.Faults.{one_of}
 
