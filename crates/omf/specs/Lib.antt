@@ -8,3 +8,5 @@ pub mod Reading
 pub mod Files
 pub mod Words
 pub mod Checking
+pub mod Pieces
+pub mod Details

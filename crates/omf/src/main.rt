@@ -6,9 +6,11 @@ ghost use Rattle.omf.specs.Files.{held_back, sink_failures};
 ghost use Rattle.omf.specs.Status.{exit_status};
 
 mod checking;
+mod details;
 mod fault;
 mod files;
 mod listing;
+mod pieces;
 mod print;
 mod records;
 mod words;

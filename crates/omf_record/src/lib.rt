@@ -23,6 +23,7 @@ pub use fields::{
     SegmentDefinition, SegmentLength, Subrecord, TargetDatum, TargetMethod, ThreadNumber,
 };
 pub use grammar::{canonical_shortest, encoded_is_read, one_value};
+pub use numbers::{alignment_number, combination_number, location_number, thread_number};
 pub use parse::{RecordFault, parse_record};
 pub use record::{Block, External, Public, Record};
 pub use repeated::expanded_len;

@@ -57,6 +57,7 @@ pub fn combination_of(number: u8) -> Combination
     }
 }
 
+/// The number of a thread, 0 to 3.
 pub fn thread_number(thread: ThreadNumber) -> u8
     ensures number { result ≡ thread_number thread }
     ensures small { result < 4 }
@@ -104,6 +105,7 @@ pub fn absent(displacement: Option<u16>) -> u8
     }
 }
 
+/// The number by which a fix-up's location is written: 0, 1, 2, 3 or 5.
 pub fn location_number(location: Location) -> u8
     ensures number { result ≡ location_number location }
     ensures small { result < 6 }
@@ -117,6 +119,7 @@ pub fn location_number(location: Location) -> u8
     }
 }
 
+/// The field A of a SEGDEF, 0 to 5; 0 is absolute.
 pub fn alignment_number(alignment: Alignment) -> u8
     ensures number { result ≡ alignment_number alignment }
     ensures small { result < 6 }
@@ -134,6 +137,7 @@ pub fn alignment_number(alignment: Alignment) -> u8
     }
 }
 
+/// The field C of a SEGDEF: 0, 2, 4, 5, 6 or 7.
 pub fn combination_number(combination: Combination) -> u8
     ensures number { result ≡ combination_number combination }
     ensures small { result < 8 }
