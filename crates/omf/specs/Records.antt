@@ -8,12 +8,12 @@ use Rattle.omf_record.specs.Records.{Placed, AreRecords, AreToEnd, NoRecord, NoR
 use Rattle.omf.specs.declared.fault.RecordFault.{RecordFault}
 use Rattle.omf.specs.declared.records.Form.{Form}
 use Rattle.omf.specs.declared.records.Form.TheVariants.{Listing, Rewriting}
-use Rattle.omf.specs.Listing.{head_line}
+use Rattle.omf.specs.Details.{listing}
 use Rattle.omf.specs.Faults.{reading_fault}
 
--- what is written of a record: its line, or its canonical body in a frame whose sum is 0
+-- what is written of a record: its listing, or its canonical body in a frame whose sum is 0
 abbrev pub output : Form → Placed → List ℕ
-output Listing r = head_line r.place (kind_of r.says) (length r.body)
+output Listing r = listing r
 output Rewriting r = frame (kind_of r.says) (canonical r.says)
 
 -- the fault where no record begins and one had to, the bytes from there on being these

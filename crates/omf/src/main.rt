@@ -16,6 +16,7 @@ mod records;
 mod words;
 
 pub use checking::{check, module_fault};
+pub use details::{put_details, put_listing};
 pub use fault::{LinkFault, RecordFault, fault_line, status};
 pub use files::{BufferedSink, CreatedFile, FileSource, OpenedFile, open_source};
 pub use listing::{put_head_line, record_name};

@@ -10,8 +10,8 @@ ghost use Rattle.omf.specs.Records.{output};
 ghost use Rattle.omf.specs.Reading.{sink_failures, source_failures, AppendsRewritten, GoesThrough, Handles, Parses, Writes, WritesAll};
 ghost use Rattle.omf.specs.declared.records.Form.TheVariants.{Listing, Rewriting};
 
+use crate::details::put_listing;
 use crate::fault::{LinkFault, RecordFault};
-use crate::listing::put_head_line;
 use omf_frame::{Frame, FrameBuf, FrameFault, FramingFault, IoFault, Sink, Source, put_frame};
 use omf_record::{Record, RecordFault as BodyFault, encode_record, parse_record};
 use std::alloc::Allocator;
@@ -22,7 +22,7 @@ const MODEND: u8 = 0x8A;
 /// What is written of each record.
 #[derive(Clone, Copy)]
 enum Form {
-    /// Its line.
+    /// Its head line, and the lines of what it says.
     Listing,
     /// The record with its canonical body, and the closing byte that makes its sum 0.
     Rewriting,
@@ -108,7 +108,13 @@ fn put_record<'a, K: Sink, A: Allocator + Copy + 'a>(
 {
     let record = parse(alloc, frame)?;
     match form {
-        Form::Listing => match put_head_line(sink, frame.place, frame.kind, frame.body.len()) {
+        Form::Listing => match put_listing(
+            sink,
+            frame.place,
+            frame.kind,
+            frame.body.len(),
+            &record,
+        ) {
             Ok(()) => Ok(()),
             Err(IoFault) => Err(LinkFault::Output),
         },
@@ -151,7 +157,8 @@ fn go_through<S: Source, K: Sink, A: Allocator + Copy>(
     }
 }
 
-/// Writes the line of each record up to the one that ends the first module.
+/// Writes the listing of each record up to the one that ends the first module: its head line, and the
+/// lines of what it says.
 pub fn show<S: Source, K: Sink, A: Allocator + Copy>(
     alloc: A,
     source: &mut S,
@@ -164,7 +171,7 @@ pub fn show<S: Source, K: Sink, A: Allocator + Copy>(
     ensures sink { K.failures sink.new ≡ K.failures sink.old + sink_failures result }
     // What was read and written, and the fault where one stands.
     ensures output { GoesThrough (output Listing) (S.remaining source.old) (S.remaining source.new) (K.written sink.old) (K.written sink.new) result }
-    // Where the input has a module's records, their lines are written, and no byte more is read.
+    // Where the input has a module's records, their listings are written, and no byte more is read.
     ensures only { (rs : List Placed) (bytes rest : List ℕ) → AreToEnd rs → AreRecords 0 rs bytes → S.remaining source.old ≡ Some (bytes ++ rest)
         → Writes (flat_map (output Listing) rs) rest (S.remaining source.new) (K.written sink.old) (K.written sink.new) result }
 {
