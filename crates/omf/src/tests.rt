@@ -17,14 +17,22 @@ pub const SMALL: [u8; 57] = [
     0x07, 0x00, 0xC1, 0x00, 0x01, 0x01, 0x00, 0x00, 0xAC,
 ];
 
-/// The lines of its records.
+/// The listing of its records.
 const SMALL_LINES: &str = "\
-00000000 80 THEADR      2\n\
-00000006 96 LNAMES      6\n\
-00000010 98 SEGDEF      6\n\
-0000001A A0 LEDATA      8\n\
-00000026 9C FIXUPP      5\n\
-0000002F 8A MODEND      6\n";
+00000000 80 THEADR      2
+  name \"A\"
+00000006 96 LNAMES      6
+  name \"\"
+  name \"CODE\"
+00000010 98 SEGDEF      6
+  align 1 combine 2 length 5 name 2 class 1 overlay 1
+0000001A A0 LEDATA      8
+  data segment 1 offset 0000 bytes 5
+00000026 9C FIXUPP      5
+  fixup at 001 segment location 2 frame method 0 index 1 target method 0 index 1
+0000002F 8A MODEND      6
+  main 1 start 1 frame method 0 index 1 target method 0 index 1 displacement 0000
+";
 
 /// The module with its name index in two bytes.
 const LONG_INDEX: [u8; 58] = [
@@ -60,18 +68,38 @@ pub const HELLO: [u8; 217] = [
     0x07, 0x00, 0xC1, 0x00, 0x01, 0x01, 0x00, 0x00, 0xAC,
 ];
 
-/// The lines of its records.
+/// The listing of its records.
 const HELLO_LINES: &str = "\
-00000000 80 THEADR     10\n\
-0000000E 88 COMENT     32\n\
-00000032 96 LNAMES     33\n\
-00000057 98 SEGDEF      6\n\
-00000061 98 SEGDEF      6\n\
-0000006B 98 SEGDEF      6\n\
-00000075 A0 LEDATA     28\n\
-00000095 9C FIXUPP     16\n\
-000000A9 A0 LEDATA     34\n\
-000000CF 8A MODEND      6\n";
+00000000 80 THEADR     10
+  name \"HELLO.ASM\"
+0000000E 88 COMENT     32
+  comment 00 00 1D546865204E65747769646520417373656D626C657220322E31362E3031
+00000032 96 LNAMES     33
+  name \"\"
+  name \"code\"
+  name \"CODE\"
+  name \"data\"
+  name \"DATA\"
+  name \"stack\"
+  name \"STACK\"
+00000057 98 SEGDEF      6
+  align 3 combine 2 length 25 name 2 class 3 overlay 1
+00000061 98 SEGDEF      6
+  align 3 combine 2 length 31 name 4 class 5 overlay 1
+0000006B 98 SEGDEF      6
+  align 3 combine 5 length 256 name 6 class 7 overlay 1
+00000075 A0 LEDATA     28
+  data segment 1 offset 0000 bytes 25
+00000095 9C FIXUPP     16
+  fixup at 001 segment location 2 frame method 5 target method 0 index 2
+  fixup at 006 segment location 2 frame method 5 target method 0 index 3
+  fixup at 00B segment location 1 frame method 5 target method 0 index 3
+  fixup at 00E segment location 1 frame method 5 target method 0 index 2
+000000A9 A0 LEDATA     34
+  data segment 2 offset 0000 bytes 31
+000000CF 8A MODEND      6
+  main 1 start 1 frame method 0 index 1 target method 0 index 1 displacement 0000
+";
 
 /// What a rewriting has to answer, and how much it has to write.
 fn rewrites<R: Abort>(
@@ -143,7 +171,7 @@ fn records_are_shown(rt: HostRuntime) -> Result<(), Fail> {
     for (input, lines) in rows {
         for piece in [1usize, 2, 3, 60] {
             let mut source = MemSource::over(input, piece, None);
-            let mut room = [0u8; 400];
+            let mut room = [0u8; 1200];
             let mut sink = MemSink::over(&mut room, piece);
             assert_eq!(rt; show(rt.alloc(), &mut source, &mut sink), Ok(()));
             assert_eq!(rt; sink.written(), lines.as_bytes());
@@ -189,15 +217,15 @@ fn each_failing_call_is_told(rt: HostRuntime) -> Result<(), Fail> {
     Ok(())
 }
 
-/// How many bytes the lines of the records before the one at this place take.
-fn line_place(place: u64) -> usize {
+/// How many bytes the listings of the records before the one at this place take.
+fn listing_place(place: u64) -> usize {
     match place {
         0 => 0,
-        6 => 26,
-        16 => 52,
-        26 => 78,
-        38 => 104,
-        _ => 130,
+        6 => 37,
+        16 => 87,
+        26 => 167,
+        38 => 230,
+        _ => 337,
     }
 }
 
@@ -206,15 +234,15 @@ fn each_failing_call_of_show_is_told(rt: HostRuntime) -> Result<(), Fail> {
     let lines = SMALL_LINES.as_bytes();
     for call in 1..60u64 {
         let mut source = MemSource::over(&SMALL, 1, Some(call));
-        let mut room = [0u8; 200];
-        let mut sink = MemSink::over(&mut room, 200);
+        let mut room = [0u8; 600];
+        let mut sink = MemSink::over(&mut room, 600);
         let result = show(rt.alloc(), &mut source, &mut sink);
         if call < 58 {
             let place = record_place(call - 1);
             assert_eq!(rt; result, Err(LinkFault::Device { input: 0, place }));
             assert_eq!(rt;
                 sink.written(),
-                &lines[..line_place(place).min(lines.len())]
+                &lines[..listing_place(place).min(lines.len())]
             );
         } else {
             assert_eq!(rt; result, Ok(()));
@@ -222,8 +250,8 @@ fn each_failing_call_of_show_is_told(rt: HostRuntime) -> Result<(), Fail> {
     }
     for n in 0..lines.len() + 1 {
         let mut source = MemSource::over(&SMALL, 9, None);
-        let mut room = [0u8; 200];
-        let mut sink = MemSink::over(&mut room[..n.min(200)], 7);
+        let mut room = [0u8; 600];
+        let mut sink = MemSink::over(&mut room[..n.min(600)], 7);
         let whole = show(rt.alloc(), &mut source, &mut sink).is_ok();
         assert_eq!(rt; whole, n == lines.len());
         assert_eq!(rt; sink.written(), &lines[..n]);
@@ -266,8 +294,8 @@ fn each_refused_growth_is_want_of_memory(rt: HostRuntime) -> Result<(), Fail> {
         for number in 1..90u64 {
             let alloc = Refusing::nth(rt.alloc(), number);
             let mut source = MemSource::over(&HELLO, 3, None);
-            let mut room = [0u8; 400];
-            let mut sink = MemSink::over(&mut room, 400);
+            let mut room = [0u8; 1200];
+            let mut sink = MemSink::over(&mut room, 1200);
             let result = run_command(command, &alloc, &mut source, &mut sink);
             if alloc.has_refused() {
                 assert_eq!(rt; result, Err(LinkFault::Memory));
