@@ -1,0 +1,66 @@
+-- What placement answers, from what its last step gives.
+use Rattle.std.proofs.Common.{◌≡◌, ℕ, ◌<◌, ◌≤◌, true, false, cond, nat_lt, List, map, Option, Some, None, Result, IfOk, OnOk, refl, ap, sym, ◌∙◌, subst, arith}
+use Rattle.std.proofs.lemmas.Bool.{ltb-true}
+use Rattle.std.specs.List.{AllByRecursion}
+use Rattle.std.specs.Option.{option_or}
+use Rattle.omf_module.specs.Module.{Module}
+use Rattle.omf_place.specs.declared.groups.GroupEntry.{GroupEntry}
+use Rattle.omf_place.specs.declared.inputs.Input as held
+use Rattle.omf_place.specs.declared.layout.Combined.{Combined}
+use Rattle.omf_place.specs.Faults.{PlacementFault, IsFirstFault, IsOnlyLayout, later_fault, placement_fault, segment_fault, size_fault, ProgramTooLarge}
+use Rattle.omf_place.specs.HeldLayout.{MeetsGroups, held_fault, held_layout}
+use Rattle.omf_place.specs.Inputs.{inputs}
+use Rattle.omf_place.specs.InputViews.{HasStands, IsSoundInput, input_view}
+use Rattle.omf_place.specs.Layout.{Layout, layout_at}
+use Rattle.omf_place.specs.Parts.{Site, sites}
+use Rattle.omf_place.specs.Placed.{IsPlaced, IsOnlyPlacement}
+use Rattle.omf_place.specs.Tables.{combined_segment, leaders}
+use Rattle.omf_place.proofs.LinkLayout.{fault_same, layout_same}
+use Rattle.omf_place.proofs.Results.{IfOk-map, OnOk-from}
+
+abbrev Gathered : {H : Type 0} → ℕ → List Combined → List (held.Input H) → Layout → Type 0
+Gathered size combined xs l = (groups : List (List ℕ × GroupEntry)) × MeetsGroups xs groups × (held_fault xs groups ≡ None) × (l ≡ held_layout size combined xs groups)
+
+module _ {H : Type 0} (program : List Module) (A : List ℕ) (size : ℕ) (ss : List Site) (same : ss ≡ sites program) (xs : List (held.Input H)) (made : map input_view xs ≡ inputs program)
+    (own : AllByRecursion (HasStands ss A) xs) (snd : AllByRecursion IsSoundInput xs) (combined : List Combined) (cs : combined ≡ map (combined_segment ss A) (leaders ss)) where
+  stands : AllByRecursion (HasStands (sites program) A) xs
+  stands = subst (λ s. AllByRecursion (HasStands s A) xs) same own
+
+  all : combined ≡ map (combined_segment (sites program) A) (leaders (sites program))
+  all = cs ∙ ap (λ s. map (combined_segment s A) (leaders s)) same
+
+  pub ended-apart : {E : Type 0} (r : Result Layout E) → IfOk r (Gathered size combined xs) → OnOk r (later_fault program A ≡ None)
+  ended-apart r h = OnOk-from (Gathered size combined xs) (later_fault program A ≡ None) r (λ l g. sym (fault_same program A xs made stands snd g.0 g.1) ∙ g.2) h
+
+  pub ended-layout : {E : Type 0} (r : Result Layout E) → IfOk r (Gathered size combined xs) → IfOk r (λ l. l ≡ layout_at program A size)
+  ended-layout r h = IfOk-map (Gathered size combined xs) (λ l. l ≡ layout_at program A size) r (λ l g. g.3 ∙ layout_same program A xs made stands snd g.0 g.1 size combined all) h
+
+  pub ended-fault : (f : PlacementFault) → ((groups : List (List ℕ × GroupEntry)) × MeetsGroups xs groups × (held_fault xs groups ≡ Some f)) → later_fault program A ≡ Some f
+  ended-fault f g = sym (fault_same program A xs made stands snd g.0 g.1) ∙ g.2
+
+or_first : {X : Type 0} (a b c : Option X) (f : X) → option_or a b ≡ Some f → option_or a (option_or b c) ≡ Some f
+or_first None b c f e = ap (λ o. option_or o c) e
+or_first (Some x) b c f e = e
+
+size_fits : (size : ℕ) → size ≤ 1048560 → size_fault size ≡ None
+size_fits size h = (elim (nat_lt 1048560 size) as (λ b. nat_lt 1048560 size ≡ b → cond b (Some ProgramTooLarge) None ≡ None) [ true ↦ λ t. absurd (let l : 1048560 < size = ltb-true _ _ t in omega arith) | false ↦ λ t. refl ]) refl
+
+module _ (program : List Module) (A : List ℕ) (size : ℕ) (placed : IsPlaced (sites program) A size) (only : IsOnlyPlacement (sites program) A size) where
+  pub early-fault : (f : PlacementFault) → option_or (segment_fault (sites program) A) (size_fault size) ≡ Some f → IsFirstFault program f
+  early-fault f e = (A, size, placed, only, or_first (segment_fault (sites program) A) (size_fault size) (later_fault program A) f e)
+
+  module _ (short : segment_fault (sites program) A ≡ None) (fits : size ≤ 1048560) where
+    later-is : placement_fault program A size ≡ later_fault program A
+    later-is = ap (λ o. option_or o (option_or (size_fault size) (later_fault program A))) short ∙ ap (λ o. option_or o (later_fault program A)) (size_fits size fits)
+
+    pub late-fault : (f : PlacementFault) → later_fault program A ≡ Some f → IsFirstFault program f
+    late-fault f e = (A, size, placed, only, later-is ∙ e)
+
+    only_at : later_fault program A ≡ None → IsOnlyLayout program (layout_at program A size)
+    only_at none = (
+      (A, placed, later-is ∙ none, refl),
+      λ other is. let h = only is.0 other.size is.1 in is.3 ∙ ap (λ B. layout_at program B other.size) h.0 ∙ ap (λ n. layout_at program A n) h.1,
+    )
+
+    pub only-layout : later_fault program A ≡ None → (l : Layout) → l ≡ layout_at program A size → IsOnlyLayout program l
+    only-layout none l e = subst (λ k. IsOnlyLayout program k) (sym e) (only_at none)

@@ -1,0 +1,50 @@
+-- What the code gathers of each module is what the definitions say: segments.
+use Rattle.std.proofs.Common.{◌≡◌, ℕ, zero, suc, ◌+◌, List, [], ◌∷◌, map, length, Some, slice_get, refl, ap, sym, ◌∙◌}
+use Rattle.std.specs.List.{AllByRecursion}
+use Rattle.omf_module.specs.declared.Standing.{Standing}
+use Rattle.omf_module.specs.declared.Standing.TheVariants.{Absolute, Relocatable}
+use Rattle.omf_module.specs.Module.{Module, Segment}
+use Rattle.omf_place.specs.declared.inputs.Input as held
+use Rattle.omf_place.specs.Inputs.{Input, inputs_from, inputs}
+use Rattle.omf_place.specs.InputViews.{HasStands, input_view}
+use Rattle.omf_place.specs.Parts.{Site, module_sites}
+use Rattle.omf_place.specs.Rows.{placed_row}
+use Rattle.omf_place.specs.Sites.{sites_view}
+use Rattle.omf_place.specs.Spans.{span_of}
+use Rattle.omf_place.specs.Stands.{placed_by, stand_by, stand_of}
+use Rattle.omf_place.specs.Tables.{placed, placed_at}
+use Rattle.omf_place.proofs.KeyPlaces.{map_congr, map_two}
+use Rattle.omf_place.proofs.Walks.{All-map}
+
+placed_same : (ss : List Site) (A : List ℕ) (a : Site) (st : Standing) → placed_by st (stand_by st (span_of ss A a)) ≡ placed_at ss A a st
+placed_same ss A a (Absolute frame offset) = refl
+placed_same ss A a (Relocatable alignment kind) = refl
+
+pub row_same : (ss : List Site) (A : List ℕ) (xs : List Site) → placed_row xs (map (stand_of ss A) xs) ≡ map (placed ss A) xs
+row_same ss A [] = refl
+row_same ss A (x ∷ xs) = rw (placed_same ss A x x.segment.standing, row_same ss A xs) refl
+
+-- the sites of a module are its segments
+pub RowIs : Input → Type 0
+RowIs n = (k : ℕ) (s : Segment) → slice_get n.says.segments k ≡ Some s → (a : Site) × (slice_get n.sites k ≡ Some a) × (a.segment ≡ s)
+
+module_row : (p i n : ℕ) (ss : List Segment) (k : ℕ) (s : Segment) → slice_get ss k ≡ Some s → (a : Site) × (slice_get (module_sites p i n ss) k ≡ Some a) × (a.segment ≡ s)
+module_row p i n [] k s e = cc
+module_row p i n (x ∷ xs) zero s e = (record { position = p; input = i; number = n; segment = x }, refl, (let f : x ≡ s = cc in f))
+module_row p i n (x ∷ xs) (suc k) s e = module_row (p + 1) i (n + 1) xs k s e
+
+rows_from : (p i : ℕ) (ms : List Module) → AllByRecursion RowIs (inputs_from p i ms)
+unfolding RowIs
+rows_from p i [] = tt
+rows_from p i (m ∷ ms) = ((λ k s e. module_row p i 0 m.segments k s e), rows_from (p + length m.segments) (i + 1) ms)
+
+pub input_rows : (program : List Module) → AllByRecursion RowIs (inputs program)
+input_rows program = rows_from 0 0 program
+
+pub row_at : (n : Input) → RowIs n → (k : ℕ) (s : Segment) → slice_get n.says.segments k ≡ Some s → (a : Site) × (slice_get n.sites k ≡ Some a) × (a.segment ≡ s)
+unfolding RowIs
+row_at n h = h
+
+pub All-mapped_back : {X Y : Type 0} (f : X → Y) (P : Y → Type 0) (xs : List X) → AllByRecursion P (map f xs) → AllByRecursion (λ x. P (f x)) xs
+All-mapped_back f P [] ps = tt
+All-mapped_back f P (x ∷ xs) ps = (ps.0, All-mapped_back f P xs ps.1)

@@ -1,0 +1,19 @@
+use Rattle.std.proofs.Common.{ℕ, ◌∙◌, ap, unwrap_or, Option}
+use Rattle.std.specs.List.{position_or_len}
+use Rattle.indexmap.specs.IndexMap.{get}
+use Rattle.omf_place.proofs.FirstMet.{met-turn, first-turn, map-turn}
+use Rattle.omf_place.proofs.firsts.first_places.Goals as goal
+
+pub loop-place-preserved : goal.loop-place-preserved
+loop-place-preserved g c =
+    let eq = g.K.PartialEq.eq in
+    let keys = c.args.keys.now in
+    let i = c.loop-place.place in
+    let k = c.index-keys-place.result in
+    let old : g.row.K.Denot → Option ℕ = λ q. get eq c.loop-place.met q in
+    record {
+      met = met-turn eq g.met.K.Eq.laws old (λ q. get eq c.first_met.new.met q) keys i k c.loop-place-test.true c.index-keys-place.is c.loop-place.invariant.met
+          c.in_ok-first.ensures.kept c.in_ok-first.ensures.added;
+      firsts = c.in_ok-push.ensures.items ∙ map-turn (λ x. position_or_len (eq x) keys) keys i k c.loop-place.firsts.items c.in_ok-first.first c.loop-place-test.true c.index-keys-place.is c.loop-place.invariant.firsts
+          (c.in_ok-first.ensures.first ∙ ap (λ o. unwrap_or o i) (c.loop-place.invariant.met k) ∙ first-turn eq g.met.K.Eq.laws keys i k c.loop-place-test.true c.index-keys-place.is);
+    }

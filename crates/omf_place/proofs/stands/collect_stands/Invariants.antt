@@ -1,0 +1,8 @@
+use Rattle.std.proofs.Common.{◌≡◌, take, map}
+use Rattle.omf_place.specs.Sites.{sites_view}
+use Rattle.omf_place.specs.Spans.{addresses_in}
+use Rattle.omf_place.specs.Stands.{stand_of}
+use Rattle.omf_place.proofs.stands.collect_stands.Given as goal
+
+abbrev pub invariant-loop-i : goal.invariant-loop-i
+invariant-loop-i g l = l.all.items ≡ map (stand_of (sites_view l.sites) (addresses_in l.spans)) (sites_view (take l.i l.sites))

@@ -1,0 +1,68 @@
+-- A layout, and what it is of a program.
+use Rattle.std.specs.Prelude.{ℕ, List, [], get_or, map, Option, None}
+use Rattle.omf_module.specs.Module.{Module}
+use Rattle.omf_place.specs.Parts.{sites}
+use Rattle.omf_place.specs.Inputs.{Input, inputs}
+use Rattle.omf_place.specs.Named.{value_of}
+use Rattle.omf_place.specs.Tables.{placed, leaders, combined_segment, group_frame as frame_of_group, placed_groups, placed_publics}
+use Rattle.omf_place.specs.declared.layout.Address.{Address}
+use Rattle.omf_place.specs.declared.layout.Address.TheVariants as address
+use Rattle.omf_place.specs.declared.layout.Base.{Base}
+use Rattle.omf_place.specs.declared.layout.Base.TheVariants as base
+use Rattle.omf_place.specs.declared.layout.SegmentPlace.{SegmentPlace}
+use Rattle.omf_place.specs.declared.layout.Combined.{Combined}
+use Rattle.omf_place.specs.declared.layout.GroupPlace.{GroupPlace}
+use Rattle.omf_place.specs.declared.layout.PublicPlace.{PublicPlace}
+
+-- the segments of a module, and the frames of its GRPDEFs' groups: a group without members has none
+pub record ModulePlaces : Type 0 where
+  pub segments : List SegmentPlace
+  pub groups : List (Option ℕ)
+
+pub record Layout : Type 0 where
+  pub size : ℕ
+  -- by input
+  pub modules : List ModulePlaces
+  -- in the order of placement
+  pub combined : List Combined
+  -- in order of first meeting
+  pub groups : List GroupPlace
+  -- with their names, in order of inputs and records
+  pub publics : List (List ℕ × PublicPlace)
+
+-- what the addresses of the segments make of a program
+module _ (program : List Module) (addresses : List ℕ) where
+  abbrev pub module_places : Input → ModulePlaces
+  module_places n = record { segments = map (placed (sites program) addresses) n.sites; groups = map (λ g. frame_of_group program addresses g.name) n.says.groups }
+
+  abbrev pub layout_at : (size : ℕ) → Layout
+  layout_at size = record {
+    size = size;
+    modules = map module_places (inputs program);
+    combined = map (combined_segment (sites program) addresses) (leaders (sites program));
+    groups = placed_groups program addresses;
+    publics = placed_publics program addresses;
+  }
+
+-- The places of a module, by its index among the inputs; what is out of range isn't looked at.
+abbrev pub places_of : Layout → (input : ℕ) → ModulePlaces
+places_of layout input = get_or layout.modules input (record { segments = []; groups = [] })
+
+abbrev pub segment_in : ModulePlaces → (segment : ℕ) → SegmentPlace
+segment_in places segment = get_or places.segments segment (record { address = address.Absolute 0; frame = base.Absolute 0 })
+
+-- where a segment of a module stands
+abbrev pub part_start : Layout → (input segment : ℕ) → Address
+part_start layout input segment = (segment_in (places_of layout input) segment).address
+
+-- the frame of its combined segment or, where it is absolute, its own
+abbrev pub segment_frame : Layout → (input segment : ℕ) → Base
+segment_frame layout input segment = (segment_in (places_of layout input) segment).frame
+
+-- the frame of a GRPDEF's group, if it has one
+abbrev pub group_frame : Layout → (input group : ℕ) → Option ℕ
+group_frame layout input group = get_or (places_of layout input).groups group None
+
+-- a name means its only entry
+abbrev pub public : Layout → (name : List ℕ) → Option PublicPlace
+public layout name = value_of layout.publics name

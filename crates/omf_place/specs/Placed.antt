@@ -1,0 +1,86 @@
+-- Where the parts start: a relation between the segments and their addresses.
+use Rattle.std.specs.Prelude.{◌≡◌, ℕ, ◌+◌, ◌*◌, ◌%◌, ◌<◌, ◌≤◌, max, Bool, true, false, ◌==◌, ◌||◌, not, List, [], ◌∷◌, length, filter, fold, slice_index, if◌then◌else◌}
+use Rattle.omf_module.specs.declared.Kind.{Kind}
+use Rattle.omf_module.specs.declared.Kind.TheVariants.{Stack, Common}
+use Rattle.omf_module.specs.declared.Standing.{Standing}
+use Rattle.omf_module.specs.declared.Standing.TheVariants.{Absolute, Relocatable}
+use Rattle.std.specs.List.{AllByRecursion}
+use Rattle.omf_place.specs.Parts.{Site, combines, rank, placement_order}
+
+abbrev pub greatest : {X : Type 0} → (X → ℕ) → List X → ℕ
+greatest f xs = fold (λ most x. max most (f x)) 0 xs
+
+abbrev pub alignment_of : Standing → ℕ
+alignment_of (Absolute frame offset) = 1
+alignment_of (Relocatable alignment kind) = alignment
+
+abbrev pub has_kind : (Kind → Bool) → Standing → Bool
+has_kind test (Absolute frame offset) = false
+has_kind test (Relocatable alignment kind) = test kind
+
+abbrev pub is_kind_common : Kind → Bool
+is_kind_common Common = true
+is_kind_common k = false
+
+abbrev pub is_kind_stack : Kind → Bool
+is_kind_stack Stack = true
+is_kind_stack k = false
+
+abbrev pub is_common : Site → Bool
+is_common a = has_kind is_kind_common a.segment.standing
+
+abbrev pub is_stack : Site → Bool
+is_stack a = has_kind is_kind_stack a.segment.standing
+
+-- the parts of the combined segment of a
+abbrev pub members : List Site → Site → List Site
+members ss a = filter (combines a) ss
+
+-- the first part of its combined segment
+abbrev pub leads : List Site → Site → Bool
+leads ss a = (rank ss a).segment == a.position
+
+-- Each part is placed by itself, and the parts of a common segment are placed as one.
+abbrev pub is_unit : List Site → Site → Bool
+is_unit ss a = not (is_common a) || leads ss a
+
+abbrev pub unit_alignment : List Site → Site → ℕ
+unit_alignment ss a =
+    if is_common a then greatest (λ b. alignment_of b.segment.standing) (members ss a)
+    else if is_stack a then (if leads ss a then alignment_of a.segment.standing else 1)
+    else alignment_of a.segment.standing
+
+abbrev pub unit_length : List Site → Site → ℕ
+unit_length ss a = if is_common a then greatest (λ b. b.segment.length) (members ss a) else a.segment.length
+
+-- a multiple of the alignment, not below the end before it, and less than one alignment above that end
+pub record IsNextStart (end alignment start : ℕ) : Type 0 where
+  pub aligned : start % alignment ≡ 0
+  pub above : end ≤ start
+  pub near : start < end + alignment
+
+-- addresses has the address of each segment's first byte, by position
+abbrev pub address_of : List ℕ → Site → ℕ
+address_of addresses a = slice_index addresses a.position
+
+-- the units stand one after the other from an end to the size
+abbrev pub FollowFrom : List Site → List ℕ → ℕ → List Site → ℕ → Type 0
+FollowFrom ss addresses end [] size = size ≡ end
+FollowFrom ss addresses end (u ∷ us) size =
+    IsNextStart end (unit_alignment ss u) (address_of addresses u)
+    × FollowFrom ss addresses (address_of addresses u + unit_length ss u) us size
+
+-- a part that isn't placed by itself starts with the first part of its combined segment, and an absolute segment stands where it says
+abbrev pub StandsAside : List Site → List ℕ → Site → Standing → Type 0
+StandsAside ss addresses a (Absolute frame offset) = address_of addresses a ≡ 16 * frame + offset
+StandsAside ss addresses a (Relocatable alignment kind) =
+    is_unit ss a ≡ false → address_of addresses a ≡ slice_index addresses (rank ss a).segment
+
+pub record IsPlaced (ss : List Site) (addresses : List ℕ) (size : ℕ) : Type 0 where
+  pub each : length addresses ≡ length ss
+  pub units : FollowFrom ss addresses 0 (filter (is_unit ss) (placement_order ss)) size
+  pub others : AllByRecursion (λ a. StandsAside ss addresses a a.segment.standing) ss
+
+-- and no other addresses and size stand in the relation
+abbrev pub IsOnlyPlacement : List Site → List ℕ → ℕ → Type 0
+IsOnlyPlacement ss addresses size = (others : List ℕ) (end : ℕ) → IsPlaced ss others end → (others ≡ addresses) × (end ≡ size)

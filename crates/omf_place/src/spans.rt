@@ -1,0 +1,165 @@
+//! Where combined segments start and end.
+
+ghost use Rattle.std.specs.Prelude.{◌≡◌, ◌+◌, ◌*◌, ◌/◌, ◌<◌, ◌≤◌, ◌^◌, ◌&&◌, nat_eq, nat_lt, IfOk, find, length, map};
+ghost use Rattle.std.specs.List.{AllByRecursion};
+ghost use Rattle.std.specs.Option.{option_map};
+ghost use Rattle.omf_place.specs.Faults.{is_long_segment};
+ghost use Rattle.omf_place.specs.Keys.{segment_place};
+ghost use Rattle.omf_place.specs.Numbered.{IsNumberedFrom};
+ghost use Rattle.omf_place.specs.Parts.{rank, placement_order};
+ghost use Rattle.omf_place.specs.Placed.{address_of};
+ghost use Rattle.omf_place.specs.Sites.{site, sites_view};
+ghost use Rattle.omf_place.specs.Small.{IsSmall};
+ghost use Rattle.omf_place.specs.Spans.{AreSpans, IsLow, addresses_in, span_of};
+ghost use Rattle.omf_place.specs.Tables.{combined_segment as combined_at, leaders};
+ghost use Rattle.omf_place.specs.Walk.{HoldsGreatest};
+
+use crate::greatest::greatest_by_first;
+use crate::layout::Combined;
+use crate::order::Rank;
+use crate::sites::Site;
+use std::alloc::{AllocError, Allocator};
+
+/// The address of a segment, and the start and the end of its combined segment.
+#[derive(Clone, Copy)]
+pub(crate) struct SegmentSpan {
+    pub address: u128,
+    pub start: u128,
+    pub end: u128,
+}
+
+impl SegmentSpan {
+    /// Whether the combined segment ends more than 65,536 bytes above its frame.
+    fn is_long(self) -> bool
+        requires { self.start < 2 ^ 127 }
+        ensures { result ≡ nat_lt (16 * (self.start / 16) + 65536) self.end }
+    {
+        16 * (self.start / 16) + 65536 < self.end
+    }
+}
+
+/// At the place of each combined segment, the greatest end of its parts.
+fn greatest_ends<A: Allocator + Copy>(
+    alloc: A,
+    sites: &[Site<'_>],
+    places: &[usize],
+    addresses: &[u128],
+) -> Result<Vec<u128, A>, AllocError>
+    requires numbered { IsNumberedFrom 0 (sites_view sites.now) }
+    requires places { places.now ≡ map (segment_place (sites_view sites.now)) (sites_view sites.now) }
+    requires table { length addresses.now ≡ length sites.now }
+    requires small { IsSmall addresses.now }
+    ensures len { IfOk result (λ v. length v.items ≡ length sites.now) }
+    ensures each { IfOk result (λ v. HoldsGreatest (sites_view sites.now) (λ b. address_of addresses.now b + b.segment.length) v.items) }
+{
+    let mut own = Vec::new(alloc);
+    for (i, a) in sites.iter().enumerate() {
+        own.push(addresses[i] + u128::from(a.segment.length))?;
+    }
+    greatest_by_first(alloc, places, &own)
+}
+
+fn gather_spans<A: Allocator + Copy>(
+    alloc: A,
+    sites: &[Site<'_>],
+    places: &[usize],
+    addresses: &[u128],
+    ends: &[u128],
+) -> Result<Vec<SegmentSpan, A>, AllocError>
+    requires numbered { IsNumberedFrom 0 (sites_view sites.now) }
+    requires places { places.now ≡ map (segment_place (sites_view sites.now)) (sites_view sites.now) }
+    requires table { length addresses.now ≡ length sites.now }
+    requires count { length ends.now ≡ length sites.now }
+    requires ends { HoldsGreatest (sites_view sites.now) (λ b. address_of addresses.now b + b.segment.length) ends.now }
+    ensures { IfOk result (λ v. v.items ≡ map (span_of (sites_view sites.now) addresses.now) (sites_view sites.now)) }
+{
+    let mut all = Vec::new(alloc);
+    for (i, place) in places.iter().enumerate() {
+        let place = *place;
+        all.push(SegmentSpan {
+            address: addresses[i],
+            start: addresses[place],
+            end: ends[place],
+        })?;
+    }
+    Ok(all)
+}
+
+/// For each segment, the start and the end of its combined segment.
+pub(crate) fn segment_spans<A: Allocator + Copy>(
+    alloc: A,
+    sites: &[Site<'_>],
+    places: &[usize],
+    addresses: &[u128],
+) -> Result<Vec<SegmentSpan, A>, AllocError>
+    requires numbered { IsNumberedFrom 0 (sites_view sites.now) }
+    requires places { places.now ≡ map (segment_place (sites_view sites.now)) (sites_view sites.now) }
+    requires table { length addresses.now ≡ length sites.now }
+    requires small { IsSmall addresses.now }
+    ensures { IfOk result (λ v. v.items ≡ map (span_of (sites_view sites.now) addresses.now) (sites_view sites.now)) }
+{
+    let ends = greatest_ends(alloc, sites, places, addresses)?;
+    gather_spans(alloc, sites, places, addresses, &ends)
+}
+
+fn is_long_leader(rank: Rank, span: SegmentSpan) -> bool
+    requires { span.start < 2 ^ 127 }
+    ensures { result ≡ nat_eq rank.segment rank.own && nat_lt (16 * (span.start / 16) + 65536) span.end }
+{
+    rank.segment == rank.own && span.is_long()
+}
+
+/// The first combined segment, in the order of placement, that ends more than 65,536 bytes above its frame: its first part.
+pub(crate) fn first_long_segment<'s, 'a>(
+    sites: &'s [Site<'a>],
+    ranks: &[Rank],
+    spans: &[SegmentSpan],
+) -> Option<&'s Site<'a>>
+    requires order { ranks.now ≡ map (rank (sites_view sites.now)) (placement_order (sites_view sites.now)) }
+    requires numbered { IsNumberedFrom 0 (sites_view sites.now) }
+    requires spans { AreSpans (sites_view sites.now) spans.now }
+    requires small { IsSmall (addresses_in spans.now) }
+    ensures { option_map (λ a. site a.now) result ≡ find (is_long_segment (sites_view sites.now) (addresses_in spans.now)) (leaders (sites_view sites.now)) }
+{
+    for rank in ranks {
+        let a = &sites[rank.own];
+        if is_long_leader(*rank, spans[rank.own]) {
+            return Some(a);
+        }
+    }
+    None
+}
+
+/// The combined segments, in the order of placement.
+pub(crate) fn combined_segments<A: Allocator + Copy>(
+    alloc: A,
+    sites: &[Site<'_>],
+    ranks: &[Rank],
+    spans: &[SegmentSpan],
+) -> Result<Vec<Combined, A>, AllocError>
+    requires order { ranks.now ≡ map (rank (sites_view sites.now)) (placement_order (sites_view sites.now)) }
+    requires numbered { IsNumberedFrom 0 (sites_view sites.now) }
+    requires spans { AreSpans (sites_view sites.now) spans.now }
+    requires low { AllByRecursion IsLow spans.now }
+    ensures { IfOk result (λ v. v.items ≡ map (combined_at (sites_view sites.now) (addresses_in spans.now)) (leaders (sites_view sites.now))) }
+{
+    let mut all = Vec::new(alloc);
+    for rank in ranks {
+        if rank.segment == rank.own {
+            all.push(combined_segment(&sites[rank.own], spans[rank.own]))?;
+        }
+    }
+    Ok(all)
+}
+
+fn combined_segment(first: &Site<'_>, span: SegmentSpan) -> Combined
+    requires { IsLow span }
+    ensures { result ≡ record { start = span.start; end = span.end; input = first.now.input; segment = first.now.number } }
+{
+    Combined {
+        start: span.start as u32,
+        end: span.end as u32,
+        input: first.input,
+        segment: first.number,
+    }
+}

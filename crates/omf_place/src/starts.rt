@@ -1,0 +1,291 @@
+//! Where the parts start.
+
+ghost use Rattle.std.specs.Prelude.{◌≡◌, ◌+◌, ◌*◌, ◌<◌, ◌≤◌, ◌^◌, ◌||◌, not, IfOk, length, map};
+ghost use Rattle.std.specs.List.{AllByRecursion};
+ghost use Rattle.omf_module.specs.Sound.{SegmentFits};
+ghost use Rattle.omf_place.specs.Keys.{segment_place};
+ghost use Rattle.omf_place.specs.Numbered.{IsNumberedFrom};
+ghost use Rattle.omf_place.specs.Parts.{rank, placement_order};
+ghost use Rattle.omf_place.specs.Placed.{IsPlaced, IsOnlyPlacement, IsNextStart, FollowFrom, alignment_of, is_common, is_stack};
+ghost use Rattle.omf_place.specs.Sites.{site, sites_view};
+ghost use Rattle.omf_place.specs.Small.{IsSmall};
+ghost use Rattle.omf_place.specs.Walk.{HoldsGreatest, IsUnitBounded, KeepsOthers, Places, measured, settled, settled_by, unit_measure, units};
+
+use crate::greatest::greatest_by_first;
+use crate::order::Rank;
+use crate::sites::Site;
+use omf_module::{Kind, Standing};
+use std::alloc::{AllocError, Allocator};
+
+/// The alignment and the length in bytes with which a part is placed.
+#[derive(Clone, Copy)]
+pub(crate) struct Measure {
+    pub alignment: u128,
+    pub length: u128,
+}
+
+/// The least multiple of an alignment that isn't below an end.
+fn next_start(end: u128, alignment: u128) -> u128
+    requires alignment { 0 < alignment }
+    requires room { end + alignment ≤ 2 ^ 128 }
+    ensures { IsNextStart end alignment result }
+{
+    let over = end % alignment;
+    if over == 0 {
+        end
+    } else {
+        end + (alignment - over)
+    }
+}
+
+impl Site<'_> {
+    fn is_common(&self) -> bool
+        ensures { result ≡ is_common (site self.now) }
+    {
+        matches!(
+            self.segment.standing,
+            Standing::Relocatable {
+                kind: Kind::Common,
+                ..
+            }
+        )
+    }
+
+    fn is_stack(&self) -> bool
+        ensures { result ≡ is_stack (site self.now) }
+    {
+        matches!(
+            self.segment.standing,
+            Standing::Relocatable {
+                kind: Kind::Stack,
+                ..
+            }
+        )
+    }
+}
+
+fn alignment_in(standing: Standing) -> u16
+    ensures { result ≡ alignment_of standing }
+{
+    match standing {
+        Standing::Absolute { .. } => 1,
+        Standing::Relocatable { alignment, .. } => alignment,
+    }
+}
+
+/// How a part is placed, by the greatest alignment and length of the parts that combine with it.
+fn part_measure(a: &Site<'_>, leads: bool, alignment: u128, length: u128) -> Measure
+    ensures { result ≡ measured (site a.now) leads alignment length }
+{
+    let own = u128::from(alignment_in(a.segment.standing));
+    if a.is_common() {
+        Measure { alignment, length }
+    } else if a.is_stack() && !leads {
+        Measure {
+            alignment: 1,
+            length: u128::from(a.segment.length),
+        }
+    } else {
+        Measure {
+            alignment: own,
+            length: u128::from(a.segment.length),
+        }
+    }
+}
+
+/// At the place of each combined segment, the greatest alignment of its parts.
+fn greatest_alignments<A: Allocator + Copy>(
+    alloc: A,
+    sites: &[Site<'_>],
+    places: &[usize],
+) -> Result<Vec<u128, A>, AllocError>
+    requires numbered { IsNumberedFrom 0 (sites_view sites.now) }
+    requires places { places.now ≡ map (segment_place (sites_view sites.now)) (sites_view sites.now) }
+    ensures len { IfOk result (λ v. length v.items ≡ length sites.now) }
+    ensures each { IfOk result (λ v. HoldsGreatest (sites_view sites.now) (λ a. alignment_of a.segment.standing) v.items) }
+{
+    let mut own = Vec::new(alloc);
+    for a in sites {
+        own.push(u128::from(alignment_in(a.segment.standing)))?;
+    }
+    greatest_by_first(alloc, places, &own)
+}
+
+/// At the place of each combined segment, the greatest length of its parts.
+fn greatest_lengths<A: Allocator + Copy>(
+    alloc: A,
+    sites: &[Site<'_>],
+    places: &[usize],
+) -> Result<Vec<u128, A>, AllocError>
+    requires numbered { IsNumberedFrom 0 (sites_view sites.now) }
+    requires places { places.now ≡ map (segment_place (sites_view sites.now)) (sites_view sites.now) }
+    ensures len { IfOk result (λ v. length v.items ≡ length sites.now) }
+    ensures each { IfOk result (λ v. HoldsGreatest (sites_view sites.now) (λ a. a.segment.length) v.items) }
+{
+    let mut own = Vec::new(alloc);
+    for a in sites {
+        own.push(u128::from(a.segment.length))?;
+    }
+    greatest_by_first(alloc, places, &own)
+}
+
+fn measure_parts<A: Allocator + Copy>(
+    alloc: A,
+    sites: &[Site<'_>],
+    places: &[usize],
+    alignments: &[u128],
+    lengths: &[u128],
+) -> Result<Vec<Measure, A>, AllocError>
+    requires numbered { IsNumberedFrom 0 (sites_view sites.now) }
+    requires places { places.now ≡ map (segment_place (sites_view sites.now)) (sites_view sites.now) }
+    requires alignment_count { length alignments.now ≡ length sites.now }
+    requires alignments { HoldsGreatest (sites_view sites.now) (λ a. alignment_of a.segment.standing) alignments.now }
+    requires length_count { length lengths.now ≡ length sites.now }
+    requires lengths { HoldsGreatest (sites_view sites.now) (λ a. a.segment.length) lengths.now }
+    ensures { IfOk result (λ v. v.items ≡ map (unit_measure (sites_view sites.now)) (sites_view sites.now)) }
+{
+    let mut all = Vec::new(alloc);
+    for (i, a) in sites.iter().enumerate() {
+        let first = places[i];
+        all.push(part_measure(a, first == i, alignments[first], lengths[first]))?;
+    }
+    Ok(all)
+}
+
+/// How each segment is placed.
+fn measures<A: Allocator + Copy>(
+    alloc: A,
+    sites: &[Site<'_>],
+    places: &[usize],
+) -> Result<Vec<Measure, A>, AllocError>
+    requires numbered { IsNumberedFrom 0 (sites_view sites.now) }
+    requires places { places.now ≡ map (segment_place (sites_view sites.now)) (sites_view sites.now) }
+    ensures { IfOk result (λ v. v.items ≡ map (unit_measure (sites_view sites.now)) (sites_view sites.now)) }
+{
+    let alignments = greatest_alignments(alloc, sites, places)?;
+    let lengths = greatest_lengths(alloc, sites, places)?;
+    measure_parts(alloc, sites, places, &alignments, &lengths)
+}
+
+/// Gives a unit its address, after an end, and answers where it ends. Any other part of a common segment waits.
+fn place_unit(addresses: &mut [u128], a: &Site<'_>, leads: bool, as_is: Measure, end: u128) -> u128
+    requires within { a.now.position < length addresses.old }
+    requires positive { 0 < as_is.alignment }
+    requires alignment { as_is.alignment ≤ 256 }
+    requires length { as_is.length ≤ 65536 }
+    requires room { end + 65792 < 2 ^ 128 }
+    ensures { Places (not (is_common (site a.now)) || leads) as_is end addresses.old addresses.new result a.now.position }
+{
+    if a.is_common() && !leads {
+        return end;
+    }
+    let start = next_start(end, as_is.alignment);
+    addresses[a.position] = start;
+    start + as_is.length
+}
+
+/// Gives each unit its address, in the order of placement, and answers where the last one ends.
+fn place_units(
+    addresses: &mut [u128],
+    sites: &[Site<'_>],
+    ranks: &[Rank],
+    measures: &[Measure],
+) -> u128
+    requires order { ranks.now ≡ map (rank (sites_view sites.now)) (placement_order (sites_view sites.now)) }
+    requires numbered { IsNumberedFrom 0 (sites_view sites.now) }
+    requires measures { measures.now ≡ map (unit_measure (sites_view sites.now)) (sites_view sites.now) }
+    requires bounds { AllByRecursion (IsUnitBounded (sites_view sites.now)) (placement_order (sites_view sites.now)) }
+    requires table { length addresses.old ≡ length sites.now }
+    ensures follow { FollowFrom (sites_view sites.now) addresses.new 0 (units (sites_view sites.now)) result }
+    ensures kept { KeepsOthers (sites_view sites.now) addresses.old addresses.new }
+    ensures small { result < 2 ^ 127 }
+{
+    let mut end = 0;
+    for rank in ranks {
+        let a = &sites[rank.own];
+        let leads = rank.segment == rank.own;
+        end = place_unit(addresses, a, leads, measures[rank.own], end);
+    }
+    end
+}
+
+/// The address of a segment, from its own as a unit and that of its combined segment's first part.
+fn settled_address(a: &Site<'_>, standing: Standing, own: u128, first: u128) -> u128
+    ensures { result ≡ settled_by (site a.now) own first standing }
+{
+    match standing {
+        Standing::Absolute { frame, offset } => 16 * u128::from(frame) + u128::from(offset),
+        Standing::Relocatable { .. } => { if a.is_common() { first } else { own } }
+    }
+}
+
+/// The address of each segment, once the units have theirs.
+fn settle<A: Allocator + Copy>(
+    alloc: A,
+    addresses: &[u128],
+    sites: &[Site<'_>],
+    places: &[usize],
+) -> Result<Vec<u128, A>, AllocError>
+    requires numbered { IsNumberedFrom 0 (sites_view sites.now) }
+    requires places { places.now ≡ map (segment_place (sites_view sites.now)) (sites_view sites.now) }
+    requires table { length addresses.now ≡ length sites.now }
+    ensures { IfOk result (λ v. v.items ≡ map (settled (sites_view sites.now) addresses.now) (sites_view sites.now)) }
+{
+    let mut all = Vec::new(alloc);
+    for (i, a) in sites.iter().enumerate() {
+        let first = places[i];
+        let address = settled_address(a, a.segment.standing, addresses[i], addresses[first]);
+        all.push(address)?;
+    }
+    Ok(all)
+}
+
+/// The address of every segment, by position, and the size of the program.
+#[derive(Drop)]
+pub(crate) struct Placing<A: Allocator + Copy> {
+    pub addresses: Vec<u128, A>,
+    pub size: u128,
+}
+
+fn start_units<A: Allocator + Copy>(
+    alloc: A,
+    sites: &[Site<'_>],
+    ranks: &[Rank],
+    places: &[usize],
+) -> Result<Placing<A>, AllocError>
+    requires numbered { IsNumberedFrom 0 (sites_view sites.now) }
+    requires order { ranks.now ≡ map (rank (sites_view sites.now)) (placement_order (sites_view sites.now)) }
+    requires places { places.now ≡ map (segment_place (sites_view sites.now)) (sites_view sites.now) }
+    requires bounds { AllByRecursion (IsUnitBounded (sites_view sites.now)) (placement_order (sites_view sites.now)) }
+    ensures len { IfOk result (λ p. length p.addresses.items ≡ length sites.now) }
+    ensures follow { IfOk result (λ p. FollowFrom (sites_view sites.now) p.addresses.items 0 (units (sites_view sites.now)) p.size) }
+    ensures small { IfOk result (λ p. p.size < 2 ^ 127) }
+{
+    let measures = measures(alloc, sites, places)?;
+    let mut addresses = vec![in alloc; 0u128; sites.len()]?;
+    let size = place_units(&mut addresses, sites, ranks, &measures);
+    Ok(Placing { addresses, size })
+}
+
+/// Places the parts.
+pub(crate) fn place_parts<A: Allocator + Copy>(
+    alloc: A,
+    sites: &[Site<'_>],
+    ranks: &[Rank],
+    places: &[usize],
+) -> Result<Placing<A>, AllocError>
+    requires numbered { IsNumberedFrom 0 (sites_view sites.now) }
+    requires sound { AllByRecursion (λ a. SegmentFits a.segment) (sites_view sites.now) }
+    requires order { ranks.now ≡ map (rank (sites_view sites.now)) (placement_order (sites_view sites.now)) }
+    requires places { places.now ≡ map (segment_place (sites_view sites.now)) (sites_view sites.now) }
+    ensures placed { IfOk result (λ p. IsPlaced (sites_view sites.now) p.addresses.items p.size) }
+    ensures only { IfOk result (λ p. IsOnlyPlacement (sites_view sites.now) p.addresses.items p.size) }
+    ensures small { IfOk result (λ p. IsSmall p.addresses.items) }
+{
+    let started = start_units(alloc, sites, ranks, places)?;
+    let addresses = settle(alloc, &started.addresses, sites, places)?;
+    Ok(Placing {
+        addresses,
+        size: started.size,
+    })
+}

@@ -1,0 +1,11 @@
+//! Object modules, read from their bytes and placed.
+#![tactic(auto)]
+
+#[cfg(test)]
+mod cases;
+#[cfg(test)]
+mod growths;
+#[cfg(test)]
+mod laid;
+#[cfg(test)]
+mod large;
