@@ -1,0 +1,51 @@
+-- Flags where relocated words begin tell whether data covers one of them.
+use Rattle.std.proofs.Common.{◌≡◌, ℕ, ◌+◌, ◌-◌, ◌<◌, ◌≤◌, Bool, true, false, ◌||◌, leb, ltb, eqb, List, [], ◌∷◌, length, get_or, refl, ap, ◌∙◌, sym, arith, inl, inr, eq-eqb}
+use Rattle.std.specs.List.{list_any}
+use Rattle.std.proofs.lemmas.Bool.{and_parts, or_cases, or_left, or_right, leb-true, ltb-true, cases_lt, true≢false, eqb-true, false_from_ne_true}
+use Rattle.omf_image.specs.Located.{Datum, covers, covers_word}
+use Rattle.omf_image.specs.Leading.{IsListed}
+use Rattle.omf_image.proofs.Moved.{In}
+use Rattle.omf_image.proofs.Carry.{covers-from}
+
+any_in : (f : ℕ → Bool) (ws : List ℕ) → list_any f ws ≡ true → (w : ℕ) × In w ws × (f w ≡ true)
+any_in f [] h = absurd (true≢false (sym h))
+any_in f (w ∷ ws) h = elim (or_cases (f w) (list_any f ws) h) [ inl t ↦ (w, inl refl, t) | inr t ↦ let g = any_in f ws t in (g.0, inr g.1, g.2) ]
+
+any_from : (f : ℕ → Bool) (ws : List ℕ) (w : ℕ) → In w ws → f w ≡ true → list_any f ws ≡ true
+any_from f [] w h t = absurd h
+any_from f (v ∷ ws) w h t = elim h [ inl e ↦ or_left (f v) (list_any f ws) (ap f (sym e) ∙ t) | inr k ↦ or_right (f v) (list_any f ws) (any_from f ws w k t) ]
+
+covered_by : (a : ℕ) (d : Datum) → covers a d ≡ true → (d.start ≤ a) × (a < d.start + length d.bytes)
+covered_by a d h = let both = and_parts (leb d.start a) (ltb a (d.start + length d.bytes)) h in (leb-true d.start a both.0, ltb-true a (d.start + length d.bytes) both.1)
+
+pub covers_at : (d : Datum) (flags : List Bool) (ws : List ℕ) (a : ℕ) → IsListed flags ws → get_or flags a false ≡ true → 0 < length d.bytes → d.start - 1 ≤ a → a < d.start + length d.bytes → covers_word d ws ≡ true
+covers_at d flags ws a m t some low high =
+    let g = any_in (λ w. eqb a w) ws (sym (m a) ∙ t) in
+    let w = g.0 in
+    let e : a ≡ w = eqb-true a w g.2 in
+    any_from (λ w. covers w d || covers (w + 1) d) ws w g.1
+    (elim (cases_lt a d.start) [
+      | inl l ↦ or_right (covers w d) (covers (w + 1) d) (covers-from (w + 1) d (omega (arith, low, e)) (omega (arith, l, e, some)))
+      | inr l ↦ or_left (covers w d) (covers (w + 1) d) (covers-from w d (omega (arith, l, e)) (omega (arith, high, e)))
+    ])
+
+pub covers_none : (d : Datum) (flags : List Bool) (ws : List ℕ) → IsListed flags ws → ((a : ℕ) → d.start - 1 ≤ a → a < d.start + length d.bytes → get_or flags a false ≡ false) → covers_word d ws ≡ false
+covers_none d flags ws m none =
+    false_from_ne_true (covers_word d ws) (λ t.
+    let g = any_in (λ w. covers w d || covers (w + 1) d) ws t in
+    let w = g.0 in
+    let flagged : get_or flags w false ≡ true = m w ∙ any_from (λ v. eqb w v) ws w g.1 (eq-eqb w w refl) in
+    elim (or_cases (covers w d) (covers (w + 1) d) g.2) [
+      | inl c ↦ let i = covered_by w d c in true≢false (sym flagged ∙ none w (omega (arith, i.0)) i.1)
+      | inr c ↦ let i = covered_by (w + 1) d c in true≢false (sym flagged ∙ none w (omega (arith, i.0)) (omega (arith, i.1)))
+    ])
+
+pub covers_empty : (d : Datum) (ws : List ℕ) → length d.bytes ≡ 0 → covers_word d ws ≡ false
+covers_empty d ws e =
+    false_from_ne_true (covers_word d ws) (λ t.
+    let g = any_in (λ w. covers w d || covers (w + 1) d) ws t in
+    let w = g.0 in
+    elim (or_cases (covers w d) (covers (w + 1) d) g.2) [
+      | inl c ↦ let i = covered_by w d c in absurd (omega (arith, e, i.0, i.1))
+      | inr c ↦ let i = covered_by (w + 1) d c in absurd (omega (arith, e, i.0, i.1))
+    ])

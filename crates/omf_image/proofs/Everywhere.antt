@@ -1,0 +1,145 @@
+-- An image of the program at paragraph 0 serves every paragraph.
+use Rattle.std.proofs.Common.{◌≡◌, ℕ, zero, suc, ◌+◌, ◌<◌, ◌≤◌, Bool, true, false, eqb, eq-eqb, cond, filter, List, [], ◌∷◌, ◌++◌, map, length, None, inl, inr, arith, refl, ap, ◌∙◌, sym, subst}
+use Rattle.std.proofs.lemmas.List.{append_assoc, append-nil}
+use Rattle.std.proofs.lemmas.List.Elements.{recursion_from_All}
+use Rattle.std.proofs.lemmas.Bool.{true≢false, cases_lt, cases_eq, or_cases, or_left, or_right, eqb-true}
+use Rattle.std.specs.List.{AllByRecursion, list_any, range_with_len}
+use Rattle.omf_module.specs.Module.{Module}
+use Rattle.omf_place.specs.Layout.{Layout}
+use Rattle.omf_image.specs.Located.{Datum, covers}
+use Rattle.omf_image.specs.Records.{bytes_of, Entry, entries, entry_start, WellPlaced, AllWellPlaced, AllInside, patches, IsImage, HoldsEverywhere, relocated_words, relocations}
+use Rattle.omf_image.specs.Faults.{data_fault}
+use Rattle.omf_image.specs.Patch.{relocated_places}
+use Rattle.omf_image.proofs.Law.{length-patched_all}
+use Rattle.omf_image.proofs.Hits.{SpacedBy, in_filter, spaced_filter}
+use Rattle.omf_image.proofs.Moved.{In, AllApart, AllWordsInside}
+use Rattle.omf_image.proofs.Carry.{Piece, addresses, all_addresses, Uncovered, EachApart, In-cases, In-map, covers-from}
+use Rattle.omf_image.proofs.Records.{piece, sound_records, program_moves}
+
+-- each two words of the list are one or apart
+abbrev Apart : List ℕ → Type 0
+Apart rs = (r s : ℕ) → In r rs → In s rs → r < s → r + 2 ≤ s
+
+apart_pair : (ws : List ℕ) → AllApart ws → Apart ws
+apart_pair [] apart r s h k l = absurd h
+apart_pair (w ∷ ws) apart r s h k l =
+    elim h [
+      | inl e ↦ elim k [
+        | inl f ↦ omega arith
+        | inr k' ↦ elim (apart.0 s k') [ inl q ↦ omega arith | inr q ↦ omega arith ]
+      ]
+      | inr h' ↦ elim k [
+        | inl f ↦ elim (apart.0 r h') [ inl q ↦ omega arith | inr q ↦ omega arith ]
+        | inr k' ↦ apart_pair ws apart.1 r s h' k' l
+      ]
+    ]
+
+-- a word that a datum does not cover, and one inside it
+not_next : (d : Datum) (a : ℕ) → covers a d ≡ false → d.start ≤ a → a < d.start + length d.bytes → ⊥
+not_next d a h k l = true≢false (sym (covers-from a d k l) ∙ h)
+
+step_apart : (rs : List ℕ) (p : Piece) → Apart rs → AllApart p.words → AllWordsInside (length p.datum.bytes) p.words → ((r : ℕ) → In r rs → (covers r p.datum ≡ false) × (covers (r + 1) p.datum ≡ false)) → Apart (rs ++ addresses p)
+step_apart rs p old apart inside free r s h k l =
+    elim (In-cases r rs (addresses p) h) [
+      | inl h' ↦ elim (In-cases s rs (addresses p) k) [
+        | inl k' ↦ old r s h' k' l
+        | inr k' ↦
+            let g = In-map p.datum.start s p.words k' in
+            let room = inside g.0 g.1 in
+            elim (cases_lt s (r + 2)) [
+              | inl near ↦ absurd (not_next p.datum (r + 1) (free r h').1 (omega (arith, g.2)) (omega (arith, g.2, room)))
+              | inr past ↦ past
+            ]
+      ]
+      | inr h' ↦
+          let g = In-map p.datum.start r p.words h' in
+          let room = inside g.0 g.1 in
+          elim (In-cases s rs (addresses p) k) [
+            | inl k' ↦
+                elim (cases_lt s (r + 2)) [
+                  | inl near ↦ absurd (not_next p.datum s (free s k').0 (omega (arith, g.2)) (omega (arith, g.2, room)))
+                  | inr past ↦ past
+                ]
+            | inr k' ↦
+                let g' = In-map p.datum.start s p.words k' in
+                let both : g.0 + 2 ≤ g'.0 = apart_pair p.words apart g.0 g'.0 g.1 g'.1 (omega (arith, g.2, g'.2)) in
+                omega (arith, g.2, g'.2, both)
+          ]
+    ]
+
+all_apart : (rs : List ℕ) (ps : List Piece) → Apart rs → EachApart ps → Uncovered rs ps → Apart (rs ++ all_addresses ps)
+all_apart rs [] old each free = subst Apart (sym (append-nil rs)) old
+all_apart rs (p ∷ ps) old each free =
+    subst Apart (append_assoc rs (addresses p) (all_addresses ps))
+    (all_apart (rs ++ addresses p) ps (step_apart rs p old each.0 each.1 free.0) each.2 free.1)
+
+-- each relocated word lies inside the program
+all_inside : (size : ℕ) (layout : Layout) (es : List Entry) → AllByRecursion (λ e. entry_start layout e + length (bytes_of e.data_record) ≤ size) es → EachApart (map (piece layout) es) → AllWordsInside size (all_addresses (map (piece layout) es))
+all_inside size layout [] room each r h = absurd h
+all_inside size layout (e ∷ es) room each r h =
+    elim (In-cases r (addresses (piece layout e)) (all_addresses (map (piece layout) es)) h) [
+      | inl k ↦
+          let g = In-map (entry_start layout e) r (relocated_places (patches 0 layout e)) k in
+          let n = length-patched_all (patches 0 layout e) (bytes_of e.data_record) in
+          omega (arith, g.2, each.1 g.0 g.1, n, room.0)
+      | inr k ↦ all_inside size layout es room.1 each.2 r k
+    ]
+
+-- a list of addresses and a test for them
+in_any : (ws : List ℕ) (a : ℕ) → list_any (λ w. eqb a w) ws ≡ true → In a ws
+in_any [] a h = absurd (true≢false (sym h))
+in_any (w ∷ ws) a h = elim (or_cases (eqb a w) (list_any (λ w. eqb a w) ws) h) [ inl e ↦ inl (eqb-true a w e) | inr k ↦ inr (in_any ws a k) ]
+
+any_in : (ws : List ℕ) (a : ℕ) → In a ws → list_any (λ w. eqb a w) ws ≡ true
+any_in [] a h = absurd h
+any_in (w ∷ ws) a h = elim h [ inl e ↦ or_left (eqb a w) (list_any (λ w. eqb a w) ws) (eq-eqb a w e) | inr k ↦ or_right (eqb a w) (list_any (λ w. eqb a w) ws) (any_in ws a k) ]
+
+in_cons : (b : Bool) (x j : ℕ) (xs : List ℕ) → In j xs → In j (cond b (x ∷ xs) xs)
+in_cons true x j xs h = inr h
+in_cons false x j xs h = h
+
+in_kept : (b : Bool) (x : ℕ) (xs : List ℕ) → b ≡ true → In x (cond b (x ∷ xs) xs)
+in_kept true x xs h = inl refl
+in_kept false x xs h = absurd (true≢false (sym h))
+
+in_range : (p : ℕ → Bool) (a n j : ℕ) → a ≤ j → j < a + n → p j ≡ true → In j (filter p (range_with_len a n))
+in_range p a zero j h k t = absurd (omega (arith, h, k))
+in_range p a (suc n) j h k t =
+    elim (cases_eq j a) [
+      | inl e ↦ subst (λ (i : ℕ). In i (cond (p a) (a ∷ filter p (range_with_len (a + 1) n)) (filter p (range_with_len (a + 1) n)))) (sym e) (in_kept (p a) a (filter p (range_with_len (a + 1) n)) (ap p (sym e) ∙ t))
+      | inr ne ↦ in_cons (p a) a j (filter p (range_with_len (a + 1) n)) (in_range p (a + 1) n j (omega (arith, h, ne)) (omega (arith, k)) t)
+    ]
+
+spaced_apart : (rs : List ℕ) → SpacedBy 2 rs → AllApart rs
+spaced_apart [] h = tt
+spaced_apart (r ∷ rs) h = (λ s k. inl (h.0 s k), spaced_apart rs h.1)
+
+-- what holds of the relocations where no fault of data stands
+pub record SoundRelocations (layout : Layout) (modules : List Module) : Type 0 where
+  pub spaced : SpacedBy 2 (relocations layout modules)
+  pub inside : AllWordsInside layout.size (relocations layout modules)
+  pub there : (r : ℕ) → In r (relocations layout modules) → In r (relocated_words layout modules)
+  pub back : (r : ℕ) → In r (relocated_words layout modules) → In r (relocations layout modules)
+
+pub sound_relocations : (layout : Layout) (modules : List Module) → AllWellPlaced modules → AllInside layout modules → data_fault layout modules ≡ None → SoundRelocations layout modules
+sound_relocations layout modules well inside none =
+    let es = entries modules in
+    let s = sound_records 0 layout [] es (recursion_from_All (λ e. WellPlaced e.data_record) es well) none in
+    let words = relocated_words layout modules in
+    let p : ℕ → Bool = λ a. list_any (λ w. eqb a w) words in
+    let room = all_inside layout.size layout es (recursion_from_All (λ e. entry_start layout e + length (bytes_of e.data_record) ≤ layout.size) es inside) s.apart in
+    let inner : (r : ℕ) → In r words → In r (all_addresses (map (piece layout) es)) = λ r k. subst (λ (l : List ℕ). In r l) (sym s.listed) k in
+    let there : (r : ℕ) → In r (relocations layout modules) → In r words = λ r k. in_any words r (in_filter p 0 layout.size r k).2 in
+    let apart : Apart words = λ r q h k l. all_apart [] (map (piece layout) es) (λ x y h. absurd h) s.apart s.free r q (inner r h) (inner q k) l in
+    record {
+      spaced = spaced_filter p 2 0 layout.size (λ i j s t l m. apart i j (in_any words i s) (in_any words j t) l);
+      inside = λ r k. room r (inner r (there r k));
+      there = there;
+      back = λ r k. in_range p 0 layout.size r (omega arith) (omega (arith, room r (inner r k))) (any_in words r k);
+    }
+
+pub everywhere : (layout : Layout) (modules : List Module) (image : List ℕ) → AllWellPlaced modules → AllInside layout modules → data_fault layout modules ≡ None → IsImage layout modules image → HoldsEverywhere layout modules image (relocations layout modules)
+everywhere layout modules image well inside none is P a h =
+    let s = sound_relocations layout modules well inside none in
+    program_moves P layout modules image (relocations layout modules) well none is.sized is.bytes
+    (spaced_apart (relocations layout modules) s.spaced) s.inside s.there s.back a h

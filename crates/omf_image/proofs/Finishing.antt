@@ -1,0 +1,156 @@
+-- From the first state to the last, and from there to the program.
+use Rattle.std.proofs.Common.{◌≡◌, ℕ, zero, suc, ◌+◌, ◌<◌, ◌≤◌, Bool, true, false, cond, ◌||◌, ltb, eqb, List, [], ◌∷◌, map, filter, length, get_or, replicate, All, AllPairs, Option, Some, None, Err, inl, inr, refl, ap, ◌∙◌, sym, arith, subst}
+use Rattle.std.specs.List.{list_any, range_with_len}
+use Rattle.std.proofs.lemmas.List.{length-replicate, get_or-replicate, get_or_past}
+use Rattle.std.proofs.lemmas.List.Elements.{All-weaker}
+use Rattle.std.proofs.lemmas.Bool.{cases_lt, cond-true, cond-false, lt-ltb, le-ltb}
+use Rattle.omf_module.specs.Module.{Module}
+use Rattle.omf_place.specs.Layout.{Layout}
+use Rattle.omf_image.specs.declared.faults.FixFault.{FixFault}
+use Rattle.omf_image.specs.declared.faults.FixFault.TheVariants.{At, TooManyRelocations, Memory}
+use Rattle.omf_image.specs.Words.{add_words}
+use Rattle.omf_image.specs.Located.{covers, byte_of, last_or, in_page}
+use Rattle.omf_image.specs.Records.{datum, program_byte, entries, relocations, relocated_words, WellPlaced, AllWellPlaced, AllInside, bytes_of, entry_start, LiesInContent}
+use Rattle.omf_image.specs.Faults.{data_fault, first_of}
+use Rattle.omf_image.specs.Registers.{starts, starts_fault, count_fault, program_fault, entry_at, stack, stack_of, registers, moved}
+use Rattle.omf_image.specs.Pages.{Paged, IsBlank}
+use Rattle.omf_image.specs.Program.{Program}
+use Rattle.omf_image.specs.Ready.{IsReady, IsEntryReady, IsFixupReady}
+use Rattle.omf_image.specs.Working.{State}
+use Rattle.omf_image.specs.Leading.{IsWhole, Leads, Answers}
+use Rattle.omf_image.specs.Building.{IsProgramOf, registers_of}
+use Rattle.omf_image.proofs.Moved.{In}
+use Rattle.omf_image.proofs.Hits.{SpacedBy}
+use Rattle.omf_image.proofs.Everywhere.{everywhere, sound_relocations}
+use Rattle.omf_image.proofs.Registers.{registers_move}
+
+-- ---- the first state
+blank_flag : (n a : ℕ) → get_or (replicate n false) a false ≡ false
+blank_flag n a = elim (cases_lt a n) [ inl l ↦ get_or-replicate n a false false l | inr l ↦ get_or_past (replicate n false) a false (omega (arith, length-replicate {A = Bool} n false)) ]
+
+blank_byte : (n a : ℕ) → get_or {A = ℕ} (replicate n 0) a 0 ≡ 0
+blank_byte n a = elim (cases_lt a n) [ inl l ↦ get_or-replicate n a 0 0 l | inr l ↦ get_or_past (replicate n 0) a 0 (omega (arith, length-replicate {A = ℕ} n 0)) ]
+
+or_false : (b : Bool) → (b || false) ≡ b
+or_false true = refl
+or_false false = refl
+
+pub whole_first : (layout : Layout) (s : State) (p : Paged) (n : ℕ) → n ≡ layout.size → n ≤ 1048560 → s.image ≡ p.bytes → s.words ≡ replicate n false → IsBlank n p → IsWhole layout s
+whole_first layout s p n e small i w blank = record {
+  sized = ap length (i ∙ blank.bytes) ∙ length-replicate {A = ℕ} n 0 ∙ e;
+  words = ap length w ∙ length-replicate {A = Bool} n false ∙ sym (ap length (i ∙ blank.bytes) ∙ length-replicate {A = ℕ} n 0);
+  small = omega arith;
+}
+
+pub leads_first : (layout : Layout) (modules : List Module) (s : State) (p : Paged) (n : ℕ) → s.image ≡ p.bytes → s.made ≡ p.made → s.words ≡ replicate n false → IsBlank n p → Leads layout modules s (entries modules)
+leads_first layout modules s p n i m w blank =
+    let data' = map (datum 0 layout) (entries modules) in
+    let words = relocated_words layout modules in
+    let flag : (a : ℕ) → get_or s.words a false ≡ false = λ a. ap (λ (l : List Bool). get_or l a false) w ∙ blank_flag n a in
+    record {
+      image = λ a. ap (λ (b : ℕ). last_or b (map (byte_of a) (filter (covers a) data'))) (ap (λ (l : List ℕ). get_or l a 0) (i ∙ blank.bytes) ∙ blank_byte n a);
+      pages = λ k. ap (λ (b : Bool). list_any (in_page k) data' || b) (ap (λ (l : List Bool). get_or l k false) m ∙ blank.made k) ∙ or_false (list_any (in_page k) data');
+      words = λ a. ap (λ (b : Bool). b || list_any (λ w. eqb a w) words) (flag a);
+      so_far = [];
+      listed = flag;
+      fault = refl;
+    }
+
+-- ---- the last
+pub no_fault : (layout : Layout) (modules : List Module) (s : State) → Leads layout modules s [] → data_fault layout modules ≡ None
+no_fault layout modules s l = sym l.fault
+
+filter_same : (p q : ℕ → Bool) (xs : List ℕ) → ((a : ℕ) → p a ≡ q a) → filter p xs ≡ filter q xs
+filter_same p q [] e = refl
+filter_same p q (x ∷ xs) e = ap (λ (b : Bool). cond b (x ∷ filter p xs) (filter p xs)) (e x) ∙ ap (λ (l : List ℕ). cond (q x) (x ∷ l) l) (filter_same p q xs e)
+
+pub flags_are : (layout : Layout) (modules : List Module) (s : State) (items : List ℕ) → IsWhole layout s → Leads layout modules s [] → items ≡ filter (λ a. get_or s.words a false) (range_with_len 0 (length s.words)) → items ≡ relocations layout modules
+flags_are layout modules s items whole l e =
+    e
+    ∙ ap (λ (n : ℕ). filter (λ a. get_or s.words a false) (range_with_len 0 n)) (whole.words ∙ whole.sized)
+    ∙ filter_same (λ a. get_or s.words a false) (λ a. list_any (λ w. eqb a w) (relocated_words layout modules)) (range_with_len 0 layout.size) (λ a. sym (or_false (get_or s.words a false)) ∙ l.words a)
+
+in_index : (xs : List ℕ) (k d : ℕ) → k < length xs → In (get_or xs k d) xs
+in_index [] k d h = absurd (omega (arith, h))
+in_index (x ∷ xs) zero d h = inl refl
+in_index (x ∷ xs) (suc k) d h = inr (in_index xs k d (omega (arith, h)))
+
+spaced_pairs : (rs : List ℕ) → SpacedBy 2 rs → AllPairs (λ r s. r + 2 ≤ s) rs
+spaced_pairs [] h i j d l m = absurd (omega (arith, l, m))
+spaced_pairs (r ∷ rs) h i zero d l m = absurd (omega (arith, l))
+spaced_pairs (r ∷ rs) h zero (suc j) d l m = h.0 (get_or rs j d) (in_index rs j d (omega (arith, m)))
+spaced_pairs (r ∷ rs) h (suc i) (suc j) d l m = spaced_pairs rs h.1 i j d (omega (arith, l)) (omega (arith, m))
+
+well : (layout : Layout) (modules : List Module) → IsReady layout modules → AllWellPlaced modules
+well layout modules h =
+    All-weaker (IsEntryReady layout) (λ e. WellPlaced e.data_record)
+    (λ e r. All-weaker (IsFixupReady layout e) (LiesInContent e.data_record) (λ x f. f.lies) e.data_record.fixups r.fixups) (entries modules) h.records
+
+inside : (layout : Layout) (modules : List Module) → IsReady layout modules → AllInside layout modules
+inside layout modules h = All-weaker (IsEntryReady layout) (λ e. entry_start layout e + length (bytes_of e.data_record) ≤ layout.size) (λ e r. r.inside) (entries modules) h.records
+
+-- the program that the code makes of the last state
+abbrev pub made_of : State → List ℕ → ℕ × ℕ → ℕ × ℕ → Program
+made_of s items entry stack' = record { image = s.image; relocations = items; cs = entry.0; ip = entry.1; ss = stack'.0; sp = stack'.1; made = s.made }
+
+-- what a program keeps of its relocated words
+pub record Limits (size : ℕ) (items : List ℕ) : Type 0 where
+  pub apart : AllPairs (λ r s. r + 2 ≤ s) items
+  pub inside : All (λ r. r + 2 ≤ size) items
+  pub few : length items ≤ 65535
+
+pub program_limits : (layout : Layout) (modules : List Module) (s : State) (items : List ℕ) (entry stack' : ℕ × ℕ) → IsReady layout modules → IsWhole layout s → Leads layout modules s [] → items ≡ filter (λ a. get_or s.words a false) (range_with_len 0 (length s.words)) → length items ≤ 65535 → Limits (length s.image) items
+program_limits layout modules s items entry stack' ready whole l e few =
+    let is = flags_are layout modules s items whole l e in
+    let sound = sound_relocations layout modules (well layout modules ready) (inside layout modules ready) (no_fault layout modules s l) in
+    let size = whole.sized in
+    let small = whole.small in
+    record {
+      apart = subst (AllPairs (λ r s. r + 2 ≤ s)) (sym is) (spaced_pairs (relocations layout modules) sound.spaced);
+      inside = subst (All (λ r. r + 2 ≤ length s.image)) (sym is) (λ k d h. let i = sound.inside (get_or (relocations layout modules) k d) (in_index (relocations layout modules) k d h) in omega (arith, i, size));
+      few = few;
+    }
+
+pub program_is : (layout : Layout) (modules : List Module) (s : State) (items : List ℕ) (entry stack' : ℕ × ℕ) → IsReady layout modules → IsWhole layout s → Leads layout modules s [] → starts_fault layout (starts modules) ≡ None → entry ≡ entry_at 0 layout (starts modules) → stack' ≡ stack_of 0 (stack layout modules) → items ≡ filter (λ a. get_or s.words a false) (range_with_len 0 (length s.words)) → length items ≤ 65535 → (program_fault layout modules ≡ None) × IsProgramOf layout modules (made_of s items entry stack')
+unfolding program_fault registers
+program_is layout modules s items entry stack' ready whole l none at st e few =
+    let is = flags_are layout modules s items whole l e in
+    let clean = no_fault layout modules s l in
+    let zero_is : registers 0 layout modules ≡ registers_of (made_of s items entry stack') =
+    ap (λ (x : ℕ × ℕ). registers_of (made_of s items x (stack_of 0 (stack layout modules)))) (sym at) ∙ ap (λ (x : ℕ × ℕ). registers_of (made_of s items entry x)) (sym st) in
+    let count : count_fault layout modules ≡ None = cond-false (ltb 65535 (length (relocations layout modules))) (Some TooManyRelocations) None (le-ltb 65535 (length (relocations layout modules)) (omega (arith, few, ap length is))) in (
+      ap (λ (o : Option FixFault). first_of o (first_of (starts_fault layout (starts modules)) (count_fault layout modules))) clean
+          ∙ ap (λ (o : Option FixFault). first_of o (count_fault layout modules)) none ∙ count,
+      record {
+        sized = whole.sized;
+        everywhere = subst (λ (rs : List ℕ). (P a : ℕ) → a < layout.size → get_or (add_words P rs s.image) a 0 ≡ program_byte P layout modules a) (sym is)
+            (everywhere layout modules s.image (well layout modules ready) (inside layout modules ready) clean (record { sized = whole.sized; bytes = λ a h. l.image a }));
+        listed = is;
+        at_zero = zero_is;
+        at_each = λ P. registers_move P layout modules none ∙ ap (moved P) zero_is;
+        pages = λ k. l.pages k;
+      },
+    )
+
+-- ---- the faults in order
+pub data_first : (layout : Layout) (modules : List Module) (f : FixFault) → data_fault layout modules ≡ Some f → program_fault layout modules ≡ Some f
+unfolding program_fault
+data_first layout modules f h = ap (λ (o : Option FixFault). first_of o (first_of (starts_fault layout (starts modules)) (count_fault layout modules))) h
+
+pub start_second : (layout : Layout) (modules : List Module) (f : FixFault) → data_fault layout modules ≡ None → starts_fault layout (starts modules) ≡ Some f → program_fault layout modules ≡ Some f
+unfolding program_fault
+start_second layout modules f h k =
+    ap (λ (o : Option FixFault). first_of o (first_of (starts_fault layout (starts modules)) (count_fault layout modules))) h
+    ∙ ap (λ (o : Option FixFault). first_of o (count_fault layout modules)) k
+
+pub count_last : (layout : Layout) (modules : List Module) → data_fault layout modules ≡ None → starts_fault layout (starts modules) ≡ None → 65535 < length (relocations layout modules) → program_fault layout modules ≡ Some TooManyRelocations
+unfolding program_fault
+count_last layout modules h k l =
+    ap (λ (o : Option FixFault). first_of o (first_of (starts_fault layout (starts modules)) (count_fault layout modules))) h
+    ∙ ap (λ (o : Option FixFault). first_of o (count_fault layout modules)) k
+    ∙ cond-true (ltb 65535 (length (relocations layout modules))) (Some TooManyRelocations) None (lt-ltb 65535 (length (relocations layout modules)) l)
+
+pub refused_on : {X Y : Type 0} (f : FixFault) (F G : Option FixFault) (K : X → Type 0) (L : Y → Type 0) → ((g : FixFault) → F ≡ Some g → G ≡ Some g) → Answers (Err f) F K → Answers (Err f) G L
+refused_on Memory F G K L h a = tt
+refused_on (At kind input place) F G K L h a = h (At kind input place) a
+refused_on TooManyRelocations F G K L h a = h TooManyRelocations a

@@ -1,0 +1,12 @@
+use Rattle.std.proofs.Common.{All, subst}
+use Rattle.omf_image.specs.Ready.{IsStartReady}
+use Rattle.omf_image.proofs.Listing.{two_starts, all_head}
+use Rattle.omf_image.proofs.start.entry.Goals as goal
+
+pub returns-in-Some-next_start : goal.returns-in-Some-next_start
+returns-in-Some-next_start g c = two_starts c.args.layout.now c.args.modules.now (c.in-Some.number, c.in-Some.start) (c.in-Some-next_start.second, c.in-Some-next_start.other) c.in-Some.ensures c.in-Some-next_start.ensures
+
+pub entry_of-requires : goal.entry_of-requires
+entry_of-requires g c =
+    all_head (IsStartReady c.args.layout.now) _ _
+    (subst (All (IsStartReady c.args.layout.now)) (c.in-Some.ensures.1 c.index-modules-number.result c.index-modules-number.is) c.requires)

@@ -1,0 +1,17 @@
+-- Marks that tell where earlier fix-ups of a data record may not be touched.
+use Rattle.std.specs.Prelude.{◌≡◌, ℕ, ◌<◌, Bool, false, ◌&&◌, nat_le, nat_lt, List, length, get_or}
+use Rattle.std.specs.List.{list_any}
+use Rattle.omf_image.specs.declared.patch.Patch.{Patch}
+use Rattle.omf_image.specs.Patch.{is_relocated, patch_start, patch_end}
+
+abbrev pub touches : ℕ → Patch → Bool
+touches k p = nat_le (patch_start p) k && nat_lt k (patch_end p)
+
+-- which bytes of the data earlier patches touch, and which of them are in relocated words
+pub record IsMarked (touched relocated : List Bool) (earlier : List Patch) : Type 0 where
+  pub touches_told : (k : ℕ) → k < length touched → get_or touched k false ≡ list_any (touches k) earlier
+  pub relocated_told : (k : ℕ) → k < length relocated → get_or relocated k false ≡ list_any (λ q. is_relocated q && touches k q) earlier
+
+-- each byte was stored at its own position, as data that isn't repeated is
+abbrev pub IsPlain : List ℕ → Type 0
+IsPlain stored = (k : ℕ) → k < length stored → get_or stored k 0 ≡ k

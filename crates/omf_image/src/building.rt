@@ -1,0 +1,98 @@
+//! All data records of a program.
+
+ghost use Rattle.std.specs.Prelude.{◌≡◌, ◌<◌, ◌≤◌, ◌^◌, ◌++◌, [], ℕ, List, All, false, filter, length, slice_index_or, replicate, OnOk, IfOk};
+ghost use Rattle.std.specs.List.{range_with_len};
+ghost use Rattle.omf_module.specs.Module.{Module as PlainModule};
+ghost use Rattle.omf_image.specs.Records.{Entry, entries, module_entries};
+ghost use Rattle.omf_image.specs.Faults.{data_fault};
+ghost use Rattle.omf_image.specs.Pages.{IsBlank};
+ghost use Rattle.omf_image.specs.Ready.{IsEntryReady};
+ghost use Rattle.omf_image.specs.Working.{State, state};
+ghost use Rattle.omf_image.specs.Leading.{IsWhole, Leads, Answers};
+
+use crate::adding::add_record;
+use crate::faults::FixFault;
+use crate::pages::Pages;
+use crate::work::Work;
+use omf_module::Module;
+use omf_place::Layout;
+use std::alloc::{AllocError, Allocator};
+
+impl<A: Allocator + Copy> Work<A> {
+    /// An image of zeros without data.
+    pub fn new(alloc: A, size: u32) -> Result<Work<A>, AllocError>
+        requires { size ≤ 1048560 }
+        ensures pages { IfOk result (λ w. IsBlank size w.pages) }
+        ensures words { IfOk result (λ w. w.words.items ≡ replicate size false) }
+    {
+        let pages = Pages::new(alloc, size as usize)?;
+        let words = Vec::from_elem(alloc, false, size as usize)?;
+        Ok(Work {
+            pages,
+            words,
+            touched: Vec::new(alloc),
+            relocated: Vec::new(alloc),
+        })
+    }
+}
+
+/// Lays the data records of a module over the image.
+fn add_module<A: Allocator + Copy>(
+    work: &mut Work<A>,
+    hits: &mut Vec<u32, A>,
+    layout: &Layout<A>,
+    number: usize,
+    in_module: &Module<A>,
+) -> Result<(), FixFault>
+    requires ready { All (IsEntryReady layout.now) (module_entries number in_module.now) }
+    requires whole { IsWhole layout.now (state work.old) }
+    ensures whole { OnOk result (IsWhole layout.now (state work.new)) }
+    ensures gives { (modules : List PlainModule) → (rest : List Entry)
+        → Leads layout.now modules (state work.old) (module_entries number in_module.now ++ rest)
+        → Answers result (data_fault layout.now modules) (λ _. Leads layout.now modules (state work.new) rest) }
+{
+    for index in 0..in_module.data_record_count() {
+        let data_record = in_module.data_record(index);
+        match add_record(work, hits, layout, number, in_module, data_record) {
+            Ok(()) => {}
+            Err(fault) => return Err(fault),
+        }
+    }
+    Ok(())
+}
+
+/// Lays the data records of all modules over the image.
+pub fn add_modules<A: Allocator + Copy>(
+    work: &mut Work<A>,
+    hits: &mut Vec<u32, A>,
+    layout: &Layout<A>,
+    modules: &[Module<A>],
+) -> Result<(), FixFault>
+    requires ready { All (IsEntryReady layout.now) (entries modules.now) }
+    requires whole { IsWhole layout.now (state work.old) }
+    ensures whole { OnOk result (IsWhole layout.now (state work.new)) }
+    ensures gives { Leads layout.now modules.now (state work.old) (entries modules.now)
+        → Answers result (data_fault layout.now modules.now) (λ _. Leads layout.now modules.now (state work.new) []) }
+{
+    for (number, module) in modules.iter().enumerate() {
+        match add_module(work, hits, layout, number, module) {
+            Ok(()) => {}
+            Err(fault) => return Err(fault),
+        }
+    }
+    Ok(())
+}
+
+/// The addresses at which a flag stands, rising.
+pub fn flagged<A: Allocator + Copy>(alloc: A, flags: &[bool]) -> Result<Vec<u32, A>, AllocError>
+    requires { length flags.now < 2 ^ 32 }
+    ensures { IfOk result (λ v. v.items ≡ filter (λ a. slice_index_or flags.now a false) (range_with_len 0 (length flags.now))) }
+{
+    let mut addresses = Vec::new(alloc);
+    for (address, flag) in flags.iter().enumerate() {
+        if *flag {
+            addresses.push(address as u32)?;
+        }
+    }
+    Ok(addresses)
+}

@@ -1,0 +1,123 @@
+//! A linked program.
+
+ghost use Rattle.std.specs.Prelude.{All, AllPairs, ◌≡◌, ◌+◌, ◌<◌, ◌≤◌, length, take, drop, count_by, slice_index};
+ghost use Rattle.omf_image.specs.Pages.{Paged};
+ghost use Rattle.omf_image.specs.Program.{Program as PlainProgram, IsProgram};
+
+use crate::pages::Pages;
+use std::alloc::{Allocator, Global};
+use std::marker::Model;
+
+/// A linked program: its image, the rising addresses of its relocated words, and its registers at the start. The image
+/// stands in pages of 4,096 bytes, each made when the first data byte fell into it.
+#[derive(Drop)]
+pub struct Program<A: Allocator + Copy = Global> {
+    pages: Pages<A>,
+    relocations: Vec<u32, A>,
+    cs: u16,
+    ip: u16,
+    ss: u16,
+    sp: u16,
+}
+
+impl<A: Allocator + Copy> Model for Program<A> {
+    ghost use Rattle.omf_image.specs.Program.{Program, IsProgram};
+
+    ghost Value = { Program };
+
+    ghost view = { λ p. record { image = p.pages.bytes; relocations = p.relocations.items; cs = p.cs; ip = p.ip; ss = p.ss; sp = p.sp; made = p.pages.made } };
+
+    ghost invariant = { λ p. IsProgram (record { image = p.pages.bytes; relocations = p.relocations.items; cs = p.cs; ip = p.ip; ss = p.ss; sp = p.sp; made = p.pages.made }) };
+}
+
+impl<A: Allocator + Copy> Program<A> {
+    /// A program of these parts.
+    pub fn new(
+        pages: Pages<A>,
+        relocations: Vec<u32, A>,
+        entry: (u16, u16),
+        stack: (u16, u16),
+    ) -> Program<A>
+        requires apart { AllPairs (λ r s. r + 2 ≤ s) relocations.items }
+        requires inside { All (λ r. r + 2 ≤ length pages.bytes) relocations.items }
+        requires few { length relocations.items ≤ 65535 }
+        ensures { result ≡ record { image = pages.bytes; relocations = relocations.items; cs = entry.0; ip = entry.1; ss = stack.0; sp = stack.1; made = pages.made } }
+    {
+        let _size = pages.size();
+        Program {
+            pages,
+            relocations,
+            cs: entry.0,
+            ip: entry.1,
+            ss: stack.0,
+            sp: stack.1,
+        }
+    }
+
+    /// The number of bytes of the image.
+    pub fn size(&self) -> u32
+        ensures size { result ≡ length self.now.image }
+        ensures limits { IsProgram self.now }
+    {
+        self.pages.size() as u32
+    }
+
+    /// The byte of the image at an address.
+    pub fn byte(&self, address: u32) -> u8
+        requires { address < length self.now.image }
+        ensures { result ≡ slice_index self.now.image address }
+    {
+        self.pages.byte(address as usize)
+    }
+
+    /// A front of the image's bytes from an address on, at least one byte.
+    pub fn piece(&self, address: u32) -> &[u8]
+        requires { address < length self.now.image }
+        ensures front { result.now ≡ take (length result.now) (drop address self.now.image) }
+        ensures some { 0 < length result.now }
+    {
+        self.pages.piece(address as usize)
+    }
+
+    /// The number of pages of 4,096 bytes in which data covers a byte.
+    pub fn page_count(&self) -> usize
+        ensures { result ≡ count_by (λ m. m) self.now.made }
+    {
+        self.pages.page_count()
+    }
+
+    /// The addresses of the relocated words, rising.
+    pub fn relocations(&self) -> &[u32]
+        ensures { result.now ≡ self.now.relocations }
+    {
+        &self.relocations
+    }
+
+    /// The code segment's frame at the start.
+    pub fn cs(&self) -> u16
+        ensures { result ≡ self.now.cs }
+    {
+        self.cs
+    }
+
+    /// The offset of the start in the code segment.
+    pub fn ip(&self) -> u16
+        ensures { result ≡ self.now.ip }
+    {
+        self.ip
+    }
+
+    /// The stack segment's frame at the start.
+    pub fn ss(&self) -> u16
+        ensures { result ≡ self.now.ss }
+    {
+        self.ss
+    }
+
+    /// The stack's end in the stack segment.
+    pub fn sp(&self) -> u16
+        ensures { result ≡ self.now.sp }
+    {
+        self.sp
+    }
+}

@@ -1,0 +1,173 @@
+//! What the frame and the target of a reference stand for.
+
+ghost use Rattle.std.specs.Prelude.{◌≡◌, ◌<◌, length};
+ghost use Rattle.omf_place.specs.Layout.{places_of};
+ghost use Rattle.omf_image.specs.Position.{position, segment_position, public_position};
+ghost use Rattle.omf_image.specs.Reference.{resolved, target_of, frame_of, own_frame, found_public};
+ghost use Rattle.omf_image.specs.Looking.{found};
+ghost use Rattle.omf_image.specs.Ready.{IsTargetThere, IsFrameThere};
+
+use omf_module::{FixupFrame, FixupTarget, Module};
+use omf_place::{Address, Base, Layout};
+use std::alloc::Allocator;
+
+/// Where something stands at paragraph 0: its address with its own frame. A relocatable one moves with the load
+/// paragraph; its frame is `None` where its group has no members.
+#[derive(Clone, Copy)]
+pub enum Position {
+    Relocatable(u32, Option<u16>),
+    Absolute(u32, u16),
+}
+
+/// What a look-up lacks: a public of an external's name, or members of a group.
+#[derive(Clone, Copy)]
+pub enum Missing {
+    Public,
+    Members,
+}
+
+/// What the target and the frame of a reference stand for, and its displacement.
+#[derive(Clone, Copy)]
+pub struct Resolved {
+    pub target: Position,
+    pub named_frame: Base,
+    pub displacement: u16,
+}
+
+/// An address with its frame.
+fn positioned(address: Address, frame: Option<Base>) -> Position
+    ensures { result ≡ position address frame }
+{
+    match (address, frame) {
+        (Address::Relocatable(a), Some(Base::Relocatable(f))) => Position::Relocatable(a, Some(f)),
+        (Address::Relocatable(a), _) => Position::Relocatable(a, None),
+        (Address::Absolute(a), Some(Base::Relocatable(f))) => Position::Absolute(a, f),
+        (Address::Absolute(a), Some(Base::Absolute(f))) => Position::Absolute(a, f),
+        (Address::Absolute(a), None) => Position::Absolute(a, 0),
+    }
+}
+
+/// Where a segment of a module stands.
+pub fn segment_position<A: Allocator + Copy>(
+    layout: &Layout<A>,
+    number: usize,
+    segment: u16,
+) -> Position
+    requires number { number < length layout.now.modules }
+    requires segment { segment < length (places_of layout.now number).segments }
+    ensures { result ≡ segment_position layout.now number segment }
+{
+    let start = layout.part_start(number, usize::from(segment));
+    let frame = layout.segment_frame(number, usize::from(segment));
+    positioned(start, Some(frame))
+}
+
+/// Where the public of an external stands.
+fn public_position<A: Allocator + Copy>(
+    layout: &Layout<A>,
+    name: &[u8],
+) -> Result<Position, Missing>
+    ensures { found result ≡ found_public (public_position layout.now name.now) }
+{
+    match layout.public(name) {
+        Some(place) => Ok(positioned(place.address, place.frame)),
+        None => Err(Missing::Public),
+    }
+}
+
+/// The frame of what stands somewhere.
+fn own_frame(position: Position) -> Result<Base, Missing>
+    ensures { found result ≡ own_frame position }
+{
+    match position {
+        Position::Relocatable(_, Some(frame)) => Ok(Base::Relocatable(frame)),
+        Position::Relocatable(_, None) => Err(Missing::Members),
+        Position::Absolute(_, frame) => Ok(Base::Absolute(frame)),
+    }
+}
+
+/// Where a target stands, in the module with a number.
+fn target<A: Allocator + Copy>(
+    layout: &Layout<A>,
+    number: usize,
+    in_module: &Module<A>,
+    target: FixupTarget,
+) -> Result<Position, Missing>
+    requires number { number < length layout.now.modules }
+    requires there { IsTargetThere layout.now number in_module.now target }
+    ensures { found result ≡ target_of layout.now number in_module.now target }
+{
+    match target {
+        FixupTarget::Segment(segment) => Ok(segment_position(layout, number, segment)),
+        FixupTarget::Group(group) => match layout.group_frame(number, usize::from(group)) {
+            Some(frame) => Ok(Position::Relocatable(16 * u32::from(frame), Some(frame))),
+            None => Err(Missing::Members),
+        },
+        FixupTarget::External(external) => public_position(
+            layout,
+            in_module.external(usize::from(external)).name,
+        ),
+    }
+}
+
+/// The frame that a method names; `here` is the segment of the data record.
+fn frame<A: Allocator + Copy>(
+    layout: &Layout<A>,
+    number: usize,
+    in_module: &Module<A>,
+    here: u16,
+    of: FixupTarget,
+    method: FixupFrame,
+) -> Result<Base, Missing>
+    requires number { number < length layout.now.modules }
+    requires target { IsTargetThere layout.now number in_module.now of }
+    requires frame { IsFrameThere layout.now number in_module.now here method }
+    ensures { found result ≡ frame_of layout.now number in_module.now here of method }
+{
+    match method {
+        FixupFrame::OfSegment(segment) => own_frame(segment_position(layout, number, segment)),
+        FixupFrame::OfGroup(group) => own_frame(target(
+            layout,
+            number,
+            in_module,
+            FixupTarget::Group(group),
+        )?),
+        FixupFrame::OfExternal(external) => own_frame(target(
+            layout,
+            number,
+            in_module,
+            FixupTarget::External(external),
+        )?),
+        FixupFrame::OfLocation => own_frame(segment_position(layout, number, here)),
+        FixupFrame::OfTarget => own_frame(target(layout, number, in_module, of)?),
+    }
+}
+
+/// What a reference stands for. An external without a public is named before a group without members.
+pub fn resolve<A: Allocator + Copy>(
+    layout: &Layout<A>,
+    number: usize,
+    in_module: &Module<A>,
+    here: u16,
+    method: FixupFrame,
+    of: FixupTarget,
+    displacement: u16,
+) -> Result<Resolved, Missing>
+    requires number { number < length layout.now.modules }
+    requires target { IsTargetThere layout.now number in_module.now of }
+    requires frame { IsFrameThere layout.now number in_module.now here method }
+    ensures { found result ≡ resolved layout.now number in_module.now here method of displacement }
+{
+    let target = target(layout, number, in_module, of);
+    let frame = frame(layout, number, in_module, here, of, method);
+    match (target, frame) {
+        (Ok(target), Ok(named_frame)) => Ok(Resolved {
+            target,
+            named_frame,
+            displacement,
+        }),
+        (Err(Missing::Public), _) => Err(Missing::Public),
+        (_, Err(Missing::Public)) => Err(Missing::Public),
+        (_, _) => Err(Missing::Members),
+    }
+}
