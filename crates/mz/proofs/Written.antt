@@ -1,0 +1,250 @@
+-- A file that was written is read as the program, and loads as the program moved.
+use Rattle.std.proofs.Common.{◌≡◌, ◌≢◌, ℕ, ◌+◌, ◌-◌, ◌*◌, ◌/◌, ◌%◌, ◌<◌, ◌≤◌, true, not, ◌==◌, cond, List, [], ◌∷◌, ◌++◌, map, drop, length, get_or, refl, ap, ◌∙◌, sym, arith, inl, inr, Result, Ok, Err}
+use Rattle.std.specs.Prelude.{nat_le}
+use Rattle.std.specs.List.{list_all, AllByRecursion}
+use Rattle.std.proofs.lemmas.List.{append_assoc, length-append, length-replicate, drop_at, get_or-append-add}
+use Rattle.std.proofs.lemmas.List.Elements.{recursion_from_All}
+use Rattle.std.proofs.lemmas.Bool.{cases_Bool, eqb-true, eqb-false, cond-true, cond-false, and_from, or_right, le-leb, ne_eqb, not_from_false}
+use Rattle.omf_image.specs.Words.{word_at, add_words}
+use Rattle.omf_image.specs.Program.{Program, IsProgram}
+use Rattle.mz.specs.declared.format.Header.{Header}
+use Rattle.mz.specs.declared.format.Entry.{Entry}
+use Rattle.mz.specs.declared.fault.MzFault.{MzFault}
+use Rattle.mz.specs.declared.fault.MzFault.TheVariants.{RelocationOutside}
+use Rattle.mz.specs.Header.{magic, header_bytes, header_at, header_len, told_len, has_table_inside, is_accepted, entry_bytes, entry_address, is_inside}
+use Rattle.mz.specs.File.{paragraphs, file_len, header_of, entry_of, table, padding, written, MzFile}
+use Rattle.mz.specs.Reading.{entries_at, file_of, reading}
+use Rattle.mz.specs.Steps.{file_in}
+use Rattle.mz.specs.declared.fault.LoadFault.{LoadFault}
+use Rattle.mz.specs.Loading.{Loaded, loaded, loading}
+use Rattle.mz.specs.Laws.{Fits, memory, moved, as_file}
+use Rattle.mz.proofs.Taken.{header_at-append, file_agrees, reads_accepted, whole_behind}
+use Rattle.mz.proofs.Placing.{does_fit}
+
+pub word_back : (w : ℕ) → w < 65536 → w % 256 + 256 * (w / 256 % 256) ≡ w
+word_back w h = omega arith
+
+-- the length of a file by its pages
+whole_pages : (len : ℕ) → len % 512 ≡ 0 → 512 * ((len + 511) / 512) ≡ len
+whole_pages len h = omega arith
+
+parted_pages : (len : ℕ) → len % 512 ≢ 0 → 512 * ((len + 511) / 512 - 1) + len % 512 ≡ len
+parted_pages len h = omega arith
+
+len_back : (len : ℕ) → cond (len % 512 == 0) (512 * ((len + 511) / 512)) (512 * ((len + 511) / 512 - 1) + len % 512) ≡ len
+len_back len = elim (cases_Bool (len % 512 == 0)) [
+  | inl t ↦ cond-true (len % 512 == 0) _ _ t ∙ whole_pages len (eqb-true (len % 512) 0 t)
+  | inr t ↦ cond-false (len % 512 == 0) _ _ t ∙ parted_pages len (eqb-false (len % 512) 0 t)
+]
+
+pub told_len-header_of : (p : Program) → told_len (header_of p) ≡ file_len p
+told_len-header_of p = len_back (file_len p)
+
+length-table : (rs : List ℕ) → length (table rs) ≡ 4 * length rs
+length-table [] = refl
+length-table (r ∷ rs) = omega (arith, length-table rs)
+
+entry : ℕ → ℕ → Entry
+entry a b = record { offset = a; segment = b }
+
+-- the table, behind some bytes, is read as its entries
+entries_back : (pre rs post : List ℕ) → AllByRecursion (λ r. r < 1048576) rs
+    → entries_at (length rs) (length pre) (pre ++ (table rs ++ post)) ≡ map entry_of rs
+unfolding entry
+entries_back pre [] post h = refl
+entries_back pre (r ∷ rs) post h =
+    let e = entry_of r in
+    let tail = table rs ++ post in
+    let four = entry_bytes e in
+    let b = pre ++ (four ++ tail) in
+    let byte : (i k : ℕ) → k ≡ length pre + i → get_or b k 0 ≡ get_or (four ++ tail) i 0 = λ i k same. ap (λ (n : ℕ). get_or b n 0) same ∙ get_or-append-add pre (four ++ tail) i 0 in
+    let b0 = byte 0 (length pre) (omega arith) in
+    let b1 = byte 1 (length pre + 1) (omega arith) in
+    let b2 = byte 2 (length pre + 2) (omega arith) in
+    let b3 = byte 3 (length pre + 2 + 1) (omega arith) in
+    let low : word_at b (length pre) ≡ r % 16 = omega (arith, b0, b1) in
+    let high : word_at b (length pre + 2) ≡ r / 16 = omega (arith, b2, b3, h.0) in
+    let longer : length (pre ++ four) ≡ length pre + 4 = length-append pre four in
+    let behind : entries_at (length rs) (length pre + 4) b ≡ map entry_of rs =
+    ap (λ (n : ℕ). entries_at (length rs) n b) (sym longer) ∙ ap (entries_at (length rs) (length (pre ++ four))) (sym (append_assoc pre four tail)) ∙ entries_back (pre ++ four) rs post h.1 in
+    ap (λ (x : ℕ). entry x (word_at b (length pre + 2)) ∷ entries_at (length rs) (length pre + 4) b) low
+    ∙ ap (λ (x : ℕ). entry (r % 16) x ∷ entries_at (length rs) (length pre + 4) b) high
+    ∙ ap (λ (l : List Entry). e ∷ l) behind
+
+-- the words of a header fit
+record WordsFit (h : Header) : Type 0 where
+  last_page_bytes : h.last_page_bytes < 65536
+  pages : h.pages < 65536
+  relocation_count : h.relocation_count < 65536
+  header_paragraphs : h.header_paragraphs < 65536
+  least_extra_paragraphs : h.least_extra_paragraphs < 65536
+  greatest_extra_paragraphs : h.greatest_extra_paragraphs < 65536
+  ss : h.ss < 65536
+  sp : h.sp < 65536
+  checksum : h.checksum < 65536
+  ip : h.ip < 65536
+  cs : h.cs < 65536
+  relocation_table : h.relocation_table < 65536
+  overlay : h.overlay < 65536
+
+-- the number that a word's bytes are read as
+abbrev read_back : ℕ → ℕ
+read_back w = w % 256 + 256 * (w / 256 % 256)
+
+abbrev made : (x0 x1 x2 x3 x4 x5 x6 x7 x8 x9 x10 x11 x12 : ℕ) → Header
+made x0 x1 x2 x3 x4 x5 x6 x7 x8 x9 x10 x11 x12 = record { last_page_bytes = x0; pages = x1; relocation_count = x2; header_paragraphs = x3; least_extra_paragraphs = x4; greatest_extra_paragraphs = x5; ss = x6; sp = x7; checksum = x8; ip = x9; cs = x10; relocation_table = x11; overlay = x12 }
+
+-- a header is read from its bytes
+header_back : (h : Header) (tail : List ℕ) → WordsFit h → header_at (header_bytes h ++ tail) ≡ h
+unfolding header_at
+header_back h tail fit =
+    ap (λ (x : ℕ). made x (read_back h.pages) (read_back h.relocation_count) (read_back h.header_paragraphs) (read_back h.least_extra_paragraphs) (read_back h.greatest_extra_paragraphs) (read_back h.ss) (read_back h.sp) (read_back h.checksum) (read_back h.ip) (read_back h.cs) (read_back h.relocation_table) (read_back h.overlay)) (word_back h.last_page_bytes fit.last_page_bytes)
+    ∙ ap (λ (x : ℕ). made h.last_page_bytes x (read_back h.relocation_count) (read_back h.header_paragraphs) (read_back h.least_extra_paragraphs) (read_back h.greatest_extra_paragraphs) (read_back h.ss) (read_back h.sp) (read_back h.checksum) (read_back h.ip) (read_back h.cs) (read_back h.relocation_table) (read_back h.overlay)) (word_back h.pages fit.pages)
+    ∙ ap (λ (x : ℕ). made h.last_page_bytes h.pages x (read_back h.header_paragraphs) (read_back h.least_extra_paragraphs) (read_back h.greatest_extra_paragraphs) (read_back h.ss) (read_back h.sp) (read_back h.checksum) (read_back h.ip) (read_back h.cs) (read_back h.relocation_table) (read_back h.overlay)) (word_back h.relocation_count fit.relocation_count)
+    ∙ ap (λ (x : ℕ). made h.last_page_bytes h.pages h.relocation_count x (read_back h.least_extra_paragraphs) (read_back h.greatest_extra_paragraphs) (read_back h.ss) (read_back h.sp) (read_back h.checksum) (read_back h.ip) (read_back h.cs) (read_back h.relocation_table) (read_back h.overlay)) (word_back h.header_paragraphs fit.header_paragraphs)
+    ∙ ap (λ (x : ℕ). made h.last_page_bytes h.pages h.relocation_count h.header_paragraphs x (read_back h.greatest_extra_paragraphs) (read_back h.ss) (read_back h.sp) (read_back h.checksum) (read_back h.ip) (read_back h.cs) (read_back h.relocation_table) (read_back h.overlay)) (word_back h.least_extra_paragraphs fit.least_extra_paragraphs)
+    ∙ ap (λ (x : ℕ). made h.last_page_bytes h.pages h.relocation_count h.header_paragraphs h.least_extra_paragraphs x (read_back h.ss) (read_back h.sp) (read_back h.checksum) (read_back h.ip) (read_back h.cs) (read_back h.relocation_table) (read_back h.overlay)) (word_back h.greatest_extra_paragraphs fit.greatest_extra_paragraphs)
+    ∙ ap (λ (x : ℕ). made h.last_page_bytes h.pages h.relocation_count h.header_paragraphs h.least_extra_paragraphs h.greatest_extra_paragraphs x (read_back h.sp) (read_back h.checksum) (read_back h.ip) (read_back h.cs) (read_back h.relocation_table) (read_back h.overlay)) (word_back h.ss fit.ss)
+    ∙ ap (λ (x : ℕ). made h.last_page_bytes h.pages h.relocation_count h.header_paragraphs h.least_extra_paragraphs h.greatest_extra_paragraphs h.ss x (read_back h.checksum) (read_back h.ip) (read_back h.cs) (read_back h.relocation_table) (read_back h.overlay)) (word_back h.sp fit.sp)
+    ∙ ap (λ (x : ℕ). made h.last_page_bytes h.pages h.relocation_count h.header_paragraphs h.least_extra_paragraphs h.greatest_extra_paragraphs h.ss h.sp x (read_back h.ip) (read_back h.cs) (read_back h.relocation_table) (read_back h.overlay)) (word_back h.checksum fit.checksum)
+    ∙ ap (λ (x : ℕ). made h.last_page_bytes h.pages h.relocation_count h.header_paragraphs h.least_extra_paragraphs h.greatest_extra_paragraphs h.ss h.sp h.checksum x (read_back h.cs) (read_back h.relocation_table) (read_back h.overlay)) (word_back h.ip fit.ip)
+    ∙ ap (λ (x : ℕ). made h.last_page_bytes h.pages h.relocation_count h.header_paragraphs h.least_extra_paragraphs h.greatest_extra_paragraphs h.ss h.sp h.checksum h.ip x (read_back h.relocation_table) (read_back h.overlay)) (word_back h.cs fit.cs)
+    ∙ ap (λ (x : ℕ). made h.last_page_bytes h.pages h.relocation_count h.header_paragraphs h.least_extra_paragraphs h.greatest_extra_paragraphs h.ss h.sp h.checksum h.ip h.cs x (read_back h.overlay)) (word_back h.relocation_table fit.relocation_table)
+    ∙ ap (λ (x : ℕ). made h.last_page_bytes h.pages h.relocation_count h.header_paragraphs h.least_extra_paragraphs h.greatest_extra_paragraphs h.ss h.sp h.checksum h.ip h.cs h.relocation_table x) (word_back h.overlay fit.overlay)
+
+all_inside : (n : ℕ) (rs : List ℕ) → AllByRecursion (λ r. r + 2 ≤ n) rs → list_all (is_inside n) (map entry_of rs) ≡ true
+all_inside n [] h = refl
+all_inside n (r ∷ rs) h =
+    let e = entry_of r in
+    let in_segment : e.offset ≢ 65535 = λ x. omega (arith, x) in
+    let in_image : entry_address e + 2 ≤ n = omega (arith, h.0) in
+    and_from (is_inside n e) (list_all (is_inside n) (map entry_of rs))
+    (and_from (not (e.offset == 65535)) (nat_le (entry_address e + 2) n) (not_from_false (e.offset == 65535) (ne_eqb e.offset 65535 in_segment)) (le-leb (entry_address e + 2) n in_image))
+    (all_inside n rs h.1)
+
+pub addresses_back : (rs : List ℕ) → map entry_address (map entry_of rs) ≡ rs
+addresses_back [] = refl
+addresses_back (r ∷ rs) =
+    let here : 16 * (r / 16) + r % 16 ≡ r = omega arith in
+    ap (λ (a : ℕ). a ∷ map entry_address (map entry_of rs)) here ∙ ap (λ (l : List ℕ). r ∷ l) (addresses_back rs)
+
+low_enough : (n : ℕ) (rs : List ℕ) → n ≤ 1048560 → AllByRecursion (λ r. r + 2 ≤ n) rs → AllByRecursion (λ r. r < 1048576) rs
+low_enough n [] k h = tt
+low_enough n (r ∷ rs) k h = (omega (arith, h.0), low_enough n rs k h.1)
+
+module _ (p : Program) (w : IsProgram p) where
+  n : ℕ
+  n = length p.relocations
+
+  head : List ℕ
+  head = header_bytes (header_of p)
+
+  words_fit : WordsFit (header_of p)
+  words_fit = record {
+    last_page_bytes = omega arith;
+    pages = omega (arith, w.few, w.short);
+    relocation_count = omega (arith, w.few);
+    header_paragraphs = omega (arith, w.few);
+    least_extra_paragraphs = omega arith;
+    greatest_extra_paragraphs = omega arith;
+    ss = w.ss;
+    sp = w.sp;
+    checksum = omega arith;
+    ip = w.ip;
+    cs = w.cs;
+    relocation_table = omega arith;
+    overlay = omega arith;
+  }
+
+  in_two : written p ≡ head ++ (table p.relocations ++ (padding p ++ p.image))
+  unfolding written head
+  in_two = append_assoc (head ++ table p.relocations) (padding p) p.image ∙ append_assoc head (table p.relocations) (padding p ++ p.image)
+
+  header_is : header_at (written p) ≡ header_of p
+  unfolding head
+  header_is = ap header_at in_two ∙ header_back (header_of p) (table p.relocations ++ (padding p ++ p.image)) words_fit
+
+  magic_is : word_at (written p) 0 ≡ magic
+  unfolding written
+  magic_is = refl
+
+  front : List ℕ
+  front = header_bytes (header_of p) ++ table p.relocations ++ padding p
+
+  length-front : length front ≡ 16 * paragraphs (length p.relocations)
+  unfolding front
+  length-front =
+      let m = length p.relocations in
+      let a : length (header_bytes (header_of p) ++ table p.relocations ++ padding p) ≡ length (header_bytes (header_of p) ++ table p.relocations) + length (padding p) = length-append (header_bytes (header_of p) ++ table p.relocations) (padding p) in
+      let b : length (header_bytes (header_of p) ++ table p.relocations) ≡ 28 + length (table p.relocations) = length-append (header_bytes (header_of p)) (table p.relocations) in
+      let c : length (padding p) ≡ 16 * paragraphs m - (28 + 4 * m) = length-replicate (16 * paragraphs m - (28 + 4 * m)) 0 in
+      omega (arith, a, b, c, length-table p.relocations)
+
+  pub length-written : length (written p) ≡ file_len p
+  unfolding written front
+  length-written = length-append front p.image ∙ ap (λ (k : ℕ). k + length p.image) length-front
+
+  image_is : drop (16 * paragraphs (length p.relocations)) (written p) ≡ p.image
+  unfolding written front
+  image_is = drop_at front p.image (16 * paragraphs (length p.relocations)) length-front
+
+  inside : AllByRecursion (λ r. r + 2 ≤ length p.image) p.relocations
+  inside = recursion_from_All (λ r. r + 2 ≤ length p.image) p.relocations w.inside
+
+  entries_are : entries_at (length p.relocations) 28 (written p) ≡ map entry_of p.relocations
+  unfolding head
+  entries_are = ap (entries_at (length p.relocations) 28) in_two ∙ entries_back head p.relocations (padding p ++ p.image) (low_enough (length p.image) p.relocations w.short inside)
+
+  accepted : is_accepted (header_of p) ≡ true
+  accepted =
+      let h = header_of p in
+      let told = told_len-header_of p in
+      and_from _ _ (and_from _ _ (and_from _ _ (and_from _ _ (le-leb 1 h.pages (omega arith)) (le-leb h.last_page_bytes 511 (omega arith)))
+      (le-leb 28 (header_len h) (omega arith))) (le-leb (header_len h) (told_len h) (omega arith)))
+      (or_right (h.relocation_count == 0) (has_table_inside h) (and_from _ _ (le-leb 28 h.relocation_table (omega arith)) (le-leb (h.relocation_table + 4 * h.relocation_count) (header_len h) (omega arith))))
+
+  file_is : file_in (header_of p) (written p) ≡ Ok (as_file p)
+  file_is =
+      let h = header_of p in
+      let answer : List Entry → List ℕ → Result MzFile MzFault = λ es bs. cond (list_all (is_inside (length bs)) es) (Ok (record { header = h; entries = es; image = bs })) (Err RelocationOutside) in
+      ap (λ (es : List Entry). answer es (drop (header_len h) (written p))) entries_are
+      ∙ ap (answer (map entry_of p.relocations)) image_is
+      ∙ cond-true _ _ _ (all_inside (length p.image) p.relocations inside)
+
+  pub reads_back : (rest : List ℕ) → reading (written p ++ rest) ≡ Ok (as_file p)
+  reads_back rest =
+      let b = written p in
+      let long : 28 ≤ length b = omega (arith, length-written) in
+      let header : header_at (b ++ rest) ≡ header_of p = header_at-append b rest long ∙ header_is in
+      reads_accepted b rest long magic_is (ap is_accepted header_is ∙ accepted)
+      ∙ whole_behind b rest (header_of p) header accepted (length-written ∙ sym (told_len-header_of p))
+      ∙ file_is
+
+  pub tells_length : (rest : List ℕ) → told_len (header_at (written p ++ rest)) ≡ length (written p)
+  tells_length rest =
+      let long : 28 ≤ length (written p) = omega (arith, length-written) in
+      ap told_len (header_at-append (written p) rest long ∙ header_is) ∙ told_len-header_of p ∙ sym length-written
+
+  loaded_back : (P : ℕ) → loaded P (as_file p) ≡ moved P p
+  unfolding loaded
+  loaded_back P =
+      let made : List ℕ → Loaded = λ bs. record { bytes = bs; cs = (p.cs + P) % 65536; ip = p.ip; ss = (p.ss + P) % 65536; sp = p.sp } in
+      ap (λ (rs : List ℕ). made (add_words P rs p.image)) (addresses_back p.relocations)
+
+  pub loads_back : (P : ℕ) → Fits P p → loading P (as_file p) ≡ Ok (moved P p)
+  loads_back P fits =
+      let answer : Loaded → Result Loaded LoadFault = λ l. Ok l in
+      does_fit P (as_file p) fits.1 ∙ ap answer (loaded_back P)
+
+  pub memory_back : (rest : List ℕ) (P : ℕ) → memory P (written p ++ rest) ≡ moved P p
+  memory_back rest P =
+      let b = written p in
+      let h = header_of p in
+      let long : 28 ≤ length b = omega (arith, length-written) in
+      let header : header_at (b ++ rest) ≡ h = header_at-append b rest long ∙ header_is in
+      let with : List Entry → List ℕ → MzFile = λ es bs. record { header = h; entries = es; image = bs } in
+      let file : file_of (b ++ rest) ≡ as_file p =
+      file_agrees b rest h header accepted (length-written ∙ sym (told_len-header_of p))
+      ∙ ap (λ (es : List Entry). with es (drop (header_len h) b)) entries_are
+      ∙ ap (with (map entry_of p.relocations)) image_is in
+      ap (loaded P) file ∙ loaded_back P

@@ -1,0 +1,42 @@
+-- The memory after a file was loaded at a paragraph P, and the registers.
+use Rattle.std.specs.Prelude.{◌≡◌, ℕ, ◌+◌, ◌*◌, ◌%◌, nat_le, if◌then◌else◌, List, map, length, Ok, Err}
+use Rattle.std.specs.declared.result.Result.{Result}
+use Rattle.omf_image.specs.Words.{add_words}
+use Rattle.mz.specs.declared.fault.LoadFault.{LoadFault}
+use Rattle.mz.specs.declared.fault.LoadFault.TheVariants.{DoesNotFit, Memory}
+use Rattle.mz.specs.Header.{entry_address}
+use Rattle.mz.specs.File.{MzFile}
+
+-- the bytes of the image, the first of which stands at address 16 P, and the registers at the start
+pub record Loaded : Type 0 where
+  pub bytes : List ℕ
+  pub cs : ℕ
+  pub ip : ℕ
+  pub ss : ℕ
+  pub sp : ℕ
+
+-- P is added to the word of each entry, in the order of the table, and to CS and SS, modulo 65,536.
+-- An entry's word stands at address 16 * (P + segment) + offset, and its place in the image is 16 P below that.
+unfoldable pub loaded : (P : ℕ) → MzFile → Loaded
+loaded P f = record {
+  bytes = add_words P (map entry_address f.entries) f.image;
+  cs = (f.header.cs + P) % 65536;
+  ip = f.header.ip;
+  ss = (f.header.ss + P) % 65536;
+  sp = f.header.sp;
+}
+
+-- the end of the memory that a real-mode address reaches
+abbrev pub memory_len : ℕ
+memory_len = 1048576
+
+-- what loading a file at paragraph P answers
+unfoldable pub loading : (P : ℕ) → MzFile → Result Loaded LoadFault
+loading P f = if nat_le (16 * P + length f.image) memory_len then Ok (loaded P f) else Err DoesNotFit
+
+-- the answer is that one, unless there was no memory for an image that fits
+abbrev pub Loads : Result Loaded LoadFault → Result Loaded LoadFault → Type 0
+Loads (Ok l) expected = expected ≡ Ok l
+Loads (Err DoesNotFit) expected = expected ≡ Err DoesNotFit
+Loads (Err Memory) (Ok l) = Unit {0}
+Loads (Err Memory) (Err fault) = ⊥

@@ -1,0 +1,116 @@
+//! Loading a file at a paragraph.
+ghost use Rattle.std.specs.Prelude.{◌≡◌, ◌+◌, ◌≤◌, length, map, IsTrue};
+ghost use Rattle.std.specs.List.{list_all};
+ghost use Rattle.omf_image.specs.Words.{add_word, add_words};
+ghost use Rattle.mz.specs.Header.{entry_address, is_inside};
+ghost use Rattle.mz.specs.Loading.{Loaded as PlainLoaded, loading, Loads};
+
+use crate::fault::LoadFault;
+use crate::format::{Entry, PARAGRAPH_LEN, word};
+use crate::reading::MzFile;
+use std::alloc::{Allocator, Global};
+use std::marker::Model;
+
+/// The memory that a real-mode address reaches.
+const MEMORY_LEN: usize = 1_048_576;
+
+/// A loaded program: the bytes of its image as they stand in memory, the first at 16 times the paragraph, and its
+/// registers at the start.
+#[derive(Drop)]
+pub struct Loaded<A: Allocator + Copy = Global> {
+    bytes: Vec<u8, A>,
+    cs: u16,
+    ip: u16,
+    ss: u16,
+    sp: u16,
+}
+
+impl<A: Allocator + Copy> Model for Loaded<A> {
+    ghost use Rattle.mz.specs.Loading.{Loaded};
+
+    ghost Value = { Loaded };
+
+    ghost view = { λ l. record { bytes = l.bytes.items; cs = l.cs; ip = l.ip; ss = l.ss; sp = l.sp } };
+}
+
+impl<A: Allocator + Copy> Loaded<A> {
+    /// The bytes of the image in memory, from 16 times the paragraph on.
+    pub fn bytes(&self) -> &[u8]
+        ensures { result.now ≡ self.now.bytes }
+    {
+        &self.bytes
+    }
+
+    /// The code segment's frame at the start.
+    pub fn cs(&self) -> u16
+        ensures { result ≡ self.now.cs }
+    {
+        self.cs
+    }
+
+    /// The offset of the start in the code segment.
+    pub fn ip(&self) -> u16
+        ensures { result ≡ self.now.ip }
+    {
+        self.ip
+    }
+
+    /// The stack segment's frame at the start.
+    pub fn ss(&self) -> u16
+        ensures { result ≡ self.now.ss }
+    {
+        self.ss
+    }
+
+    /// The stack pointer at the start.
+    pub fn sp(&self) -> u16
+        ensures { result ≡ self.now.sp }
+    {
+        self.sp
+    }
+}
+
+/// Adds a value to the word at a place, modulo 65,536.
+fn add_to_word(bytes: &mut [u8], at: usize, value: u16)
+    requires { at + 2 ≤ length bytes.old }
+    ensures { bytes.new ≡ add_word value at bytes.old }
+{
+    let [low, high] = word(bytes, at).wrapping_add(value).to_le_bytes();
+    bytes[at] = low;
+    bytes[at + 1] = high;
+}
+
+/// Adds the paragraph to the word of each entry, in the order of the table.
+fn relocate(bytes: &mut [u8], entries: &[Entry], paragraph: u16)
+    requires { IsTrue (list_all (is_inside (length bytes.old)) entries.now) }
+    ensures { bytes.new ≡ add_words paragraph (map entry_address entries.now) bytes.old }
+{
+    for entry in entries {
+        add_to_word(bytes, entry.address(), paragraph);
+    }
+}
+
+/// Loads a file at a paragraph: the image stands at address 16 times the paragraph, which is added to the word of each
+/// entry and to CS and SS, modulo 65,536. It is refused exactly where the image would end above 1,048,576 bytes.
+pub fn load<A: Allocator + Copy, B: Allocator + Copy>(
+    alloc: A,
+    file: &MzFile<B>,
+    paragraph: u16,
+) -> Result<Loaded<A>, LoadFault>
+    ensures { Loads result (loading paragraph file.now) }
+{
+    let start = PARAGRAPH_LEN * usize::from(paragraph);
+    if file.image().len() > MEMORY_LEN - start {
+        return Err(LoadFault::DoesNotFit);
+    }
+    let mut bytes = Vec::from_slice(alloc, file.image())?;
+    relocate(&mut bytes, file.entries(), paragraph);
+    let header = file.header();
+    Ok(Loaded {
+        bytes,
+        cs: header.cs.wrapping_add(paragraph),
+        ip: header.ip,
+        ss: header.ss.wrapping_add(paragraph),
+        sp: header.sp,
+    })
+}
