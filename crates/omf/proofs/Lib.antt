@@ -1,4 +1,9 @@
+pub mod Exclusive
 pub mod Failures
+pub mod InputSteps
+pub mod LinkSteps
+pub mod Listed
+pub mod OneFile
 pub mod PrintLemmas
 pub mod Through
 pub mod WordsRequired

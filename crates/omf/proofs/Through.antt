@@ -58,30 +58,32 @@ faulty_taken b c p framing.Closing s = s
 faulty_taken b c p framing.InputTooLong s = s
 
 -- reading the next record failed
-pub stopped : (A : Type 0) (output : Placed → List ℕ) (rs : List Placed) (a b c w v : Option (List ℕ)) (place : ℕ) (e : FrameFault) (t : WentThrough output rs a b w v)
+pub stopped : (T A : Type 0) (output : Placed → List ℕ) (rs : List Placed) (a b c w v : Option (List ℕ)) (place : ℕ) (e : FrameFault) (t : WentThrough output rs a b w v)
     → AreBeforeEnd rs → place ≡ length t.bytes → IsAt {A = Option LentFrame} place (Err e) → IfSome b (λ bytes. Gives plain_frame (Err e) (frame_at place bytes)) → TakesRecord {A = Option LentFrame} b c (Err e)
-    → GoesThrough output a c w v {A = A} (Err (link_fault e))
-stopped A output rs a b c w v place (frame_fault.Device p) t before at h g s = (rs, b, before, t, refl, h.0 ∙ at, s)
-stopped A output rs a b c w v place (frame_fault.Framing p e) t before at h g s =
+    → GoesThrough output a c w v {T = T} {A = A} (Err (link_fault e))
+stopped T A output rs a b c w v place (frame_fault.Device p) t before at h g s = (rs, b, before, t, refl, h.0 ∙ at, s)
+stopped T A output rs a b c w v place (frame_fault.Framing p e) t before at h g s =
     (rs, b, before, t, refl, h.0 ∙ at, IfSome_then b {Q = (λ bytes. FaultAt p bytes (record_fault e))} g (λ x k. (Framing e, ap (λ n. frame_at n x) h.0 ∙ k, refl)), faulty_taken b c p e s)
-stopped A output rs a b c w v place frame_fault.Memory t before at h g s = absurd h
-stopped A output rs a b c w v place frame_fault.Failed t before at h g s = absurd h
+stopped T A output rs a b c w v place frame_fault.Memory t before at h g s = absurd h
+stopped T A output rs a b c w v place frame_fault.Failed t before at h g s = absurd h
 
 -- the canonical record was written
-pub handled : (place kind : ℕ) (body : List ℕ) (r : says.Record) (w v : Option (List ℕ)) (result : Result (Unit {0}) LinkFault) → BodyOf kind r body → WritesAll (frame kind (canonical r)) w v result → Handles (written_as Rewriting) place kind body w v result
+pub handled : {A : Type 0} (place kind : ℕ) (body : List ℕ) (r : says.Record) (w v : Option (List ℕ)) (result : Result (Unit {0}) (LinkFault A)) → BodyOf kind r body → WritesAll (frame kind (canonical r)) w v result → Handles (written_as Rewriting) place kind body w v result
 handled place kind body r w v (Ok x) b h = (r, b, subst (λ k. Appends w v (frame k (canonical r))) (sym b.0) h)
 handled place kind body r w v (Err link.Output) b h = (r, b, subst (λ k. AppendsFront w v (frame k (canonical r))) (sym b.0) h)
 handled place kind body r w v (Err link.Memory) b h = h
 handled place kind body r w v (Err (link.Record input at f)) b h = absurd h
 handled place kind body r w v (Err (link.Device input at)) b h = absurd h
+handled place kind body r w v (Err (link.Program f)) b h = absurd h
+handled place kind body r w v (Err (link.File f)) b h = absurd h
 
 kept_through : (output : Placed → List ℕ) (rs : List Placed) (a b w v u : Option (List ℕ)) (t : WentThrough output rs a b w v) → Keeps v u → WentThrough output rs a b w u
 kept_through output rs a b w v u t k = record { bytes = t.bytes; are_records = t.are_records; taken = t.taken; written = Appends-kept w v u (flat_map output rs) t.written k }
 
 -- the record that was read was not written whole
-pub refused : (output : Placed → List ℕ) (rs : List Placed) (a b c w v u : Option (List ℕ)) (f : Frame) (front : List ℕ) (e : LinkFault) (t : WentThrough output rs a b w v)
+pub refused : {A : Type 0} (output : Placed → List ℕ) (rs : List Placed) (a b c w v u : Option (List ℕ)) (f : Frame) (front : List ℕ) (e : LinkFault A) (t : WentThrough output rs a b w v)
     → AreBeforeEnd rs → f.place ≡ length t.bytes → f.place < place_limit → Framed f.kind f.body front → Consumes b c front → TakesWhole b c → IfSome b (λ bytes. frame_at f.place bytes ≡ Ok (Some f))
-    → Handles output f.place f.kind f.body v u (Err e) → GoesThrough output a c w u {A = Unit {0}} (Err e)
+    → Handles output f.place f.kind f.body v u (Err e) → GoesThrough output a c w u {T = Unit {0}} (Err e)
 unfolding kept_through
 refused output rs a b c w v u f front link.Memory t before at below framed taken whole told h = (rs, b, before, kept_through output rs a b w v u t h, within_whole b c whole)
 refused output rs a b c w v u f front link.Output t before at below framed taken whole told h =
@@ -95,6 +97,8 @@ refused output rs a b c w v u f front link.Output t before at below framed taken
       subst (AppendsFront w u) (sym (all_output output rs r)) (AppendsFront-then w v u (flat_map output rs) (output r) t.written h.2),
     )
 refused output rs a b c w v u f front (link.Device input place) t before at below framed taken whole told h = absurd h
+refused output rs a b c w v u f front (link.Program g) t before at below framed taken whole told h = absurd h
+refused output rs a b c w v u f front (link.File g) t before at below framed taken whole told h = absurd h
 refused output rs a b c w v u f front (link.Record input place g) t before at below framed taken whole told h =
     elim h.3 [
       | inl k ↦ (rs, b, before, kept_through output rs a b w v u t h.0, h.1, h.2 ∙ at, IfSome_then b {Q = (λ bytes. FaultAt place bytes g)} told (λ x e. (OtherType, (f, ap (λ n. frame_at n x) h.2 ∙ e, k.0), k.1)), subst (TakesFaulty b c) (sym k.1) whole)
@@ -114,20 +118,22 @@ told_fault rs gs bytes rest (Some l) place g output w v re bg h t at e =
     let here : place ≡ 0 + length t.bytes = omega (arith, at) in
     no_fault 0 rs gs bytes t.bytes rest l e.0 re bg h t.are_records t.taken (subst (λ n. NoRecordAt n l e.0) here e.1)
 
-only_told : (A : Type 0) (output : Placed → List ℕ) (rs : List Placed) (bytes rest : List ℕ) (new w v : Option (List ℕ)) (r : Result A LinkFault) → AreToEnd rs → AreRecords 0 rs bytes → GoesThrough output (Some (bytes ++ rest)) new w v r
+only_told : (T A : Type 0) (output : Placed → List ℕ) (rs : List Placed) (bytes rest : List ℕ) (new w v : Option (List ℕ)) (r : Result T (LinkFault A)) → AreToEnd rs → AreRecords 0 rs bytes → GoesThrough output (Some (bytes ++ rest)) new w v r
     → Writes (flat_map output rs) rest new w v r
-only_told A output rs bytes rest None w v (Ok x) re h k = absurd k.2.taken
-only_told A output rs bytes rest (Some l) w v (Ok x) re h k =
+only_told T A output rs bytes rest None w v (Ok x) re h k = absurd k.2.taken
+only_told T A output rs bytes rest (Some l) w v (Ok x) re h k =
     let one = only_way 0 rs k.0 bytes k.2.bytes rest l re k.1 h k.2.are_records k.2.taken in
     (ap (λ (m : List ℕ). some_list m) (sym one.2), subst (Appends w v) (ap (flat_map output) (sym one.0)) k.2.written)
-only_told A output rs bytes rest new w v (Err link.Memory) re h k = tt
-only_told A output rs bytes rest new w v (Err link.Output) re h k = tt
-only_told A output rs bytes rest new w v (Err (link.Device input place)) re h k = tt
-only_told A output rs bytes rest new w v (Err (link.Record input place g)) re h k = told_fault rs k.0 bytes rest k.1 place g output w v re k.2 h k.3 k.5 k.6
+only_told T A output rs bytes rest new w v (Err link.Memory) re h k = tt
+only_told T A output rs bytes rest new w v (Err link.Output) re h k = tt
+only_told T A output rs bytes rest new w v (Err (link.Device input place)) re h k = tt
+only_told T A output rs bytes rest new w v (Err (link.Program f)) re h k = absurd k
+only_told T A output rs bytes rest new w v (Err (link.File f)) re h k = absurd k
+only_told T A output rs bytes rest new w v (Err (link.Record input place g)) re h k = told_fault rs k.0 bytes rest k.1 place g output w v re k.2 h k.3 k.5 k.6
 
-pub only_answer : (A : Type 0) (output : Placed → List ℕ) (rs : List Placed) (bytes rest : List ℕ) (old new w v : Option (List ℕ)) (r : Result A LinkFault) → AreToEnd rs → AreRecords 0 rs bytes → old ≡ Some (bytes ++ rest)
+pub only_answer : (T A : Type 0) (output : Placed → List ℕ) (rs : List Placed) (bytes rest : List ℕ) (old new w v : Option (List ℕ)) (r : Result T (LinkFault A)) → AreToEnd rs → AreRecords 0 rs bytes → old ≡ Some (bytes ++ rest)
     → GoesThrough output old new w v r → Writes (flat_map output rs) rest new w v r
-only_answer A output rs bytes rest old new w v r re h e k = only_told A output rs bytes rest new w v r re h (subst (λ o. GoesThrough output o new w v r) e k)
+only_answer T A output rs bytes rest old new w v r re h e k = only_told T A output rs bytes rest new w v r re h (subst (λ o. GoesThrough output o new w v r) e k)
 
 -- ---- what was rewritten is records again
 
@@ -158,8 +164,8 @@ still_ended at [] h = h
 still_ended at (r ∷ []) h = h
 still_ended at (r ∷ s ∷ rs) h = (h.0, still_ended (at + length (frame (kind_of r.says) (canonical r.says))) (s ∷ rs) h.1)
 
-pub again : (a b w v : Option (List ℕ)) (x : Unit {0}) → GoesThrough (written_as Rewriting) a b w v {A = Unit {0}} (Ok x) → AppendsRewritten w v
-again a b w v x k = (
+pub again : (A : Type 0) (a b w v : Option (List ℕ)) (x : Unit {0}) → GoesThrough (written_as Rewriting) a b w v {T = Unit {0}} {A = A} (Ok x) → AppendsRewritten w v
+again A a b w v x k = (
   flat_map (written_as Rewriting) k.0,
   k.2.written,
   record { records = rewritten_from 0 k.0; ended = still_ended 0 k.0 k.1; are_records = rewritten_are 0 0 k.0 k.2.bytes (omega arith) k.2.are_records; same = same_output 0 k.0 },

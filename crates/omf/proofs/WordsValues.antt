@@ -1,12 +1,18 @@
 -- What the getters give, by the rows of the matches, and the subcommand that the command enters.
-use Rattle.std.proofs.Common.{◌≡◌, ◌∙◌, ◌&&◌, ◌||◌, Bool, List, [], Option, Some, None, Result, Ok, IsSome, codes, option_map, is_some, false, true, refl, sym, ap, ap₂, subst, true≢false}
-use Rattle.std.specs.Prelude.{IsSomeAnd, unwrap_or}
+use Rattle.std.proofs.Common.{◌≡◌, ◌<◌, ◌≤◌, ◌∙◌, ◌&&◌, ◌||◌, ◌⊎◌, ℕ, Bool, List, [], ◌∷◌, length, Option, Some, None, Result, Ok, Err, IsSome, IsOk, codes, map, option_map, is_some, false, true, refl, sym, ap, ap₂, subst, arith, inl, inr, true≢false}
+use Rattle.std.specs.Prelude.{find, option_and_then, slice_get, IsSomeAnd, unwrap_or}
 use Rattle.std.specs.List.{list_any}
 use Rattle.std.specs.Str.{bytes_eq}
+use Rattle.std.specs.Int.{from_be_bytes, to_be_bytes, w16}
 use Rattle.std.specs.Borrow.{Bor}
 use Rattle.std.specs.Box.{box_value}
+use Rattle.std.proofs.lemmas.List.{length-map}
+use Rattle.std.proofs.lemmas.Nat.{be_bytes_2}
 use Rattle.std.proofs.lemmas.Slice.Eq.{bytes_eq-Decides}
-use Rattle.clap.specs.Words.{App, HasMatchesOf, Row, Text, built, fault_of, first_of, first_value, found_of, has_subcommand, is_simple, is_simple_and_free, rows_of, subcommand_name_of, subcommand_of, subcommand_rows, subcommand_rows_of}
+use Rattle.hex.specs.Hex.{decode_of, decode_sized}
+use Rattle.hex.specs.declared.error.FromHexError.{FromHexError}
+use Rattle.hex.proofs.HexLemmas.{IsOk-decode_sized, decode_of-ok, decode_sized-ok, decode_sized-twice}
+use Rattle.clap.specs.Words.{App, HasMatchesOf, Row, Text, all_of, built, fault_of, first_of, first_value, found_of, has_subcommand, is_simple, is_simple_and_free, matched_of, raw_values, rows_of, subcommand_name_of, subcommand_of, subcommand_rows, subcommand_rows_of}
 use Rattle.clap.specs.Kinds.{FailsBy}
 use Rattle.clap.specs.declared.error.Error.{Error}
 use Rattle.clap.specs.declared.parser.matches.ArgMatches.{ArgMatches}
@@ -15,9 +21,11 @@ use Rattle.clap.specs.declared.parser.matches.Found.{Found}
 use Rattle.clap.proofs.CallerLemmas.{some_of_text}
 use Rattle.clap.proofs.OnLiterals.{clap_on_literals}
 use Rattle.clap.proofs.TakesLemmas.{some_rows}
-use Rattle.clap.proofs.WalkLemmas.{first_value-rows}
+use Rattle.clap.proofs.WalkLemmas.{first_value-rows, raw_values-rows}
 use Rattle.omf.specs.declared.words.Job.{Job}
-use Rattle.omf.specs.Words.{IsEntered, IsJobFor, IsJobOf, omf_command}
+use Rattle.omf.specs.declared.words.WordsFault.{WordsFault}
+use Rattle.omf.specs.declared.words.WordsFault.TheVariants.{Help, Wrong, Memory}
+use Rattle.omf.specs.Words.{HasTooManyFiles, HasWrongParagraph, IsEntered, IsFourDigits, IsJobFor, IsJobOf, IsRefusalFor, IsRefusalOf, IsWrong, omf_command, texts}
 use Rattle.omf.proofs.WordsTaken.{is_settled_app, takes_where_no_fault}
 use Rattle.omf.proofs.WordsRequired.{enters_one, is_entered, required_given, wants_values}
 
@@ -29,6 +37,80 @@ value_there f id o is there = some_of_text (λ s. s.now) o (first_of id (rows_of
 pub value_given : (f : Found) (id : Text) (o : Option (Bor Text)) (text : Bor Text) → option_map (λ s. s.now) o ≡ first_value f id → o ≡ Some text
     → first_of id (rows_of f) ≡ Some text.now
 value_given f id o text is given = sym (first_value-rows f id) ∙ (sym is ∙ ap (option_map (λ s. s.now)) given)
+
+-- the values of an argument that has one
+values_there : (id : Text) (rows : List Row) → IsSome (first_of id rows) → (vs : List Text) × (all_of id rows ≡ Some vs) × (1 ≤ length vs)
+values_there id rows there = go (find (λ r. bytes_eq r.id id) rows) there
+  where
+    go : (o : Option Row) → IsSome (option_and_then (λ r. slice_get r.values 0) o) → (vs : List Text) × (option_map (λ r. r.values) o ≡ Some vs) × (1 ≤ length vs)
+    go None e = absurd (true≢false (sym e))
+    go (Some r) e = (r.values, refl, some r.values e)
+      where
+        some : (vs : List Text) → IsSome (slice_get vs 0) → 1 ≤ length vs
+        some [] e = absurd (true≢false (sym e))
+        some (v ∷ vs) e = omega arith
+
+pub all_there : (f : Found) (id : Text) (o : Option (Bor (List (Bor Text)))) → option_map (λ s. map (λ v. v.now) s.now) o ≡ option_map raw_values (matched_of f id)
+    → IsSome (first_of id (rows_of f)) → IsSome o
+all_there f id o is there =
+    let vs = values_there id (rows_of f) there in
+    some_of_text (λ s. map (λ v. v.now) s.now) o (Some vs.0) (is ∙ (raw_values-rows f id ∙ vs.1)) refl
+
+pub all_given : (f : Found) (id : Text) (o : Option (Bor (List (Bor Text)))) (list : Bor (List (Bor Text))) → option_map (λ s. map (λ v. v.now) s.now) o ≡ option_map raw_values (matched_of f id)
+    → o ≡ Some list → all_of id (rows_of f) ≡ Some (texts list.now)
+all_given f id o list is given = sym (raw_values-rows f id) ∙ (sym is ∙ ap (option_map (λ s. texts s.now)) given)
+
+pub one_or_more : (id : Text) (rows : List Row) (list : List (Bor Text)) → IsSome (first_of id rows) → all_of id rows ≡ Some (texts list) → 1 ≤ length list
+one_or_more id rows list there is =
+    let vs = values_there id rows there in
+    let same : texts list ≡ vs.0 = ap (λ o. unwrap_or o []) (sym is ∙ vs.1) in
+    let long : length list ≡ length vs.0 = sym (length-map list (λ s. s.now)) ∙ ap length same in
+    omega (arith, long, vs.2)
+
+-- ---- the paragraph
+
+pub four_digits : (digits bytes : List ℕ) (r : Result (List ℕ) FromHexError) → r ≡ decode_sized digits 2 → r ≡ Ok bytes → IsFourDigits digits
+four_digits digits bytes r is read = (IsOk-decode_sized digits 2).0 (rw (← is, read) refl)
+
+pub paragraph_read : (digits bytes : List ℕ) (r : Result (List ℕ) FromHexError) (n : ℕ) → r ≡ decode_sized digits 2 → r ≡ Ok bytes → n ≡ from_be_bytes w16 bytes
+    → decode_of digits ≡ Ok (to_be_bytes w16 n)
+paragraph_read digits bytes r n is read number =
+    let sized : decode_sized digits 2 ≡ Ok bytes = sym is ∙ read in
+    let twice = decode_sized-ok digits 2 bytes sized in
+    let whole : decode_of digits ≡ Ok bytes = sym (decode_sized-twice digits 2 twice) ∙ sized in
+    let parts = decode_of-ok digits bytes whole in
+    let two : length bytes ≡ 2 = omega (arith, twice, parts.2) in
+    whole ∙ ap (λ b. Ok b) (sym (be_bytes_2 bytes n two parts.3 number))
+
+pub not_four : (digits : List ℕ) (r : Result (List ℕ) FromHexError) (e : FromHexError) → r ≡ decode_sized digits 2 → r ≡ Err e → IsFourDigits digits → ⊥
+not_four digits r e is read four =
+    let good : IsOk (decode_sized digits 2) = (IsOk-decode_sized digits 2).1 four in
+    let bad : false ≡ true = subst IsOk (sym is ∙ read) good in
+    absurd (true≢false (sym bad))
+
+-- ---- refusals
+
+abbrev is_help : WordsFault → Bool
+is_help (Help text) = true
+is_help _ = false
+
+never : {P : Type 0} (text : _) → (Help text ≡ Memory) ⊎ ⊥ → P
+never text (inl e) = absurd (true≢false (ap is_help e))
+never text (inr e) = absurd e
+
+pub too_many : (rows : List Row) (files : List (Bor Text)) (fault : WordsFault) → (fault ≡ Memory) ⊎ IsWrong fault → all_of (codes "FILES") rows ≡ Some (texts files) → 65535 < length files
+    → IsRefusalOf (codes "link") rows fault
+too_many rows files Memory wrong is many = tt
+too_many rows files (Wrong text) wrong is many =
+    let long : 65535 < length (texts files) = omega (arith, length-map files (λ s. s.now), many) in
+    inl (refl, subst (λ o. IsSomeAnd o (λ fs. 65535 < length fs)) (sym is) long)
+too_many rows files (Help text) wrong is many = never text wrong
+
+pub wrong_paragraph : (rows : List Row) (digits : Text) (fault : WordsFault) → (fault ≡ Memory) ⊎ IsWrong fault → first_of (codes "PARAGRAPH") rows ≡ Some digits → (IsFourDigits digits → ⊥)
+    → IsRefusalOf (codes "load") rows fault
+wrong_paragraph rows digits Memory wrong is not = tt
+wrong_paragraph rows digits (Wrong text) wrong is not = inr (refl, subst (λ o. IsSomeAnd o (λ ds. IsFourDigits ds → ⊥)) (sym is) not)
+wrong_paragraph rows digits (Help text) wrong is not = never text wrong
 
 -- ---- the values that a subcommand asks for
 
@@ -54,6 +136,16 @@ unfolding IsEntered clap_on_literals
 rewrite_values name rows entered is =
     two_there (is_some (first_of (codes "IN") rows)) (is_some (first_of (codes "OUT") rows)) (subst (λ n. IsEntered n rows) is entered)
 
+pub link_values : (name : Text) (rows : List Row) → IsEntered name rows → name ≡ codes "link" → IsSome (first_of (codes "OUT") rows) × IsSome (first_of (codes "FILES") rows)
+unfolding IsEntered clap_on_literals
+link_values name rows entered is =
+    two_there (is_some (first_of (codes "OUT") rows)) (is_some (first_of (codes "FILES") rows)) (subst (λ n. IsEntered n rows) is entered)
+
+pub load_values : (name : Text) (rows : List Row) → IsEntered name rows → name ≡ codes "load" → IsSome (first_of (codes "FILE") rows) × IsSome (first_of (codes "PARAGRAPH") rows)
+unfolding IsEntered clap_on_literals
+load_values name rows entered is =
+    two_there (is_some (first_of (codes "FILE") rows)) (is_some (first_of (codes "PARAGRAPH") rows)) (subst (λ n. IsEntered n rows) is entered)
+
 differs : (x name : Text) → (name ≡ x → ⊥) → bytes_eq x name ≡ false
 differs x name other = go (bytes_eq x name) refl
   where
@@ -61,10 +153,12 @@ differs x name other = go (bytes_eq x name) refl
     go true e = absurd (other (sym ((bytes_eq-Decides x name).0 e)))
     go false e = refl
 
-pub none_else : (name : Text) (rows : List Row) → IsEntered name rows → (name ≡ codes "show" → ⊥) → (name ≡ codes "check" → ⊥) → (name ≡ codes "rewrite" → ⊥) → ⊥
+pub one_of_five : (name : Text) (rows : List Row) → IsEntered name rows → (name ≡ codes "show" → ⊥) → (name ≡ codes "check" → ⊥) → (name ≡ codes "rewrite" → ⊥) → (name ≡ codes "link" → ⊥)
+    → (name ≡ codes "load" → ⊥) → ⊥
 unfolding IsEntered
-none_else name rows entered show check rewrite =
-    let none : false ≡ true = rw (differs (codes "show") name show, differs (codes "check") name check, differs (codes "rewrite") name rewrite) at entered in
+one_of_five name rows entered show check rewrite link load =
+    let none : false ≡ true =
+    rw (differs (codes "show") name show, differs (codes "check") name check, differs (codes "rewrite") name rewrite, differs (codes "link") name link, differs (codes "load") name load) at entered in
     absurd (true≢false (sym none))
 
 -- ---- the command
@@ -132,3 +226,14 @@ pub job_for : (words : List Text) (name : Text) (rows : List Row) (job : Job) �
     → IsJobFor words job
 unfolding IsJobFor
 job_for words name rows job e met fits = (takes_where_no_fault omf_command words omf_is_simple omf_is_settled e, subst (λ o. IsSomeAnd o (λ p. IsJobOf p.0 p.1 job)) (sym met) fits)
+
+pub refusal_for : (words : List Text) (name : Text) (rows : List Row) (fault : WordsFault) → subcommand_of omf_command words ≡ Some (name, rows) → IsRefusalOf name rows fault
+    → IsRefusalFor words fault
+unfolding IsRefusalFor
+refusal_for words name rows Memory met fits = tt
+refusal_for words name rows (Wrong text) met fits = subst (λ o. IsSomeAnd o (λ p. HasTooManyFiles p.0 p.1 ⊎ HasWrongParagraph p.0 p.1)) (sym met) fits
+refusal_for words name rows (Help text) met fits = fits
+
+pub memory_refuses : (words : List Text) → IsRefusalFor words Memory
+unfolding IsRefusalFor
+memory_refuses words = tt

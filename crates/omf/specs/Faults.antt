@@ -21,7 +21,7 @@ reading_fault NoEnd = fault.NoEnd
 reading_fault OtherType = fault.Type
 reading_fault (WrongBody at) = fault.Body at
 
-abbrev pub link_fault : FrameFault → LinkFault
+abbrev pub link_fault : {A : Type 0} → FrameFault → LinkFault A
 link_fault (frame.Device place) = link.Device 0 place
 link_fault (frame.Framing place f) = link.Record 0 place (record_fault f)
 link_fault frame.Memory = link.Memory

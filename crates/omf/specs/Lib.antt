@@ -10,3 +10,6 @@ pub mod Words
 pub mod Checking
 pub mod Pieces
 pub mod Details
+pub mod Loading
+pub mod Inputs
+pub mod Linking

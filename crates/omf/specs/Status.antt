@@ -5,6 +5,6 @@ use Rattle.omf.specs.declared.fault.LinkFault.{LinkFault}
 use Rattle.omf.specs.FaultLines.{status}
 
 -- 0 where it is done
-abbrev pub exit_status : Result (Unit {0}) LinkFault → ℕ
+abbrev pub exit_status : {A : Type 0} → Result (Unit {0}) (LinkFault A) → ℕ
 exit_status (Ok done) = 0
 exit_status (Err fault) = status fault

@@ -1,17 +1,29 @@
 -- The command line: what each subcommand takes, and which job its values are.
-use Rattle.std.specs.Prelude.{◌≡◌, ◌&&◌, ◌||◌, ⊤, true, not, List, [], ◌∷◌, map, Some, is_some, IsSomeAnd, codes}
-use Rattle.std.specs.List.{list_all, list_any}
+use Rattle.std.specs.Prelude.{◌≡◌, ◌≤◌, ◌<◌, ◌&&◌, ◌||◌, ◌⊎◌, ⊤, true, not, List, [], ◌∷◌, length, map, Some, is_some, IsSomeAnd, codes, Ok}
+use Rattle.std.specs.Int.{to_be_bytes, w16}
+use Rattle.std.specs.List.{AllPass, list_all, list_any}
 use Rattle.std.specs.Str.{bytes_eq}
 use Rattle.std.specs.Borrow.{Bor}
-use Rattle.clap.specs.Words.{App, Row, Rule, Text, first_of, new_app, new_rule, subcommand_of, takes, with_rule, with_subcommand}
+use Rattle.hex.specs.Hex.{decode_of, is_hex_digit}
+use Rattle.clap.specs.Words.{App, Row, Rule, Text, all_of, first_of, new_app, new_rule, subcommand_of, takes, with_rule, with_subcommand}
+use Rattle.clap.specs.Lexer.{usize_max}
 use Rattle.omf.specs.declared.words.WordsFault.{WordsFault}
 use Rattle.omf.specs.declared.words.WordsFault.TheVariants.{Help, Wrong, Memory}
 use Rattle.omf.specs.declared.words.Job.{Job}
-use Rattle.omf.specs.declared.words.Job.TheVariants.{Show, Check, Rewrite}
+use Rattle.omf.specs.declared.words.Job.TheVariants.{Show, Check, Rewrite, Link, Load}
 
 -- a value that has to be there
 abbrev pub needed : Text → Rule
 needed name = record (new_rule name) { required = true }
+
+abbrev pub out_rule : Rule
+out_rule = record (needed (codes "OUT")) { short = Some 111 }
+
+-- one or more files
+abbrev pub files_rule : Rule
+files_rule = record (needed (codes "FILES")) {
+  range = Some (record { start_inclusive = 1; end_inclusive = usize_max });
+}
 
 abbrev pub show_command : App
 show_command = with_rule (new_app (codes "show")) (needed (codes "FILE"))
@@ -22,6 +34,12 @@ check_command = with_rule (new_app (codes "check")) (needed (codes "FILE"))
 abbrev pub rewrite_command : App
 rewrite_command = with_rule (with_rule (new_app (codes "rewrite")) (needed (codes "IN"))) (needed (codes "OUT"))
 
+abbrev pub link_command : App
+link_command = with_rule (with_rule (new_app (codes "link")) out_rule) files_rule
+
+abbrev pub load_command : App
+load_command = with_rule (with_rule (new_app (codes "load")) (needed (codes "FILE"))) (needed (codes "PARAGRAPH"))
+
 abbrev pub bare_command : App
 bare_command =
     let app = new_app (codes "omf") in
@@ -29,7 +47,8 @@ bare_command =
 
 -- the command `omf`
 unfoldable pub omf_command : App
-omf_command = with_subcommand (with_subcommand (with_subcommand bare_command show_command.top) check_command.top) rewrite_command.top
+omf_command =
+    with_subcommand (with_subcommand (with_subcommand (with_subcommand (with_subcommand bare_command show_command.top) check_command.top) rewrite_command.top) link_command.top) load_command.top
 
 -- the texts of references
 abbrev pub texts : List (Bor Text) → List Text
@@ -39,21 +58,51 @@ texts = map (λ s. s.now)
 unfoldable pub IsEntered : Text → List Row → Type 0
 IsEntered name rows =
     list_any (λ s. bytes_eq s.name name && list_all (λ a. not a.required || is_some (first_of a.id rows)) s.rules)
-    (show_command.top ∷ check_command.top ∷ rewrite_command.top ∷ []) ≡ true
+    (show_command.top ∷ check_command.top ∷ rewrite_command.top ∷ link_command.top ∷ load_command.top ∷ []) ≡ true
+
+-- a paragraph: exactly four hexadecimal digits, capital or small
+abbrev pub IsFourDigits : Text → Type 0
+IsFourDigits digits = (length digits ≡ 4) × AllPass is_hex_digit digits
 
 -- `job` is what these values of the subcommand `name` ask for
 abbrev pub IsJobOf : Text → List Row → Job → Type 0
 IsJobOf name rows (Show file) = (name ≡ codes "show") × (first_of (codes "FILE") rows ≡ Some file.now)
 IsJobOf name rows (Check file) = (name ≡ codes "check") × (first_of (codes "FILE") rows ≡ Some file.now)
 IsJobOf name rows (Rewrite from to) = (name ≡ codes "rewrite") × (first_of (codes "IN") rows ≡ Some from.now) × (first_of (codes "OUT") rows ≡ Some to.now)
+IsJobOf name rows (Link out files) = (name ≡ codes "link") × (first_of (codes "OUT") rows ≡ Some out.now)
+    × (all_of (codes "FILES") rows ≡ Some (texts files.items)) × (1 ≤ length files.items) × (length files.items ≤ 65535)
+IsJobOf name rows (Load file digits paragraph) = (name ≡ codes "load") × (first_of (codes "FILE") rows ≡ Some file.now)
+    × (first_of (codes "PARAGRAPH") rows ≡ Some digits.now) × IsFourDigits digits.now
+    × (decode_of digits.now ≡ Ok (to_be_bytes w16 paragraph))
 
 -- the command takes the words, and `job` is what its matches give for them
 unfoldable pub IsJobFor : List Text → Job → Type 0
 IsJobFor words job = (takes omf_command words ≡ true)
     × IsSomeAnd (subcommand_of omf_command words) (λ p. IsJobOf p.0 p.1 job)
 
--- words that the command takes are refused for nothing but want of memory
-abbrev pub IsRefusalFor : WordsFault → Type 0
-IsRefusalFor Memory = ⊤
-IsRefusalFor (Wrong text) = ⊥
-IsRefusalFor (Help text) = ⊥
+-- more files than a link may have
+abbrev pub HasTooManyFiles : Text → List Row → Type 0
+HasTooManyFiles name rows = (name ≡ codes "link") × IsSomeAnd (all_of (codes "FILES") rows) (λ files. 65535 < length files)
+
+-- a paragraph that isn't exactly four hexadecimal digits
+abbrev pub HasWrongParagraph : Text → List Row → Type 0
+HasWrongParagraph name rows = (name ≡ codes "load")
+    × IsSomeAnd (first_of (codes "PARAGRAPH") rows) (λ digits. IsFourDigits digits → ⊥)
+
+-- words that the command takes are refused for nothing but too many files, a wrong paragraph or
+-- want of memory
+unfoldable pub IsRefusalFor : List Text → WordsFault → Type 0
+IsRefusalFor words Memory = ⊤
+IsRefusalFor words (Wrong text) =
+    IsSomeAnd (subcommand_of omf_command words) (λ p. HasTooManyFiles p.0 p.1 ⊎ HasWrongParagraph p.0 p.1)
+IsRefusalFor words (Help text) = ⊥
+
+-- what a refusal of these values says, where the command has taken the words
+abbrev pub IsRefusalOf : Text → List Row → WordsFault → Type 0
+IsRefusalOf name rows Memory = ⊤
+IsRefusalOf name rows (Wrong text) = HasTooManyFiles name rows ⊎ HasWrongParagraph name rows
+IsRefusalOf name rows (Help text) = ⊥
+
+abbrev pub IsWrong : WordsFault → Type 0
+IsWrong (Wrong text) = ⊤
+IsWrong _ = ⊥

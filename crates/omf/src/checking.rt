@@ -32,7 +32,7 @@ fn check_fault(fault: CheckFault) -> RecordFault
 }
 
 /// A fault at the place of a record of the input with this index.
-fn fault_at(input: usize, place: u64, kind: FaultKind) -> LinkFault
+fn fault_at<A: Allocator + Copy>(input: usize, place: u64, kind: FaultKind) -> LinkFault<A>
     ensures { result ≡ fault_at input place kind }
 {
     let fault = match kind {
@@ -54,7 +54,7 @@ fn fault_at(input: usize, place: u64, kind: FaultKind) -> LinkFault
 }
 
 /// A fault of reading the input with this index as a module.
-pub fn module_fault(input: usize, fault: ModuleFault) -> LinkFault
+pub fn module_fault<A: Allocator + Copy>(input: usize, fault: ModuleFault) -> LinkFault<A>
     ensures { result ≡ module_fault input fault }
 {
     match fault {
@@ -68,7 +68,7 @@ pub fn check<S: Source, K: Sink, A: Allocator + Copy>(
     alloc: A,
     source: &mut S,
     sink: &mut K,
-) -> Result<(), LinkFault>
+) -> Result<(), LinkFault<A>>
     requires source { S.failures source.old < 2 ^ 64 - 1 }
     requires sink { K.failures sink.old < 2 ^ 64 - 1 }
     // Each device failed exactly where the answer says so, and then once.

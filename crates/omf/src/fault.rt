@@ -4,12 +4,12 @@ ghost use Rattle.std.specs.Io.KnownBytes.{Appends};
 ghost use Rattle.omf_frame.specs.Device.{AppendsFront};
 ghost use Rattle.omf.specs.declared.fault.LinkFault.TheVariants.{Memory};
 ghost use Rattle.omf.specs.FaultLines as spec;
-ghost use Rattle.omf.specs.FaultLines.{line_end, line_front, record_line};
+ghost use Rattle.omf.specs.FaultLines.{file_line, line_end, line_front, line_start, name_end, program_line, record_line, text_of};
 
-use crate::print::put_pieces;
+use crate::print::{put_name, put_pieces};
 use itoa::Buffer;
 use omf_frame::{IoFault, Sink, put_all};
-use std::alloc::AllocError;
+use std::alloc::{AllocError, Allocator, Global};
 use thiserror::Error;
 
 /// What is wrong with a record of an object module.
@@ -75,14 +75,92 @@ pub enum RecordFault {
     /// A group's component is an absolute segment.
     #[error("a group has an absolute segment")]
     GroupOfAbsolute,
+    /// The data covers a byte of an earlier data record's relocated word.
+    #[error("data covers a relocated word")]
+    CoversRelocated,
+    /// The external of a frame or target has no public.
+    #[error("an external has no public")]
+    Unresolved,
+    /// A frame or target is a group without members, or that of a public of one.
+    #[error("a group has no members")]
+    EmptyGroup,
+    /// A distance would depend on where the program is loaded.
+    #[error("a distance between relocatable and absolute")]
+    Mixed,
+    /// The target, or the location, isn't within 65,536 bytes from the frame's start.
+    #[error("a distance leaves its frame")]
+    OutOfFrame,
+    /// A distance doesn't fit a signed byte.
+    #[error("a distance doesn't fit a byte")]
+    ShortTooFar,
+    /// Two fix-ups share a byte of a relocated word.
+    #[error("fix-ups share a relocated word")]
+    OverlapRelocated,
+    /// An earlier module has a start.
+    #[error("a second start")]
+    TwoStarts,
     /// The record would begin at place 4,294,901,760 or later.
     #[error("it would begin too late in the input")]
     InputTooLong,
 }
 
+/// What is wrong with modules together.
+#[derive(Drop, Error)]
+#[derive_where(Debug, PartialEq, Eq)]
+pub enum ProgramFault<A: Allocator + Copy = Global> {
+    /// A combined segment ends more than 65,536 bytes above the start of its frame.
+    #[error("a segment is too long")]
+    SegmentTooLong {
+        /// The segment's name.
+        name: Vec<u8, A>,
+    },
+    /// The program has more than 1,048,560 bytes.
+    #[error("the program is too large")]
+    ProgramTooLarge,
+    /// A member of a group ends more than 65,536 bytes above the start of the group's frame.
+    #[error("a group is too long")]
+    GroupTooLong {
+        /// The group's name.
+        name: Vec<u8, A>,
+    },
+    /// Two publics have one name.
+    #[error("two publics have one name")]
+    DuplicatePublic {
+        /// The publics' name.
+        name: Vec<u8, A>,
+    },
+    /// There are more than 65,535 relocated words.
+    #[error("too many relocated words")]
+    TooManyRelocations,
+}
+
+/// What is wrong with a program's file, or with loading it.
+#[derive(Clone, Copy, Debug, PartialEq, Eq, Error)]
+pub enum FileFault {
+    /// The file doesn't begin with the bytes `4D 5A`.
+    #[error("it doesn't begin with MZ")]
+    Magic,
+    /// The words of its header contradict one another.
+    #[error("its header isn't accepted")]
+    Header,
+    /// It is shorter than its header tells.
+    #[error("it is cut off")]
+    Truncated,
+    /// An entry of its relocation table lies outside the image.
+    #[error("a relocation lies outside the image")]
+    RelocationOutside,
+    /// The image would end above the memory of 1,048,576 bytes.
+    #[error("it doesn't fit at the paragraph")]
+    DoesNotFit,
+    /// Reading it failed.
+    #[error("it failed")]
+    Device,
+}
+
 /// Why a command stopped.
-#[derive(Debug, Drop, PartialEq, Eq, Error)]
-pub enum LinkFault {
+#[derive(Drop, Error)]
+#[derive_where(Debug, PartialEq, Eq)]
+pub enum LinkFault<A: Allocator + Copy = Global> {
     /// There was no memory.
     #[error("out of memory")]
     Memory,
@@ -107,12 +185,18 @@ pub enum LinkFault {
         /// What is wrong with it.
         fault: RecordFault,
     },
+    /// The modules are at fault together.
+    #[error("{0}")]
+    Program(ProgramFault<A>),
+    /// The program's file is at fault, which is the only input.
+    #[error("the program's file: {0}")]
+    File(FileFault),
 }
 
-impl From<AllocError> for LinkFault {
+impl<A: Allocator + Copy> From<AllocError> for LinkFault<A> {
     ghost from_gives = { λ _ e. e ≡ Memory };
 
-    fn from(_error: AllocError) -> LinkFault {
+    fn from(_error: AllocError) -> LinkFault<A> {
         LinkFault::Memory
     }
 }
@@ -143,6 +227,14 @@ impl RecordFault {
             RecordFault::SelfRelativeBase => (19, "SelfRelativeBase"),
             RecordFault::FrameOfLocation => (20, "FrameOfLocation"),
             RecordFault::GroupOfAbsolute => (21, "GroupOfAbsolute"),
+            RecordFault::CoversRelocated => (26, "CoversRelocated"),
+            RecordFault::Unresolved => (27, "Unresolved"),
+            RecordFault::EmptyGroup => (28, "EmptyGroup"),
+            RecordFault::Mixed => (29, "Mixed"),
+            RecordFault::OutOfFrame => (30, "OutOfFrame"),
+            RecordFault::ShortTooFar => (31, "ShortTooFar"),
+            RecordFault::OverlapRelocated => (32, "OverlapRelocated"),
+            RecordFault::TwoStarts => (33, "TwoStarts"),
             RecordFault::InputTooLong => (41, "InputTooLong"),
         }
     }
@@ -172,7 +264,52 @@ impl RecordFault {
     }
 }
 
-impl LinkFault {
+impl<A: Allocator + Copy> ProgramFault<A> {
+    /// The number and the name that the fault is printed with.
+    fn label(&self) -> (u8, &'static str)
+        ensures number { result.0 ≡ (spec.program_label self.now).0 }
+        ensures name { result.1.now ≡ (spec.program_label self.now).1 }
+    {
+        match self {
+            ProgramFault::SegmentTooLong { .. } => (22, "SegmentTooLong"),
+            ProgramFault::ProgramTooLarge => (23, "ProgramTooLarge"),
+            ProgramFault::GroupTooLong { .. } => (24, "GroupTooLong"),
+            ProgramFault::DuplicatePublic { .. } => (25, "DuplicatePublic"),
+            ProgramFault::TooManyRelocations => (34, "TooManyRelocations"),
+        }
+    }
+
+    /// The name of the segment, group or public at fault, where one is.
+    pub fn name_at_fault(&self) -> Option<&[u8]>
+        ensures { text_of result ≡ spec.name_at_fault self.now }
+    {
+        match self {
+            ProgramFault::SegmentTooLong { name } => Some(name),
+            ProgramFault::GroupTooLong { name } => Some(name),
+            ProgramFault::DuplicatePublic { name } => Some(name),
+            ProgramFault::ProgramTooLarge | ProgramFault::TooManyRelocations => None,
+        }
+    }
+}
+
+impl FileFault {
+    /// The number and the name that the fault is printed with.
+    fn label(self) -> (u8, &'static str)
+        ensures number { result.0 ≡ (spec.file_label self).0 }
+        ensures name { result.1.now ≡ (spec.file_label self).1 }
+    {
+        match self {
+            FileFault::Magic => (35, "Magic"),
+            FileFault::Header => (36, "Header"),
+            FileFault::Truncated => (37, "Truncated"),
+            FileFault::RelocationOutside => (38, "RelocationOutside"),
+            FileFault::DoesNotFit => (39, "DoesNotFit"),
+            FileFault::Device => (40, "Device"),
+        }
+    }
+}
+
+impl<A: Allocator + Copy> LinkFault<A> {
     /// The fault's number; want of memory has none.
     pub fn number(&self) -> Option<u8>
         ensures { result ≡ spec.number self.now }
@@ -182,6 +319,8 @@ impl LinkFault {
             LinkFault::Output => Some(40),
             LinkFault::Device { .. } => Some(1),
             LinkFault::Record { fault, .. } => Some(fault.number()),
+            LinkFault::Program(fault) => Some(fault.label().0),
+            LinkFault::File(fault) => Some(fault.label().0),
         }
     }
 
@@ -193,6 +332,8 @@ impl LinkFault {
             LinkFault::Memory => "memory",
             LinkFault::Output | LinkFault::Device { .. } => "Device",
             LinkFault::Record { fault, .. } => fault.name(),
+            LinkFault::Program(fault) => fault.label().1,
+            LinkFault::File(fault) => fault.label().1,
         }
     }
 
@@ -202,13 +343,14 @@ impl LinkFault {
     {
         match self {
             LinkFault::Device { input, .. } | LinkFault::Record { input, .. } => Some(*input),
-            LinkFault::Memory | LinkFault::Output => None,
+            LinkFault::File(_) => Some(0),
+            LinkFault::Memory | LinkFault::Output | LinkFault::Program(_) => None,
         }
     }
 }
 
 /// The exit status of a command that stopped: 3 where a device or memory failed, else 1.
-pub fn status(fault: &LinkFault) -> u8
+pub fn status<A: Allocator + Copy>(fault: &LinkFault<A>) -> u8
     ensures { result ≡ spec.status fault.now }
 {
     match fault.number() {
@@ -283,9 +425,73 @@ fn put_record_line<K: Sink>(
     put_line_end(sink, place_in_body)
 }
 
+// Writes the front of a line, up to the fault's name. `word` stands before the number.
+fn put_line_start<K: Sink>(sink: &mut K, word: &str, number: u8, name: &str) -> Result<(), IoFault>
+    requires { K.failures sink.old < 2 ^ 64 - 1 }
+    ensures count { K.failures sink.new ≡ K.failures sink.old + (if is_ok result then 0 else 1) }
+    ensures appended { OnOk result (Appends (K.written sink.old) (K.written sink.new) (line_start word.now (number, name.now))) }
+    ensures failed { OnErr result (AppendsFront (K.written sink.old) (K.written sink.new) (line_start word.now (number, name.now))) }
+{
+    let mut digits = Buffer::new();
+    let number = digits.format(number);
+    let pieces = [
+        b"omf: ".as_slice(),
+        word.as_bytes(),
+        b": ".as_slice(),
+        number.as_bytes(),
+        b" ".as_slice(),
+        name.as_bytes(),
+    ];
+    put_pieces(sink, pieces.as_slice())
+}
+
+// Writes the printed name at fault, where there is one, and the line end.
+fn put_name_end<K: Sink>(sink: &mut K, name: Option<&[u8]>) -> Result<(), IoFault>
+    requires { K.failures sink.old < 2 ^ 64 - 1 }
+    ensures count { K.failures sink.new ≡ K.failures sink.old + (if is_ok result then 0 else 1) }
+    ensures appended { OnOk result (Appends (K.written sink.old) (K.written sink.new) (name_end (text_of name.entry))) }
+    ensures failed { OnErr result (AppendsFront (K.written sink.old) (K.written sink.new) (name_end (text_of name.entry))) }
+{
+    let Some(name) = name else {
+        return put_all(sink, "\n".as_bytes());
+    };
+    put_all(sink, b" ")?;
+    put_name(sink, name)?;
+    put_all(sink, b"\n")
+}
+
+fn put_program_line<K: Sink>(
+    sink: &mut K,
+    number: u8,
+    name: &str,
+    at_fault: Option<&[u8]>,
+) -> Result<(), IoFault>
+    requires { K.failures sink.old < 2 ^ 64 - 1 }
+    ensures count { K.failures sink.new ≡ K.failures sink.old + (if is_ok result then 0 else 1) }
+    ensures appended { OnOk result (Appends (K.written sink.old) (K.written sink.new) (program_line (number, name.now) (text_of at_fault.entry))) }
+    ensures failed { OnErr result (AppendsFront (K.written sink.old) (K.written sink.new) (program_line (number, name.now) (text_of at_fault.entry))) }
+{
+    put_line_start(sink, "link", number, name)?;
+    put_name_end(sink, at_fault)
+}
+
+fn put_file_line<K: Sink>(sink: &mut K, file: &str, number: u8, name: &str) -> Result<(), IoFault>
+    requires { K.failures sink.old < 2 ^ 64 - 1 }
+    ensures count { K.failures sink.new ≡ K.failures sink.old + (if is_ok result then 0 else 1) }
+    ensures appended { OnOk result (Appends (K.written sink.old) (K.written sink.new) (file_line file.now (number, name.now))) }
+    ensures failed { OnErr result (AppendsFront (K.written sink.old) (K.written sink.new) (file_line file.now (number, name.now))) }
+{
+    put_line_start(sink, file, number, name)?;
+    put_all(sink, b"\n")
+}
+
 /// Writes the line of a fault. `file` is the word before the number, where the line has one: the path
 /// of the input at fault, or of the output that failed, and `output` for standard output.
-pub fn fault_line<K: Sink>(fault: &LinkFault, file: &str, sink: &mut K) -> Result<(), IoFault>
+pub fn fault_line<K: Sink, A: Allocator + Copy>(
+    fault: &LinkFault<A>,
+    file: &str,
+    sink: &mut K,
+) -> Result<(), IoFault>
     requires { K.failures sink.old < 2 ^ 64 - 1 }
     ensures count { K.failures sink.new ≡ K.failures sink.old + (if is_ok result then 0 else 1) }
     ensures appended { OnOk result (Appends (K.written sink.old) (K.written sink.new) (spec.fault_line fault.now file.now)) }
@@ -311,6 +517,14 @@ pub fn fault_line<K: Sink>(fault: &LinkFault, file: &str, sink: &mut K) -> Resul
                 *place,
                 fault.place_in_body(),
             )
+        }
+        LinkFault::Program(fault) => {
+            let (number, name) = fault.label();
+            put_program_line(sink, number, name, fault.name_at_fault())
+        }
+        LinkFault::File(fault) => {
+            let (number, name) = fault.label();
+            put_file_line(sink, file, number, name)
         }
     }
 }

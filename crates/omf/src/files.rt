@@ -1,5 +1,5 @@
 //! Files that a program reads and writes, as devices.
-ghost use Rattle.std.specs.Prelude.{◌≡◌, ◌+◌, ◌-◌, ◌^◌, ◌<◌, ◌≤◌, [], IfOk, None, OnOk, is_ok, length, if◌then◌else◌};
+ghost use Rattle.std.specs.Prelude.{All, ◌≡◌, ◌+◌, ◌-◌, ◌^◌, ◌<◌, ◌≤◌, [], IfOk, None, OnOk, is_ok, length, if◌then◌else◌};
 ghost use Rattle.std.specs.Io.KnownBytes.{Keeps};
 ghost use Rattle.omf_frame.specs.Adapters.{reader_failures};
 ghost use Rattle.omf.specs.Files.{held_back, opened_bytes, sink_bytes, sink_failures};
@@ -47,6 +47,26 @@ where
         Ok(reader) => Ok(ReadSource::new(reader)),
         Err(_) => Err(AllocError),
     }
+}
+
+/// The bytes of the files at the paths, in their order.
+pub fn open_sources<R: Files, A: Allocator + Copy>(
+    alloc: A,
+    rt: &R,
+    paths: &[&str],
+) -> Result<Vec<FileSource<R::File, A>, A>, AllocError>
+where
+    R::File: Drop,
+    ensures { IfOk result (λ sources. All (λ s. reader_failures s < 2 ^ 64 - 1) sources.items) }
+{
+    let mut sources = Vec::new(alloc);
+    for path in paths {
+        let source = open_source(alloc, rt, path)?;
+        if sources.push(source).is_err() {
+            return Err(AllocError);
+        }
+    }
+    Ok(sources)
 }
 
 /// A file that is created, or emptied, when its first byte is written.

@@ -9,7 +9,10 @@ mod checking;
 mod details;
 mod fault;
 mod files;
+mod inputs;
+mod linking;
 mod listing;
+mod loading;
 mod pieces;
 mod print;
 mod records;
@@ -17,9 +20,11 @@ mod words;
 
 pub use checking::{check, module_fault};
 pub use details::{put_details, put_listing};
-pub use fault::{LinkFault, RecordFault, fault_line, status};
-pub use files::{BufferedSink, CreatedFile, FileSource, OpenedFile, open_source};
+pub use fault::{FileFault, LinkFault, ProgramFault, RecordFault, fault_line, status};
+pub use files::{BufferedSink, CreatedFile, FileSource, OpenedFile, open_source, open_sources};
+pub use linking::{Options, Report, file_or_fault, link, one_file};
 pub use listing::{put_head_line, record_name};
+pub use loading::load_file;
 use omf_frame::{WriteSink, put_all};
 pub use print::{Hexadecimal, put_name, put_pieces};
 pub use records::{rewrite, show};
@@ -73,6 +78,16 @@ fn run_job(rt: &HostRuntime, job: &Job<'_>) -> u8 {
         Job::Show { file } => finish(rt, show_file(rt, file), file, STANDARD_OUTPUT),
         Job::Check { file } => finish(rt, check_file(rt, file), file, STANDARD_OUTPUT),
         Job::Rewrite { from, to } => finish(rt, rewrite_file(rt, from, to), from, to),
+        Job::Link { out, files } => {
+            let answer = link_files(rt, out, files);
+            let input = input_at_fault(&answer, files);
+            finish(rt, answer, input, out)
+        }
+        Job::Load {
+            file,
+            paragraph,
+            ..
+        } => finish(rt, load_path(rt, file, *paragraph), file, STANDARD_OUTPUT),
     }
 }
 
@@ -97,6 +112,37 @@ fn rewrite_file(rt: &HostRuntime, from: &str, to: &str) -> Result<(), LinkFault>
     let mut source = open_source(rt.alloc(), rt, from)?;
     let mut sink = BufferedSink::new(rt.alloc(), CreatedFile::new(rt, to))?;
     let result = rewrite(rt.alloc(), &mut source, &mut sink);
+    flushed(&mut sink, result)
+}
+
+#[tactic(auto, using(crate::proofs::Failures::at_most_one))]
+fn link_files(rt: &HostRuntime, out: &str, files: &[&str]) -> Result<(), LinkFault> {
+    let mut sources = open_sources(rt.alloc(), rt, files)?;
+    let mut sink = BufferedSink::new(rt.alloc(), CreatedFile::new(rt, out))?;
+    let result = match link(rt.alloc(), &mut sources, &mut sink, &Options::new()) {
+        Ok(_) => Ok(()),
+        Err(fault) => Err(fault),
+    };
+    flushed(&mut sink, result)
+}
+
+// The path of the input at fault, where one is.
+fn input_at_fault<'a>(answer: &Result<(), LinkFault>, files: &[&'a str]) -> &'a str {
+    let input = match answer {
+        Ok(()) => None,
+        Err(fault) => fault.input(),
+    };
+    match input {
+        Some(input) if input < files.len() => files[input],
+        _ => "",
+    }
+}
+
+#[tactic(auto, using(crate::proofs::Failures::at_most_one))]
+fn load_path(rt: &HostRuntime, file: &str, paragraph: u16) -> Result<(), LinkFault> {
+    let mut source = open_source(rt.alloc(), rt, file)?;
+    let mut sink = BufferedSink::new(rt.alloc(), io::writer(rt))?;
+    let result = load_file(rt.alloc(), &mut source, paragraph, &mut sink);
     flushed(&mut sink, result)
 }
 

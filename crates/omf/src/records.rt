@@ -41,7 +41,7 @@ fn record_fault(fault: FramingFault) -> RecordFault
 }
 
 /// A fault of reading the only input.
-fn link_fault(fault: FrameFault) -> LinkFault
+fn link_fault<A: Allocator + Copy>(fault: FrameFault) -> LinkFault<A>
     ensures { result ≡ link_fault fault }
 {
     match fault {
@@ -59,7 +59,7 @@ fn link_fault(fault: FrameFault) -> LinkFault
 fn parse<'a, A: Allocator + Copy + 'a>(
     alloc: A,
     frame: &Frame<'a>,
-) -> Result<Record<'a, A>, LinkFault>
+) -> Result<Record<'a, A>, LinkFault<A>>
     ensures { Parses frame.now.place frame.now.kind frame.now.body.now result }
 {
     let fault = match parse_record(alloc, frame) {
@@ -81,7 +81,7 @@ fn put_canonical<K: Sink, A: Allocator + Copy>(
     sink: &mut K,
     kind: u8,
     record: &Record<'_, A>,
-) -> Result<(), LinkFault>
+) -> Result<(), LinkFault<A>>
     requires fits { FitsFrame (view «record».now) }
     requires working { K.failures sink.old < 2 ^ 64 - 1 }
     ensures count { K.failures sink.new ≡ K.failures sink.old + sink_failures result }
@@ -101,7 +101,7 @@ fn put_record<'a, K: Sink, A: Allocator + Copy + 'a>(
     sink: &mut K,
     form: Form,
     frame: &Frame<'a>,
-) -> Result<(), LinkFault>
+) -> Result<(), LinkFault<A>>
     requires { K.failures sink.old < 2 ^ 64 - 1 }
     ensures count { K.failures sink.new ≡ K.failures sink.old + sink_failures result }
     ensures handles { Handles (output form) frame.now.place frame.now.kind frame.now.body.now (K.written sink.old) (K.written sink.new) result }
@@ -127,7 +127,7 @@ fn go_through<S: Source, K: Sink, A: Allocator + Copy>(
     source: &mut S,
     sink: &mut K,
     form: Form,
-) -> Result<(), LinkFault>
+) -> Result<(), LinkFault<A>>
     requires source { S.failures source.old < 2 ^ 64 - 1 }
     requires sink { K.failures sink.old < 2 ^ 64 - 1 }
     ensures source { S.failures source.new ≡ S.failures source.old + source_failures result }
@@ -163,7 +163,7 @@ pub fn show<S: Source, K: Sink, A: Allocator + Copy>(
     alloc: A,
     source: &mut S,
     sink: &mut K,
-) -> Result<(), LinkFault>
+) -> Result<(), LinkFault<A>>
     requires source { S.failures source.old < 2 ^ 64 - 1 }
     requires sink { K.failures sink.old < 2 ^ 64 - 1 }
     // Each device failed exactly where the answer says so, and then once.
@@ -184,7 +184,7 @@ pub fn rewrite<S: Source, K: Sink, A: Allocator + Copy>(
     alloc: A,
     source: &mut S,
     sink: &mut K,
-) -> Result<(), LinkFault>
+) -> Result<(), LinkFault<A>>
     requires source { S.failures source.old < 2 ^ 64 - 1 }
     requires sink { K.failures sink.old < 2 ^ 64 - 1 }
     // Each device failed exactly where the answer says so, and then once.

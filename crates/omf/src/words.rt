@@ -1,16 +1,21 @@
 //! The words of the command line.
-ghost use Rattle.std.specs.Prelude.{◌≡◌, IfErr, IfOk, IsSome, Some, false, true};
+ghost use Rattle.std.specs.Prelude.{◌≡◌, ◌⊎◌, IfErr, IfOk, IsSome, Some, codes, false, true};
 ghost use Rattle.clap.specs.Words.{app_of, first_of, found_of, kind_of, rows_of, rule_of, takes, with_rule, with_subcommand};
 ghost use Rattle.clap.specs.declared.Command.{out-Command as fields_of};
 ghost use Rattle.clap.specs.declared.error.ErrorKind.TheVariants.{OutOfMemory};
 ghost use Rattle.omf.specs.declared.words.WordsFault.TheVariants.{Memory};
 ghost use Rattle.omf.specs.Words as spec;
-ghost use Rattle.omf.specs.Words.{IsEntered, IsJobFor, IsJobOf, IsRefusalFor, texts};
+ghost use Rattle.omf.specs.Words.{IsEntered, IsJobFor, IsJobOf, IsRefusalFor, IsRefusalOf, texts};
 
+use clap::builder::ValueRange;
 use clap::error::ErrorKind;
 use clap::{Arg, ArgMatches, Command};
+use hex::FromHex;
 use std::alloc::{AllocError, Global};
 use thiserror::Error;
+
+/// A link has no more files than this.
+const MAX_FILES: usize = 65_535;
 
 /// What the words ask for: a subcommand with its values.
 #[derive(Debug, Drop)]
@@ -31,6 +36,22 @@ pub enum Job<'a> {
         from: &'a str,
         /// The path of the file that is written.
         to: &'a str,
+    },
+    /// Link files.
+    Link {
+        /// The path of the program that is written.
+        out: &'a str,
+        /// The paths of the object modules, in their order.
+        files: Vec<&'a str>,
+    },
+    /// Load a program.
+    Load {
+        /// The path of the program.
+        file: &'a str,
+        /// The paragraph as it was given.
+        digits: &'a str,
+        /// The paragraph that the program is loaded at.
+        paragraph: u16,
     },
 }
 
@@ -62,6 +83,20 @@ fn needed<'a>(alloc: Global, id: &'a str) -> Arg<'a>
     ensures local { result.global ≡ false }
 {
     Arg::new(alloc, id).required(true)
+}
+
+fn out_option<'a>(alloc: Global) -> Arg<'a>
+    ensures rule { rule_of result ≡ spec.out_rule }
+    ensures local { result.global ≡ false }
+{
+    needed(alloc, "OUT").short('o')
+}
+
+fn files<'a>(alloc: Global) -> Arg<'a>
+    ensures rule { rule_of result ≡ spec.files_rule }
+    ensures local { result.global ≡ false }
+{
+    needed(alloc, "FILES").num_args(ValueRange::from(1..))
 }
 
 fn with_arg<'a>(command: Command<'a>, arg: Arg<'a>) -> Result<Command<'a>, AllocError>
@@ -98,6 +133,26 @@ fn rewrite_command<'a>(alloc: Global) -> Result<Command<'a>, AllocError>
     with_arg(command, needed(alloc, "OUT"))
 }
 
+fn link_command<'a>(alloc: Global) -> Result<Command<'a>, AllocError>
+    ensures app { IfOk result (λ c. app_of c ≡ spec.link_command) }
+    ensures local { IfOk result (λ c. (fields_of c).has_globals ≡ false) }
+{
+    let command = Command::new(alloc, "link").about("Links object modules into a program");
+    let command = with_arg(command, out_option(alloc))?;
+    with_arg(command, files(alloc))
+}
+
+fn load_command<'a>(alloc: Global) -> Result<Command<'a>, AllocError>
+    ensures app { IfOk result (λ c. app_of c ≡ spec.load_command) }
+    ensures local { IfOk result (λ c. (fields_of c).has_globals ≡ false) }
+{
+    let command = Command::new(alloc, "load").about(
+        "Lists a program as it is loaded at a paragraph",
+    );
+    let command = with_arg(command, needed(alloc, "FILE"))?;
+    with_arg(command, needed(alloc, "PARAGRAPH"))
+}
+
 fn with_command<'a>(above: Command<'a>, command: Command<'a>) -> Result<Command<'a>, AllocError>
     requires local { (fields_of command).has_globals ≡ false }
     requires above { (fields_of above).has_globals ≡ false }
@@ -112,7 +167,7 @@ fn bare_command<'a>(alloc: Global) -> Result<Command<'a>, AllocError>
     ensures local { IfOk result (λ c. (fields_of c).has_globals ≡ false) }
 {
     Command::new(alloc, "omf")
-        .about("Reads 16-bit OMF object modules")
+        .about("Links 16-bit OMF object modules into an MS-DOS program")
         .no_binary_name(true)
         .subcommand_required(true)
         .arg_required_else_help(true)
@@ -124,7 +179,9 @@ fn omf_command<'a>(alloc: Global) -> Result<Command<'a>, AllocError>
 {
     let command = with_command(bare_command(alloc)?, show_command(alloc)?)?;
     let command = with_command(command, check_command(alloc)?)?;
-    with_command(command, rewrite_command(alloc)?)
+    let command = with_command(command, rewrite_command(alloc)?)?;
+    let command = with_command(command, link_command(alloc)?)?;
+    with_command(command, load_command(alloc)?)
 }
 
 // What the parser says of the words.
@@ -141,6 +198,15 @@ fn refusal(alloc: Global, error: &clap::Error) -> WordsFault
     }
 }
 
+fn wrong_words(alloc: Global) -> WordsFault
+    ensures { (result ≡ WordsFault.Memory) ⊎ spec.IsWrong result }
+{
+    match String::from_str(alloc, "omf: wrong words\n") {
+        Ok(text) => WordsFault::Wrong(text),
+        Err(_) => WordsFault::Memory,
+    }
+}
+
 // A value that the command asks for.
 fn value<'a>(values: &ArgMatches<'a>, id: &str) -> &'a str
     requires { IsSome (first_of id.now (rows_of (found_of values.now))) }
@@ -149,31 +215,72 @@ fn value<'a>(values: &ArgMatches<'a>, id: &str) -> &'a str
     values.get_str(id).unwrap()
 }
 
+fn link_job<'a>(alloc: Global, values: &ArgMatches<'a>) -> Result<Job<'a>, WordsFault>
+    requires out { IsSome (first_of (codes "OUT") (rows_of (found_of values.now))) }
+    requires files { IsSome (first_of (codes "FILES") (rows_of (found_of values.now))) }
+    ensures ok { IfOk result (IsJobOf (codes "link") (rows_of (found_of values.now))) }
+    ensures err { IfErr result (IsRefusalOf (codes "link") (rows_of (found_of values.now))) }
+{
+    let files = values.get_strs("FILES").unwrap();
+    if files.len() > MAX_FILES {
+        return Err(wrong_words(alloc));
+    }
+    let Ok(files) = Vec::from_slice(alloc, files) else {
+        return Err(WordsFault::Memory);
+    };
+    Ok(Job::Link {
+        out: value(values, "OUT"),
+        files,
+    })
+}
+
+fn load_job<'a>(alloc: Global, values: &ArgMatches<'a>) -> Result<Job<'a>, WordsFault>
+    requires file { IsSome (first_of (codes "FILE") (rows_of (found_of values.now))) }
+    requires paragraph { IsSome (first_of (codes "PARAGRAPH") (rows_of (found_of values.now))) }
+    ensures ok { IfOk result (IsJobOf (codes "load") (rows_of (found_of values.now))) }
+    ensures err { IfErr result (IsRefusalOf (codes "load") (rows_of (found_of values.now))) }
+{
+    let digits = value(values, "PARAGRAPH");
+    let Ok(bytes) = <[u8; 2] as FromHex>::from_hex(digits) else {
+        return Err(wrong_words(alloc));
+    };
+    Ok(Job::Load {
+        file: value(values, "FILE"),
+        digits,
+        paragraph: u16::from_be_bytes(bytes),
+    })
+}
+
 // The job of a subcommand that the command entered, by its values.
-fn job_of<'a>(name: &str, values: &ArgMatches<'a>) -> Job<'a>
+fn job_of<'a>(alloc: Global, name: &str, values: &ArgMatches<'a>) -> Result<Job<'a>, WordsFault>
     requires { IsEntered name.now (rows_of (found_of values.now)) }
-    ensures { IsJobOf name.now (rows_of (found_of values.now)) result }
+    ensures ok { IfOk result (IsJobOf name.now (rows_of (found_of values.now))) }
+    ensures err { IfErr result (IsRefusalOf name.now (rows_of (found_of values.now))) }
 {
     match name {
-        "show" => Job::Show {
+        "show" => Ok(Job::Show {
             file: value(values, "FILE"),
-        },
-        "check" => Job::Check {
+        }),
+        "check" => Ok(Job::Check {
             file: value(values, "FILE"),
-        },
-        "rewrite" => Job::Rewrite {
+        }),
+        "rewrite" => Ok(Job::Rewrite {
             from: value(values, "IN"),
             to: value(values, "OUT"),
-        },
+        }),
+        "link" => link_job(alloc, values),
+        "load" => load_job(alloc, values),
         _ => unreachable!(),
     }
 }
 
 /// The job that the words after the program's name ask for. Words that the command takes are refused
-/// for nothing but want of memory.
+/// for nothing but too many files, a paragraph that isn't exactly four hexadecimal digits, or want of
+/// memory.
 pub fn parse_words<'a>(alloc: Global, words: &'a [&'a str]) -> Result<Job<'a>, WordsFault>
     ensures job { IfOk result (IsJobFor (texts words.entry.now)) }
-    ensures refused { takes spec.omf_command (texts words.entry.now) ≡ true → IfErr result IsRefusalFor }
+    ensures refused { takes spec.omf_command (texts words.entry.now) ≡ true
+        → IfErr result (IsRefusalFor (texts words.entry.now)) }
 {
     let Ok(command) = omf_command(alloc) else {
         return Err(WordsFault::Memory);
@@ -183,7 +290,7 @@ pub fn parse_words<'a>(alloc: Global, words: &'a [&'a str]) -> Result<Job<'a>, W
         Err(error) => return Err(refusal(alloc, &error)),
     };
     let (name, values) = matches.subcommand().unwrap();
-    Ok(job_of(name, values))
+    job_of(alloc, name, values)
 }
 
 #[cfg(test)]

@@ -119,7 +119,7 @@ fn each_fault_has_its_line_and_status(rt: HostRuntime) -> Result<(), Fail> {
 
 #[test]
 fn memory_and_outputs_have_lines(rt: HostRuntime) -> Result<(), Fail> {
-    let rows = [
+    let rows: [(LinkFault, &str, &str); 7] = [
         (LinkFault::Memory, "", "omf: memory\n"),
         (LinkFault::Output, "output", "omf: output: 40 Device\n"),
         (LinkFault::Output, "P.EXE", "omf: P.EXE: 40 Device\n"),
@@ -140,6 +140,16 @@ fn memory_and_outputs_have_lines(rt: HostRuntime) -> Result<(), Fail> {
             "A.OBJ",
             "omf: A.OBJ: 6 Body at record 16 byte 6\n",
         ),
+        (
+            LinkFault::Program(ProgramFault::TooManyRelocations),
+            "",
+            "omf: link: 34 TooManyRelocations\n",
+        ),
+        (
+            LinkFault::File(FileFault::Device),
+            "P.EXE",
+            "omf: P.EXE: 40 Device\n",
+        ),
     ];
     for (fault, file, line) in rows {
         for n in 0..line.len() + 1 {
@@ -150,16 +160,18 @@ fn memory_and_outputs_have_lines(rt: HostRuntime) -> Result<(), Fail> {
             assert_eq!(rt; sink.written(), &line.as_bytes()[..n]);
         }
     }
-    assert_eq!(rt; status(&LinkFault::Memory), 3u8);
-    assert_eq!(rt; status(&LinkFault::Output), 3u8);
-    let device = LinkFault::Device {
+    let memory: LinkFault = LinkFault::Memory;
+    let output: LinkFault = LinkFault::Output;
+    assert_eq!(rt; status(&memory), 3u8);
+    assert_eq!(rt; status(&output), 3u8);
+    let device: LinkFault = LinkFault::Device {
         input: 1,
         place: 26,
     };
     assert_eq!(rt; status(&device), 3u8);
     assert_eq!(rt; device.input(), Some(1));
-    assert_eq!(rt; LinkFault::Output.input(), None);
-    assert_eq!(rt; LinkFault::Output.number(), Some(40u8));
-    assert_eq!(rt; LinkFault::Memory.number(), None);
+    assert_eq!(rt; output.input(), None);
+    assert_eq!(rt; output.number(), Some(40u8));
+    assert_eq!(rt; memory.number(), None);
     Ok(())
 }

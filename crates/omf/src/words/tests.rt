@@ -10,6 +10,22 @@ fn reads_each_subcommand(rt: HostRuntime) {
             "Rewrite { from: \"A.OBJ\", to: \"B.OBJ\" }",
         ),
         (
+            ["link", "A", "-o", "P", "B"].as_slice(),
+            "Link { out: \"P\", files: [\"A\", \"B\"] }",
+        ),
+        (
+            ["link", "-oP", "A"].as_slice(),
+            "Link { out: \"P\", files: [\"A\"] }",
+        ),
+        (
+            ["load", "P", "1234"].as_slice(),
+            "Load { file: \"P\", digits: \"1234\", paragraph: 4660 }",
+        ),
+        (
+            ["load", "P", "aBcD"].as_slice(),
+            "Load { file: \"P\", digits: \"aBcD\", paragraph: 43981 }",
+        ),
+        (
             ["rewrite", "--", "-a", "B"].as_slice(),
             "Rewrite { from: \"-a\", to: \"B\" }",
         ),
@@ -42,6 +58,17 @@ fn answers_with_the_texts_of_the_parser(rt: HostRuntime) {
             ["rewrite", "A"].as_slice(),
             "Usage: omf rewrite <IN> <OUT>\n",
         ),
+        (
+            ["link", "-o", "P.EXE"].as_slice(),
+            "not provided:\n  <FILES>...\n\nUsage: omf link -o <OUT> <FILES>...\n",
+        ),
+        (["link", "A.OBJ"].as_slice(), "not provided:\n  -o <OUT>\n"),
+        (
+            ["load", "P.EXE"].as_slice(),
+            "Usage: omf load <FILE> <PARAGRAPH>\n",
+        ),
+        (["load", "P.EXE", "12345"].as_slice(), "omf: wrong words\n"),
+        (["load", "P.EXE", "123G"].as_slice(), "omf: wrong words\n"),
         (["what"].as_slice(), "error: unrecognized subcommand 'what'"),
         (["-V"].as_slice(), "error: unexpected argument '-V' found"),
         ([""; 0].as_slice(), "Usage: omf <COMMAND>\n"),
@@ -61,6 +88,10 @@ fn answers_with_the_texts_of_the_parser(rt: HostRuntime) {
             "Usage: omf rewrite <IN> <OUT>\n",
         ),
         (
+            ["help", "link"].as_slice(),
+            "Usage: omf link -o <OUT> <FILES>...\n",
+        ),
+        (
             ["rewrite", "--help"].as_slice(),
             "Usage: omf rewrite <IN> <OUT>\n",
         ),
@@ -70,5 +101,25 @@ fn answers_with_the_texts_of_the_parser(rt: HostRuntime) {
             Err(WordsFault::Help(text)) => assert!(rt; text.as_str().contains(part), "{text}"),
             _ => panic!(rt; "no help: {part}"),
         }
+    }
+}
+
+#[test]
+fn refuses_too_many_files(rt: HostRuntime) {
+    let mut words = Vec::new(rt.alloc());
+    for word in ["link", "-o", "P.EXE"] {
+        words.push(word).expect(&rt, "push");
+    }
+    for _ in 0..65_535 {
+        words.push("A.OBJ").expect(&rt, "push");
+    }
+    match parse_words(rt.alloc(), words.as_slice()) {
+        Ok(Job::Link { files, .. }) => assert_eq!(rt; files.len(), 65_535),
+        _ => panic!(rt; "no link"),
+    }
+    words.push("A.OBJ").expect(&rt, "push");
+    match parse_words(rt.alloc(), words.as_slice()) {
+        Err(WordsFault::Wrong(text)) => assert_eq!(rt; text.as_str(), "omf: wrong words\n"),
+        _ => panic!(rt; "not refused"),
     }
 }

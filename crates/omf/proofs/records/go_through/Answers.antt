@@ -46,7 +46,7 @@ returns-in-Err-clause-output g c =
     let e = c.in-Err.fault in
     let here = at_some _ place (λ p. IsAt {A = Option Frame} p (Err e) × IfFrame (Err e) (λ f. f.place ≡ p)) held c.in-Err.ensures.at in
     let exact = at_some _ place (λ p. IfSome told (λ bytes. Gives plain_frame (Err e) (frame_at p bytes))) held c.in-Err.ensures.exact in
-    rw c.link_fault.ensures (stopped (Unit {0}) (output c.args.form) rs _ told _ _ _ place e through before at here.0 exact c.in-Err.ensures.stands)
+    rw c.link_fault.ensures (stopped (Unit {0}) _ (output c.args.form) rs _ told _ _ _ place e through before at here.0 exact c.in-Err.ensures.stands)
 
 pub returns-in-Err-put_record-clause-output : goal.returns-in-Err-put_record-clause-output
 returns-in-Err-put_record-clause-output g c =
