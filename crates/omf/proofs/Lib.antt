@@ -1,11 +1,4 @@
-pub mod Exclusive
 pub mod Failures
-pub mod InputSteps
-pub mod LinkSteps
-pub mod Listed
-pub mod OneFile
-pub mod PrintLemmas
-pub mod Through
 pub mod WordsRequired
 pub mod WordsTaken
 pub mod WordsValues

@@ -1,15 +1,3 @@
-pub mod Printing
-pub mod FaultLines
-pub mod Status
-pub mod Listing
-pub mod Faults
-pub mod Records
-pub mod Reading
 pub mod Files
 pub mod Words
-pub mod Checking
-pub mod Pieces
-pub mod Details
-pub mod Loading
-pub mod Inputs
-pub mod Linking
+pub mod Status

@@ -5,29 +5,13 @@ ghost use Rattle.std.specs.Prelude.{◌≡◌, ◌<◌, ◌^◌, ◌-◌, [], Er
 ghost use Rattle.omf.specs.Files.{held_back, sink_failures};
 ghost use Rattle.omf.specs.Status.{exit_status};
 
-mod checking;
-mod details;
-mod fault;
 mod files;
-mod inputs;
-mod linking;
-mod listing;
-mod loading;
-mod pieces;
-mod print;
-mod records;
 mod words;
 
-pub use checking::{check, module_fault};
-pub use details::{put_details, put_listing};
-pub use fault::{FileFault, LinkFault, ProgramFault, RecordFault, fault_line, status};
 pub use files::{BufferedSink, CreatedFile, FileSource, OpenedFile, open_source, open_sources};
-pub use linking::{Options, Report, file_or_fault, link, one_file};
-pub use listing::{put_head_line, record_name};
-pub use loading::load_file;
+use omf_commands::{Options, check, link, load_file, rewrite, show};
 use omf_frame::{WriteSink, put_all};
-pub use print::{Hexadecimal, put_name, put_pieces};
-pub use records::{rewrite, show};
+use omf_text::{LinkFault, fault_line, status};
 use std::env;
 use std::io::{self, ErrorKind, Write};
 use std::process::ExitCode;
@@ -199,6 +183,3 @@ fn finish(rt: &HostRuntime, answer: Result<(), LinkFault>, input: &str, output: 
     let _ = fault_line(&fault, file, &mut WriteSink::new(rt.stderr()));
     status(&fault)
 }
-
-#[cfg(test)]
-mod tests;

@@ -1,5 +1,0 @@
-use Rattle.omf.proofs.Exclusive.{exclusive}
-use Rattle.omf.proofs.linking.file_or_fault.Goals as goal
-
-pub returns : goal.returns
-returns g c = λ modules file fault made stands. exclusive modules file fault made stands

@@ -1,0 +1,116 @@
+-- The steps of a link, put together from what each of them answers.
+use Rattle.std.proofs.Common.{◌≡◌, ℕ, ◌+◌, ◌*◌, ◌≤◌, List, [], ◌∷◌, ◌++◌, length, None, Some, IfSome, Result, Ok, Err, refl, sym, ap, subst, ◌∙◌, append-nil, inl, inr, arith}
+use Rattle.std.proofs.lemmas.List.{length-set}
+use Rattle.std.specs.declared.option.Option.{Option}
+use Rattle.std.specs.Io.KnownBytes.{Appends, Keeps}
+use Rattle.omf_module.specs.Module.{Module}
+use Rattle.omf_record.specs.Records.{Placed}
+use Rattle.omf_place.specs.Faults.{IsOnlyLayout, IsFirstFault}
+use Rattle.omf_place.specs.Layout.{Layout}
+use Rattle.omf_place.specs.Said.{said}
+use Rattle.omf_place.specs.declared.faults.PlaceFault.{PlaceFault}
+use Rattle.omf_place.specs.declared.faults.PlaceFault.TheVariants as place
+use Rattle.omf_image.specs.Building.{Builds}
+use Rattle.omf_image.specs.Program.{Program}
+use Rattle.omf_image.specs.Words.{put_word, add_word, add_words}
+use Rattle.omf_image.specs.declared.faults.FixFault.{FixFault}
+use Rattle.omf_image.specs.declared.faults.FixFault.TheVariants as build
+use Rattle.mz.specs.File.{Mz}
+use Rattle.mz.specs.Laws.{Fits, HoldsTheProgram, ReadsAsWritten, LoadsAsWritten, memory, moved, as_file}
+use Rattle.mz.specs.Loading.{Loaded, loading}
+use Rattle.mz.specs.Reading.{reading}
+use Rattle.omf_text.specs.declared.fault.ProgramFault.TheVariants as program
+use Rattle.omf_text.specs.declared.fault.LinkFault.{LinkFault}
+use Rattle.omf_text.specs.declared.fault.LinkFault.TheVariants as link
+use Rattle.omf_commands.specs.declared.linking.Report.{Report}
+use Rattle.omf_commands.specs.Inputs.{modules_of, AreInputs, ReadsFront, IsInputFault}
+use Rattle.omf_commands.specs.Reading.{sink_failures}
+use Rattle.omf_commands.specs.Linking.{IsLinked, IsLoadedFrom, IsModulesFault, IsReport, LinksModules, Links, HoldsProgram, FitsAt, HoldsAtEachParagraph, place_fault, build_fault}
+
+-- ---- the modules
+
+pub place_refused : {A : Type 0} (modules : List Module) (e : PlaceFault A) → IfSome (said e) (IsFirstFault modules) → LinksModules modules (Err (place_fault e))
+place_refused modules place.Memory h = tt
+place_refused modules (place.SegmentTooLong name) h = h
+place_refused modules place.ProgramTooLarge h = h
+place_refused modules (place.GroupTooLong name) h = h
+place_refused modules (place.DuplicatePublic name) h = h
+
+pub build_refused : (A : Type 0) (modules : List Module) (layout : Layout) (e : FixFault) → IsOnlyLayout modules layout → Builds layout modules (Err e) → LinksModules {A = A} modules (Err (build_fault e))
+build_refused A modules layout (build.At k input place) only h = (k, refl, (layout, only, h))
+build_refused A modules layout build.TooManyRelocations only h = (layout, only, h)
+build_refused A modules layout build.Memory only h = tt
+
+-- ---- the file
+
+length-add_word : (value i : ℕ) (bytes : List ℕ) → length (add_word value i bytes) ≡ length bytes
+unfolding add_word put_word
+length-add_word value i bytes = length-set _ (i + 1) _ ∙ length-set bytes i _
+
+length-add_words : (value : ℕ) (places bytes : List ℕ) → length (add_words value places bytes) ≡ length bytes
+length-add_words value [] bytes = refl
+length-add_words value (i ∷ is) bytes = length-add_words value is (add_word value i bytes) ∙ length-add_word value i bytes
+
+holds_moved : (modules : List Module) (layout : Layout) (p : Program) (P : ℕ) → IsLinked modules layout p → HoldsProgram P layout modules (moved P p)
+holds_moved modules layout p P linked = record {
+  size = length-add_words P p.relocations p.image ∙ linked.program.sized;
+  bytes = λ a h. linked.program.everywhere P a h;
+  registers = linked.program.at_each P;
+}
+
+pub holds_program : (modules : List Module) (layout : Layout) (p : Program) (file : List ℕ) → ReadsAsWritten → HoldsTheProgram → LoadsAsWritten → IsLinked modules layout p → Mz p file
+    → HoldsAtEachParagraph modules file
+holds_program modules layout p file reads holds loads linked mz = (layout, linked.is_layout, at)
+  where
+    at : (P : ℕ) → FitsAt P layout.size → HoldsProgram P layout modules (memory P file) × ((l : Loaded) × IsLoadedFrom P file l × HoldsProgram P layout modules l)
+    at P fits =
+        let same : length p.image ≡ layout.size = linked.program.sized in
+        let here : Fits P p = (fits.0, subst (λ n. 16 * P + n ≤ 1048576) (sym same) fits.1) in
+        let whole = append-nil file in
+        let loaded : memory P file ≡ moved P p = subst (λ b. memory P b ≡ moved P p) whole (holds p file [] mz P here) in
+        let read = subst (λ b. reading b ≡ Ok (as_file p)) whole (reads p file [] mz) in
+        (subst (HoldsProgram P layout modules) (sym loaded) (holds_moved modules layout p P linked), (moved P p, (as_file p, read, loads p mz.0 P here), holds_moved modules layout p P linked))
+
+-- ---- what a link answers
+
+kept : (w : Option (List ℕ)) → Keeps w w
+kept None = tt
+kept (Some x) = refl
+
+module _ {S : Type 0} (told : S → Option (List ℕ)) (failures : S → ℕ) where
+  pub not_read : {A : Type 0} (olds news : List S) (w : Option (List ℕ)) (e : LinkFault A) → IsInputFault told failures olds news e
+      → Links told failures olds news w w (Err e)
+  not_read olds news w link.Memory h = (h, kept w)
+  not_read olds news w (link.Device input place) h = (h, kept w)
+  not_read olds news w (link.Record input place f) h = (inl h, kept w)
+  not_read olds news w link.Output h = absurd h
+  not_read olds news w (link.Program f) h = absurd h
+  not_read olds news w (link.File f) h = absurd h
+
+  all_front : (lists : List (List Placed)) (olds news : List S) → AreInputs told failures lists olds news → ReadsFront told failures lists olds news
+  all_front lists olds news inputs = record {
+    old_front = olds;
+    new_front = news;
+    rest = [];
+    olds_are = sym (append-nil olds);
+    news_are = sym (append-nil news);
+    inputs = inputs;
+  }
+
+  pub not_linked : {A : Type 0} (olds news : List S) (w : Option (List ℕ)) (lists : List (List Placed)) (modules : List Module) (e : LinkFault A) → AreInputs told failures lists olds news
+      → modules ≡ modules_of lists → LinksModules {A = A} modules (Err e) → Links told failures olds news w w (Err e)
+  not_linked olds news w lists modules link.Memory inputs is h = (inr (lists, all_front lists olds news inputs), kept w)
+  not_linked olds news w lists modules (link.Device input place) inputs is h = absurd h
+  not_linked {A} olds news w lists modules (link.Record input place f) inputs is h = (inr (lists, inputs, subst (λ ms. IsModulesFault {A = A} ms (link.Record input place f)) is h), kept w)
+  not_linked olds news w lists modules link.Output inputs is h = absurd h
+  not_linked {A} olds news w lists modules (link.Program f) inputs is h = ((lists, inputs, subst (λ ms. IsModulesFault {A = A} ms (link.Program f)) is h), kept w)
+  not_linked olds news w lists modules (link.File f) inputs is h = absurd h
+
+-- placing and building write nothing
+pub unwritten : (T : Type 0) {A : Type 0} (modules : List Module) (n : ℕ) (e : LinkFault A) → LinksModules {A = A} modules (Err e) → n ≡ n + sink_failures {T = T} (Err e)
+unwritten T modules n link.Memory h = omega arith
+unwritten T modules n (link.Device input place) h = absurd h
+unwritten T modules n (link.Record input place f) h = omega arith
+unwritten T modules n link.Output h = absurd h
+unwritten T modules n (link.Program f) h = omega arith
+unwritten T modules n (link.File f) h = absurd h

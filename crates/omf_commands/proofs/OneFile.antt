@@ -1,0 +1,66 @@
+-- Modules have one file.
+use Rattle.std.proofs.Common.{◌≡◌, ℕ, zero, suc, ◌+◌, ◌*◌, ◌/◌, ◌%◌, ◌<◌, List, [], ◌∷◌, get_or, set, refl, sym, ap, ap₂, subst, ◌∙◌, arith}
+use Rattle.std.specs.List.{AllByRecursion}
+use Rattle.std.proofs.lemmas.List.{ext_get_or, set-get_or}
+use Rattle.std.proofs.lemmas.List.Elements.{recursion_from_All}
+use Rattle.omf_module.specs.Module.{Module}
+use Rattle.omf_place.specs.Layout.{Layout}
+use Rattle.omf_image.specs.Building.{registers_of}
+use Rattle.omf_image.specs.Program.{Program, IsProgram}
+use Rattle.omf_image.specs.Records.{program_byte}
+use Rattle.omf_image.specs.Registers.{Registers}
+use Rattle.omf_image.specs.Words.{put_word, add_word, add_words}
+use Rattle.mz.specs.File.{Mz, written}
+use Rattle.omf_commands.specs.Linking.{IsLinked, IsFileOf}
+
+abbrev AreBytes : List ℕ → Type 0
+AreBytes = AllByRecursion (λ b. b < 256)
+
+is_byte : (bytes : List ℕ) (i : ℕ) → AreBytes bytes → get_or bytes i 0 < 256
+is_byte [] i h = omega arith
+is_byte (b ∷ bytes) zero h = h.0
+is_byte (b ∷ bytes) (suc i) h = is_byte bytes i h.1
+
+-- nothing is added at paragraph 0
+zero_word : (i : ℕ) (bytes : List ℕ) → AreBytes bytes → add_word 0 i bytes ≡ bytes
+unfolding add_word put_word
+zero_word i bytes small =
+    let x = get_or bytes i 0 in
+    let y = get_or bytes (i + 1) 0 in
+    let a : x < 256 = is_byte bytes i small in
+    let b : y < 256 = is_byte bytes (i + 1) small in
+    let low : (x + 256 * y + 0) % 65536 % 256 ≡ x = omega (arith, a, b) in
+    let high : (x + 256 * y + 0) % 65536 / 256 ≡ y = omega (arith, a, b) in
+    ap₂ (λ u v. set (set bytes i u) (i + 1) v) low high ∙ (ap (λ l. set l (i + 1) y) (set-get_or bytes i 0) ∙ set-get_or bytes (i + 1) 0)
+
+zero_words : (places bytes : List ℕ) → AreBytes bytes → add_words 0 places bytes ≡ bytes
+zero_words [] bytes small = refl
+zero_words (i ∷ is) bytes small = ap (add_words 0 is) (zero_word i bytes small) ∙ zero_words is bytes small
+
+-- a file doesn't tell which pages of the image were made
+abbrev parts : List ℕ → List ℕ → Registers → Program
+parts image relocations r = record { image = image; relocations = relocations; cs = r.cs; ip = r.ip; ss = r.ss; sp = r.sp; made = [] }
+
+written_parts : (p : Program) → written p ≡ written (parts p.image p.relocations (registers_of p))
+unfolding written
+written_parts p = refl
+
+image_byte : (modules : List Module) (layout : Layout) (p : Program) → IsLinked modules layout p → IsProgram p → (i : ℕ) → i < layout.size → get_or p.image i 0 ≡ program_byte 0 layout modules i
+image_byte modules layout p linked limits i h =
+    ap (λ l. get_or l i 0) (sym (zero_words p.relocations p.image (recursion_from_All (λ b. b < 256) p.image limits.image))) ∙ linked.program.everywhere 0 i h
+
+same_written : (modules : List Module) (layout : Layout) (p q : Program) → IsLinked modules layout p → IsLinked modules layout q → IsProgram p → IsProgram q → written p ≡ written q
+same_written modules layout p q a b m n =
+    let long = a.program.sized ∙ sym b.program.sized in
+    let image : p.image ≡ q.image = ext_get_or 0 p.image q.image long (λ i h.
+    let below : i < layout.size = subst (λ k. i < k) a.program.sized h in
+    image_byte modules layout p a m i below ∙ sym (image_byte modules layout q b n i below)) in
+    let relocations : p.relocations ≡ q.relocations = a.program.listed ∙ sym b.program.listed in
+    let registers : registers_of p ≡ registers_of q = sym a.program.at_zero ∙ b.program.at_zero in
+    written_parts p ∙ (ap₂ (λ x y. written (parts x y (registers_of p))) image relocations ∙ (ap (λ r. written (parts q.image q.relocations r)) registers ∙ sym (written_parts q)))
+
+pub same_file : (modules : List Module) (file other : List ℕ) → IsFileOf modules file → IsFileOf modules other → file ≡ other
+same_file modules file other (layout, p, a, m) (layout', q, b, n) =
+    let same : layout' ≡ layout = a.is_layout.1 layout' b.is_layout.0 in
+    let b' = subst (λ l. IsLinked modules l q) same b in
+    m.1 ∙ (same_written modules layout p q a b' m.0 n.0 ∙ sym n.1)

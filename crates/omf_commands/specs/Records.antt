@@ -1,0 +1,28 @@
+-- What is written of the records of an input, and the fault that stands where none begins.
+use Rattle.std.specs.Prelude.{◌≡◌, ℕ, List, length}
+use Rattle.std.specs.List.{flat_map}
+use Rattle.omf_frame.specs.Frame.{frame}
+use Rattle.omf_record.specs.Body.{kind_of}
+use Rattle.omf_record.specs.Canonical.{canonical}
+use Rattle.omf_record.specs.Records.{Placed, AreRecords, AreToEnd, NoRecord, NoRecordAt}
+use Rattle.omf_text.specs.declared.fault.RecordFault.{RecordFault}
+use Rattle.omf_commands.specs.declared.records.Form.{Form}
+use Rattle.omf_commands.specs.declared.records.Form.TheVariants.{Listing, Rewriting}
+use Rattle.omf_text.specs.Details.{listing}
+use Rattle.omf_commands.specs.Faults.{reading_fault}
+
+-- what is written of a record: its listing, or its canonical body in a frame whose sum is 0
+abbrev pub output : Form → Placed → List ℕ
+output Listing r = listing r
+output Rewriting r = frame (kind_of r.says) (canonical r.says)
+
+-- the fault where no record begins and one had to, the bytes from there on being these
+abbrev pub FaultAt : ℕ → List ℕ → RecordFault → Type 0
+FaultAt place bytes fault = (why : NoRecord) × NoRecordAt place bytes why × (fault ≡ reading_fault why)
+
+-- the records of one module, which are rewritten as they stand
+pub record IsRewritten (bytes : List ℕ) : Type 0 where
+  pub records : List Placed
+  pub ended : AreToEnd records
+  pub are_records : AreRecords 0 records bytes
+  pub same : flat_map (output Rewriting) records ≡ bytes

@@ -1,0 +1,31 @@
+//! The inputs of a link.
+ghost use Rattle.std.specs.Prelude.{All, ◌-◌, ◌^◌, ◌<◌};
+ghost use Rattle.omf_commands.specs.Inputs.{ReadsInputs};
+
+use crate::checking::module_fault;
+use omf_text::LinkFault;
+use omf_frame::Source;
+use omf_module::{Module, read_module};
+use std::alloc::Allocator;
+
+/// The modules of all inputs, in order, or the first fault of reading. Inputs behind the one whose reading
+/// stopped aren't touched.
+pub(crate) fn read_inputs<S: Source, A: Allocator + Copy>(
+    alloc: A,
+    sources: &mut [S],
+) -> Result<Vec<Module<A>, A>, LinkFault<A>>
+    requires { All (λ s. S.failures s < 2 ^ 64 - 1) sources.old }
+    ensures { ReadsInputs S.remaining S.failures (λ ms. ms.items) sources.old sources.new result }
+{
+    let mut modules = Vec::new(alloc);
+    for input in 0..sources.len() {
+        let says = match read_module(alloc, &mut sources[input]) {
+            Ok(says) => says,
+            Err(fault) => return Err(module_fault(input, fault)),
+        };
+        if modules.push(says).is_err() {
+            return Err(LinkFault::Memory);
+        }
+    }
+    Ok(modules)
+}

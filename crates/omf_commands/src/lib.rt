@@ -1,0 +1,17 @@
+//! The commands over any sources and sinks: showing, rewriting and checking an input, linking inputs, and loading a
+//! program's file.
+#![tactic(auto)]
+
+mod checking;
+mod inputs;
+mod linking;
+mod loading;
+mod records;
+
+pub use checking::{check, module_fault};
+pub use linking::{Options, Report, file_or_fault, link, one_file};
+pub use loading::load_file;
+pub use records::{rewrite, show};
+
+#[cfg(test)]
+mod tests;

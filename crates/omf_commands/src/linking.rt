@@ -1,0 +1,153 @@
+//! Object modules linked into a program.
+ghost use Rattle.std.specs.Prelude.{All, OnOk, ◌≡◌, ◌+◌, ◌-◌, ◌^◌, ◌<◌, ℕ, List};
+ghost use Rattle.omf_module.specs.Module.{Module as Says};
+ghost use Rattle.omf_text.specs.declared.fault.LinkFault.{LinkFault as Fault};
+ghost use Rattle.omf_commands.specs.Linking.{IsFileOf, IsModulesFault, Links, LinksModules, WritesProgram, build_fault, fix_fault, place_fault};
+ghost use Rattle.omf_commands.specs.Reading.{sink_failures};
+
+use omf_text::{LinkFault, ProgramFault, RecordFault};
+use crate::inputs::read_inputs;
+use mz::{loads_as_written, write_mz};
+use omf_frame::{Sink, Source};
+use omf_image::{FixFault, FixKind, Program, build};
+use omf_module::Module;
+use omf_place::{Layout, PlaceFault, place};
+use std::alloc::{Allocator, Global};
+
+/// How modules are linked. There is no choice yet.
+#[derive(Clone, Copy, Debug)]
+pub struct Options {}
+
+impl Options {
+    /// The ordinary way.
+    pub fn new() -> Options {
+        Options {}
+    }
+}
+
+/// What was linked.
+#[derive(Drop)]
+pub struct Report<A: Allocator + Copy = Global> {
+    /// The modules of the inputs, in their order.
+    pub modules: Vec<Module<A>, A>,
+    /// Where they stand.
+    pub layout: Layout<A>,
+    /// The program whose file was written.
+    pub program: Program<A>,
+}
+
+/// A fault of placing the modules.
+fn place_fault<A: Allocator + Copy>(fault: PlaceFault<A>) -> LinkFault<A>
+    ensures { result ≡ place_fault fault }
+{
+    let fault = match fault {
+        PlaceFault::Memory => return LinkFault::Memory,
+        PlaceFault::SegmentTooLong { name } => ProgramFault::SegmentTooLong { name },
+        PlaceFault::ProgramTooLarge => ProgramFault::ProgramTooLarge,
+        PlaceFault::GroupTooLong { name } => ProgramFault::GroupTooLong { name },
+        PlaceFault::DuplicatePublic { name } => ProgramFault::DuplicatePublic { name },
+    };
+    LinkFault::Program(fault)
+}
+
+/// A fault of data, of a fix-up or of the start.
+fn fix_fault(kind: FixKind) -> RecordFault
+    ensures { result ≡ fix_fault kind }
+{
+    match kind {
+        FixKind::CoversRelocated => RecordFault::CoversRelocated,
+        FixKind::Unresolved => RecordFault::Unresolved,
+        FixKind::EmptyGroup => RecordFault::EmptyGroup,
+        FixKind::Mixed => RecordFault::Mixed,
+        FixKind::OutOfFrame => RecordFault::OutOfFrame,
+        FixKind::ShortTooFar => RecordFault::ShortTooFar,
+        FixKind::OverlapRelocated => RecordFault::OverlapRelocated,
+        FixKind::TwoStarts => RecordFault::TwoStarts,
+    }
+}
+
+/// A fault of building the program.
+fn build_fault<A: Allocator + Copy>(fault: FixFault) -> LinkFault<A>
+    ensures { result ≡ build_fault fault }
+{
+    match fault {
+        FixFault::At { kind, input, place } => LinkFault::Record {
+            input,
+            place,
+            fault: fix_fault(kind),
+        },
+        FixFault::TooManyRelocations => LinkFault::Program(ProgramFault::TooManyRelocations),
+        FixFault::Memory => LinkFault::Memory,
+    }
+}
+
+/// Places the modules and builds their program.
+fn link_modules<A: Allocator + Copy>(
+    alloc: A,
+    modules: Vec<Module<A>, A>,
+) -> Result<Report<A>, LinkFault<A>>
+    ensures { LinksModules modules.items result }
+{
+    let says = modules.as_slice();
+    let layout = match place(alloc, says) {
+        Ok(layout) => layout,
+        Err(fault) => return Err(place_fault(fault)),
+    };
+    let program = match build(alloc, says, &layout) {
+        Ok(program) => program,
+        Err(fault) => return Err(build_fault(fault)),
+    };
+    Ok(Report {
+        modules,
+        layout,
+        program,
+    })
+}
+
+/// Links the modules of the inputs, in their order, and writes the file of the program.
+///
+/// The fault is that of reading the first input that has one, inputs behind it being untouched; else the
+/// first of placement; else the first of data and fix-ups, of the start, and of too many relocated
+/// words. Nothing is written before all of that succeeded.
+pub fn link<S: Source, K: Sink, A: Allocator + Copy>(
+    alloc: A,
+    sources: &mut [S],
+    sink: &mut K,
+    _options: &Options,
+) -> Result<Report<A>, LinkFault<A>>
+    requires sources { All (λ s. S.failures s < 2 ^ 64 - 1) sources.old }
+    requires sink { K.failures sink.old < 2 ^ 64 - 1 }
+    // The sink failed exactly where the answer says so, and then once.
+    ensures sink { K.failures sink.new ≡ K.failures sink.old + sink_failures result }
+    // What was read and written, and the fault where one stands. A source failed exactly where the answer names it.
+    ensures links { Links S.remaining S.failures sources.old sources.new (K.written sink.old) (K.written sink.new) result }
+    // Loading the file at any paragraph where the program fits gives, at each address, the byte that the records stand for.
+    ensures headline { OnOk result (WritesProgram S.remaining S.failures sources.old sources.new (K.written sink.old) (K.written sink.new)) }
+{
+    let modules = match read_inputs(alloc, sources) {
+        Ok(modules) => modules,
+        Err(fault) => return Err(fault),
+    };
+    let report = match link_modules(alloc, modules) {
+        Ok(report) => report,
+        Err(fault) => return Err(fault),
+    };
+    loads_as_written();
+    match write_mz(&report.program, sink) {
+        Ok(()) => Ok(report),
+        Err(_) => Err(LinkFault::Output),
+    }
+}
+
+/// Modules that have a file have no fault, so that an answer is the only one.
+pub fn file_or_fault<A: Allocator + Copy>()
+    ensures { (modules : List Says) (file : List ℕ) (fault : Fault A) → IsFileOf modules file → IsModulesFault modules fault → ⊥ }
+{}
+
+/// Modules have one file, whatever their bytes were.
+pub fn one_file()
+    ensures { (modules : List Says) (file other : List ℕ) → IsFileOf modules file → IsFileOf modules other → file ≡ other }
+{}
+
+#[cfg(test)]
+pub mod tests;

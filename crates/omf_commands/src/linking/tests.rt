@@ -1,0 +1,577 @@
+ghost use Rattle.std.specs.Prelude.{◌≡◌};
+
+use super::*;
+use omf_text::{fault_line, status};
+use crate::tests::{BYTE_TOO_MANY, LONG_INDEX, SMALL, record_place};
+use mz::{Loaded, load, read_mz};
+use omf_frame::{MemSink, MemSource, put_frame};
+use refusing::Refusing;
+use std::process::Abort;
+use std::test::*;
+
+/// The file of the small module.
+pub const SMALL_FILE: [u8; 37] = [
+    0x4D, 0x5A, 0x25, 0x00, 0x01, 0x00, 0x01, 0x00, 0x02, 0x00, 0x00, 0x00, 0xFF, 0xFF, 0x00, 0x00,
+    0x00, 0x00, 0x00, 0x00, 0x00, 0x00, 0x00, 0x00, 0x1C, 0x00, 0x00, 0x00, 0x01, 0x00, 0x00, 0x00,
+    0xB8, 0x00, 0x00, 0x8E, 0xD8,
+];
+
+/// The most bytes that a file of these tests has.
+const ROOM: usize = 70_000;
+
+/// Puts a record behind a module. It is the hexadecimal digits of its type and its body.
+fn append(alloc: Global, bytes: &mut Vec<u8>, record: &str) -> Result<(), Fail> {
+    let digits = hex::decode(alloc, record)?;
+    let mut room = [0u8; 100];
+    let mut sink = MemSink::over(&mut room, 100);
+    if let Some((kind, body)) = digits.split_first() {
+        if body.len() <= 90 && put_frame(&mut sink, *kind, body).is_ok() {
+            bytes.extend_from_slice(sink.written())?;
+        }
+    }
+    Ok(())
+}
+
+fn module_of(alloc: Global, records: &[&str]) -> Result<Vec<u8>, Fail> {
+    let mut bytes = Vec::new(alloc);
+    for record in records {
+        append(alloc, &mut bytes, record)?;
+    }
+    Ok(bytes)
+}
+
+/// A module with a segment of this length, four hexadecimal digits with the low byte first, and these records.
+fn with_segment(alloc: Global, length: &str, records: &[&str]) -> Result<Vec<u8>, Fail> {
+    let segment = format!(in alloc; "9828{length}020101")?;
+    let mut bytes = module_of(alloc, &["800141", "960004434F4445", segment.as_str()])?;
+    for record in records {
+        append(alloc, &mut bytes, record)?;
+    }
+    append(alloc, &mut bytes, "8A00")?;
+    Ok(bytes)
+}
+
+/// The fault of linking one input.
+fn link_one(alloc: Global, one: &[u8], sink: &mut MemSink<'_>) -> Option<LinkFault>
+    requires { sink.old.failures ≡ 0 }
+{
+    let mut sources = [MemSource::over(one, 1, None)];
+    link(alloc, &mut sources, sink, &Options::new()).err()
+}
+
+/// The fault of linking two inputs.
+fn link_two(alloc: Global, one: &[u8], two: &[u8], sink: &mut MemSink<'_>) -> Option<LinkFault>
+    requires { sink.old.failures ≡ 0 }
+{
+    let mut sources = [
+        MemSource::over(one, 60, None),
+        MemSource::over(two, 7, None),
+    ];
+    link(alloc, &mut sources, sink, &Options::new()).err()
+}
+
+/// The fault of linking no input.
+fn link_none(alloc: Global, sink: &mut MemSink<'_>) -> Option<LinkFault>
+    requires { sink.old.failures ≡ 0 }
+{
+    let mut sources: [MemSource<'_>; 0] = [];
+    link(alloc, &mut sources, sink, &Options::new()).err()
+}
+
+/// The file of at most two inputs, or the fault.
+fn linked(alloc: Global, inputs: &[&[u8]]) -> Result<(Vec<u8>, Option<LinkFault>), Fail> {
+    let mut room = vec![in alloc; 0u8; ROOM]?;
+    let mut sink = MemSink::over(&mut room, 4_096);
+    let fault = match inputs {
+        [one, two] => link_two(alloc, one, two, &mut sink),
+        [one] => link_one(alloc, one, &mut sink),
+        _ => link_none(alloc, &mut sink),
+    };
+    Ok((Vec::from_slice(alloc, sink.written())?, fault))
+}
+
+/// The inputs give a file of this image, with these relocations.
+fn gives<R: Abort>(
+    rt: &R,
+    alloc: Global,
+    inputs: &[&[u8]],
+    image: &str,
+    relocations: &str,
+) -> Result<(), Fail> {
+    let (file, fault) = linked(alloc, inputs)?;
+    assert_eq!(rt; fault, None);
+    let relocations = hex::decode(alloc, relocations)?;
+    let end = 28usize.saturating_add(relocations.len());
+    assert_eq!(rt; file.get(28..end), Some(relocations.as_slice()));
+    let image = hex::decode(alloc, image)?;
+    let start = end.div_ceil(16).saturating_mul(16);
+    assert_eq!(rt; file.get(start..), Some(image.as_slice()), "{image:?}");
+    Ok(())
+}
+
+#[test]
+fn modules_give_files(rt: HostRuntime) -> Result<(), Fail> {
+    let mut open = SMALL;
+    for at in [5usize, 15, 25, 37, 46, 56] {
+        open[at] = 0;
+    }
+    for input in [SMALL.as_slice(), open.as_slice(), LONG_INDEX.as_slice()] {
+        let (file, fault) = linked(rt.alloc(), &[input])?;
+        assert_eq!(rt; fault, None);
+        assert_eq!(rt; file.as_slice(), SMALL_FILE.as_slice());
+    }
+    let nothing = module_of(rt.alloc(), &["800141", "8A00"])?;
+    let empty = hex::decode(
+        rt.alloc(),
+        "4D5A20000100000002000000FFFF000000000000000000001C00000000000000",
+    )?;
+    assert_eq!(rt;
+        linked(rt.alloc(), &[nothing.as_slice()])?.0.as_slice(),
+        empty.as_slice()
+    );
+    assert_eq!(rt; linked(rt.alloc(), &[])?.0.as_slice(), empty.as_slice());
+    Ok(())
+}
+
+/// A module of one segment: the segment's length and the records, and then the image and the relocations.
+type Row<'a> = (&'a str, &'a [&'a str], &'a str, &'a str);
+
+#[test]
+fn fixups_are_added(rt: HostRuntime) -> Result<(), Fail> {
+    let rows: [Row<'_>; 14] = [
+        (
+            "0C00",
+            &["A20100000200010003000000024142"],
+            "414241424142414241424142",
+            "",
+        ),
+        (
+            "0600",
+            &["A201000003000000020000", "9CC805040101"],
+            "000000000000",
+            "000000000200000004000000",
+        ),
+        (
+            "1100",
+            &[
+                "8C017800",
+                "9000010178100000",
+                "A0010000E80000",
+                "9C84015601",
+            ],
+            "E80D000000000000000000000000000000",
+            "",
+        ),
+        (
+            "0300",
+            &[
+                "8C017800017900",
+                "900000000001783216000179004000",
+                "A00100009B26D9",
+                "9CC4005601C4015602",
+            ],
+            "CD3C19",
+            "",
+        ),
+        (
+            "0200",
+            &["980000B8000040010101", "A00100000000", "9CC800040202"],
+            "00B8",
+            "",
+        ),
+        (
+            "0400",
+            &["A001000000000000", "9CC4000001013412", "A0010100AA"],
+            "34AA0000",
+            "",
+        ),
+        (
+            "1100",
+            &["8C017800", "A0010000E80000"],
+            "E800000000000000000000000000000000",
+            "",
+        ),
+        ("0200", &["A0010000EB00", "9C80010001018100"], "EB7F", ""),
+        (
+            "0100",
+            &["A201000001000200010000000141FFFF0100FFFF0100FFFF000000"],
+            "41",
+            "",
+        ),
+        ("0200", &["A0010000FF00", "9CC0000001010200"], "0100", ""),
+        (
+            "0400",
+            &["A201000002000000020000", "9C84050001011000"],
+            "0E000C00",
+            "",
+        ),
+        (
+            "0200",
+            &["980000B8000040010101", "A00100000000", "9CC4000001023412"],
+            "3412",
+            "",
+        ),
+        (
+            "0200",
+            &["A00100000000", "9CC800040101"],
+            "0000",
+            "00000000",
+        ),
+        ("0000", &[], "", ""),
+    ];
+    for (length, records, image, relocations) in rows {
+        let input = with_segment(rt.alloc(), length, records)?;
+        gives(&rt, rt.alloc(), &[input.as_slice()], image, relocations)?;
+    }
+    Ok(())
+}
+
+/// The program that is read of a file, loaded at a paragraph.
+fn loaded(alloc: Global, file: &[u8], paragraph: u16) -> Result<Option<Loaded>, Fail> {
+    let mut source = MemSource::over(file, 4_096, None);
+    let read = read_mz(alloc, &mut source)?;
+    Ok(load(alloc, &read, paragraph).ok())
+}
+
+#[test]
+fn files_are_loaded(rt: HostRuntime) -> Result<(), Fail> {
+    let small = loaded(rt.alloc(), &SMALL_FILE, 0x1234)?.ok_or("no room")?;
+    assert_eq!(rt; small.bytes(), [0xB8, 0x34, 0x12, 0x8E, 0xD8].as_slice());
+    assert_eq!(rt; (small.cs(), small.ip()), (0x1234, 0));
+    let repeated = with_segment(
+        rt.alloc(),
+        "0600",
+        &["A201000003000000020000", "9CC805040101"],
+    )?;
+    let (file, _) = linked(rt.alloc(), &[repeated.as_slice()])?;
+    assert_eq!(rt; file.len(), 54);
+    let thrice = loaded(rt.alloc(), &file, 0x1234)?.ok_or("no room")?;
+    assert_eq!(rt;
+        thrice.bytes(),
+        [0x34, 0x12, 0x34, 0x12, 0x34, 0x12].as_slice()
+    );
+    let far = with_segment(
+        rt.alloc(),
+        "FEFF",
+        &["98280400010101", "A00201000000", "9CC800040202"],
+    )?;
+    let (file, fault) = linked(rt.alloc(), &[far.as_slice()])?;
+    assert_eq!(rt; fault, None);
+    assert_eq!(rt; file.get(28..32), Some([0x0F, 0x00, 0xFF, 0x0F].as_slice()));
+    assert_eq!(rt;
+        file.get(32 + 65_535..32 + 65_537),
+        Some([0xFF, 0x0F].as_slice())
+    );
+    let moved = loaded(rt.alloc(), &file, 1)?.ok_or("no room")?;
+    assert_eq!(rt;
+        moved.bytes().get(65_535..65_537),
+        Some([0x00, 0x10].as_slice())
+    );
+    Ok(())
+}
+
+/// Two modules with a group over both.
+fn two_modules(alloc: Global) -> Result<(Vec<u8>, Vec<u8>), Fail> {
+    let one = module_of(
+        alloc,
+        &[
+            "800141",
+            "960004434F4445055F44415441064447524F5550",
+            "98681200020201",
+            "98480300030301",
+            "9A04FF02",
+            "8C017800",
+            "A0010000B80000A10000",
+            "9C44010801",
+            "9CC8018CC4048C",
+            "8AC10001010000",
+        ],
+    )?;
+    let two = module_of(
+        alloc,
+        &[
+            "800142",
+            "9600055F44415441064447524F5550",
+            "98480200020201",
+            "9A03FF01",
+            "9001010178000000",
+            "A00100003412",
+            "8A00",
+        ],
+    )?;
+    Ok((one, two))
+}
+
+#[test]
+fn modules_are_linked_together(rt: HostRuntime) -> Result<(), Fail> {
+    let (one, two) = two_modules(rt.alloc())?;
+    let inputs = [one.as_slice(), two.as_slice()];
+    gives(
+        &rt,
+        rt.alloc(),
+        &inputs,
+        "B80100A10600000000000000000000000000000000003412",
+        "01000000",
+    )?;
+    let (file, _) = linked(rt.alloc(), &inputs)?;
+    assert_eq!(rt; file.len(), 56);
+    let high = loaded(rt.alloc(), &file, 0xFFFE)?.ok_or("no room")?;
+    assert_eq!(rt;
+        high.bytes().get(..6),
+        Some([0xB8, 0xFF, 0xFF, 0xA1, 0x06, 0x00].as_slice())
+    );
+    assert!(rt; loaded(rt.alloc(), &file, 0xFFFF)?.is_none());
+    let names = "960004434F4445";
+    let first = module_of(
+        rt.alloc(),
+        &[
+            "800141",
+            names,
+            "98380400020101",
+            "A001000011223344",
+            "8A00",
+        ],
+    )?;
+    let second = module_of(
+        rt.alloc(),
+        &["800141", names, "98380200020101", "A0010000AABB", "8A00"],
+    )?;
+    let common = [first.as_slice(), second.as_slice()];
+    gives(&rt, rt.alloc(), &common, "AABB3344", "")
+}
+
+/// The file has these bytes at this place.
+fn has<R: Abort>(rt: &R, file: &[u8], at: usize, bytes: &[u8]) -> Result<(), Fail> {
+    let rest = file.get(at..).ok_or("too short")?;
+    assert!(rt; rest.starts_with(bytes));
+    Ok(())
+}
+
+#[test]
+fn stacks_and_sizes(rt: HostRuntime) -> Result<(), Fail> {
+    let stack = with_segment(rt.alloc(), "0500", &["98740001020101"])?;
+    let (file, _) = linked(rt.alloc(), &[stack.as_slice()])?;
+    assert_eq!(rt; file.len(), 304);
+    has(&rt, file.as_slice(), 14, &[0x01, 0x00, 0x00, 0x01])?;
+    let full = with_segment(rt.alloc(), "0000", &["98760000020101"])?;
+    let (file, _) = linked(rt.alloc(), &[full.as_slice()])?;
+    assert_eq!(rt; file.len(), 65_568);
+    has(&rt, file.as_slice(), 2, &[0x20, 0x00, 0x81, 0x00])?;
+    has(&rt, file.as_slice(), 14, &[0x00; 4])
+}
+
+/// The inputs are refused with this line, and nothing is written.
+fn refuses<R: Abort>(rt: &R, alloc: Global, inputs: &[&[u8]], line: &str) -> Result<(), Fail> {
+    let (file, fault) = linked(alloc, inputs)?;
+    assert!(rt; file.is_empty());
+    let fault = fault.ok_or("no fault")?;
+    assert_eq!(rt; status(&fault), 1);
+    let mut room = [0u8; 80];
+    let mut sink = MemSink::over(&mut room, 80);
+    assert!(rt; fault_line(&fault, "A.OBJ", &mut sink).is_ok());
+    assert_eq!(rt; sink.written(), line.as_bytes());
+    Ok(())
+}
+
+#[test]
+fn faults_of_an_input_are_named(rt: HostRuntime) -> Result<(), Fail> {
+    let mut wrong = SMALL;
+    wrong[5] = 0x3C;
+    let mut own_frame = Vec::from_slice(rt.alloc(), &SMALL[..47])?;
+    append(rt.alloc(), &mut own_frame, "8AC14401")?;
+    let rows: [(&[u8], &str); 6] = [
+        (&wrong, "omf: A.OBJ: 4 Closing at record 0\n"),
+        (&[0x80, 0x03], "omf: A.OBJ: 3 Truncated at record 0\n"),
+        (&SMALL[..6], "omf: A.OBJ: 8 NoEnd at record 6\n"),
+        (&[], "omf: A.OBJ: 8 NoEnd at record 0\n"),
+        (&BYTE_TOO_MANY, "omf: A.OBJ: 6 Body at record 16 byte 6\n"),
+        (
+            own_frame.as_slice(),
+            "omf: A.OBJ: 20 FrameOfLocation at record 47\n",
+        ),
+    ];
+    for (input, line) in rows {
+        refuses(&rt, rt.alloc(), &[input], line)?;
+    }
+    refuses(
+        &rt,
+        rt.alloc(),
+        &[&SMALL, &SMALL],
+        "omf: A.OBJ: 33 TwoStarts at record 47\n",
+    )?;
+    // a fix-up of the first is at fault, and the second isn't a module
+    let unresolved = with_segment(
+        rt.alloc(),
+        "1100",
+        &["8C017800", "A0010000E80000", "9C84015601"],
+    )?;
+    refuses(
+        &rt,
+        rt.alloc(),
+        &[unresolved.as_slice(), &[]],
+        "omf: A.OBJ: 8 NoEnd at record 0\n",
+    )
+}
+
+#[test]
+fn faults_of_modules_are_named(rt: HostRuntime) -> Result<(), Fail> {
+    let rows: [(&str, &[&str], &str); 11] = [
+        (
+            "0600",
+            &["A201000003000000020000", "9CC804040101"],
+            "omf: A.OBJ: 16 FixupPlace at record 40\n",
+        ),
+        (
+            "0C00",
+            &["A2010000FFFF0100FFFF0100FFFF00000141"],
+            "omf: A.OBJ: 17 DataOutside at record 26\n",
+        ),
+        (
+            "0000",
+            &["98760000020101", "98740100020101"],
+            "omf: link: 22 SegmentTooLong \"CODE\"\n",
+        ),
+        (
+            "FFFF",
+            &["98280200010101", "9A02FF01FF02"],
+            "omf: link: 24 GroupTooLong \"CODE\"\n",
+        ),
+        (
+            "0500",
+            &["90000101780000000178010000"],
+            "omf: link: 25 DuplicatePublic \"x\"\n",
+        ),
+        (
+            "0400",
+            &["A001000000000000", "9CC800040101", "A0010100AA"],
+            "omf: A.OBJ: 26 CoversRelocated at record 46\n",
+        ),
+        (
+            "1100",
+            &["8C017800", "A0010000E80000", "9C84015601"],
+            "omf: A.OBJ: 27 Unresolved at record 43\n",
+        ),
+        (
+            "0200",
+            &["980000B8000040010101", "A00100000000", "9CC4000002010000"],
+            "omf: A.OBJ: 29 Mixed at record 48\n",
+        ),
+        (
+            "2000",
+            &["98680400010101", "A002000000000500", "9CC4000002010000"],
+            "omf: A.OBJ: 30 OutOfFrame at record 47\n",
+        ),
+        (
+            "0200",
+            &["A0010000EB00", "9C80010001018200"],
+            "omf: A.OBJ: 31 ShortTooFar at record 35\n",
+        ),
+        (
+            "0400",
+            &["A001000000000000", "9CC800040101C801040101"],
+            "omf: A.OBJ: 32 OverlapRelocated at record 37\n",
+        ),
+    ];
+    for (length, records, line) in rows {
+        let input = with_segment(rt.alloc(), length, records)?;
+        refuses(&rt, rt.alloc(), &[input.as_slice()], line)?;
+    }
+    Ok(())
+}
+
+/// Sixteen segments, the last of this length.
+fn large(alloc: Global, length: &str) -> Result<Vec<u8>, Fail> {
+    let mut bytes = module_of(alloc, &["800141", "9600"])?;
+    for _ in 0..15usize {
+        append(alloc, &mut bytes, "98220000010101")?;
+    }
+    let last = format!(in alloc; "9820{length}010101")?;
+    append(alloc, &mut bytes, last.as_str())?;
+    append(alloc, &mut bytes, "8A00")?;
+    Ok(bytes)
+}
+
+#[test]
+fn a_program_is_too_large(rt: HostRuntime) -> Result<(), Fail> {
+    let one_more = large(rt.alloc(), "F1FF")?;
+    refuses(
+        &rt,
+        rt.alloc(),
+        &[one_more.as_slice()],
+        "omf: link: 23 ProgramTooLarge\n",
+    )
+}
+
+#[test]
+fn each_failing_read_is_told(rt: HostRuntime) -> Result<(), Fail> {
+    for call in 1..60u64 {
+        let mut sources = [MemSource::over(&SMALL, 1, Some(call))];
+        let mut room = [0u8; 40];
+        let mut sink = MemSink::over(&mut room, 40);
+        let fault = link(rt.alloc(), &mut sources, &mut sink, &Options::new()).err();
+        if call < 58 {
+            let place = record_place(call - 1);
+            assert_eq!(rt; fault, Some(LinkFault::Device { input: 0, place }));
+            assert!(rt; sink.written().is_empty());
+        } else {
+            assert_eq!(rt; fault, None);
+            assert_eq!(rt; sink.written(), SMALL_FILE.as_slice());
+        }
+    }
+    let mut ending = Vec::from_slice(rt.alloc(), &SMALL[..47])?;
+    append(rt.alloc(), &mut ending, "8A00")?;
+    let mut sources = [
+        MemSource::over(&SMALL, 1, None),
+        MemSource::over(&ending, 1, Some(7)),
+        MemSource::over(&ending, 1, None),
+    ];
+    let mut room = [0u8; 200];
+    let mut sink = MemSink::over(&mut room, 200);
+    let fault = link(rt.alloc(), &mut sources, &mut sink, &Options::new()).err();
+    assert_eq!(rt; fault, Some(LinkFault::Device { input: 1, place: 6 }));
+    assert!(rt; sink.written().is_empty());
+    assert_eq!(rt; sources[0].rest().len(), 0);
+    assert_eq!(rt; sources[2].calls(), 0);
+    Ok(())
+}
+
+#[test]
+fn each_full_sink_is_told(rt: HostRuntime) -> Result<(), Fail> {
+    for piece in [1usize, 7, 10] {
+        for n in 0..38usize {
+            let mut sources = [MemSource::over(&SMALL, 60, None)];
+            let mut room = [0u8; 37];
+            let mut sink = MemSink::over(&mut room[..n.min(37)], piece);
+            let fault = link(rt.alloc(), &mut sources, &mut sink, &Options::new()).err();
+            if n < 37 {
+                assert_eq!(rt; fault, Some(LinkFault::Output));
+            } else {
+                assert_eq!(rt; fault, None);
+            }
+            assert_eq!(rt; sink.written(), &SMALL_FILE[..n.min(37)]);
+        }
+    }
+    Ok(())
+}
+
+#[test]
+fn each_refused_growth_is_want_of_memory(rt: HostRuntime) -> Result<(), Fail> {
+    let mut whole = false;
+    for number in 1..120u64 {
+        let alloc = Refusing::nth(rt.alloc(), number);
+        let mut sources = [MemSource::over(&SMALL, 60, None)];
+        let mut room = [0u8; 40];
+        let mut sink = MemSink::over(&mut room, 40);
+        let fault = link(&alloc, &mut sources, &mut sink, &Options::new()).err();
+        whole = !alloc.has_refused();
+        if whole {
+            assert!(rt; fault.is_none());
+            assert_eq!(rt; sink.written(), SMALL_FILE.as_slice());
+        } else {
+            assert!(rt; fault == Some(LinkFault::Memory));
+            assert!(rt; sink.written().is_empty());
+        }
+    }
+    assert!(rt; whole);
+    Ok(())
+}

@@ -1,0 +1,31 @@
+-- How each piece of a line is printed.
+use Rattle.std.specs.Prelude.{List, ℕ, decimal}
+use Rattle.omf_record.specs.Numbers.{bit, thread_number, location_number, alignment_number, combination_number, segment_len}
+use Rattle.omf_text.specs.declared.pieces.Piece.{Piece}
+use Rattle.omf_text.specs.declared.pieces.Piece.TheVariants as piece
+use Rattle.omf_text.specs.Printing.{hexadecimal, printed_name}
+use Rattle.omf_text.specs.Details.{comment_bytes, expanded, absolute, mode, frame_method, target_method, frame_of, target_of, displacement}
+
+abbrev pub printed : Piece → List ℕ
+printed (piece.Text text) = text.now
+printed (piece.Index n) = decimal n
+printed (piece.Count n) = decimal n
+printed (piece.Byte n) = hexadecimal 2 n
+printed (piece.Place n) = hexadecimal 3 n
+printed (piece.Word n) = hexadecimal 4 n
+printed (piece.Name name) = printed_name name.now
+printed (piece.Bit b) = decimal (bit b)
+printed (piece.CommentBytes bytes) = comment_bytes bytes.now
+printed (piece.Expanded n) = expanded n
+printed (piece.Alignment a) = decimal (alignment_number a)
+printed (piece.Absolute a) = absolute a
+printed (piece.Combination c) = decimal (combination_number c)
+printed (piece.Length n) = decimal (segment_len n)
+printed (piece.Mode self_relative) = mode self_relative
+printed (piece.Location l) = decimal (location_number l)
+printed (piece.Thread n) = decimal (thread_number n)
+printed (piece.FrameMethod m) = frame_method m
+printed (piece.TargetMethod m) = target_method m
+printed (piece.Frame f) = frame_of f
+printed (piece.Target t) = target_of t
+printed (piece.Displacement d) = displacement d

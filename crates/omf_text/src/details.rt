@@ -1,0 +1,496 @@
+//! The lines of a record: what it says. Nothing here takes memory.
+ghost use Rattle.std.specs.Prelude.{◌≡◌, ◌+◌, ◌-◌, ◌^◌, ◌<◌, ◌++◌, [], None, Some, OnErr, OnOk, is_ok, length, map, if◌then◌else◌};
+ghost use Rattle.std.specs.List.{flat_map};
+ghost use Rattle.std.specs.Io.KnownBytes.{Appends};
+ghost use Rattle.omf_frame.specs.Device.{AppendsFront};
+ghost use Rattle.omf_record.specs.Record as says;
+ghost use Rattle.omf_record.specs.View.{block_view, external_view, public_view, view};
+ghost use Rattle.omf_text.specs.Details as spec;
+ghost use Rattle.omf_text.specs.Details.{details};
+ghost use Rattle.omf_text.specs.Listing.{head_line};
+
+use crate::listing::put_head_line;
+use crate::pieces::{Piece, Printed, put_each};
+use omf_frame::{IoFault, Sink};
+use omf_record::{
+    Block, External, Fixup, FrameMethod, Line, Public, PublicBase, Record, Reference,
+    SegmentDefinition, Subrecord, TargetMethod, ThreadNumber, expanded_len,
+};
+use std::alloc::Allocator;
+
+fn put_name_line<K: Sink>(sink: &mut K, name: &[u8]) -> Result<(), IoFault>
+    requires { K.failures sink.old < 2 ^ 64 - 1 }
+    ensures count { K.failures sink.new ≡ K.failures sink.old + (if is_ok result then 0 else 1) }
+    ensures appended { OnOk result (Appends (K.written sink.old) (K.written sink.new) (spec.name_line name.now)) }
+    ensures failed { OnErr result (AppendsFront (K.written sink.old) (K.written sink.new) (spec.name_line name.now)) }
+{
+    let pieces = [Piece::Text("  name "), Piece::Name(name), Piece::Text("\n")];
+    put_each(sink, pieces.as_slice())
+}
+
+#[tactic(auto, unfolding(crate::specs::Details::details))]
+fn put_header<K: Sink>(sink: &mut K, name: &[u8]) -> Result<(), IoFault>
+    requires { K.failures sink.old < 2 ^ 64 - 1 }
+    ensures count { K.failures sink.new ≡ K.failures sink.old + (if is_ok result then 0 else 1) }
+    ensures appended { OnOk result (Appends (K.written sink.old) (K.written sink.new) (details (says.Theadr name.now))) }
+    ensures failed { OnErr result (AppendsFront (K.written sink.old) (K.written sink.new) (details (says.Theadr name.now))) }
+{
+    put_name_line(sink, name)
+}
+
+#[tactic(auto, unfolding(crate::specs::Details::details))]
+fn put_comment<K: Sink>(sink: &mut K, kind: u8, class: u8, bytes: &[u8]) -> Result<(), IoFault>
+    requires { K.failures sink.old < 2 ^ 64 - 1 }
+    ensures count { K.failures sink.new ≡ K.failures sink.old + (if is_ok result then 0 else 1) }
+    ensures appended { OnOk result (Appends (K.written sink.old) (K.written sink.new) (details (says.Coment kind class bytes.now))) }
+    ensures failed { OnErr result (AppendsFront (K.written sink.old) (K.written sink.new) (details (says.Coment kind class bytes.now))) }
+{
+    let pieces = [
+        Piece::Text("  comment "),
+        Piece::Byte(kind),
+        Piece::Text(" "),
+        Piece::Byte(class),
+        Piece::Text(" "),
+        Piece::CommentBytes(bytes),
+        Piece::Text("\n"),
+    ];
+    put_each(sink, pieces.as_slice())
+}
+
+// The end of a module without a start.
+#[tactic(auto, unfolding(crate::specs::Details::details))]
+fn put_plain_end<K: Sink>(sink: &mut K, main: bool) -> Result<(), IoFault>
+    requires { K.failures sink.old < 2 ^ 64 - 1 }
+    ensures count { K.failures sink.new ≡ K.failures sink.old + (if is_ok result then 0 else 1) }
+    ensures appended { OnOk result (Appends (K.written sink.old) (K.written sink.new) (details (says.Modend main None))) }
+    ensures failed { OnErr result (AppendsFront (K.written sink.old) (K.written sink.new) (details (says.Modend main None))) }
+{
+    let pieces = [
+        Piece::Text("  main "),
+        Piece::Bit(main),
+        Piece::Text(" start 0\n"),
+    ];
+    put_each(sink, pieces.as_slice())
+}
+
+// The end of a module with a start.
+#[tactic(auto, unfolding(crate::specs::Details::details))]
+fn put_start<K: Sink>(sink: &mut K, main: bool, start: Reference) -> Result<(), IoFault>
+    requires { K.failures sink.old < 2 ^ 64 - 1 }
+    ensures count { K.failures sink.new ≡ K.failures sink.old + (if is_ok result then 0 else 1) }
+    ensures appended { OnOk result (Appends (K.written sink.old) (K.written sink.new) (details (says.Modend main (Some start)))) }
+    ensures failed { OnErr result (AppendsFront (K.written sink.old) (K.written sink.new) (details (says.Modend main (Some start)))) }
+{
+    let pieces = [
+        Piece::Text("  main "),
+        Piece::Bit(main),
+        Piece::Text(" start 1 frame "),
+        Piece::Frame(start.frame),
+        Piece::Text(" target "),
+        Piece::Target(start.target),
+        Piece::Displacement(start.displacement),
+        Piece::Text("\n"),
+    ];
+    put_each(sink, pieces.as_slice())
+}
+
+#[tactic(auto, unfolding(crate::specs::Details::details))]
+fn put_segment<K: Sink>(sink: &mut K, segment: &SegmentDefinition) -> Result<(), IoFault>
+    requires { K.failures sink.old < 2 ^ 64 - 1 }
+    ensures count { K.failures sink.new ≡ K.failures sink.old + (if is_ok result then 0 else 1) }
+    ensures appended { OnOk result (Appends (K.written sink.old) (K.written sink.new) (details (says.Segdef segment.now))) }
+    ensures failed { OnErr result (AppendsFront (K.written sink.old) (K.written sink.new) (details (says.Segdef segment.now))) }
+{
+    let pieces = [
+        Piece::Text("  align "),
+        Piece::Alignment(segment.alignment),
+        Piece::Text(" combine "),
+        Piece::Combination(segment.combination),
+        Piece::Text(" length "),
+        Piece::Length(segment.length),
+        Piece::Text(" name "),
+        Piece::Index(segment.name),
+        Piece::Text(" class "),
+        Piece::Index(segment.class),
+        Piece::Text(" overlay "),
+        Piece::Index(segment.overlay),
+        Piece::Absolute(segment.alignment),
+        Piece::Text("\n"),
+    ];
+    put_each(sink, pieces.as_slice())
+}
+
+fn put_group_line<K: Sink>(sink: &mut K, name: u16) -> Result<(), IoFault>
+    requires { K.failures sink.old < 2 ^ 64 - 1 }
+    ensures count { K.failures sink.new ≡ K.failures sink.old + (if is_ok result then 0 else 1) }
+    ensures appended { OnOk result (Appends (K.written sink.old) (K.written sink.new) (spec.group_line name)) }
+    ensures failed { OnErr result (AppendsFront (K.written sink.old) (K.written sink.new) (spec.group_line name)) }
+{
+    let pieces = [
+        Piece::Text("  group "),
+        Piece::Index(name),
+        Piece::Text("\n"),
+    ];
+    put_each(sink, pieces.as_slice())
+}
+
+fn put_base_line<K: Sink>(sink: &mut K, group: u16, segment: u16) -> Result<(), IoFault>
+    requires { K.failures sink.old < 2 ^ 64 - 1 }
+    ensures count { K.failures sink.new ≡ K.failures sink.old + (if is_ok result then 0 else 1) }
+    ensures appended { OnOk result (Appends (K.written sink.old) (K.written sink.new) (spec.base_line group segment [])) }
+    ensures failed { OnErr result (AppendsFront (K.written sink.old) (K.written sink.new) (spec.base_line group segment [])) }
+{
+    let pieces = [
+        Piece::Text("  base group "),
+        Piece::Index(group),
+        Piece::Text(" segment "),
+        Piece::Index(segment),
+        Piece::Text("\n"),
+    ];
+    put_each(sink, pieces.as_slice())
+}
+
+fn put_base<K: Sink>(sink: &mut K, base: PublicBase) -> Result<(), IoFault>
+    requires { K.failures sink.old < 2 ^ 64 - 1 }
+    ensures count { K.failures sink.new ≡ K.failures sink.old + (if is_ok result then 0 else 1) }
+    ensures appended { OnOk result (Appends (K.written sink.old) (K.written sink.new) (spec.public_base base)) }
+    ensures failed { OnErr result (AppendsFront (K.written sink.old) (K.written sink.new) (spec.public_base base)) }
+{
+    match base {
+        PublicBase::AtFrame { group, frame } => {
+            let pieces = [
+                Piece::Text("  base group "),
+                Piece::Index(group),
+                Piece::Text(" segment "),
+                Piece::Index(0),
+                Piece::Text(" frame "),
+                Piece::Word(frame),
+                Piece::Text("\n"),
+            ];
+            put_each(sink, pieces.as_slice())
+        }
+        PublicBase::InSegment { group, segment } => put_base_line(sink, group, segment),
+    }
+}
+
+#[tactic(auto, unfolding(crate::specs::Details::details))]
+fn put_data<K: Sink>(sink: &mut K, segment: u16, offset: u16, bytes: &[u8]) -> Result<(), IoFault>
+    requires { K.failures sink.old < 2 ^ 64 - 1 }
+    ensures count { K.failures sink.new ≡ K.failures sink.old + (if is_ok result then 0 else 1) }
+    ensures appended { OnOk result (Appends (K.written sink.old) (K.written sink.new) (details (says.Ledata segment offset bytes.now))) }
+    ensures failed { OnErr result (AppendsFront (K.written sink.old) (K.written sink.new) (details (says.Ledata segment offset bytes.now))) }
+{
+    let pieces = [
+        Piece::Text("  data segment "),
+        Piece::Index(segment),
+        Piece::Text(" offset "),
+        Piece::Word(offset),
+        Piece::Text(" bytes "),
+        Piece::Count(bytes.len()),
+        Piece::Text("\n"),
+    ];
+    put_each(sink, pieces.as_slice())
+}
+
+#[tactic(auto, unfolding(crate::specs::Details::details))]
+fn put_repeated<K: Sink, A: Allocator + Copy>(
+    sink: &mut K,
+    segment: u16,
+    offset: u16,
+    blocks: &[Block<'_, A>],
+) -> Result<(), IoFault>
+    requires { K.failures sink.old < 2 ^ 64 - 1 }
+    ensures count { K.failures sink.new ≡ K.failures sink.old + (if is_ok result then 0 else 1) }
+    ensures appended { OnOk result (Appends (K.written sink.old) (K.written sink.new) (details (says.Lidata segment offset (map block_view blocks.now)))) }
+    ensures failed { OnErr result (AppendsFront (K.written sink.old) (K.written sink.new) (details (says.Lidata segment offset (map block_view blocks.now)))) }
+{
+    let pieces = [
+        Piece::Text("  data segment "),
+        Piece::Index(segment),
+        Piece::Text(" offset "),
+        Piece::Word(offset),
+        Piece::Text(" blocks "),
+        Piece::Count(blocks.len()),
+        Piece::Text(" expanded "),
+        Piece::Expanded(expanded_len(blocks)),
+        Piece::Text("\n"),
+    ];
+    put_each(sink, pieces.as_slice())
+}
+
+fn put_frame_thread<K: Sink>(
+    sink: &mut K,
+    thread: ThreadNumber,
+    method: FrameMethod,
+) -> Result<(), IoFault>
+    requires { K.failures sink.old < 2 ^ 64 - 1 }
+    ensures count { K.failures sink.new ≡ K.failures sink.old + (if is_ok result then 0 else 1) }
+    ensures appended { OnOk result (Appends (K.written sink.old) (K.written sink.new) (spec.subrecord_line (Subrecord.SetFrame thread method))) }
+    ensures failed { OnErr result (AppendsFront (K.written sink.old) (K.written sink.new) (spec.subrecord_line (Subrecord.SetFrame thread method))) }
+{
+    let pieces = [
+        Piece::Text("  thread frame "),
+        Piece::Thread(thread),
+        Piece::Text(" "),
+        Piece::FrameMethod(method),
+        Piece::Text("\n"),
+    ];
+    put_each(sink, pieces.as_slice())
+}
+
+fn put_target_thread<K: Sink>(
+    sink: &mut K,
+    thread: ThreadNumber,
+    method: TargetMethod,
+) -> Result<(), IoFault>
+    requires { K.failures sink.old < 2 ^ 64 - 1 }
+    ensures count { K.failures sink.new ≡ K.failures sink.old + (if is_ok result then 0 else 1) }
+    ensures appended { OnOk result (Appends (K.written sink.old) (K.written sink.new) (spec.subrecord_line (Subrecord.SetTarget thread method))) }
+    ensures failed { OnErr result (AppendsFront (K.written sink.old) (K.written sink.new) (spec.subrecord_line (Subrecord.SetTarget thread method))) }
+{
+    let pieces = [
+        Piece::Text("  thread target "),
+        Piece::Thread(thread),
+        Piece::Text(" "),
+        Piece::TargetMethod(method),
+        Piece::Text("\n"),
+    ];
+    put_each(sink, pieces.as_slice())
+}
+
+fn put_fixup<K: Sink>(sink: &mut K, fixup: Fixup) -> Result<(), IoFault>
+    requires { K.failures sink.old < 2 ^ 64 - 1 }
+    ensures count { K.failures sink.new ≡ K.failures sink.old + (if is_ok result then 0 else 1) }
+    ensures appended { OnOk result (Appends (K.written sink.old) (K.written sink.new) (spec.subrecord_line (Subrecord.Fixup fixup))) }
+    ensures failed { OnErr result (AppendsFront (K.written sink.old) (K.written sink.new) (spec.subrecord_line (Subrecord.Fixup fixup))) }
+{
+    let pieces = [
+        Piece::Text("  fixup at "),
+        Piece::Place(fixup.offset),
+        Piece::Text(" "),
+        Piece::Mode(fixup.self_relative),
+        Piece::Text(" location "),
+        Piece::Location(fixup.location),
+        Piece::Text(" frame "),
+        Piece::Frame(fixup.reference.frame),
+        Piece::Text(" target "),
+        Piece::Target(fixup.reference.target),
+        Piece::Displacement(fixup.reference.displacement),
+        Piece::Text("\n"),
+    ];
+    put_each(sink, pieces.as_slice())
+}
+
+impl<'a, K: Sink> Printed<K> for &'a [u8] {
+    ghost text = { λ name. spec.name_line name.now };
+
+    fn put(&self, sink: &mut K) -> Result<(), IoFault> {
+        put_name_line(sink, self)
+    }
+}
+
+impl<'a, K: Sink> Printed<K> for External<'a> {
+    ghost text = { λ external. spec.external_line (external_view external) };
+
+    fn put(&self, sink: &mut K) -> Result<(), IoFault> {
+        let pieces = [
+            Piece::Text("  external "),
+            Piece::Name(self.name),
+            Piece::Text(" type "),
+            Piece::Index(self.type_index),
+            Piece::Text("\n"),
+        ];
+        put_each(sink, pieces.as_slice())
+    }
+}
+
+impl<'a, K: Sink> Printed<K> for Public<'a> {
+    ghost text = { λ public. spec.public_line (public_view public) };
+
+    fn put(&self, sink: &mut K) -> Result<(), IoFault> {
+        let pieces = [
+            Piece::Text("  public "),
+            Piece::Name(self.name),
+            Piece::Text(" offset "),
+            Piece::Word(self.offset),
+            Piece::Text(" type "),
+            Piece::Index(self.type_index),
+            Piece::Text("\n"),
+        ];
+        put_each(sink, pieces.as_slice())
+    }
+}
+
+impl<K: Sink> Printed<K> for Line {
+    ghost text = { spec.number_line };
+
+    fn put(&self, sink: &mut K) -> Result<(), IoFault> {
+        let pieces = [
+            Piece::Text("  line "),
+            Piece::Index(self.number),
+            Piece::Text(" offset "),
+            Piece::Word(self.offset),
+            Piece::Text("\n"),
+        ];
+        put_each(sink, pieces.as_slice())
+    }
+}
+
+/// A component of a group: its segment.
+impl<K: Sink> Printed<K> for u16 {
+    ghost text = { spec.component_line };
+
+    fn put(&self, sink: &mut K) -> Result<(), IoFault> {
+        let pieces = [
+            Piece::Text("  segment "),
+            Piece::Index(*self),
+            Piece::Text("\n"),
+        ];
+        put_each(sink, pieces.as_slice())
+    }
+}
+
+impl<K: Sink> Printed<K> for Subrecord {
+    ghost text = { spec.subrecord_line };
+
+    fn put(&self, sink: &mut K) -> Result<(), IoFault> {
+        match *self {
+            Subrecord::SetFrame(thread, method) => put_frame_thread(sink, thread, method),
+            Subrecord::SetTarget(thread, method) => put_target_thread(sink, thread, method),
+            Subrecord::Fixup(fixup) => put_fixup(sink, fixup),
+        }
+    }
+}
+
+#[tactic(auto, unfolding(crate::specs::Details::details))]
+fn put_names<K: Sink>(sink: &mut K, names: &[&[u8]]) -> Result<(), IoFault>
+    requires { K.failures sink.old < 2 ^ 64 - 1 }
+    ensures count { K.failures sink.new ≡ K.failures sink.old + (if is_ok result then 0 else 1) }
+    ensures appended { OnOk result (Appends (K.written sink.old) (K.written sink.new) (details (says.Lnames (map (λ n. n.now) names.now)))) }
+    ensures failed { OnErr result (AppendsFront (K.written sink.old) (K.written sink.new) (details (says.Lnames (map (λ n. n.now) names.now)))) }
+{
+    put_each(sink, names)
+}
+
+fn put_externals<K: Sink>(sink: &mut K, names: &[External<'_>]) -> Result<(), IoFault>
+    requires { K.failures sink.old < 2 ^ 64 - 1 }
+    ensures count { K.failures sink.new ≡ K.failures sink.old + (if is_ok result then 0 else 1) }
+    ensures appended { OnOk result (Appends (K.written sink.old) (K.written sink.new) (flat_map spec.external_line (map external_view names.now))) }
+    ensures failed { OnErr result (AppendsFront (K.written sink.old) (K.written sink.new) (flat_map spec.external_line (map external_view names.now))) }
+{
+    put_each(sink, names)
+}
+
+#[tactic(auto, unfolding(crate::specs::Details::details))]
+fn put_subrecords<K: Sink>(sink: &mut K, subrecords: &[Subrecord]) -> Result<(), IoFault>
+    requires { K.failures sink.old < 2 ^ 64 - 1 }
+    ensures count { K.failures sink.new ≡ K.failures sink.old + (if is_ok result then 0 else 1) }
+    ensures appended { OnOk result (Appends (K.written sink.old) (K.written sink.new) (details (says.Fixupp subrecords.now))) }
+    ensures failed { OnErr result (AppendsFront (K.written sink.old) (K.written sink.new) (details (says.Fixupp subrecords.now))) }
+{
+    put_each(sink, subrecords)
+}
+
+#[tactic(auto, unfolding(crate::specs::Details::details))]
+fn put_group<K: Sink>(sink: &mut K, name: u16, segments: &[u16]) -> Result<(), IoFault>
+    requires { K.failures sink.old < 2 ^ 64 - 1 }
+    ensures count { K.failures sink.new ≡ K.failures sink.old + (if is_ok result then 0 else 1) }
+    ensures appended { OnOk result (Appends (K.written sink.old) (K.written sink.new) (details (says.Grpdef name segments.now))) }
+    ensures failed { OnErr result (AppendsFront (K.written sink.old) (K.written sink.new) (details (says.Grpdef name segments.now))) }
+{
+    put_group_line(sink, name)?;
+    put_each(sink, segments)
+}
+
+fn put_publics<K: Sink>(
+    sink: &mut K,
+    base: PublicBase,
+    publics: &[Public<'_>],
+) -> Result<(), IoFault>
+    requires { K.failures sink.old < 2 ^ 64 - 1 }
+    ensures count { K.failures sink.new ≡ K.failures sink.old + (if is_ok result then 0 else 1) }
+    ensures appended { OnOk result (Appends (K.written sink.old) (K.written sink.new) (spec.public_base base ++ flat_map spec.public_line (map public_view publics.now))) }
+    ensures failed { OnErr result (AppendsFront (K.written sink.old) (K.written sink.new) (spec.public_base base ++ flat_map spec.public_line (map public_view publics.now))) }
+{
+    put_base(sink, base)?;
+    put_each(sink, publics)
+}
+
+#[tactic(auto, unfolding(crate::specs::Details::details))]
+fn put_lines<K: Sink>(sink: &mut K, group: u16, segment: u16, lines: &[Line]) -> Result<(), IoFault>
+    requires { K.failures sink.old < 2 ^ 64 - 1 }
+    ensures count { K.failures sink.new ≡ K.failures sink.old + (if is_ok result then 0 else 1) }
+    ensures appended { OnOk result (Appends (K.written sink.old) (K.written sink.new) (details (says.Linnum group segment lines.now))) }
+    ensures failed { OnErr result (AppendsFront (K.written sink.old) (K.written sink.new) (details (says.Linnum group segment lines.now))) }
+{
+    put_base_line(sink, group, segment)?;
+    put_each(sink, lines)
+}
+
+/// Writes the lines of a record.
+#[tactic(auto, unfolding(omf_record::specs::View::view, crate::specs::Details::details))]
+pub fn put_details<K: Sink, A: Allocator + Copy>(
+    sink: &mut K,
+    record: &Record<'_, A>,
+) -> Result<(), IoFault>
+    requires { K.failures sink.old < 2 ^ 64 - 1 }
+    ensures count { K.failures sink.new ≡ K.failures sink.old + (if is_ok result then 0 else 1) }
+    ensures appended { OnOk result (Appends (K.written sink.old) (K.written sink.new) (details (view «record».now))) }
+    ensures failed { OnErr result (AppendsFront (K.written sink.old) (K.written sink.new) (details (view «record».now))) }
+{
+    match record {
+        Record::Theadr { name } => put_header(sink, name),
+        Record::Coment { kind, class, bytes } => put_comment(sink, *kind, *class, bytes),
+        Record::Modend { main, start: None } => put_plain_end(sink, *main),
+        Record::Modend {
+            main,
+            start: Some(start),
+        } => put_start(sink, *main, *start),
+        Record::Extdef { local: _, names } => put_externals(sink, names),
+        Record::Pubdef {
+            local: _,
+            base,
+            publics,
+        } => put_publics(sink, *base, publics),
+        Record::Linnum {
+            group,
+            segment,
+            lines,
+        } => put_lines(sink, *group, *segment, lines),
+        Record::Lnames { names } => put_names(sink, names),
+        Record::Segdef { segment } => put_segment(sink, segment),
+        Record::Grpdef { name, segments } => put_group(sink, *name, segments),
+        Record::Fixupp { subrecords } => put_subrecords(sink, subrecords),
+        Record::Ledata {
+            segment,
+            offset,
+            bytes,
+        } => put_data(sink, *segment, *offset, bytes),
+        Record::Lidata {
+            segment,
+            offset,
+            blocks,
+        } => put_repeated(sink, *segment, *offset, blocks),
+    }
+}
+
+/// Writes the head line and the lines of a record that stands at this place, has this type and a body
+/// of this length, in bytes.
+pub fn put_listing<K: Sink, A: Allocator + Copy>(
+    sink: &mut K,
+    place: u64,
+    kind: u8,
+    length: usize,
+    record: &Record<'_, A>,
+) -> Result<(), IoFault>
+    requires { K.failures sink.old < 2 ^ 64 - 1 }
+    ensures count { K.failures sink.new ≡ K.failures sink.old + (if is_ok result then 0 else 1) }
+    ensures appended { OnOk result (Appends (K.written sink.old) (K.written sink.new) (head_line place kind length ++ details (view «record».now))) }
+    ensures failed { OnErr result (AppendsFront (K.written sink.old) (K.written sink.new) (head_line place kind length ++ details (view «record».now))) }
+{
+    put_head_line(sink, place, kind, length)?;
+    put_details(sink, record)
+}
+
+#[cfg(test)]
+mod tests;

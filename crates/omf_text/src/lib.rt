@@ -1,0 +1,14 @@
+//! The printed forms: names and hexadecimal numbers, the lines of a record, and the lines and statuses of faults.
+//! Nothing here takes memory.
+#![tactic(auto)]
+
+mod details;
+mod fault;
+mod listing;
+mod pieces;
+mod print;
+
+pub use details::{put_details, put_listing};
+pub use fault::{FileFault, LinkFault, ProgramFault, RecordFault, fault_line, status};
+pub use listing::{put_head_line, record_name};
+pub use print::{Hexadecimal, put_name, put_pieces};

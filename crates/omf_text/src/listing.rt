@@ -1,0 +1,82 @@
+//! The listing of records. Nothing here takes memory.
+ghost use Rattle.std.specs.Prelude.{◌≡◌, ◌+◌, ◌-◌, ◌^◌, ◌<◌, ◌≤◌, OnErr, OnOk, is_ok, replicate, if◌then◌else◌};
+ghost use Rattle.std.specs.Io.KnownBytes.{Appends};
+ghost use Rattle.omf_frame.specs.Device.{AppendsFront};
+ghost use Rattle.omf_text.specs.Listing as spec;
+ghost use Rattle.omf_text.specs.Listing.{head_line};
+
+use crate::print::{Hexadecimal, put_pieces};
+use itoa::Buffer;
+use omf_frame::{IoFault, Sink};
+
+/// The printed width of a record's name.
+const NAME_WIDTH: usize = 7;
+
+/// The printed width of a body's length.
+const LENGTH_WIDTH: usize = 5;
+
+/// The name of a record's type, empty where the type isn't one of the twelve.
+#[tactic(auto, unfolding(crate::specs::Listing::record_name))]
+pub fn record_name(kind: u8) -> &'static str
+    ensures { result.now ≡ spec.record_name kind }
+{
+    match kind {
+        0x80 => "THEADR",
+        0x88 => "COMENT",
+        0x8A => "MODEND",
+        0x8C => "EXTDEF",
+        0x90 => "PUBDEF",
+        0x94 => "LINNUM",
+        0x96 => "LNAMES",
+        0x98 => "SEGDEF",
+        0x9A => "GRPDEF",
+        0x9C => "FIXUPP",
+        0xA0 => "LEDATA",
+        0xA2 => "LIDATA",
+        _ => "",
+    }
+}
+
+// So many spaces.
+fn spaces(count: usize) -> &'static [u8]
+    requires { count ≤ 7 }
+    ensures { result.now ≡ replicate count 32 }
+{
+    &b"       "[..count]
+}
+
+/// Writes the head line of a record: its place, its type, the type's name and the length of its body,
+/// in bytes.
+pub fn put_head_line<K: Sink>(
+    sink: &mut K,
+    place: u64,
+    kind: u8,
+    length: usize,
+) -> Result<(), IoFault>
+    requires { K.failures sink.old < 2 ^ 64 - 1 }
+    ensures count { K.failures sink.new ≡ K.failures sink.old + (if is_ok result then 0 else 1) }
+    ensures appended { OnOk result (Appends (K.written sink.old) (K.written sink.new) (head_line place kind length)) }
+    ensures failed { OnErr result (AppendsFront (K.written sink.old) (K.written sink.new) (head_line place kind length)) }
+{
+    let place = Hexadecimal::new(place, 8);
+    let type_byte = Hexadecimal::new(u64::from(kind), 2);
+    let name = record_name(kind);
+    let mut digits = Buffer::new();
+    let length = digits.format(length);
+    let pieces = [
+        place.as_bytes(),
+        b" ".as_slice(),
+        type_byte.as_bytes(),
+        b" ".as_slice(),
+        name.as_bytes(),
+        spaces(NAME_WIDTH.saturating_sub(name.len())),
+        b" ".as_slice(),
+        spaces(LENGTH_WIDTH.saturating_sub(length.len())),
+        length.as_bytes(),
+        b"\n".as_slice(),
+    ];
+    put_pieces(sink, pieces.as_slice())
+}
+
+#[cfg(test)]
+mod tests;

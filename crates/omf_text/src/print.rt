@@ -1,0 +1,199 @@
+//! Printed text, written to a sink. Nothing here takes memory.
+ghost use Rattle.std.specs.Prelude.{◌≡◌, ℕ, ◌+◌, ◌-◌, ◌^◌, ◌<◌, ◌≤◌, [], ◌++◌, IsTrue, OnErr, OnOk, false, is_ok, if◌then◌else◌};
+ghost use Rattle.std.specs.List.{flat_map};
+ghost use Rattle.std.specs.Io.KnownBytes.{Appends};
+ghost use Rattle.omf_frame.specs.Device.{AppendsFront};
+ghost use Rattle.omf_text.specs.Printing as spec;
+ghost use Rattle.omf_text.specs.Printing.{AppendsBut, hexadecimal, name_byte, printed_name};
+
+use omf_frame::{IoFault, Sink, put_all};
+use std::marker::Model;
+
+/// The most hexadecimal digits that a number has.
+const MAX_DIGITS: usize = 16;
+
+/// How much of a line is held back, so that it is written at once.
+const LINE_ROOM: usize = 64;
+
+// The end of a line that isn't written yet.
+#[derive(Drop)]
+struct Line {
+    bytes: [u8; LINE_ROOM],
+    len: usize,
+}
+
+// The text that is held back.
+impl Model for Line {
+    ghost use Rattle.std.specs.Prelude.{ℕ, List, ◌≤◌, take};
+
+    ghost Value = { List ℕ };
+
+    ghost view = { λ l. take l.len l.bytes };
+
+    ghost invariant = { λ l. l.len ≤ 64 };
+}
+
+impl Line {
+    fn new() -> Line
+        ensures { result ≡ [] }
+    {
+        Line {
+            bytes: [0; LINE_ROOM],
+            len: 0,
+        }
+    }
+
+    // Writes what is held back.
+    fn put_held<K: Sink>(&mut self, sink: &mut K) -> Result<(), IoFault>
+        requires { K.failures sink.old < 2 ^ 64 - 1 }
+        ensures count { K.failures sink.new ≡ K.failures sink.old + (if is_ok result then 0 else 1) }
+        ensures appended { OnOk result (Appends (K.written sink.old) (K.written sink.new) self.old × (self.new ≡ [])) }
+        ensures failed { OnErr result (AppendsFront (K.written sink.old) (K.written sink.new) self.old) }
+    {
+        put_all(sink, &self.bytes[..self.len])?;
+        self.len = 0;
+        Ok(())
+    }
+
+    // Holds a piece back, where there is room for it.
+    fn hold(&mut self, piece: &[u8]) -> bool
+        ensures held { IsTrue result → self.new ≡ self.old ++ piece.now }
+        ensures full { result ≡ false → self.new ≡ self.old }
+    {
+        if piece.len() > LINE_ROOM - self.len {
+            return false;
+        }
+        let end = self.len + piece.len();
+        self.bytes[self.len..end].copy_from_slice(piece);
+        self.len = end;
+        true
+    }
+
+    // Writes what is held back and the piece, but for what is held back then.
+    fn put<K: Sink>(&mut self, sink: &mut K, piece: &[u8]) -> Result<(), IoFault>
+        requires { K.failures sink.old < 2 ^ 64 - 1 }
+        ensures count { K.failures sink.new ≡ K.failures sink.old + (if is_ok result then 0 else 1) }
+        ensures appended { OnOk result (AppendsBut self.new (K.written sink.old) (K.written sink.new) (self.old ++ piece.now)) }
+        ensures failed { OnErr result (AppendsFront (K.written sink.old) (K.written sink.new) (self.old ++ piece.now)) }
+    {
+        if self.hold(piece) {
+            return Ok(());
+        }
+        self.put_held(sink)?;
+        if self.hold(piece) {
+            return Ok(());
+        }
+        put_all(sink, piece)
+    }
+}
+
+/// Writes the pieces one after the other, a short line at once.
+pub fn put_pieces<K: Sink>(sink: &mut K, pieces: &[&[u8]]) -> Result<(), IoFault>
+    requires { K.failures sink.old < 2 ^ 64 - 1 }
+    ensures count { K.failures sink.new ≡ K.failures sink.old + (if is_ok result then 0 else 1) }
+    ensures appended { OnOk result (Appends (K.written sink.old) (K.written sink.new) (flat_map (λ piece. piece.now) pieces.now)) }
+    ensures failed { OnErr result (AppendsFront (K.written sink.old) (K.written sink.new) (flat_map (λ piece. piece.now) pieces.now)) }
+{
+    let mut line = Line::new();
+    for piece in pieces {
+        line.put(sink, piece)?;
+    }
+    line.put_held(sink)
+}
+
+// The digit of a value below 16.
+fn digit(value: u8) -> u8
+    requires { value < 16 }
+    ensures { result ≡ spec.digit value }
+{
+    if value < 10 {
+        b'0' + value
+    } else {
+        b'A' + (value - 10)
+    }
+}
+
+// Whether a byte of a printed name stands as it is.
+#[tactic(auto, unfolding(crate::specs::Printing::is_plain))]
+fn is_plain(byte: u8) -> bool
+    ensures { result ≡ spec.is_plain byte }
+{
+    byte >= b' ' && byte <= b'~' && byte != b'"' && byte != b'\\'
+}
+
+fn put_name_byte<K: Sink>(sink: &mut K, byte: u8) -> Result<(), IoFault>
+    requires { K.failures sink.old < 2 ^ 64 - 1 }
+    ensures count { K.failures sink.new ≡ K.failures sink.old + (if is_ok result then 0 else 1) }
+    ensures appended { OnOk result (Appends (K.written sink.old) (K.written sink.new) (name_byte byte)) }
+    ensures failed { OnErr result (AppendsFront (K.written sink.old) (K.written sink.new) (name_byte byte)) }
+{
+    if is_plain(byte) {
+        put_all(sink, &[byte])
+    } else {
+        put_all(sink, &[b'\\', b'x', digit(byte / 16), digit(byte % 16)])
+    }
+}
+
+/// Writes a name between two quotes. The bytes 20H to 7EH other than the quote and the backslash stand
+/// as they are, any other byte as `\x` and two hexadecimal digits.
+pub fn put_name<K: Sink>(sink: &mut K, name: &[u8]) -> Result<(), IoFault>
+    requires { K.failures sink.old < 2 ^ 64 - 1 }
+    ensures count { K.failures sink.new ≡ K.failures sink.old + (if is_ok result then 0 else 1) }
+    ensures appended { OnOk result (Appends (K.written sink.old) (K.written sink.new) (printed_name name.now)) }
+    ensures failed { OnErr result (AppendsFront (K.written sink.old) (K.written sink.new) (printed_name name.now)) }
+{
+    put_all(sink, b"\"")?;
+    for byte in name {
+        put_name_byte(sink, *byte)?;
+    }
+    put_all(sink, b"\"")
+}
+
+/// A number in hexadecimal, with capital digits.
+#[derive(Drop)]
+pub struct Hexadecimal {
+    digits: [u8; MAX_DIGITS],
+    start: usize,
+}
+
+// The printed digits.
+impl Model for Hexadecimal {
+    ghost use Rattle.std.specs.Prelude.{ℕ, List, ◌≤◌, drop};
+
+    ghost Value = { List ℕ };
+
+    ghost view = { λ h. drop h.start h.digits };
+
+    ghost invariant = { λ h. h.start ≤ 16 };
+}
+
+impl Hexadecimal {
+    /// The number with at least `width` digits, with leading zeros.
+    pub fn new(number: u64, width: usize) -> Hexadecimal
+        requires { width ≤ 16 }
+        ensures { result ≡ hexadecimal width number }
+    {
+        let mut digits = [b'0'; MAX_DIGITS];
+        let mut start = MAX_DIGITS;
+        let mut rest = number;
+        while rest > 0 {
+            start -= 1;
+            digits[start] = digit((rest % 16) as u8);
+            rest /= 16;
+        }
+        Hexadecimal {
+            digits,
+            start: start.min(MAX_DIGITS - width),
+        }
+    }
+
+    /// The digits in ASCII.
+    pub fn as_bytes(&self) -> &[u8]
+        ensures { result.now ≡ self.now }
+    {
+        &self.digits[self.start..]
+    }
+}
+
+#[cfg(test)]
+mod tests;
