@@ -6,8 +6,7 @@ ghost use Rattle.omf_commands.specs.Loading.{LoadsFile, bytes_line, bytes_lines,
 ghost use Rattle.omf_text.specs.Printing.{hexadecimal};
 ghost use Rattle.omf_commands.specs.Reading.{sink_failures, source_failures};
 
-use omf_text::{FileFault, LinkFault};
-use omf_text::{Hexadecimal, put_pieces};
+use omf_text::{FileFault, Hexadecimal, LinkFault, put_hexadecimal, put_pieces};
 use mz::{LoadFault, Loaded, MzFault, load, read_mz};
 use omf_frame::{IoFault, Sink, Source, put_all};
 use std::alloc::Allocator;
@@ -67,16 +66,6 @@ fn put_registers<K: Sink, A: Allocator + Copy>(
         b"\n".as_slice(),
     ];
     put_pieces(sink, pieces.as_slice())
-}
-
-fn put_hexadecimal<K: Sink>(sink: &mut K, number: u64, width: usize) -> Result<(), IoFault>
-    requires working { K.failures sink.old < 2 ^ 64 - 1 }
-    requires narrow { width ≤ 16 }
-    ensures count { K.failures sink.new ≡ K.failures sink.old + (if is_ok result then 0 else 1) }
-    ensures appended { OnOk result (Appends (K.written sink.old) (K.written sink.new) (hexadecimal width number)) }
-    ensures failed { OnErr result (AppendsFront (K.written sink.old) (K.written sink.new) (hexadecimal width number)) }
-{
-    put_all(sink, Hexadecimal::new(number, width).as_bytes())
 }
 
 fn put_byte<K: Sink>(sink: &mut K, byte: u8) -> Result<(), IoFault>

@@ -11,4 +11,5 @@ mod print;
 pub use details::{put_details, put_listing};
 pub use fault::{FileFault, LinkFault, ProgramFault, RecordFault, fault_line, status};
 pub use listing::{put_head_line, record_name};
-pub use print::{Hexadecimal, put_name, put_pieces};
+pub use pieces::{Printed, put_each};
+pub use print::{Hexadecimal, put_count, put_hexadecimal, put_name, put_pieces};

@@ -4,10 +4,9 @@ ghost use Rattle.std.specs.List.{flat_map, concat};
 ghost use Rattle.std.specs.Io.KnownBytes.{Appends};
 ghost use Rattle.omf_frame.specs.Device.{AppendsFront};
 ghost use Rattle.omf_text.specs.Details as spec;
-ghost use Rattle.omf_text.specs.Printing.{hexadecimal};
 ghost use Rattle.omf_text.specs.Pieces.{printed};
 
-use crate::print::{Hexadecimal, put_name, put_pieces};
+use crate::print::{Hexadecimal, put_count, put_hexadecimal, put_name, put_pieces};
 use itoa::Buffer;
 use omf_frame::{IoFault, Sink, put_all};
 use omf_record::{
@@ -89,25 +88,6 @@ pub enum Piece<'a> {
     Displacement(Option<u16>),
 }
 
-fn put_hexadecimal<K: Sink>(sink: &mut K, number: u16, width: usize) -> Result<(), IoFault>
-    requires working { K.failures sink.old < 2 ^ 64 - 1 }
-    requires width { width ≤ 16 }
-    ensures count { K.failures sink.new ≡ K.failures sink.old + (if is_ok result then 0 else 1) }
-    ensures appended { OnOk result (Appends (K.written sink.old) (K.written sink.new) (hexadecimal width number)) }
-    ensures failed { OnErr result (AppendsFront (K.written sink.old) (K.written sink.new) (hexadecimal width number)) }
-{
-    put_all(sink, Hexadecimal::new(u64::from(number), width).as_bytes())
-}
-
-fn put_count<K: Sink>(sink: &mut K, count: usize) -> Result<(), IoFault>
-    requires { K.failures sink.old < 2 ^ 64 - 1 }
-    ensures count { K.failures sink.new ≡ K.failures sink.old + (if is_ok result then 0 else 1) }
-    ensures appended { OnOk result (Appends (K.written sink.old) (K.written sink.new) (decimal count)) }
-    ensures failed { OnErr result (AppendsFront (K.written sink.old) (K.written sink.new) (decimal count)) }
-{
-    put_all(sink, Buffer::new().format(count).as_bytes())
-}
-
 fn put_comment_bytes<K: Sink>(sink: &mut K, bytes: &[u8]) -> Result<(), IoFault>
     requires { K.failures sink.old < 2 ^ 64 - 1 }
     ensures count { K.failures sink.new ≡ K.failures sink.old + (if is_ok result then 0 else 1) }
@@ -118,7 +98,7 @@ fn put_comment_bytes<K: Sink>(sink: &mut K, bytes: &[u8]) -> Result<(), IoFault>
         return put_all(sink, b"-");
     }
     for byte in bytes {
-        put_hexadecimal(sink, u16::from(*byte), 2)?;
+        put_hexadecimal(sink, u64::from(*byte), 2)?;
     }
     Ok(())
 }
@@ -252,9 +232,9 @@ impl<'a, K: Sink> Printed<K> for Piece<'a> {
             Piece::Text(text) => put_all(sink, text.as_bytes()),
             Piece::Index(index) => put_count(sink, usize::from(index)),
             Piece::Count(count) => put_count(sink, count),
-            Piece::Byte(byte) => put_hexadecimal(sink, u16::from(byte), 2),
-            Piece::Place(place) => put_hexadecimal(sink, place, 3),
-            Piece::Word(word) => put_hexadecimal(sink, word, 4),
+            Piece::Byte(byte) => put_hexadecimal(sink, u64::from(byte), 2),
+            Piece::Place(place) => put_hexadecimal(sink, u64::from(place), 3),
+            Piece::Word(word) => put_hexadecimal(sink, u64::from(word), 4),
             Piece::Name(name) => put_name(sink, name),
             Piece::Bit(bit) => put_count(sink, usize::from(bit)),
             Piece::CommentBytes(bytes) => put_comment_bytes(sink, bytes),

@@ -1,11 +1,12 @@
 //! Printed text, written to a sink. Nothing here takes memory.
-ghost use Rattle.std.specs.Prelude.{◌≡◌, ℕ, ◌+◌, ◌-◌, ◌^◌, ◌<◌, ◌≤◌, [], ◌++◌, IsTrue, OnErr, OnOk, false, is_ok, if◌then◌else◌};
+ghost use Rattle.std.specs.Prelude.{◌≡◌, ℕ, ◌+◌, ◌-◌, ◌^◌, ◌<◌, ◌≤◌, [], ◌++◌, IsTrue, OnErr, OnOk, false, is_ok, decimal, if◌then◌else◌};
 ghost use Rattle.std.specs.List.{flat_map};
 ghost use Rattle.std.specs.Io.KnownBytes.{Appends};
 ghost use Rattle.omf_frame.specs.Device.{AppendsFront};
 ghost use Rattle.omf_text.specs.Printing as spec;
 ghost use Rattle.omf_text.specs.Printing.{AppendsBut, hexadecimal, name_byte, printed_name};
 
+use itoa::Buffer;
 use omf_frame::{IoFault, Sink, put_all};
 use std::marker::Model;
 
@@ -193,6 +194,33 @@ impl Hexadecimal {
     {
         &self.digits[self.start..]
     }
+}
+
+/// Writes the number in hexadecimal, with capital digits: at least `width` of them, with leading zeros.
+///
+/// # Errors
+/// The sink failed.
+pub fn put_hexadecimal<K: Sink>(sink: &mut K, number: u64, width: usize) -> Result<(), IoFault>
+    requires working { K.failures sink.old < 2 ^ 64 - 1 }
+    requires narrow { width ≤ 16 }
+    ensures count { K.failures sink.new ≡ K.failures sink.old + (if is_ok result then 0 else 1) }
+    ensures appended { OnOk result (Appends (K.written sink.old) (K.written sink.new) (hexadecimal width number)) }
+    ensures failed { OnErr result (AppendsFront (K.written sink.old) (K.written sink.new) (hexadecimal width number)) }
+{
+    put_all(sink, Hexadecimal::new(number, width).as_bytes())
+}
+
+/// Writes the number in decimal.
+///
+/// # Errors
+/// The sink failed.
+pub fn put_count<K: Sink>(sink: &mut K, count: usize) -> Result<(), IoFault>
+    requires { K.failures sink.old < 2 ^ 64 - 1 }
+    ensures count { K.failures sink.new ≡ K.failures sink.old + (if is_ok result then 0 else 1) }
+    ensures appended { OnOk result (Appends (K.written sink.old) (K.written sink.new) (decimal count)) }
+    ensures failed { OnErr result (AppendsFront (K.written sink.old) (K.written sink.new) (decimal count)) }
+{
+    put_all(sink, Buffer::new().format(count).as_bytes())
 }
 
 #[cfg(test)]
