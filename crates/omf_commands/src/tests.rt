@@ -4,7 +4,7 @@ pub mod objects;
 
 use super::*;
 use omf_frame::{MemSink, MemSource, put_frame, put_index};
-use omf_text::{LinkFault, RecordFault, fault_line, put_listing, status};
+use omf_text::{LinkFault, RecordFault};
 use refusing::Refusing;
 use std::alloc::{Allocator, Global};
 use std::process::Abort;
