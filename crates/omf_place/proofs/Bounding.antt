@@ -26,8 +26,8 @@ use Rattle.omf_place.specs.Parts.{Site, module_sites, sites_from, sites, is_part
 use Rattle.omf_place.specs.Placed.{IsPlaced, address_of}
 use Rattle.omf_place.specs.Tables.{segment_start, segment_end, leaders, combined_segment, placed, placed_at, group_frame, public_frame, in_segment, placed_public, publics_of, placed_publics}
 use Rattle.omf_place.proofs.LinkRows.{RowIs, input_rows, row_at}
-use Rattle.omf_place.proofs.SiteLists.{length-module_sites, numbered_found, numbered_sites}
-use Rattle.omf_place.proofs.Walks.{All-get}
+use Rattle.omf_place.proofs.SiteLists.{length-module_sites, numbered_sites}
+use Rattle.omf_place.proofs.Walks.{All-get, numbered_found}
 use Rattle.omf_place.proofs.Within.{part-within}
 
 All-front : {X : Type 0} (P : X → Type 0) (xs ys : List X) → AllByRecursion P (xs ++ ys) → AllByRecursion P xs

@@ -8,7 +8,7 @@ use Rattle.omf_place.specs.Parts.{Site, combines, rank, before, parts, placement
 use Rattle.omf_place.specs.Placed.{greatest, members, leads, is_common, is_stack, alignment_of}
 use Rattle.omf_place.specs.Numbered.{IsNumberedFrom}
 use Rattle.omf_place.specs.Walk.{IsUnitBounded}
-use Rattle.omf_place.proofs.Walks.{All-get, All-filter, All-map, All-sorted, found}
+use Rattle.omf_place.proofs.Walks.{All-get, All-filter, All-map, All-sorted, numbered_found}
 use Rattle.omf_place.proofs.Leaders.{combines-itself}
 use Rattle.omf_place.proofs.Only.{All-unfilter}
 
@@ -67,4 +67,4 @@ unit-bounded ss sound a at =
 pub units-bounded : (ss : List Site) → IsNumberedFrom 0 ss → AllByRecursion (λ a. SegmentFits a.segment) ss → AllByRecursion (IsUnitBounded ss) (placement_order ss)
 units-bounded ss numbered sound =
     All-sorted (λ a b. before (rank ss a) (rank ss b)) (IsUnitBounded ss) (parts ss)
-    (All-filter (IsUnitBounded ss) is_part ss (All-map (λ a. slice_get ss a.position ≡ Some a) (IsUnitBounded ss) ss (unit-bounded ss sound) (found ss numbered)))
+    (All-filter (IsUnitBounded ss) is_part ss (All-map (λ a. slice_get ss a.position ≡ Some a) (IsUnitBounded ss) ss (unit-bounded ss sound) (numbered_found ss numbered)))

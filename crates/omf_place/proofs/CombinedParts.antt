@@ -14,10 +14,10 @@ use Rattle.omf_place.specs.Placed.{greatest, members}
 use Rattle.omf_place.specs.Keys.{Key, Alone, Joined, key, same_joining, same_key, segment_place}
 use Rattle.omf_place.specs.Numbered.{IsNumberedFrom}
 use Rattle.omf_place.specs.Greatest.{greatest_at}
-use Rattle.omf_place.proofs.SiteLists.{numbered_found, one_place}
+use Rattle.omf_place.proofs.SiteLists.{one_place}
 use Rattle.omf_place.proofs.KeyPlaces.{keys_combine, place_congr}
 use Rattle.omf_place.proofs.Leaders.{combines-itself, and_both, at_own}
-use Rattle.omf_place.proofs.Walks.{All-map}
+use Rattle.omf_place.proofs.Walks.{All-map, numbered_found}
 
 same_joining-is : (j k : Joining) → same_joining j k ≡ true → j ≡ k
 same_joining-is joining.Public joining.Public e = refl

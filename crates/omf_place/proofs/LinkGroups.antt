@@ -20,6 +20,7 @@ use Rattle.omf_place.specs.Reaches.{GroupReach, widened, no_stand, reach_in, joi
 use Rattle.omf_place.specs.Stands.{stand_of}
 use Rattle.omf_place.specs.Tables.{Grpdef, Span, components, grpdefs_of, grpdefs, widen, segment_start, segment_end}
 use Rattle.omf_place.proofs.KeyPlaces.{map_congr, map_two}
+use Rattle.omf_place.proofs.Walks.{All-map}
 use Rattle.omf_place.proofs.LinkRows.{RowIs, row_at, input_rows, All-mapped_back}
 
 min_div : (a b : ℕ) → min a b / 16 ≡ min (a / 16) (b / 16)
@@ -125,10 +126,6 @@ pub All-two : {X : Type 0} (P Q R : X → Type 0) (xs : List X) → ((x : X) →
 All-two P Q R [] f ps qs = tt
 All-two P Q R (x ∷ xs) f ps qs = (f x ps.0 qs.0, All-two P Q R xs f ps.1 qs.1)
 
-pub All-along : {X : Type 0} (P Q : X → Type 0) (xs : List X) → ((x : X) → P x → Q x) → AllByRecursion P xs → AllByRecursion Q xs
-All-along P Q [] f ps = tt
-All-along P Q (x ∷ xs) f ps = (f x ps.0, All-along P Q xs f ps.1)
-
 module _ {H : Type 0} (program : List Module) (A : List ℕ) (xs : List (held.Input H)) (made : map input_view xs ≡ inputs program) (stands : AllByRecursion (HasStands (sites program) A) xs) (sound : AllByRecursion IsSoundInput xs) where
   rows : AllByRecursion (λ x. RowIs (input_view x)) xs
   rows = All-mapped_back input_view RowIs xs (subst (λ ns. AllByRecursion RowIs ns) (sym made) (input_rows program))
@@ -142,7 +139,7 @@ module _ {H : Type 0} (program : List Module) (A : List ℕ) (xs : List (held.In
       let fits : Group → Type 0 = GroupFits x.says.now.segments x.says.now.groups x.says.now.externals in
       let all : AllByRecursion (λ (e : ℕ × Group). fits e.1) (enumerate_from 0 groups) = All-numbered fits 0 groups (to_recursion fits groups snd.groups) in
       map_congr named (λ e. reached program A (defs e)) (enumerate_from 0 groups)
-      (All-along (λ (e : ℕ × Group). fits e.1) (λ e. named e ≡ reached program A (defs e)) (enumerate_from 0 groups)
+      (All-map (λ (e : ℕ × Group). fits e.1) (λ e. named e ≡ reached program A (defs e)) (enumerate_from 0 groups)
       (λ e own_fits. ap (λ r. record { input = x.input; number = e.0; name = e.1.name; reach = r })
       (reach_span (sites program) A n row x.stands.now own e.1.members (to_recursion (IsMember x.says.now.segments x.says.now.groups x.says.now.externals) e.1.members own_fits.members) None)) all)
       ∙ sym (map_two defs (reached program A) (enumerate_from 0 groups))

@@ -30,10 +30,11 @@ use Rattle.omf_place.specs.Spans.{IsLow, span_of}
 use Rattle.omf_place.specs.Stands.{StartsLow, stand_by, stand_of}
 use Rattle.omf_place.specs.Tables.{combined_segment, grpdefs, leaders, placed_publics}
 use Rattle.omf_place.proofs.KeyPlaces.{All-make, map_congr, map_two}
-use Rattle.omf_place.proofs.LinkGroups.{grpdefs_same, All-two, All-along, to_recursion}
+use Rattle.omf_place.proofs.LinkGroups.{grpdefs_same, All-two, to_recursion}
 use Rattle.omf_place.proofs.LinkRows.{All-mapped_back}
 use Rattle.omf_place.proofs.LinkTables.{group_fault_same, placed_groups_same, places_same, publics_same}
-use Rattle.omf_place.proofs.SiteLists.{length-module_sites, numbered_found}
+use Rattle.omf_place.proofs.SiteLists.{length-module_sites}
+use Rattle.omf_place.proofs.Walks.{All-map, numbered_found}
 use Rattle.omf_place.proofs.SpanAddresses.{by_position}
 use Rattle.omf_place.proofs.Within.{address-within, end-low, start-within}
 
@@ -77,7 +78,7 @@ module _ (ss : List Site) (A : List ℕ) (size : ℕ) (numbered : IsNumberedFrom
       (λ a. record { address = address-low a.position; start = address-low _; end = let h = end-low ss A size numbered placed sound 1114351 (omega arith) (omega arith) a in omega (arith, h) })))
 
   pub starts-low : AllByRecursion (StartsLow ss A) ss
-  starts-low = All-along (λ a. slice_get ss a.position ≡ Some a) (StartsLow ss A) ss
+  starts-low = All-map (λ a. slice_get ss a.position ≡ Some a) (StartsLow ss A) ss
       (λ a at part. let h = start-within ss A size numbered placed a at part in omega (arith, h)) (numbered_found ss numbered)
 
   pub stands-address : (stands : List Stand) → stands ≡ map (stand_of ss A) ss → addresses_of stands ≡ A
@@ -91,7 +92,7 @@ module _ (ss : List Site) (A : List ℕ) (size : ℕ) (numbered : IsNumberedFrom
 
   module _ {H : Type 0} (program : List Module) (xs : List (held.Input H)) (made : map input_view xs ≡ inputs program) (stands : AllByRecursion (HasStands ss A) xs) (snd : AllByRecursion IsSoundInput xs) where
     pub rows-whole : AllByRecursion HasRow xs
-    rows-whole = All-along (HasStands ss A) HasRow xs
+    rows-whole = All-map (HasStands ss A) HasRow xs
         (λ x own. ap length own ∙ length-map (sites_view x.sites.now) (stand_of ss A) ∙ length-map x.sites.now site) stands
 
     lengths : AllByRecursion (λ x. length (sites_view x.sites.now) ≡ length x.says.now.segments) xs
@@ -111,10 +112,10 @@ module _ (ss : List Site) (A : List ℕ) (size : ℕ) (numbered : IsNumberedFrom
         (All-two IsSoundInput (λ x. length (sites_view x.sites.now) ≡ length x.says.now.segments) (λ x. IsSoundInput x × (length (sites_view x.sites.now) ≡ length x.says.now.segments)) xs (λ x p q. (p, q)) snd lengths)
 
     pub inputs-components : AllByRecursion HasComponents xs
-    inputs-components = All-along IsWholeInput HasComponents xs
+    inputs-components = All-map IsWholeInput HasComponents xs
         (λ x w.
         let ms = x.says.now in
-        All-along (GroupFits ms.segments ms.groups ms.externals) (λ g. AllByRecursion (λ k. k < length x.stands.now) g.members) ms.groups
-        (λ g fits. All-along (IsMember ms.segments ms.groups ms.externals) (λ k. k < length x.stands.now) g.members
+        All-map (GroupFits ms.segments ms.groups ms.externals) (λ g. AllByRecursion (λ k. k < length x.stands.now) g.members) ms.groups
+        (λ g fits. All-map (IsMember ms.segments ms.groups ms.externals) (λ k. k < length x.stands.now) g.members
         (λ k c. let h = slice_get_within ms.segments k c.0 c.1.0 in let e = w.sites in let f = w.stands in omega (arith, h, e, f)) (to_recursion (IsMember ms.segments ms.groups ms.externals) g.members fits.members))
         (to_recursion (GroupFits ms.segments ms.groups ms.externals) ms.groups w.sound.groups)) inputs-whole

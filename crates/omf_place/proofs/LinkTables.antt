@@ -29,8 +29,9 @@ use Rattle.omf_place.specs.Sites.{site, sites_view}
 use Rattle.omf_place.specs.Stands.{stand_of, stand_by}
 use Rattle.omf_place.specs.Spans.{span_of}
 use Rattle.omf_place.specs.Tables.{Grpdef, Span, grpdefs, span, group_span, group_frame, is_first_grpdef, placed_group, placed_groups, public_frame, in_segment, placed_public, publics_of, placed_publics, segment_start}
+use Rattle.omf_place.proofs.Walks.{All-map}
 use Rattle.omf_place.proofs.KeyPlaces.{map_congr, map_two, All-make}
-use Rattle.omf_place.proofs.LinkGroups.{step, fold-together, fold-append, together-none, join_reaches, flat_map_congr, flat_map_two, All-along}
+use Rattle.omf_place.proofs.LinkGroups.{step, fold-together, fold-append, together-none, join_reaches, flat_map_congr, flat_map_two}
 use Rattle.omf_place.proofs.LinkRows.{row_same}
 use Rattle.std.proofs.lemmas.Option.{slice_get-map}
 
@@ -142,7 +143,7 @@ module _ (program : List Module) (A : List ℕ) where
     pub places_same : {H : Type 0} (xs : List (held.Input H)) → map input_view xs ≡ inputs program → AllByRecursion (HasStands ss A) xs → map (held_places groups) xs ≡ map (module_places program A) (inputs program)
     places_same xs made stands =
         map_congr (held_places groups) (λ x. module_places program A (input_view x)) xs
-        (All-along (HasStands ss A) (λ x. held_places groups x ≡ module_places program A (input_view x)) xs
+        (All-map (HasStands ss A) (λ x. held_places groups x ≡ module_places program A (input_view x)) xs
         (λ x own.
         let segments = ap (λ ts. placed_row (sites_view x.sites.now) ts) own ∙ row_same ss A (sites_view x.sites.now) in
         let frames = map_congr (λ (g : Group). frame_named groups g.name) (λ (g : Group). group_frame program A g.name) x.says.now.groups
@@ -185,7 +186,7 @@ module _ (program : List Module) (A : List ℕ) where
       pub publics_same : (xs : List (held.Input H)) → map input_view xs ≡ inputs program → AllByRecursion (HasStands ss A) xs → flat_map (held_publics groups) xs ≡ placed_publics program A
       publics_same xs made stands =
           flat_map_congr (held_publics groups) (λ x. publics_of program A (input_view x)) xs
-          (All-along (HasStands ss A) (λ x. held_publics groups x ≡ publics_of program A (input_view x)) xs
+          (All-map (HasStands ss A) (λ x. held_publics groups x ≡ publics_of program A (input_view x)) xs
           (λ x own. flat_map_congr (λ (p : PublicSymbol). option_to_list (option_map (λ placed. (p.name, placed)) (held_public x groups p)))
           (λ (p : PublicSymbol). option_to_list (option_map (λ placed. (p.name, placed)) (placed_public program A (input_view x) p.offset p.base))) x.says.now.publics
           (All-make (λ (p : PublicSymbol). option_to_list (option_map (λ placed. (p.name, placed)) (held_public x groups p)) ≡ option_to_list (option_map (λ placed. (p.name, placed)) (placed_public program A (input_view x) p.offset p.base))) x.says.now.publics

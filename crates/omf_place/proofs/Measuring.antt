@@ -20,8 +20,7 @@ use Rattle.omf_place.proofs.CombinedParts.{places_within, place_within, greatest
 use Rattle.omf_place.proofs.GreatestAt.{All-at}
 use Rattle.omf_place.proofs.Leaders.{position_at}
 use Rattle.omf_place.proofs.PartRanks.{get_map_site}
-use Rattle.omf_place.proofs.SiteLists.{numbered_found}
-use Rattle.omf_place.proofs.Walks.{All-map}
+use Rattle.omf_place.proofs.Walks.{All-map, numbered_found}
 
 pub All-site : (P : Site → Type 0) (sites : List stored.Site) (i : ℕ) (d : stored.Site) → AllByRecursion P (sites_view sites) → i < length sites → P (site (get_or sites i d))
 All-site P [] i d ps h = absurd (omega arith)

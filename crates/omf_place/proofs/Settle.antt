@@ -9,7 +9,7 @@ use Rattle.omf_place.specs.Parts.{Site, rank, parts, placement_order, is_part, i
 use Rattle.omf_place.specs.Placed.{IsNextStart, FollowFrom, StandsAside, IsPlaced, address_of, is_unit, is_common, leads, unit_alignment, unit_length}
 use Rattle.omf_place.specs.Numbered.{IsNumberedFrom}
 use Rattle.omf_place.specs.Walk.{units, settled, settled_at}
-use Rattle.omf_place.proofs.Walks.{All-filter, All-map, All-sorted, found, found_in_order}
+use Rattle.omf_place.proofs.Walks.{All-filter, All-map, All-sorted, numbered_found, found_in_order}
 use Rattle.omf_place.proofs.Leaders.{leader, or_right}
 use Rattle.omf_place.proofs.Only.{part_combined}
 
@@ -64,5 +64,5 @@ settled_placed ss A size numbered f =
     record {
       each = length-map ss (settled ss A);
       units = Follow-along ss A (map (settled ss A) ss) 0 (units ss) size same f;
-      others = All-map (λ a. slice_get ss a.position ≡ Some a) (λ a. StandsAside ss (map (settled ss A) ss) a a.segment.standing) ss (λ a e. stands ss A numbered a e) (found ss numbered);
+      others = All-map (λ a. slice_get ss a.position ≡ Some a) (λ a. StandsAside ss (map (settled ss A) ss) a a.segment.standing) ss (λ a e. stands ss A numbered a e) (numbered_found ss numbered);
     }

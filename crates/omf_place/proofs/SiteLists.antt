@@ -73,24 +73,6 @@ take-all (suc n) [] h = refl
 take-all zero (x ∷ xs) h = absurd (omega arith)
 take-all (suc n) (x ∷ xs) h = ap (λ ys. x ∷ ys) (take-all n xs (omega arith))
 
-All-along : {X : Type 0} (P Q : X → Type 0) (xs : List X) → ((x : X) → P x → Q x) → AllByRecursion P xs → AllByRecursion Q xs
-All-along P Q [] f ps = tt
-All-along P Q (x ∷ xs) f ps = (f x ps.0, All-along P Q xs f ps.1)
-
--- each site is found at its position
-found_from : (p : ℕ) (xs : List Site) → IsNumberedFrom p xs → AllByRecursion (λ a. (p ≤ a.position) × (slice_get xs (a.position - p) ≡ Some a)) xs
-found_from p [] n = tt
-found_from p (x ∷ xs) n =
-    let here : x.position - p ≡ 0 = omega (arith, n.0) in (
-      (omega (arith, n.0), rw here refl),
-      All-along (λ a. (p + 1 ≤ a.position) × (slice_get xs (a.position - (p + 1)) ≡ Some a)) (λ a. (p ≤ a.position) × (slice_get (x ∷ xs) (a.position - p) ≡ Some a)) xs
-          (λ a h. let low : p + 1 ≤ a.position = h.0 in let e : a.position - p ≡ suc (a.position - (p + 1)) = omega arith in (omega arith, rw e h.1)) (found_from (p + 1) xs n.1),
-    )
-
-pub numbered_found : (ss : List Site) → IsNumberedFrom 0 ss → AllByRecursion (λ a. slice_get ss a.position ≡ Some a) ss
-numbered_found ss n = All-along (λ a. (0 ≤ a.position) × (slice_get ss (a.position - 0) ≡ Some a)) (λ a. slice_get ss a.position ≡ Some a) ss
-    (λ a h. let e : a.position - 0 ≡ a.position = omega arith in rw e at h.1) (found_from 0 ss n)
-
 -- two of one position are one
 pub one_place : (ss : List Site) (a b : Site) → slice_get ss a.position ≡ Some a → slice_get ss b.position ≡ Some b → a.position ≡ b.position → a ≡ b
 one_place ss a b e f g = let h = ap (λ p. slice_get ss p) g in let k : Some a ≡ Some b = sym e ∙ h ∙ f in cc

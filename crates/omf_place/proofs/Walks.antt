@@ -85,12 +85,12 @@ found_from p (x ∷ xs) n =
           (λ a h. let low : p + 1 ≤ a.position = h.0 in let e : a.position - p ≡ suc (a.position - (p + 1)) = omega arith in (omega arith, rw e h.1)) (found_from (p + 1) xs n.1),
     )
 
-pub found : (ss : List Site) → IsNumberedFrom 0 ss → AllByRecursion (λ a. slice_get ss a.position ≡ Some a) ss
-found ss n = All-map (λ a. (0 ≤ a.position) × (slice_get ss (a.position - 0) ≡ Some a)) (λ a. slice_get ss a.position ≡ Some a) ss
+pub numbered_found : (ss : List Site) → IsNumberedFrom 0 ss → AllByRecursion (λ a. slice_get ss a.position ≡ Some a) ss
+numbered_found ss n = All-map (λ a. (0 ≤ a.position) × (slice_get ss (a.position - 0) ≡ Some a)) (λ a. slice_get ss a.position ≡ Some a) ss
     (λ a h. let e : a.position - 0 ≡ a.position = omega arith in rw e at h.1) (found_from 0 ss n)
 
 pub found_in_order : (ss : List Site) → IsNumberedFrom 0 ss → AllByRecursion (λ a. slice_get ss a.position ≡ Some a) (placement_order ss)
-found_in_order ss n = All-sorted (λ a b. before (rank ss a) (rank ss b)) (λ a. slice_get ss a.position ≡ Some a) (parts ss) (All-filter (λ a. slice_get ss a.position ≡ Some a) is_part ss (found ss n))
+found_in_order ss n = All-sorted (λ a b. before (rank ss a) (rank ss b)) (λ a. slice_get ss a.position ≡ Some a) (parts ss) (All-filter (λ a. slice_get ss a.position ≡ Some a) is_part ss (numbered_found ss n))
 
 -- the front of a list apart from the element after it
 pub Apart-front : (xs : List Site) (k : ℕ) (u : Site) → Apart xs → slice_get xs k ≡ Some u → AllByRecursion (λ y. y.position ≢ u.position) (take k xs)

@@ -18,8 +18,8 @@ use Rattle.omf_place.proofs.Bounds.{most-each, most-within}
 use Rattle.omf_place.proofs.CombinedParts.{combines-symm}
 use Rattle.omf_place.proofs.Leaders.{leader, or_either, or_right, and_both, combines-itself, at_own, position_at}
 use Rattle.omf_place.proofs.Only.{All-unfilter, of_unit, part_combined}
-use Rattle.omf_place.proofs.SiteLists.{numbered_found, one_place}
-use Rattle.omf_place.proofs.Walks.{All-get, All-map}
+use Rattle.omf_place.proofs.SiteLists.{one_place}
+use Rattle.omf_place.proofs.Walks.{All-get, All-map, numbered_found}
 use Rattle.std.proofs.Common.{eq-eqb}
 
 pub All-filtered : {X : Type 0} (P : X → Type 0) (p : X → Bool) (xs : List X) → AllByRecursion (λ x. p x ≡ true → P x) xs → AllByRecursion P (filter p xs)
