@@ -1,30 +1,29 @@
 -- The bounds of a layout in which no fault stands.
-use Rattle.std.proofs.Common.{◌≡◌, ℕ, zero, suc, ◌+◌, ◌*◌, ◌/◌, ◌≤◌, Bool, true, false, cond, nat_lt, ◌++◌, List, [], ◌∷◌, length, map, filter, find, get_or, Option, Some, None, IfSome, slice_get, inl, inr, refl, ap, sym, ◌∙◌, subst, arith}
+use Rattle.std.proofs.Common.{◌≡◌, ℕ, zero, suc, ◌+◌, ◌*◌, ◌/◌, ◌≤◌, Bool, true, false, cond, nat_lt, ◌++◌, List, [], ◌∷◌, length, map, find, Option, Some, None, IfSome, slice_get, inl, inr, refl, ap, sym, ◌∙◌, subst, arith}
 use Rattle.std.proofs.lemmas.Bool.{cases_lt, lt-ltb}
 use Rattle.std.proofs.lemmas.List.{length-map}
 use Rattle.std.proofs.lemmas.Option.{slice_get-map, get_or_from_slice_get}
 use Rattle.std.specs.List.{AllByRecursion, flat_map}
-use Rattle.std.specs.Option.{option_map, option_and_then, option_or, option_to_list}
+use Rattle.std.specs.Option.{option_map, option_and_then, option_to_list}
 use Rattle.std.specs.Str.{bytes_eq}
 use Rattle.omf_module.specs.declared.Standing.{Standing}
 use Rattle.omf_module.specs.declared.Standing.TheVariants.{Absolute, Relocatable}
 use Rattle.omf_module.specs.declared.Base as public_base
 use Rattle.omf_module.specs.declared.Base.TheVariants.{AtFrame, InSegment}
 use Rattle.omf_module.specs.Module.{Module, Segment, Group, PublicSymbol}
-use Rattle.omf_place.specs.Bounded.{HasOwnFrame, LiesInside, IsPlaceOf, ArePlacesOf, IsBounded}
+use Rattle.omf_place.specs.Bounded.{HasOwnFrame, IsPlaceOf, ArePlacesOf, IsBounded}
 use Rattle.omf_place.specs.declared.layout.Address.TheVariants as address
-use Rattle.omf_place.specs.declared.layout.Base.{Base}
 use Rattle.omf_place.specs.declared.layout.Base.TheVariants as base
 use Rattle.omf_place.specs.declared.layout.Combined.{Combined}
 use Rattle.omf_place.specs.declared.layout.PublicPlace.{PublicPlace}
 use Rattle.omf_place.specs.declared.layout.SegmentPlace.{SegmentPlace}
 use Rattle.omf_place.specs.Faults.{is_long_segment, segment_fault}
 use Rattle.omf_place.specs.Inputs.{Input, inputs_from, inputs}
-use Rattle.omf_place.specs.Layout.{Layout, ModulePlaces, layout_at, module_places, places_of, segment_in, public}
+use Rattle.omf_place.specs.Layout.{Layout, layout_at, module_places, places_of, segment_in}
 use Rattle.omf_place.specs.Named.{value_of}
 use Rattle.omf_place.specs.Parts.{Site, module_sites, sites_from, sites, is_part, is_relocatable}
 use Rattle.omf_place.specs.Placed.{IsPlaced, address_of}
-use Rattle.omf_place.specs.Tables.{segment_start, segment_end, leaders, combined_segment, placed, placed_at, group_frame, public_frame, in_segment, placed_public, publics_of, placed_publics}
+use Rattle.omf_place.specs.Tables.{segment_start, segment_end, leaders, combined_segment, placed, group_frame, in_segment, placed_public, publics_of, placed_publics}
 use Rattle.omf_place.proofs.LinkRows.{RowIs, input_rows, row_at}
 use Rattle.omf_place.proofs.SiteLists.{length-module_sites, numbered_sites}
 use Rattle.omf_place.proofs.Walks.{All-get, numbered_found}

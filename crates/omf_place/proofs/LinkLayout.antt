@@ -1,12 +1,12 @@
 -- A gathered layout is that of the definitions.
-use Rattle.std.proofs.Common.{◌≡◌, ℕ, ◌+◌, ◌<◌, ◌≤◌, ◌^◌, List, [], ◌∷◌, map, filter, length, Some, slice_get, get_or, refl, ap, sym, ◌∙◌, arith, subst, All}
+use Rattle.std.proofs.Common.{◌≡◌, ℕ, ◌+◌, ◌<◌, ◌≤◌, ◌^◌, List, [], ◌∷◌, map, filter, length, Some, slice_get, get_or, refl, ap, sym, ◌∙◌, arith, subst}
 use Rattle.std.proofs.lemmas.List.{length-map}
 use Rattle.std.proofs.lemmas.Option.{slice_get_within}
 use Rattle.std.specs.List.{AllByRecursion, flat_map}
 use Rattle.std.specs.Option.{option_or}
 use Rattle.omf_module.specs.declared.Standing.{Standing}
 use Rattle.omf_module.specs.declared.Standing.TheVariants.{Absolute, Relocatable}
-use Rattle.omf_module.specs.Module.{Module, Group}
+use Rattle.omf_module.specs.Module.{Module}
 use Rattle.omf_module.specs.Sound.{GroupFits, IsMember, SegmentFits}
 use Rattle.omf_place.specs.declared.groups.GroupEntry.{GroupEntry}
 use Rattle.omf_place.specs.declared.inputs.Input as held

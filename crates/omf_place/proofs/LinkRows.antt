@@ -1,20 +1,15 @@
 -- What the code gathers of each module is what the definitions say: segments.
-use Rattle.std.proofs.Common.{◌≡◌, ℕ, zero, suc, ◌+◌, List, [], ◌∷◌, map, length, Some, slice_get, refl, ap, sym, ◌∙◌}
+use Rattle.std.proofs.Common.{◌≡◌, ℕ, zero, suc, ◌+◌, List, [], ◌∷◌, map, length, Some, slice_get, refl}
 use Rattle.std.specs.List.{AllByRecursion}
 use Rattle.omf_module.specs.declared.Standing.{Standing}
 use Rattle.omf_module.specs.declared.Standing.TheVariants.{Absolute, Relocatable}
 use Rattle.omf_module.specs.Module.{Module, Segment}
-use Rattle.omf_place.specs.declared.inputs.Input as held
 use Rattle.omf_place.specs.Inputs.{Input, inputs_from, inputs}
-use Rattle.omf_place.specs.InputViews.{HasStands, input_view}
 use Rattle.omf_place.specs.Parts.{Site, module_sites}
 use Rattle.omf_place.specs.Rows.{placed_row}
-use Rattle.omf_place.specs.Sites.{sites_view}
 use Rattle.omf_place.specs.Spans.{span_of}
 use Rattle.omf_place.specs.Stands.{placed_by, stand_by, stand_of}
 use Rattle.omf_place.specs.Tables.{placed, placed_at}
-use Rattle.omf_place.proofs.KeyPlaces.{map_congr, map_two}
-use Rattle.omf_place.proofs.Walks.{All-map}
 
 placed_same : (ss : List Site) (A : List ℕ) (a : Site) (st : Standing) → placed_by st (stand_by st (span_of ss A a)) ≡ placed_at ss A a st
 placed_same ss A a (Absolute frame offset) = refl

@@ -22,7 +22,7 @@ use Rattle.omf_record.specs.declared.fields.Line.{Line}
 use Rattle.omf_record.specs.Numbers.{bit, thread_number, location_number, alignment_number, combination_number, segment_len}
 use Rattle.omf_record.specs.Body.{kind_of}
 use Rattle.omf_record.specs.Expansion.{expansion}
-use Rattle.omf_record.specs.Record.{Block, External, Public, Record, Theadr, Coment, Modend, Extdef, Pubdef, Linnum, Lnames, Segdef, Grpdef, Fixupp, Ledata, Lidata}
+use Rattle.omf_record.specs.Record.{External, Public, Record, Theadr, Coment, Modend, Extdef, Pubdef, Linnum, Lnames, Segdef, Grpdef, Fixupp, Ledata, Lidata}
 use Rattle.omf_record.specs.Records.{Placed}
 use Rattle.omf_text.specs.Printing.{hexadecimal, printed_name}
 use Rattle.omf_text.specs.Listing.{head_line}

@@ -1,5 +1,4 @@
-use Rattle.std.proofs.Common.{◌≡◌, ◌==◌, false, length, subst, sym, rules}
-use Rattle.omf_frame.specs.Device.{AppendsFront}
+use Rattle.std.proofs.Common.{◌≡◌, ◌==◌, false, length, rules}
 use Rattle.omf_frame.proofs.Told.{on_err}
 use Rattle.omf_text.specs.Printing.{hexadecimal}
 use Rattle.omf_text.proofs.PrintLemmas.{item_cut}
