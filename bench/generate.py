@@ -1,0 +1,271 @@
+"""Object modules of any size, to measure the linker with."""
+
+import struct
+from dataclasses import dataclass
+from enum import IntEnum
+
+# most data bytes of a record, all of which a fix-up's ten bits of offset reach
+RECORD_DATA = 1024
+# bytes of a whole segment
+SEGMENT = 65536
+# far pointers of a module that calls others
+CALLS = 5
+# publics, and externals, of a module that has many names
+NAMES = 5000
+# names in one record
+NAMES_IN_RECORD = 1000
+# words of data that are repeated, each stored behind its own repeat and block counts and length
+REPEATED_WORDS = 140
+REPEATS = 234
+
+
+class Location(IntEnum):
+    """What a fix-up changes."""
+
+    LOW_BYTE = 0
+    OFFSET = 1
+    BASE = 2
+    POINTER = 3
+
+
+class Target(IntEnum):
+    """What a fix-up points to, by its index in the module."""
+
+    SEGMENT = 0
+    EXTERNAL = 2
+
+
+class Alignment(IntEnum):
+    """Where a segment may begin."""
+
+    BYTE = 1
+    PARAGRAPH = 3
+
+
+class Combination(IntEnum):
+    """Whether a segment combines with those of its name and class."""
+
+    PRIVATE = 0
+    PUBLIC = 2
+
+
+@dataclass
+class Inputs:
+    """The modules of a link, and what the program that they make must have."""
+
+    modules: list
+    size: int
+    relocations: int
+
+
+def record(kind, body):
+    """A record with its length and its closing byte."""
+    assert len(body) <= 65534
+    front = struct.pack("<BH", kind, len(body) + 1) + body
+    return front + bytes([-sum(front) % 256])
+
+
+def index(number):
+    """An index in its shortest form."""
+    assert number <= 32767
+    return bytes([number]) if number < 128 else bytes([128 + number // 256, number % 256])
+
+
+def name(text):
+    """A name behind its length."""
+    encoded = text.encode()
+    return bytes([len(encoded)]) + encoded
+
+
+def header(text):
+    return record(0x80, name(text))
+
+
+def names(*texts):
+    return record(0x96, b"".join(map(name, texts)))
+
+
+def segment(length, alignment=Alignment.BYTE, combination=Combination.PUBLIC):
+    """A segment with the first name and the second one as its class."""
+    whole = length == SEGMENT
+    attributes = alignment << 5 | combination << 2 | whole << 1
+    return record(0x98, struct.pack("<BH", attributes, 0 if whole else length) + b"\1\2\1")
+
+
+def publics(offsets):
+    """Publics of the first segment, of a dictionary from names to offsets."""
+    entries = list(offsets.items())
+    return b"".join(
+        record(0x90, b"\0\1" + b"".join(name(text) + struct.pack("<HB", offset, 0) for text, offset in some))
+        for some in pieces(entries, NAMES_IN_RECORD)
+    )
+
+
+def externals(texts):
+    return b"".join(
+        record(0x8C, b"".join(name(text) + b"\0" for text in some)) for some in pieces(texts, NAMES_IN_RECORD)
+    )
+
+
+def repeated(number, offset, repeats, contents):
+    """Data of some contents, one behind the other, and all of them repeated."""
+    blocks = b"".join(struct.pack("<HHB", 1, 0, len(content)) + content for content in contents)
+    return record(0xA2, index(number) + struct.pack("<HHH", offset, repeats, len(contents)) + blocks)
+
+
+def data(number, offset, content):
+    return record(0xA0, index(number) + struct.pack("<H", offset) + content)
+
+
+def fixup(offset, location, target, number):
+    """A segment-relative fix-up in the frame of its target."""
+    place = 0xC000 | location << 10 | offset
+    return struct.pack(">HB", place, 0x54 | target) + index(number)
+
+
+def fixups(subrecords):
+    return record(0x9C, b"".join(subrecords))
+
+
+def end():
+    return record(0x8A, b"\0")
+
+
+def main_end():
+    """The end of the module at whose first byte the program starts."""
+    return record(0x8A, b"\xC1\x50\1\0\0")
+
+
+def pieces(items, length):
+    return [items[at : at + length] for at in range(0, len(items), length)]
+
+
+def filled_segments(size):
+    """The lengths of the segments that a number of bytes fills."""
+    return [SEGMENT] * (size // SEGMENT) + [size % SEGMENT] * (size % SEGMENT > 0)
+
+
+def filler(length, seed):
+    """Bytes of which no two neighbours are alike."""
+    return bytes((seed + 7 * at) % 256 for at in range(length))
+
+
+def calling_module(number, count):
+    """A module with a public that has far pointers to the publics of the modules behind it."""
+    calls = CALLS if number < count - 1 else 1
+    called = [f"f{(number + 1 + call) % count}" for call in range(calls)]
+    return (
+        header(f"m{number}")
+        + names("CODE", "CODE")
+        + segment(4 * CALLS)
+        + publics({f"f{number}": 0})
+        + externals(called)
+        + data(1, 0, bytes(4 * CALLS))
+        + fixups(fixup(4 * call, Location.POINTER, Target.EXTERNAL, call + 1) for call in range(calls))
+        + (main_end() if number == 0 else end())
+    )
+
+
+def calling_modules(count):
+    """Modules that call one another: five relocations each, and one in the last."""
+    modules = [calling_module(number, count) for number in range(count)]
+    return Inputs(modules, 4 * CALLS * count, CALLS * (count - 1) + 1)
+
+
+def part_module(number):
+    return (
+        header(f"m{number}")
+        + names("CODE", "CODE")
+        + segment(16, Alignment.PARAGRAPH, Combination.PRIVATE)
+        + data(1, 0, filler(16, number))
+        + end()
+    )
+
+
+def parts(count):
+    """Modules of one private segment each."""
+    return Inputs([part_module(number) for number in range(count)], 16 * count, 0)
+
+
+def fixed_module(size, width, location, target, targets, after_segments=b""):
+    """A module of data that is full of fix-ups, one behind the other, to one target after the other."""
+    lengths = filled_segments(size)
+    records = [header("fixed"), names("DATA", "DATA")]
+    records += [segment(length, Alignment.PARAGRAPH, Combination.PRIVATE) for length in lengths]
+    records.append(after_segments)
+    done = 0
+    for number, length in enumerate(lengths, start=1):
+        for offset in range(0, length, RECORD_DATA):
+            piece = min(RECORD_DATA, length - offset)
+            records.append(data(number, offset, bytes(piece)))
+            places = range(0, piece, width)
+            records.append(fixups(fixup(at, location, target, (done + at) // width % targets + 1) for at in places))
+            done += piece
+    records.append(end())
+    return b"".join(records)
+
+
+def fixups_to_names(count, targets=1000):
+    """One module with a low byte fixed at each byte of its data, each to a public of another module."""
+    offsets = {f"public_{number}": number for number in range(targets)}
+    defining = header("names") + names("CODE", "CODE") + segment(targets) + publics(offsets) + end()
+    fixed = fixed_module(count, 1, Location.LOW_BYTE, Target.EXTERNAL, targets, externals(list(offsets)))
+    return Inputs([fixed, defining], count + targets, 0)
+
+
+def base_words(count):
+    """One module with a segment's frame at each word of its data, each of which loading has to change."""
+    segments = len(filled_segments(2 * count))
+    return Inputs([fixed_module(2 * count, 2, Location.BASE, Target.SEGMENT, segments)], 2 * count, count)
+
+
+def repeated_data(count):
+    """One module whose data is one record of repeated words, with many fix-ups to each of them."""
+    size = 2 * REPEATED_WORDS * REPEATS
+    # the stored bytes begin with the counts of the outer block, and each content stands behind its counts and length
+    places = [4 + 7 * (at % REPEATED_WORDS) + 5 for at in range(count)]
+    module = (
+        header("repeated")
+        + names("DATA", "DATA")
+        + segment(size)
+        + repeated(1, 0, REPEATS, [b"\0\0"] * REPEATED_WORDS)
+        + fixups(fixup(place, Location.OFFSET, Target.SEGMENT, 1) for place in places)
+        + end()
+    )
+    return Inputs([module], size, 0)
+
+
+def naming_module(number, count):
+    """A module that defines some names and uses those of the next one."""
+    defined = [f"_name_{number}_{at}" for at in range(NAMES)]
+    used = [f"_name_{(number + 1) % count}_{at}" for at in range(NAMES)]
+    records = [header(f"m{number}"), names(f"DATA{number}", "DATA"), segment(2 * NAMES)]
+    records.append(publics({text: 2 * at for at, text in enumerate(defined)}))
+    records.append(externals(used))
+    for at in range(0, 2 * NAMES, RECORD_DATA):
+        length = min(RECORD_DATA, 2 * NAMES - at)
+        records.append(data(1, at, bytes(length)))
+        places = range(0, length, 2)
+        records.append(
+            fixups(fixup(place, Location.OFFSET, Target.EXTERNAL, (at + place) // 2 + 1) for place in places)
+        )
+    records.append(end())
+    return b"".join(records)
+
+
+def many_names(count):
+    """Modules with many publics, each of which another module uses."""
+    modules = count // NAMES
+    return Inputs([naming_module(number, modules) for number in range(modules)], 2 * count, 0)
+
+
+def large_program(size):
+    """One module whose data fills a program of a size."""
+    lengths = filled_segments(size)
+    records = [header("large"), names("DATA", "DATA")]
+    records += [segment(length, Alignment.PARAGRAPH, Combination.PRIVATE) for length in lengths]
+    for number, length in enumerate(lengths, start=1):
+        for offset in range(0, length, RECORD_DATA):
+            records.append(data(number, offset, filler(min(RECORD_DATA, length - offset), number + offset)))
+    records.append(end())
+    return Inputs([b"".join(records)], size, 0)
