@@ -1,4 +1,5 @@
 //! Maps of linked programs.
+ghost use Rattle.std.specs.Prelude.{◌<◌};
 
 use crate::put_map;
 use omf_frame::{IoFault, MemSink, MemSource};
@@ -147,17 +148,12 @@ struct Linked {
     program: Program,
 }
 
-/// What is linked of these records.
-fn link_records(alloc: Global, inputs: &[Records<'_>]) -> Result<Linked, Fail> {
-    let mut modules = Vec::new(alloc);
-    for records in inputs {
-        let mut bytes = Vec::new(alloc);
-        for (kind, body) in *records {
-            put(&mut bytes, *kind, body)?;
-        }
-        let mut source = MemSource::over(&bytes, 60, None);
-        modules.push(read_module(alloc, &mut source)?)?;
-    }
+fn read_bytes(alloc: Global, bytes: &[u8]) -> Result<Module, Fail> {
+    let mut source = MemSource::over(bytes, 60, None);
+    Ok(read_module(alloc, &mut source)?)
+}
+
+fn link_modules(alloc: Global, modules: Vec<Module>) -> Result<Linked, Fail> {
     let layout = place(alloc, modules.as_slice())?;
     let program = build(alloc, modules.as_slice(), &layout)?;
     Ok(Linked {
@@ -165,6 +161,18 @@ fn link_records(alloc: Global, inputs: &[Records<'_>]) -> Result<Linked, Fail> {
         layout,
         program,
     })
+}
+
+fn link_records(alloc: Global, inputs: &[Records<'_>]) -> Result<Linked, Fail> {
+    let mut modules = Vec::new(alloc);
+    for records in inputs {
+        let mut bytes = Vec::new(alloc);
+        for (kind, body) in *records {
+            put(&mut bytes, *kind, body)?;
+        }
+        modules.push(read_bytes(alloc, &bytes)?)?;
+    }
+    link_modules(alloc, modules)
 }
 
 /// The map is this text, and where it is cut short for want of room a front of it.
@@ -205,8 +213,9 @@ fn programs_have_maps(rt: HostRuntime) -> Result<(), Fail> {
 /// How many publics a large module has.
 const COUNT: u16 = 2_000;
 
-/// The body of a record of the publics "a0", "a1" and so on, each at its number.
-fn numbered_publics(alloc: Global) -> Result<Vec<u8>, AllocError> {
+/// A module of the publics "a0", "a1" and so on, each at its number.
+fn numbered_publics(alloc: Global) -> Result<Module, Fail> {
+    let [low, high] = COUNT.to_le_bytes();
     let mut body = [0u8, 1].to_vec(alloc)?;
     for n in 0..COUNT {
         let name = format!(in alloc; "a{n}")?;
@@ -215,35 +224,37 @@ fn numbered_publics(alloc: Global) -> Result<Vec<u8>, AllocError> {
         body.extend_from_slice(&n.to_le_bytes())?;
         body.push(0)?;
     }
-    Ok(body)
+    let mut bytes = Vec::new(alloc);
+    put(&mut bytes, HEADER.0, HEADER.1)?;
+    put(&mut bytes, 0x96, b"\x00\x04CODE")?;
+    put(&mut bytes, 0x98, &[0x28, low, high, 2, 1, 1])?;
+    put(&mut bytes, 0x90, &body)?;
+    put(&mut bytes, END.0, END.1)?;
+    read_bytes(alloc, &bytes)
+}
+
+/// The map of the module of numbered publics.
+fn numbered_map(alloc: Global) -> Result<String, Fail> {
+    let mut map = String::new(alloc);
+    map.push_str("segments\n000000 0007D0 public   \"CODE\" \"\"\ngroups\npublics\n")?;
+    for n in 0..COUNT {
+        map.push_str(&format!(in alloc; "{n:06X} R \"a{n}\"\n")?)?;
+    }
+    map.push_str("entry 0000:0000\nstack 0000:0000\nsize 0007D0\nrelocations 0\n")?;
+    Ok(map)
 }
 
 #[test]
 fn many_publics_are_listed_in_order(rt: HostRuntime) -> Result<(), Fail> {
-    let [low, high] = COUNT.to_le_bytes();
-    let publics = numbered_publics(rt.alloc())?;
-    let records: [(u8, &[u8]); 5] = [
-        HEADER,
-        (0x96, b"\x00\x04CODE"),
-        (0x98, &[0x28, low, high, 2, 1, 1]),
-        (0x90, publics.as_slice()),
-        END,
-    ];
-    let linked = link_records(rt.alloc(), &[&records])?;
+    let mut modules = Vec::new(rt.alloc());
+    modules.push(numbered_publics(rt.alloc())?)?;
+    let linked = link_modules(rt.alloc(), modules)?;
     let mut room = vec![in rt.alloc(); 0u8; 40_000]?;
     let mut sink = MemSink::over(&mut room, 4_096);
     let modules = linked.modules.as_slice();
-    assert_eq!(rt;
-        put_map(&mut sink, modules, &linked.layout, &linked.program),
-        Ok(())
-    );
-    let mut map = format!(in rt.alloc();
-        "segments\n000000 0007D0 public   \"CODE\" \"\"\ngroups\npublics\n"
-    )?;
-    for n in 0..COUNT {
-        map.push_str(&format!(in rt.alloc(); "{n:06X} R \"a{n}\"\n")?)?;
-    }
-    map.push_str("entry 0000:0000\nstack 0000:0000\nsize 0007D0\nrelocations 0\n")?;
+    let done = put_map(&mut sink, modules, &linked.layout, &linked.program);
+    assert_eq!(rt; done, Ok(()));
+    let map = numbered_map(rt.alloc())?;
     assert_eq!(rt; sink.written(), map.as_bytes());
     Ok(())
 }
