@@ -5,3 +5,4 @@ pub mod Checking
 pub mod Loading
 pub mod Inputs
 pub mod Linking
+pub mod Mapping

@@ -6,11 +6,13 @@ mod checking;
 mod inputs;
 mod linking;
 mod loading;
+mod mapping;
 mod records;
 
 pub use checking::{check, module_fault};
 pub use linking::{Options, Report, file_or_fault, link, one_file};
 pub use loading::load_file;
+pub use mapping::write_map;
 pub use records::{rewrite, show};
 
 #[cfg(test)]

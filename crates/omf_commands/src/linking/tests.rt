@@ -271,7 +271,7 @@ fn files_are_loaded(rt: HostRuntime) -> Result<(), Fail> {
 }
 
 /// Two modules with a group over both.
-fn two_modules(alloc: Global) -> Result<(Vec<u8>, Vec<u8>), Fail> {
+pub fn two_modules(alloc: Global) -> Result<(Vec<u8>, Vec<u8>), Fail> {
     let one = module_of(
         alloc,
         &[

@@ -1,0 +1,10 @@
+//! The map of a linked program: its segments, groups and publics, where it starts, and its size.
+#![tactic(auto)]
+
+mod map;
+mod pieces;
+
+pub use map::put_map;
+
+#[cfg(test)]
+mod tests;
