@@ -45,6 +45,15 @@ fn make<A: Allocator + Copy>(alloc: A, page: &mut Vec<u8, A>) -> Result<(), Allo
     Ok(())
 }
 
+/// Lays bytes over those of a page from a place on.
+fn lay_over(page: &mut [u8], start: usize, bytes: &[u8])
+    requires { start + length bytes.now ≤ length page.old }
+    ensures laid { IsLaid (record { start = start; bytes = bytes.now }) page.old page.new }
+    ensures bytes { All (λ b. b < 256) page.old → All (λ b. b < 256) page.new }
+{
+    page[start..start + bytes.len()].copy_from_slice(bytes);
+}
+
 impl<A: Allocator + Copy> Pages<A> {
     /// How many bytes it has.
     pub fn size(&self) -> usize
@@ -68,19 +77,6 @@ impl<A: Allocator + Copy> Pages<A> {
         }
     }
 
-    /// A data byte at an address, for which its page is made.
-    pub fn put(&mut self, address: usize, byte: u8) -> Result<(), AllocError>
-        requires { address < length self.old.bytes }
-        ensures bytes { OnOk result (self.new.bytes ≡ slice_set self.old.bytes address byte) }
-        ensures made { OnOk result ((k : ℕ) → slice_index_or self.new.made k false ≡ cond (k == address / 4096) true (slice_index_or self.old.made k false)) }
-    {
-        let alloc = self.alloc;
-        let page = &mut self.pages[address / PAGE];
-        make(alloc, page)?;
-        page[address % PAGE] = byte;
-        Ok(())
-    }
-
     /// Writes a byte into a page that was made.
     fn write(&mut self, address: usize, byte: u8)
         requires inside { address < length self.old.bytes }
@@ -93,15 +89,34 @@ impl<A: Allocator + Copy> Pages<A> {
         window[address % PAGE] = byte;
     }
 
-    /// Lays data over it.
+    /// Lays data over the page of its first byte, which is made. All of it lies there.
+    fn lay_in_page(&mut self, address: usize, bytes: &[u8]) -> Result<(), AllocError>
+        requires inside { address + length bytes.now ≤ length self.old.bytes }
+        requires one_page { address % 4096 + length bytes.now ≤ 4096 }
+        requires some { 0 < length bytes.now }
+        ensures bytes { OnOk result (IsLaid (record { start = address; bytes = bytes.now }) self.old.bytes self.new.bytes) }
+        ensures made { OnOk result (MakesPages (record { start = address; bytes = bytes.now }) self.old.made self.new.made) }
+    {
+        let alloc = self.alloc;
+        let page = &mut self.pages[address / PAGE];
+        make(alloc, page)?;
+        lay_over(page.as_mut_slice(), address % PAGE, bytes);
+        Ok(())
+    }
+
+    /// Lays data over it, page by page.
     pub fn lay(&mut self, start: usize, bytes: &[u8]) -> Result<(), AllocError>
         requires { start + length bytes.now ≤ length self.old.bytes }
         ensures bytes { OnOk result (IsLaid (record { start = start; bytes = bytes.now }) self.old.bytes self.new.bytes) }
         ensures made { OnOk result (MakesPages (record { start = start; bytes = bytes.now }) self.old.made self.new.made) }
     {
         let _size = self.size();
-        for (i, byte) in bytes.iter().enumerate() {
-            self.put(start + i, *byte)?;
+        let mut laid = 0;
+        while laid < bytes.len() {
+            let address = start + laid;
+            let end = bytes.len().min(laid + PAGE - address % PAGE);
+            self.lay_in_page(address, &bytes[laid..end])?;
+            laid = end;
         }
         Ok(())
     }

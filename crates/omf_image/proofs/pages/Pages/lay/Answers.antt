@@ -1,14 +1,16 @@
-use Rattle.std.proofs.Common.{◌+◌, sym, subst, refl, get_or}
-use Rattle.omf_image.specs.Pages.{IsLaid}
-use Rattle.omf_image.proofs.Laying.{front, laid_more, pages_more}
+use Rattle.std.proofs.Common.{◌≤◌, length, arith}
+use Rattle.omf_image.proofs.Laying.{laid_on, pages_on}
 use Rattle.omf_image.proofs.pages.Pages.lay.Goals as goal
 
-pub loop-i-preserved : goal.loop-i-preserved
-loop-i-preserved g c =
-    let i = c.loop-i.i in
+pub loop-laid-preserved : goal.loop-laid-preserved
+loop-laid-preserved g c =
     let bs = c.args.bytes.now in
+    let i = c.loop-laid.laid in
+    let j = c.min-end.result in
+    let order : i ≤ j = omega (arith, c.min-end.ensures, c.loop-laid-test.true) in
+    let within : j ≤ length bs = omega (arith, c.min-end.ensures) in
     record {
-      bytes = subst (IsLaid (front c.args.start bs (i + 1)) c.args.self.now.bytes) (sym c.in_ok-put.ensures.bytes)
-          (laid_more c.args.start i (get_or bs i 0) bs c.args.self.now.bytes c.loop-i.self.bytes c.loop-i-test.true c.requires refl c.loop-i.invariant.bytes);
-      made = pages_more c.args.start i bs c.args.self.now.made c.loop-i.self.made c.put.new.self.made c.loop-i-test.true c.loop-i.invariant.made c.in_ok-put.ensures.made;
+      within = within;
+      bytes = laid_on c.args.start i j bs c.args.self.now.bytes c.loop-laid.self.bytes c.lay_in_page.new.self.bytes order within c.loop-laid.invariant.bytes c.in_ok-lay_in_page.ensures.bytes;
+      made = pages_on c.args.start i j bs c.args.self.now.made c.loop-laid.self.made c.lay_in_page.new.self.made order within c.loop-laid.invariant.made c.in_ok-lay_in_page.ensures.made;
     }
