@@ -3,4 +3,8 @@ pub mod InputSteps
 pub mod LinkSteps
 pub mod Listed
 pub mod OneFile
+pub mod Placeless
+pub mod PlacelessLayout
+pub mod PlacelessProgram
+pub mod Said
 pub mod Through

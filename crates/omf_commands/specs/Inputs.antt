@@ -8,6 +8,7 @@ use Rattle.omf_module.specs.declared.fault.FaultKind.TheVariants as kind
 use Rattle.omf_module.specs.declared.fault.ModuleFault.{ModuleFault}
 use Rattle.omf_module.specs.declared.fault.ModuleFault.TheVariants as reading
 use Rattle.omf_module.specs.Module.{Module}
+use Rattle.omf_record.specs.Record.{Record}
 use Rattle.omf_record.specs.Records.{Placed}
 use Rattle.omf_module.specs.Tables.{module_of}
 use Rattle.omf_module.specs.Bytes.{ModuleBytes}
@@ -19,6 +20,10 @@ use Rattle.omf_commands.specs.Checking.{fault_at}
 -- the modules of record lists
 abbrev pub modules_of : List (List Placed) → List Module
 modules_of lists = map module_of lists
+
+-- what the records of the inputs say, without the places where they stand and how their bodies spell it
+abbrev pub said : List (List Placed) → List (List Record)
+said lists = map (map (λ (r : Placed). r.says)) lists
 
 -- over sources that tell their bytes to come, and how many of their calls failed
 module _ {S : Type 0} (told : S → Option (List ℕ)) (failures : S → ℕ) where
