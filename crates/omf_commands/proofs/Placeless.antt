@@ -1,5 +1,5 @@
 -- What records say as a module doesn't tell where they stand, but for the places of its data, fix-ups and start.
-use Rattle.std.proofs.Common.{◌≡◌, ℕ, ◌+◌, ◌==◌, true, false, if◌then◌else◌, List, [], ◌∷◌, ◌++◌, length, map, Option, None, Some, refl, sym, ap, ap₂, ◌∙◌, option_map, option_to_list, flat_map, filter_map}
+use Rattle.std.proofs.Common.{◌≡◌, ℕ, ◌+◌, ◌==◌, true, false, if◌then◌else◌, List, [], ◌∷◌, ◌++◌, length, map, Option, None, Some, is_some, true≢false, refl, sym, ap, ap₂, ◌∙◌, option_map, option_to_list, flat_map}
 use Rattle.std.proofs.Math.Path.{fun_ext}
 use Rattle.std.proofs.lemmas.List.{map-append, length-map}
 use Rattle.std.proofs.lemmas.List.Folds.{flat_map-map}
@@ -18,18 +18,25 @@ use Rattle.omf_module.specs.declared.Start.{Start}
 use Rattle.omf_module.specs.Module.{DataRecord, Module}
 use Rattle.omf_module.specs.Before.{along_from, along, last}
 use Rattle.omf_module.specs.Running.{later}
-use Rattle.omf_module.specs.Tables.{Stretch, names, names_in, segments, segments_in, groups, groups_in, externals, externals_in, publics, publics_in, stretches, stretches_in, subrecords, subrecords_in, fixup_of, fixup_in, fixups_in, fixups, fixups_on, data_record, data_records, start_of, start_in, start, frame_thread, target_thread, frame_used, target_used, module_of}
+use Rattle.omf_module.specs.Tables.{Stretch, names, names_in, segments, segments_in, groups, groups_in, externals, externals_in, publics, publics_in, stretches, stretches_in, subrecords, subrecords_in, fixup_of, fixup_in, fixups_in, fixups, fixups_on, data_records, start_of, start_in, start, frame_thread, target_thread, frame_used, target_used, module_of}
 use Rattle.omf_module.proofs.Lists.{last_append}
 
 -- ---- without places
 
+abbrev pub unplaced_record : Record → Placed
+unplaced_record says = record { place = 0; body = []; says = says }
+
 abbrev pub unplaced : Placed → Placed
-unplaced r = record { place = 0; body = []; says = r.says }
+unplaced r = unplaced_record r.says
+
+-- records that say the same are the same
+pub unplaced_said : (rs others : List Placed) → map (λ (r : Placed). r.says) rs ≡ map (λ (r : Placed). r.says) others → map unplaced rs ≡ map unplaced others
+unplaced_said rs others same = sym (map-map unplaced_record (λ (r : Placed). r.says) rs) ∙ (ap (map unplaced_record) same ∙ map-map unplaced_record (λ (r : Placed). r.says) others)
 
 abbrev pub placeless_fixup : ResolvedFixup → ResolvedFixup
 placeless_fixup x = record x { place = 0 }
 
-abbrev placeless_stretch : Stretch → Stretch
+abbrev pub placeless_stretch : Stretch → Stretch
 placeless_stretch d = record d { place = 0 }
 
 abbrev pub placeless_data : DataRecord → DataRecord
@@ -43,13 +50,13 @@ placeless m = record m { data_records = map placeless_data m.data_records; start
 
 -- ---- lists
 
-along_same : {X A B : Type 0} (v : X → A) (h : List A → A → List B) (f : List X → X → List B) → ((before : List X) (x : X) → h (map v before) (v x) ≡ f before x) →
+pub along_same : {X A B : Type 0} (v : X → A) (h : List A → A → List B) (f : List X → X → List B) → ((before : List X) (x : X) → h (map v before) (v x) ≡ f before x) →
     (before xs : List X) → along_from (map v before) h (map v xs) ≡ along_from before f xs
 along_same v h f same before [] = refl
 along_same v h f same before (x ∷ xs) =
     ap₂ (λ ys zs. ys ++ zs) (same before x) (ap (λ b. along_from b h (map v xs)) (sym (map-append v before (x ∷ []))) ∙ along_same v h f same (before ++ x ∷ []) xs)
 
-map_along : {X A B : Type 0} (g : A → B) (f : List X → X → List A) (before xs : List X) → along_from before (λ b x. map g (f b x)) xs ≡ map g (along_from before f xs)
+pub map_along : {X A B : Type 0} (g : A → B) (f : List X → X → List A) (before xs : List X) → along_from before (λ b x. map g (f b x)) xs ≡ map g (along_from before f xs)
 map_along g f before [] = refl
 map_along g f before (x ∷ xs) = ap (λ ys. map g (f before x) ++ ys) (map_along g f (before ++ x ∷ []) xs) ∙ sym (map-append g (f before x) (along_from (before ++ x ∷ []) f xs))
 
@@ -61,7 +68,7 @@ map_enumerate : {A B : Type 0} (f : A → B) (n : ℕ) (xs : List A) → enumera
 map_enumerate f n [] = refl
 map_enumerate f n (x ∷ xs) = ap (λ es. (n, f x) ∷ es) (map_enumerate f (n + 1) xs)
 
-map_last : {A B : Type 0} (f : A → B) (xs : List A) → last (map f xs) ≡ option_map f (last xs)
+pub map_last : {A B : Type 0} (f : A → B) (xs : List A) → last (map f xs) ≡ option_map f (last xs)
 map_last f [] = refl
 map_last f (x ∷ xs) =
     last_append (f x ∷ []) (map f xs) ∙ (ap (λ o. later o (Some (f x))) (map_last f xs) ∙ (map_later (last xs) ∙ ap (option_map f) (sym (last_append (x ∷ []) xs))))
@@ -70,24 +77,34 @@ map_last f (x ∷ xs) =
     map_later None = refl
     map_later (Some y) = refl
 
+-- ---- options
+
+pub is_some_map : {A B : Type 0} (f : A → B) (o : Option A) → is_some (option_map f o) ≡ is_some o
+is_some_map f None = refl
+is_some_map f (Some x) = refl
+
+pub none_of : {A : Type 0} (o : Option A) → is_some o ≡ false → o ≡ None
+none_of None h = refl
+none_of (Some x) h = absurd (true≢false h)
+
 -- ---- tables
 
-names_same : (rs : List Placed) → names (map unplaced rs) ≡ names rs
+pub names_same : (rs : List Placed) → names (map unplaced rs) ≡ names rs
 names_same rs = flat_map-map (λ (r : Placed). names_in r.says) unplaced rs
 
-segments_same : (rs : List Placed) → segments (map unplaced rs) ≡ segments rs
+pub segments_same : (rs : List Placed) → segments (map unplaced rs) ≡ segments rs
 segments_same rs = along_same unplaced _ (λ before (r : Placed). segments_in (names before) r.says) (λ before r. ap (λ ns. segments_in ns r.says) (names_same before)) [] rs
 
-groups_same : (rs : List Placed) → groups (map unplaced rs) ≡ groups rs
+pub groups_same : (rs : List Placed) → groups (map unplaced rs) ≡ groups rs
 groups_same rs = along_same unplaced _ (λ before (r : Placed). groups_in (names before) r.says) (λ before r. ap (λ ns. groups_in ns r.says) (names_same before)) [] rs
 
-externals_same : (rs : List Placed) → externals (map unplaced rs) ≡ externals rs
+pub externals_same : (rs : List Placed) → externals (map unplaced rs) ≡ externals rs
 externals_same rs = flat_map-map (λ (r : Placed). externals_in r.says) unplaced rs
 
 publics_same : (rs : List Placed) → publics (map unplaced rs) ≡ publics rs
 publics_same rs = flat_map-map (λ (r : Placed). publics_in r.says) unplaced rs
 
-subrecords_same : (rs : List Placed) → subrecords (map unplaced rs) ≡ subrecords rs
+pub subrecords_same : (rs : List Placed) → subrecords (map unplaced rs) ≡ subrecords rs
 subrecords_same rs = flat_map-map (λ (r : Placed). subrecords_in r.says) unplaced rs
 
 stretch_same : (place : ℕ) (r : Record) → stretches_in 0 r ≡ map placeless_stretch (stretches_in place r)
@@ -95,7 +112,7 @@ stretch_same place (Ledata segment offset bytes) = refl
 stretch_same place (Lidata segment offset blocks) = refl
 stretch_same place _ = refl
 
-stretches_same : (rs : List Placed) → stretches (map unplaced rs) ≡ map placeless_stretch (stretches rs)
+pub stretches_same : (rs : List Placed) → stretches (map unplaced rs) ≡ map placeless_stretch (stretches rs)
 stretches_same rs =
     flat_map-map (λ (r : Placed). stretches_in r.place r.says) unplaced rs
     ∙ (ap (λ f. flat_map f rs) (fun_ext (λ (r : Placed). stretch_same r.place r.says)) ∙ map_flat placeless_stretch (λ (r : Placed). stretches_in r.place r.says) rs)

@@ -1,5 +1,5 @@
 -- A program doesn't tell where the records of its modules stand. A fault names a place, but whether there is one doesn't hang on it.
-use Rattle.std.proofs.Common.{◌≡◌, ℕ, ◌+◌, ◌<◌, Bool, true, false, cond, List, [], ◌∷◌, ◌++◌, map, Option, None, Some, is_some, slice_get, refl, sym, ap, ap₂, ◌∙◌, option_map, flat_map}
+use Rattle.std.proofs.Common.{◌≡◌, ℕ, ◌+◌, Bool, true, false, cond, List, [], ◌∷◌, ◌++◌, map, Option, None, Some, is_some, slice_get, refl, sym, ap, ap₂, ◌∙◌, option_map}
 use Rattle.std.proofs.Math.Path.{fun_ext}
 use Rattle.std.proofs.lemmas.List.{map-append}
 use Rattle.std.proofs.lemmas.List.Folds.{flat_map-map}
@@ -8,7 +8,7 @@ use Rattle.std.proofs.lemmas.Simd.{map-map}
 use Rattle.std.specs.Option.{option_map_or, option_and_then}
 use Rattle.omf_module.specs.declared.ResolvedFixup.{ResolvedFixup}
 use Rattle.omf_module.specs.declared.Start.{Start}
-use Rattle.omf_module.specs.Module.{DataRecord, Module}
+use Rattle.omf_module.specs.Module.{Module}
 use Rattle.omf_place.specs.Layout.{Layout}
 use Rattle.omf_place.specs.declared.layout.Combined.{Combined}
 use Rattle.omf_image.specs.declared.patch.Patch.{Patch}
@@ -21,8 +21,8 @@ use Rattle.omf_image.specs.Faults.{resolved_fault, fixup_fault, fixups_fault, re
 use Rattle.omf_image.specs.Located.{covers_word}
 use Rattle.omf_image.specs.Reference.{Found, Missing, Empty, Is}
 use Rattle.omf_image.specs.Records.{hits, stored_of, entry_start, meaning, patches_of, Entry, entries_from, entries, module_entries, fixup_patches, datum, record_relocations, relocations, program_byte, page_covered}
-use Rattle.omf_image.specs.Registers.{StartEntry, module_start, starts_from, starts, starts_fault, count_fault, program_fault, entry_at, is_stack, is_stack_segment, stack, registers}
-use Rattle.omf_commands.proofs.Placeless.{placeless, placeless_fixup, placeless_data, placeless_start}
+use Rattle.omf_image.specs.Registers.{StartEntry, module_start, starts_from, starts, starts_fault, count_fault, program_fault, entry_at, is_stack, is_stack_segment, registers}
+use Rattle.omf_commands.proofs.Placeless.{placeless, placeless_fixup, placeless_data, placeless_start, is_some_map}
 
 -- ---- data
 
@@ -136,11 +136,7 @@ fault_same layout modules =
     (rw (first_fault (starts_fault layout (starts modules)) (count_fault layout modules)) (first_fault (data_fault layout modules) _))
 
 pub faulty_same : (layout : Layout) (modules : List Module) → is_some (program_fault layout (map placeless modules)) ≡ is_some (program_fault layout modules)
-faulty_same layout modules = ap is_some (fault_same layout modules) ∙ is_some_map (program_fault layout modules)
-  where
-    is_some_map : (o : Option FixFault) → is_some (option_map placeless_fault o) ≡ is_some o
-    is_some_map None = refl
-    is_some_map (Some f) = refl
+faulty_same layout modules = ap is_some (fault_same layout modules) ∙ is_some_map placeless_fault (program_fault layout modules)
 
 -- ---- the registers
 

@@ -22,8 +22,14 @@ abbrev pub modules_of : List (List Placed) → List Module
 modules_of lists = map module_of lists
 
 -- what the records of the inputs say, without the places where they stand and how their bodies spell it
-abbrev pub said : List (List Placed) → List (List Record)
-said lists = map (map (λ (r : Placed). r.says)) lists
+abbrev pub says_of : List (List Placed) → List (List Record)
+says_of lists = map (map (λ (r : Placed). r.says)) lists
+
+-- each input is, as bytes, a whole sound module of its records
+abbrev pub AreModules : List (List Placed) → (inputs : List (List ℕ)) → Type 0
+AreModules [] [] = Unit {0}
+AreModules (rs ∷ lists) (bytes ∷ inputs) = ModuleBytes rs bytes × AreModules lists inputs
+AreModules _ _ = ⊥
 
 -- over sources that tell their bytes to come, and how many of their calls failed
 module _ {S : Type 0} (told : S → Option (List ℕ)) (failures : S → ℕ) where

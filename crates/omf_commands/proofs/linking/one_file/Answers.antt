@@ -1,5 +1,6 @@
 use Rattle.omf_commands.proofs.OneFile.{same_file}
 use Rattle.omf_commands.proofs.Said.{file_of_said, one_file_of_said}
+use Rattle.omf_commands.proofs.Rewritten.{file_of_rewritten}
 use Rattle.omf_commands.proofs.linking.one_file.Goals as goal
 
 pub returns-clause-of_modules : goal.returns-clause-of_modules
@@ -10,3 +11,6 @@ returns-clause-of_records c = λ lists others file other same a b. one_file_of_s
 
 pub returns-clause-shared : goal.returns-clause-shared
 returns-clause-shared c = λ lists others file same a. file_of_said lists others file same a
+
+pub returns-clause-rewritten : goal.returns-clause-rewritten
+returns-clause-rewritten c = λ lists inputs file are made. file_of_rewritten lists inputs file are made
