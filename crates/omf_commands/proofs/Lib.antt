@@ -3,4 +3,10 @@ pub mod InputSteps
 pub mod LinkSteps
 pub mod Listed
 pub mod OneFile
+pub mod Placeless
+pub mod PlacelessChecks
+pub mod PlacelessLayout
+pub mod PlacelessProgram
+pub mod Rewritten
+pub mod Said
 pub mod Through

@@ -138,7 +138,7 @@ only_answer T A output rs bytes rest old new w v r re h e k = only_told T A outp
 -- ---- what was rewritten is records again
 
 -- the records as they stand when they are rewritten, the first at this place
-abbrev rewritten_from : ℕ → List Placed → List Placed
+abbrev pub rewritten_from : ℕ → List Placed → List Placed
 rewritten_from at [] = []
 rewritten_from at (r ∷ rs) = placed at (canonical r.says) r.says ∷ rewritten_from (at + length (frame (kind_of r.says) (canonical r.says))) rs
 
@@ -146,7 +146,7 @@ same_output : (at : ℕ) (rs : List Placed) → flat_map (written_as Rewriting) 
 same_output at [] = refl
 same_output at (r ∷ rs) = ap (λ (l : List ℕ). frame (kind_of r.says) (canonical r.says) ++ l) (same_output (at + length (frame (kind_of r.says) (canonical r.says))) rs)
 
-rewritten_are : (place at : ℕ) (rs : List Placed) (bytes : List ℕ) → at ≤ place → AreRecords place rs bytes → AreRecords at (rewritten_from at rs) (flat_map (written_as Rewriting) rs)
+pub rewritten_are : (place at : ℕ) (rs : List Placed) (bytes : List ℕ) → at ≤ place → AreRecords place rs bytes → AreRecords at (rewritten_from at rs) (flat_map (written_as Rewriting) rs)
 rewritten_are place at [] bytes le h = (refl, tt)
 rewritten_are place at (r ∷ rs) bytes le (h, says) =
     let canon = canonical_shortest r.says r.body says.0 in
@@ -159,7 +159,7 @@ rewritten_are place at (r ∷ rs) bytes le (h, says) =
     ((frame (kind_of r.says) (canonical r.says), flat_map (written_as Rewriting) rs, refl, refl, below, framed, next.0), (canon.0, next.1))
 
 -- the last of them is the end again
-still_ended : (at : ℕ) (rs : List Placed) → AreToEnd rs → AreToEnd (rewritten_from at rs)
+pub still_ended : (at : ℕ) (rs : List Placed) → AreToEnd rs → AreToEnd (rewritten_from at rs)
 still_ended at [] h = h
 still_ended at (r ∷ []) h = h
 still_ended at (r ∷ s ∷ rs) h = (h.0, still_ended (at + length (frame (kind_of r.says) (canonical r.says))) (s ∷ rs) h.1)

@@ -8,6 +8,7 @@ use Rattle.omf_module.specs.declared.fault.FaultKind.TheVariants as kind
 use Rattle.omf_module.specs.declared.fault.ModuleFault.{ModuleFault}
 use Rattle.omf_module.specs.declared.fault.ModuleFault.TheVariants as reading
 use Rattle.omf_module.specs.Module.{Module}
+use Rattle.omf_record.specs.Record.{Record}
 use Rattle.omf_record.specs.Records.{Placed}
 use Rattle.omf_module.specs.Tables.{module_of}
 use Rattle.omf_module.specs.Bytes.{ModuleBytes}
@@ -19,6 +20,16 @@ use Rattle.omf_commands.specs.Checking.{fault_at}
 -- the modules of record lists
 abbrev pub modules_of : List (List Placed) → List Module
 modules_of lists = map module_of lists
+
+-- what the records of the inputs say, without the places where they stand and how their bodies spell it
+abbrev pub says_of : List (List Placed) → List (List Record)
+says_of lists = map (map (λ (r : Placed). r.says)) lists
+
+-- each input is, as bytes, a whole sound module of its records
+abbrev pub AreModules : List (List Placed) → (inputs : List (List ℕ)) → Type 0
+AreModules [] [] = Unit {0}
+AreModules (rs ∷ lists) (bytes ∷ inputs) = ModuleBytes rs bytes × AreModules lists inputs
+AreModules _ _ = ⊥
 
 -- over sources that tell their bytes to come, and how many of their calls failed
 module _ {S : Type 0} (told : S → Option (List ℕ)) (failures : S → ℕ) where

@@ -16,6 +16,10 @@ abbrev pub output : Form → Placed → List ℕ
 output Listing r = listing r
 output Rewriting r = frame (kind_of r.says) (canonical r.says)
 
+-- the records of a module, rewritten
+abbrev pub rewritten : List Placed → List ℕ
+rewritten rs = flat_map (output Rewriting) rs
+
 -- the fault where no record begins and one had to, the bytes from there on being these
 abbrev pub FaultAt : ℕ → List ℕ → RecordFault → Type 0
 FaultAt place bytes fault = (why : NoRecord) × NoRecordAt place bytes why × (fault ≡ reading_fault why)

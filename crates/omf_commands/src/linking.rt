@@ -1,7 +1,10 @@
 //! Object modules linked into a program.
-ghost use Rattle.std.specs.Prelude.{All, OnOk, ◌≡◌, ◌+◌, ◌-◌, ◌^◌, ◌<◌, ℕ, List};
+ghost use Rattle.std.specs.Prelude.{All, OnOk, ◌≡◌, ◌+◌, ◌-◌, ◌^◌, ◌<◌, ℕ, List, map};
 ghost use Rattle.omf_module.specs.Module.{Module as Says};
+ghost use Rattle.omf_record.specs.Records.{Placed};
 ghost use Rattle.omf_text.specs.declared.fault.LinkFault.{LinkFault as Fault};
+ghost use Rattle.omf_commands.specs.Inputs.{AreModules, modules_of, says_of};
+ghost use Rattle.omf_commands.specs.Records.{rewritten};
 ghost use Rattle.omf_commands.specs.Linking.{IsFileOf, IsModulesFault, Links, LinksModules, WritesProgram, build_fault, fix_fault, place_fault};
 ghost use Rattle.omf_commands.specs.Reading.{sink_failures};
 
@@ -144,9 +147,17 @@ pub fn file_or_fault<A: Allocator + Copy>()
     ensures { (modules : List Says) (file : List ℕ) (fault : Fault A) → IsFileOf modules file → IsModulesFault modules fault → ⊥ }
 {}
 
-/// Modules have one file, whatever their bytes were.
+/// Modules have one file, whatever their bytes were: it hangs on what the records say alone, and neither on where they
+/// stand nor on how their bodies spell it.
 pub fn one_file()
-    ensures { (modules : List Says) (file other : List ℕ) → IsFileOf modules file → IsFileOf modules other → file ≡ other }
+    ensures of_modules { (modules : List Says) (file other : List ℕ) → IsFileOf modules file → IsFileOf modules other → file ≡ other }
+    // Records that say the same have the same file.
+    ensures of_records { (lists others : List (List Placed)) (file other : List ℕ) → says_of lists ≡ says_of others → IsFileOf (modules_of lists) file → IsFileOf (modules_of others) other → file ≡ other }
+    // Where the ones have a file, so have the others.
+    ensures shared { (lists others : List (List Placed)) (file : List ℕ) → says_of lists ≡ says_of others → IsFileOf (modules_of lists) file → IsFileOf (modules_of others) file }
+    // Modules that are rewritten are modules, and have the file that they had.
+    ensures rewritten { (lists : List (List Placed)) (inputs : List (List ℕ)) (file : List ℕ) → AreModules lists inputs → IsFileOf (modules_of lists) file
+        → (others : List (List Placed)) × AreModules others (map rewritten lists) × IsFileOf (modules_of others) file }
 {}
 
 #[cfg(test)]
