@@ -5,9 +5,9 @@ ghost use Rattle.omf_module.specs.Bytes.{ModuleBytes};
 ghost use Rattle.omf_commands.specs.Checking.{Checks, ChecksWhole, check_fault, fault_at, module_fault};
 ghost use Rattle.omf_commands.specs.Reading.{sink_failures, source_failures};
 
-use omf_text::{LinkFault, RecordFault};
 use omf_frame::{IoFault, Sink, Source, put_all};
 use omf_module::{CheckFault, FaultKind, ModuleFault, read_module};
+use omf_text::{LinkFault, RecordFault};
 use std::alloc::Allocator;
 
 /// A refusal of the checks as a fault of the record.

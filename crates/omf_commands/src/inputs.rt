@@ -3,9 +3,9 @@ ghost use Rattle.std.specs.Prelude.{All, ◌-◌, ◌^◌, ◌<◌};
 ghost use Rattle.omf_commands.specs.Inputs.{ReadsInputs};
 
 use crate::checking::module_fault;
-use omf_text::LinkFault;
 use omf_frame::Source;
 use omf_module::{Module, read_module};
+use omf_text::LinkFault;
 use std::alloc::Allocator;
 
 /// The modules of all inputs, in order, or the first fault of reading. Inputs behind the one whose reading

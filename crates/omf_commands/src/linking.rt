@@ -8,13 +8,13 @@ ghost use Rattle.omf_commands.specs.Records.{rewritten};
 ghost use Rattle.omf_commands.specs.Linking.{IsFileOf, IsModulesFault, Links, LinksModules, WritesProgram, build_fault, fix_fault, place_fault};
 ghost use Rattle.omf_commands.specs.Reading.{sink_failures};
 
-use omf_text::{LinkFault, ProgramFault, RecordFault};
 use crate::inputs::read_inputs;
 use mz::{loads_as_written, write_mz};
 use omf_frame::{Sink, Source};
 use omf_image::{FixFault, FixKind, Program, build};
 use omf_module::Module;
 use omf_place::{Layout, PlaceFault, place};
+use omf_text::{LinkFault, ProgramFault, RecordFault};
 use std::alloc::{Allocator, Global};
 
 /// How modules are linked. There is no choice yet.

@@ -6,9 +6,9 @@ ghost use Rattle.omf_commands.specs.Loading.{LoadsFile, bytes_line, bytes_lines,
 ghost use Rattle.omf_text.specs.Printing.{hexadecimal};
 ghost use Rattle.omf_commands.specs.Reading.{sink_failures, source_failures};
 
-use omf_text::{FileFault, Hexadecimal, LinkFault, put_hexadecimal, put_pieces};
 use mz::{LoadFault, Loaded, MzFault, load, read_mz};
 use omf_frame::{IoFault, Sink, Source, put_all};
+use omf_text::{FileFault, Hexadecimal, LinkFault, put_hexadecimal, put_pieces};
 use std::alloc::Allocator;
 
 /// How many bytes a line lists.

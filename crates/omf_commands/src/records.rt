@@ -10,10 +10,9 @@ ghost use Rattle.omf_commands.specs.Records.{output};
 ghost use Rattle.omf_commands.specs.Reading.{sink_failures, source_failures, AppendsRewritten, GoesThrough, Handles, Parses, Writes, WritesAll};
 ghost use Rattle.omf_commands.specs.declared.records.Form.TheVariants.{Listing, Rewriting};
 
-use omf_text::put_listing;
-use omf_text::{LinkFault, RecordFault};
 use omf_frame::{Frame, FrameBuf, FrameFault, FramingFault, IoFault, Sink, Source, put_frame};
 use omf_record::{Record, RecordFault as BodyFault, encode_record, parse_record};
+use omf_text::{LinkFault, RecordFault, put_listing};
 use std::alloc::Allocator;
 
 /// The type of the record that ends a module.

@@ -1,8 +1,8 @@
 use super::*;
-use omf_text::status;
 use crate::tests::objects::{BIOS, GREET, GROUPS, LINES, MAIN, NEAR, TINY};
 use crate::tests::{HELLO, SMALL, record_place};
 use omf_frame::{MemSink, MemSource, put_frame};
+use omf_text::status;
 use std::alloc::Global;
 use std::process::Abort;
 use std::test::*;

@@ -1,10 +1,10 @@
 ghost use Rattle.std.specs.Prelude.{◌≡◌};
 
 use super::*;
-use omf_text::{fault_line, status};
 use crate::tests::{BYTE_TOO_MANY, LONG_INDEX, SMALL, record_place};
 use mz::{Loaded, load, read_mz};
 use omf_frame::{MemSink, MemSource, put_frame};
+use omf_text::{fault_line, status};
 use refusing::Refusing;
 use std::process::Abort;
 use std::test::*;
