@@ -10,7 +10,7 @@ use Rattle.omf_image.specs.declared.faults.FixFault.{FixFault}
 use Rattle.omf_text.specs.declared.fault.ProgramFault.TheVariants as program
 use Rattle.omf_text.specs.declared.fault.LinkFault.{LinkFault}
 use Rattle.omf_text.specs.declared.fault.LinkFault.TheVariants as link
-use Rattle.omf_commands.specs.Linking.{IsBuildFault, IsFileOf, IsLinked, IsModulesFault}
+use Rattle.omf_commands.specs.Linking.{IsBuildFault, IsFileOf, IsModulesFault}
 
 none_is : {X : Type 0} (o : Option X) (x : X) → o ≡ None → o ≡ Some x → ⊥
 none_is o x none some = true≢false (sym (ap is_some some) ∙ ap is_some none)

@@ -1,5 +1,5 @@
 -- Reading inputs one after the other.
-use Rattle.std.proofs.Common.{◌≡◌, ℕ, suc, ◌+◌, ◌<◌, ◌≤◌, List, [], ◌∷◌, ◌++◌, length, get_or, take, drop, set, map, refl, sym, ap, ap₂, subst, ◌∙◌, arith, Ok, Err, Result, take-append-drop, inl}
+use Rattle.std.proofs.Common.{◌≡◌, ℕ, suc, ◌+◌, ◌<◌, ◌≤◌, List, [], ◌∷◌, ◌++◌, length, get_or, take, drop, set, refl, sym, ap, ap₂, subst, ◌∙◌, arith, Ok, Err, take-append-drop, inl}
 use Rattle.std.specs.declared.option.Option.{Option}
 use Rattle.std.proofs.lemmas.List.{take_more, take_more_set, take_all, drop-set-lt, get_or-drop, drop-drop, set_split, length-set, length-take-le, map-append}
 use Rattle.std.proofs.Math.Seq.{drop-cons}

@@ -1,8 +1,8 @@
 -- The steps of a link, put together from what each of them answers.
-use Rattle.std.proofs.Common.{◌≡◌, ℕ, ◌+◌, ◌*◌, ◌≤◌, List, [], ◌∷◌, ◌++◌, length, None, Some, IfSome, Result, Ok, Err, refl, sym, ap, subst, ◌∙◌, append-nil, inl, inr, arith}
+use Rattle.std.proofs.Common.{◌≡◌, ℕ, ◌+◌, ◌*◌, ◌≤◌, List, [], ◌∷◌, length, None, Some, IfSome, Ok, Err, refl, sym, subst, ◌∙◌, append-nil, inl, inr, arith}
 use Rattle.std.proofs.lemmas.List.{length-set}
 use Rattle.std.specs.declared.option.Option.{Option}
-use Rattle.std.specs.Io.KnownBytes.{Appends, Keeps}
+use Rattle.std.specs.Io.KnownBytes.{Keeps}
 use Rattle.omf_module.specs.Module.{Module}
 use Rattle.omf_record.specs.Records.{Placed}
 use Rattle.omf_place.specs.Faults.{IsOnlyLayout, IsFirstFault}
@@ -17,15 +17,13 @@ use Rattle.omf_image.specs.declared.faults.FixFault.{FixFault}
 use Rattle.omf_image.specs.declared.faults.FixFault.TheVariants as build
 use Rattle.mz.specs.File.{Mz}
 use Rattle.mz.specs.Laws.{Fits, HoldsTheProgram, ReadsAsWritten, LoadsAsWritten, memory, moved, as_file}
-use Rattle.mz.specs.Loading.{Loaded, loading}
+use Rattle.mz.specs.Loading.{Loaded}
 use Rattle.mz.specs.Reading.{reading}
-use Rattle.omf_text.specs.declared.fault.ProgramFault.TheVariants as program
 use Rattle.omf_text.specs.declared.fault.LinkFault.{LinkFault}
 use Rattle.omf_text.specs.declared.fault.LinkFault.TheVariants as link
-use Rattle.omf_commands.specs.declared.linking.Report.{Report}
 use Rattle.omf_commands.specs.Inputs.{modules_of, AreInputs, ReadsFront, IsInputFault}
 use Rattle.omf_commands.specs.Reading.{sink_failures}
-use Rattle.omf_commands.specs.Linking.{IsLinked, IsLoadedFrom, IsModulesFault, IsReport, LinksModules, Links, HoldsProgram, FitsAt, HoldsAtEachParagraph, place_fault, build_fault}
+use Rattle.omf_commands.specs.Linking.{IsLinked, IsLoadedFrom, IsModulesFault, LinksModules, Links, HoldsProgram, FitsAt, HoldsAtEachParagraph, place_fault, build_fault}
 
 -- ---- the modules
 

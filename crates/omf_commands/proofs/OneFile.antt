@@ -10,7 +10,7 @@ use Rattle.omf_image.specs.Program.{Program, IsProgram}
 use Rattle.omf_image.specs.Records.{program_byte}
 use Rattle.omf_image.specs.Registers.{Registers}
 use Rattle.omf_image.specs.Words.{put_word, add_word, add_words}
-use Rattle.mz.specs.File.{Mz, written}
+use Rattle.mz.specs.File.{written}
 use Rattle.omf_commands.specs.Linking.{IsLinked, IsFileOf}
 
 abbrev AreBytes : List ℕ → Type 0

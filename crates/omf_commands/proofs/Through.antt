@@ -24,7 +24,6 @@ use Rattle.omf_record.proofs.BodyBytes.{body_bytes}
 use Rattle.omf_record.proofs.CanonicalLaws.{canonical_shortest}
 use Rattle.omf_record.proofs.Records.{AreRecords-push, framed_len, placed, only_way, no_fault}
 use Rattle.omf_text.specs.declared.fault.RecordFault.{RecordFault}
-use Rattle.omf_text.specs.declared.fault.RecordFault.TheVariants as fault
 use Rattle.omf_text.specs.declared.fault.LinkFault.{LinkFault}
 use Rattle.omf_text.specs.declared.fault.LinkFault.TheVariants as link
 use Rattle.omf_commands.specs.declared.records.Form.TheVariants.{Rewriting}

@@ -1,5 +1,5 @@
 -- What checking an input answers.
-use Rattle.std.specs.Prelude.{◌≡◌, ℕ, List, codes, Some, Ok, Err, ◌++◌}
+use Rattle.std.specs.Prelude.{◌≡◌, ℕ, List, codes, Some, Ok, Err}
 use Rattle.std.specs.declared.option.Option.{Option}
 use Rattle.std.specs.declared.result.Result.{Result}
 use Rattle.std.specs.Io.KnownBytes.{Consumes, Appends, Keeps}

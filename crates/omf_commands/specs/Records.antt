@@ -1,5 +1,5 @@
 -- What is written of the records of an input, and the fault that stands where none begins.
-use Rattle.std.specs.Prelude.{◌≡◌, ℕ, List, length}
+use Rattle.std.specs.Prelude.{◌≡◌, ℕ, List}
 use Rattle.std.specs.List.{flat_map}
 use Rattle.omf_frame.specs.Frame.{frame}
 use Rattle.omf_record.specs.Body.{kind_of}

@@ -1,6 +1,6 @@
 use Rattle.std.proofs.Common.{rules, ◌≡◌, ◌<◌, ◌++◌, ◌∷◌, [], length, sym, subst, inr}
 use Rattle.std.proofs.lemmas.List.Elements.{All-get_or}
-use Rattle.omf_commands.proofs.InputSteps.{all_read, begun, front_read, modules_push, read_input, read_one, refused, same_at}
+use Rattle.omf_commands.proofs.InputSteps.{front_read, modules_push, read_input, read_one, refused, same_at}
 use Rattle.omf_commands.proofs.inputs.read_inputs.Goals as goal
 
 pub read_module-requires : goal.read_module-requires

@@ -1,5 +1,4 @@
 use Rattle.std.proofs.Common.{Ok, Err, refl, subst, IfSome}
-use Rattle.omf_place.specs.Bounded.{IsBounded}
 use Rattle.omf_place.specs.Faults.{IsOnlyLayout, IsFirstFault}
 use Rattle.omf_place.specs.Said.{said}
 use Rattle.omf_image.specs.Building.{Builds}

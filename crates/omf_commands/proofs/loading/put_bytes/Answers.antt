@@ -1,4 +1,4 @@
-use Rattle.std.proofs.Common.{rules, ◌≡◌, ◌+◌, ◌*◌, ◌/◌, ◌<◌, ◌≤◌, length, refl}
+use Rattle.std.proofs.Common.{rules, ◌+◌, ◌*◌, ◌/◌, ◌<◌, ◌≤◌, length, refl}
 use Rattle.omf_frame.proofs.Told.{on_err}
 use Rattle.omf_commands.proofs.Listed.{line_is, line_more, line_cut, all_lines}
 use Rattle.omf_commands.proofs.loading.put_bytes.Goals as goal
