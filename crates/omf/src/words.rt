@@ -41,6 +41,8 @@ pub enum Job<'a> {
     Link {
         /// The path of the program that is written.
         out: &'a str,
+        /// The path of the map that is written after the program, where one is asked for.
+        map: Option<&'a str>,
         /// The paths of the object modules, in their order.
         files: Vec<&'a str>,
     },
@@ -92,6 +94,13 @@ fn out_option<'a>(alloc: Global) -> Arg<'a>
     needed(alloc, "OUT").short('o')
 }
 
+fn map_option<'a>(alloc: Global) -> Arg<'a>
+    ensures rule { rule_of result ≡ spec.map_rule }
+    ensures local { result.global ≡ false }
+{
+    Arg::new(alloc, "MAP").short('m')
+}
+
 fn files<'a>(alloc: Global) -> Arg<'a>
     ensures rule { rule_of result ≡ spec.files_rule }
     ensures local { result.global ≡ false }
@@ -139,6 +148,7 @@ fn link_command<'a>(alloc: Global) -> Result<Command<'a>, AllocError>
 {
     let command = Command::new(alloc, "link").about("Links object modules into a program");
     let command = with_arg(command, out_option(alloc))?;
+    let command = with_arg(command, map_option(alloc))?;
     with_arg(command, files(alloc))
 }
 
@@ -230,6 +240,7 @@ fn link_job<'a>(alloc: Global, values: &ArgMatches<'a>) -> Result<Job<'a>, Words
     };
     Ok(Job::Link {
         out: value(values, "OUT"),
+        map: values.get_str("MAP"),
         files,
     })
 }
