@@ -49,7 +49,7 @@ where
     }
 }
 
-/// The bytes of the files at the paths, in their order.
+/// The bytes of the files at the paths, in their order. None is read yet.
 pub fn open_sources<R: Files, A: Allocator + Copy>(
     alloc: A,
     rt: &R,
@@ -57,7 +57,8 @@ pub fn open_sources<R: Files, A: Allocator + Copy>(
 ) -> Result<Vec<FileSource<R::File, A>, A>, AllocError>
 where
     R::File: Drop,
-    ensures { IfOk result (λ sources. All (λ s. reader_failures s < 2 ^ 64 - 1) sources.items) }
+    ensures count { IfOk result (λ sources. length sources.items ≡ length paths.now) }
+    ensures unread { IfOk result (λ sources. All (λ s. reader_failures s ≡ 0) sources.items) }
 {
     let mut sources = Vec::new(alloc);
     for path in paths {
