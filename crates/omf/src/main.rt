@@ -221,3 +221,6 @@ fn write_map<K: Sink, A: Allocator + Copy>(
         Err(_) => Err(LinkFault::Output),
     }
 }
+
+#[cfg(test)]
+mod tests;
