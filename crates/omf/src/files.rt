@@ -1,5 +1,5 @@
 //! Files that a program reads and writes, as devices.
-ghost use Rattle.std.specs.Prelude.{All, ◌≡◌, ◌+◌, ◌-◌, ◌^◌, ◌<◌, ◌≤◌, [], IfOk, None, OnOk, is_ok, length, if◌then◌else◌};
+ghost use Rattle.std.specs.Prelude.{All, ◌≡◌, ◌+◌, ◌-◌, ◌^◌, ◌<◌, [], IfOk, None, OnOk, is_ok, length, if◌then◌else◌};
 ghost use Rattle.std.specs.Io.KnownBytes.{Keeps};
 ghost use Rattle.omf_frame.specs.Adapters.{reader_failures};
 ghost use Rattle.omf.specs.Files.{held_back, opened_bytes, sink_bytes, sink_failures};

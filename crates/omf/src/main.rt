@@ -1,19 +1,19 @@
 //! The program `omf`: its words, the files that they name, and the status that it ends with.
 #![tactic(auto)]
 
-ghost use Rattle.std.specs.Prelude.{◌≡◌, ◌<◌, ◌+◌, ◌^◌, ◌-◌, [], Err, OnOk};
-ghost use Rattle.omf_commands.specs.Reading.{sink_failures as failures_in};
+ghost use Rattle.std.specs.Prelude.{◌≡◌, ◌<◌, ◌^◌, ◌-◌, [], Err, OnOk};
 ghost use Rattle.omf.specs.Files.{held_back, sink_failures};
 ghost use Rattle.omf.specs.Status.{exit_status};
 
 mod files;
+mod map_stub;
 mod words;
 
 pub use files::{BufferedSink, CreatedFile, FileSource, OpenedFile, open_source, open_sources};
+use map_stub::write_map; // replaced by omf_commands::write_map
 use omf_commands::{Options, Report, check, link, load_file, rewrite, show};
-use omf_frame::{Sink, WriteSink, put_all};
+use omf_frame::{WriteSink, put_all};
 use omf_text::{LinkFault, fault_line, status};
-use std::alloc::Allocator;
 use std::env;
 use std::io::{self, ErrorKind, Write};
 use std::process::ExitCode;
@@ -206,20 +206,6 @@ fn finish(rt: &HostRuntime, answer: Result<(), LinkFault>, input: &str, output: 
     };
     let _ = fault_line(&fault, file, &mut WriteSink::new(rt.stderr()));
     status(&fault)
-}
-
-// replaced by omf_commands::write_map
-fn write_map<K: Sink, A: Allocator + Copy>(
-    _report: &Report<A>,
-    sink: &mut K,
-) -> Result<(), LinkFault<A>>
-    requires { K.failures sink.old < 2 ^ 64 - 1 }
-    ensures { K.failures sink.new ≡ K.failures sink.old + failures_in result }
-{
-    match put_all(sink, b"map\n") {
-        Ok(()) => Ok(()),
-        Err(_) => Err(LinkFault::Output),
-    }
 }
 
 #[cfg(test)]
