@@ -1,6 +1,6 @@
 //! The words of the command line.
 ghost use Rattle.std.specs.Prelude.{◌≡◌, ◌⊎◌, IfErr, IfOk, IsSome, Some, codes, false, true};
-ghost use Rattle.clap.specs.Words.{app_of, first_of, found_of, kind_of, rows_of, rule_of, takes, with_rule, with_subcommand};
+ghost use Rattle.clap.specs.Words.{app_of, first_of, found_of, is_simple, kind_of, rows_of, rule_of, takes, with_rule, with_subcommand};
 ghost use Rattle.clap.specs.declared.Command.{out-Command as fields_of};
 ghost use Rattle.clap.specs.declared.error.ErrorKind.TheVariants.{OutOfMemory};
 ghost use Rattle.omf.specs.declared.words.WordsFault.TheVariants.{Memory};
@@ -292,6 +292,8 @@ pub fn parse_words<'a>(alloc: Global, words: &'a [&'a str]) -> Result<Job<'a>, W
     ensures job { IfOk result (IsJobFor (texts words.entry.now)) }
     ensures refused { takes spec.omf_command (texts words.entry.now) ≡ true
         → IfErr result (IsRefusalFor (texts words.entry.now)) }
+    // What the command takes, and its matches, are those that the parser promises of simple commands.
+    ensures simple { is_simple spec.omf_command ≡ true }
 {
     let Ok(command) = omf_command(alloc) else {
         return Err(WordsFault::Memory);
