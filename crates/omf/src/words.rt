@@ -91,21 +91,27 @@ fn out_option<'a>(alloc: Global) -> Arg<'a>
     ensures rule { rule_of result ≡ spec.out_rule }
     ensures local { result.global ≡ false }
 {
-    needed(alloc, "OUT").short('o')
+    needed(alloc, "OUT")
+        .short('o')
+        .help("The program that is written")
 }
 
 fn map_option<'a>(alloc: Global) -> Arg<'a>
     ensures rule { rule_of result ≡ spec.map_rule }
     ensures local { result.global ≡ false }
 {
-    Arg::new(alloc, "MAP").short('m')
+    Arg::new(alloc, "MAP")
+        .short('m')
+        .help("The map that is written after it")
 }
 
 fn files<'a>(alloc: Global) -> Arg<'a>
     ensures rule { rule_of result ≡ spec.files_rule }
     ensures local { result.global ≡ false }
 {
-    needed(alloc, "FILES").num_args(ValueRange::from(1..))
+    needed(alloc, "FILES")
+        .num_args(ValueRange::from(1..))
+        .help("The object modules in their order")
 }
 
 fn with_arg<'a>(command: Command<'a>, arg: Arg<'a>) -> Result<Command<'a>, AllocError>

@@ -142,6 +142,10 @@ fn answers_with_the_texts_of_the_parser(rt: HostRuntime) {
             "Usage: omf link [OPTIONS] -o <OUT> <FILES>...\n",
         ),
         (
+            ["link", "-h"].as_slice(),
+            "  -m <MAP>    The map that is written after it\n",
+        ),
+        (
             ["rewrite", "--help"].as_slice(),
             "Usage: omf rewrite <IN> <OUT>\n",
         ),
