@@ -34,9 +34,13 @@ use Rattle.omf.proofs.WordsRequired.{enters_one, is_entered, required_given, wan
 pub value_there : (f : Found) (id : Text) (o : Option (Bor Text)) → option_map (λ s. s.now) o ≡ first_value f id → IsSome (first_of id (rows_of f)) → IsSome o
 value_there f id o is there = some_of_text (λ s. s.now) o (first_of id (rows_of f)) (is ∙ first_value-rows f id) there
 
+-- the value of an argument that may be missing
+pub value_or_none : (f : Found) (id : Text) (o : Option (Bor Text)) → option_map (λ s. s.now) o ≡ first_value f id → first_of id (rows_of f) ≡ option_map (λ s. s.now) o
+value_or_none f id o is = sym (is ∙ first_value-rows f id)
+
 pub value_given : (f : Found) (id : Text) (o : Option (Bor Text)) (text : Bor Text) → option_map (λ s. s.now) o ≡ first_value f id → o ≡ Some text
     → first_of id (rows_of f) ≡ Some text.now
-value_given f id o text is given = sym (first_value-rows f id) ∙ (sym is ∙ ap (option_map (λ s. s.now)) given)
+value_given f id o text is given = value_or_none f id o is ∙ ap (option_map (λ s. s.now)) given
 
 -- the values of an argument that has one
 values_there : (id : Text) (rows : List Row) → IsSome (first_of id rows) → (vs : List Text) × (all_of id rows ≡ Some vs) × (1 ≤ length vs)

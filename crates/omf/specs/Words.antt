@@ -1,5 +1,5 @@
 -- The command line: what each subcommand takes, and which job its values are.
-use Rattle.std.specs.Prelude.{◌≡◌, ◌≤◌, ◌<◌, ◌&&◌, ◌||◌, ◌⊎◌, ⊤, true, not, List, [], ◌∷◌, length, map, Some, is_some, IsSomeAnd, codes, Ok}
+use Rattle.std.specs.Prelude.{◌≡◌, ◌≤◌, ◌<◌, ◌&&◌, ◌||◌, ◌⊎◌, ⊤, true, not, List, [], ◌∷◌, length, map, Some, is_some, IsSomeAnd, option_map, codes, Ok}
 use Rattle.std.specs.Int.{to_be_bytes, w16}
 use Rattle.std.specs.List.{AllPass, list_all, list_any}
 use Rattle.std.specs.Str.{bytes_eq}
@@ -19,6 +19,10 @@ needed name = record (new_rule name) { required = true }
 abbrev pub out_rule : Rule
 out_rule = record (needed (codes "OUT")) { short = Some 111 }
 
+-- a value that may be missing
+abbrev pub map_rule : Rule
+map_rule = record (new_rule (codes "MAP")) { short = Some 109 }
+
 -- one or more files
 abbrev pub files_rule : Rule
 files_rule = record (needed (codes "FILES")) {
@@ -35,7 +39,7 @@ abbrev pub rewrite_command : App
 rewrite_command = with_rule (with_rule (new_app (codes "rewrite")) (needed (codes "IN"))) (needed (codes "OUT"))
 
 abbrev pub link_command : App
-link_command = with_rule (with_rule (new_app (codes "link")) out_rule) files_rule
+link_command = with_rule (with_rule (with_rule (new_app (codes "link")) out_rule) map_rule) files_rule
 
 abbrev pub load_command : App
 load_command = with_rule (with_rule (new_app (codes "load")) (needed (codes "FILE"))) (needed (codes "PARAGRAPH"))
@@ -69,7 +73,8 @@ abbrev pub IsJobOf : Text → List Row → Job → Type 0
 IsJobOf name rows (Show file) = (name ≡ codes "show") × (first_of (codes "FILE") rows ≡ Some file.now)
 IsJobOf name rows (Check file) = (name ≡ codes "check") × (first_of (codes "FILE") rows ≡ Some file.now)
 IsJobOf name rows (Rewrite from to) = (name ≡ codes "rewrite") × (first_of (codes "IN") rows ≡ Some from.now) × (first_of (codes "OUT") rows ≡ Some to.now)
-IsJobOf name rows (Link out files) = (name ≡ codes "link") × (first_of (codes "OUT") rows ≡ Some out.now)
+IsJobOf name rows (Link out map files) = (name ≡ codes "link") × (first_of (codes "OUT") rows ≡ Some out.now)
+    × (first_of (codes "MAP") rows ≡ option_map (λ path. path.now) map)
     × (all_of (codes "FILES") rows ≡ Some (texts files.items)) × (1 ≤ length files.items) × (length files.items ≤ 65535)
 IsJobOf name rows (Load file digits paragraph) = (name ≡ codes "load") × (first_of (codes "FILE") rows ≡ Some file.now)
     × (first_of (codes "PARAGRAPH") rows ≡ Some digits.now) × IsFourDigits digits.now

@@ -1,5 +1,5 @@
 //! Files that a program reads and writes, as devices.
-ghost use Rattle.std.specs.Prelude.{All, ◌≡◌, ◌+◌, ◌-◌, ◌^◌, ◌<◌, ◌≤◌, [], IfOk, None, OnOk, is_ok, length, if◌then◌else◌};
+ghost use Rattle.std.specs.Prelude.{All, ◌≡◌, ◌+◌, ◌-◌, ◌^◌, ◌<◌, [], IfOk, None, OnOk, is_ok, length, if◌then◌else◌};
 ghost use Rattle.std.specs.Io.KnownBytes.{Keeps};
 ghost use Rattle.omf_frame.specs.Adapters.{reader_failures};
 ghost use Rattle.omf.specs.Files.{held_back, opened_bytes, sink_bytes, sink_failures};
@@ -49,7 +49,7 @@ where
     }
 }
 
-/// The bytes of the files at the paths, in their order.
+/// The bytes of the files at the paths, in their order. None is read yet.
 pub fn open_sources<R: Files, A: Allocator + Copy>(
     alloc: A,
     rt: &R,
@@ -57,7 +57,8 @@ pub fn open_sources<R: Files, A: Allocator + Copy>(
 ) -> Result<Vec<FileSource<R::File, A>, A>, AllocError>
 where
     R::File: Drop,
-    ensures { IfOk result (λ sources. All (λ s. reader_failures s < 2 ^ 64 - 1) sources.items) }
+    ensures count { IfOk result (λ sources. length sources.items ≡ length paths.now) }
+    ensures unread { IfOk result (λ sources. All (λ s. reader_failures s ≡ 0) sources.items) }
 {
     let mut sources = Vec::new(alloc);
     for path in paths {

@@ -6,10 +6,12 @@ ghost use Rattle.omf.specs.Files.{held_back, sink_failures};
 ghost use Rattle.omf.specs.Status.{exit_status};
 
 mod files;
+mod map_stub;
 mod words;
 
 pub use files::{BufferedSink, CreatedFile, FileSource, OpenedFile, open_source, open_sources};
-use omf_commands::{Options, check, link, load_file, rewrite, show};
+use map_stub::write_map; // replaced by omf_commands::write_map
+use omf_commands::{Options, Report, check, link, load_file, rewrite, show};
 use omf_frame::{WriteSink, put_all};
 use omf_text::{LinkFault, fault_line, status};
 use std::env;
@@ -62,10 +64,10 @@ fn run_job(rt: &HostRuntime, job: &Job<'_>) -> u8 {
         Job::Show { file } => finish(rt, show_file(rt, file), file, STANDARD_OUTPUT),
         Job::Check { file } => finish(rt, check_file(rt, file), file, STANDARD_OUTPUT),
         Job::Rewrite { from, to } => finish(rt, rewrite_file(rt, from, to), from, to),
-        Job::Link { out, files } => {
-            let answer = link_files(rt, out, files);
+        Job::Link { out, map, files } => {
+            let (answer, output) = link_and_map(rt, out, *map, files);
             let input = input_at_fault(&answer, files);
-            finish(rt, answer, input, out)
+            finish(rt, answer, input, output)
         }
         Job::Load {
             file,
@@ -99,14 +101,36 @@ fn rewrite_file(rt: &HostRuntime, from: &str, to: &str) -> Result<(), LinkFault>
     flushed(&mut sink, result)
 }
 
+// Links the files into the program, and then writes the map where one is asked for. Beside the answer
+// stands the path of the file that was written last, which a failure of writing is one of.
+fn link_and_map<'a>(
+    rt: &HostRuntime,
+    out: &'a str,
+    map: Option<&'a str>,
+    files: &[&str],
+) -> (Result<(), LinkFault>, &'a str) {
+    let report = match link_files(rt, out, files) {
+        Ok(report) => report,
+        Err(fault) => return (Err(fault), out),
+    };
+    match map {
+        Some(map) => (map_file(rt, &report, map), map),
+        None => (Ok(()), out),
+    }
+}
+
 #[tactic(auto, using(crate::proofs::Failures::at_most_one))]
-fn link_files(rt: &HostRuntime, out: &str, files: &[&str]) -> Result<(), LinkFault> {
+fn link_files(rt: &HostRuntime, out: &str, files: &[&str]) -> Result<Report, LinkFault> {
     let mut sources = open_sources(rt.alloc(), rt, files)?;
     let mut sink = BufferedSink::new(rt.alloc(), CreatedFile::new(rt, out))?;
-    let result = match link(rt.alloc(), &mut sources, &mut sink, &Options::new()) {
-        Ok(_) => Ok(()),
-        Err(fault) => Err(fault),
-    };
+    let result = link(rt.alloc(), &mut sources, &mut sink, &Options::new());
+    flushed(&mut sink, result)
+}
+
+#[tactic(auto, using(crate::proofs::Failures::at_most_one))]
+fn map_file(rt: &HostRuntime, report: &Report, path: &str) -> Result<(), LinkFault> {
+    let mut sink = BufferedSink::new(rt.alloc(), CreatedFile::new(rt, path))?;
+    let result = write_map(report, &mut sink);
     flushed(&mut sink, result)
 }
 
@@ -132,10 +156,10 @@ fn load_path(rt: &HostRuntime, file: &str, paragraph: u16) -> Result<(), LinkFau
 
 // The answer of a command once what its sink holds back is written. A failure there comes first, as it
 // would have if nothing were held back.
-fn flushed<W: Write + Drop>(
+fn flushed<W: Write + Drop, T: Drop>(
     sink: &mut BufferedSink<W>,
-    answer: Result<(), LinkFault>,
-) -> Result<(), LinkFault>
+    answer: Result<T, LinkFault>,
+) -> Result<T, LinkFault>
     requires { sink_failures sink.old < 2 ^ 64 - 1 }
     ensures done { OnOk result (held_back sink.new ≡ []) }
     ensures kept { sink_failures sink.new ≡ sink_failures sink.old → result ≡ answer }
@@ -183,3 +207,6 @@ fn finish(rt: &HostRuntime, answer: Result<(), LinkFault>, input: &str, output: 
     let _ = fault_line(&fault, file, &mut WriteSink::new(rt.stderr()));
     status(&fault)
 }
+
+#[cfg(test)]
+mod tests;

@@ -1,6 +1,6 @@
 //! The words of the command line.
 ghost use Rattle.std.specs.Prelude.{◌≡◌, ◌⊎◌, IfErr, IfOk, IsSome, Some, codes, false, true};
-ghost use Rattle.clap.specs.Words.{app_of, first_of, found_of, kind_of, rows_of, rule_of, takes, with_rule, with_subcommand};
+ghost use Rattle.clap.specs.Words.{app_of, first_of, found_of, is_simple, kind_of, rows_of, rule_of, takes, with_rule, with_subcommand};
 ghost use Rattle.clap.specs.declared.Command.{out-Command as fields_of};
 ghost use Rattle.clap.specs.declared.error.ErrorKind.TheVariants.{OutOfMemory};
 ghost use Rattle.omf.specs.declared.words.WordsFault.TheVariants.{Memory};
@@ -41,6 +41,8 @@ pub enum Job<'a> {
     Link {
         /// The path of the program that is written.
         out: &'a str,
+        /// The path of the map that is written after the program, where one is asked for.
+        map: Option<&'a str>,
         /// The paths of the object modules, in their order.
         files: Vec<&'a str>,
     },
@@ -89,14 +91,27 @@ fn out_option<'a>(alloc: Global) -> Arg<'a>
     ensures rule { rule_of result ≡ spec.out_rule }
     ensures local { result.global ≡ false }
 {
-    needed(alloc, "OUT").short('o')
+    needed(alloc, "OUT")
+        .short('o')
+        .help("The program that is written")
+}
+
+fn map_option<'a>(alloc: Global) -> Arg<'a>
+    ensures rule { rule_of result ≡ spec.map_rule }
+    ensures local { result.global ≡ false }
+{
+    Arg::new(alloc, "MAP")
+        .short('m')
+        .help("The map that is written after it")
 }
 
 fn files<'a>(alloc: Global) -> Arg<'a>
     ensures rule { rule_of result ≡ spec.files_rule }
     ensures local { result.global ≡ false }
 {
-    needed(alloc, "FILES").num_args(ValueRange::from(1..))
+    needed(alloc, "FILES")
+        .num_args(ValueRange::from(1..))
+        .help("The object modules in their order")
 }
 
 fn with_arg<'a>(command: Command<'a>, arg: Arg<'a>) -> Result<Command<'a>, AllocError>
@@ -139,6 +154,7 @@ fn link_command<'a>(alloc: Global) -> Result<Command<'a>, AllocError>
 {
     let command = Command::new(alloc, "link").about("Links object modules into a program");
     let command = with_arg(command, out_option(alloc))?;
+    let command = with_arg(command, map_option(alloc))?;
     with_arg(command, files(alloc))
 }
 
@@ -230,6 +246,7 @@ fn link_job<'a>(alloc: Global, values: &ArgMatches<'a>) -> Result<Job<'a>, Words
     };
     Ok(Job::Link {
         out: value(values, "OUT"),
+        map: values.get_str("MAP"),
         files,
     })
 }
@@ -281,6 +298,8 @@ pub fn parse_words<'a>(alloc: Global, words: &'a [&'a str]) -> Result<Job<'a>, W
     ensures job { IfOk result (IsJobFor (texts words.entry.now)) }
     ensures refused { takes spec.omf_command (texts words.entry.now) ≡ true
         → IfErr result (IsRefusalFor (texts words.entry.now)) }
+    // What the command takes, and its matches, are those that the parser promises of simple commands.
+    ensures simple { is_simple spec.omf_command ≡ true }
 {
     let Ok(command) = omf_command(alloc) else {
         return Err(WordsFault::Memory);

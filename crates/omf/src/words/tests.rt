@@ -11,11 +11,11 @@ fn reads_each_subcommand(rt: HostRuntime) {
         ),
         (
             ["link", "A", "-o", "P", "B"].as_slice(),
-            "Link { out: \"P\", files: [\"A\", \"B\"] }",
+            "Link { out: \"P\", map: None, files: [\"A\", \"B\"] }",
         ),
         (
             ["link", "-oP", "A"].as_slice(),
-            "Link { out: \"P\", files: [\"A\"] }",
+            "Link { out: \"P\", map: None, files: [\"A\"] }",
         ),
         (
             ["load", "P", "1234"].as_slice(),
@@ -32,6 +32,36 @@ fn reads_each_subcommand(rt: HostRuntime) {
         (
             ["rewrite", "A", ""].as_slice(),
             "Rewrite { from: \"A\", to: \"\" }",
+        ),
+    ];
+    for (words, shown) in taken {
+        match parse_words(rt.alloc(), words) {
+            Ok(job) => {
+                let text = format!(in rt.alloc(); "{job:?}").expect(&rt, "text");
+                assert_eq!(rt; text.as_str(), shown);
+            }
+            Err(_) => panic!(rt; "refused"),
+        }
+    }
+}
+
+#[test]
+fn reads_the_path_of_a_map(rt: HostRuntime) {
+    let linked = "Link { out: \"P\", map: Some(\"M\"), files: [\"A\", \"B\"] }";
+    let taken = [
+        (["link", "-m", "M", "-o", "P", "A", "B"].as_slice(), linked),
+        (["link", "-o", "P", "-m", "M", "A", "B"].as_slice(), linked),
+        (["link", "-o", "P", "A", "-m", "M", "B"].as_slice(), linked),
+        (["link", "A", "B", "-m", "M", "-o", "P"].as_slice(), linked),
+        (["link", "A", "B", "-oP", "-mM"].as_slice(), linked),
+        (["link", "-m=M", "-o=P", "A", "B"].as_slice(), linked),
+        (
+            ["link", "-o", "P", "-m", "", "A"].as_slice(),
+            "Link { out: \"P\", map: Some(\"\"), files: [\"A\"] }",
+        ),
+        (
+            ["link", "-o", "P", "--", "A", "-m"].as_slice(),
+            "Link { out: \"P\", map: None, files: [\"A\", \"-m\"] }",
         ),
     ];
     for (words, shown) in taken {
@@ -64,6 +94,26 @@ fn answers_with_the_texts_of_the_parser(rt: HostRuntime) {
         ),
         (["link", "A.OBJ"].as_slice(), "not provided:\n  -o <OUT>\n"),
         (
+            ["link", "-m", "M", "A.OBJ"].as_slice(),
+            "not provided:\n  -o <OUT>\n",
+        ),
+        (
+            ["link", "-o", "P", "-m", "M"].as_slice(),
+            "not provided:\n  <FILES>...\n",
+        ),
+        (
+            ["link", "-o", "P", "-m", "M", "-m", "N", "A"].as_slice(),
+            "the argument '-m <MAP>' cannot be used multiple times",
+        ),
+        (
+            ["link", "-o", "P", "A", "-m"].as_slice(),
+            "a value is required for '-m <MAP>' but none was supplied",
+        ),
+        (
+            ["link", "-m", "-o", "P", "A"].as_slice(),
+            "a value is required for '-m <MAP>' but none was supplied",
+        ),
+        (
             ["load", "P.EXE"].as_slice(),
             "Usage: omf load <FILE> <PARAGRAPH>\n",
         ),
@@ -89,7 +139,11 @@ fn answers_with_the_texts_of_the_parser(rt: HostRuntime) {
         ),
         (
             ["help", "link"].as_slice(),
-            "Usage: omf link -o <OUT> <FILES>...\n",
+            "Usage: omf link [OPTIONS] -o <OUT> <FILES>...\n",
+        ),
+        (
+            ["link", "-h"].as_slice(),
+            "  -m <MAP>    The map that is written after it\n",
         ),
         (
             ["rewrite", "--help"].as_slice(),

@@ -1,7 +1,7 @@
-use Rattle.std.proofs.Common.{rules, ◌≡◌, ◌∙◌, ap, codes, refl, sym, length, arith, ◌<◌, ◌≤◌}
+use Rattle.std.proofs.Common.{rules, ◌≡◌, ◌≤◌, ◌∙◌, Some, ap, codes, refl, sym, length}
 use Rattle.clap.specs.Words.{found_of, rows_of}
 use Rattle.omf.specs.Words.{texts}
-use Rattle.omf.proofs.WordsValues.{all_given, all_there, one_or_more, too_many}
+use Rattle.omf.proofs.WordsValues.{all_given, all_there, one_or_more, too_many, value_or_none}
 use Rattle.omf.proofs.words.link_job.Goals as goal
 
 pub unwrap-files-requires : goal.unwrap-files-requires
@@ -17,6 +17,7 @@ returns-clause-ok c =
     let f = found_of c.args.values.now in
     let all = all_given f (codes "FILES") c.get_strs.result c.unwrap-files.result c.get_strs.ensures c.unwrap-files.ensures in
     let items : c.in-Ok.files.items ≡ c.unwrap-files.result.now = search rules in
-    let every = all ∙ ap (λ (xs : _). Rattle.std.proofs.Common.Some (texts xs)) (sym items) in
+    let every = all ∙ ap (λ xs. Some (texts xs)) (sym items) in
     let few : length c.in-Ok.files.items ≤ 65535 = search rules in
-    (refl, c.value.ensures, every, one_or_more (codes "FILES") (rows_of f) c.in-Ok.files.items c.requires.files every, few)
+    let map = value_or_none f (codes "MAP") c.get_str.result c.get_str.ensures in
+    (refl, c.value.ensures, map, every, one_or_more (codes "FILES") (rows_of f) c.in-Ok.files.items c.requires.files every, few)

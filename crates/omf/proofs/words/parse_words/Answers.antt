@@ -2,7 +2,7 @@ use Rattle.std.proofs.Common.{◌∙◌, ap}
 use Rattle.std.proofs.lemmas.Result.{IfErr-weaker, IfOk-weaker}
 use Rattle.clap.specs.Words.{takes}
 use Rattle.omf.specs.Words.{texts}
-use Rattle.omf.proofs.WordsValues.{entered_here, job_for, matches_give, memory_refuses, no_fault, refusal_for, subcommand_is, subcommand_there}
+use Rattle.omf.proofs.WordsValues.{entered_here, job_for, matches_give, memory_refuses, no_fault, omf_is_simple, refusal_for, subcommand_is, subcommand_there}
 use Rattle.omf.proofs.words.parse_words.Goals as goal
 
 pub returns-in_default-clause-refused : goal.returns-in_default-clause-refused
@@ -40,3 +40,12 @@ returns-clause-refused c = λ taken.
     let met = matches_give _ words c.in-Ok-try_get_matches_from.matches c.in-Ok.ensures c.in-Ok-try_get_matches_from.ensures.matches in
     let entered = subcommand_is words c.in-Ok-try_get_matches_from.matches c.subcommand.result c.unwrap.result c.subcommand.ensures.name c.subcommand.ensures.rows met c.unwrap.ensures in
     IfErr-weaker c.job_of.result _ _ (λ fault fits. refusal_for words _ _ fault entered fits) c.job_of.ensures.err
+
+pub returns-in_default-clause-simple : goal.returns-in_default-clause-simple
+returns-in_default-clause-simple c = omf_is_simple
+
+pub returns-in-Err-clause-simple : goal.returns-in-Err-clause-simple
+returns-in-Err-clause-simple c = omf_is_simple
+
+pub returns-clause-simple : goal.returns-clause-simple
+returns-clause-simple c = omf_is_simple
