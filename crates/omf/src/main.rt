@@ -6,12 +6,10 @@ ghost use Rattle.omf.specs.Files.{held_back, sink_failures};
 ghost use Rattle.omf.specs.Status.{exit_status};
 
 mod files;
-mod map_stub;
 mod words;
 
 pub use files::{BufferedSink, CreatedFile, FileSource, OpenedFile, open_source, open_sources};
-use map_stub::write_map; // replaced by omf_commands::write_map
-use omf_commands::{Options, Report, check, link, load_file, rewrite, show};
+use omf_commands::{Options, Report, check, link, load_file, rewrite, show, write_map};
 use omf_frame::{WriteSink, put_all};
 use omf_text::{LinkFault, fault_line, status};
 use std::env;
