@@ -1,4 +1,5 @@
--- The map of a linked program: its segments, groups and publics, where it starts, and its size.
+-- The map of a linked program: its segments, groups and publics, where it starts, and its size. What is out of range in a
+-- table has no line.
 use Rattle.std.specs.Prelude.{ℕ, ◌+◌, ◌-◌, ◌*◌, List, [], ◌∷◌, ◌++◌, length, slice_get, Some, None, codes, decimal}
 use Rattle.std.specs.declared.option.Option.{Option}
 use Rattle.std.specs.List.{concat, flat_map}
@@ -81,6 +82,7 @@ group_lines modules layout = codes "groups\n" ++ flat_map (group_line modules) l
 unfoldable pub public_lines : List Module → Layout → List ℕ
 public_lines modules layout = codes "publics\n" ++ flat_map (λ (m : Module). flat_map (public_line layout) m.publics) modules
 
+-- the registers at the start, the size in bytes, and how many words are relocated
 unfoldable pub program_lines : Program → List ℕ
 program_lines p = concat (codes "entry " ∷ hexadecimal 4 p.cs ∷ codes ":" ∷ hexadecimal 4 p.ip
     ∷ codes "\nstack " ∷ hexadecimal 4 p.ss ∷ codes ":" ∷ hexadecimal 4 p.sp

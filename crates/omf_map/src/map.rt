@@ -300,7 +300,10 @@ fn put_program<K: Sink, A: Allocator + Copy>(
 }
 
 /// Writes the map of a program that was linked of these modules by this layout: its segments, groups and
-/// publics, its registers and its size in bytes, and how many words are relocated.
+/// publics, its registers and its size in bytes, and how many words are relocated. Takes no memory.
+///
+/// # Errors
+/// The sink failed.
 pub fn put_map<K: Sink, A: Allocator + Copy>(
     sink: &mut K,
     modules: &[Module<A>],
