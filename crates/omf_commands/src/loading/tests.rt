@@ -1,13 +1,8 @@
 use super::*;
 use crate::linking::tests::SMALL_FILE;
+use crate::tests::LISTING;
 use omf_frame::{MemSink, MemSource};
-use refusing::Refusing;
 use std::test::*;
-
-/// The small file, loaded at 1234H.
-const LISTING: &str = "\
-CS:IP 1234:0000 SS:SP 1234:0000\n\
-12340 B834128ED8\n";
 
 #[test]
 fn a_file_is_listed(rt: HostRuntime) -> Result<(), Fail> {
@@ -90,33 +85,6 @@ fn each_failing_device_is_told(rt: HostRuntime) -> Result<(), Fail> {
             assert!(rt; sink.written().is_empty());
         } else {
             assert_eq!(rt; result, Ok(()));
-        }
-    }
-    for n in 0..50usize {
-        let mut source = MemSource::over(&SMALL_FILE, 60, None);
-        let mut room = [0u8; 49];
-        let mut sink = MemSink::over(&mut room[..n.min(49)], 7);
-        let whole = load_file(rt.alloc(), &mut source, 0x1234, &mut sink).is_ok();
-        assert_eq!(rt; whole, n == 49);
-        assert_eq!(rt; sink.written(), &LISTING.as_bytes()[..n.min(49)]);
-    }
-    Ok(())
-}
-
-#[test]
-fn each_refused_growth_is_want_of_memory(rt: HostRuntime) -> Result<(), Fail> {
-    for number in 1..20u64 {
-        let alloc = Refusing::nth(rt.alloc(), number);
-        let mut source = MemSource::over(&SMALL_FILE, 60, None);
-        let mut room = [0u8; 60];
-        let mut sink = MemSink::over(&mut room, 60);
-        let result = load_file(&alloc, &mut source, 0x1234, &mut sink);
-        if alloc.has_refused() {
-            assert!(rt; result == Err(LinkFault::Memory));
-            assert!(rt; sink.written().is_empty());
-        } else {
-            assert!(rt; result == Ok(()));
-            assert_eq!(rt; sink.written(), LISTING.as_bytes());
         }
     }
     Ok(())
