@@ -1,12 +1,14 @@
 ghost use Rattle.std.specs.Prelude.{◌≡◌};
 
+mod hostile;
+pub mod modules;
 pub mod objects;
 
 use super::*;
-use omf_frame::{MemSink, MemSource, put_frame, put_index};
+use crate::tests::modules::{append, with_segment};
+use omf_frame::{MemSink, MemSource, put_index};
 use omf_text::{LinkFault, RecordFault};
-use refusing::Refusing;
-use std::alloc::{Allocator, Global};
+use std::alloc::Global;
 use std::process::Abort;
 use std::test::*;
 
@@ -19,7 +21,7 @@ pub const SMALL: [u8; 57] = [
 ];
 
 /// The listing of its records.
-const SMALL_LINES: &str = "\
+pub const SMALL_LINES: &str = "\
 00000000 80 THEADR      2
   name \"A\"
 00000006 96 LNAMES      6
@@ -34,6 +36,11 @@ const SMALL_LINES: &str = "\
 0000002F 8A MODEND      6
   main 1 start 1 frame method 0 index 1 target method 0 index 1 displacement 0000
 ";
+
+/// The listing of its program, loaded at 1234H.
+pub const LISTING: &str = "\
+CS:IP 1234:0000 SS:SP 1234:0000\n\
+12340 B834128ED8\n";
 
 /// The module with its name index in two bytes.
 pub const LONG_INDEX: [u8; 58] = [
@@ -181,6 +188,58 @@ fn records_are_shown(rt: HostRuntime) -> Result<(), Fail> {
     Ok(())
 }
 
+#[test]
+fn lines_of_records_are_shown(rt: HostRuntime) -> Result<(), Fail> {
+    let alloc = rt.alloc();
+    let rows = [
+        (
+            with_segment(
+                alloc,
+                "0300",
+                &[
+                    "8C017800017900",
+                    "900000000001783216000179004000",
+                    "A00100009B26D9",
+                    "9CC4005601C4015602",
+                ],
+            )?,
+            "\
+0000001A 8C EXTDEF      6
+  external \"x\" type 0
+  external \"y\" type 0
+00000024 90 PUBDEF     14
+  base group 0 segment 0 frame 0000
+  public \"x\" offset 1632 type 0
+  public \"y\" offset 4000 type 0
+00000036 A0 LEDATA      6
+  data segment 1 offset 0000 bytes 3
+00000040 9C FIXUPP      8
+  fixup at 000 segment location 1 frame method 5 target method 2 index 1
+  fixup at 001 segment location 1 frame method 5 target method 2 index 2
+0000004C 8A MODEND      1
+  main 0 start 0
+",
+        ),
+        (
+            with_segment(alloc, "0C00", &["A2010000FFFF0100FFFF0100FFFF00000141"])?,
+            "\
+0000001A A2 LIDATA     17
+  data segment 1 offset 0000 blocks 1 expanded >65536
+0000002F 8A MODEND      1
+  main 0 start 0
+",
+        ),
+    ];
+    for (input, lines) in rows {
+        let mut source = MemSource::over(&input, 60, None);
+        let mut room = [0u8; 1200];
+        let mut sink = MemSink::over(&mut room, 60);
+        assert_eq!(rt; show(alloc, &mut source, &mut sink), Ok(()));
+        assert!(rt; sink.written().ends_with(lines.as_bytes()));
+    }
+    Ok(())
+}
+
 /// The number of bytes of the records before the one that holds the byte at this place.
 pub fn record_place(at: u64) -> u64 {
     let mut place = 0;
@@ -206,14 +265,6 @@ fn each_failing_call_is_told(rt: HostRuntime) -> Result<(), Fail> {
         } else {
             assert_eq!(rt; result, Ok(()));
         }
-    }
-    for n in 0..58usize {
-        let mut source = MemSource::over(&SMALL, 1, None);
-        let mut room = [0u8; 57];
-        let mut sink = MemSink::over(&mut room[..n.min(57)], 7);
-        let whole = rewrite(rt.alloc(), &mut source, &mut sink).is_ok();
-        assert_eq!(rt; whole, n == 57);
-        assert_eq!(rt; sink.written(), &SMALL[..n.min(57)]);
     }
     Ok(())
 }
@@ -247,64 +298,6 @@ fn each_failing_call_of_show_is_told(rt: HostRuntime) -> Result<(), Fail> {
             );
         } else {
             assert_eq!(rt; result, Ok(()));
-        }
-    }
-    for n in 0..lines.len() + 1 {
-        let mut source = MemSource::over(&SMALL, 9, None);
-        let mut room = [0u8; 600];
-        let mut sink = MemSink::over(&mut room[..n.min(600)], 7);
-        let whole = show(rt.alloc(), &mut source, &mut sink).is_ok();
-        assert_eq!(rt; whole, n == lines.len());
-        assert_eq!(rt; sink.written(), &lines[..n]);
-    }
-    Ok(())
-}
-
-/// A command that goes through an input.
-#[derive(Clone, Copy)]
-enum Command {
-    Show,
-    Rewrite,
-    Check,
-}
-
-fn run_command<A: Allocator + Copy>(
-    command: Command,
-    alloc: A,
-    source: &mut MemSource<'_>,
-    sink: &mut MemSink<'_>,
-) -> Result<(), LinkFault<A>>
-    requires source { source.old.failures ≡ 0 }
-    requires sink { sink.old.failures ≡ 0 }
-{
-    match command {
-        Command::Show => show(alloc, source, sink),
-        Command::Rewrite => rewrite(alloc, source, sink),
-        Command::Check => check(alloc, source, sink),
-    }
-}
-
-#[test]
-fn each_refused_growth_is_want_of_memory(rt: HostRuntime) -> Result<(), Fail> {
-    let rows: [(Command, &[u8]); 3] = [
-        (Command::Show, HELLO_LINES.as_bytes()),
-        (Command::Rewrite, &HELLO),
-        (Command::Check, b"ok\n"),
-    ];
-    for (command, output) in rows {
-        for number in 1..90u64 {
-            let alloc = Refusing::nth(rt.alloc(), number);
-            let mut source = MemSource::over(&HELLO, 3, None);
-            let mut room = [0u8; 1200];
-            let mut sink = MemSink::over(&mut room, 1200);
-            let result = run_command(command, &alloc, &mut source, &mut sink);
-            if alloc.has_refused() {
-                assert_eq!(rt; result, Err(LinkFault::Memory));
-                assert!(rt; output.starts_with(sink.written()));
-            } else {
-                assert_eq!(rt; result, Ok(()));
-                assert_eq!(rt; sink.written(), output);
-            }
         }
     }
     Ok(())
@@ -342,15 +335,11 @@ fn the_longest_bodies_are_rewritten(rt: HostRuntime) -> Result<(), Fail> {
 }
 
 /// A record of this type and body as it is written, and the end of a module where it is none itself.
-fn module_of(alloc: Global, kind: u8, body: &[u8]) -> Result<Vec<u8>, Fail> {
-    let mut room = [0u8; 40];
-    let mut sink = MemSink::over(&mut room, 40);
+fn module_with(alloc: Global, kind: u8, body: &[u8]) -> Result<Vec<u8>, Fail> {
     let mut bytes = Vec::new(alloc);
-    if body.len() <= 30 && put_frame(&mut sink, kind, body).is_ok() {
-        bytes.extend_from_slice(sink.written())?;
-    }
+    append(&mut bytes, kind, body)?;
     if kind != 0x8A {
-        bytes.extend_from_slice(&[0x8A, 0x02, 0x00, 0x00, 0x74])?;
+        append(&mut bytes, 0x8A, &[0x00])?;
     }
     Ok(bytes)
 }
@@ -376,10 +365,10 @@ fn bodies_are_rewritten_or_refused(rt: HostRuntime) -> Result<(), Fail> {
         (0x9C, &[0xC4, 0x04, 0xCC], Ok(&[0xC4, 0x04, 0x8C])),
     ];
     for (kind, body, answer) in rows {
-        let input = module_of(rt.alloc(), kind, body)?;
+        let input = module_with(rt.alloc(), kind, body)?;
         match answer {
             Ok(canonical) => {
-                let output = module_of(rt.alloc(), kind, canonical)?;
+                let output = module_with(rt.alloc(), kind, canonical)?;
                 rewrites(
                     &rt,
                     rt.alloc(),

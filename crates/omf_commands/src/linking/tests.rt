@@ -1,11 +1,13 @@
 ghost use Rattle.std.specs.Prelude.{◌≡◌};
 
 use super::*;
+use crate::tests::modules::{append, append_digits, module_of, two_modules, with_segment};
 use crate::tests::{BYTE_TOO_MANY, LONG_INDEX, SMALL, record_place};
 use mz::{Loaded, load, read_mz};
-use omf_frame::{MemSink, MemSource, put_frame};
+use omf_frame::{MemSink, MemSource};
 use omf_text::{fault_line, status};
 use refusing::Refusing;
+use std::alloc::Allocator;
 use std::process::Abort;
 use std::test::*;
 
@@ -16,58 +18,46 @@ pub const SMALL_FILE: [u8; 37] = [
     0xB8, 0x00, 0x00, 0x8E, 0xD8,
 ];
 
+/// The file of two modules with a group over both.
+const PAIR_FILE: [u8; 56] = [
+    0x4D, 0x5A, 0x38, 0x00, 0x01, 0x00, 0x01, 0x00, 0x02, 0x00, 0x00, 0x00, 0xFF, 0xFF, 0x00, 0x00,
+    0x00, 0x00, 0x00, 0x00, 0x00, 0x00, 0x00, 0x00, 0x1C, 0x00, 0x00, 0x00, 0x01, 0x00, 0x00, 0x00,
+    0xB8, 0x01, 0x00, 0xA1, 0x06, 0x00, 0x00, 0x00, 0x00, 0x00, 0x00, 0x00, 0x00, 0x00, 0x00, 0x00,
+    0x00, 0x00, 0x00, 0x00, 0x00, 0x00, 0x34, 0x12,
+];
+
 /// The most bytes that a file of these tests has.
 const ROOM: usize = 70_000;
 
-/// Puts a record behind a module. It is the hexadecimal digits of its type and its body.
-fn append(alloc: Global, bytes: &mut Vec<u8>, record: &str) -> Result<(), Fail> {
-    let digits = hex::decode(alloc, record)?;
-    let mut room = [0u8; 100];
-    let mut sink = MemSink::over(&mut room, 100);
-    if let Some((kind, body)) = digits.split_first() {
-        if body.len() <= 90 && put_frame(&mut sink, *kind, body).is_ok() {
-            bytes.extend_from_slice(sink.written())?;
-        }
-    }
-    Ok(())
-}
-
-fn module_of(alloc: Global, records: &[&str]) -> Result<Vec<u8>, Fail> {
-    let mut bytes = Vec::new(alloc);
-    for record in records {
-        append(alloc, &mut bytes, record)?;
-    }
-    Ok(bytes)
-}
-
-/// A module with a segment of this length, four hexadecimal digits with the low byte first, and these records.
-fn with_segment(alloc: Global, length: &str, records: &[&str]) -> Result<Vec<u8>, Fail> {
-    let segment = format!(in alloc; "9828{length}020101")?;
-    let mut bytes = module_of(alloc, &["800141", "960004434F4445", segment.as_str()])?;
-    for record in records {
-        append(alloc, &mut bytes, record)?;
-    }
-    append(alloc, &mut bytes, "8A00")?;
-    Ok(bytes)
-}
-
-/// The fault of linking one input.
-fn link_one(alloc: Global, one: &[u8], sink: &mut MemSink<'_>) -> Option<LinkFault>
+/// The fault of linking one input that comes in pieces of so many bytes.
+pub fn link_one(
+    alloc: Global,
+    one: &[u8],
+    piece: usize,
+    sink: &mut MemSink<'_>,
+) -> Option<LinkFault>
     requires { sink.old.failures ≡ 0 }
 {
-    let mut sources = [MemSource::over(one, 1, None)];
+    let mut sources = [MemSource::over(one, piece.max(1), None)];
     link(alloc, &mut sources, sink, &Options::new()).err()
 }
 
-/// The fault of linking two inputs.
-fn link_two(alloc: Global, one: &[u8], two: &[u8], sink: &mut MemSink<'_>) -> Option<LinkFault>
+/// The fault of linking two inputs. The second isn't touched before all of the first was read.
+fn link_two<R: Abort, A: Allocator + Copy>(
+    rt: &R,
+    alloc: A,
+    inputs: (&[u8], &[u8]),
+    sink: &mut MemSink<'_>,
+) -> Option<LinkFault<A>>
     requires { sink.old.failures ≡ 0 }
 {
     let mut sources = [
-        MemSource::over(one, 60, None),
-        MemSource::over(two, 7, None),
+        MemSource::over(inputs.0, 60, None),
+        MemSource::over(inputs.1, 7, None),
     ];
-    link(alloc, &mut sources, sink, &Options::new()).err()
+    let fault = link(alloc, &mut sources, sink, &Options::new()).err();
+    assert!(rt; sources[0].rest().is_empty() || sources[1].calls() == 0);
+    fault
 }
 
 /// The fault of linking no input.
@@ -79,12 +69,16 @@ fn link_none(alloc: Global, sink: &mut MemSink<'_>) -> Option<LinkFault>
 }
 
 /// The file of at most two inputs, or the fault.
-fn linked(alloc: Global, inputs: &[&[u8]]) -> Result<(Vec<u8>, Option<LinkFault>), Fail> {
+fn linked<R: Abort>(
+    rt: &R,
+    alloc: Global,
+    inputs: &[&[u8]],
+) -> Result<(Vec<u8>, Option<LinkFault>), Fail> {
     let mut room = vec![in alloc; 0u8; ROOM]?;
     let mut sink = MemSink::over(&mut room, 4_096);
     let fault = match inputs {
-        [one, two] => link_two(alloc, one, two, &mut sink),
-        [one] => link_one(alloc, one, &mut sink),
+        [one, two] => link_two(rt, alloc, (one, two), &mut sink),
+        [one] => link_one(alloc, one, 1, &mut sink),
         _ => link_none(alloc, &mut sink),
     };
     Ok((Vec::from_slice(alloc, sink.written())?, fault))
@@ -98,7 +92,7 @@ fn gives<R: Abort>(
     image: &str,
     relocations: &str,
 ) -> Result<(), Fail> {
-    let (file, fault) = linked(alloc, inputs)?;
+    let (file, fault) = linked(rt, alloc, inputs)?;
     assert_eq!(rt; fault, None);
     let relocations = hex::decode(alloc, relocations)?;
     let end = 28usize.saturating_add(relocations.len());
@@ -116,7 +110,7 @@ fn modules_give_files(rt: HostRuntime) -> Result<(), Fail> {
         open[at] = 0;
     }
     for input in [SMALL.as_slice(), open.as_slice(), LONG_INDEX.as_slice()] {
-        let (file, fault) = linked(rt.alloc(), &[input])?;
+        let (file, fault) = linked(&rt, rt.alloc(), &[input])?;
         assert_eq!(rt; fault, None);
         assert_eq!(rt; file.as_slice(), SMALL_FILE.as_slice());
     }
@@ -126,10 +120,13 @@ fn modules_give_files(rt: HostRuntime) -> Result<(), Fail> {
         "4D5A20000100000002000000FFFF000000000000000000001C00000000000000",
     )?;
     assert_eq!(rt;
-        linked(rt.alloc(), &[nothing.as_slice()])?.0.as_slice(),
+        linked(&rt, rt.alloc(), &[nothing.as_slice()])?.0.as_slice(),
         empty.as_slice()
     );
-    assert_eq!(rt; linked(rt.alloc(), &[])?.0.as_slice(), empty.as_slice());
+    assert_eq!(rt;
+        linked(&rt, rt.alloc(), &[])?.0.as_slice(),
+        empty.as_slice()
+    );
     Ok(())
 }
 
@@ -243,7 +240,7 @@ fn files_are_loaded(rt: HostRuntime) -> Result<(), Fail> {
         "0600",
         &["A201000003000000020000", "9CC805040101"],
     )?;
-    let (file, _) = linked(rt.alloc(), &[repeated.as_slice()])?;
+    let (file, _) = linked(&rt, rt.alloc(), &[repeated.as_slice()])?;
     assert_eq!(rt; file.len(), 54);
     let thrice = loaded(rt.alloc(), &file, 0x1234)?.ok_or("no room")?;
     assert_eq!(rt;
@@ -255,7 +252,7 @@ fn files_are_loaded(rt: HostRuntime) -> Result<(), Fail> {
         "FEFF",
         &["98280400010101", "A00201000000", "9CC800040202"],
     )?;
-    let (file, fault) = linked(rt.alloc(), &[far.as_slice()])?;
+    let (file, fault) = linked(&rt, rt.alloc(), &[far.as_slice()])?;
     assert_eq!(rt; fault, None);
     assert_eq!(rt; file.get(28..32), Some([0x0F, 0x00, 0xFF, 0x0F].as_slice()));
     assert_eq!(rt;
@@ -270,38 +267,6 @@ fn files_are_loaded(rt: HostRuntime) -> Result<(), Fail> {
     Ok(())
 }
 
-/// Two modules with a group over both.
-pub fn two_modules(alloc: Global) -> Result<(Vec<u8>, Vec<u8>), Fail> {
-    let one = module_of(
-        alloc,
-        &[
-            "800141",
-            "960004434F4445055F44415441064447524F5550",
-            "98681200020201",
-            "98480300030301",
-            "9A04FF02",
-            "8C017800",
-            "A0010000B80000A10000",
-            "9C44010801",
-            "9CC8018CC4048C",
-            "8AC10001010000",
-        ],
-    )?;
-    let two = module_of(
-        alloc,
-        &[
-            "800142",
-            "9600055F44415441064447524F5550",
-            "98480200020201",
-            "9A03FF01",
-            "9001010178000000",
-            "A00100003412",
-            "8A00",
-        ],
-    )?;
-    Ok((one, two))
-}
-
 #[test]
 fn modules_are_linked_together(rt: HostRuntime) -> Result<(), Fail> {
     let (one, two) = two_modules(rt.alloc())?;
@@ -313,8 +278,8 @@ fn modules_are_linked_together(rt: HostRuntime) -> Result<(), Fail> {
         "B80100A10600000000000000000000000000000000003412",
         "01000000",
     )?;
-    let (file, _) = linked(rt.alloc(), &inputs)?;
-    assert_eq!(rt; file.len(), 56);
+    let (file, _) = linked(&rt, rt.alloc(), &inputs)?;
+    assert_eq!(rt; file.as_slice(), PAIR_FILE.as_slice());
     let high = loaded(rt.alloc(), &file, 0xFFFE)?.ok_or("no room")?;
     assert_eq!(rt;
         high.bytes().get(..6),
@@ -348,21 +313,45 @@ fn has<R: Abort>(rt: &R, file: &[u8], at: usize, bytes: &[u8]) -> Result<(), Fai
 }
 
 #[test]
-fn stacks_and_sizes(rt: HostRuntime) -> Result<(), Fail> {
-    let stack = with_segment(rt.alloc(), "0500", &["98740001020101"])?;
-    let (file, _) = linked(rt.alloc(), &[stack.as_slice()])?;
-    assert_eq!(rt; file.len(), 304);
-    has(&rt, file.as_slice(), 14, &[0x01, 0x00, 0x00, 0x01])?;
-    let full = with_segment(rt.alloc(), "0000", &["98760000020101"])?;
-    let (file, _) = linked(rt.alloc(), &[full.as_slice()])?;
-    assert_eq!(rt; file.len(), 65_568);
-    has(&rt, file.as_slice(), 2, &[0x20, 0x00, 0x81, 0x00])?;
-    has(&rt, file.as_slice(), 14, &[0x00; 4])
+fn stacks_sizes_and_pages(rt: HostRuntime) -> Result<(), Fail> {
+    // length and records, and then the length of the file, a place and what stands there
+    let rows: [(&str, &[&str], usize, usize, &[u8]); 5] = [
+        (
+            "0500",
+            &["98740001020101"],
+            304,
+            14,
+            &[0x01, 0x00, 0x00, 0x01],
+        ),
+        (
+            "0000",
+            &["98760000020101"],
+            65_568,
+            2,
+            &[0x20, 0x00, 0x81, 0x00],
+        ),
+        ("0000", &["98760000020101"], 65_568, 14, &[0x00; 4]),
+        (
+            "0210",
+            &["A001FF0F0000", "9CC4000001013412"],
+            4_130,
+            32 + 4_095,
+            &[0x34, 0x12],
+        ),
+        ("FEFF", &["A00100F0AA"], 65_566, 32 + 61_440, &[0xAA]),
+    ];
+    for (length, records, size, at, bytes) in rows {
+        let input = with_segment(rt.alloc(), length, records)?;
+        let (file, _) = linked(&rt, rt.alloc(), &[input.as_slice()])?;
+        assert_eq!(rt; file.len(), size);
+        has(&rt, file.as_slice(), at, bytes)?;
+    }
+    Ok(())
 }
 
 /// The inputs are refused with this line, and nothing is written.
 fn refuses<R: Abort>(rt: &R, alloc: Global, inputs: &[&[u8]], line: &str) -> Result<(), Fail> {
-    let (file, fault) = linked(alloc, inputs)?;
+    let (file, fault) = linked(rt, alloc, inputs)?;
     assert!(rt; file.is_empty());
     let fault = fault.ok_or("no fault")?;
     assert_eq!(rt; status(&fault), 1);
@@ -378,7 +367,7 @@ fn faults_of_an_input_are_named(rt: HostRuntime) -> Result<(), Fail> {
     let mut wrong = SMALL;
     wrong[5] = 0x3C;
     let mut own_frame = Vec::from_slice(rt.alloc(), &SMALL[..47])?;
-    append(rt.alloc(), &mut own_frame, "8AC14401")?;
+    append_digits(rt.alloc(), &mut own_frame, "8AC14401")?;
     let rows: [(&[u8], &str); 6] = [
         (&wrong, "omf: A.OBJ: 4 Closing at record 0\n"),
         (&[0x80, 0x03], "omf: A.OBJ: 3 Truncated at record 0\n"),
@@ -415,7 +404,7 @@ fn faults_of_an_input_are_named(rt: HostRuntime) -> Result<(), Fail> {
 
 #[test]
 fn faults_of_modules_are_named(rt: HostRuntime) -> Result<(), Fail> {
-    let rows: [(&str, &[&str], &str); 11] = [
+    let rows: [(&str, &[&str], &str); 17] = [
         (
             "0600",
             &["A201000003000000020000", "9CC804040101"],
@@ -442,6 +431,21 @@ fn faults_of_modules_are_named(rt: HostRuntime) -> Result<(), Fail> {
             "omf: link: 25 DuplicatePublic \"x\"\n",
         ),
         (
+            "0000",
+            &["9604225C0AE9", "98760000030101", "98740100030101"],
+            "omf: link: 22 SegmentTooLong \"\\x22\\x5C\\x0A\\xE9\"\n",
+        ),
+        (
+            "FFFF",
+            &["9602007F", "98280200010101", "9A03FF01FF02"],
+            "omf: link: 24 GroupTooLong \"\\x00\\x7F\"\n",
+        ),
+        (
+            "0500",
+            &["90000103207E1F00000003207E1F010000"],
+            "omf: link: 25 DuplicatePublic \" ~\\x1F\"\n",
+        ),
+        (
             "0400",
             &["A001000000000000", "9CC800040101", "A0010100AA"],
             "omf: A.OBJ: 26 CoversRelocated at record 46\n",
@@ -450,6 +454,27 @@ fn faults_of_modules_are_named(rt: HostRuntime) -> Result<(), Fail> {
             "1100",
             &["8C017800", "A0010000E80000", "9C84015601"],
             "omf: A.OBJ: 27 Unresolved at record 43\n",
+        ),
+        (
+            "0200",
+            &["9A02", "A00100000000", "9CC400140101"],
+            "omf: A.OBJ: 28 EmptyGroup at record 40\n",
+        ),
+        (
+            "0200",
+            &["9A02", "A00100000000", "9CC400050101"],
+            "omf: A.OBJ: 28 EmptyGroup at record 40\n",
+        ),
+        (
+            "0200",
+            &[
+                "9A02",
+                "8C017800",
+                "9001010178000000",
+                "A00100000000",
+                "9CC4005601",
+            ],
+            "omf: A.OBJ: 28 EmptyGroup at record 58\n",
         ),
         (
             "0200",
@@ -483,22 +508,112 @@ fn faults_of_modules_are_named(rt: HostRuntime) -> Result<(), Fail> {
 fn large(alloc: Global, length: &str) -> Result<Vec<u8>, Fail> {
     let mut bytes = module_of(alloc, &["800141", "9600"])?;
     for _ in 0..15usize {
-        append(alloc, &mut bytes, "98220000010101")?;
+        append_digits(alloc, &mut bytes, "98220000010101")?;
     }
     let last = format!(in alloc; "9820{length}010101")?;
-    append(alloc, &mut bytes, last.as_str())?;
-    append(alloc, &mut bytes, "8A00")?;
+    append_digits(alloc, &mut bytes, last.as_str())?;
+    append_digits(alloc, &mut bytes, "8A00")?;
     Ok(bytes)
 }
 
+/// Three segments with 32,767, as many and one relocated word, and these fix-ups more.
+fn many_words(alloc: Global, fixups: &str) -> Result<Vec<u8>, Fail> {
+    let last = format!(in alloc; "9CC800040303{fixups}")?;
+    with_segment(
+        alloc,
+        "FEFF",
+        &[
+            "9860FEFF010101",
+            "98600400010101",
+            "A2010000FF7F0000020000",
+            "9CC805040101",
+            "A2020000FF7F0000020000",
+            "9CC805040202",
+            "A003000000000000",
+            last.as_str(),
+        ],
+    )
+}
+
 #[test]
-fn a_program_is_too_large(rt: HostRuntime) -> Result<(), Fail> {
-    let one_more = large(rt.alloc(), "F1FF")?;
+fn the_greatest_programs_are_linked(rt: HostRuntime) -> Result<(), Fail> {
+    let alloc = rt.alloc();
+    let rows = [
+        (
+            large(alloc, "F0FF")?,
+            1_048_592usize,
+            [0x10u8, 0x00, 0x01, 0x08, 0x00, 0x00, 0x02, 0x00],
+        ),
+        (
+            many_words(alloc, "")?,
+            393_252,
+            [0x24, 0x00, 0x01, 0x03, 0xFF, 0xFF, 0x02, 0x40],
+        ),
+    ];
+    for (input, size, head) in rows {
+        let mut room = vec![in alloc; 0u8; size]?;
+        let mut sink = MemSink::over(&mut room, 65_536);
+        assert_eq!(rt; link_one(alloc, &input, 512, &mut sink), None);
+        assert_eq!(rt; sink.written().len(), size);
+        has(&rt, sink.written(), 2, &head)?;
+        assert!(rt; loaded(alloc, sink.written(), 1)?.is_some());
+        assert_eq!(rt;
+            loaded(alloc, sink.written(), 2)?.is_none(),
+            size > 1_048_576
+        );
+    }
+    Ok(())
+}
+
+#[test]
+fn programs_are_too_large(rt: HostRuntime) -> Result<(), Fail> {
+    let rows = [
+        (
+            large(rt.alloc(), "F1FF")?,
+            "omf: link: 23 ProgramTooLarge\n",
+        ),
+        (
+            many_words(rt.alloc(), "C802040303")?,
+            "omf: link: 34 TooManyRelocations\n",
+        ),
+    ];
+    for (input, line) in rows {
+        refuses(&rt, rt.alloc(), &[input.as_slice()], line)?;
+    }
+    Ok(())
+}
+
+/// A module with the publics "a0" to "a1999", each at its number, and then one with this name.
+fn many_publics(alloc: Global, last: &str) -> Result<Vec<u8>, Fail> {
+    let mut body = Vec::from_slice(alloc, &[0x00, 0x01])?;
+    for n in 0..2_001u16 {
+        let own = format!(in alloc; "a{n}")?;
+        let name = if n < 2_000 { own.as_str() } else { last };
+        body.push(name.len().min(255) as u8)?;
+        body.extend_from_slice(name.as_bytes())?;
+        body.extend_from_slice(&n.to_le_bytes())?;
+        body.push(0)?;
+    }
+    let mut module = with_segment(alloc, "D007", &[])?;
+    module.truncate(26);
+    append(&mut module, 0x90, &body)?;
+    append_digits(alloc, &mut module, "8A00")?;
+    Ok(module)
+}
+
+#[test]
+fn two_of_many_publics_have_one_name(rt: HostRuntime) -> Result<(), Fail> {
+    let alloc = rt.alloc();
+    let other = many_publics(alloc, "a2000")?;
+    let (file, fault) = linked(&rt, alloc, &[other.as_slice()])?;
+    assert_eq!(rt; fault, None);
+    assert_eq!(rt; file.len(), 2_032);
+    let again = many_publics(alloc, "a7")?;
     refuses(
         &rt,
-        rt.alloc(),
-        &[one_more.as_slice()],
-        "omf: link: 23 ProgramTooLarge\n",
+        alloc,
+        &[again.as_slice()],
+        "omf: link: 25 DuplicatePublic \"a7\"\n",
     )
 }
 
@@ -519,7 +634,7 @@ fn each_failing_read_is_told(rt: HostRuntime) -> Result<(), Fail> {
         }
     }
     let mut ending = Vec::from_slice(rt.alloc(), &SMALL[..47])?;
-    append(rt.alloc(), &mut ending, "8A00")?;
+    append_digits(rt.alloc(), &mut ending, "8A00")?;
     let mut sources = [
         MemSource::over(&SMALL, 1, None),
         MemSource::over(&ending, 1, Some(7)),
@@ -554,24 +669,38 @@ fn each_full_sink_is_told(rt: HostRuntime) -> Result<(), Fail> {
     Ok(())
 }
 
+/// The growth with this number is refused in a link of two modules, if there is one. Whether there is.
+fn refuses_growth<R: Abort>(rt: &R, alloc: Global, number: u64, inputs: (&[u8], &[u8])) -> bool {
+    let alloc = Refusing::nth(alloc, number);
+    let mut room = [0u8; 60];
+    let mut sink = MemSink::over(&mut room, 60);
+    let fault = link_two(rt, &alloc, inputs, &mut sink);
+    let is_refused = alloc.has_refused();
+    if is_refused && fault.is_some() {
+        assert!(rt; fault == Some(LinkFault::Memory));
+        assert!(rt; sink.written().is_empty());
+        let mut room = [0u8; 60];
+        let mut sink = MemSink::over(&mut room, 60);
+        assert!(rt; link_two(rt, &alloc, inputs, &mut sink).is_none());
+        assert_eq!(rt; sink.written(), PAIR_FILE.as_slice());
+    } else {
+        // a map makes do with a smaller growth
+        assert!(rt; fault.is_none());
+        assert_eq!(rt; sink.written(), PAIR_FILE.as_slice());
+    }
+    is_refused
+}
+
 #[test]
 fn each_refused_growth_is_want_of_memory(rt: HostRuntime) -> Result<(), Fail> {
-    let mut whole = false;
-    for number in 1..120u64 {
-        let alloc = Refusing::nth(rt.alloc(), number);
-        let mut sources = [MemSource::over(&SMALL, 60, None)];
-        let mut room = [0u8; 40];
-        let mut sink = MemSink::over(&mut room, 40);
-        let fault = link(&alloc, &mut sources, &mut sink, &Options::new()).err();
-        whole = !alloc.has_refused();
-        if whole {
-            assert!(rt; fault.is_none());
-            assert_eq!(rt; sink.written(), SMALL_FILE.as_slice());
-        } else {
-            assert!(rt; fault == Some(LinkFault::Memory));
-            assert!(rt; sink.written().is_empty());
+    let (one, two) = two_modules(rt.alloc())?;
+    let mut refusals = 0;
+    for number in 1..500u64 {
+        if !refuses_growth(&rt, rt.alloc(), number, (&one, &two)) {
+            break;
         }
+        refusals = number;
     }
-    assert!(rt; whole);
+    assert!(rt; refusals > 0 && refusals < 499);
     Ok(())
 }

@@ -1,13 +1,11 @@
 use super::*;
 use crate::linking::tests::SMALL_FILE;
+use crate::tests::LISTING;
 use omf_frame::{MemSink, MemSource};
-use refusing::Refusing;
+use omf_text::fault_line;
+use std::alloc::Global;
+use std::process::Abort;
 use std::test::*;
-
-/// The small file, loaded at 1234H.
-const LISTING: &str = "\
-CS:IP 1234:0000 SS:SP 1234:0000\n\
-12340 B834128ED8\n";
 
 #[test]
 fn a_file_is_listed(rt: HostRuntime) -> Result<(), Fail> {
@@ -47,35 +45,66 @@ FFFF0 FF\n";
     Ok(())
 }
 
+/// The file is refused with this fault and line, and nothing is written.
+fn refuses<R: Abort>(
+    rt: &R,
+    alloc: Global,
+    file: &[u8],
+    paragraph: u16,
+    wanted: (FileFault, &str),
+) {
+    let (fault, line) = wanted;
+    let mut source = MemSource::over(file, 60, None);
+    let mut room = [0u8; 60];
+    let mut sink = MemSink::over(&mut room, 60);
+    let result = load_file(alloc, &mut source, paragraph, &mut sink);
+    let fault = LinkFault::File(fault);
+    let mut room = [0u8; 60];
+    let mut lines = MemSink::over(&mut room, 60);
+    assert_eq!(rt; fault_line(&fault, "P.EXE", &mut lines), Ok(()));
+    assert_eq!(rt; lines.written(), line.as_bytes());
+    assert_eq!(rt; result, Err(fault));
+    assert!(rt; sink.written().is_empty());
+}
+
 #[test]
-fn faults_of_a_file_are_told(rt: HostRuntime) -> Result<(), Fail> {
-    let rows: [(usize, &[u8], FileFault); 4] = [
-        (0, &[0x5A, 0x4D], FileFault::Magic),
-        (6, &[0x02, 0x00], FileFault::Header),
-        (2, &[0x26, 0x00], FileFault::Truncated),
-        (28, &[0x04, 0x00], FileFault::RelocationOutside),
+fn faults_of_a_file_are_told(rt: HostRuntime) {
+    let rows: [(usize, &[u8], (FileFault, &str)); 4] = [
+        (
+            0,
+            &[0x5A, 0x4D],
+            (FileFault::Magic, "omf: P.EXE: 35 Magic\n"),
+        ),
+        (
+            6,
+            &[0x02, 0x00],
+            (FileFault::Header, "omf: P.EXE: 36 Header\n"),
+        ),
+        (
+            2,
+            &[0x26, 0x00],
+            (FileFault::Truncated, "omf: P.EXE: 37 Truncated\n"),
+        ),
+        (
+            28,
+            &[0x04, 0x00],
+            (
+                FileFault::RelocationOutside,
+                "omf: P.EXE: 38 RelocationOutside\n",
+            ),
+        ),
     ];
-    for (at, bytes, fault) in rows {
+    for (at, bytes, wanted) in rows {
         let mut file = SMALL_FILE;
         for (index, byte) in bytes.iter().enumerate() {
             if let Some(place) = file.get_mut(at.saturating_add(index)) {
                 *place = *byte;
             }
         }
-        let mut source = MemSource::over(&file, 60, None);
-        let mut room = [0u8; 60];
-        let mut sink = MemSink::over(&mut room, 60);
-        let result = load_file(rt.alloc(), &mut source, 0, &mut sink);
-        assert_eq!(rt; result, Err(LinkFault::File(fault)));
-        assert!(rt; sink.written().is_empty());
+        refuses(&rt, rt.alloc(), &file, 0, wanted);
     }
-    let mut source = MemSource::over(&LONG_FILE, 60, None);
-    let mut room = [0u8; 60];
-    let mut sink = MemSink::over(&mut room, 60);
-    let result = load_file(rt.alloc(), &mut source, 0xFFFE, &mut sink);
-    assert_eq!(rt; result, Err(LinkFault::File(FileFault::DoesNotFit)));
-    assert!(rt; sink.written().is_empty());
-    Ok(())
+    let unfit = (FileFault::DoesNotFit, "omf: P.EXE: 39 DoesNotFit\n");
+    refuses(&rt, rt.alloc(), &LONG_FILE, 0xFFFE, unfit);
 }
 
 #[test]
@@ -90,33 +119,6 @@ fn each_failing_device_is_told(rt: HostRuntime) -> Result<(), Fail> {
             assert!(rt; sink.written().is_empty());
         } else {
             assert_eq!(rt; result, Ok(()));
-        }
-    }
-    for n in 0..50usize {
-        let mut source = MemSource::over(&SMALL_FILE, 60, None);
-        let mut room = [0u8; 49];
-        let mut sink = MemSink::over(&mut room[..n.min(49)], 7);
-        let whole = load_file(rt.alloc(), &mut source, 0x1234, &mut sink).is_ok();
-        assert_eq!(rt; whole, n == 49);
-        assert_eq!(rt; sink.written(), &LISTING.as_bytes()[..n.min(49)]);
-    }
-    Ok(())
-}
-
-#[test]
-fn each_refused_growth_is_want_of_memory(rt: HostRuntime) -> Result<(), Fail> {
-    for number in 1..20u64 {
-        let alloc = Refusing::nth(rt.alloc(), number);
-        let mut source = MemSource::over(&SMALL_FILE, 60, None);
-        let mut room = [0u8; 60];
-        let mut sink = MemSink::over(&mut room, 60);
-        let result = load_file(&alloc, &mut source, 0x1234, &mut sink);
-        if alloc.has_refused() {
-            assert!(rt; result == Err(LinkFault::Memory));
-            assert!(rt; sink.written().is_empty());
-        } else {
-            assert!(rt; result == Ok(()));
-            assert_eq!(rt; sink.written(), LISTING.as_bytes());
         }
     }
     Ok(())

@@ -1,7 +1,7 @@
 ghost use Rattle.std.specs.Prelude.{◌≡◌};
 
 use super::*;
-use crate::linking::tests::two_modules;
+use crate::tests::modules::two_modules;
 use crate::linking::{Options, link};
 use omf_frame::{MemSink, MemSource};
 use std::alloc::Global;
