@@ -1,8 +1,8 @@
 ghost use Rattle.std.specs.Prelude.{◌≡◌};
 
 use super::*;
-use crate::tests::modules::two_modules;
 use crate::linking::{Options, link};
+use crate::tests::modules::two_modules;
 use omf_frame::{MemSink, MemSource};
 use std::alloc::Global;
 use std::test::*;
