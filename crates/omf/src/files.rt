@@ -10,6 +10,9 @@ use std::io::{BufReader, BufWriter, ErrorKind, Read, Write};
 use std::rt::Files;
 use std::{fs, io};
 
+/// How many bytes of an input are read at a time. A link has a buffer of this size for each of its files.
+const PIECE: usize = 4096;
+
 /// A file that is read. Where it can't be opened, each read fails.
 #[derive(Drop)]
 pub struct OpenedFile<F> {
@@ -43,7 +46,7 @@ where
     let file = OpenedFile {
         file: fs::open(rt, path).ok(),
     };
-    match BufReader::new(alloc, file) {
+    match BufReader::with_capacity(alloc, PIECE, file) {
         Ok(reader) => Ok(ReadSource::new(reader)),
         Err(_) => Err(AllocError),
     }

@@ -21,9 +21,6 @@ length-piece start i j bs h = simp (length-take, length-drop) (omega arith)
 pub covers_not : (a : ℕ) (d : Datum) → (a < d.start) ⊎ (d.start + length d.bytes ≤ a) → covers a d ≡ false
 covers_not a d h = elim h [ inl l ↦ grind (arith, nat_tests) | inr l ↦ grind (arith, nat_tests) ]
 
-pub nothing_laid : (start : ℕ) (bs image : List ℕ) → IsLaid (front start bs 0) image image
-nothing_laid start bs image = record { sized = refl; each = λ a. sym (cond-false (covers a (front start bs 0)) _ _ (covers_not a (front start bs 0) (elim (cases_lt a start) [ inl l ↦ inl l | inr l ↦ inr (omega arith) ]))) }
-
 -- data laid up to a place, and then the next piece of it
 pub laid_on : (start i j : ℕ) (bs old now new : List ℕ) → i ≤ j → j ≤ length bs → IsLaid (front start bs i) old now → IsLaid (piece start bs i j) now new → IsLaid (front start bs j) old new
 laid_on start i j bs old now new order h first next =
