@@ -1,4 +1,4 @@
--- The file of a program: the header, the relocation table, bytes 00 to a whole paragraph, the image.
+-- The file of a program, as Microsoft published the EXE file: the header, the relocation table, bytes 00 to a whole paragraph, the image.
 use Rattle.std.specs.Prelude.{◌≡◌, ℕ, ◌+◌, ◌-◌, ◌*◌, ◌/◌, ◌%◌, List, ◌++◌, flat_map, replicate, length}
 use Rattle.omf_image.specs.Program.{Program, IsProgram}
 use Rattle.mz.specs.declared.format.Header.{Header}

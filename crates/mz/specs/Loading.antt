@@ -1,4 +1,4 @@
--- The memory after a file was loaded at a paragraph P, and the registers.
+-- The memory after a file was loaded at a paragraph P, and the registers, as Microsoft published the EXE file.
 use Rattle.std.specs.Prelude.{◌≡◌, ℕ, ◌+◌, ◌*◌, ◌%◌, nat_le, if◌then◌else◌, List, map, length, Ok, Err}
 use Rattle.std.specs.declared.result.Result.{Result}
 use Rattle.omf_image.specs.Words.{add_words}

@@ -128,7 +128,7 @@ fn show_command<'a>(alloc: Global) -> Result<Command<'a>, AllocError>
     ensures local { IfOk result (λ c. (fields_of c).has_globals ≡ false) }
 {
     let command = Command::new(alloc, "show").about("Lists the records of an object module");
-    with_arg(command, needed(alloc, "FILE"))
+    with_arg(command, needed(alloc, "FILE").help("The object module"))
 }
 
 fn check_command<'a>(alloc: Global) -> Result<Command<'a>, AllocError>
@@ -136,7 +136,7 @@ fn check_command<'a>(alloc: Global) -> Result<Command<'a>, AllocError>
     ensures local { IfOk result (λ c. (fields_of c).has_globals ≡ false) }
 {
     let command = Command::new(alloc, "check").about("Checks an object module");
-    with_arg(command, needed(alloc, "FILE"))
+    with_arg(command, needed(alloc, "FILE").help("The object module"))
 }
 
 fn rewrite_command<'a>(alloc: Global) -> Result<Command<'a>, AllocError>
@@ -144,8 +144,11 @@ fn rewrite_command<'a>(alloc: Global) -> Result<Command<'a>, AllocError>
     ensures local { IfOk result (λ c. (fields_of c).has_globals ≡ false) }
 {
     let command = Command::new(alloc, "rewrite").about("Writes an object module in canonical form");
-    let command = with_arg(command, needed(alloc, "IN"))?;
-    with_arg(command, needed(alloc, "OUT"))
+    let command = with_arg(command, needed(alloc, "IN").help("The object module"))?;
+    with_arg(
+        command,
+        needed(alloc, "OUT").help("The file that is written"),
+    )
 }
 
 fn link_command<'a>(alloc: Global) -> Result<Command<'a>, AllocError>
@@ -165,8 +168,11 @@ fn load_command<'a>(alloc: Global) -> Result<Command<'a>, AllocError>
     let command = Command::new(alloc, "load").about(
         "Lists a program as it is loaded at a paragraph",
     );
-    let command = with_arg(command, needed(alloc, "FILE"))?;
-    with_arg(command, needed(alloc, "PARAGRAPH"))
+    let command = with_arg(command, needed(alloc, "FILE").help("The program"))?;
+    with_arg(
+        command,
+        needed(alloc, "PARAGRAPH").help("Where it is loaded: four hexadecimal digits"),
+    )
 }
 
 fn with_command<'a>(above: Command<'a>, command: Command<'a>) -> Result<Command<'a>, AllocError>

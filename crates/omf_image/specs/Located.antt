@@ -1,4 +1,4 @@
--- Data at their addresses, and the byte that they give to each address.
+-- Data at their addresses, and the byte that they give to each address (TIS OMF 1.1, LEDATA and LIDATA).
 use Rattle.std.specs.Prelude.{ℕ, ◌+◌, ◌-◌, ◌*◌, Bool, ◌&&◌, ◌||◌, nat_le, nat_lt, List, [], ◌∷◌, map, filter, length, get_or}
 use Rattle.std.specs.List.{list_any}
 

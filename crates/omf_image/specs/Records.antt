@@ -1,4 +1,4 @@
--- The program that modules stand for at a load paragraph.
+-- The program that modules stand for at a load paragraph (TIS OMF 1.1, LEDATA, LIDATA and FIXUPP).
 use Rattle.std.specs.Prelude.{◌≡◌, ℕ, Bool, ◌+◌, ◌<◌, ◌≤◌, ◌==◌, All, List, [], ◌∷◌, ◌++◌, map, filter, flat_map, length, get_or}
 use Rattle.std.specs.List.{range_with_len, list_any}
 use Rattle.omf_record.specs.Expansion.{bytes, places, StandTogether}

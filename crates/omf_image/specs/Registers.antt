@@ -1,4 +1,4 @@
--- The registers at the start, and the faults of the start.
+-- The registers at the start (TIS OMF 1.1, MODEND, and SEGDEF of a stack), and the faults of the start.
 use Rattle.std.specs.Prelude.{ℕ, ◌+◌, ◌-◌, ◌*◌, ◌/◌, ◌%◌, Bool, true, false, not, ◌&&◌, nat_lt, cond, List, [], ◌∷◌, ◌++◌, find, length, slice_get, Option, Some, None}
 use Rattle.std.specs.Option.{option_map_or, option_and_then}
 use Rattle.omf_module.specs.declared.Kind.TheVariants.{Stack}

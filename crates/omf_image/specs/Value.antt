@@ -1,4 +1,4 @@
--- What a fix-up adds at a place, loaded at paragraph P, with the real addresses there.
+-- What a fix-up adds at a place, loaded at paragraph P, with the real addresses there (TIS OMF 1.1, FIXUPP).
 use Rattle.std.specs.Prelude.{ℕ, ◌+◌, ◌*◌, ◌%◌, ℤ, pos, ◌-ℤ◌, unsigned_abs, Bool, true, false, List, [], ◌∷◌}
 use Rattle.std.specs.Int.{int_rem_euclid}
 use Rattle.omf_record.specs.declared.fields.Location.{Location}

@@ -1,4 +1,4 @@
--- What a whole module says. Segments, groups and externals are numbered from 0 in their lists.
+-- What a whole module says (TIS OMF 1.1, the section of each record). Segments, groups and externals are numbered from 0 in their lists.
 use Rattle.std.specs.Prelude.{ℕ, List, Option}
 use Rattle.omf_module.specs.declared.Standing.{Standing}
 use Rattle.omf_module.specs.declared.Base.{Base}

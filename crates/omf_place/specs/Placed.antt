@@ -1,4 +1,4 @@
--- Where the parts start: a relation between the segments and their addresses.
+-- Where the parts start (TIS OMF 1.1, SEGDEF, the alignment): a relation between the segments and their addresses.
 use Rattle.std.specs.Prelude.{◌≡◌, ℕ, ◌+◌, ◌*◌, ◌%◌, ◌<◌, ◌≤◌, max, Bool, true, false, ◌==◌, ◌||◌, not, List, [], ◌∷◌, length, filter, fold, slice_index, if◌then◌else◌}
 use Rattle.omf_module.specs.declared.Kind.{Kind}
 use Rattle.omf_module.specs.declared.Kind.TheVariants.{Stack, Common}
