@@ -5,7 +5,6 @@
 mod cases;
 #[cfg(test)]
 mod growths;
-#[cfg(test)]
-mod laid;
+pub mod laid;
 #[cfg(test)]
 mod large;
