@@ -17,6 +17,5 @@ sink_bytes contents s = writer_contents contents s.writer
 abbrev pub held_back : {W A : Type 0} → BufferedSink W A → List ℕ
 held_back s = writer_buffer s.writer
 
--- how many of its calls failed
-abbrev pub counted_failures : {W A : Type 0} → BufferedSink W A → ℕ
-counted_failures s = s.failures
+abbrev pub sink_failures : {W A : Type 0} → BufferedSink W A → ℕ
+sink_failures s = s.failures

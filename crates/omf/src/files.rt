@@ -2,7 +2,7 @@
 ghost use Rattle.std.specs.Prelude.{All, ◌≡◌, ◌+◌, ◌-◌, ◌^◌, ◌<◌, [], IfOk, None, OnOk, is_ok, length, if◌then◌else◌};
 ghost use Rattle.std.specs.Io.KnownBytes.{Keeps};
 ghost use Rattle.omf_frame.specs.Adapters.{reader_failures};
-ghost use Rattle.omf.specs.Files.{held_back, opened_bytes, sink_bytes, counted_failures};
+ghost use Rattle.omf.specs.Files.{held_back, opened_bytes, sink_bytes, sink_failures};
 
 use omf_frame::{IoFault, ReadSource, Sink};
 use std::alloc::{AllocError, Allocator, Global};
@@ -128,7 +128,7 @@ impl<W: Write + Drop, A: Allocator> BufferedSink<W, A> {
     /// A sink over the writer.
     pub fn new(alloc: A, writer: W) -> Result<BufferedSink<W, A>, AllocError>
         ensures contents { IfOk result (λ s. sink_bytes W.contents s ≡ W.contents writer) }
-        ensures failures { IfOk result (λ s. counted_failures s ≡ 0) }
+        ensures failures { IfOk result (λ s. sink_failures s ≡ 0) }
     {
         match BufWriter::new(alloc, writer) {
             Ok(writer) => Ok(BufferedSink {
@@ -141,8 +141,8 @@ impl<W: Write + Drop, A: Allocator> BufferedSink<W, A> {
 
     /// Hands on what is held back. A failure is one failure of the sink; what it leaves stays held back.
     pub fn flush(&mut self) -> Result<(), IoFault>
-        requires { counted_failures self.old < 2 ^ 64 - 1 }
-        ensures count { counted_failures self.new ≡ counted_failures self.old + (if is_ok result then 0 else 1) }
+        requires { sink_failures self.old < 2 ^ 64 - 1 }
+        ensures count { sink_failures self.new ≡ sink_failures self.old + (if is_ok result then 0 else 1) }
         ensures same { Keeps (sink_bytes W.contents self.old) (sink_bytes W.contents self.new) }
         ensures all { OnOk result (held_back self.new ≡ []) }
     {
@@ -157,7 +157,7 @@ impl<W: Write + Drop, A: Allocator> BufferedSink<W, A> {
 impl<W: Write + Drop, A: Allocator> Sink for BufferedSink<W, A> {
     ghost written = { sink_bytes W.contents };
 
-    ghost failures = { counted_failures };
+    ghost failures = { sink_failures };
 
     fn write_some(&mut self, bytes: &[u8]) -> Result<usize, IoFault> {
         match self.writer.write(bytes) {

@@ -2,7 +2,7 @@
 #![tactic(auto)]
 
 ghost use Rattle.std.specs.Prelude.{◌≡◌, ◌<◌, ◌^◌, ◌-◌, [], Err, OnOk};
-ghost use Rattle.omf.specs.Files.{held_back, counted_failures};
+ghost use Rattle.omf.specs.Files.{held_back, sink_failures};
 ghost use Rattle.omf.specs.Status.{exit_status};
 
 mod files;
@@ -158,10 +158,10 @@ fn flushed<W: Write + Drop, T: Drop>(
     sink: &mut BufferedSink<W>,
     answer: Result<T, LinkFault>,
 ) -> Result<T, LinkFault>
-    requires { counted_failures sink.old < 2 ^ 64 - 1 }
+    requires { sink_failures sink.old < 2 ^ 64 - 1 }
     ensures done { OnOk result (held_back sink.new ≡ []) }
-    ensures kept { counted_failures sink.new ≡ counted_failures sink.old → result ≡ answer }
-    ensures failed { (counted_failures sink.new ≡ counted_failures sink.old → ⊥) → result ≡ Err LinkFault.Output }
+    ensures kept { sink_failures sink.new ≡ sink_failures sink.old → result ≡ answer }
+    ensures failed { (sink_failures sink.new ≡ sink_failures sink.old → ⊥) → result ≡ Err LinkFault.Output }
 {
     match sink.flush() {
         Ok(()) => answer,

@@ -28,13 +28,11 @@ pub fn put<A: Allocator + Copy>(
     Ok(())
 }
 
-/// The module that these bytes begin with.
 pub fn read_bytes<A: Allocator + Copy>(alloc: A, bytes: &[u8]) -> Result<Module<A>, ModuleFault> {
     let mut source = MemSource::over(bytes, 65536, None);
     read_module(alloc, &mut source)
 }
 
-/// The module of these records.
 pub fn read_records<A: Allocator + Copy>(
     alloc: A,
     records: Records<'_>,

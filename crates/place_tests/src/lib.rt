@@ -5,6 +5,7 @@
 mod cases;
 #[cfg(test)]
 mod growths;
-pub mod laid;
+#[cfg(test)]
+mod laid;
 #[cfg(test)]
 mod large;
