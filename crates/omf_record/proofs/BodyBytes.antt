@@ -1,5 +1,5 @@
 -- A body is a list of bytes.
-use Rattle.std.proofs.Common.{◌≡◌, ℕ, zero, suc, ◌<◌, ◌≤◌, ◌/◌, ◌%◌, inl, inr, true, false, List, [], ◌∷◌, ◌++◌, length, Option, Some, None, sym, subst, arith}
+use Rattle.std.proofs.Common.{ℕ, zero, suc, ◌%◌, inl, inr, List, [], ◌∷◌, length, Option, Some, None, sym, subst, arith}
 use Rattle.omf_record.specs.declared.fields.FrameMethod.{FrameMethod}
 use Rattle.omf_record.specs.declared.fields.FrameMethod.TheVariants as frame
 use Rattle.omf_record.specs.declared.fields.TargetMethod.{TargetMethod}
@@ -17,8 +17,8 @@ use Rattle.omf_record.specs.declared.fields.Alignment.{Alignment}
 use Rattle.omf_record.specs.declared.fields.Alignment.TheVariants as align
 use Rattle.omf_record.specs.declared.fields.SegmentLength.{SegmentLength}
 use Rattle.omf_record.specs.declared.fields.SegmentLength.TheVariants as len
-use Rattle.omf_record.specs.Record.{Block, Content, Nested, Blocks, End, More, block_list, External, Public, Record, Theadr, Coment, Modend, Extdef, Pubdef, Linnum, Lnames, Segdef, Grpdef, Fixupp, Ledata, Lidata}
-use Rattle.omf_record.specs.Language.{IsBytes, ◌⋆◌, each, Empty, One, optional, Byte, Word, Where, Index, Name, Bytes, word}
+use Rattle.omf_record.specs.Record.{Block, Content, Nested, block_list, Record, Theadr, Coment, Modend, Extdef, Pubdef, Linnum, Lnames, Segdef, Grpdef, Fixupp, Ledata, Lidata}
+use Rattle.omf_record.specs.Language.{IsBytes, ◌⋆◌, each, Empty, One, optional, Byte, Word, Where, Index, Name, Bytes}
 use Rattle.omf_record.specs.Body.{AbsoluteText, LengthText, SegmentText, ExternalText, BaseText, PublicText, LineText, ComponentText, FrameIndex, TargetIndex, FrameText, TargetText, ReferenceText, SubrecordText, BlockText, Body}
 use Rattle.omf_record.proofs.Laws.{IsBytes-append}
 
@@ -116,7 +116,7 @@ block (suc below) (Nested repeat blocks) = joined (word_bytes repeat) (joined (w
 segment_bytes : (s : _) → OnlyBytes (SegmentText s)
 segment_bytes s = joined (one _) (joined (absolute s.alignment) (joined (length_word s.length) (joined (index s.name) (joined (index s.class) (index s.overlay)))))
 
--- ---- the twelve types
+-- ---- the fourteen types
 
 pub body_bytes : (r : Record) → OnlyBytes (Body r)
 unfolding Body
@@ -124,10 +124,8 @@ body_bytes (Theadr s) = name s
 body_bytes (Coment kind class bytes) = joined (byte kind) (joined (byte class) (these bytes))
 body_bytes (Modend main None) = one _
 body_bytes (Modend main (Some start)) = joined (one _) (reference start)
-body_bytes (Extdef false names) = all ExternalText (λ e. joined (name e.name) (index e.type_index)) names
-body_bytes (Extdef true names) = λ text h. absurd h
-body_bytes (Pubdef false b publics) = joined (base b) (all PublicText (λ p. joined (name p.name) (joined (word_bytes p.offset) (index p.type_index))) publics)
-body_bytes (Pubdef true b publics) = λ text h. absurd h
+body_bytes (Extdef local names) = all ExternalText (λ e. joined (name e.name) (index e.type_index)) names
+body_bytes (Pubdef local b publics) = joined (base b) (all PublicText (λ p. joined (name p.name) (joined (word_bytes p.offset) (index p.type_index))) publics)
 body_bytes (Linnum group segment lines) = joined (index group) (joined (index segment) (all LineText (λ l. joined (word_bytes l.number) (word_bytes l.offset)) lines))
 body_bytes (Lnames names) = all Name name names
 body_bytes (Segdef s) = segment_bytes s

@@ -1,10 +1,11 @@
--- The twelve bodies are read by the laws.
+-- The fourteen bodies are read by the laws.
 use Rattle.std.proofs.Common.{◌≡◌, ◌≢◌, ℕ, ◌+◌, ◌*◌, ◌<◌, inl, inr, Bool, true, false, eqb, ◌||◌, List, [], ◌∷◌, Some, None, Ok, refl, sym, ap, subst, ◌∙◌, arith}
 use Rattle.std.proofs.lemmas.Bool.{eqb-true, eq-eqb}
 use Rattle.omf_record.specs.declared.fields.Reference.{Reference}
 use Rattle.omf_record.specs.declared.fields.Subrecord.{Subrecord}
 use Rattle.omf_record.specs.declared.fields.SegmentDefinition.{SegmentDefinition}
 use Rattle.omf_record.specs.declared.fields.Line.{Line}
+use Rattle.omf_record.specs.declared.fields.PublicBase.TheVariants.{InSegment}
 use Rattle.omf_record.specs.Language.{◌⋆◌, each, One, Byte, Word, Index, Name, Bytes}
 use Rattle.omf_record.specs.Record.{Block, External, Record, Theadr, Coment, Modend, Extdef, Pubdef, Linnum, Lnames, Segdef, Grpdef, Fixupp, Ledata, Lidata}
 use Rattle.omf_record.specs.Numbers.{bit}
@@ -42,16 +43,24 @@ lnames_reads = made_at Nothing (each Name) (BodyOf 0x96) (to_end name_at) Lnames
     of (Pubdef true base publics) text b = absurd (omega (arith, b.0))
     of _ text b = absurd (omega (arith, b.0))
 
-extdef_reads : Reads Nothing (BodyOf 0x8C) extdef_body
+abbrev extdef_kind : Bool → ℕ
+extdef_kind local = kind_of (Extdef local [])
+
+extdef_reads : (local : Bool) → Reads Nothing (BodyOf (extdef_kind local)) (extdef_body local)
 unfolding extdef_body Body
-extdef_reads = made_at Nothing (each ExternalText) (BodyOf 0x8C) (to_end external_at) (Extdef false) (to_end_reads ExternalText external_at external_item external_filled) (λ x text l. (refl, l)) of
+extdef_reads local = made_at Nothing (each ExternalText) (BodyOf (extdef_kind local)) (to_end external_at) (Extdef local) (to_end_reads ExternalText external_at external_item external_filled) (λ x text l. (refl, l)) (of local)
   where
-    of : (y : Record) (text : List ℕ) → BodyOf 0x8C y text → (x : List External) × (y ≡ Extdef false x) × each ExternalText x text
-    of (Extdef false names) text b = (names, refl, b.1)
-    of (Extdef true names) text b = absurd b.1
-    of (Pubdef false base publics) text b = absurd (omega (arith, b.0))
-    of (Pubdef true base publics) text b = absurd (omega (arith, b.0))
-    of _ text b = absurd (omega (arith, b.0))
+    of : (l : Bool) (y : Record) (text : List ℕ) → BodyOf (extdef_kind l) y text → (x : List External) × (y ≡ Extdef l x) × each ExternalText x text
+    of false (Extdef false names) text b = (names, refl, b.1)
+    of false (Extdef true names) text b = absurd (omega (arith, b.0))
+    of false (Pubdef false base publics) text b = absurd (omega (arith, b.0))
+    of false (Pubdef true base publics) text b = absurd (omega (arith, b.0))
+    of false _ text b = absurd (omega (arith, b.0))
+    of true (Extdef false names) text b = absurd (omega (arith, b.0))
+    of true (Extdef true names) text b = (names, refl, b.1)
+    of true (Pubdef false base publics) text b = absurd (omega (arith, b.0))
+    of true (Pubdef true base publics) text b = absurd (omega (arith, b.0))
+    of true _ text b = absurd (omega (arith, b.0))
 
 fixupp_reads : Reads Nothing (BodyOf 0x9C) fixupp_body
 unfolding fixupp_body Body
@@ -84,20 +93,28 @@ Headed H c L = Then H (λ a. Made (c a) L)
 headed_reads : {A B : Type 0} (H : A → List ℕ → Type 0) (h : Reader A) (c : A → B → Record) (L : B → List ℕ → Type 0) (r : Reader B) → Reads Anything H h → Reads Nothing L r → Reads Nothing (Headed H c L) (next h (λ a. mapped (c a) r))
 headed_reads H h c L r head law = next_reads Nothing H h (λ a. Made (c a) L) (λ a. mapped (c a) r) head (λ a front l. made_at Nothing L (Made (c a) L) r (c a) law (λ x text t. (x, refl, t)) (λ y text m. m))
 
-pubdef_reads : Reads Nothing (BodyOf 0x90) pubdef_body
-unfolding pubdef_body Body
-pubdef_reads = same_reads Nothing (Headed BaseText (Pubdef false) (each PublicText)) (BodyOf 0x90) pubdef_body
-    (headed_reads BaseText base_at (Pubdef false) (each PublicText) (to_end public_at) base_reads (to_end_reads PublicText public_at public_item public_filled)) to of
-  where
-    to : (y : Record) (text : List ℕ) → Headed BaseText (Pubdef false) (each PublicText) y text → BodyOf 0x90 y text
-    to y text (base, j) = subst (λ z. BodyOf 0x90 z text) (sym j.second.1) (refl, record { front = j.front; rest = j.rest; parts = j.parts; first = j.first; second = j.second.2 })
+abbrev pubdef_kind : Bool → ℕ
+pubdef_kind local = kind_of (Pubdef local (InSegment 0 0) [])
 
-    of : (y : Record) (text : List ℕ) → BodyOf 0x90 y text → Headed BaseText (Pubdef false) (each PublicText) y text
-    of (Pubdef true base publics) text b = absurd b.1
-    of (Pubdef false base publics) text b = let j = b.1 in (base, record { front = j.front; rest = j.rest; parts = j.parts; first = j.first; second = (publics, refl, j.second) })
-    of (Extdef false names) text b = absurd (omega (arith, b.0))
-    of (Extdef true names) text b = absurd (omega (arith, b.0))
-    of _ text b = absurd (omega (arith, b.0))
+pubdef_reads : (local : Bool) → Reads Nothing (BodyOf (pubdef_kind local)) (pubdef_body local)
+unfolding pubdef_body Body
+pubdef_reads local = same_reads Nothing (Headed BaseText (Pubdef local) (each PublicText)) (BodyOf (pubdef_kind local)) (pubdef_body local)
+    (headed_reads BaseText base_at (Pubdef local) (each PublicText) (to_end public_at) base_reads (to_end_reads PublicText public_at public_item public_filled)) to (of local)
+  where
+    to : (y : Record) (text : List ℕ) → Headed BaseText (Pubdef local) (each PublicText) y text → BodyOf (pubdef_kind local) y text
+    to y text (base, j) = subst (λ z. BodyOf (pubdef_kind local) z text) (sym j.second.1) (refl, record { front = j.front; rest = j.rest; parts = j.parts; first = j.first; second = j.second.2 })
+
+    of : (l : Bool) (y : Record) (text : List ℕ) → BodyOf (pubdef_kind l) y text → Headed BaseText (Pubdef l) (each PublicText) y text
+    of false (Pubdef false base publics) text b = let j = b.1 in (base, record { front = j.front; rest = j.rest; parts = j.parts; first = j.first; second = (publics, refl, j.second) })
+    of false (Pubdef true base publics) text b = absurd (omega (arith, b.0))
+    of false (Extdef false names) text b = absurd (omega (arith, b.0))
+    of false (Extdef true names) text b = absurd (omega (arith, b.0))
+    of false _ text b = absurd (omega (arith, b.0))
+    of true (Pubdef true base publics) text b = let j = b.1 in (base, record { front = j.front; rest = j.rest; parts = j.parts; first = j.first; second = (publics, refl, j.second) })
+    of true (Pubdef false base publics) text b = absurd (omega (arith, b.0))
+    of true (Extdef false names) text b = absurd (omega (arith, b.0))
+    of true (Extdef true names) text b = absurd (omega (arith, b.0))
+    of true _ text b = absurd (omega (arith, b.0))
 
 grpdef_reads : Reads Nothing (BodyOf 0x9A) grpdef_body
 unfolding grpdef_body Body
@@ -275,17 +292,19 @@ body_reads k ok =
     if_reads Nothing (BodyOf k) (eqb k 0x80) _ _ (at_kind k 0x80 theadr_body theadr_reads) (λ n1.
     if_reads Nothing (BodyOf k) (eqb k 0x88) _ _ (at_kind k 0x88 coment_body coment_reads) (λ n2.
     if_reads Nothing (BodyOf k) (eqb k 0x8A) _ _ (at_kind k 0x8A modend_body modend_reads) (λ n3.
-    if_reads Nothing (BodyOf k) (eqb k 0x8C) _ _ (at_kind k 0x8C extdef_body extdef_reads) (λ n4.
-    if_reads Nothing (BodyOf k) (eqb k 0x90) _ _ (at_kind k 0x90 pubdef_body pubdef_reads) (λ n5.
+    if_reads Nothing (BodyOf k) (eqb k 0x8C) _ _ (at_kind k 0x8C (extdef_body false) (extdef_reads false)) (λ n4.
+    if_reads Nothing (BodyOf k) (eqb k 0x90) _ _ (at_kind k 0x90 (pubdef_body false) (pubdef_reads false)) (λ n5.
     if_reads Nothing (BodyOf k) (eqb k 0x94) _ _ (at_kind k 0x94 linnum_body linnum_reads) (λ n6.
     if_reads Nothing (BodyOf k) (eqb k 0x96) _ _ (at_kind k 0x96 lnames_body lnames_reads) (λ n7.
     if_reads Nothing (BodyOf k) (eqb k 0x98) _ _ (at_kind k 0x98 segdef_body segdef_reads) (λ n8.
     if_reads Nothing (BodyOf k) (eqb k 0x9A) _ _ (at_kind k 0x9A grpdef_body grpdef_reads) (λ n9.
     if_reads Nothing (BodyOf k) (eqb k 0x9C) _ _ (at_kind k 0x9C fixupp_body fixupp_reads) (λ n10.
     if_reads Nothing (BodyOf k) (eqb k 0xA0) _ _ (at_kind k 0xA0 ledata_body ledata_reads) (λ n11.
-    at_kind k 0xA2 lidata_body lidata_reads
-    (or_not (eqb k 0x80 || eqb k 0x88 || eqb k 0x8A || eqb k 0x8C || eqb k 0x90 || eqb k 0x94 || eqb k 0x96 || eqb k 0x98 || eqb k 0x9A || eqb k 0x9C || eqb k 0xA0) (eqb k 0xA2) ok
-    (or_false _ _ (or_false _ _ (or_false _ _ (or_false _ _ (or_false _ _ (or_false _ _ (or_false _ _ (or_false _ _ (or_false _ _ (or_false _ _ n1 n2) n3) n4) n5) n6) n7) n8) n9) n10) n11)))))))))))))
+    if_reads Nothing (BodyOf k) (eqb k 0xA2) _ _ (at_kind k 0xA2 lidata_body lidata_reads) (λ n12.
+    if_reads Nothing (BodyOf k) (eqb k 0xB4) _ _ (at_kind k 0xB4 (extdef_body true) (extdef_reads true)) (λ n13.
+    at_kind k 0xB6 (pubdef_body true) (pubdef_reads true)
+    (or_not (eqb k 0x80 || eqb k 0x88 || eqb k 0x8A || eqb k 0x8C || eqb k 0x90 || eqb k 0x94 || eqb k 0x96 || eqb k 0x98 || eqb k 0x9A || eqb k 0x9C || eqb k 0xA0 || eqb k 0xA2 || eqb k 0xB4) (eqb k 0xB6) ok
+    (or_false _ _ (or_false _ _ (or_false _ _ (or_false _ _ (or_false _ _ (or_false _ _ (or_false _ _ (or_false _ _ (or_false _ _ (or_false _ _ (or_false _ _ (or_false _ _ n1 n2) n3) n4) n5) n6) n7) n8) n9) n10) n11) n12) n13)))))))))))))))
 
 -- the type has a record
 pub has_record : (k : ℕ) → is_record_kind k ≡ true → IsRecordType k
@@ -307,16 +326,16 @@ modend_else (a ∷ bytes) b rest e ok ne =
     not_true true h = absurd (ne (eqb-true (bits 6 6 b) 1 h))
     not_true false h = h
 
--- the type of a record that has a body is one of the twelve
+-- the type of a record that has a body is one of the fourteen
 pub kind_ok : (r : Record) (body : List ℕ) → Body r body → is_record_kind (kind_of r) ≡ true
 unfolding Body
 kind_ok (Theadr name) body b = refl
 kind_ok (Coment kind class bytes) body b = refl
 kind_ok (Modend main start) body b = refl
 kind_ok (Extdef false names) body b = refl
-kind_ok (Extdef true names) body b = absurd b
+kind_ok (Extdef true names) body b = refl
 kind_ok (Pubdef false base publics) body b = refl
-kind_ok (Pubdef true base publics) body b = absurd b
+kind_ok (Pubdef true base publics) body b = refl
 kind_ok (Linnum group segment lines) body b = refl
 kind_ok (Lnames names) body b = refl
 kind_ok (Segdef segment) body b = refl

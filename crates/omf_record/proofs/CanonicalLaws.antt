@@ -90,10 +90,8 @@ canonical_shortest (Coment kind class bytes) = joined_shortest (Byte kind) (Byte
 canonical_shortest (Modend main None) = λ text o. let s = bit_small main in ((128 * bit main, omega arith, omega arith, refl), omega (arith, ap length o.3))
 canonical_shortest (Modend main (Some start)) = one_shortest (λ b. (bits 7 6 b ≡ 2 * bit main + 1) × (bits 0 0 b ≡ 1)) (ReferenceText start) (128 * bit main + 65) (canon.reference start)
     (λ a lt p. let s = bit_small main in (omega arith, (omega arith, omega arith))) (reference_shortest start)
-canonical_shortest (Extdef false names) = each_shortest ExternalText canon.external names external_shortest
-canonical_shortest (Extdef true names) = λ text l. absurd l
-canonical_shortest (Pubdef false base publics) = joined_shortest (BaseText base) (each PublicText publics) _ _ (base_shortest base) (each_shortest PublicText canon.public publics public_shortest)
-canonical_shortest (Pubdef true base publics) = λ text l. absurd l
+canonical_shortest (Extdef local names) = each_shortest ExternalText canon.external names external_shortest
+canonical_shortest (Pubdef local base publics) = joined_shortest (BaseText base) (each PublicText publics) _ _ (base_shortest base) (each_shortest PublicText canon.public publics public_shortest)
 canonical_shortest (Linnum group segment lines) = joined_shortest (Index group) _ _ _ (index_shortest group) (joined_shortest (Index segment) (each LineText lines) _ _ (index_shortest segment) (each_shortest LineText canon.line lines line_shortest))
 canonical_shortest (Lnames names) = each_shortest Name canon.name names name_shortest
 canonical_shortest (Segdef s) = segment_shortest s

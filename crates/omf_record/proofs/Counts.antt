@@ -325,7 +325,7 @@ block_counts (suc below) (Nested repeat blocks) =
     subst (λ n. Counts (NestedText below repeat blocks) (canon.block (Nested repeat blocks)) (counts_room repeat (suc below) (length (block_list blocks)) ▹ blocks_room blocks n)) (sym down)
     (nested_counts below repeat blocks (all_blocks_counts below (block_counts below) blocks))
 
--- ---- the twelve types
+-- ---- the fourteen types
 
 pub record_counts : (r : Record) → Counts (Body r) (canonical r) (record_room r)
 unfolding Body canonical record_room
@@ -334,10 +334,8 @@ record_counts (Coment kind class bytes) = joined (Byte kind) (Byte class ⋆ Byt
 record_counts (Modend main None) = let s = bit_small main in one_counts (λ b. bits 7 6 b ≡ 2 * bit main) (128 * bit main) (omega arith, omega arith)
 record_counts (Modend main (Some start)) = let s = bit_small main in joined (One (λ b. (bits 7 6 b ≡ 2 * bit main + 1) × (bits 0 0 b ≡ 1))) (ReferenceText start) ((128 * bit main + 65) ∷ []) (canon.reference start) (taking 1) (reference_room start)
     (one_counts (λ b. (bits 7 6 b ≡ 2 * bit main + 1) × (bits 0 0 b ≡ 1)) (128 * bit main + 65) (omega arith, (omega arith, omega arith))) (reference_counts start)
-record_counts (Extdef false names) = each_counts ExternalText canon.external external_room external_counts names
-record_counts (Extdef true names) = nothing (λ text. ⊥) _ (λ text l. l)
-record_counts (Pubdef false base publics) = joined (BaseText base) (each PublicText publics) (canon.base base) (flat_map canon.public publics) (base_room base) _ (base_counts base) (each_counts PublicText canon.public public_room public_counts publics)
-record_counts (Pubdef true base publics) = nothing (λ text. ⊥) _ (λ text l. l)
+record_counts (Extdef local names) = each_counts ExternalText canon.external external_room external_counts names
+record_counts (Pubdef local base publics) = joined (BaseText base) (each PublicText publics) (canon.base base) (flat_map canon.public publics) (base_room base) _ (base_counts base) (each_counts PublicText canon.public public_room public_counts publics)
 record_counts (Linnum group segment lines) = joined (Index group) (Index segment ⋆ each LineText lines) (canon.index group) (canon.index segment ++ flat_map canon.line lines) (index_room group) _ (index_counts group)
     (joined (Index segment) (each LineText lines) (canon.index segment) (flat_map canon.line lines) (index_room segment) _ (index_counts segment) (each_counts LineText canon.line line_room line_counts lines))
 record_counts (Lnames names) = each_counts Name canon.name name_room name_counts names

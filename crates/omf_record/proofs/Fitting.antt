@@ -1,5 +1,5 @@
 -- What has a text fits.
-use Rattle.std.proofs.Common.{◌≡◌, ℕ, zero, suc, ◌<◌, ◌≤◌, inl, inr, true, false, List, [], ◌∷◌, length, get_or, map, All, Some, None, sym, ap, subst, ◌∙◌, arith}
+use Rattle.std.proofs.Common.{◌≡◌, ℕ, zero, suc, ◌<◌, ◌≤◌, inl, inr, List, [], ◌∷◌, length, get_or, map, All, Some, None, sym, ap, subst, ◌∙◌, arith}
 use Rattle.std.specs.List.{AllByRecursion}
 use Rattle.std.proofs.lemmas.List.{get_or-map, length-map}
 use Rattle.std.proofs.lemmas.List.Elements.{All-from_recursion}
@@ -112,10 +112,8 @@ record_fits (Theadr name) text l = l.0
 record_fits (Coment kind class bytes) text l = tt
 record_fits (Modend main None) text l = tt
 record_fits (Modend main (Some start)) text l = reference_fits start l.rest l.second
-record_fits (Extdef false names) text l = all_fit ExternalText ExternalFits external_fits names text l
-record_fits (Extdef true names) text l = absurd l
-record_fits (Pubdef false base publics) text l = (base_fits base l.front l.first, all_fit PublicText PublicFits public_fits publics l.rest l.second)
-record_fits (Pubdef true base publics) text l = absurd l
+record_fits (Extdef local names) text l = all_fit ExternalText ExternalFits external_fits names text l
+record_fits (Pubdef local base publics) text l = (base_fits base l.front l.first, all_fit PublicText PublicFits public_fits publics l.rest l.second)
 record_fits (Linnum group segment lines) text l = (index_fits group l.front l.first, index_fits segment l.second.front l.second.first)
 record_fits (Lnames names) text l = all_fit Name (λ name. length name ≤ 255) name_fits names text l
 record_fits (Segdef segment) text l = segment_fits segment text l

@@ -19,7 +19,10 @@ pub mod Fitting
 pub mod Rooms
 pub mod Counts
 pub mod Searched
+pub mod Places
 pub mod Together
+pub mod Copies
+pub mod Doubling
 pub mod Periodic
 pub mod Laid
 pub mod BodyBytes

@@ -1,5 +1,5 @@
 -- What repeated data stands for: each byte with the place at which it is stored (TIS OMF 1.1, LIDATA).
-use Rattle.std.specs.Prelude.{◌≡◌, ℕ, zero, suc, ◌+◌, ◌*◌, ◌<◌, ◌≤◌, List, [], ◌∷◌, ◌++◌, length, get_or, map, min, ◌⊎◌}
+use Rattle.std.specs.Prelude.{◌≡◌, ℕ, zero, suc, ◌+◌, ◌-◌, ◌*◌, ◌<◌, ◌≤◌, List, [], ◌∷◌, ◌++◌, length, get_or, map, min, ◌⊎◌}
 use Rattle.omf_record.specs.Record.{Block, Content, Nested, Blocks, End, More, blocks_of, Record, Theadr, Coment, Modend, Extdef, Pubdef, Linnum, Lnames, Segdef, Grpdef, Fixupp, Ledata, Lidata}
 
 -- bytes with their places, the first of which is given
@@ -105,3 +105,13 @@ LiesInOne at width (content ∷ others) = LiesIn at width content ⊎ LiesInOne 
 abbrev pub StandTogether : ℕ → ℕ → List ℕ → Type 0
 StandTogether at width places =
     (i k : ℕ) → i < length places → get_or places i 0 ≡ at → k < width → (i + k < length places) × (get_or places (i + k) 0 ≡ at + k)
+
+-- each byte that was stored at one of so many places from `at` on stands in a whole copy of them
+abbrev pub StandWhole : ℕ → ℕ → List ℕ → Type 0
+StandWhole at width places =
+    (i k : ℕ) → i < length places → k < width → get_or places i 0 ≡ at + k → (k ≤ i) × (get_or places (i - k) 0 ≡ at)
+
+-- bytes that were stored at one place are one byte
+abbrev pub AreCopies : List (ℕ × ℕ) → Type 0
+AreCopies pairs = (i j : ℕ) → i < length pairs → j < length pairs → get_or (places pairs) i 0 ≡ get_or (places pairs) j 0
+    → get_or (bytes pairs) i 0 ≡ get_or (bytes pairs) j 0

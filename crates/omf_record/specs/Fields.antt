@@ -166,11 +166,11 @@ theadr_body = mapped Theadr (ending name_at)
 unfoldable pub lnames_body : Reader Record
 lnames_body = mapped Lnames (to_end name_at)
 
-unfoldable pub extdef_body : Reader Record
-extdef_body = mapped (Extdef false) (to_end external_at)
+unfoldable pub extdef_body : Bool → Reader Record
+extdef_body local = mapped (Extdef local) (to_end external_at)
 
-unfoldable pub pubdef_body : Reader Record
-pubdef_body = next base_at (λ base. mapped (Pubdef false base) (to_end public_at))
+unfoldable pub pubdef_body : Bool → Reader Record
+pubdef_body local = next base_at (λ base. mapped (Pubdef local base) (to_end public_at))
 
 unfoldable pub segdef_body : Reader Record
 segdef_body = mapped Segdef (ending segment_at)
@@ -201,12 +201,13 @@ modend_body = next (byte_if is_attribute) (λ b. if bits 6 6 b == 1 then mapped 
 
 -- ---- by type
 
--- one of the twelve types
+-- one of the fourteen types
 abbrev pub is_record_kind : ℕ → Bool
-is_record_kind k = (k == 0x80) || (k == 0x88) || (k == 0x8A) || (k == 0x8C) || (k == 0x90) || (k == 0x94) || (k == 0x96) || (k == 0x98) || (k == 0x9A) || (k == 0x9C) || (k == 0xA0) || (k == 0xA2)
+is_record_kind k = (k == 0x80) || (k == 0x88) || (k == 0x8A) || (k == 0x8C) || (k == 0x90) || (k == 0x94) || (k == 0x96) || (k == 0x98) || (k == 0x9A) || (k == 0x9C) || (k == 0xA0) || (k == 0xA2) || (k == 0xB4) || (k == 0xB6)
 
 unfoldable pub body_at : ℕ → Reader Record
 body_at k =
-    if k == 0x80 then theadr_body else if k == 0x88 then coment_body else if k == 0x8A then modend_body else if k == 0x8C then extdef_body
-    else if k == 0x90 then pubdef_body else if k == 0x94 then linnum_body else if k == 0x96 then lnames_body else if k == 0x98 then segdef_body
-    else if k == 0x9A then grpdef_body else if k == 0x9C then fixupp_body else if k == 0xA0 then ledata_body else lidata_body
+    if k == 0x80 then theadr_body else if k == 0x88 then coment_body else if k == 0x8A then modend_body else if k == 0x8C then extdef_body false
+    else if k == 0x90 then pubdef_body false else if k == 0x94 then linnum_body else if k == 0x96 then lnames_body else if k == 0x98 then segdef_body
+    else if k == 0x9A then grpdef_body else if k == 0x9C then fixupp_body else if k == 0xA0 then ledata_body else if k == 0xA2 then lidata_body
+    else if k == 0xB4 then extdef_body true else pubdef_body true

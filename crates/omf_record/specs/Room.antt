@@ -147,7 +147,7 @@ abbrev mutual
   blocks_room End below = empty
   blocks_room (More b bs) below = block_room b below ▹ blocks_room bs below
 
--- ---- the twelve types
+-- ---- the fourteen types
 
 abbrev pub modend_room : Option Reference → Room
 modend_room None = taking 1
@@ -157,8 +157,8 @@ unfoldable pub record_room : Record → Room
 record_room (Theadr name) = name_room name
 record_room (Coment kind class bytes) = byte_room kind ▹ byte_room class ▹ bytes_room bytes
 record_room (Modend main start) = modend_room start
-record_room (Extdef local names) = if local then no_text else each_room external_room names
-record_room (Pubdef local base publics) = if local then no_text else base_room base ▹ each_room public_room publics
+record_room (Extdef local names) = each_room external_room names
+record_room (Pubdef local base publics) = base_room base ▹ each_room public_room publics
 record_room (Linnum group segment lines) = index_room group ▹ index_room segment ▹ each_room line_room lines
 record_room (Lnames names) = each_room name_room names
 record_room (Segdef segment) = segment_room segment

@@ -1,7 +1,7 @@
 //! Repeated data: its contents.
 
 ghost use Rattle.std.specs.Prelude.{◌≡◌, ◌↔◌, IsTrue, map};
-ghost use Rattle.omf_record.specs.Expansion.{expansion, places, contents, LiesInOne, StandTogether};
+ghost use Rattle.omf_record.specs.Expansion.{expansion, places, contents, LiesInOne, StandTogether, StandWhole};
 ghost use Rattle.omf_record.specs.Record.{blocks_of};
 ghost use Rattle.omf_record.specs.Searching.{content_search, blocks_search};
 ghost use Rattle.omf_record.specs.View.{block_view};
@@ -64,6 +64,8 @@ pub fn place_in_content<A: Allocator + Copy>(blocks: &[Block<'_, A>], at: u16, w
     ensures exact { IsTrue result ↔ LiesInOne at width (contents (map block_view blocks.now)) }
     // Wherever the expansion has a byte that is stored at `at`, the bytes of the other places follow it.
     ensures together { IsTrue result → StandTogether at width (places (expansion (map block_view blocks.now))) }
+    // And each byte of the expansion that is stored at one of the places stands in a whole copy of them.
+    ensures whole { IsTrue result → StandWhole at width (places (expansion (map block_view blocks.now))) }
 {
     matches!(
         find_place(blocks, usize::from(at), usize::from(width)),

@@ -9,12 +9,21 @@ use crate::record::Block;
 use std::alloc::Allocator;
 
 /// Gives each item from `len` on the value of the one that stands `len` before it.
+///
+/// What is laid doubles in each turn.
 fn repeat_front<T: Copy>(items: &mut [T], len: usize)
     ensures front { (k : ℕ) (d : T) → k < len → slice_index_or items.new k d ≡ slice_index_or items.old k d }
     ensures period { (k : ℕ) (d : T) → len ≤ k → k < length items.new → slice_index_or items.new k d ≡ slice_index_or items.new (k - len) d }
 {
-    for i in len..items.len() {
-        items[i] = items[i - len];
+    if len == 0 {
+        return;
+    }
+    let mut laid = len;
+    while laid < items.len() {
+        let (front, rest) = items.split_at_mut(laid);
+        let count = front.len().min(rest.len());
+        rest[..count].copy_from_slice(&front[..count]);
+        laid += count;
     }
 }
 

@@ -19,7 +19,7 @@ use thiserror::Error;
 pub enum RecordFault {
     #[error("out of memory")]
     Memory,
-    /// The type isn't one of the twelve.
+    /// The type isn't one of the fourteen.
     #[error("the type of the record isn't known")]
     OtherType,
     /// The body isn't one of its type: the length of its longest front that zeros complete.
@@ -52,6 +52,8 @@ fn is_record_kind(kind: u8) -> bool
         || kind == 0x9C
         || kind == 0xA0
         || kind == 0xA2
+        || kind == 0xB4
+        || kind == 0xB6
 }
 
 fn record_in<'a, A: Allocator + Copy + 'a>(

@@ -1,4 +1,4 @@
-//! Reading the bodies of the twelve types.
+//! Reading the bodies of the fourteen types.
 
 ghost use Rattle.std.specs.Prelude.{◌≡◌, ◌≤◌, ◌<◌, ◌+◌, ℕ, List, [], Result, Some, None, length, map};
 ghost use Rattle.omf_record.specs.Reading.{Gives, Reader, ended, ending, to_end, times, Moves};
@@ -136,13 +136,17 @@ fn lnames_of<A: Allocator + Copy>(alloc: A, bytes: &[u8]) -> Result<Record<'_, A
 }
 
 #[tactic(auto, using(crate::proofs::Items::public_moves), unfolding(crate::specs::Fields::pubdef_body, crate::specs::View::view))]
-fn pubdef_of<A: Allocator + Copy>(alloc: A, bytes: &[u8]) -> Result<Record<'_, A>, ReadError<'_>>
-    ensures { Gives (λ r. (view r, [])) result (pubdef_body bytes.now) }
+fn pubdef_of<A: Allocator + Copy>(
+    alloc: A,
+    local: bool,
+    bytes: &[u8],
+) -> Result<Record<'_, A>, ReadError<'_>>
+    ensures { Gives (λ r. (view r, [])) result (pubdef_body local bytes.now) }
 {
     let (base, rest) = base_of(bytes)?;
     let publics = items_to_end(alloc, rest)?;
     Ok(Record::Pubdef {
-        local: false,
+        local,
         base,
         publics,
     })
@@ -239,14 +243,15 @@ impl<'a, A: Allocator + Copy> Item<'a, A> for Block<'a, A> {
 }
 
 #[tactic(auto, using(crate::proofs::Items::external_moves), unfolding(crate::specs::Fields::extdef_body, crate::specs::View::view))]
-fn extdef_of<A: Allocator + Copy>(alloc: A, bytes: &[u8]) -> Result<Record<'_, A>, ReadError<'_>>
-    ensures { Gives (λ r. (view r, [])) result (extdef_body bytes.now) }
+fn extdef_of<A: Allocator + Copy>(
+    alloc: A,
+    local: bool,
+    bytes: &[u8],
+) -> Result<Record<'_, A>, ReadError<'_>>
+    ensures { Gives (λ r. (view r, [])) result (extdef_body local bytes.now) }
 {
     let names = items_to_end(alloc, bytes)?;
-    Ok(Record::Extdef {
-        local: false,
-        names,
-    })
+    Ok(Record::Extdef { local, names })
 }
 
 #[tactic(auto, using(crate::proofs::Items::line_moves), unfolding(crate::specs::Fields::linnum_body, crate::specs::View::view))]
@@ -363,14 +368,16 @@ pub fn record_of<'a, A: Allocator + Copy + 'a>(
         0x80 => theadr_of(bytes),
         0x88 => coment_of(bytes),
         0x8A => modend_of(bytes),
-        0x8C => extdef_of(alloc, bytes),
-        0x90 => pubdef_of(alloc, bytes),
+        0x8C => extdef_of(alloc, false, bytes),
+        0x90 => pubdef_of(alloc, false, bytes),
         0x94 => linnum_of(alloc, bytes),
         0x96 => lnames_of(alloc, bytes),
         0x98 => segdef_of(bytes),
         0x9A => grpdef_of(alloc, bytes),
         0x9C => fixupp_of(alloc, bytes),
         0xA0 => ledata_of(bytes),
-        _ => lidata_of(alloc, bytes),
+        0xA2 => lidata_of(alloc, bytes),
+        0xB4 => extdef_of(alloc, true, bytes),
+        _ => pubdef_of(alloc, true, bytes),
     }
 }

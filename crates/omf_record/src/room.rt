@@ -340,14 +340,9 @@ fn after_record<A: Allocator + Copy>(record: &Record<'_, A>, room: usize) -> Opt
             after_bytes(bytes, room)
         }
         Record::Modend { main: _, start } => after_modend(start, room),
-        Record::Extdef { local: true, .. } => None,
-        Record::Extdef {
-            local: false,
-            names,
-        } => after_each(names, room),
-        Record::Pubdef { local: true, .. } => None,
+        Record::Extdef { local: _, names } => after_each(names, room),
         Record::Pubdef {
-            local: false,
+            local: _,
             base,
             publics,
         } => after_each(publics, after_base(*base, room)?),

@@ -7,14 +7,14 @@ use omf_record::{
 use std::alloc::AllocError;
 use std::test::*;
 
-/// The types of the twelve records.
-const KINDS: [u8; 12] = [
-    0x80, 0x88, 0x8A, 0x8C, 0x90, 0x94, 0x96, 0x98, 0x9A, 0x9C, 0xA0, 0xA2,
+/// The types of the fourteen records.
+const KINDS: [u8; 14] = [
+    0x80, 0x88, 0x8A, 0x8C, 0x90, 0x94, 0x96, 0x98, 0x9A, 0x9C, 0xA0, 0xA2, 0xB4, 0xB6,
 ];
 
 #[test]
 fn bodies_that_are_accepted(rt: HostRuntime) {
-    let rows: [(u8, &[u8], &[u8]); 12] = [
+    let rows: [(u8, &[u8], &[u8]); 14] = [
         (0x8A, &[0x3E], &[0x00]),
         (0x98, &[0x2A, 0, 0, 2, 1, 1], &[0x2A, 0, 0, 2, 1, 1]),
         (0x98, &[0x28, 5, 0, 0x80, 2, 1, 1], &[0x28, 5, 0, 2, 1, 1]),
@@ -39,6 +39,12 @@ fn bodies_that_are_accepted(rt: HostRuntime) {
         ),
         (0x8A, &[0xFF, 0x44, 0x81, 0x00], &[0xC1, 0x44, 0x81, 0x00]),
         (0x88, &[1, 2, 3], &[1, 2, 3]),
+        (0xB4, &[1, 0x78, 0x80, 7, 0, 0], &[1, 0x78, 7, 0, 0]),
+        (
+            0xB6,
+            &[0, 0x80, 1, 1, 0x78, 0x10, 0, 0],
+            &[0, 1, 1, 0x78, 0x10, 0, 0],
+        ),
     ];
     for (kind, body, canonical) in rows {
         let mut out = Vec::new(rt.alloc());
@@ -53,7 +59,7 @@ fn bodies_that_are_accepted(rt: HostRuntime) {
 
 #[test]
 fn bodies_at_fault(rt: HostRuntime) {
-    let rows: [(u8, &[u8], Rewritten); 13] = [
+    let rows: [(u8, &[u8], Rewritten); 15] = [
         (0x8A, &[0xC0, 0, 1, 1, 0, 0], Rewritten::Body { at: 0 }),
         (0x98, &[0x2A, 5, 0, 2, 1, 1], Rewritten::Body { at: 1 }),
         (0x98, &[0x28, 5, 0, 2, 1, 1, 0], Rewritten::Body { at: 6 }),
@@ -68,9 +74,11 @@ fn bodies_at_fault(rt: HostRuntime) {
             &[1, 0, 0, 1, 0, 0xFF, 0xFF],
             Rewritten::Body { at: 7 },
         ),
+        (0xB4, &[1, 0x78], Rewritten::Body { at: 2 }),
+        (0xB6, &[0, 1, 1, 0x78, 0x10], Rewritten::Body { at: 5 }),
         (0x70, &[0], Rewritten::OtherType),
-        (0xB4, &[0], Rewritten::OtherType),
-        (0xB6, &[0, 1, 0], Rewritten::OtherType),
+        (0xB5, &[0], Rewritten::OtherType),
+        (0xB7, &[0, 1, 0], Rewritten::OtherType),
     ];
     for (kind, body, answer) in rows {
         let mut out = Vec::new(rt.alloc());
@@ -206,6 +214,25 @@ fn what_is_read(rt: HostRuntime) {
     }
 }
 
+/// Local names are told from others by the type alone.
+#[test]
+fn local_names_are_read(rt: HostRuntime) {
+    for (kind, is_local) in [(0x8C, false), (0xB4, true)] {
+        let frame = omf_frame::Frame::new(0, kind, &[1, 0x78, 7]);
+        let read = parse_record(rt.alloc(), &frame);
+        let is_read =
+            matches!(&read, Ok(Record::Extdef { local, names }) if *local == is_local && names.len() == 1);
+        assert!(rt; is_read, "{kind}");
+    }
+    for (kind, is_local) in [(0x90, false), (0xB6, true)] {
+        let frame = omf_frame::Frame::new(0, kind, &[0, 1, 1, 0x78, 0x10, 0, 0]);
+        let read = parse_record(rt.alloc(), &frame);
+        let is_read =
+            matches!(&read, Ok(Record::Pubdef { local, publics, .. }) if *local == is_local && publics.len() == 1);
+        assert!(rt; is_read, "{kind}");
+    }
+}
+
 #[test]
 fn values_without_a_body(rt: HostRuntime) -> Result<(), Fail> {
     let long = [0u8; 256];
@@ -225,14 +252,7 @@ fn values_without_a_body(rt: HostRuntime) -> Result<(), Fail> {
             name: 32768,
             segments: Vec::new(rt.alloc()),
         },
-        Record::Extdef {
-            local: true,
-            names: Vec::new(rt.alloc()),
-        },
-        Record::Extdef {
-            local: false,
-            names,
-        },
+        Record::Extdef { local: true, names },
         Record::Pubdef {
             local: false,
             base: PublicBase::InSegment {

@@ -56,6 +56,8 @@ pub fn encode_if_fits<A: Allocator + Copy>(record: &Record<'_, A>, out: &mut Vec
 #[cfg(test)]
 mod bodies;
 #[cfg(test)]
+mod devices;
+#[cfg(test)]
 mod growths;
 #[cfg(test)]
 mod repeated;
