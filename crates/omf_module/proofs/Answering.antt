@@ -1,5 +1,5 @@
 -- What the reader answers, after each outcome of one more record.
-use Rattle.std.proofs.Common.{◌≡◌, ℕ, ◌+◌, ◌<◌, true, false, List, [], ◌∷◌, ◌++◌, length, None, Some, Ok, Err, Result, refl, sym, ap, subst, ◌∙◌, arith, length-append}
+use Rattle.std.proofs.Common.{◌≡◌, ℕ, ◌+◌, ◌<◌, true, false, List, [], ◌∷◌, ◌++◌, length, None, Some, Ok, Err, Result, refl, sym, ap, subst, ◌∙◌, arith, length-append, inl, inr}
 use Rattle.std.proofs.lemmas.Option.{IfSome_then}
 use Rattle.std.specs.declared.option.Option.{Option}
 use Rattle.std.specs.Prelude.{IfSome}
@@ -8,7 +8,7 @@ use Rattle.omf_frame.specs.Frame.{Frame, Framed, frame_at, place_limit}
 use Rattle.omf_frame.specs.Reading.{TakesWhole, IsAt, Gives}
 use Rattle.omf_frame.specs.Reading as framing_of
 use Rattle.omf_frame.specs.Lending.{plain_frame}
-use Rattle.omf_frame.proofs.Told.{none_taken, within_whole}
+use Rattle.omf_frame.proofs.Told.{Keeps-refl}
 use Rattle.omf_frame.specs.declared.frame.Frame as lent
 use Rattle.omf_frame.specs.declared.reading.FrameFault.{FrameFault}
 use Rattle.omf_frame.specs.declared.reading.FrameFault.TheVariants as frame
@@ -40,7 +40,7 @@ always (Some x) = tt
 
 pub no_memory : (a : Option (List ℕ)) → reads a a (Err fault.Memory)
 unfolding Reads
-no_memory a = ([], [], a, begun a, none_taken a)
+no_memory a = ([], [], a, begun a, inl (Keeps-refl a))
 
 -- behind a sound beginning
 module _ (rs : List Placed) (front : List ℕ) (a b c : Option (List ℕ)) (t : Took rs front a b) where
@@ -92,7 +92,7 @@ module _ (rs : List Placed) (front : List ℕ) (a b c : Option (List ℕ)) (t : 
 
     no_more : reads a c (Err fault.Memory)
     unfolding Reads
-    no_more = (rs, front, b, t, within_whole b c stands)
+    no_more = (rs, front, b, t, inr stands)
 
     pub refuses : (u : State) (e : ModuleFault) → TakesRecord f.kind f.body f.place s u (Err e) → reads a c (Err e)
     refuses u fault.Memory h = no_more

@@ -2,6 +2,7 @@
 use Rattle.std.proofs.Common.{ℕ, zero, suc, ◌+◌, ◌<◌, ◌≤◌, List, [], ◌∷◌, length, arith, slice_index_or}
 use Rattle.std.specs.Prelude.{IfSome}
 use Rattle.std.specs.List.{AllByRecursion}
+use Rattle.omf_record.specs.Expansion.{AreCopies}
 use Rattle.omf_module.specs.Module.{Segment, Group, External, PublicSymbol, DataRecord, Module}
 use Rattle.omf_module.specs.Sound.{IsShort, SegmentFits, BaseMeans, IsPart, IsMember, FixupFits, DataFits, StartFits, IsSound}
 
@@ -9,6 +10,7 @@ pub record DataFitting (ss : List Segment) (gs : List Group) (es : List External
   pub segment : Segment
   pub is_part : IsPart ss gs es d.segment segment
   pub inside : d.offset + length d.pairs ≤ segment.length
+  pub copies : AreCopies d.pairs
   pub fixups : AllByRecursion (FixupFits ss gs es d) d.fixups
 
 pub record Fitting (m : Module) : Type 0 where
@@ -27,7 +29,7 @@ all_at P (x ∷ xs) h zero d lt = h.0
 all_at P (x ∷ xs) h (suc k) d lt = all_at P xs h.1 k d (omega arith)
 
 data_fits : (ss : List Segment) (gs : List Group) (es : List External) (d : DataRecord) → DataFitting ss gs es d → DataFits ss gs es d
-data_fits ss gs es d h = record { segment = h.segment; is_part = h.is_part; inside = h.inside; fixups = all_at _ d.fixups h.fixups }
+data_fits ss gs es d h = record { segment = h.segment; is_part = h.is_part; inside = h.inside; copies = h.copies; fixups = all_at _ d.fixups h.fixups }
 
 pub sound_is : (m : Module) → Fitting m → IsSound m
 sound_is m h = record {

@@ -6,6 +6,7 @@ pub mod Whole
 pub mod Stored
 pub mod Stepping
 pub mod Ranges
+pub mod Rising
 pub mod LastData
 pub mod Taking
 pub mod Answering

@@ -9,7 +9,7 @@ use Rattle.omf_record.specs.Record.{Record, Public, External as ExternalName, Th
 use Rattle.omf_record.specs.Language.{each}
 use Rattle.omf_record.specs.Body.{Body, PublicText, BaseText, LengthText, AbsoluteText}
 use Rattle.omf_record.specs.Numbers.{location_width, segment_len}
-use Rattle.omf_record.specs.Expansion.{stored_from, expansion, contents, places, StandTogether}
+use Rattle.omf_record.specs.Expansion.{stored_from, expansion, contents, AreCopies}
 use Rattle.omf_record.specs.declared.fields.SegmentDefinition.{SegmentDefinition}
 use Rattle.omf_record.specs.declared.fields.SegmentLength.{SegmentLength}
 use Rattle.omf_record.specs.declared.fields.SegmentLength.TheVariants as lengths
@@ -43,9 +43,11 @@ use Rattle.omf_module.specs.Faults.{number, header_fault, segment_fault, group_f
 use Rattle.omf_module.specs.Running.{State, state_of, checked, slot, add_to_last, add_data, module_in, later, step, step_record, step_subrecord, step_subrecords, ◌>>=◌}
 use Rattle.omf_module.specs.Sound.{IsShort, FrameMeans, TargetMeans, BaseMeans, IsPart, IsMember, FixupFits, StartFits, SegmentFits, IsStanding}
 use Rattle.omf_record.proofs.Expanded.{length-stored}
+use Rattle.omf_record.proofs.Places.{all-append}
+use Rattle.omf_record.proofs.Copies.{are_copies, are_copies-stored}
 use Rattle.omf_module.proofs.Fitting.{DataFitting, Fitting}
 use Rattle.omf_module.proofs.Whole.{by_fault}
-use Rattle.omf_module.proofs.Together.{stored_together, repeated_together}
+use Rattle.omf_module.proofs.Together.{Stand, AllStand, stored_stand, repeated_stand}
 
 all_weaker : {X : Type 0} (P Q : X → Type 0) (xs : List X) → ((x : X) → P x → Q x) → AllByRecursion P xs → AllByRecursion Q xs
 all_weaker P Q [] f h = tt
@@ -86,10 +88,10 @@ module _ (ss ss' : List Segment) (gs gs' : List Group) (es es' : List External) 
   member_more i h = (h.0, part_more i h.0 h.1)
 
   fixup_more : (d : DataRecord) (x : ResolvedFixup) → FixupFits ss gs es d x → FixupFits (ss ++ ss') (gs ++ gs') (es ++ es') d x
-  fixup_more d x h = record { frame = frame_more x.frame h.frame; target = target_more x.target h.target; together = h.together; relative = h.relative }
+  fixup_more d x h = record { frame = frame_more x.frame h.frame; target = target_more x.target h.target; together = h.together; whole = h.whole; relative = h.relative }
 
   data_more : (d : DataRecord) → DataFitting ss gs es d → DataFitting (ss ++ ss') (gs ++ gs') (es ++ es') d
-  data_more d h = record { segment = h.segment; is_part = part_more d.segment h.segment h.is_part; inside = h.inside; fixups = all_weaker _ _ d.fixups (fixup_more d) h.fixups }
+  data_more d h = record { segment = h.segment; is_part = part_more d.segment h.segment h.is_part; inside = h.inside; copies = h.copies; fixups = all_weaker _ _ d.fixups (fixup_more d) h.fixups }
 
   start_more : (s : Start) → StartFits ss gs es s → StartFits (ss ++ ss') (gs ++ gs') (es ++ es') s
   start_more s h = record { frame = frame_more s.frame h.frame; target = target_more s.target h.target; no_location = h.no_location }
@@ -98,10 +100,6 @@ module _ (ss ss' : List Segment) (gs gs' : List Group) (es es' : List External) 
   maybe_start_more None h = tt
   maybe_start_more (Some s) h = start_more s h
 
-all_append : {X : Type 0} (P : X → Type 0) (xs ys : List X) → AllByRecursion P xs → AllByRecursion P ys → AllByRecursion P (xs ++ ys)
-all_append P [] ys h k = k
-all_append P (x ∷ xs) ys h k = (h.0, all_append P xs ys h.1 k)
-
 abbrev grown : Module → List Segment → List Group → List External → Module
 grown m ss gs es = record { segments = m.segments ++ ss; groups = m.groups ++ gs; externals = m.externals ++ es; publics = m.publics; data_records = m.data_records; start = m.start }
 
@@ -109,11 +107,11 @@ grown m ss gs es = record { segments = m.segments ++ ss; groups = m.groups ++ gs
 more : (m : Module) (ss : List Segment) (gs : List Group) (es : List External) → Fitting m → AllByRecursion SegmentFits ss → AllByRecursion (λ (g : Group). IsShort g.name) gs → AllByRecursion (λ (e : External). IsShort e.name) es
     → AllByRecursion (λ (g : Group). AllByRecursion (IsMember (m.segments ++ ss) (m.groups ++ gs) (m.externals ++ es)) g.members) gs → Fitting (grown m ss gs es)
 more m ss gs es h a b c d = record {
-  segments = all_append _ m.segments ss h.segments a;
-  group_names = all_append _ m.groups gs h.group_names b;
-  externals = all_append _ m.externals es h.externals c;
+  segments = all-append _ m.segments ss h.segments a;
+  group_names = all-append _ m.groups gs h.group_names b;
+  externals = all-append _ m.externals es h.externals c;
   public_names = h.public_names;
-  groups = all_append _ m.groups gs (all_weaker _ _ m.groups (λ g k. all_weaker _ _ g.members (member_more m.segments ss m.groups gs m.externals es) k) h.groups) d;
+  groups = all-append _ m.groups gs (all_weaker _ _ m.groups (λ g k. all_weaker _ _ g.members (member_more m.segments ss m.groups gs m.externals es) k) h.groups) d;
   publics = all_weaker _ _ m.publics (λ p k. base_more m.segments ss m.groups gs m.externals es p.base k) h.publics;
   data_records = all_weaker _ _ m.data_records (data_more m.segments ss m.groups gs m.externals es) h.data_records;
   start = maybe_start_more m.segments ss m.groups gs m.externals es m.start h.start;
@@ -158,28 +156,25 @@ unfolding Body
 names_short [] body h = tt
 names_short (n ∷ listed) body h = (h.first.0, names_short listed h.rest h.second)
 
-externals_short : (local : Bool) (listed : List ExternalName) (body : List ℕ) → Body (Extdef local listed) body → AllByRecursion (λ (e : External). IsShort e.name) (map external_of listed)
+externals_short : (local : Bool) (listed : List ExternalName) (body : List ℕ) → Body (Extdef local listed) body → AllByRecursion (λ (e : External). IsShort e.name) (map (external_of local) listed)
 unfolding Body
-externals_short true listed body h = absurd h
-externals_short false [] body h = tt
-externals_short false (n ∷ listed) body h = (h.first.first.0, externals_short false listed h.rest h.second)
+externals_short local [] body h = tt
+externals_short local (n ∷ listed) body h = (h.first.first.0, externals_short local listed h.rest h.second)
 
 abbrev AllPublics : List Public → List ℕ → Type 0
 AllPublics = each PublicText
 
-publics_short : (base : PublicBase) (listed : List Public) (body : List ℕ) → AllPublics listed body → AllByRecursion (λ (p : PublicSymbol). IsShort p.name × (p.offset < 65536)) (map (public_of base) listed)
-publics_short base [] body h = tt
-publics_short base (n ∷ listed) body h = ((h.first.first.0, h.first.second.first.0), publics_short base listed h.rest h.second)
+publics_short : (local : Bool) (base : PublicBase) (listed : List Public) (body : List ℕ) → AllPublics listed body → AllByRecursion (λ (p : PublicSymbol). IsShort p.name × (p.offset < 65536)) (map (public_of local base) listed)
+publics_short local base [] body h = tt
+publics_short local base (n ∷ listed) body h = ((h.first.first.0, h.first.second.first.0), publics_short local base listed h.rest h.second)
 
-publics_named : (local : Bool) (base : PublicBase) (listed : List Public) (body : List ℕ) → Body (Pubdef local base listed) body → AllByRecursion (λ (p : PublicSymbol). IsShort p.name × (p.offset < 65536)) (map (public_of base) listed)
+publics_named : (local : Bool) (base : PublicBase) (listed : List Public) (body : List ℕ) → Body (Pubdef local base listed) body → AllByRecursion (λ (p : PublicSymbol). IsShort p.name × (p.offset < 65536)) (map (public_of local base) listed)
 unfolding Body
-publics_named true base listed body h = absurd h
-publics_named false base listed body h = publics_short base listed h.rest h.second
+publics_named local base listed body h = publics_short local base listed h.rest h.second
 
 base_text : (local : Bool) (base : PublicBase) (listed : List Public) (body : List ℕ) → Body (Pubdef local base listed) body → (text : List ℕ) × BaseText base text
 unfolding Body
-base_text true base listed body h = absurd h
-base_text false base listed body h = (h.front, h.first)
+base_text local base listed body h = (h.front, h.first)
 
 -- ---- what each kind of record adds
 
@@ -187,7 +182,7 @@ base_text false base listed body h = (h.front, h.first)
 abbrev pub LastFits : Option (List (ℕ × ℕ)) → List DataRecord → Type 0
 LastFits None ds = Unit {0}
 LastFits (Some cs) [] = Unit {0}
-LastFits (Some cs) (d ∷ []) = (at width : ℕ) → lies_in cs at width ≡ true → StandTogether at width (places d.pairs)
+LastFits (Some cs) (d ∷ []) = AllStand cs d.pairs
 LastFits (Some cs) (d ∷ e ∷ ds) = LastFits (Some cs) (e ∷ ds)
 
 pub record Promises (s : State) : Type 0 where
@@ -214,7 +209,7 @@ abbrev with_names : State → List (List ℕ) → State
 with_names s listed = record s { tables = record s.tables { names = s.tables.names ++ listed } }
 
 names_keep : (s : State) (listed : List (List ℕ)) (body : List ℕ) → Body (Lnames listed) body → Promises s → Promises (with_names s listed)
-names_keep s listed body b h = record { names = all_append _ s.tables.names listed h.names (names_short listed body b); sound = h.sound; last = h.last }
+names_keep s listed body b h = record { names = all-append _ s.tables.names listed h.names (names_short listed body b); sound = h.sound; last = h.last }
 
 abbrev with_segment : State → Segment → State
 with_segment s x = record s { tables = record s.tables { segments = s.tables.segments ++ x ∷ [] } }
@@ -302,19 +297,19 @@ base_fits t (public_base.InSegment (suc group) segment) text b e =
 abbrev with_publics : State → List PublicSymbol → State
 with_publics s ps = record s { publics = s.publics ++ ps }
 
-publics_keep : (s : State) (base : PublicBase) (listed : List Public) (text : List ℕ) → BaseText base text → AllByRecursion (λ (p : PublicSymbol). IsShort p.name × (p.offset < 65536)) (map (public_of base) listed) → public_fault s.tables base ≡ None → Promises s → Promises (with_publics s (map (public_of base) listed))
-publics_keep s base listed text b n e h =
+publics_keep : (s : State) (local : Bool) (base : PublicBase) (listed : List Public) (text : List ℕ) → BaseText base text → AllByRecursion (λ (p : PublicSymbol). IsShort p.name × (p.offset < 65536)) (map (public_of local base) listed) → public_fault s.tables base ≡ None → Promises s → Promises (with_publics s (map (public_of local base) listed))
+publics_keep s local base listed text b n e h =
     let m = h.sound in
-    let bases = all_map (λ (p : PublicSymbol). BaseMeans s.tables.segments s.tables.groups s.tables.externals p.base) (public_of base) listed (λ p. base_fits s.tables base text b e) in
+    let bases = all_map (λ (p : PublicSymbol). BaseMeans s.tables.segments s.tables.groups s.tables.externals p.base) (public_of local base) listed (λ p. base_fits s.tables base text b e) in
     record {
       names = h.names;
       sound = record {
         segments = m.segments;
         group_names = m.group_names;
         externals = m.externals;
-        public_names = all_append _ s.publics (map (public_of base) listed) m.public_names n;
+        public_names = all-append _ s.publics (map (public_of local base) listed) m.public_names n;
         groups = m.groups;
-        publics = all_append _ s.publics (map (public_of base) listed) m.publics bases;
+        publics = all-append _ s.publics (map (public_of local base) listed) m.publics bases;
         data_records = m.data_records;
         start = m.start;
       };
@@ -331,9 +326,9 @@ last_push cs (c ∷ e ∷ ds) d h = last_push cs (e ∷ ds) d h
 abbrev plain : (place segment offset : ℕ) (pairs : List (ℕ × ℕ)) → DataRecord
 plain place segment offset pairs = record { place = place; segment = segment; offset = offset; pairs = pairs; fixups = [] }
 
-data_fits : (ss : List Segment) (gs : List Group) (es : List External) (place i offset n : ℕ) (pairs : List (ℕ × ℕ)) → length pairs ≡ n → data_fault (entry ss i) offset n ≡ None → DataFitting ss gs es (plain place (i - 1) offset pairs)
-data_fits ss gs es place zero offset n pairs len e = cc
-data_fits ss gs es place (suc i) offset n pairs len e = go (slice_get ss i) refl e
+data_fits : (ss : List Segment) (gs : List Group) (es : List External) (place i offset n : ℕ) (pairs : List (ℕ × ℕ)) → length pairs ≡ n → AreCopies pairs → data_fault (entry ss i) offset n ≡ None → DataFitting ss gs es (plain place (i - 1) offset pairs)
+data_fits ss gs es place zero offset n pairs len copies e = cc
+data_fits ss gs es place (suc i) offset n pairs len copies e = go (slice_get ss i) refl e
   where
     go : (o : Option Segment) → slice_get ss i ≡ o → data_fault o offset n ≡ None → DataFitting ss gs es (plain place (suc i - 1) offset pairs)
     go None k f = cc
@@ -341,11 +336,11 @@ data_fits ss gs es place (suc i) offset n pairs len e = go (slice_get ss i) refl
         let p = none_both (when (nat_lt s.length (offset + n)) DataOutside) (when (is_absolute s.standing) DataInAbsolute) f in
         let here : suc i - 1 ≡ i = omega arith in
         let within = not_less s.length (offset + n) (when_none (nat_lt s.length (offset + n)) DataOutside p.0) in
-        record { segment = s; is_part = (ap (slice_get ss) here ∙ k, when_none (is_absolute s.standing) DataInAbsolute p.1); inside = omega (arith, within, len); fixups = tt }
+        record { segment = s; is_part = (ap (slice_get ss) here ∙ k, when_none (is_absolute s.standing) DataInAbsolute p.1); inside = omega (arith, within, len); copies = copies; fixups = tt }
 
-data_keeps : (s : State) (place i offset n : ℕ) (pairs cs : List (ℕ × ℕ)) → length pairs ≡ n → data_fault (entry s.tables.segments i) offset n ≡ None → ((at width : ℕ) → lies_in cs at width ≡ true → StandTogether at width (places pairs)) → Promises s
+data_keeps : (s : State) (place i offset n : ℕ) (pairs cs : List (ℕ × ℕ)) → length pairs ≡ n → AreCopies pairs → data_fault (entry s.tables.segments i) offset n ≡ None → AllStand cs pairs → Promises s
     → Promises (add_data s place (i - 1) offset pairs cs)
-data_keeps s place i offset n pairs cs len e together h =
+data_keeps s place i offset n pairs cs len copies e stand h =
     let m = h.sound in
     let d = plain place (i - 1) offset pairs in
     record {
@@ -357,10 +352,10 @@ data_keeps s place i offset n pairs cs len e together h =
         public_names = m.public_names;
         groups = m.groups;
         publics = m.publics;
-        data_records = all_append _ s.data_records (d ∷ []) m.data_records (data_fits s.tables.segments s.tables.groups s.tables.externals place i offset n pairs len e, tt);
+        data_records = all-append _ s.data_records (d ∷ []) m.data_records (data_fits s.tables.segments s.tables.groups s.tables.externals place i offset n pairs len copies e, tt);
         start = m.start;
       };
-      last = last_push cs s.data_records d together;
+      last = last_push cs s.data_records d stand;
     }
 
 -- ---- FIXUPP
@@ -381,7 +376,7 @@ not_false : (b : Bool) → not b ≡ false → b ≡ true
 not_false true e = refl
 not_false false e = cc
 
-place_fits : (o : Option (List (ℕ × ℕ))) (x : Fixup) (d : DataRecord) → place_fault o x ≡ None → LastFits o (d ∷ []) → StandTogether x.offset (location_width x.location) (places d.pairs)
+place_fits : (o : Option (List (ℕ × ℕ))) (x : Fixup) (d : DataRecord) → place_fault o x ≡ None → LastFits o (d ∷ []) → Stand x.offset (location_width x.location) d.pairs
 place_fits None x d e h = cc
 place_fits (Some cs) x d e h = h x.offset (location_width x.location) (not_false (lies_in cs x.offset (location_width x.location)) (when_none (not (lies_in cs x.offset (location_width x.location))) FixupPlace e))
 
@@ -402,26 +397,28 @@ fixup_fits s place x (Some f) None d e h = tt
 fixup_fits s place x (Some f) (Some t) d e h =
     let a = none_both (frame_fault s.tables (Some f)) (target_fault s.tables (Some t) ⊓ place_fault s.contents x ⊓ relative_fault x) e in
     let b = none_both (target_fault s.tables (Some t)) (place_fault s.contents x ⊓ relative_fault x) a.1 in
-    let c = none_both (place_fault s.contents x) (relative_fault x) b.1 in (
+    let c = none_both (place_fault s.contents x) (relative_fault x) b.1 in
+    let stand = place_fits s.contents x d c.0 h in (
       record {
         frame = frame_means s.tables f a.0;
         target = target_means s.tables t b.0;
-        together = place_fits s.contents x d c.0 h;
+        together = stand.together;
+        whole = stand.whole;
         relative = relative_fits x.self_relative (holds_base x.location) c.1;
       },
       tt,
     )
 
 refit : (ss : List Segment) (gs : List Group) (es : List External) (d : DataRecord) (fs : List ResolvedFixup) (x : ResolvedFixup) → FixupFits ss gs es d x → FixupFits ss gs es (record d { fixups = fs }) x
-refit ss gs es d fs x h = record { frame = h.frame; target = h.target; together = h.together; relative = h.relative }
+refit ss gs es d fs x h = record { frame = h.frame; target = h.target; together = h.together; whole = h.whole; relative = h.relative }
 
 module _ (ss : List Segment) (gs : List Group) (es : List External) (o : Option (List (ℕ × ℕ))) (fs : List ResolvedFixup) (on : (d : DataRecord) → LastFits o (d ∷ []) → AllByRecursion (FixupFits ss gs es d) fs) where
   fit_last : (ds : List DataRecord) → AllByRecursion (DataFitting ss gs es) ds → LastFits o ds → AllByRecursion (DataFitting ss gs es) (add_to_last fs ds)
   fit_last [] h l = tt
   fit_last (d ∷ []) h l =
       let k = h.0 in
-      let all = all_append (FixupFits ss gs es d) d.fixups fs k.fixups (on d l) in
-      (record { segment = k.segment; is_part = k.is_part; inside = k.inside; fixups = all_weaker _ _ (d.fixups ++ fs) (refit ss gs es d (d.fixups ++ fs)) all }, tt)
+      let all = all-append (FixupFits ss gs es d) d.fixups fs k.fixups (on d l) in
+      (record { segment = k.segment; is_part = k.is_part; inside = k.inside; copies = k.copies; fixups = all_weaker _ _ (d.fixups ++ fs) (refit ss gs es d (d.fixups ++ fs)) all }, tt)
   fit_last (d ∷ e ∷ ds) h l = (h.0, fit_last (e ∷ ds) h.1 (last_tail o d e ds l))
     where
       last_tail : (o : Option (List (ℕ × ℕ))) (d e : DataRecord) (ds : List DataRecord) → LastFits o (d ∷ e ∷ ds) → LastFits o (e ∷ ds)
@@ -531,16 +528,16 @@ record_keeps place s t (Grpdef name is) body b e h =
     let p = by_fault (group_fault s.tables name is) _ t e in
     let q = first_both (when (misses s.tables.names name) NameIndex) (map (λ i. component_fault (entry s.tables.segments i)) is) p.0 in
     subst Promises p.1 (group_keeps s name is q.1 h)
-record_keeps place s t (Extdef local listed) body b e h = subst Promises (ok_is _ t e) (externals_keep s (map external_of listed) (externals_short local listed body b) h)
+record_keeps place s t (Extdef local listed) body b e h = subst Promises (ok_is _ t e) (externals_keep s (map (external_of local) listed) (externals_short local listed body b) h)
 record_keeps place s t (Pubdef local base listed) body b e h =
     let p = by_fault (public_fault s.tables base) _ t e in
-    subst Promises p.1 (publics_keep s base listed (base_text local base listed body b).0 (base_text local base listed body b).1 (publics_named local base listed body b) p.0 h)
+    subst Promises p.1 (publics_keep s local base listed (base_text local base listed body b).0 (base_text local base listed body b).1 (publics_named local base listed body b) p.0 h)
 record_keeps place s t (Ledata segment offset bytes) body b e h =
     let p = by_fault (data_fault (entry s.tables.segments segment) offset (length bytes)) _ t e in
-    subst Promises p.1 (data_keeps s place segment offset (length bytes) (stored_from 0 bytes) ((0, length bytes) ∷ []) (length-stored 0 bytes) p.0 (stored_together bytes) h)
+    subst Promises p.1 (data_keeps s place segment offset (length bytes) (stored_from 0 bytes) ((0, length bytes) ∷ []) (length-stored 0 bytes) (are_copies-stored bytes) p.0 (stored_stand bytes) h)
 record_keeps place s t (Lidata segment offset blocks) body b e h =
     let p = by_fault (data_fault (entry s.tables.segments segment) offset (length (expansion blocks))) _ t e in
-    subst Promises p.1 (data_keeps s place segment offset (length (expansion blocks)) (expansion blocks) (contents blocks) refl p.0 (repeated_together blocks) h)
+    subst Promises p.1 (data_keeps s place segment offset (length (expansion blocks)) (expansion blocks) (contents blocks) refl (are_copies blocks) p.0 (repeated_stand blocks) h)
 record_keeps place s t (Fixupp subs) body b e h = subrecords_keep place s t subs e h
 record_keeps place s t (Modend main None) body b e h = subst Promises (ok_is s t e) h
 record_keeps place s t (Modend main (Some r)) body b e h =

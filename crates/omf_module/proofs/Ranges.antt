@@ -1,5 +1,5 @@
 -- Numbers in a row, and bytes with their stored places.
-use Rattle.std.proofs.Common.{◌≡◌, ℕ, zero, suc, ◌+◌, List, [], ◌∷◌, ◌++◌, length, refl, sym, ap, ◌∙◌, arith, add-zero, zero-add, append_assoc}
+use Rattle.std.proofs.Common.{◌≡◌, ℕ, zero, suc, ◌+◌, ◌≤◌, List, [], ◌∷◌, ◌++◌, length, take, refl, sym, ap, ◌∙◌, arith, add-zero, zero-add, append_assoc}
 use Rattle.std.specs.List.{range_with_len, zip}
 use Rattle.omf_record.specs.Expansion.{stored_from, places, bytes}
 
@@ -17,6 +17,12 @@ range_more xs n = append_assoc xs (range_with_len 0 n) (n ∷ []) ∙ ap (λ ys.
 pub length-range : (a n : ℕ) → length (range_with_len a n) ≡ n
 length-range a zero = refl
 length-range a (suc n) = ap suc (length-range (a + 1) n)
+
+-- those in front are a shorter row
+pub take-range : (a n k : ℕ) → k ≤ n → take k (range_with_len a n) ≡ range_with_len a k
+take-range a n zero le = refl
+take-range a zero (suc k) le = absurd (omega arith)
+take-range a (suc n) (suc k) le = ap (λ xs. a ∷ xs) (take-range (a + 1) n k (omega arith))
 
 pub numbered : (a : ℕ) (xs : List ℕ) → zip (range_with_len a (length xs)) xs ≡ stored_from a xs
 numbered a [] = refl

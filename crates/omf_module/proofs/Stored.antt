@@ -1,15 +1,16 @@
 -- What stands in a store stays where it is, and what is kept at its end is there.
-use Rattle.std.proofs.Common.{◌≡◌, ℕ, ◌≤◌, List, [], ◌∷◌, ◌++◌, length, take, drop, map, refl, sym, ap, subst, ◌∙◌, arith, length-append, length-drop}
+use Rattle.std.proofs.Common.{◌≡◌, ℕ, ◌-◌, ◌≤◌, Bool, List, [], ◌∷◌, ◌++◌, length, take, drop, map, refl, sym, ap, ◌∙◌, arith, length-append, length-drop, length-take}
 use Rattle.std.specs.List.{AllByRecursion, zip}
-use Rattle.std.proofs.lemmas.List.{append-nil, drop-append-le, take-append-le, drop_at, take_all, map_push}
+use Rattle.std.proofs.lemmas.List.{append-nil, drop-append-le, take-append-le, drop_at, take_at, take-take, take_all, map_push}
 use Rattle.omf_module.specs.declared.store.Part.{Part}
 use Rattle.omf_module.specs.declared.store.SegmentEntry.{SegmentEntry}
 use Rattle.omf_module.specs.declared.store.GroupEntry.{GroupEntry}
+use Rattle.omf_module.specs.declared.store.ExternalEntry.{ExternalEntry}
 use Rattle.omf_module.specs.declared.store.PublicEntry.{PublicEntry}
 use Rattle.omf_module.specs.declared.store.DataEntry.{DataEntry}
 use Rattle.omf_module.specs.declared.Base.{Base}
 use Rattle.omf_module.specs.Module.{DataRecord}
-use Rattle.omf_module.specs.Store.{Kept, part, segment, group, external, public_symbol, places_part, data_record, IsIn, SegmentIsIn, GroupIsIn, PublicIsIn, DataIsIn, Entries, kept, AreIn}
+use Rattle.omf_module.specs.Store.{Kept, part, segment, group, external, public_symbol, places_part, data_record, IsIn, SegmentIsIn, GroupIsIn, ExternalIsIn, PublicIsIn, DataIsIn, Holds, Entries, kept, AreIn}
 
 pub all_push : {X : Type 0} (P : X → Type 0) (xs : List X) (x : X) → AllByRecursion P xs → P x → AllByRecursion P (xs ++ x ∷ [])
 all_push P [] x h p = (p, tt)
@@ -40,9 +41,9 @@ group_stays bytes more g h =
     let n = part_stays bytes more g.name h in
     (rw n.0 refl, n.1)
 
-external_stays : (bytes more : List ℕ) (p : Part) → IsIn bytes p → (external (bytes ++ more) p ≡ external bytes p) × IsIn (bytes ++ more) p
-external_stays bytes more p h =
-    let n = part_stays bytes more p h in
+external_stays : (bytes more : List ℕ) (x : ExternalEntry) → ExternalIsIn bytes x → (external (bytes ++ more) x ≡ external bytes x) × ExternalIsIn (bytes ++ more) x
+external_stays bytes more x h =
+    let n = part_stays bytes more x.name h in
     (rw n.0 refl, n.1)
 
 public_stays : (bytes more : List ℕ) (p : PublicEntry) → PublicIsIn bytes p → (public_symbol (bytes ++ more) p ≡ public_symbol bytes p) × PublicIsIn (bytes ++ more) p
@@ -62,13 +63,16 @@ stays bytes more places more' e h =
     let n = all_stay (part bytes) (part (bytes ++ more)) (IsIn bytes) (IsIn (bytes ++ more)) (λ p k. part_stays bytes more p k) e.names h.names in
     let s = all_stay (segment bytes) (segment (bytes ++ more)) (SegmentIsIn bytes) (SegmentIsIn (bytes ++ more)) (λ p k. segment_stays bytes more p k) e.segments h.segments in
     let g = all_stay (group bytes) (group (bytes ++ more)) (GroupIsIn bytes) (GroupIsIn (bytes ++ more)) (λ p k. group_stays bytes more p k) e.groups h.groups in
-    let x = all_stay (external bytes) (external (bytes ++ more)) (IsIn bytes) (IsIn (bytes ++ more)) (λ p k. external_stays bytes more p k) e.externals h.externals in
+    let x = all_stay (external bytes) (external (bytes ++ more)) (ExternalIsIn bytes) (ExternalIsIn (bytes ++ more)) (λ x k. external_stays bytes more x k) e.externals h.externals in
     let p = all_stay (public_symbol bytes) (public_symbol (bytes ++ more)) (PublicIsIn bytes) (PublicIsIn (bytes ++ more)) (λ p k. public_stays bytes more p k) e.publics h.publics in
     let d = all_stay (data_record bytes places) (data_record (bytes ++ more) (places ++ more')) (DataIsIn bytes places) (DataIsIn (bytes ++ more) (places ++ more')) (λ d k. data_stays bytes more places more' d k) e.data_records h.data_records in
     (rw (n.0, s.0, g.0, x.0, p.0, d.0) refl, record { names = n.1; segments = s.1; groups = g.1; externals = x.1; publics = p.1; data_records = d.1 })
 
 pub bytes_stay : {A : Type 0} (bytes more places : List ℕ) (e : Entries A) → AreIn bytes places e → (kept (bytes ++ more) places e ≡ kept bytes places e) × AreIn (bytes ++ more) places e
 bytes_stay bytes more places e h = rw append-nil at (stays bytes more places [] e h)
+
+pub places_stay : {A : Type 0} (bytes places more : List ℕ) (e : Entries A) → AreIn bytes places e → AreIn bytes (places ++ more) e
+places_stay bytes places more e h = (rw append-nil at (stays bytes [] places more e h)).1
 
 -- the piece that was kept last
 abbrev pub last_of : {X : Type 0} → List X → List X → Part
@@ -79,6 +83,21 @@ last_part xs piece = ap (take (length piece)) (drop_at xs piece (length xs) refl
 
 pub last_is_in : {X : Type 0} (xs piece : List X) → IsIn (xs ++ piece) (last_of xs piece)
 last_is_in xs piece = omega (arith, length-append xs piece)
+
+-- a piece with which another one begins
+pub begins_in : {X : Type 0} (xs piece : List X) (p : Part) → IsIn xs p → length piece ≤ length (part xs p) → piece ≡ take (length piece) (part xs p) → Holds xs (record { from = p.from; len = length piece }) piece
+begins_in xs piece p h le e =
+    let short : length piece ≤ p.len = omega (arith, le, length-take p.len (drop p.from xs)) in
+    (omega arith, sym (e ∙ take-take (length piece) p.len (drop p.from xs) short))
+
+-- what was laid behind a list, and then perhaps cut off again, where it stands already
+pub once_kept : (places laid now cut : List ℕ) (from at len : ℕ) → now ≡ places ++ laid → from ≡ length places → len ≡ length laid → (more : List ℕ) × (cut ≡ take from now ++ more) → Holds cut (record { from = at; len = length now - from }) (drop from now) → (more : List ℕ) × (cut ≡ places ++ more) × Holds (places ++ more) (record { from = at; len = len }) laid
+once_kept places laid now cut from at len is f l k h =
+    let front : take from now ≡ places = rw is (take_at places laid from (sym f)) in
+    let back : drop from now ≡ laid = rw is (drop_at places laid from (sym f)) in
+    let count : length now - from ≡ len = omega (arith, ap length is, length-append places laid, f, l) in
+    let grown : cut ≡ places ++ k.0 = rw front at k.1 in
+    (k.0, grown, rw (count, back, grown) at h)
 
 -- what a store says and where it lies, with one entry more
 module _ {A : Type 0} (bytes places : List ℕ) (e : Entries A) (h : AreIn bytes places e) where
@@ -96,67 +115,67 @@ module _ {A : Type 0} (bytes places : List ℕ) (e : Entries A) (h : AreIn bytes
       let s = (bytes_stay bytes name places e h).1 in
       record { names = all_push (IsIn (bytes ++ name)) e.names (last_of bytes name) s.names (last_is_in bytes name); segments = s.segments; groups = s.groups; externals = s.externals; publics = s.publics; data_records = s.data_records }
 
-  abbrev externed : Part → Entries A
+  abbrev externed : ExternalEntry → Entries A
   externed p = record { names = e.names; segments = e.segments; groups = e.groups; externals = e.externals ++ p ∷ []; publics = e.publics; data_records = e.data_records }
 
-  pub external_kept : (name : List ℕ) → kept (bytes ++ name) places (externed (last_of bytes name)) ≡ record (kept bytes places e) { externals = (kept bytes places e).externals ++ record { name = name } ∷ [] }
-  external_kept name =
-      let s = bytes_stay bytes name places e h in
-      let n : map (external (bytes ++ name)) (e.externals ++ last_of bytes name ∷ []) ≡ map (external (bytes ++ name)) e.externals ++ record { name = name } ∷ [] = map_push _ e.externals (last_of bytes name) ∙ ap (λ x. map (external (bytes ++ name)) e.externals ++ record { name = x } ∷ []) (last_part bytes name) in
-      ap (λ ns. record (kept (bytes ++ name) places e) { externals = ns }) n ∙ ap (λ (k : Kept). record k { externals = k.externals ++ record { name = name } ∷ [] }) s.0
+  abbrev external_entry : List ℕ → Bool → ExternalEntry
+  external_entry name local = record { name = last_of bytes name; local = local }
 
-  pub external_in : (name : List ℕ) → AreIn (bytes ++ name) places (externed (last_of bytes name))
-  external_in name =
+  pub external_kept : (name : List ℕ) (local : Bool) → kept (bytes ++ name) places (externed (external_entry name local)) ≡ record (kept bytes places e) { externals = (kept bytes places e).externals ++ record { name = name; local = local } ∷ [] }
+  external_kept name local =
+      let s = bytes_stay bytes name places e h in
+      let n : map (external (bytes ++ name)) (e.externals ++ external_entry name local ∷ []) ≡ map (external (bytes ++ name)) e.externals ++ record { name = name; local = local } ∷ [] = map_push _ e.externals (external_entry name local) ∙ ap (λ x. map (external (bytes ++ name)) e.externals ++ record { name = x; local = local } ∷ []) (last_part bytes name) in
+      ap (λ ns. record (kept (bytes ++ name) places e) { externals = ns }) n ∙ ap (λ (k : Kept). record k { externals = k.externals ++ record { name = name; local = local } ∷ [] }) s.0
+
+  pub external_in : (name : List ℕ) (local : Bool) → AreIn (bytes ++ name) places (externed (external_entry name local))
+  external_in name local =
       let s = (bytes_stay bytes name places e h).1 in
-      record { names = s.names; segments = s.segments; groups = s.groups; externals = all_push (IsIn (bytes ++ name)) e.externals (last_of bytes name) s.externals (last_is_in bytes name); publics = s.publics; data_records = s.data_records }
+      record { names = s.names; segments = s.segments; groups = s.groups; externals = all_push (ExternalIsIn (bytes ++ name)) e.externals (external_entry name local) s.externals (last_is_in bytes name); publics = s.publics; data_records = s.data_records }
 
   abbrev published : PublicEntry → Entries A
   published p = record { names = e.names; segments = e.segments; groups = e.groups; externals = e.externals; publics = e.publics ++ p ∷ []; data_records = e.data_records }
 
-  abbrev public_entry : List ℕ → Base → ℕ → PublicEntry
-  public_entry name base offset = record { name = last_of bytes name; base = base; offset = offset }
+  abbrev public_entry : List ℕ → Base → ℕ → Bool → PublicEntry
+  public_entry name base offset local = record { name = last_of bytes name; base = base; offset = offset; local = local }
 
-  pub public_kept : (name : List ℕ) (base : Base) (offset : ℕ) → kept (bytes ++ name) places (published (public_entry name base offset)) ≡ record (kept bytes places e) { publics = (kept bytes places e).publics ++ record { name = name; base = base; offset = offset } ∷ [] }
-  public_kept name base offset =
+  pub public_kept : (name : List ℕ) (base : Base) (offset : ℕ) (local : Bool) → kept (bytes ++ name) places (published (public_entry name base offset local)) ≡ record (kept bytes places e) { publics = (kept bytes places e).publics ++ record { name = name; base = base; offset = offset; local = local } ∷ [] }
+  public_kept name base offset local =
       let s = bytes_stay bytes name places e h in
-      let n : map (public_symbol (bytes ++ name)) (e.publics ++ public_entry name base offset ∷ []) ≡ map (public_symbol (bytes ++ name)) e.publics ++ record { name = name; base = base; offset = offset } ∷ [] = map_push _ e.publics (public_entry name base offset) ∙ ap (λ x. map (public_symbol (bytes ++ name)) e.publics ++ record { name = x; base = base; offset = offset } ∷ []) (last_part bytes name) in
-      ap (λ ns. record (kept (bytes ++ name) places e) { publics = ns }) n ∙ ap (λ (k : Kept). record k { publics = k.publics ++ record { name = name; base = base; offset = offset } ∷ [] }) s.0
+      let n : map (public_symbol (bytes ++ name)) (e.publics ++ public_entry name base offset local ∷ []) ≡ map (public_symbol (bytes ++ name)) e.publics ++ record { name = name; base = base; offset = offset; local = local } ∷ [] = map_push _ e.publics (public_entry name base offset local) ∙ ap (λ x. map (public_symbol (bytes ++ name)) e.publics ++ record { name = x; base = base; offset = offset; local = local } ∷ []) (last_part bytes name) in
+      ap (λ ns. record (kept (bytes ++ name) places e) { publics = ns }) n ∙ ap (λ (k : Kept). record k { publics = k.publics ++ record { name = name; base = base; offset = offset; local = local } ∷ [] }) s.0
 
-  pub public_in : (name : List ℕ) (base : Base) (offset : ℕ) → AreIn (bytes ++ name) places (published (public_entry name base offset))
-  public_in name base offset =
+  pub public_in : (name : List ℕ) (base : Base) (offset : ℕ) (local : Bool) → AreIn (bytes ++ name) places (published (public_entry name base offset local))
+  public_in name base offset local =
       let s = (bytes_stay bytes name places e h).1 in
-      record { names = s.names; segments = s.segments; groups = s.groups; externals = s.externals; publics = all_push (PublicIsIn (bytes ++ name)) e.publics (public_entry name base offset) s.publics (last_is_in bytes name); data_records = s.data_records }
+      record { names = s.names; segments = s.segments; groups = s.groups; externals = s.externals; publics = all_push (PublicIsIn (bytes ++ name)) e.publics (public_entry name base offset local) s.publics (last_is_in bytes name); data_records = s.data_records }
 
   abbrev stored : DataEntry A → Entries A
   stored d = record { names = e.names; segments = e.segments; groups = e.groups; externals = e.externals; publics = e.publics; data_records = e.data_records ++ d ∷ [] }
 
-  abbrev is_data : (more more' : List ℕ) → DataEntry A → Type 0
-  is_data more more' d = (d.bytes ≡ last_of bytes more) × (d.places_from ≡ length places) × (d.fixups.items ≡ []) × (length more' ≡ length more)
+  -- its bytes are kept last, and its stored places, these or others, stand somewhere
+  abbrev is_data : (more added stored_at : List ℕ) → DataEntry A → Type 0
+  is_data more added stored_at d =
+      (d.bytes ≡ last_of bytes more) × IsIn (places ++ added) (places_part d) × (part (places ++ added) (places_part d) ≡ stored_at) × (d.fixups.items ≡ [])
 
   abbrev plain_data : DataEntry A → List (ℕ × ℕ) → DataRecord
   plain_data d pairs = record { place = d.place; segment = d.segment; offset = d.offset; pairs = pairs; fixups = [] }
 
-  places_same : (more more' : List ℕ) (d : DataEntry A) → is_data more more' d → places_part d ≡ last_of places more'
-  places_same more more' d k = rw (k.0, k.1, k.3) refl
-
-  pub data_kept : (more more' : List ℕ) (d : DataEntry A) → is_data more more' d → kept (bytes ++ more) (places ++ more') (stored d) ≡ record (kept bytes places e) { data_records = (kept bytes places e).data_records ++ plain_data d (zip more' more) ∷ [] }
-  data_kept more more' d k =
-      let s = stays bytes more places more' e h in
+  pub data_kept : (more added stored_at : List ℕ) (d : DataEntry A) → is_data more added stored_at d → kept (bytes ++ more) (places ++ added) (stored d) ≡ record (kept bytes places e) { data_records = (kept bytes places e).data_records ++ plain_data d (zip stored_at more) ∷ [] }
+  data_kept more added stored_at d k =
+      let s = stays bytes more places added e h in
       let b : part (bytes ++ more) d.bytes ≡ more = ap (part (bytes ++ more)) k.0 ∙ last_part bytes more in
-      let p : part (places ++ more') (places_part d) ≡ more' = ap (part (places ++ more')) (places_same more more' d k) ∙ last_part places more' in
-      let one : data_record (bytes ++ more) (places ++ more') d ≡ plain_data d (zip more' more) =
-      ap (λ x. record { place = d.place; segment = d.segment; offset = d.offset; pairs = zip x (part (bytes ++ more) d.bytes); fixups = d.fixups.items }) p
-      ∙ ap (λ x. record { place = d.place; segment = d.segment; offset = d.offset; pairs = zip more' x; fixups = d.fixups.items }) b
-      ∙ ap (λ x. record { place = d.place; segment = d.segment; offset = d.offset; pairs = zip more' more; fixups = x }) k.2 in
-      let n : map (data_record (bytes ++ more) (places ++ more')) (e.data_records ++ d ∷ []) ≡ map (data_record (bytes ++ more) (places ++ more')) e.data_records ++ plain_data d (zip more' more) ∷ [] = map_push _ e.data_records d ∙ ap (λ x. map (data_record (bytes ++ more) (places ++ more')) e.data_records ++ x ∷ []) one in
-      ap (λ ns. record (kept (bytes ++ more) (places ++ more') e) { data_records = ns }) n ∙ ap (λ (k : Kept). record k { data_records = k.data_records ++ plain_data d (zip more' more) ∷ [] }) s.0
+      let one : data_record (bytes ++ more) (places ++ added) d ≡ plain_data d (zip stored_at more) =
+      ap (λ x. record { place = d.place; segment = d.segment; offset = d.offset; pairs = zip x (part (bytes ++ more) d.bytes); fixups = d.fixups.items }) k.2
+      ∙ ap (λ x. record { place = d.place; segment = d.segment; offset = d.offset; pairs = zip stored_at x; fixups = d.fixups.items }) b
+      ∙ ap (λ x. record { place = d.place; segment = d.segment; offset = d.offset; pairs = zip stored_at more; fixups = x }) k.3 in
+      let n : map (data_record (bytes ++ more) (places ++ added)) (e.data_records ++ d ∷ []) ≡ map (data_record (bytes ++ more) (places ++ added)) e.data_records ++ plain_data d (zip stored_at more) ∷ [] = map_push _ e.data_records d ∙ ap (λ x. map (data_record (bytes ++ more) (places ++ added)) e.data_records ++ x ∷ []) one in
+      ap (λ ns. record (kept (bytes ++ more) (places ++ added) e) { data_records = ns }) n ∙ ap (λ (k : Kept). record k { data_records = k.data_records ++ plain_data d (zip stored_at more) ∷ [] }) s.0
 
-  pub data_kept_as : (more more' : List ℕ) (d : DataEntry A) (pairs : List (ℕ × ℕ)) → is_data more more' d → zip more' more ≡ pairs → kept (bytes ++ more) (places ++ more') (stored d) ≡ record (kept bytes places e) { data_records = (kept bytes places e).data_records ++ plain_data d pairs ∷ [] }
-  data_kept_as more more' d pairs k z = data_kept more more' d k ∙ ap (λ zs. record (kept bytes places e) { data_records = (kept bytes places e).data_records ++ plain_data d zs ∷ [] }) z
+  pub data_kept_as : (more added stored_at : List ℕ) (d : DataEntry A) (pairs : List (ℕ × ℕ)) → is_data more added stored_at d → zip stored_at more ≡ pairs → kept (bytes ++ more) (places ++ added) (stored d) ≡ record (kept bytes places e) { data_records = (kept bytes places e).data_records ++ plain_data d pairs ∷ [] }
+  data_kept_as more added stored_at d pairs k z = data_kept more added stored_at d k ∙ ap (λ zs. record (kept bytes places e) { data_records = (kept bytes places e).data_records ++ plain_data d zs ∷ [] }) z
 
-  pub data_in : (more more' : List ℕ) (d : DataEntry A) → is_data more more' d → AreIn (bytes ++ more) (places ++ more') (stored d)
-  data_in more more' d k =
-      let s = (stays bytes more places more' e h).1 in
+  pub data_in : (more added stored_at : List ℕ) (d : DataEntry A) → is_data more added stored_at d → AreIn (bytes ++ more) (places ++ added) (stored d)
+  data_in more added stored_at d k =
+      let s = (stays bytes more places added e h).1 in
       let b : IsIn (bytes ++ more) d.bytes = rw k.0 (last_is_in bytes more) in
-      let p : IsIn (places ++ more') (places_part d) = subst (λ (q : Part). IsIn (places ++ more') q) (sym (places_same more more' d k)) (last_is_in places more') in
-      record { names = s.names; segments = s.segments; groups = s.groups; externals = s.externals; publics = s.publics; data_records = all_push (DataIsIn (bytes ++ more) (places ++ more')) e.data_records d s.data_records (b, p) }
+      record { names = s.names; segments = s.segments; groups = s.groups; externals = s.externals; publics = s.publics; data_records = all_push (DataIsIn (bytes ++ more) (places ++ added)) e.data_records d s.data_records (b, k.1) }

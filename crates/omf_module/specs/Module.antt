@@ -1,5 +1,6 @@
 -- What a whole module says (TIS OMF 1.1, the section of each record). Segments, groups and externals are numbered from 0 in their lists.
-use Rattle.std.specs.Prelude.{ℕ, List, Option}
+-- A local name is known in its own module alone; externals and publics, local ones and others, stand in one list each.
+use Rattle.std.specs.Prelude.{ℕ, Bool, List, Option}
 use Rattle.omf_module.specs.declared.Standing.{Standing}
 use Rattle.omf_module.specs.declared.Base.{Base}
 use Rattle.omf_module.specs.declared.ResolvedFixup.{ResolvedFixup}
@@ -18,11 +19,13 @@ pub record Group : Type 0 where
 
 pub record External : Type 0 where
   pub name : List ℕ
+  pub local : Bool
 
 pub record PublicSymbol : Type 0 where
   pub name : List ℕ
   pub base : Base
   pub offset : ℕ
+  pub local : Bool
 
 -- its data as pairs of a stored place and a byte, with the fix-ups on it
 pub record DataRecord : Type 0 where

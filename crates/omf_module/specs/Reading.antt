@@ -3,7 +3,7 @@ use Rattle.std.specs.Prelude.{◌≡◌, ℕ, Bool, List, length, Some, Ok, Err,
 use Rattle.std.specs.declared.option.Option.{Option}
 use Rattle.std.specs.declared.result.Result.{Result}
 use Rattle.std.specs.Io.KnownBytes.{Consumes, Keeps}
-use Rattle.omf_frame.specs.Reading.{TakesWhole, TakesWithin}
+use Rattle.omf_frame.specs.Reading.{TakesWhole, TakesNoneOrWhole, TakesPart}
 use Rattle.omf_record.specs.Record.{Record}
 use Rattle.omf_record.specs.Body.{BodyOf, BodyFault, IsRecordType}
 use Rattle.omf_record.specs.Records.{Placed, is_end}
@@ -34,9 +34,9 @@ failures_in (Err fault.Memory) = 0
 failures_in (Err (fault.Record place kind)) = device_failures kind
 
 -- What is taken of the record at fault: the whole of it, all that is left of one that is cut off, of one of length 0 its
--- three bytes; at the limit nothing, and where the source failed no byte past the record.
+-- three bytes; at the limit nothing, and where the source failed not all of it.
 abbrev pub TakesFaulty : Option (List ℕ) → Option (List ℕ) → FaultKind → Type 0
-TakesFaulty old new kind.Device = TakesWithin old new
+TakesFaulty old new kind.Device = TakesPart old new
 TakesFaulty old new kind.ZeroLength = TakesWhole old new
 TakesFaulty old new kind.Truncated = TakesWhole old new
 TakesFaulty old new kind.Closing = TakesWhole old new
@@ -67,7 +67,7 @@ pub record Took (rs : List Placed) (front : List ℕ) (old new : Option (List �
 -- taken exactly its bytes; else a fault of the record behind those that were taken.
 unfoldable pub Reads : {A : Type 0} → (A → Module) → Option (List ℕ) → Option (List ℕ) → Result A ModuleFault → Type 0
 Reads view old new (Ok m) = (rs : List Placed) × (front : List ℕ) × ModuleBytes rs front × Consumes old new front × (view m ≡ module_of rs)
-Reads view old new (Err fault.Memory) = (rs : List Placed) × (front : List ℕ) × (mid : Option (List ℕ)) × Took rs front old mid × TakesWithin mid new
+Reads view old new (Err fault.Memory) = (rs : List Placed) × (front : List ℕ) × (mid : Option (List ℕ)) × Took rs front old mid × TakesNoneOrWhole mid new
 Reads view old new (Err (fault.Record place kind)) =
     (rs : List Placed) × (front : List ℕ) × (mid : Option (List ℕ)) × Took rs front old mid × (place ≡ length front) × TakesFaulty mid new kind
     × IfSome old (λ bytes. IsFaultOf bytes place kind)

@@ -95,8 +95,8 @@ step_record place s (Segdef d) = checked (segment_fault s.tables d) (record s { 
 step_record place s (Grpdef name components) =
     checked (group_fault s.tables name components)
     (record s { tables = record s.tables { groups = s.tables.groups ++ group_of s.tables.names name components ∷ [] } })
-step_record place s (Extdef local listed) = Ok (record s { tables = record s.tables { externals = s.tables.externals ++ map external_of listed } })
-step_record place s (Pubdef local base listed) = checked (public_fault s.tables base) (record s { publics = s.publics ++ map (public_of base) listed })
+step_record place s (Extdef local listed) = Ok (record s { tables = record s.tables { externals = s.tables.externals ++ map (external_of local) listed } })
+step_record place s (Pubdef local base listed) = checked (public_fault s.tables base) (record s { publics = s.publics ++ map (public_of local base) listed })
 step_record place s (Ledata segment offset bytes) = checked (data_fault (entry s.tables.segments segment) offset (length bytes)) (add_data s place (segment - 1) offset (stored_from 0 bytes) ((0, length bytes) ∷ []))
 step_record place s (Lidata segment offset blocks) =
     checked (data_fault (entry s.tables.segments segment) offset (length (expansion blocks)))

@@ -1,7 +1,7 @@
 -- What a module promises: every index means something, names are short, data lies in its segment, and fix-ups in their data.
 use Rattle.std.specs.Prelude.{◌≡◌, ℕ, ◌+◌, ◌<◌, ◌≤◌, true, false, All, List, length, None, Some, slice_get, IfSome}
 use Rattle.omf_record.specs.Numbers.{location_width}
-use Rattle.omf_record.specs.Expansion.{places, StandTogether}
+use Rattle.omf_record.specs.Expansion.{places, StandTogether, StandWhole, AreCopies}
 use Rattle.omf_module.specs.declared.Base.{Base}
 use Rattle.omf_module.specs.declared.Base.TheVariants.{AtFrame, InSegment}
 use Rattle.omf_module.specs.declared.Standing.{Standing}
@@ -57,18 +57,21 @@ module _ (segments : List Segment) (groups : List Group) (externals : List Exter
   abbrev pub IsMember : ℕ → Type 0
   IsMember i = (s : Segment) × IsPart i s
 
-  -- From each hit of a fix-up on, the bytes of its location were stored one after the other; a base isn't relative to itself.
+  -- From each hit of a fix-up on, the bytes of its location were stored one after the other, and each byte that was stored
+  -- at one of the places of its location stands in such a run of them; a base isn't relative to itself.
   pub record FixupFits (d : DataRecord) (x : ResolvedFixup) : Type 0 where
     pub frame : FrameMeans x.frame
     pub target : TargetMeans x.target
     pub together : StandTogether x.offset (location_width x.location) (places d.pairs)
+    pub whole : StandWhole x.offset (location_width x.location) (places d.pairs)
     pub relative : x.self_relative ≡ true → holds_base x.location ≡ false
 
-  -- data lies in a segment that isn't absolute
+  -- data lies in a segment that isn't absolute, and its bytes of one place are one byte
   pub record DataFits (d : DataRecord) : Type 0 where
     pub segment : Segment
     pub is_part : IsPart d.segment segment
     pub inside : d.offset + length d.pairs ≤ segment.length
+    pub copies : AreCopies d.pairs
     pub fixups : All (FixupFits d) d.fixups
 
   pub record GroupFits (g : Group) : Type 0 where

@@ -1,9 +1,10 @@
 -- What the pieces of a store say.
-use Rattle.std.specs.Prelude.{ℕ, ◌+◌, ◌≤◌, List, length, map, take, drop}
-use Rattle.std.specs.List.{AllByRecursion, zip}
+use Rattle.std.specs.Prelude.{◌≡◌, ℕ, ◌+◌, ◌≤◌, List, length, map, take, drop}
+use Rattle.std.specs.List.{AllByRecursion, zip, range_with_len}
 use Rattle.omf_module.specs.declared.store.Part.{Part}
 use Rattle.omf_module.specs.declared.store.SegmentEntry.{SegmentEntry}
 use Rattle.omf_module.specs.declared.store.GroupEntry.{GroupEntry}
+use Rattle.omf_module.specs.declared.store.ExternalEntry.{ExternalEntry}
 use Rattle.omf_module.specs.declared.store.PublicEntry.{PublicEntry}
 use Rattle.omf_module.specs.declared.store.DataEntry.{DataEntry}
 use Rattle.omf_module.specs.Module.{Segment, Group, External, PublicSymbol, DataRecord}
@@ -28,11 +29,11 @@ segment bytes s = record { name = part bytes s.name; class = part bytes s.class;
 abbrev pub group : {A : Type 0} (bytes : List ℕ) → GroupEntry A → Group
 group bytes g = record { name = part bytes g.name; members = g.members.items }
 
-abbrev pub external : (bytes : List ℕ) → Part → External
-external bytes p = record { name = part bytes p }
+abbrev pub external : (bytes : List ℕ) → ExternalEntry → External
+external bytes e = record { name = part bytes e.name; local = e.local }
 
 abbrev pub public_symbol : (bytes : List ℕ) → PublicEntry → PublicSymbol
-public_symbol bytes p = record { name = part bytes p.name; base = p.base; offset = p.offset }
+public_symbol bytes p = record { name = part bytes p.name; base = p.base; offset = p.offset; local = p.local }
 
 -- as many stored places as bytes
 abbrev pub places_part : {A : Type 0} → DataEntry A → Part
@@ -44,11 +45,22 @@ data_record bytes places d = record { place = d.place; segment = d.segment; offs
 abbrev pub IsIn : {X : Type 0} → List X → Part → Type 0
 IsIn xs p = p.from + p.len ≤ length xs
 
+-- it lies within the list, and has these elements
+abbrev pub Holds : {X : Type 0} → List X → Part → List X → Type 0
+Holds xs p piece = IsIn xs p × (part xs p ≡ piece)
+
+-- its elements are the numbers from 0 on
+abbrev pub Rises : (places : List ℕ) → Part → Type 0
+Rises places p = Holds places p (range_with_len 0 p.len)
+
 abbrev pub SegmentIsIn : (bytes : List ℕ) → SegmentEntry → Type 0
 SegmentIsIn bytes s = IsIn bytes s.name × IsIn bytes s.class
 
 abbrev pub GroupIsIn : {A : Type 0} (bytes : List ℕ) → GroupEntry A → Type 0
 GroupIsIn bytes g = IsIn bytes g.name
+
+abbrev pub ExternalIsIn : (bytes : List ℕ) → ExternalEntry → Type 0
+ExternalIsIn bytes e = IsIn bytes e.name
 
 abbrev pub PublicIsIn : (bytes : List ℕ) → PublicEntry → Type 0
 PublicIsIn bytes p = IsIn bytes p.name
@@ -61,7 +73,7 @@ pub record Entries (A : Type 0) : Type 0 where
   pub names : List Part
   pub segments : List SegmentEntry
   pub groups : List (GroupEntry A)
-  pub externals : List Part
+  pub externals : List ExternalEntry
   pub publics : List PublicEntry
   pub data_records : List (DataEntry A)
 
@@ -81,6 +93,10 @@ pub record AreIn {A : Type 0} (bytes places : List ℕ) (e : Entries A) : Type 0
   pub names : AllByRecursion (IsIn bytes) e.names
   pub segments : AllByRecursion (SegmentIsIn bytes) e.segments
   pub groups : AllByRecursion (GroupIsIn bytes) e.groups
-  pub externals : AllByRecursion (IsIn bytes) e.externals
+  pub externals : AllByRecursion (ExternalIsIn bytes) e.externals
   pub publics : AllByRecursion (PublicIsIn bytes) e.publics
   pub data_records : AllByRecursion (DataIsIn bytes places) e.data_records
+
+-- and one piece of the stored places rises
+unfoldable pub IsConsistent : {A : Type 0} (bytes places : List ℕ) (rising : Part) → Entries A → Type 0
+IsConsistent bytes places rising e = AreIn bytes places e × Rises places rising

@@ -1,5 +1,5 @@
 -- What the records of a module define, and what the module says (TIS OMF 1.1, the section of each record).
-use Rattle.std.specs.Prelude.{ℕ, zero, suc, ◌-◌, if◌then◌else◌, ◌==◌, List, [], ◌∷◌, ◌++◌, length, map, Option, None, Some, unwrap_or}
+use Rattle.std.specs.Prelude.{ℕ, Bool, zero, suc, ◌-◌, if◌then◌else◌, ◌==◌, List, [], ◌∷◌, ◌++◌, length, map, Option, None, Some, unwrap_or}
 use Rattle.std.specs.Option.{option_to_list}
 use Rattle.std.specs.List.{flat_map, filter_map, enumerate_from}
 use Rattle.omf_record.specs.Record.{Record, Public, External as ExternalName, Modend, Extdef, Pubdef, Lnames, Segdef, Grpdef, Fixupp, Ledata, Lidata}
@@ -100,13 +100,13 @@ groups_in ns _ = []
 abbrev pub groups : List Placed → List Group
 groups rs = along (λ before (r : Placed). groups_in (names before) r.says) rs
 
--- ---- 8CH EXTDEF: External Names Definition Record; 90H PUBDEF: Public Names Definition Record
+-- ---- 8CH EXTDEF and B4H LEXTDEF: (Local) External Names Definition Record; 90H PUBDEF and B6H LPUBDEF: (Local) Public Names Definition Record
 
-abbrev pub external_of : ExternalName → External
-external_of e = record { name = e.name }
+abbrev pub external_of : Bool → ExternalName → External
+external_of local e = record { name = e.name; local = local }
 
 abbrev pub externals_in : Record → List External
-externals_in (Extdef local listed) = map external_of listed
+externals_in (Extdef local listed) = map (external_of local) listed
 externals_in _ = []
 
 abbrev pub externals : List Placed → List External
@@ -122,11 +122,11 @@ abbrev pub base_of : PublicBase → Base
 base_of (public_base.AtFrame group frame) = AtFrame frame
 base_of (public_base.InSegment group segment) = InSegment (segment - 1) (group_at group)
 
-abbrev pub public_of : PublicBase → Public → PublicSymbol
-public_of b p = record { name = p.name; base = base_of b; offset = p.offset }
+abbrev pub public_of : Bool → PublicBase → Public → PublicSymbol
+public_of local b p = record { name = p.name; base = base_of b; offset = p.offset; local = local }
 
 abbrev pub publics_in : Record → List PublicSymbol
-publics_in (Pubdef local base listed) = map (public_of base) listed
+publics_in (Pubdef local base listed) = map (public_of local base) listed
 publics_in _ = []
 
 abbrev pub publics : List Placed → List PublicSymbol

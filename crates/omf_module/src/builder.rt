@@ -86,26 +86,28 @@ fn add_names<A: Allocator + Copy>(store: &mut Store<A>, names: &[&[u8]]) -> Resu
 
 fn add_externals<A: Allocator + Copy>(
     store: &mut Store<A>,
+    local: bool,
     names: &[External<'_>],
 ) -> Result<(), AllocError>
-    ensures { OnOk result (store.new ≡ record store.old { externals = store.old.externals ++ map tables.external_of (map external_view names.now) }) }
+    ensures { OnOk result (store.new ≡ record store.old { externals = store.old.externals ++ map (tables.external_of local) (map external_view names.now) }) }
 {
     for external in names {
-        store.push_external(external.name)?;
+        store.push_external(external.name, local)?;
     }
     Ok(())
 }
 
 fn add_publics<A: Allocator + Copy>(
     store: &mut Store<A>,
+    local: bool,
     base: PublicBase,
     publics: &[Public<'_>],
 ) -> Result<(), AllocError>
-    ensures { OnOk result (store.new ≡ record store.old { publics = store.old.publics ++ map (tables.public_of base) (map public_view publics.now) }) }
+    ensures { OnOk result (store.new ≡ record store.old { publics = store.old.publics ++ map (tables.public_of local base) (map public_view publics.now) }) }
 {
     let base = base_of(base);
     for public in publics {
-        store.push_public(public.name, base, public.offset)?;
+        store.push_public(public.name, base, public.offset, local)?;
     }
     Ok(())
 }
@@ -408,11 +410,10 @@ impl<A: Allocator + Copy> Builder<A> {
     ) -> Result<(), AddFault>
         ensures { Gives (λ _. state self.new) result (running.step_record place (state self.old) (says.Pubdef local base (map public_view publics.now))) }
     {
-        let _local = local;
         if let Some(fault) = self.public_fault(base) {
             return Err(AddFault::Check(fault));
         }
-        add_publics(&mut self.store, base, publics)?;
+        add_publics(&mut self.store, local, base, publics)?;
         Ok(())
     }
 
@@ -496,8 +497,8 @@ impl<A: Allocator + Copy> Builder<A> {
             }
             Record::Segdef { segment } => self.add_segment(place, segment),
             Record::Grpdef { name, segments } => self.add_group(alloc, place, *name, segments),
-            Record::Extdef { names, .. } => {
-                add_externals(&mut self.store, names)?;
+            Record::Extdef { local, names } => {
+                add_externals(&mut self.store, *local, names)?;
                 Ok(())
             }
             Record::Pubdef {

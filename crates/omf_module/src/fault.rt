@@ -87,7 +87,7 @@ pub enum FaultKind {
     /// 4: the closing byte isn't 0 and the record's sum isn't 0 modulo 256.
     #[error("its closing byte is wrong")]
     Closing,
-    /// 5: the type isn't one of the twelve.
+    /// 5: the type isn't one of the fourteen.
     #[error("its type isn't known")]
     Type,
     /// 6: the body isn't one of its type, from this byte of it on.

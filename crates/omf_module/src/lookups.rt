@@ -25,16 +25,20 @@ pub struct Group<'a> {
     pub members: &'a [u16],
 }
 
+/// A name that the module uses: a public name of some module, or, where it is local, a local public name of its own.
 #[derive(Clone, Copy, Debug)]
 pub struct External<'a> {
     pub name: &'a [u8],
+    pub local: bool,
 }
 
+/// A name that the module defines: for all modules, or, where it is local, for itself alone.
 #[derive(Clone, Copy, Debug)]
 pub struct PublicSymbol<'a> {
     pub name: &'a [u8],
     pub base: Base,
     pub offset: u16,
+    pub local: bool,
 }
 
 /// Data for a segment, counted from 0, from an offset in it on.
@@ -164,7 +168,7 @@ impl<A: Allocator + Copy> Module<A> {
         }
     }
 
-    /// How many external names the module has.
+    /// How many external names the module has, local ones among them.
     pub fn external_count(&self) -> usize
         ensures { result ≡ length self.now.externals }
     {
@@ -179,7 +183,7 @@ impl<A: Allocator + Copy> Module<A> {
         self.store.external(index)
     }
 
-    /// The external names, in order.
+    /// The external names, local ones among them, in order.
     pub fn externals(&self) -> Externals<'_, A>
         ensures { result ≡ self.now.externals }
     {
@@ -189,7 +193,7 @@ impl<A: Allocator + Copy> Module<A> {
         }
     }
 
-    /// How many public names the module defines.
+    /// How many public names the module defines, local ones among them.
     pub fn public_symbol_count(&self) -> usize
         ensures { result ≡ length self.now.publics }
     {
@@ -204,7 +208,7 @@ impl<A: Allocator + Copy> Module<A> {
         self.store.public_symbol(index)
     }
 
-    /// The public names, in order.
+    /// The public names, local ones among them, in order.
     pub fn publics(&self) -> Publics<'_, A>
         ensures { result ≡ self.now.publics }
     {

@@ -1,6 +1,6 @@
 //! What is kept of a module: its names and its data in one list of bytes, the stored places of the data in another,
 //! and where each piece of them stands.
-ghost use Rattle.std.specs.Prelude.{◌≡◌, ℕ, ◌+◌, ◌-◌, ◌<◌, ◌≤◌, ◌++◌, ◌∷◌, [], length, List, slice_get, Some, None, false, map, OnOk, OnErr, IfOk, nat_lt};
+ghost use Rattle.std.specs.Prelude.{◌≡◌, ℕ, ◌+◌, ◌-◌, ◌<◌, ◌≤◌, ◌++◌, ◌∷◌, [], length, take, drop, List, slice_get, Some, None, false, map, OnOk, OnErr, IfOk, nat_lt};
 ghost use Rattle.std.specs.List.{AllByRecursion, range_with_len};
 ghost use Rattle.omf_record.specs.View.{block_view};
 ghost use Rattle.omf_record.specs.Expansion as data_of;
@@ -44,10 +44,17 @@ pub struct GroupEntry<A: Allocator + Copy> {
 }
 
 #[derive(Clone, Copy, Debug)]
+pub struct ExternalEntry {
+    name: Part,
+    local: bool,
+}
+
+#[derive(Clone, Copy, Debug)]
 pub struct PublicEntry {
     name: Part,
     base: Base,
     offset: u16,
+    local: bool,
 }
 
 #[derive(Drop)]
@@ -61,21 +68,35 @@ pub struct DataEntry<A: Allocator + Copy> {
     fixups: Vec<ResolvedFixup, A>,
 }
 
+impl<A: Allocator + Copy> DataEntry<A> {
+    fn places(&self) -> Part
+        ensures { result ≡ pieces.places_part self.now }
+    {
+        Part {
+            from: self.places_from,
+            len: self.bytes.len,
+        }
+    }
+}
+
 /// The tables of a module, as its records fill them.
 #[derive(Drop)]
 pub struct Store<A: Allocator + Copy> {
     bytes: Vec<u8, A>,
+    /// Pieces of several data records may be the same one, or lie in one another.
     places: Vec<u16, A>,
+    /// The longest of those that were made to count from 0.
+    rising: Part,
     names: Vec<Part, A>,
     segments: Vec<SegmentEntry, A>,
     groups: Vec<GroupEntry<A>, A>,
-    externals: Vec<Part, A>,
+    externals: Vec<ExternalEntry, A>,
     publics: Vec<PublicEntry, A>,
     data_records: Vec<DataEntry<A>, A>,
 }
 
 impl<A: Allocator + Copy> Model for Store<A> {
-    ghost use Rattle.omf_module.specs.Store.{Kept, kept, AreIn};
+    ghost use Rattle.omf_module.specs.Store.{Kept, kept, IsConsistent};
 
     ghost Value = { Kept };
 
@@ -88,7 +109,7 @@ impl<A: Allocator + Copy> Model for Store<A> {
       data_records = s.data_records.items;
     }) };
 
-    ghost invariant = { λ s. AreIn s.bytes.items s.places.items (record {
+    ghost invariant = { λ s. IsConsistent s.bytes.items s.places.items s.rising (record {
       names = s.names.items;
       segments = s.segments.items;
       groups = s.groups.items;
@@ -207,6 +228,30 @@ fn number_places<A: Allocator + Copy>(
     Ok(())
 }
 
+/// A piece of the places that counts from 0, of at least so many.
+///
+/// A longer one is made at the end, with a power of two of places, so all of a module take 256 KB at most.
+fn rising_part<A: Allocator + Copy>(
+    places: &mut Vec<u16, A>,
+    rising: Part,
+    len: usize,
+) -> Result<Part, AllocError>
+    requires small { len ≤ 65536 }
+    requires rises { pieces.Rises places.old.items rising }
+    ensures kept { (more : List ℕ) × (places.new.items ≡ places.old.items ++ more) }
+    ensures ok { IfOk result (λ p. (len ≤ p.len) × pieces.Rises places.new.items p) }
+{
+    if len <= rising.len {
+        return Ok(rising);
+    }
+    let longer = Part {
+        from: places.len(),
+        len: len.next_power_of_two().clamp(16, 65_536),
+    };
+    number_places(places, longer.len)?;
+    Ok(longer)
+}
+
 /// Keeps the expansion of blocks at the end of the two lists.
 fn keep_expansion<A: Allocator + Copy>(
     bytes: &mut Vec<u8, A>,
@@ -232,6 +277,32 @@ fn keep_expansion<A: Allocator + Copy>(
     Ok(())
 }
 
+/// The stored places of the last data record.
+fn last_places<A: Allocator + Copy>(list: &[DataEntry<A>]) -> Part
+    ensures { (bytes places : List ℕ) → AllByRecursion (pieces.DataIsIn bytes places) list.now → pieces.IsIn places result }
+{
+    match list.last() {
+        Some(d) => d.places(),
+        None => Part { from: 0, len: 0 },
+    }
+}
+
+/// Cuts off the places from one on where another piece begins with the same ones, and tells where they stand.
+fn keep_once<A: Allocator + Copy>(places: &mut Vec<u16, A>, from: usize, other: Part) -> usize
+    requires from { from ≤ length places.old.items }
+    requires other { pieces.IsIn (take from places.old.items) other }
+    ensures kept { (more : List ℕ) × (places.new.items ≡ take from places.old.items ++ more) }
+    ensures stands { pieces.Holds places.new.items (record { from = result; len = length places.old.items - from }) (drop from places.old.items) }
+{
+    let (before, last) = places.split_at(from);
+    if lend(before, other).starts_with(last) {
+        places.truncate(from);
+        other.from
+    } else {
+        from
+    }
+}
+
 /// Adds a fix-up to the last data record.
 fn fix_last<A: Allocator + Copy>(
     list: &mut Vec<DataEntry<A>, A>,
@@ -250,6 +321,7 @@ fn fix_last<A: Allocator + Copy>(
     Ok(())
 }
 
+#[tactic(auto, unfolding(crate::specs::Store::IsConsistent))]
 impl<A: Allocator + Copy> Store<A> {
     /// Tables of no record.
     pub fn new(alloc: A) -> Store<A>
@@ -258,6 +330,7 @@ impl<A: Allocator + Copy> Store<A> {
         Store {
             bytes: Vec::new(alloc),
             places: Vec::new(alloc),
+            rising: Part { from: 0, len: 0 },
             names: Vec::new(alloc),
             segments: Vec::new(alloc),
             groups: Vec::new(alloc),
@@ -298,16 +371,12 @@ impl<A: Allocator + Copy> Store<A> {
         ensures lengths { length result.bytes.now ≡ length result.places.now }
     {
         let d = &self.data_records[index];
-        let places = Part {
-            from: d.places_from,
-            len: d.bytes.len,
-        };
         DataRecord {
             place: d.place,
             segment: d.segment,
             offset: d.offset,
             bytes: lend(&self.bytes, d.bytes),
-            places: lend(&self.places, places),
+            places: lend(&self.places, d.places()),
             fixups: d.fixups.as_slice(),
         }
     }
@@ -320,19 +389,32 @@ impl<A: Allocator + Copy> Store<A> {
         Ok(())
     }
 
-    pub fn push_external(&mut self, name: &[u8]) -> Result<(), AllocError>
-        ensures { OnOk result (self.new ≡ record self.old { externals = self.old.externals ++ record { name = name.now } ∷ [] }) }
+    pub fn push_external(&mut self, name: &[u8], local: bool) -> Result<(), AllocError>
+        ensures { OnOk result (self.new ≡ record self.old { externals = self.old.externals ++ record { name = name.now; local = local } ∷ [] }) }
     {
-        let part = keep(&mut self.bytes, name)?;
-        self.externals.push(part)?;
+        let name = keep(&mut self.bytes, name)?;
+        self.externals.push(ExternalEntry { name, local })?;
         Ok(())
     }
 
-    pub fn push_public(&mut self, name: &[u8], base: Base, offset: u16) -> Result<(), AllocError>
-        ensures { OnOk result (self.new ≡ record self.old { publics = self.old.publics ++ record { name = name.now; base = base; offset = offset } ∷ [] }) }
+    pub fn push_public(
+        &mut self,
+        name: &[u8],
+        base: Base,
+        offset: u16,
+        local: bool,
+    ) -> Result<(), AllocError>
+        ensures { OnOk result (self.new ≡ record self.old {
+          publics = self.old.publics ++ record { name = name.now; base = base; offset = offset; local = local } ∷ [];
+        }) }
     {
         let name = keep(&mut self.bytes, name)?;
-        self.publics.push(PublicEntry { name, base, offset })?;
+        self.publics.push(PublicEntry {
+            name,
+            base,
+            offset,
+            local,
+        })?;
         Ok(())
     }
 
@@ -373,15 +455,14 @@ impl<A: Allocator + Copy> Store<A> {
           } ∷ [];
         }) }
     {
-        let places_from = self.places.len();
-        number_places(&mut self.places, bytes.len())?;
+        self.rising = rising_part(&mut self.places, self.rising, bytes.len())?;
         let bytes = keep(&mut self.bytes, bytes)?;
         self.data_records.push(DataEntry {
             place,
             segment,
             offset,
             bytes,
-            places_from,
+            places_from: self.rising.from,
             fixups: Vec::new(alloc),
         })?;
         Ok(())
@@ -416,6 +497,8 @@ impl<A: Allocator + Copy> Store<A> {
         };
         let places_from = self.places.len();
         keep_expansion(&mut self.bytes, &mut self.places, len, blocks)?;
+        let before = last_places(&self.data_records);
+        let places_from = keep_once(&mut self.places, places_from, before);
         self.data_records.push(DataEntry {
             place,
             segment,
@@ -461,8 +544,10 @@ impl<A: Allocator + Copy> Store<A> {
         requires { index < length self.now.externals }
         ensures { slice_get self.now.externals index ≡ Some (external_seen result) }
     {
+        let e = self.externals[index];
         External {
-            name: lend(&self.bytes, self.externals[index]),
+            name: lend(&self.bytes, e.name),
+            local: e.local,
         }
     }
 
@@ -481,6 +566,7 @@ impl<A: Allocator + Copy> Store<A> {
             name: lend(&self.bytes, p.name),
             base: p.base,
             offset: p.offset,
+            local: p.local,
         }
     }
 

@@ -1,12 +1,14 @@
 use Rattle.std.proofs.Common.{◌++◌, ◌∷◌, [], ap, ◌∙◌}
-use Rattle.omf_module.specs.Store.{Kept}
+use Rattle.omf_module.specs.Store.{Kept, IsConsistent}
 use Rattle.omf_module.proofs.Stored.{external_kept, external_in}
 use Rattle.omf_module.proofs.store.Store.push_external.Goals as goal
 
 pub invariant_of-self-2 : goal.invariant_of-self-2
-invariant_of-self-2 g c = rw (c.in_ok-push.ensures.items, c.in_ok-part.ensures.ok.0, c.in_ok-part.ensures.ok.1) (external_in _ _ _ c.self.invariant c.args.name.now)
+unfolding IsConsistent
+invariant_of-self-2 g c = rw (c.in_ok-push.ensures.items, c.in_ok-name.ensures.ok.0, c.in_ok-name.ensures.ok.1) ((external_in _ _ _ c.self.invariant.0 c.args.name.now c.args.local, c.self.invariant.1))
 
 pub returns : goal.returns
+unfolding IsConsistent
 returns g c =
-    rw (c.in_ok-push.ensures.items, c.in_ok-part.ensures.ok.0, c.in_ok-part.ensures.ok.1)
-    (external_kept _ _ _ c.self.invariant c.args.name.now ∙ ap (λ (k : Kept). record k { externals = k.externals ++ record { name = c.args.name.now } ∷ [] }) c.self.view_is)
+    rw (c.in_ok-push.ensures.items, c.in_ok-name.ensures.ok.0, c.in_ok-name.ensures.ok.1)
+    (external_kept _ _ _ c.self.invariant.0 c.args.name.now c.args.local ∙ ap (λ (k : Kept). record k { externals = k.externals ++ record { name = c.args.name.now; local = c.args.local } ∷ [] }) c.self.view_is)

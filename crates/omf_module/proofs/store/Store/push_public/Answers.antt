@@ -1,12 +1,14 @@
 use Rattle.std.proofs.Common.{◌++◌, ◌∷◌, [], ap, ◌∙◌}
-use Rattle.omf_module.specs.Store.{Kept}
+use Rattle.omf_module.specs.Store.{Kept, IsConsistent}
 use Rattle.omf_module.proofs.Stored.{public_kept, public_in}
 use Rattle.omf_module.proofs.store.Store.push_public.Goals as goal
 
 pub invariant_of-self-2 : goal.invariant_of-self-2
-invariant_of-self-2 g c = rw (c.in_ok-push.ensures.items, c.in_ok-name.ensures.ok.0, c.in_ok-name.ensures.ok.1) (public_in _ _ _ c.self.invariant c.args.name.now c.args.base c.args.offset)
+unfolding IsConsistent
+invariant_of-self-2 g c = rw (c.in_ok-push.ensures.items, c.in_ok-name.ensures.ok.0, c.in_ok-name.ensures.ok.1) ((public_in _ _ _ c.self.invariant.0 c.args.name.now c.args.base c.args.offset c.args.local, c.self.invariant.1))
 
 pub returns : goal.returns
+unfolding IsConsistent
 returns g c =
     rw (c.in_ok-push.ensures.items, c.in_ok-name.ensures.ok.0, c.in_ok-name.ensures.ok.1)
-    (public_kept _ _ _ c.self.invariant c.args.name.now c.args.base c.args.offset ∙ ap (λ (k : Kept). record k { publics = k.publics ++ record { name = c.args.name.now; base = c.args.base; offset = c.args.offset } ∷ [] }) c.self.view_is)
+    (public_kept _ _ _ c.self.invariant.0 c.args.name.now c.args.base c.args.offset c.args.local ∙ ap (λ (k : Kept). record k { publics = k.publics ++ record { name = c.args.name.now; base = c.args.base; offset = c.args.offset; local = c.args.local } ∷ [] }) c.self.view_is)
