@@ -1,11 +1,11 @@
 -- The bounds of a layout in which no fault stands.
-use Rattle.std.proofs.Common.{◌≡◌, ℕ, zero, suc, ◌+◌, ◌*◌, ◌/◌, ◌≤◌, Bool, true, false, cond, nat_lt, ◌++◌, List, [], ◌∷◌, length, map, find, Option, Some, None, IfSome, slice_get, inl, inr, refl, ap, sym, ◌∙◌, subst, arith}
+use Rattle.std.proofs.Common.{◌≡◌, ℕ, zero, suc, ◌+◌, ◌*◌, ◌/◌, ◌≤◌, Bool, true, false, cond, nat_lt, ◌++◌, List, [], ◌∷◌, length, map, find, Option, Some, None, IfSome, slice_get, get_or, ◌<◌, ◌⊎◌, inl, inr, refl, ap, sym, ◌∙◌, subst, arith}
 use Rattle.std.proofs.lemmas.Bool.{cases_lt, lt-ltb}
-use Rattle.std.proofs.lemmas.List.{length-map}
+use Rattle.std.proofs.lemmas.List.{get_or_past, length-map}
+use Rattle.std.proofs.lemmas.List.FromFn.{get_or-map-range_with_len, length-map-range_with_len}
 use Rattle.std.proofs.lemmas.Option.{slice_get-map, get_or_from_slice_get}
-use Rattle.std.specs.List.{AllByRecursion, flat_map}
+use Rattle.std.specs.List.{AllByRecursion}
 use Rattle.std.specs.Option.{option_map, option_and_then, option_to_list}
-use Rattle.std.specs.Str.{bytes_eq}
 use Rattle.omf_module.specs.declared.Standing.{Standing}
 use Rattle.omf_module.specs.declared.Standing.TheVariants.{Absolute, Relocatable}
 use Rattle.omf_module.specs.declared.Base as public_base
@@ -17,14 +17,20 @@ use Rattle.omf_place.specs.declared.layout.Base.TheVariants as base
 use Rattle.omf_place.specs.declared.layout.Combined.{Combined}
 use Rattle.omf_place.specs.declared.layout.PublicPlace.{PublicPlace}
 use Rattle.omf_place.specs.declared.layout.SegmentPlace.{SegmentPlace}
+use Rattle.omf_place.specs.declared.names.Names.{Names}
+use Rattle.omf_place.specs.declared.names.Names.TheVariants.{Exact}
 use Rattle.omf_place.specs.Faults.{is_long_segment, segment_fault}
 use Rattle.omf_place.specs.Inputs.{Input, inputs_from, inputs}
-use Rattle.omf_place.specs.Layout.{Layout, layout_at, module_places, places_of, segment_in}
-use Rattle.omf_place.specs.Named.{value_of}
+use Rattle.omf_place.specs.Layout.{Layout, layout_at, local_public, module_places, places_of, segment_in}
+use Rattle.omf_place.specs.Named.{value_where}
+use Rattle.omf_place.specs.Names.{Table, agrees, empty, means}
 use Rattle.omf_place.specs.Parts.{Site, module_sites, sites_from, sites, is_part, is_relocatable}
 use Rattle.omf_place.specs.Placed.{IsPlaced, address_of}
-use Rattle.omf_place.specs.Tables.{segment_start, segment_end, leaders, combined_segment, placed, group_frame, in_segment, placed_public, publics_of, placed_publics}
-use Rattle.omf_place.proofs.LinkRows.{RowIs, input_rows, row_at}
+use Rattle.omf_place.specs.Scopes.{Entry, local_tables, owned_by, same_owner, table}
+use Rattle.omf_place.specs.Tables.{segment_start, segment_end, leaders, combined_segment, placed, group_frame, in_segment, placed_public, public_entry, publics_of, placed_publics}
+use Rattle.omf_place.proofs.LinkLayout.{inputs-length}
+use Rattle.omf_place.proofs.KeyPlaces.{All-make}
+use Rattle.omf_place.proofs.LinkRows.{All-flat, RowIs, input_rows, row_at}
 use Rattle.omf_place.proofs.SiteLists.{length-module_sites, numbered_sites}
 use Rattle.omf_place.proofs.Walks.{All-get, numbered_found}
 use Rattle.omf_place.proofs.Within.{part-within}
@@ -37,14 +43,6 @@ All-back : {X : Type 0} (P : X → Type 0) (xs ys : List X) → AllByRecursion P
 All-back P [] ys ps = ps
 All-back P (x ∷ xs) ys ps = All-back P xs ys ps.1
 
-All-append : {X : Type 0} (P : X → Type 0) (xs ys : List X) → AllByRecursion P xs → AllByRecursion P ys → AllByRecursion P (xs ++ ys)
-All-append P [] ys ps qs = qs
-All-append P (x ∷ xs) ys ps qs = (ps.0, All-append P xs ys ps.1 qs)
-
-All-flat : {X Y : Type 0} (P : Y → Type 0) (f : X → List Y) (xs : List X) → ((x : X) → AllByRecursion P (f x)) → AllByRecursion P (flat_map f xs)
-All-flat P f [] h = tt
-All-flat P f (x ∷ xs) h = All-append P (f x) (flat_map f xs) (h x) (All-flat P f xs h)
-
 -- what holds of each site holds of those of each module
 sites-of : (P : Site → Type 0) (p i : ℕ) (ms : List Module) → AllByRecursion P (sites_from p i ms) → AllByRecursion (λ n. AllByRecursion P n.sites) (inputs_from p i ms)
 sites-of P p i [] ps = tt
@@ -52,10 +50,6 @@ sites-of P p i (m ∷ ms) ps = (
   All-front P (module_sites p i 0 m.segments) (sites_from (p + length m.segments) (i + 1) ms) ps,
   sites-of P (p + length m.segments) (i + 1) ms (All-back P (module_sites p i 0 m.segments) (sites_from (p + length m.segments) (i + 1) ms) ps),
 )
-
-length-inputs : (p i : ℕ) (ms : List Module) → length (inputs_from p i ms) ≡ length ms
-length-inputs p i [] = refl
-length-inputs p i (m ∷ ms) = ap suc (length-inputs (p + length m.segments) (i + 1) ms)
 
 input_at : (p i k : ℕ) (ms : List Module) (m : Module) → slice_get ms k ≡ Some m → (n : Input) × (slice_get (inputs_from p i ms) k ≡ Some n) × (n.says ≡ m) × (length n.sites ≡ length m.segments)
 input_at p i k [] m e = cc
@@ -80,9 +74,13 @@ All-turned f P Q (x ∷ xs) h qs = (h x qs.0, All-turned f P Q xs h qs.1)
 not-less : (a b : ℕ) → nat_lt a b ≡ false → b ≤ a
 not-less a b e = elim (cases_lt a b) [ inl h ↦ absurd (let t : nat_lt a b ≡ true = lt-ltb a b h in let v : true ≡ false = sym t ∙ e in cc) | inr h ↦ omega arith ]
 
-value-all : {V : Type 0} (P : V → Type 0) (es : List (List ℕ × V)) (name : List ℕ) → AllByRecursion (λ (e : List ℕ × V). P e.1) es → IfSome (value_of es name) P
-value-all P [] name ps = tt
-value-all P (e ∷ es) name ps = elim (bytes_eq name e.0) as (λ b. IfSome (cond b (Some e.1) (value_of es name)) P) [ true ↦ ps.0 | false ↦ value-all P es name ps.1 ]
+value-all : {V : Type 0} (P : V → Type 0) (test : List ℕ → Bool) (owner : Option ℕ) (es : List (Entry V)) → AllByRecursion (λ (e : Entry V). P e.value) es
+    → IfSome (value_where test (map (λ e. (e.name, e.value)) (owned_by owner es))) P
+value-all P test owner [] ps = tt
+value-all P test owner (e ∷ es) ps = elim (same_owner owner e.owner) as (λ b. IfSome (value_where test (map (λ d. (d.name, d.value)) (cond b (e ∷ owned_by owner es) (owned_by owner es)))) P) [
+  | true ↦ (elim (test e.name) as (λ b. IfSome (cond b (Some e.value) (value_where test (map (λ d. (d.name, d.value)) (owned_by owner es)))) P) [ true ↦ ps.0 | false ↦ value-all P test owner es ps.1 ])
+  | false ↦ value-all P test owner es ps.1
+]
 
 abbrev no_place : SegmentPlace
 no_place = record { address = address.Absolute 0; frame = base.Absolute 0 }
@@ -90,7 +88,7 @@ no_place = record { address = address.Absolute 0; frame = base.Absolute 0 }
 abbrev OwnFrame : PublicPlace → Type 0
 OwnFrame p = HasOwnFrame p.address p.frame
 
-module _ (program : List Module) (A : List ℕ) (size : ℕ) (placing : IsPlaced (sites program) A size) where
+module _ (names : Names) (program : List Module) (A : List ℕ) (size : ℕ) (placing : IsPlaced (sites program) A size) where
   abbrev ss : List Site
   ss = sites program
 
@@ -104,11 +102,11 @@ module _ (program : List Module) (A : List ℕ) (size : ℕ) (placing : IsPlaced
       by (Absolute frame offset) e = rw e (record { inside = tt; frame = tt })
       by (Relocatable alignment kind) e = rw e (record { inside = within (ap is_relocatable e); frame = tt })
 
-  places : (i : ℕ) (m : Module) → slice_get program i ≡ Some m → ArePlacesOf size m (places_of (layout_at program A size) i)
+  places : (i : ℕ) (m : Module) → slice_get program i ≡ Some m → ArePlacesOf size m (places_of (layout_at names program A size) i)
   places i m e =
       let at = input_at 0 0 i program m e in
       let n = at.0 in
-      let here : places_of (layout_at program A size) i ≡ module_places program A n =
+      let here : places_of (layout_at names program A size) i ≡ module_places program A n =
       get_or_from_slice_get (map (module_places program A) (inputs program)) i (module_places program A n) (record { segments = []; groups = [] })
       (slice_get-map (module_places program A) (inputs program) i ∙ ap (option_map (module_places program A)) at.1) in
       let row : RowIs n = All-get RowIs (inputs program) i n (input_rows program) at.1 in
@@ -137,30 +135,51 @@ module _ (program : List Module) (A : List ℕ) (size : ℕ) (placing : IsPlaced
       by None = tt
       by (Some h) = framed (group_frame program A h.name)
 
-  publics : AllByRecursion (λ (p : List ℕ × PublicPlace). OwnFrame p.1) (placed_publics program A)
-  publics = All-flat (λ (p : List ℕ × PublicPlace). OwnFrame p.1) (publics_of program A) (inputs program)
-      (λ n. All-flat (λ (p : List ℕ × PublicPlace). OwnFrame p.1) (λ (p : PublicSymbol). option_to_list (option_map (λ (q : PublicPlace). (p.name, q)) (placed_public program A n p.offset p.base))) n.says.publics
-      (λ p. by n p.name p.offset p.base))
-    where
-      found : (n : Input) (name : List ℕ) (o : ℕ) (group : Option ℕ) (x : Option Site) →
-          AllByRecursion (λ (p : List ℕ × PublicPlace). OwnFrame p.1) (option_to_list (option_map (λ (q : PublicPlace). (name, q)) (option_map (λ (a : Site). in_segment program A n.says group o a a.segment.standing) x)))
-      found n name o group None = tt
-      found n name o group (Some a) = (own-public n.says a o group a.segment.standing, tt)
+  abbrev Own : Entry PublicPlace → Type 0
+  Own e = OwnFrame e.value
 
-      by : (n : Input) (name : List ℕ) (o : ℕ) (b : public_base.Base) → AllByRecursion (λ (p : List ℕ × PublicPlace). OwnFrame p.1) (option_to_list (option_map (λ (q : PublicPlace). (name, q)) (placed_public program A n o b)))
-      by n name o (AtFrame frame) = (tt, tt)
-      by n name o (InSegment k group) = found n name o group (slice_get n.sites k)
+  abbrev public_of : Input → PublicSymbol → List (Entry PublicPlace)
+  public_of n p = option_to_list (option_map (public_entry n.input p) (placed_public program A n p.offset p.base))
+
+  publics : AllByRecursion Own (placed_publics program A)
+  publics = All-flat Own (publics_of program A) (inputs program) (All-make (λ n. AllByRecursion Own (publics_of program A n)) (inputs program)
+      (λ n. All-flat Own (public_of n) n.says.publics (All-make (λ p. AllByRecursion Own (public_of n p)) n.says.publics
+      (λ p. by n p p.offset p.base))))
+    where
+      found : (n : Input) (p : PublicSymbol) (o : ℕ) (group : Option ℕ) (x : Option Site) →
+          AllByRecursion Own (option_to_list (option_map (public_entry n.input p) (option_map (λ (a : Site). in_segment program A n.says group o a a.segment.standing) x)))
+      found n p o group None = tt
+      found n p o group (Some a) = (own-public n.says a o group a.segment.standing, tt)
+
+      by : (n : Input) (p : PublicSymbol) (o : ℕ) (b : public_base.Base) → AllByRecursion Own (option_to_list (option_map (public_entry n.input p) (placed_public program A n o b)))
+      by n p o (AtFrame frame) = (tt, tt)
+      by n p o (InSegment k group) = found n p o group (slice_get n.sites k)
 
   short : segment_fault ss A ≡ None → AllByRecursion (λ (c : Combined). c.end ≤ 16 * (c.start / 16) + 65536) (map (combined_segment ss A) (leaders ss))
   short none = All-turned (combined_segment ss A) (λ (c : Combined). c.end ≤ 16 * (c.start / 16) + 65536) (λ a. is_long_segment ss A a ≡ false) (leaders ss)
       (λ a e. not-less (16 * (segment_start ss A a / 16) + 65536) (segment_end ss A a) e)
       (find-none (is_long_segment ss A) (leaders ss) (none-mapped _ (find (is_long_segment ss A) (leaders ss)) none))
 
-  pub bounded : segment_fault ss A ≡ None → size ≤ 1048560 → (l : Layout) → l ≡ layout_at program A size → IsBounded program l
+  pub bounded : segment_fault ss A ≡ None → size ≤ 1048560 → (l : Layout) → l ≡ layout_at names program A size → IsBounded program l
   bounded none fits l is = subst (λ k. IsBounded program k) (sym is) (record {
     size = fits;
-    modules = length-map (inputs program) (module_places program A) ∙ length-inputs 0 0 program;
+    modules = length-map (inputs program) (module_places program A) ∙ inputs-length 0 0 program;
     each = places;
     combined = λ i c e. All-get (λ (d : Combined). d.end ≤ 16 * (d.start / 16) + 65536) (map (combined_segment ss A) (leaders ss)) i c (short none) e;
-    publics = λ name. value-all OwnFrame (placed_publics program A) name publics;
+    publics = λ name. value-all OwnFrame (agrees names name) None (placed_publics program A) publics;
+    scopes = length-map-range_with_len (λ m. table names (Some m) (placed_publics program A)) 0 (length program);
+    locals = λ input name. by input name (cases_lt input (length program));
   })
+    where
+      -- past the last module there is no table
+      local : (t : Table PublicPlace) (input : ℕ) (name : List ℕ) → get_or (local_tables names (length program) (placed_publics program A)) input (empty Exact) ≡ t → IfSome (means t name) OwnFrame
+          → IfSome (local_public (layout_at names program A size) input name) OwnFrame
+      local t input name e h = subst (λ (u : Table PublicPlace). IfSome (means u name) OwnFrame) (sym e) h
+
+      by : (input : ℕ) (name : List ℕ) → (input < length program) ⊎ (length program ≤ input) → IfSome (local_public (layout_at names program A size) input name) OwnFrame
+      by input name (inl h) = local (table names (Some input) (placed_publics program A)) input name
+          (let z : 0 + input ≡ input = omega arith in get_or-map-range_with_len (λ m. table names (Some m) (placed_publics program A)) 0 (length program) input input (empty Exact) h z)
+          (value-all OwnFrame (agrees names name) (Some input) (placed_publics program A) publics)
+      by input name (inr h) = local (empty Exact) input name
+          (get_or_past (local_tables names (length program) (placed_publics program A)) input (empty Exact)
+          (let e = length-map-range_with_len (λ m. table names (Some m) (placed_publics program A)) 0 (length program) in omega (arith, e, h))) tt

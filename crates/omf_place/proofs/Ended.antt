@@ -7,6 +7,7 @@ use Rattle.omf_module.specs.Module.{Module}
 use Rattle.omf_place.specs.declared.groups.GroupEntry.{GroupEntry}
 use Rattle.omf_place.specs.declared.inputs.Input as held
 use Rattle.omf_place.specs.declared.layout.Combined.{Combined}
+use Rattle.omf_place.specs.declared.names.Names.{Names}
 use Rattle.omf_place.specs.Faults.{PlacementFault, IsFirstFault, IsOnlyLayout, later_fault, placement_fault, segment_fault, size_fault, ProgramTooLarge}
 use Rattle.omf_place.specs.HeldLayout.{MeetsGroups, held_fault, held_layout}
 use Rattle.omf_place.specs.Inputs.{inputs}
@@ -18,10 +19,10 @@ use Rattle.omf_place.specs.Tables.{combined_segment, leaders}
 use Rattle.omf_place.proofs.LinkLayout.{fault_same, layout_same}
 use Rattle.omf_place.proofs.Results.{IfOk-map, OnOk-from}
 
-abbrev Gathered : {H : Type 0} → ℕ → List Combined → List (held.Input H) → Layout → Type 0
-Gathered size combined xs l = (groups : List (List ℕ × GroupEntry)) × MeetsGroups xs groups × (held_fault xs groups ≡ None) × (l ≡ held_layout size combined xs groups)
+abbrev Gathered : {H : Type 0} → Names → ℕ → List Combined → List (held.Input H) → Layout → Type 0
+Gathered names size combined xs l = (groups : List (List ℕ × GroupEntry)) × MeetsGroups xs groups × (held_fault names xs groups ≡ None) × (l ≡ held_layout names size combined xs groups)
 
-module _ {H : Type 0} (program : List Module) (A : List ℕ) (size : ℕ) (ss : List Site) (same : ss ≡ sites program) (xs : List (held.Input H)) (made : map input_view xs ≡ inputs program)
+module _ {H : Type 0} (names : Names) (program : List Module) (A : List ℕ) (size : ℕ) (ss : List Site) (same : ss ≡ sites program) (xs : List (held.Input H)) (made : map input_view xs ≡ inputs program)
     (own : AllByRecursion (HasStands ss A) xs) (snd : AllByRecursion IsSoundInput xs) (combined : List Combined) (cs : combined ≡ map (combined_segment ss A) (leaders ss)) where
   stands : AllByRecursion (HasStands (sites program) A) xs
   stands = subst (λ s. AllByRecursion (HasStands s A) xs) same own
@@ -29,14 +30,14 @@ module _ {H : Type 0} (program : List Module) (A : List ℕ) (size : ℕ) (ss : 
   all : combined ≡ map (combined_segment (sites program) A) (leaders (sites program))
   all = cs ∙ ap (λ s. map (combined_segment s A) (leaders s)) same
 
-  pub ended-apart : {E : Type 0} (r : Result Layout E) → IfOk r (Gathered size combined xs) → OnOk r (later_fault program A ≡ None)
-  ended-apart r h = OnOk-from (Gathered size combined xs) (later_fault program A ≡ None) r (λ l g. sym (fault_same program A xs made stands snd g.0 g.1) ∙ g.2) h
+  pub ended-apart : {E : Type 0} (r : Result Layout E) → IfOk r (Gathered names size combined xs) → OnOk r (later_fault names program A ≡ None)
+  ended-apart r h = OnOk-from (Gathered names size combined xs) (later_fault names program A ≡ None) r (λ l g. sym (fault_same program A xs made stands snd g.0 g.1 names) ∙ g.2) h
 
-  pub ended-layout : {E : Type 0} (r : Result Layout E) → IfOk r (Gathered size combined xs) → IfOk r (λ l. l ≡ layout_at program A size)
-  ended-layout r h = IfOk-map (Gathered size combined xs) (λ l. l ≡ layout_at program A size) r (λ l g. g.3 ∙ layout_same program A xs made stands snd g.0 g.1 size combined all) h
+  pub ended-layout : {E : Type 0} (r : Result Layout E) → IfOk r (Gathered names size combined xs) → IfOk r (λ l. l ≡ layout_at names program A size)
+  ended-layout r h = IfOk-map (Gathered names size combined xs) (λ l. l ≡ layout_at names program A size) r (λ l g. g.3 ∙ layout_same program A xs made stands snd g.0 g.1 names size combined all) h
 
-  pub ended-fault : (f : PlacementFault) → ((groups : List (List ℕ × GroupEntry)) × MeetsGroups xs groups × (held_fault xs groups ≡ Some f)) → later_fault program A ≡ Some f
-  ended-fault f g = sym (fault_same program A xs made stands snd g.0 g.1) ∙ g.2
+  pub ended-fault : (f : PlacementFault) → ((groups : List (List ℕ × GroupEntry)) × MeetsGroups xs groups × (held_fault names xs groups ≡ Some f)) → later_fault names program A ≡ Some f
+  ended-fault f g = sym (fault_same program A xs made stands snd g.0 g.1 names) ∙ g.2
 
 or_first : {X : Type 0} (a b c : Option X) (f : X) → option_or a b ≡ Some f → option_or a (option_or b c) ≡ Some f
 or_first None b c f e = ap (λ o. option_or o c) e
@@ -45,22 +46,22 @@ or_first (Some x) b c f e = e
 size_fits : (size : ℕ) → size ≤ 1048560 → size_fault size ≡ None
 size_fits size h = (elim (nat_lt 1048560 size) as (λ b. nat_lt 1048560 size ≡ b → cond b (Some ProgramTooLarge) None ≡ None) [ true ↦ λ t. absurd (let l : 1048560 < size = ltb-true _ _ t in omega arith) | false ↦ λ t. refl ]) refl
 
-module _ (program : List Module) (A : List ℕ) (size : ℕ) (placed : IsPlaced (sites program) A size) (only : IsOnlyPlacement (sites program) A size) where
-  pub early-fault : (f : PlacementFault) → option_or (segment_fault (sites program) A) (size_fault size) ≡ Some f → IsFirstFault program f
-  early-fault f e = (A, size, placed, only, or_first (segment_fault (sites program) A) (size_fault size) (later_fault program A) f e)
+module _ (names : Names) (program : List Module) (A : List ℕ) (size : ℕ) (placed : IsPlaced (sites program) A size) (only : IsOnlyPlacement (sites program) A size) where
+  pub early-fault : (f : PlacementFault) → option_or (segment_fault (sites program) A) (size_fault size) ≡ Some f → IsFirstFault names program f
+  early-fault f e = (A, size, placed, only, or_first (segment_fault (sites program) A) (size_fault size) (later_fault names program A) f e)
 
   module _ (short : segment_fault (sites program) A ≡ None) (fits : size ≤ 1048560) where
-    later-is : placement_fault program A size ≡ later_fault program A
-    later-is = ap (λ o. option_or o (option_or (size_fault size) (later_fault program A))) short ∙ ap (λ o. option_or o (later_fault program A)) (size_fits size fits)
+    later-is : placement_fault names program A size ≡ later_fault names program A
+    later-is = ap (λ o. option_or o (option_or (size_fault size) (later_fault names program A))) short ∙ ap (λ o. option_or o (later_fault names program A)) (size_fits size fits)
 
-    pub late-fault : (f : PlacementFault) → later_fault program A ≡ Some f → IsFirstFault program f
+    pub late-fault : (f : PlacementFault) → later_fault names program A ≡ Some f → IsFirstFault names program f
     late-fault f e = (A, size, placed, only, later-is ∙ e)
 
-    only_at : later_fault program A ≡ None → IsOnlyLayout program (layout_at program A size)
+    only_at : later_fault names program A ≡ None → IsOnlyLayout names program (layout_at names program A size)
     only_at none = (
       (A, placed, later-is ∙ none, refl),
-      λ other is. let h = only is.0 other.size is.1 in is.3 ∙ ap (λ B. layout_at program B other.size) h.0 ∙ ap (λ n. layout_at program A n) h.1,
+      λ other is. let h = only is.0 other.size is.1 in is.3 ∙ ap (λ B. layout_at names program B other.size) h.0 ∙ ap (λ n. layout_at names program A n) h.1,
     )
 
-    pub only-layout : later_fault program A ≡ None → (l : Layout) → l ≡ layout_at program A size → IsOnlyLayout program l
-    only-layout none l e = subst (λ k. IsOnlyLayout program k) (sym e) (only_at none)
+    pub only-layout : later_fault names program A ≡ None → (l : Layout) → l ≡ layout_at names program A size → IsOnlyLayout names program l
+    only-layout none l e = subst (λ k. IsOnlyLayout names program k) (sym e) (only_at none)

@@ -26,6 +26,7 @@ pub mod Numbering
 pub mod DuplicateSteps
 pub mod RowSteps
 pub mod LinkRows
+pub mod Owners
 pub mod LinkGroups
 pub mod LinkTables
 pub mod SpanAddresses

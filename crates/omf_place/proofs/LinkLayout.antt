@@ -1,5 +1,5 @@
 -- A gathered layout is that of the definitions.
-use Rattle.std.proofs.Common.{◌≡◌, ℕ, ◌+◌, ◌<◌, ◌≤◌, ◌^◌, List, [], ◌∷◌, map, filter, length, Some, slice_get, get_or, refl, ap, sym, ◌∙◌, arith, subst}
+use Rattle.std.proofs.Common.{◌≡◌, ℕ, ◌+◌, ◌<◌, ◌≤◌, ◌^◌, List, [], ◌∷◌, map, filter, length, suc, None, Some, slice_get, get_or, refl, ap, sym, ◌∙◌, arith, subst}
 use Rattle.std.proofs.lemmas.List.{length-map}
 use Rattle.std.proofs.lemmas.Option.{slice_get_within}
 use Rattle.std.specs.List.{AllByRecursion, flat_map}
@@ -13,7 +13,8 @@ use Rattle.omf_place.specs.declared.inputs.Input as held
 use Rattle.omf_place.specs.declared.layout.Combined.{Combined}
 use Rattle.omf_place.specs.declared.spans.SegmentSpan.{SegmentSpan}
 use Rattle.omf_place.specs.declared.stands.Stand.{Stand}
-use Rattle.omf_place.specs.Faults.{group_fault, duplicate_in}
+use Rattle.omf_place.specs.declared.names.Names.{Names}
+use Rattle.omf_place.specs.Faults.{group_fault, duplicate_in, later_fault}
 use Rattle.omf_place.specs.HeldLayout.{MeetsGroups, held_fault, held_group_fault, held_layout}
 use Rattle.omf_place.specs.Inputs.{inputs_from, inputs}
 use Rattle.omf_place.specs.InputViews.{addresses_of, AreStands, HasStands, HasComponents, IsSoundInput, input_view}
@@ -25,10 +26,11 @@ use Rattle.omf_place.specs.Placed.{IsPlaced, address_of}
 use Rattle.omf_place.specs.PublicTables.{IsWholeInput, held_publics}
 use Rattle.omf_place.specs.Reaches.{GroupReach, group_in, is_first_named, placed_named, reached}
 use Rattle.omf_place.specs.Rows.{HasRow}
+use Rattle.omf_place.specs.Scopes.{local_tables, table}
 use Rattle.omf_place.specs.Sites.{site, sites_view}
 use Rattle.omf_place.specs.Spans.{IsLow, span_of}
 use Rattle.omf_place.specs.Stands.{StartsLow, stand_by, stand_of}
-use Rattle.omf_place.specs.Tables.{combined_segment, grpdefs, leaders, placed_publics}
+use Rattle.omf_place.specs.Tables.{combined_segment, grpdefs, leaders}
 use Rattle.omf_place.proofs.KeyPlaces.{All-make, map_congr, map_two}
 use Rattle.omf_place.proofs.LinkGroups.{grpdefs_same, All-two, to_recursion}
 use Rattle.omf_place.proofs.LinkRows.{All-mapped_back}
@@ -38,27 +40,44 @@ use Rattle.omf_place.proofs.Walks.{All-map, numbered_found}
 use Rattle.omf_place.proofs.SpanAddresses.{by_position}
 use Rattle.omf_place.proofs.Within.{address-within, end-low, start-within}
 
+pub inputs-length : (p i : ℕ) (ms : List Module) → length (inputs_from p i ms) ≡ length ms
+inputs-length p i [] = refl
+inputs-length p i (m ∷ ms) = ap suc (inputs-length (p + length m.segments) (i + 1) ms)
+
 module _ {H : Type 0} (program : List Module) (A : List ℕ) (xs : List (held.Input H)) (made : map input_view xs ≡ inputs program) (stands : AllByRecursion (HasStands (sites program) A) xs) (sound : AllByRecursion IsSoundInput xs)
     (groups : List (List ℕ × GroupEntry)) (meets : MeetsGroups xs groups) where
   meets_program : (q : List ℕ) → value_of groups q ≡ group_in q (map (reached program A) (grpdefs program))
   meets_program q = meets q ∙ ap (λ gs. group_in q gs) (grpdefs_same program A xs made stands sound)
 
-  pub fault_same : held_fault xs groups ≡ option_or (group_fault program A) (duplicate_in (placed_publics program A))
-  fault_same =
-      ap (λ gs. option_or (held_group_fault gs groups) (duplicate_in (flat_map (held_publics groups) xs))) (grpdefs_same program A xs made stands sound)
-      ∙ ap (λ o. option_or o (duplicate_in (flat_map (held_publics groups) xs))) (group_fault_same program A groups meets_program)
-      ∙ ap (λ ps. option_or (group_fault program A) (duplicate_in ps)) (publics_same program A groups meets_program xs made stands)
+  pub fault_same : (names : Names) → held_fault names xs groups ≡ later_fault names program A
+  fault_same names =
+      ap (λ gs. option_or (held_group_fault gs groups) (duplicate_in names (flat_map (held_publics groups) xs))) (grpdefs_same program A xs made stands sound)
+      ∙ ap (λ o. option_or o (duplicate_in names (flat_map (held_publics groups) xs))) (group_fault_same program A groups meets_program)
+      ∙ ap (λ ps. option_or (group_fault program A) (duplicate_in names ps)) (publics_same program A groups meets_program xs made stands)
 
-  pub layout_same : (size : ℕ) (combined : List Combined) → combined ≡ map (combined_segment (sites program) A) (leaders (sites program)) → held_layout size combined xs groups ≡ layout_at program A size
-  layout_same size combined e =
+  pub layout_same : (names : Names) (size : ℕ) (combined : List Combined) → combined ≡ map (combined_segment (sites program) A) (leaders (sites program)) → held_layout names size combined xs groups ≡ layout_at names program A size
+  layout_same names size combined e =
       let m = places_same program A groups meets_program xs made stands in
       let g = ap (λ (gs : List GroupReach). map (placed_named groups) (filter (is_first_named groups) gs)) (grpdefs_same program A xs made stands sound) ∙ placed_groups_same program A groups meets_program in
       let p = publics_same program A groups meets_program xs made stands in
-      λ j. record { size = size; modules = m j; combined = e j; groups = g j; publics = p j }
+      let count : length xs ≡ length program = sym (length-map xs input_view) ∙ ap length made ∙ inputs-length 0 0 program in
+      let t = ap (λ ps. table names None ps) p in
+      let l = ap (λ n. local_tables names n (flat_map (held_publics groups) xs)) count ∙ ap (λ ps. local_tables names (length program) ps) p in
+      λ j. record { size = size; modules = m j; combined = e j; groups = g j; publics = t j; locals = l j }
 
 All-mapped : {X Y : Type 0} (f : X → Y) (P : Y → Type 0) (xs : List X) → AllByRecursion (λ x. P (f x)) xs → AllByRecursion P (map f xs)
 All-mapped f P [] ps = tt
 All-mapped f P (x ∷ xs) ps = (ps.0, All-mapped f P xs ps.1)
+
+indexed_from : (p i : ℕ) (ms : List Module) (count : ℕ) → i + length ms ≤ count → AllByRecursion (λ n. n.input < count) (inputs_from p i ms)
+indexed_from p i [] count h = tt
+indexed_from p i (m ∷ ms) count h = (omega (arith, h), indexed_from (p + length m.segments) (i + 1) ms count (omega (arith, h)))
+
+-- each input has its index among them
+pub inputs-indexed : {H : Type 0} (program : List Module) (xs : List (held.Input H)) → map input_view xs ≡ inputs program → AllByRecursion (λ x. x.input < length xs) xs
+inputs-indexed program xs made =
+    let count : length xs ≡ length program = sym (length-map xs input_view) ∙ ap length made ∙ inputs-length 0 0 program in
+    All-mapped_back input_view (λ n. n.input < length xs) xs (subst (λ ns. AllByRecursion (λ n. n.input < length xs) ns) (sym made) (indexed_from 0 0 program (length xs) (omega (arith, count))))
 
 lengths_from : (p i : ℕ) (ms : List Module) → AllByRecursion (λ n. length n.sites ≡ length n.says.segments) (inputs_from p i ms)
 lengths_from p i [] = tt

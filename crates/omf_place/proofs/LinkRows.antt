@@ -1,6 +1,6 @@
 -- What the code gathers of each module is what the definitions say: segments.
-use Rattle.std.proofs.Common.{◌≡◌, ℕ, zero, suc, ◌+◌, List, [], ◌∷◌, map, length, Some, slice_get, refl}
-use Rattle.std.specs.List.{AllByRecursion}
+use Rattle.std.proofs.Common.{◌≡◌, ℕ, zero, suc, ◌+◌, List, [], ◌∷◌, ◌++◌, map, length, Some, slice_get, refl}
+use Rattle.std.specs.List.{AllByRecursion, flat_map}
 use Rattle.omf_module.specs.declared.Standing.{Standing}
 use Rattle.omf_module.specs.declared.Standing.TheVariants.{Absolute, Relocatable}
 use Rattle.omf_module.specs.Module.{Module, Segment}
@@ -39,6 +39,14 @@ input_rows program = rows_from 0 0 program
 pub row_at : (n : Input) → RowIs n → (k : ℕ) (s : Segment) → slice_get n.says.segments k ≡ Some s → (a : Site) × (slice_get n.sites k ≡ Some a) × (a.segment ≡ s)
 unfolding RowIs
 row_at n h = h
+
+All-append : {X : Type 0} (P : X → Type 0) (xs ys : List X) → AllByRecursion P xs → AllByRecursion P ys → AllByRecursion P (xs ++ ys)
+All-append P [] ys ps qs = qs
+All-append P (x ∷ xs) ys ps qs = (ps.0, All-append P xs ys ps.1 qs)
+
+pub All-flat : {X Y : Type 0} (P : Y → Type 0) (f : X → List Y) (xs : List X) → AllByRecursion (λ x. AllByRecursion P (f x)) xs → AllByRecursion P (flat_map f xs)
+All-flat P f [] h = tt
+All-flat P f (x ∷ xs) h = All-append P (f x) (flat_map f xs) h.0 (All-flat P f xs h.1)
 
 pub All-mapped_back : {X Y : Type 0} (f : X → Y) (P : Y → Type 0) (xs : List X) → AllByRecursion P (map f xs) → AllByRecursion (λ x. P (f x)) xs
 All-mapped_back f P [] ps = tt

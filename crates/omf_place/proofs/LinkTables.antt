@@ -28,7 +28,7 @@ use Rattle.omf_place.specs.Rows.{held_places, placed_row}
 use Rattle.omf_place.specs.Sites.{site, sites_view}
 use Rattle.omf_place.specs.Stands.{stand_of, stand_by}
 use Rattle.omf_place.specs.Spans.{span_of}
-use Rattle.omf_place.specs.Tables.{Grpdef, Span, grpdefs, span, group_span, group_frame, is_first_grpdef, placed_group, placed_groups, public_frame, in_segment, placed_public, publics_of, placed_publics, segment_start}
+use Rattle.omf_place.specs.Tables.{Grpdef, Span, grpdefs, span, group_span, group_frame, is_first_grpdef, placed_group, placed_groups, public_frame, in_segment, placed_public, public_entry, publics_of, placed_publics, segment_start}
 use Rattle.omf_place.proofs.Walks.{All-map}
 use Rattle.omf_place.proofs.KeyPlaces.{map_congr, map_two, All-make}
 use Rattle.omf_place.proofs.LinkGroups.{step, fold-together, fold-append, together-none, join_reaches, flat_map_congr, flat_map_two}
@@ -187,8 +187,8 @@ module _ (program : List Module) (A : List ℕ) where
       publics_same xs made stands =
           flat_map_congr (held_publics groups) (λ x. publics_of program A (input_view x)) xs
           (All-map (HasStands ss A) (λ x. held_publics groups x ≡ publics_of program A (input_view x)) xs
-          (λ x own. flat_map_congr (λ (p : PublicSymbol). option_to_list (option_map (λ placed. (p.name, placed)) (held_public x groups p)))
-          (λ (p : PublicSymbol). option_to_list (option_map (λ placed. (p.name, placed)) (placed_public program A (input_view x) p.offset p.base))) x.says.now.publics
-          (All-make (λ (p : PublicSymbol). option_to_list (option_map (λ placed. (p.name, placed)) (held_public x groups p)) ≡ option_to_list (option_map (λ placed. (p.name, placed)) (placed_public program A (input_view x) p.offset p.base))) x.says.now.publics
-          (λ p. ap (λ o. option_to_list (option_map (λ placed. (p.name, placed)) o)) (public_same x own p.offset p.base)))) stands)
+          (λ x own. flat_map_congr (λ (p : PublicSymbol). option_to_list (option_map (public_entry x.input p) (held_public x groups p)))
+          (λ (p : PublicSymbol). option_to_list (option_map (public_entry x.input p) (placed_public program A (input_view x) p.offset p.base))) x.says.now.publics
+          (All-make (λ (p : PublicSymbol). option_to_list (option_map (public_entry x.input p) (held_public x groups p)) ≡ option_to_list (option_map (public_entry x.input p) (placed_public program A (input_view x) p.offset p.base))) x.says.now.publics
+          (λ p. ap (λ o. option_to_list (option_map (public_entry x.input p) o)) (public_same x own p.offset p.base)))) stands)
           ∙ sym (flat_map_two input_view (publics_of program A) xs) ∙ ap (λ ns. flat_map (publics_of program A) ns) made

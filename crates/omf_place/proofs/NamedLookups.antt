@@ -1,32 +1,35 @@
 -- Look-ups in a map, as look-ups in its entries by name.
-use Rattle.std.proofs.Common.{◌≡◌, ℕ, true, false, cond, List, [], ◌∷◌, ◌++◌, Option, Some, None, Vec, is_some, subst, refl, ap, sym, ◌∙◌}
+use Rattle.std.proofs.Common.{◌≡◌, ℕ, Bool, true, false, cond, List, [], ◌∷◌, ◌++◌, Option, Some, None, Vec, map, is_some, subst, refl, ap, sym, ◌∙◌}
 use Rattle.indexmap.specs.IndexMap.{insert_entry}
-use Rattle.std.specs.Borrow.{Bor}
 use Rattle.std.specs.Map.{lookup}
-use Rattle.std.specs.Str.{bytes_eq}
-use Rattle.omf_place.specs.Named.{value_of, named_slices, named_vectors}
+use Rattle.omf_place.specs.Named.{value_where}
 
-pub lookup-slices : {V : Type 0} (name : List ℕ) (es : List (Bor (List ℕ) × V)) → lookup (λ k. bytes_eq name k.now) es ≡ value_of (named_slices es) name
-lookup-slices name [] = refl
-lookup-slices name (e ∷ es) = ap (λ o. cond (bytes_eq name e.0.now) (Some e.1) o) (lookup-slices name es)
+abbrev pub vector_name : {A : Type 0} → Vec ℕ A → List ℕ
+vector_name key = key.items
 
-pub lookup-vectors : {A V : Type 0} (name : List ℕ) (es : List (Vec ℕ A × V)) → lookup (λ k. bytes_eq name k.items) es ≡ value_of (named_vectors es) name
-lookup-vectors name [] = refl
-lookup-vectors name (e ∷ es) = ap (λ o. cond (bytes_eq name e.0.items) (Some e.1) o) (lookup-vectors name es)
+-- keys that have names
+module _ {K V : Type 0} (f : K → List ℕ) where
+  abbrev pub named : List (K × V) → List (List ℕ × V)
+  named es = map (λ e. (f e.0, e.1)) es
 
-named-insert : {A V : Type 0} (key : Vec ℕ A) (v : V) (es : List (Vec ℕ A × V)) → value_of (named_vectors es) key.items ≡ None →
-    named_vectors (insert_entry (λ a b. bytes_eq a.items b.items) es key v) ≡ named_vectors es ++ (key.items, v) ∷ []
-named-insert key v [] h = refl
-named-insert key v (e ∷ es) h =
-    (elim (bytes_eq key.items e.0.items) as (λ b. cond b (Some e.1) (value_of (named_vectors es) key.items) ≡ None →
-    named_vectors (cond b ((e.0, v) ∷ es) (e ∷ insert_entry (λ a c. bytes_eq a.items c.items) es key v)) ≡ (e.0.items, e.1) ∷ (named_vectors es ++ (key.items, v) ∷ []))
-    [ true ↦ λ g. cc | false ↦ λ g. ap (λ xs. (e.0.items, e.1) ∷ xs) (named-insert key v es g) ]) h
+  pub lookup-named : (test : List ℕ → Bool) (es : List (K × V)) → lookup (λ k. test (f k)) es ≡ value_where test (named es)
+  lookup-named test [] = refl
+  lookup-named test (e ∷ es) = ap (λ o. cond (test (f e.0)) (Some e.1) o) (lookup-named test es)
+
+  module _ (same : List ℕ → List ℕ → Bool) where
+    named-insert : (key : K) (v : V) (es : List (K × V)) → value_where (same (f key)) (named es) ≡ None →
+        named (insert_entry (λ a b. same (f a) (f b)) es key v) ≡ named es ++ (f key, v) ∷ []
+    named-insert key v [] h = refl
+    named-insert key v (e ∷ es) h =
+        (elim (same (f key) (f e.0)) as (λ b. cond b (Some e.1) (value_where (same (f key)) (named es)) ≡ None →
+        named (cond b ((e.0, v) ∷ es) (e ∷ insert_entry (λ a c. same (f a) (f c)) es key v)) ≡ (f e.0, e.1) ∷ (named es ++ (f key, v) ∷ []))
+        [ true ↦ λ g. cc | false ↦ λ g. ap (λ xs. (f e.0, e.1) ∷ xs) (named-insert key v es g) ]) h
+
+    pub named-insert_new : (key : K) (name : List ℕ) (v : V) (es : List (K × V)) → f key ≡ name → value_where (same name) (named es) ≡ None →
+        named (insert_entry (λ a b. same (f a) (f b)) es key v) ≡ named es ++ (name, v) ∷ []
+    named-insert_new key name v es e h =
+        named-insert key v es (subst (λ n. value_where (same n) (named es) ≡ None) (sym e) h) ∙ ap (λ n. named es ++ (n, v) ∷ []) e
 
 pub none_from : {A : Type 0} (o : Option A) → is_some o ≡ false → o ≡ None
 none_from None e = refl
 none_from (Some x) e = cc
-
-pub named-insert_new : {A V : Type 0} (key : Vec ℕ A) (name : List ℕ) (v : V) (es : List (Vec ℕ A × V)) → key.items ≡ name → value_of (named_vectors es) name ≡ None →
-    named_vectors (insert_entry (λ a b. bytes_eq a.items b.items) es key v) ≡ named_vectors es ++ (name, v) ∷ []
-named-insert_new key name v es e h =
-    named-insert key v es (subst (λ n. value_of (named_vectors es) n ≡ None) (sym e) h) ∙ ap (λ n. named_vectors es ++ (n, v) ∷ []) e

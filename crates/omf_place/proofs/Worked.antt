@@ -11,9 +11,11 @@ use Rattle.omf_place.specs.Parts.{sites, placement_order, Site}
 use Rattle.std.proofs.Common.{◌+◌, ◌%◌, Bool, true, false, ◌&&◌, eqb, ltb, leb, slice_index}
 use Rattle.omf_place.specs.Placed.{IsPlaced, is_unit, unit_alignment, unit_length}
 use Rattle.omf_place.specs.Tables.{group_frame, placed_publics}
-use Rattle.omf_place.specs.Layout.{layout_at, public}
+use Rattle.omf_place.specs.Layout.{layout_at, local_public, public}
 use Rattle.omf_place.specs.Faults.{placement_fault, SegmentTooLong, ProgramTooLarge, GroupTooLong, DuplicatePublic}
 use Rattle.omf_module.specs.declared.Kind.{Kind}
+use Rattle.omf_place.specs.declared.names.Names.TheVariants.{Exact, AsciiFolded}
+use Rattle.omf_place.specs.Names.{agrees}
 
 abbrev seg : List ℕ → List ℕ → ℕ → Kind → ℕ → Segment
 seg n c a k l = record { name = n; class = c; length = l; standing = Relocatable a k }
@@ -27,7 +29,7 @@ two = mod_of (seg (codes "CODE") (codes "CODE") 16 Public 18 ∷ seg (codes "_DA
     (record { name = codes "DGROUP"; members = 1 ∷ [] } ∷ []) []
     ∷ mod_of (seg (codes "_DATA") (codes "_DATA") 2 Public 2 ∷ [])
     (record { name = codes "DGROUP"; members = 0 ∷ [] } ∷ [])
-    (record { name = codes "x"; base = InSegment 0 (Some 0); offset = 0 } ∷ [])
+    (record { name = codes "x"; base = InSegment 0 (Some 0); offset = 0; local = false } ∷ [])
     ∷ []
 
 two_order : map (λ (a : Site). a.position) (placement_order (sites two)) ≡ 0 ∷ 1 ∷ 2 ∷ []
@@ -49,10 +51,10 @@ two_placed = record {
 two_group : group_frame two (0 ∷ 18 ∷ 22 ∷ []) (codes "DGROUP") ≡ Some 1
 two_group = refl
 
-two_public : public (layout_at two (0 ∷ 18 ∷ 22 ∷ []) 24) (codes "x") ≡ Some (record { address = address.Relocatable 22; frame = Some (base.Relocatable 1) })
+two_public : public (layout_at Exact two (0 ∷ 18 ∷ 22 ∷ []) 24) (codes "x") ≡ Some (record { address = address.Relocatable 22; frame = Some (base.Relocatable 1) })
 two_public = refl
 
-two_fault : placement_fault two (0 ∷ 18 ∷ 22 ∷ []) 24 ≡ None
+two_fault : placement_fault Exact two (0 ∷ 18 ∷ 22 ∷ []) 24 ≡ None
 two_fault = refl
 
 -- a class that comes again takes its place beside the first
@@ -95,10 +97,10 @@ stacks_aligned = refl
 abbrev grouped : ℕ → List Module
 grouped n = one (code 65535 ∷ seg [] [] 1 Public n ∷ []) (record { name = codes "CODE"; members = 0 ∷ 1 ∷ [] } ∷ []) []
 
-grouped_long : placement_fault (grouped 2) (0 ∷ 65535 ∷ []) 65537 ≡ Some (GroupTooLong (codes "CODE"))
+grouped_long : placement_fault Exact (grouped 2) (0 ∷ 65535 ∷ []) 65537 ≡ Some (GroupTooLong (codes "CODE"))
 grouped_long = refl
 
-grouped_fits : placement_fault (grouped 1) (0 ∷ 65535 ∷ []) 65536 ≡ None
+grouped_fits : placement_fault Exact (grouped 1) (0 ∷ 65535 ∷ []) 65536 ≡ None
 grouped_fits = refl
 
 grouped_frame : group_frame (grouped 1) (0 ∷ 65535 ∷ []) (codes "CODE") ≡ Some 0
@@ -111,17 +113,17 @@ private_ones n = replicate 15 (seg [] [] 1 Private 65536) ++ seg [] [] 1 Private
 abbrev fifteen : List ℕ
 fifteen = 0 ∷ 65536 ∷ 131072 ∷ 196608 ∷ 262144 ∷ 327680 ∷ 393216 ∷ 458752 ∷ 524288 ∷ 589824 ∷ 655360 ∷ 720896 ∷ 786432 ∷ 851968 ∷ 917504 ∷ 983040 ∷ []
 
-large_fits : placement_fault (one (private_ones 65520) [] []) fifteen 1048560 ≡ None
+large_fits : placement_fault Exact (one (private_ones 65520) [] []) fifteen 1048560 ≡ None
 large_fits = refl
 
 large_placed : is_placed (one (private_ones 65520) [] []) fifteen 1048560 ≡ true
 large_placed = refl
 
-large_fails : placement_fault (one (private_ones 65521) [] []) fifteen 1048561 ≡ Some ProgramTooLarge
+large_fails : placement_fault Exact (one (private_ones 65521) [] []) fifteen 1048561 ≡ Some ProgramTooLarge
 large_fails = refl
 
 -- two publics of one name
-twice : placement_fault (one (code 5 ∷ []) [] (record { name = codes "x"; base = InSegment 0 None; offset = 0 } ∷ record { name = codes "x"; base = InSegment 0 None; offset = 1 } ∷ [])) (0 ∷ []) 5
+twice : placement_fault Exact (one (code 5 ∷ []) [] (record { name = codes "x"; base = InSegment 0 None; offset = 0; local = false } ∷ record { name = codes "x"; base = InSegment 0 None; offset = 1; local = false } ∷ [])) (0 ∷ []) 5
     ≡ Some (DuplicatePublic (codes "x"))
 twice = refl
 
@@ -129,10 +131,10 @@ twice = refl
 abbrev full_stack : List Segment → List Module
 full_stack more = one (code 0 ∷ seg (codes "CODE") (codes "CODE") 16 Stack 65536 ∷ more) [] []
 
-stack_full : placement_fault (full_stack []) (0 ∷ 0 ∷ []) 65536 ≡ None
+stack_full : placement_fault Exact (full_stack []) (0 ∷ 0 ∷ []) 65536 ≡ None
 stack_full = refl
 
-stack_over : placement_fault (full_stack (seg (codes "CODE") (codes "CODE") 16 Stack 1 ∷ [])) (0 ∷ 0 ∷ 65536 ∷ []) 65537 ≡ Some (SegmentTooLong (codes "CODE"))
+stack_over : placement_fault Exact (full_stack (seg (codes "CODE") (codes "CODE") 16 Stack 1 ∷ [])) (0 ∷ 0 ∷ 65536 ∷ []) 65537 ≡ Some (SegmentTooLong (codes "CODE"))
 stack_over = refl
 
 small_stack : is_placed (one (code 5 ∷ seg (codes "CODE") (codes "CODE") 16 Stack 256 ∷ []) [] []) (0 ∷ 16 ∷ []) 272 ≡ true
@@ -146,10 +148,39 @@ commons_placed : is_placed commons (0 ∷ 0 ∷ []) 4 ≡ true
 commons_placed = refl
 
 -- an absolute public
-absolute_public : placed_publics (one [] [] (record { name = codes "x"; base = AtFrame 5682; offset = 22 } ∷ [])) [] ≡ (codes "x", record { address = address.Absolute 90934; frame = Some (base.Absolute 5682) }) ∷ []
+absolute_public : placed_publics (one [] [] (record { name = codes "x"; base = AtFrame 5682; offset = 22; local = false } ∷ [])) [] ≡ record { owner = None; name = codes "x"; value = record { address = address.Absolute 90934; frame = Some (base.Absolute 5682) } } ∷ []
 absolute_public = refl
 
 -- a public in a group without members
-empty_group : placed_publics (one (code 1 ∷ []) (record { name = codes "G"; members = [] } ∷ []) (record { name = codes "x"; base = InSegment 0 (Some 0); offset = 0 } ∷ [])) (0 ∷ [])
-    ≡ (codes "x", record { address = address.Relocatable 0; frame = None }) ∷ []
+empty_group : placed_publics (one (code 1 ∷ []) (record { name = codes "G"; members = [] } ∷ []) (record { name = codes "x"; base = InSegment 0 (Some 0); offset = 0; local = false } ∷ [])) (0 ∷ [])
+    ≡ record { owner = None; name = codes "x"; value = record { address = address.Relocatable 0; frame = None } } ∷ []
 empty_group = refl
+
+-- names that differ in case, and names of one module
+abbrev at_offset : List ℕ → ℕ → Bool → PublicSymbol
+at_offset name offset local = record { name = name; base = InSegment 0 None; offset = offset; local = local }
+
+abbrev with_publics : List PublicSymbol → List Module
+with_publics ps = one (code 5 ∷ []) [] ps
+
+two_cases : placement_fault Exact (with_publics (at_offset (codes "x") 0 false ∷ at_offset (codes "X") 1 false ∷ [])) (0 ∷ []) 5 ≡ None
+two_cases = refl
+
+one_folded : placement_fault AsciiFolded (with_publics (at_offset (codes "x") 0 false ∷ at_offset (codes "X") 1 false ∷ [])) (0 ∷ []) 5 ≡ Some (DuplicatePublic (codes "X"))
+one_folded = refl
+
+beside_local : placement_fault AsciiFolded (with_publics (at_offset (codes "x") 0 false ∷ at_offset (codes "X") 1 true ∷ [])) (0 ∷ []) 5 ≡ None
+beside_local = refl
+
+twice_local : placement_fault AsciiFolded (with_publics (at_offset (codes "x") 0 true ∷ at_offset (codes "X") 1 true ∷ [])) (0 ∷ []) 5 ≡ Some (DuplicatePublic (codes "X"))
+twice_local = refl
+
+local_means : local_public (layout_at AsciiFolded (with_publics (at_offset (codes "x") 1 true ∷ [])) (0 ∷ []) 5) 0 (codes "X")
+    ≡ Some (record { address = address.Relocatable 1; frame = Some (base.Relocatable 0) })
+local_means = refl
+
+local_alone : public (layout_at AsciiFolded (with_publics (at_offset (codes "x") 1 true ∷ [])) (0 ∷ []) 5) (codes "x") ≡ None
+local_alone = refl
+
+letters_alone : agrees AsciiFolded (0xE9 ∷ []) (0xC9 ∷ []) ≡ false
+letters_alone = refl

@@ -9,7 +9,7 @@ use Rattle.omf_place.specs.declared.layout.Base.{Base}
 use Rattle.omf_place.specs.declared.layout.Base.TheVariants as base
 use Rattle.omf_place.specs.declared.layout.Combined.{Combined}
 use Rattle.omf_place.specs.declared.layout.SegmentPlace.{SegmentPlace}
-use Rattle.omf_place.specs.Layout.{Layout, ModulePlaces, places_of, segment_in, public}
+use Rattle.omf_place.specs.Layout.{Layout, ModulePlaces, local_public, places_of, segment_in, public}
 
 -- an absolute address has an absolute frame; one that moves with the program has a frame that does, or none
 abbrev pub HasOwnFrame : Address → Option Base → Type 0
@@ -41,3 +41,6 @@ pub record IsBounded (program : List Module) (layout : Layout) : Type 0 where
   -- every byte of a combined segment lies in its frame
   pub combined : (i : ℕ) (c : Combined) → slice_get layout.combined i ≡ Some c → c.end ≤ 16 * (c.start / 16) + 65536
   pub publics : (name : List ℕ) → IfSome (public layout name) (λ p. HasOwnFrame p.address p.frame)
+  -- each module has its local publics
+  pub scopes : length layout.locals ≡ length program
+  pub locals : (input : ℕ) (name : List ℕ) → IfSome (local_public layout input name) (λ p. HasOwnFrame p.address p.frame)

@@ -1,14 +1,14 @@
 -- The first fault of placement.
-use Rattle.std.specs.Prelude.{◌≡◌, ℕ, ◌+◌, ◌*◌, ◌/◌, Bool, nat_lt, List, take, find, Option, Some, None, false, if◌then◌else◌}
-use Rattle.std.specs.List.{list_any, enumerate_from}
+use Rattle.std.specs.Prelude.{◌≡◌, ℕ, ◌+◌, ◌*◌, ◌/◌, Bool, nat_lt, List, find, Option, Some, None, false, if◌then◌else◌}
 use Rattle.std.specs.Option.{option_map, option_map_or, option_or}
-use Rattle.std.specs.Str.{bytes_eq}
 use Rattle.omf_module.specs.Module.{Module}
 use Rattle.omf_place.specs.Parts.{Site, sites}
 use Rattle.omf_place.specs.Placed.{IsPlaced, IsOnlyPlacement}
 use Rattle.omf_place.specs.Tables.{segment_frame, segment_end, leaders, group_span, grpdefs, placed_publics}
 use Rattle.omf_place.specs.Layout.{Layout, layout_at}
+use Rattle.omf_place.specs.Scopes.{Entry, first_clash}
 use Rattle.omf_place.specs.declared.layout.PublicPlace.{PublicPlace}
+use Rattle.omf_place.specs.declared.names.Names.{Names}
 
 pub data PlacementFault : Type 0 where
   SegmentTooLong : (name : List ℕ) → PlacementFault
@@ -31,10 +31,9 @@ segment_fault ss addresses = option_map (λ a. SegmentTooLong a.segment.name) (f
 abbrev pub size_fault : ℕ → Option PlacementFault
 size_fault size = if nat_lt 1048560 size then Some ProgramTooLarge else None
 
--- fault 25: the first public whose name an earlier one has
-abbrev pub duplicate_in : List (List ℕ × PublicPlace) → Option PlacementFault
-duplicate_in publics = option_map (λ p. DuplicatePublic p.1.0)
-    (find (λ p. list_any (λ earlier. bytes_eq earlier.0 p.1.0) (take p.0 publics)) (enumerate_from 0 publics))
+-- fault 25: the first public whose name an earlier one has, or an earlier local one of its module where it is local
+abbrev pub duplicate_in : Names → List (Entry PublicPlace) → Option PlacementFault
+duplicate_in names publics = option_map (λ p. DuplicatePublic p.1.name) (first_clash names publics)
 
 module _ (program : List Module) (addresses : List ℕ) where
   abbrev pub is_long_group : List ℕ → Bool
@@ -44,24 +43,25 @@ module _ (program : List Module) (addresses : List ℕ) where
   abbrev pub group_fault : Option PlacementFault
   group_fault = option_map (λ g. GroupTooLong g.name) (find (λ g. is_long_group g.name) (grpdefs program))
 
-  -- of 24 and 25 the first
-  abbrev pub later_fault : Option PlacementFault
-  later_fault = option_or group_fault (duplicate_in (placed_publics program addresses))
+-- of 24 and 25 the first
+abbrev pub later_fault : Names → List Module → (addresses : List ℕ) → Option PlacementFault
+later_fault names program addresses = option_or (group_fault program addresses) (duplicate_in names (placed_publics program addresses))
 
-  -- the first in order of number
-  abbrev pub placement_fault : ℕ → Option PlacementFault
-  placement_fault size = option_or (segment_fault (sites program) addresses) (option_or (size_fault size) later_fault)
+-- the first in order of number
+abbrev pub placement_fault : Names → List Module → (addresses : List ℕ) → (size : ℕ) → Option PlacementFault
+placement_fault names program addresses size =
+    option_or (segment_fault (sites program) addresses) (option_or (size_fault size) (later_fault names program addresses))
 
--- a layout is that of a program where its parts start by the rules and no fault stands
-abbrev pub IsLayout : List Module → Layout → Type 0
-IsLayout program layout = (addresses : List ℕ) × IsPlaced (sites program) addresses layout.size
-    × (placement_fault program addresses layout.size ≡ None) × (layout ≡ layout_at program addresses layout.size)
+-- under a choice of which names of publics agree a layout is that of a program where its parts start by the rules and no fault stands
+abbrev pub IsLayout : Names → List Module → Layout → Type 0
+IsLayout names program layout = (addresses : List ℕ) × IsPlaced (sites program) addresses layout.size
+    × (placement_fault names program addresses layout.size ≡ None) × (layout ≡ layout_at names program addresses layout.size)
 
 -- and no other is
-abbrev pub IsOnlyLayout : List Module → Layout → Type 0
-IsOnlyLayout program layout = IsLayout program layout × ((other : Layout) → IsLayout program other → other ≡ layout)
+abbrev pub IsOnlyLayout : Names → List Module → Layout → Type 0
+IsOnlyLayout names program layout = IsLayout names program layout × ((other : Layout) → IsLayout names program other → other ≡ layout)
 
 -- the first fault of a program
-abbrev pub IsFirstFault : List Module → PlacementFault → Type 0
-IsFirstFault program fault = (addresses : List ℕ) × (size : ℕ) × IsPlaced (sites program) addresses size × IsOnlyPlacement (sites program) addresses size
-    × (placement_fault program addresses size ≡ Some fault)
+abbrev pub IsFirstFault : Names → List Module → PlacementFault → Type 0
+IsFirstFault names program fault = (addresses : List ℕ) × (size : ℕ) × IsPlaced (sites program) addresses size × IsOnlyPlacement (sites program) addresses size
+    × (placement_fault names program addresses size ≡ Some fault)

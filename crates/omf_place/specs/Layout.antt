@@ -1,9 +1,10 @@
 -- A layout, and what it is of a program.
-use Rattle.std.specs.Prelude.{ℕ, List, [], get_or, map, Option, None}
+use Rattle.std.specs.Prelude.{ℕ, List, [], get_or, length, map, Option, None}
 use Rattle.omf_module.specs.Module.{Module}
 use Rattle.omf_place.specs.Parts.{sites}
 use Rattle.omf_place.specs.Inputs.{Input, inputs}
-use Rattle.omf_place.specs.Named.{value_of}
+use Rattle.omf_place.specs.Names.{Table, empty, means}
+use Rattle.omf_place.specs.Scopes.{local_tables, table}
 use Rattle.omf_place.specs.Tables.{placed, leaders, combined_segment, group_frame as frame_of_group, placed_groups, placed_publics}
 use Rattle.omf_place.specs.declared.layout.Address.{Address}
 use Rattle.omf_place.specs.declared.layout.Address.TheVariants as address
@@ -13,6 +14,8 @@ use Rattle.omf_place.specs.declared.layout.SegmentPlace.{SegmentPlace}
 use Rattle.omf_place.specs.declared.layout.Combined.{Combined}
 use Rattle.omf_place.specs.declared.layout.GroupPlace.{GroupPlace}
 use Rattle.omf_place.specs.declared.layout.PublicPlace.{PublicPlace}
+use Rattle.omf_place.specs.declared.names.Names.{Names}
+use Rattle.omf_place.specs.declared.names.Names.TheVariants.{Exact}
 
 -- the segments of a module, and the frames of its GRPDEFs' groups: a group without members has none
 pub record ModulePlaces : Type 0 where
@@ -27,22 +30,26 @@ pub record Layout : Type 0 where
   pub combined : List Combined
   -- in order of first meeting
   pub groups : List GroupPlace
-  -- with their names, in order of inputs and records
-  pub publics : List (List ℕ × PublicPlace)
+  -- each with its name, in order of inputs and records
+  pub publics : Table PublicPlace
+  -- the local publics of each module, by input
+  pub locals : List (Table PublicPlace)
 
 -- what the addresses of the segments make of a program
 module _ (program : List Module) (addresses : List ℕ) where
   abbrev pub module_places : Input → ModulePlaces
   module_places n = record { segments = map (placed (sites program) addresses) n.sites; groups = map (λ g. frame_of_group program addresses g.name) n.says.groups }
 
-  abbrev pub layout_at : (size : ℕ) → Layout
-  layout_at size = record {
-    size = size;
-    modules = map module_places (inputs program);
-    combined = map (combined_segment (sites program) addresses) (leaders (sites program));
-    groups = placed_groups program addresses;
-    publics = placed_publics program addresses;
-  }
+-- under a choice of which names of publics agree
+abbrev pub layout_at : Names → List Module → (addresses : List ℕ) → (size : ℕ) → Layout
+layout_at names program addresses size = record {
+  size = size;
+  modules = map (module_places program addresses) (inputs program);
+  combined = map (combined_segment (sites program) addresses) (leaders (sites program));
+  groups = placed_groups program addresses;
+  publics = table names None (placed_publics program addresses);
+  locals = local_tables names (length program) (placed_publics program addresses);
+}
 
 -- The places of a module, by its index among the inputs; what is out of range isn't looked at.
 abbrev pub places_of : Layout → (input : ℕ) → ModulePlaces
@@ -63,6 +70,10 @@ segment_frame layout input segment = (segment_in (places_of layout input) segmen
 abbrev pub group_frame : Layout → (input group : ℕ) → Option ℕ
 group_frame layout input group = get_or (places_of layout input).groups group None
 
--- a name means its only entry
+-- what a name means to all modules
 abbrev pub public : Layout → (name : List ℕ) → Option PublicPlace
-public layout name = value_of layout.publics name
+public layout name = means layout.publics name
+
+-- what it means in one module alone
+abbrev pub local_public : Layout → (input : ℕ) → (name : List ℕ) → Option PublicPlace
+local_public layout input name = means (get_or layout.locals input (empty Exact)) name

@@ -6,6 +6,10 @@ pub mod Keys
 pub mod Greatest
 pub mod Walk
 pub mod Inputs
+pub mod Named
+pub mod Names
+pub mod HeldNames
+pub mod Scopes
 pub mod Tables
 pub mod Layout
 pub mod Bounded
@@ -14,7 +18,6 @@ pub mod Spans
 pub mod Small
 pub mod Stands
 pub mod InputViews
-pub mod Named
 pub mod Reaches
 pub mod PublicTables
 pub mod Said

@@ -12,14 +12,12 @@ use Rattle.omf_place.specs.declared.layout.Address.TheVariants as address
 use Rattle.omf_place.specs.declared.layout.Base.{Base}
 use Rattle.omf_place.specs.declared.layout.Base.TheVariants as base
 use Rattle.omf_place.specs.declared.layout.PublicPlace.{PublicPlace}
-use Rattle.omf_place.specs.declared.publics.NamedPublic.{NamedPublic}
 use Rattle.omf_place.specs.declared.groups.GroupEntry.{GroupEntry}
 use Rattle.omf_place.specs.declared.inputs.Input.{Input}
 use Rattle.omf_place.specs.declared.stands.Stand.{Stand}
 use Rattle.omf_place.specs.Reaches.{frame_named}
-
-abbrev pub public_view : NamedPublic → List ℕ × PublicPlace
-public_view p = (p.name.now, p.placed)
+use Rattle.omf_place.specs.Scopes.{Entry}
+use Rattle.omf_place.specs.Tables.{public_entry}
 
 abbrev pub held_at : Standing → Stand → ℕ → Option Base → PublicPlace
 held_at (Absolute frame at) stand offset f = record { address = address.Absolute (16 * frame + at + offset); frame = Some (base.Absolute frame) }
@@ -48,5 +46,5 @@ module _ {A : Type 0} where
   abbrev pub held_public : Input A → List (List ℕ × GroupEntry) → PublicSymbol → Option PublicPlace
   held_public x groups p = held_by x groups p.offset p.base
 
-  abbrev pub held_publics : List (List ℕ × GroupEntry) → Input A → List (List ℕ × PublicPlace)
-  held_publics groups x = flat_map (λ p. option_to_list (option_map (λ placed. (p.name, placed)) (held_public x groups p))) x.says.now.publics
+  abbrev pub held_publics : List (List ℕ × GroupEntry) → Input A → List (Entry PublicPlace)
+  held_publics groups x = flat_map (λ p. option_to_list (option_map (public_entry x.input p) (held_public x groups p))) x.says.now.publics

@@ -1,5 +1,6 @@
 -- Combined segments, groups and publics of a placed program (TIS OMF 1.1, SEGDEF, GRPDEF and PUBDEF).
 use Rattle.std.specs.Prelude.{ℕ, ◌+◌, ◌*◌, ◌/◌, min, max, Bool, false, ◌==◌, ◌&&◌, List, filter, map, fold, find, Option, Some, None, slice_index, slice_get}
+use Rattle.std.specs.Bool.{then_some}
 use Rattle.std.specs.List.{enumerate_from, flat_map}
 use Rattle.std.specs.Option.{option_map, option_map_or, option_and_then, option_to_list}
 use Rattle.std.specs.Str.{bytes_eq}
@@ -7,10 +8,11 @@ use Rattle.omf_module.specs.declared.Standing.{Standing}
 use Rattle.omf_module.specs.declared.Standing.TheVariants.{Absolute, Relocatable}
 use Rattle.omf_module.specs.declared.Base.TheVariants.{AtFrame, InSegment}
 use Rattle.omf_module.specs.declared.Base as public_base
-use Rattle.omf_module.specs.Module.{Module}
+use Rattle.omf_module.specs.Module.{Module, PublicSymbol}
 use Rattle.omf_place.specs.Parts.{Site, sites, rank, placement_order}
 use Rattle.omf_place.specs.Placed.{greatest, members, leads, address_of}
 use Rattle.omf_place.specs.Inputs.{Input, inputs}
+use Rattle.omf_place.specs.Scopes.{Entry}
 use Rattle.omf_place.specs.declared.layout.Address.TheVariants as address
 use Rattle.omf_place.specs.declared.layout.Base.{Base}
 use Rattle.omf_place.specs.declared.layout.Base.TheVariants as base
@@ -70,6 +72,10 @@ abbrev pub widen : Option Span → (start end : ℕ) → Option Span
 widen None start end = Some (record { start = start; end = end })
 widen (Some s) start end = Some (record { start = min s.start start; end = max s.end end })
 
+-- a local public is one of its module alone
+abbrev pub public_entry : (input : ℕ) → PublicSymbol → PublicPlace → Entry PublicPlace
+public_entry input p placed = record { owner = then_some p.local input; name = p.name; value = placed }
+
 module _ (program : List Module) (addresses : List ℕ) where
   -- the span of the combined segments of some parts, where there are any
   abbrev pub span : List Site → Option Span
@@ -105,9 +111,9 @@ module _ (program : List Module) (addresses : List ℕ) where
   placed_public n offset (AtFrame frame) = Some (record { address = address.Absolute (16 * frame + offset); frame = Some (base.Absolute frame) })
   placed_public n offset (InSegment number group) = option_map (λ a. in_segment n.says group offset a a.segment.standing) (slice_get n.sites number)
 
-  abbrev pub publics_of : Input → List (List ℕ × PublicPlace)
-  publics_of n = flat_map (λ p. option_to_list (option_map (λ placed. (p.name, placed)) (placed_public n p.offset p.base))) n.says.publics
+  abbrev pub publics_of : Input → List (Entry PublicPlace)
+  publics_of n = flat_map (λ p. option_to_list (option_map (public_entry n.input p) (placed_public n p.offset p.base))) n.says.publics
 
-  -- the publics with their names, in order of inputs and records
-  abbrev pub placed_publics : List (List ℕ × PublicPlace)
+  -- the publics, local ones too, in order of inputs and records
+  abbrev pub placed_publics : List (Entry PublicPlace)
   placed_publics = flat_map publics_of (inputs program)

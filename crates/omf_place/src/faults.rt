@@ -24,7 +24,7 @@ pub enum PlaceFault<A: Allocator + Copy = Global> {
     /// A group ends more than 65,536 bytes above 16 times its frame.
     #[error("24 GroupTooLong")]
     GroupTooLong { name: Vec<u8, A> },
-    /// Two publics have one name.
+    /// Two publics have one name, or two local publics of one module.
     #[error("25 DuplicatePublic")]
     DuplicatePublic { name: Vec<u8, A> },
 }

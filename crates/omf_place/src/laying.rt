@@ -1,10 +1,10 @@
 //! The tables of a layout.
 
-ghost use Rattle.std.specs.Prelude.{◌≡◌, ◌≤◌, ℕ, List, None, Some, IfErr, IfOk, IfSome, OnOk, find, map};
+ghost use Rattle.std.specs.Prelude.{◌≡◌, ◌<◌, ◌≤◌, ℕ, List, None, Some, IfErr, IfOk, IfSome, OnOk, find, length, map};
 ghost use Rattle.std.specs.List.{AllByRecursion, flat_map};
 ghost use Rattle.std.specs.Option.{option_map};
 ghost use Rattle.omf_place.specs.Faults.{duplicate_in};
-ghost use Rattle.omf_place.specs.HeldLayout.{MeetsGroups, held_fault, held_group_fault, held_layout};
+ghost use Rattle.omf_place.specs.HeldLayout.{MeetsGroups, held_fault, held_group_fault, held_layout, held_scopes};
 ghost use Rattle.omf_place.specs.InputViews.{HasComponents};
 ghost use Rattle.omf_place.specs.Named.{value_of};
 ghost use Rattle.omf_place.specs.PublicTables.{IsWholeInput, held_publics};
@@ -18,10 +18,12 @@ use crate::groups::{
     Groups, Grpdef, collect_groups, collect_grpdefs, first_long_group, placed_groups,
 };
 use crate::inputs::Input;
-use crate::layout::Combined;
+use crate::layout::{Combined, PublicPlace};
 use crate::lookups::Layout;
-use crate::publics::{Publics, collect_publics, index_publics};
+use crate::names::Names;
+use crate::publics::collect_publics;
 use crate::rows::module_rows;
+use crate::scopes::{Scopes, index_publics};
 use std::alloc::{AllocError, Allocator};
 
 /// The GRPDEFs in order, and the groups by name.
@@ -59,33 +61,36 @@ fn check_groups<A: Allocator + Copy>(
 
 fn public_table<A: Allocator + Copy>(
     alloc: A,
+    names: Names,
     inputs: &[Input<'_, A>],
     groups: &Groups<'_, A>,
-) -> Result<Publics<A>, PlaceFault<A>>
-    requires { AllByRecursion IsWholeInput inputs.now }
-    ensures made { IfOk result (λ p. p ≡ flat_map (held_publics groups.now) inputs.now) }
-    ensures apart { OnOk result (duplicate_in (flat_map (held_publics groups.now) inputs.now) ≡ None) }
-    ensures fault { IfErr result (λ e. IfSome (said e) (λ f. duplicate_in (flat_map (held_publics groups.now) inputs.now) ≡ Some f)) }
+) -> Result<Scopes<PublicPlace, A>, PlaceFault<A>>
+    requires whole { AllByRecursion IsWholeInput inputs.now }
+    requires inputs { AllByRecursion (λ x. x.input < length inputs.now) inputs.now }
+    ensures made { IfOk result (λ s. s ≡ held_scopes names groups.now inputs.now) }
+    ensures apart { OnOk result (duplicate_in names (flat_map (held_publics groups.now) inputs.now) ≡ None) }
+    ensures fault { IfErr result (λ e. IfSome (said e) (λ f. duplicate_in names (flat_map (held_publics groups.now) inputs.now) ≡ Some f)) }
 {
     match collect_publics(alloc, inputs, groups) {
-        Ok(named) => index_publics(alloc, &named),
+        Ok(entries) => index_publics(alloc, names, inputs.len(), &entries),
         Err(_) => Err(PlaceFault::Memory),
     }
 }
 
 fn gather_layout<A: Allocator + Copy>(
     alloc: A,
+    names: Names,
     inputs: &[Input<'_, A>],
     size: u32,
     combined: Vec<Combined, A>,
     tables: &GroupTables<'_, A>,
-    publics: Publics<A>,
+    publics: Scopes<PublicPlace, A>,
 ) -> Result<Layout<A>, AllocError>
     requires rows { AllByRecursion HasRow inputs.now }
     requires grpdefs { map grpdef_view tables.now.grpdefs.items ≡ flat_map held_grpdefs inputs.now }
-    requires publics { publics ≡ flat_map (held_publics tables.now.groups) inputs.now }
+    requires publics { publics ≡ held_scopes names tables.now.groups inputs.now }
     requires size { size ≤ 1048560 }
-    ensures { IfOk result (λ l. l ≡ held_layout size combined.items inputs.now tables.now.groups) }
+    ensures { IfOk result (λ l. l ≡ held_layout names size combined.items inputs.now tables.now.groups) }
 {
     let modules = module_rows(alloc, inputs, &tables.groups)?;
     let groups = placed_groups(alloc, &tables.grpdefs, &tables.groups)?;
@@ -101,6 +106,7 @@ fn gather_layout<A: Allocator + Copy>(
 /// The layout of modules whose parts stand.
 pub(crate) fn lay_out<A: Allocator + Copy>(
     alloc: A,
+    names: Names,
     inputs: &[Input<'_, A>],
     size: u32,
     combined: Vec<Combined, A>,
@@ -108,17 +114,18 @@ pub(crate) fn lay_out<A: Allocator + Copy>(
     requires components { AllByRecursion HasComponents inputs.now }
     requires whole { AllByRecursion IsWholeInput inputs.now }
     requires rows { AllByRecursion HasRow inputs.now }
+    requires inputs { AllByRecursion (λ x. x.input < length inputs.now) inputs.now }
     requires size { size ≤ 1048560 }
-    ensures ok { IfOk result (λ l. (groups : List (List ℕ × GroupEntry)) × MeetsGroups inputs.now groups × (held_fault inputs.now groups ≡ None) × (l ≡ held_layout size combined.items inputs.now groups)) }
-    ensures fault { IfErr result (λ e. IfSome (said e) (λ f. (groups : List (List ℕ × GroupEntry)) × MeetsGroups inputs.now groups × (held_fault inputs.now groups ≡ Some f))) }
+    ensures ok { IfOk result (λ l. (groups : List (List ℕ × GroupEntry)) × MeetsGroups inputs.now groups × (held_fault names inputs.now groups ≡ None) × (l ≡ held_layout names size combined.items inputs.now groups)) }
+    ensures fault { IfErr result (λ e. IfSome (said e) (λ f. (groups : List (List ℕ × GroupEntry)) × MeetsGroups inputs.now groups × (held_fault names inputs.now groups ≡ Some f))) }
 {
     let tables = group_tables(alloc, inputs)?;
     if let Err(fault) = check_groups(alloc, &tables) {
         return Err(fault);
     }
-    match public_table(alloc, inputs, &tables.groups) {
+    match public_table(alloc, names, inputs, &tables.groups) {
         Ok(publics) => {
-            let layout = gather_layout(alloc, inputs, size, combined, &tables, publics)?;
+            let layout = gather_layout(alloc, names, inputs, size, combined, &tables, publics)?;
             Ok(layout)
         }
         Err(fault) => Err(fault),

@@ -3,6 +3,7 @@
 
 mod faults;
 mod firsts;
+mod folded;
 mod greatest;
 mod groups;
 mod inputs;
@@ -10,10 +11,13 @@ mod laws;
 mod laying;
 mod layout;
 mod lookups;
+mod named;
+mod names;
 mod order;
 mod placing;
 mod publics;
 mod rows;
+mod scopes;
 mod sites;
 mod spans;
 mod stands;
@@ -23,4 +27,5 @@ pub use faults::PlaceFault;
 pub use laws::combining;
 pub use layout::{Address, Base, Combined, GroupPlace, PublicPlace, SegmentPlace};
 pub use lookups::Layout;
+pub use names::Names;
 pub use placing::place;

@@ -1,11 +1,11 @@
 //! A layout, and what it hands out.
 
 ghost use Rattle.std.specs.Prelude.{◌≡◌, ◌<◌, ◌≤◌, Some, length, slice_get};
-ghost use Rattle.omf_place.specs.Layout.{group_frame, part_start, places_of, public, segment_frame};
+ghost use Rattle.omf_place.specs.Layout.{group_frame, local_public, part_start, places_of, public, segment_frame};
 
 use crate::layout::{Address, Base, Combined, GroupPlace, PublicPlace};
-use crate::publics::Publics;
 use crate::rows::ModuleRow;
+use crate::scopes::Scopes;
 use std::alloc::{Allocator, Global};
 use std::marker::Model;
 
@@ -16,7 +16,7 @@ pub struct Layout<A: Allocator + Copy = Global> {
     pub(crate) modules: Vec<ModuleRow<A>, A>,
     pub(crate) combined: Vec<Combined, A>,
     pub(crate) groups: Vec<GroupPlace, A>,
-    pub(crate) publics: Publics<A>,
+    pub(crate) publics: Scopes<PublicPlace, A>,
 }
 
 impl<A: Allocator + Copy> Model for Layout<A> {
@@ -31,7 +31,8 @@ impl<A: Allocator + Copy> Model for Layout<A> {
       modules = map row_view l.modules.items;
       combined = l.combined.items;
       groups = l.groups.items;
-      publics = l.publics;
+      publics = l.publics.shared;
+      locals = l.publics.locals;
     } };
 
     ghost invariant = { λ l. l.size ≤ 1048560 };
@@ -73,11 +74,19 @@ impl<A: Allocator + Copy> Layout<A> {
         self.modules[input].group_frames[group]
     }
 
-    /// What a name means: None where no public has it.
+    /// What a name means to all modules: None where no public has it. It takes no memory.
     pub fn public(&self, name: &[u8]) -> Option<PublicPlace>
         ensures { result ≡ public self.now name.now }
     {
-        self.publics.get(name)
+        self.publics.shared(name)
+    }
+
+    /// What a name means in a module alone, by its index among the inputs: None where no local public of it has the name.
+    /// It takes no memory.
+    pub fn local_public(&self, input: usize, name: &[u8]) -> Option<PublicPlace>
+        ensures { result ≡ local_public self.now input name.now }
+    {
+        self.publics.local(input, name)
     }
 
     /// How many combined segments there are.

@@ -20,6 +20,7 @@ use crate::faults::{PlaceFault, segment_too_long};
 use crate::inputs::collect_inputs;
 use crate::laying::lay_out;
 use crate::lookups::Layout;
+use crate::names::Names;
 use crate::order::{Rank, placement_ranks, segment_places};
 use crate::sites::{Site, collect_sites};
 use crate::spans::{SegmentSpan, combined_segments, first_long_segment, segment_spans};
@@ -87,6 +88,7 @@ fn check_segments<A: Allocator + Copy>(
 fn place_started<A: Allocator + Copy>(
     alloc: A,
     modules: &[Module<A>],
+    names: Names,
     sites: &[Site<'_>],
     started: &Started<A>,
 ) -> Result<Layout<A>, PlaceFault<A>>
@@ -97,33 +99,35 @@ fn place_started<A: Allocator + Copy>(
     requires spans { AreSpans (sites_view sites.now) started.now.spans.items }
     requires placed { IsPlaced (sites_view sites.now) (addresses_in started.now.spans.items) started.now.size }
     requires size { started.now.size ≤ 1048560 }
-    ensures apart { OnOk result (later_fault modules.now (addresses_in started.now.spans.items) ≡ None) }
-    ensures layout { IfOk result (λ l. l ≡ layout_at modules.now (addresses_in started.now.spans.items) started.now.size) }
-    ensures fault { IfErr result (λ e. IfSome (said e) (λ f. later_fault modules.now (addresses_in started.now.spans.items) ≡ Some f)) }
+    ensures apart { OnOk result (later_fault names modules.now (addresses_in started.now.spans.items) ≡ None) }
+    ensures layout { IfOk result (λ l. l ≡ layout_at names modules.now (addresses_in started.now.spans.items) started.now.size) }
+    ensures fault { IfErr result (λ e. IfSome (said e) (λ f. later_fault names modules.now (addresses_in started.now.spans.items) ≡ Some f)) }
 {
     let stands = collect_stands(alloc, sites, &started.spans)?;
     let combined = combined_segments(alloc, sites, &started.ranks, &started.spans)?;
     let inputs = collect_inputs(alloc, modules, sites, &stands)?;
-    lay_out(alloc, &inputs, started.size as u32, combined)
+    lay_out(alloc, names, &inputs, started.size as u32, combined)
 }
 
 /// Places the parts of modules, in order of inputs, and finds their groups and publics.
 ///
 /// Of several faults the one with the smallest number is named: a combined segment that is too long, the first in the
 /// order of placement; a program that is too large; a group that is too long, the first in order of first meeting; a
-/// public whose name an earlier one has, the first in order of inputs and records.
+/// public whose name an earlier one has, or a local public whose name an earlier one of its module has, the first in
+/// order of inputs and records. `names` says which names of publics agree.
 pub fn place<A: Allocator + Copy>(
     alloc: A,
     modules: &[Module<A>],
+    names: Names,
 ) -> Result<Layout<A>, PlaceFault<A>>
-    ensures layout { IfOk result (λ l. IsOnlyLayout modules.now l) }
+    ensures layout { IfOk result (λ l. IsOnlyLayout names modules.now l) }
     ensures bounded { IfOk result (λ l. IsBounded modules.now l) }
-    ensures fault { IfErr result (λ e. IfSome (said e) (IsFirstFault modules.now)) }
+    ensures fault { IfErr result (λ e. IfSome (said e) (IsFirstFault names modules.now)) }
 {
     let sites = collect_sites(alloc, modules)?;
     let started = start_parts(alloc, &sites)?;
     if let Err(fault) = check_segments(alloc, &sites, &started) {
         return Err(fault);
     }
-    place_started(alloc, modules, &sites, &started)
+    place_started(alloc, modules, names, &sites, &started)
 }

@@ -85,8 +85,20 @@ fn layouts(rt: HostRuntime) -> Result<(), Fail> {
         // a common segment has the greatest length and the greatest alignment of its parts
         (
             &[
-                &[HEADER, CODE, (0x98, &[0x38, 4, 0, 2, 1, 1]), END],
-                &[HEADER, CODE, (0x98, &[0x38, 2, 0, 2, 1, 1]), END],
+                &[
+                    HEADER,
+                    CODE,
+                    (0x98, &[0x38, 4, 0, 2, 1, 1]),
+                    (0xA0, &[1, 0, 0, 0x11, 0x22, 0x33, 0x44]),
+                    END,
+                ],
+                &[
+                    HEADER,
+                    CODE,
+                    (0x98, &[0x38, 2, 0, 2, 1, 1]),
+                    (0xA0, &[1, 0, 0, 0xAA, 0xBB]),
+                    END,
+                ],
             ],
             "size 4: 0/0 | 0/0 |; 0-4 0.0;",
         ),
@@ -189,7 +201,10 @@ pub const TWO: [Records<'static>; 2] = [
         (0x98, &[0x48, 3, 0, 3, 3, 1]),
         (0x9A, &[4, 0xFF, 2]),
         (0x8C, &[1, 0x78, 0]),
-        END,
+        (0xA0, &[1, 0, 0, 0xB8, 0, 0, 0xA1, 0, 0]),
+        (0x9C, &[0x44, 1, 8, 1]),
+        (0x9C, &[0xC8, 1, 0x8C, 0xC4, 4, 0x8C]),
+        (0x8A, &[0xC1, 0, 1, 1, 0, 0]),
     ],
     &[
         HEADER,
@@ -202,14 +217,37 @@ pub const TWO: [Records<'static>; 2] = [
         (0x98, &[0x48, 2, 0, 2, 2, 1]),
         (0x9A, &[3, 0xFF, 1]),
         (0x90, &[1, 1, 1, 0x78, 0, 0, 0]),
+        (0xA0, &[1, 0, 0, 0x34, 0x12]),
         END,
     ],
 ];
 
 pub const TWO_LAID: &str = "size 24: 0/0 18/1 | 1 22/1 | 1; 0-18 0.0 18-24 0.1; 1 0.0; x 22/1";
 
-/// A stack that is one byte too long, a group that is, and two publics of one name.
-pub const AT_FAULT: [(Records<'static>, &str); 3] = [
+/// A stack that is one byte too long, a group that is, each alone and with two publics of one name; and these alone.
+pub const AT_FAULT: [(Records<'static>, &str); 5] = [
+    (
+        &[
+            HEADER,
+            CODE,
+            (0x98, &[0x28, 0, 0, 2, 1, 1]),
+            (0x98, &[0x76, 0, 0, 2, 1, 1]),
+            (0x98, &[0x74, 1, 0, 2, 1, 1]),
+            END,
+        ],
+        "22 SegmentTooLong CODE",
+    ),
+    (
+        &[
+            HEADER,
+            CODE,
+            LONG,
+            (0x98, &[0x28, 2, 0, 1, 1, 1]),
+            (0x9A, &[2, 0xFF, 1, 0xFF, 2]),
+            END,
+        ],
+        "24 GroupTooLong CODE",
+    ),
     (
         &[
             HEADER,
@@ -265,16 +303,17 @@ fn a_group_that_fits(rt: HostRuntime) -> Result<(), Fail> {
     Ok(())
 }
 
-/// Fifteen private segments of 65,536 bytes, then these records: the front of what is said of them.
+/// After these names fifteen private segments of 65,536 bytes, then these records: the front of what is said of them.
 fn fifteen_and<R: Abort>(
     rt: &R,
     alloc: Global,
+    names: (u8, &'static [u8]),
     more: Records<'_>,
     front: &str,
 ) -> Result<(), Fail> {
     let mut records = Vec::new(alloc);
     records.push(HEADER)?;
-    records.push(CODE)?;
+    records.push(names)?;
     for _ in 0..15u8 {
         records.push(WHOLE)?;
     }
@@ -297,15 +336,20 @@ fn large_programs(rt: HostRuntime) -> Result<(), Fail> {
     let over: (u8, &[u8]) = (0x98, &[0x20, 0xF1, 0xFF, 1, 1, 1]);
     let stack: (u8, &[u8]) = (0x98, &[0x76, 0, 0, 2, 1, 1]);
     let more: (u8, &[u8]) = (0x98, &[0x74, 1, 0, 2, 1, 1]);
-    let rows: [(Records<'_>, &str); 5] = [
-        (&[fits], "size 1048560: 0/0 65536/4096 131072/8192"),
-        (&[over], "23 ProgramTooLarge"),
-        (&[fits, group], "24 GroupTooLong CODE"),
-        (&[over, group], "23 ProgramTooLarge"),
-        (&[over, stack, more], "22 SegmentTooLong CODE"),
+    let nameless: (u8, &[u8]) = (0x96, &[0]);
+    let rows: [((u8, &[u8]), Records<'_>, &str); 5] = [
+        (
+            nameless,
+            &[fits],
+            "size 1048560: 0/0 65536/4096 131072/8192",
+        ),
+        (nameless, &[over], "23 ProgramTooLarge"),
+        (CODE, &[fits, group], "24 GroupTooLong CODE"),
+        (CODE, &[over, group], "23 ProgramTooLarge"),
+        (CODE, &[over, stack, more], "22 SegmentTooLong CODE"),
     ];
-    for (more, front) in rows {
-        fifteen_and(&rt, rt.alloc(), more, front)?;
+    for (names, more, front) in rows {
+        fifteen_and(&rt, rt.alloc(), names, more, front)?;
     }
     Ok(())
 }

@@ -6,7 +6,7 @@ ghost use Rattle.omf_place.specs.Layout.{places_of};
 
 use omf_frame::MemSource;
 use omf_module::{Module, ModuleFault, read_module};
-use omf_place::{Address, Base, Layout, PlaceFault, place};
+use omf_place::{Address, Base, Layout, Names, PlaceFault, place};
 use std::alloc::{AllocError, Allocator};
 
 /// The records of a module, each its type and its body.
@@ -46,7 +46,7 @@ pub fn read_records<A: Allocator + Copy>(
     read_bytes(alloc, &bytes)
 }
 
-fn read_all<A: Allocator + Copy>(
+pub fn read_all<A: Allocator + Copy>(
     alloc: A,
     inputs: &[Records<'_>],
 ) -> Result<Vec<Module<A>, A>, ModuleFault> {
@@ -60,7 +60,7 @@ fn read_all<A: Allocator + Copy>(
     Ok(modules)
 }
 
-fn push_place<B: Allocator + Copy>(
+pub fn push_place<B: Allocator + Copy>(
     alloc: B,
     text: &mut String<B>,
     address: Address,
@@ -185,7 +185,7 @@ fn describe<A: Allocator + Copy, B: Allocator + Copy>(
     Ok(text)
 }
 
-fn describe_fault<A: Allocator + Copy, B: Allocator + Copy>(
+pub fn describe_fault<A: Allocator + Copy, B: Allocator + Copy>(
     alloc: B,
     fault: PlaceFault<A>,
 ) -> Result<String<B>, AllocError> {
@@ -204,16 +204,26 @@ fn describe_fault<A: Allocator + Copy, B: Allocator + Copy>(
     Ok(text)
 }
 
-/// The layout of modules, or the fault.
+/// The layout of modules, or the fault, under a choice of which names agree.
+pub fn outcome_under<A: Allocator + Copy, B: Allocator + Copy>(
+    alloc: A,
+    words: B,
+    modules: &[Module<A>],
+    names: Names,
+) -> Result<String<B>, AllocError> {
+    match place(alloc, modules, names) {
+        Ok(layout) => describe(words, modules, &layout),
+        Err(fault) => describe_fault(words, fault),
+    }
+}
+
+/// That of exact names.
 pub fn outcome<A: Allocator + Copy, B: Allocator + Copy>(
     alloc: A,
     words: B,
     modules: &[Module<A>],
 ) -> Result<String<B>, AllocError> {
-    match place(alloc, modules) {
-        Ok(layout) => describe(words, modules, &layout),
-        Err(fault) => describe_fault(words, fault),
-    }
+    outcome_under(alloc, words, modules, Names::Exact)
 }
 
 /// That of modules with these records.

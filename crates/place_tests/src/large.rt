@@ -3,7 +3,7 @@
 use crate::cases::{CODE, END, HEADER};
 use crate::laid::{outcome, put, read_bytes};
 use omf_module::Module;
-use omf_place::{Address, place};
+use omf_place::{Address, Names, place};
 use std::alloc::{AllocError, Allocator, Global};
 use std::process::Abort;
 use std::test::*;
@@ -58,9 +58,9 @@ fn module_of_publics(alloc: Global, count: u16, last: Option<u16>) -> Result<Vec
     Ok(modules)
 }
 
-fn find_publics<R: Abort>(rt: &R, alloc: Global, count: u16) -> Result<(), Fail> {
+fn find_publics<R: Abort>(rt: &R, alloc: Global, count: u16, names: Names) -> Result<(), Fail> {
     let modules = module_of_publics(alloc, count, None)?;
-    let layout = place(alloc, &modules)?;
+    let layout = place(alloc, &modules, names)?;
     for n in 0..count {
         let name = format!(in alloc; "a{n}")?;
         let found = layout.public(name.as_bytes()).map(|p| p.address);
@@ -72,11 +72,12 @@ fn find_publics<R: Abort>(rt: &R, alloc: Global, count: u16) -> Result<(), Fail>
 
 #[test]
 fn publics(rt: HostRuntime) -> Result<(), Fail> {
-    find_publics(&rt, rt.alloc(), 2000)?;
+    find_publics(&rt, rt.alloc(), 2000, Names::Exact)?;
     let modules = module_of_publics(rt.alloc(), 2000, Some(7))?;
     let text = outcome(rt.alloc(), rt.alloc(), &modules)?;
     assert_eq!(rt; text.as_str(), "25 DuplicatePublic a7");
-    find_publics(&rt, rt.alloc(), 50000)
+    find_publics(&rt, rt.alloc(), 50000, Names::Exact)?;
+    find_publics(&rt, rt.alloc(), 50000, Names::AsciiFolded)
 }
 
 /// Modules of one part, each with a name and a class of its own.
@@ -99,7 +100,7 @@ fn one_part_each(alloc: Global, count: u32) -> Result<Vec<Module>, Fail> {
 #[test]
 fn modules(rt: HostRuntime) -> Result<(), Fail> {
     let modules = one_part_each(rt.alloc(), 10000)?;
-    let layout = place(rt.alloc(), &modules)?;
+    let layout = place(rt.alloc(), &modules, Names::Exact)?;
     assert_eq!(rt; layout.size(), 10000);
     assert_eq!(rt; layout.combined_len(), 10000);
     Ok(())

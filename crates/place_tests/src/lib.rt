@@ -9,3 +9,5 @@ mod growths;
 mod laid;
 #[cfg(test)]
 mod large;
+#[cfg(test)]
+mod names;

@@ -12,15 +12,15 @@ use Rattle.omf_place.proofs.laying.lay_out.Goals as goal
 pub returns-in-Err-clause-fault : goal.returns-in-Err-clause-fault
 returns-in-Err-clause-fault g c =
     let groups = c.in_ok-tables.tables.groups in
-    let dup = duplicate_in (flat_map (held_publics groups) c.args.inputs.now) in
-    IfSome-map _ (λ (f : PlacementFault). (gs : List (List ℕ × GroupEntry)) × MeetsGroups c.args.inputs.now gs × (held_fault c.args.inputs.now gs ≡ Some f)) (said c.in-Err.fault)
+    let dup = duplicate_in c.args.names (flat_map (held_publics groups) c.args.inputs.now) in
+    IfSome-map _ (λ (f : PlacementFault). (gs : List (List ℕ × GroupEntry)) × MeetsGroups c.args.inputs.now gs × (held_fault c.args.names c.args.inputs.now gs ≡ Some f)) (said c.in-Err.fault)
     (λ f e. (groups, c.in_ok-tables.ensures.groups, ap (λ gs. option_or (held_group_fault gs groups) dup) (sym c.in_ok-tables.ensures.grpdefs) ∙ ap (λ o. option_or o dup) e))
     c.in-Err.ensures.fault
 
 pub returns-in-Err-public_table-clause-fault : goal.returns-in-Err-public_table-clause-fault
 returns-in-Err-public_table-clause-fault g c =
     let groups = c.in_ok-tables.tables.groups in
-    let dup = duplicate_in (flat_map (held_publics groups) c.args.inputs.now) in
-    IfSome-map _ (λ (f : PlacementFault). (gs : List (List ℕ × GroupEntry)) × MeetsGroups c.args.inputs.now gs × (held_fault c.args.inputs.now gs ≡ Some f)) (said c.in-Err-public_table.fault)
+    let dup = duplicate_in c.args.names (flat_map (held_publics groups) c.args.inputs.now) in
+    IfSome-map _ (λ (f : PlacementFault). (gs : List (List ℕ × GroupEntry)) × MeetsGroups c.args.inputs.now gs × (held_fault c.args.names c.args.inputs.now gs ≡ Some f)) (said c.in-Err-public_table.fault)
     (λ f e. (groups, c.in_ok-tables.ensures.groups, ap (λ gs. option_or (held_group_fault gs groups) dup) (sym c.in_ok-tables.ensures.grpdefs) ∙ ap (λ o. option_or o dup) c.in_default.ensures.ok ∙ e))
     c.in-Err-public_table.ensures.fault

@@ -22,8 +22,8 @@ returns-in-Err-clause-fault g c =
     let checked : sites_view c.deref-2.result.now ≡ sites program = ap sites_view c.deref-2.ensures.value ∙ c.in_ok-sites.ensures.made in
     let placed : IsPlaced (sites program) A size = subst (λ ss. IsPlaced ss A size) started c.in_ok-started.ensures.placed in
     let only : IsOnlyPlacement (sites program) A size = subst (λ ss. IsOnlyPlacement ss A size) started c.in_ok-started.ensures.only in
-    IfSome-map _ (IsFirstFault program) (said c.in-Err.fault)
-    (λ f h. early-fault program A size placed only f (subst (λ ss. option_or (segment_fault ss A) (size_fault size) ≡ Some f) checked h)) c.in-Err.ensures.fault
+    IfSome-map _ (IsFirstFault c.args.names program) (said c.in-Err.fault)
+    (λ f h. early-fault c.args.names program A size placed only f (subst (λ ss. option_or (segment_fault ss A) (size_fault size) ≡ Some f) checked h)) c.in-Err.ensures.fault
 
 pub returns-clause-layout : goal.returns-clause-layout
 returns-clause-layout g c =
@@ -35,8 +35,8 @@ returns-clause-layout g c =
     let placed : IsPlaced (sites program) A size = subst (λ ss. IsPlaced ss A size) started c.in_ok-started.ensures.placed in
     let only : IsOnlyPlacement (sites program) A size = subst (λ ss. IsOnlyPlacement ss A size) started c.in_ok-started.ensures.only in
     let short : segment_fault (sites program) A ≡ None = subst (λ ss. segment_fault ss A ≡ None) checked c.in_default.ensures.segments in
-    IfOk-both (later_fault program A ≡ None) (λ l. l ≡ layout_at program A size) (IsOnlyLayout program) c.place_started.result
-    (λ l none e. only-layout program A size placed only short c.in_default.ensures.size none l e) c.place_started.ensures.apart c.place_started.ensures.layout
+    IfOk-both (later_fault c.args.names program A ≡ None) (λ l. l ≡ layout_at c.args.names program A size) (IsOnlyLayout c.args.names program) c.place_started.result
+    (λ l none e. only-layout c.args.names program A size placed only short c.in_default.ensures.size none l e) c.place_started.ensures.apart c.place_started.ensures.layout
 
 pub returns-clause-bounded : goal.returns-clause-bounded
 returns-clause-bounded g c =
@@ -47,7 +47,7 @@ returns-clause-bounded g c =
     let checked : sites_view c.deref-2.result.now ≡ sites program = ap sites_view c.deref-2.ensures.value ∙ c.in_ok-sites.ensures.made in
     let placed : IsPlaced (sites program) A size = subst (λ ss. IsPlaced ss A size) started c.in_ok-started.ensures.placed in
     let short : segment_fault (sites program) A ≡ None = subst (λ ss. segment_fault ss A ≡ None) checked c.in_default.ensures.segments in
-    IfOk-map (λ l. l ≡ layout_at program A size) (IsBounded program) c.place_started.result (λ l e. bounded program A size placed short c.in_default.ensures.size l e) c.place_started.ensures.layout
+    IfOk-map (λ l. l ≡ layout_at c.args.names program A size) (IsBounded program) c.place_started.result (λ l e. bounded c.args.names program A size placed short c.in_default.ensures.size l e) c.place_started.ensures.layout
 
 pub returns-clause-fault : goal.returns-clause-fault
 returns-clause-fault g c =
@@ -59,6 +59,6 @@ returns-clause-fault g c =
     let placed : IsPlaced (sites program) A size = subst (λ ss. IsPlaced ss A size) started c.in_ok-started.ensures.placed in
     let only : IsOnlyPlacement (sites program) A size = subst (λ ss. IsOnlyPlacement ss A size) started c.in_ok-started.ensures.only in
     let short : segment_fault (sites program) A ≡ None = subst (λ ss. segment_fault ss A ≡ None) checked c.in_default.ensures.segments in
-    IfErr-map _ (λ e. IfSome (said e) (IsFirstFault program)) c.place_started.result
-    (λ e h. IfSome-map (λ (f : PlacementFault). later_fault program A ≡ Some f) (IsFirstFault program) (said e)
-    (λ f is. late-fault program A size placed only short c.in_default.ensures.size f is) h) c.place_started.ensures.fault
+    IfErr-map _ (λ e. IfSome (said e) (IsFirstFault c.args.names program)) c.place_started.result
+    (λ e h. IfSome-map (λ (f : PlacementFault). later_fault c.args.names program A ≡ Some f) (IsFirstFault c.args.names program) (said e)
+    (λ f is. late-fault c.args.names program A size placed only short c.in_default.ensures.size f is) h) c.place_started.ensures.fault

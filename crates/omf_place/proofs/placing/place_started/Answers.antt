@@ -11,7 +11,7 @@ use Rattle.omf_place.specs.Spans.{IsLow, addresses_in}
 use Rattle.omf_place.specs.Stands.{StartsLow, stand_of}
 use Rattle.omf_place.specs.Tables.{combined_segment, leaders}
 use Rattle.omf_place.proofs.Ended.{ended-apart, ended-layout, ended-fault}
-use Rattle.omf_place.proofs.LinkLayout.{spans-low, starts-low, stands-address, stands-are, rows-whole, inputs-whole, inputs-components}
+use Rattle.omf_place.proofs.LinkLayout.{spans-low, starts-low, stands-address, stands-are, rows-whole, inputs-indexed, inputs-whole, inputs-components}
 use Rattle.omf_place.proofs.Results.{IfErr-map, IfSome-map}
 use Rattle.omf_place.proofs.placing.place_started.Goals as goal
 
@@ -82,6 +82,11 @@ lay_out-requires-clause-rows g c =
     let snd : AllByRecursion IsSoundInput xs = subst (λ ys. AllByRecursion IsSoundInput ys) (sym c.deref-5.ensures.value) c.in_ok-inputs.ensures.sound in
     rows-whole ss A size c.requires.numbered c.requires.placed c.requires.sound c.requires.size program xs made own snd
 
+pub lay_out-requires-clause-inputs : goal.lay_out-requires-clause-inputs
+lay_out-requires-clause-inputs g c =
+    let made = ap (λ ys. map input_view ys) c.deref-5.ensures.value ∙ c.in_ok-inputs.ensures.made in
+    inputs-indexed c.args.modules.now c.deref-5.result.now made
+
 pub returns-clause-apart : goal.returns-clause-apart
 returns-clause-apart g c =
     let ss = sites_view c.args.sites.now in
@@ -95,7 +100,7 @@ returns-clause-apart g c =
     let own : AllByRecursion (HasStands ss A) xs = subst (λ ys. AllByRecursion (HasStands ss A) ys) (sym c.deref-5.ensures.value) (subst (λ (B : List ℕ). AllByRecursion (HasStands ss B) c.in_ok-inputs.inputs.items) at c.in_ok-inputs.ensures.stands) in
     let snd : AllByRecursion IsSoundInput xs = subst (λ ys. AllByRecursion IsSoundInput ys) (sym c.deref-5.ensures.value) c.in_ok-inputs.ensures.sound in
     let cs : c.in_ok-combined.combined.items ≡ map (combined_segment ss A) (leaders ss) = c.in_ok-combined.ensures ∙ ap (λ (sp : List SegmentSpan). map (combined_segment ss (addresses_in sp)) (leaders ss)) c.deref-3.ensures.value in
-    ended-apart program A size ss c.requires.made xs made own snd c.in_ok-combined.combined.items cs c.lay_out.result c.lay_out.ensures.ok
+    ended-apart c.args.names program A size ss c.requires.made xs made own snd c.in_ok-combined.combined.items cs c.lay_out.result c.lay_out.ensures.ok
 
 pub returns-clause-layout : goal.returns-clause-layout
 returns-clause-layout g c =
@@ -110,7 +115,7 @@ returns-clause-layout g c =
     let own : AllByRecursion (HasStands ss A) xs = subst (λ ys. AllByRecursion (HasStands ss A) ys) (sym c.deref-5.ensures.value) (subst (λ (B : List ℕ). AllByRecursion (HasStands ss B) c.in_ok-inputs.inputs.items) at c.in_ok-inputs.ensures.stands) in
     let snd : AllByRecursion IsSoundInput xs = subst (λ ys. AllByRecursion IsSoundInput ys) (sym c.deref-5.ensures.value) c.in_ok-inputs.ensures.sound in
     let cs : c.in_ok-combined.combined.items ≡ map (combined_segment ss A) (leaders ss) = c.in_ok-combined.ensures ∙ ap (λ (sp : List SegmentSpan). map (combined_segment ss (addresses_in sp)) (leaders ss)) c.deref-3.ensures.value in
-    ended-layout program A size ss c.requires.made xs made own snd c.in_ok-combined.combined.items cs c.lay_out.result c.lay_out.ensures.ok
+    ended-layout c.args.names program A size ss c.requires.made xs made own snd c.in_ok-combined.combined.items cs c.lay_out.result c.lay_out.ensures.ok
 
 pub returns-clause-fault : goal.returns-clause-fault
 returns-clause-fault g c =
@@ -125,6 +130,6 @@ returns-clause-fault g c =
     let own : AllByRecursion (HasStands ss A) xs = subst (λ ys. AllByRecursion (HasStands ss A) ys) (sym c.deref-5.ensures.value) (subst (λ (B : List ℕ). AllByRecursion (HasStands ss B) c.in_ok-inputs.inputs.items) at c.in_ok-inputs.ensures.stands) in
     let snd : AllByRecursion IsSoundInput xs = subst (λ ys. AllByRecursion IsSoundInput ys) (sym c.deref-5.ensures.value) c.in_ok-inputs.ensures.sound in
     let cs : c.in_ok-combined.combined.items ≡ map (combined_segment ss A) (leaders ss) = c.in_ok-combined.ensures ∙ ap (λ (sp : List SegmentSpan). map (combined_segment ss (addresses_in sp)) (leaders ss)) c.deref-3.ensures.value in
-    IfErr-map _ (λ e. IfSome (said e) (λ (f : PlacementFault). later_fault program A ≡ Some f)) c.lay_out.result
-    (λ e h. IfSome-map _ (λ (f : PlacementFault). later_fault program A ≡ Some f) (said e) (ended-fault program A size ss c.requires.made xs made own snd c.in_ok-combined.combined.items cs) h)
+    IfErr-map _ (λ e. IfSome (said e) (λ (f : PlacementFault). later_fault c.args.names program A ≡ Some f)) c.lay_out.result
+    (λ e h. IfSome-map _ (λ (f : PlacementFault). later_fault c.args.names program A ≡ Some f) (said e) (ended-fault c.args.names program A size ss c.requires.made xs made own snd c.in_ok-combined.combined.items cs) h)
     c.lay_out.ensures.fault

@@ -1,0 +1,31 @@
+-- Which names of publics and externals agree, and what a name means.
+use Rattle.std.specs.Prelude.{ℕ, Bool, List, [], map, Option}
+use Rattle.std.specs.Char.{to_ascii_lowercase}
+use Rattle.std.specs.Str.{bytes_eq}
+use Rattle.omf_place.specs.Named.{value_where}
+use Rattle.omf_place.specs.declared.names.Names.{Names}
+use Rattle.omf_place.specs.declared.names.Names.TheVariants.{Exact, AsciiFolded}
+
+-- 41H to 5AH become 61H to 7AH, and all other bytes stay
+abbrev pub folded : List ℕ → List ℕ
+folded name = map to_ascii_lowercase name
+
+-- what of a name counts
+abbrev pub spelled : Names → List ℕ → List ℕ
+spelled Exact name = name
+spelled AsciiFolded name = folded name
+
+abbrev pub agrees : Names → (one other : List ℕ) → Bool
+agrees names one other = bytes_eq (spelled names one) (spelled names other)
+
+-- names with their values, as they were read and in order, under a choice of which agree
+pub record Table (V : Type 0) : Type 0 where
+  pub names : Names
+  pub entries : List (List ℕ × V)
+
+-- the value of the first entry whose name agrees: where no two agree, of the only one
+abbrev pub means : {V : Type 0} → Table V → (name : List ℕ) → Option V
+means t name = value_where (agrees t.names name) t.entries
+
+abbrev pub empty : {V : Type 0} → Names → Table V
+empty names = record { names = names; entries = [] }
