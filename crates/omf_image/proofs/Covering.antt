@@ -7,11 +7,11 @@ use Rattle.omf_image.specs.Leading.{IsListed}
 use Rattle.omf_image.proofs.Moved.{In}
 use Rattle.omf_image.proofs.Carry.{covers-from}
 
-any_in : (f : ℕ → Bool) (ws : List ℕ) → list_any f ws ≡ true → (w : ℕ) × In w ws × (f w ≡ true)
+pub any_in : (f : ℕ → Bool) (ws : List ℕ) → list_any f ws ≡ true → (w : ℕ) × In w ws × (f w ≡ true)
 any_in f [] h = absurd (true≢false (sym h))
 any_in f (w ∷ ws) h = elim (or_cases (f w) (list_any f ws) h) [ inl t ↦ (w, inl refl, t) | inr t ↦ let g = any_in f ws t in (g.0, inr g.1, g.2) ]
 
-any_from : (f : ℕ → Bool) (ws : List ℕ) (w : ℕ) → In w ws → f w ≡ true → list_any f ws ≡ true
+pub any_from : (f : ℕ → Bool) (ws : List ℕ) (w : ℕ) → In w ws → f w ≡ true → list_any f ws ≡ true
 any_from f [] w h t = absurd h
 any_from f (v ∷ ws) w h t = elim h [ inl e ↦ or_left (f v) (list_any f ws) (ap f (sym e) ∙ t) | inr k ↦ or_right (f v) (list_any f ws) (any_from f ws w k t) ]
 
@@ -49,3 +49,15 @@ covers_empty d ws e =
       | inl c ↦ let i = covered_by w d c in absurd (omega (arith, e, i.0, i.1))
       | inr c ↦ let i = covered_by (w + 1) d c in absurd (omega (arith, e, i.0, i.1))
     ])
+
+-- ---- flags that were looked at one after the other
+
+-- whether one of the flags from first to end is set
+abbrev pub IsSeen : (flags : List Bool) (first end : ℕ) → Bool → Type 0
+IsSeen flags first end true = (a : ℕ) × (first ≤ a) × (a < end) × (get_or flags a false ≡ true)
+IsSeen flags first end false = (a : ℕ) → first ≤ a → a < end → get_or flags a false ≡ false
+
+pub seen_words : (d : Datum) (flags : List Bool) (ws : List ℕ) (first end : ℕ) (seen : Bool) → IsListed flags ws → 0 < length d.bytes → first ≡ d.start - 1 → end ≡ d.start + length d.bytes
+    → IsSeen flags first end seen → seen ≡ covers_word d ws
+seen_words d flags ws first end true m some f e h = sym (covers_at d flags ws h.0 m h.3 some (omega (arith, f, h.1)) (omega (arith, e, h.2)))
+seen_words d flags ws first end false m some f e h = sym (covers_none d flags ws m (λ a l k. h a (omega (arith, f, l)) (omega (arith, e, k))))

@@ -1,13 +1,13 @@
 -- An image of the program at paragraph 0 serves every paragraph.
-use Rattle.std.proofs.Common.{◌≡◌, ℕ, zero, suc, ◌+◌, ◌<◌, ◌≤◌, Bool, true, false, eqb, eq-eqb, cond, filter, List, [], ◌∷◌, ◌++◌, map, length, None, inl, inr, arith, refl, ap, ◌∙◌, sym, subst}
+use Rattle.std.proofs.Common.{◌≡◌, ℕ, zero, suc, ◌+◌, ◌<◌, ◌≤◌, Bool, true, false, eqb, eq-eqb, cond, fold, max, filter, List, [], ◌∷◌, ◌++◌, map, length, None, inl, inr, arith, refl, ap, ◌∙◌, sym, subst}
 use Rattle.std.proofs.lemmas.List.{append_assoc, append-nil}
 use Rattle.std.proofs.lemmas.List.Elements.{recursion_from_All}
-use Rattle.std.proofs.lemmas.Bool.{true≢false, cases_lt, cases_eq, or_cases, or_left, or_right, eqb-true}
+use Rattle.std.proofs.lemmas.Bool.{cond-true, cond-false, ne_eqb, true≢false, cases_lt, cases_eq, or_cases, or_left, or_right, eqb-true}
 use Rattle.std.specs.List.{AllByRecursion, list_any, range_with_len}
 use Rattle.omf_module.specs.Module.{Module}
 use Rattle.omf_place.specs.Layout.{Layout}
 use Rattle.omf_image.specs.Located.{Datum, covers}
-use Rattle.omf_image.specs.Records.{bytes_of, Entry, entries, entry_start, WellPlaced, AllWellPlaced, AllInside, patches, IsImage, HoldsEverywhere, relocated_words, relocations}
+use Rattle.omf_image.specs.Records.{bytes_of, Entry, entries, entry_start, entry_end, written, WellPlaced, AllWellPlaced, AllInside, patches, IsImage, HoldsEverywhere, relocated_words, relocations}
 use Rattle.omf_image.specs.Faults.{data_fault}
 use Rattle.omf_image.specs.Patch.{relocated_places}
 use Rattle.omf_image.proofs.Law.{length-patched_all}
@@ -73,16 +73,42 @@ all_apart rs (p ∷ ps) old each free =
     subst Apart (append_assoc rs (addresses p) (all_addresses ps))
     (all_apart (rs ++ addresses p) ps (step_apart rs p old each.0 each.1 free.0) each.2 free.1)
 
--- each relocated word lies inside the program
-all_inside : (size : ℕ) (layout : Layout) (es : List Entry) → AllByRecursion (λ e. entry_start layout e + length (bytes_of e.data_record) ≤ size) es → EachApart (map (piece layout) es) → AllWordsInside size (all_addresses (map (piece layout) es))
-all_inside size layout [] room each r h = absurd h
-all_inside size layout (e ∷ es) room each r h =
+-- the end of data, by its length
+pub end_none : (s n : ℕ) → n ≡ 0 → cond (eqb n 0) 0 (s + n) ≡ 0
+end_none s n h = cond-true (eqb n 0) 0 (s + n) (eq-eqb n 0 h)
+
+pub end_some : (s n : ℕ) → 0 < n → cond (eqb n 0) 0 (s + n) ≡ s + n
+end_some s n h = cond-false (eqb n 0) 0 (s + n) (ne_eqb n 0 (λ x. omega (arith, h, x)))
+
+end_within : (s n size : ℕ) → s + n ≤ size → cond (eqb n 0) 0 (s + n) ≤ size
+end_within s n size h = elim (cases_eq n 0) [ inl e ↦ omega (arith, end_none s n e) | inr ne ↦ omega (arith, end_some s n (omega (arith, ne)), h) ]
+
+-- the greatest end is above each and inside the program
+most_begun : (n : ℕ) (xs : List ℕ) → n ≤ fold max n xs
+most_begun n [] = omega arith
+most_begun n (x ∷ xs) = omega (arith, most_begun (max n x) xs)
+
+most_each : (n : ℕ) (layout : Layout) (es : List Entry) → AllByRecursion (λ e. entry_end layout e ≤ fold max n (map (entry_end layout) es)) es
+most_each n layout [] = tt
+most_each n layout (e ∷ es) = (omega (arith, most_begun (max n (entry_end layout e)) (map (entry_end layout) es)), most_each (max n (entry_end layout e)) layout es)
+
+most_within : (n size : ℕ) (layout : Layout) (es : List Entry) → n ≤ size → AllByRecursion (λ e. entry_start layout e + length (bytes_of e.data_record) ≤ size) es → fold max n (map (entry_end layout) es) ≤ size
+most_within n size layout [] h room = h
+most_within n size layout (e ∷ es) h room =
+    let here : entry_end layout e ≤ size = end_within (entry_start layout e) (length (bytes_of e.data_record)) size room.0 in
+    most_within (max n (entry_end layout e)) size layout es (omega (arith, h, here)) room.1
+
+-- each relocated word lies below an address where no data reaches
+all_below : (end : ℕ) (layout : Layout) (es : List Entry) → AllByRecursion (λ e. entry_end layout e ≤ end) es → EachApart (map (piece layout) es) → AllWordsInside end (all_addresses (map (piece layout) es))
+all_below end layout [] room each r h = absurd h
+all_below end layout (e ∷ es) room each r h =
     elim (In-cases r (addresses (piece layout e)) (all_addresses (map (piece layout) es)) h) [
       | inl k ↦
           let g = In-map (entry_start layout e) r (relocated_places (patches 0 layout e)) k in
           let n = length-patched_all (patches 0 layout e) (bytes_of e.data_record) in
-          omega (arith, g.2, each.1 g.0 g.1, n, room.0)
-      | inr k ↦ all_inside size layout es room.1 each.2 r k
+          let ends = end_some (entry_start layout e) (length (bytes_of e.data_record)) (omega (arith, each.1 g.0 g.1, n)) in
+          omega (arith, g.2, each.1 g.0 g.1, n, room.0, ends)
+      | inr k ↦ all_below end layout es room.1 each.2 r k
     ]
 
 -- a list of addresses and a test for them
@@ -117,6 +143,8 @@ spaced_apart (r ∷ rs) h = (λ s k. inl (h.0 s k), spaced_apart rs h.1)
 -- what holds of the relocations where no fault of data stands
 pub record SoundRelocations (layout : Layout) (modules : List Module) : Type 0 where
   pub spaced : SpacedBy 2 (relocations layout modules)
+  pub below : AllWordsInside (written layout modules) (relocations layout modules)
+  pub within : written layout modules ≤ layout.size
   pub inside : AllWordsInside layout.size (relocations layout modules)
   pub there : (r : ℕ) → In r (relocations layout modules) → In r (relocated_words layout modules)
   pub back : (r : ℕ) → In r (relocated_words layout modules) → In r (relocations layout modules)
@@ -127,15 +155,18 @@ sound_relocations layout modules well inside none =
     let s = sound_records 0 layout [] es (recursion_from_All (λ e. WellPlaced e.data_record) es well) none in
     let words = relocated_words layout modules in
     let p : ℕ → Bool = λ a. list_any (λ w. eqb a w) words in
-    let room = all_inside layout.size layout es (recursion_from_All (λ e. entry_start layout e + length (bytes_of e.data_record) ≤ layout.size) es inside) s.apart in
+    let room = all_below (written layout modules) layout es (most_each 0 layout es) s.apart in
+    let within = most_within 0 layout.size layout es (omega arith) (recursion_from_All (λ e. entry_start layout e + length (bytes_of e.data_record) ≤ layout.size) es inside) in
     let inner : (r : ℕ) → In r words → In r (all_addresses (map (piece layout) es)) = λ r k. subst (λ (l : List ℕ). In r l) (sym s.listed) k in
     let there : (r : ℕ) → In r (relocations layout modules) → In r words = λ r k. in_any words r (in_filter p 0 layout.size r k).2 in
     let apart : Apart words = λ r q h k l. all_apart [] (map (piece layout) es) (λ x y h. absurd h) s.apart s.free r q (inner r h) (inner q k) l in
     record {
       spaced = spaced_filter p 2 0 layout.size (λ i j s t l m. apart i j (in_any words i s) (in_any words j t) l);
-      inside = λ r k. room r (inner r (there r k));
+      below = λ r k. room r (inner r (there r k));
+      within = within;
+      inside = λ r k. omega (arith, room r (inner r (there r k)), within);
       there = there;
-      back = λ r k. in_range p 0 layout.size r (omega arith) (omega (arith, room r (inner r k))) (any_in words r k);
+      back = λ r k. in_range p 0 layout.size r (omega arith) (omega (arith, room r (inner r k), within)) (any_in words r k);
     }
 
 pub everywhere : (layout : Layout) (modules : List Module) (image : List ℕ) → AllWellPlaced modules → AllInside layout modules → data_fault layout modules ≡ None → IsImage layout modules image → HoldsEverywhere layout modules image (relocations layout modules)

@@ -1,5 +1,5 @@
 -- From the first state to the last, and from there to the program.
-use Rattle.std.proofs.Common.{◌≡◌, ℕ, zero, suc, ◌+◌, ◌<◌, ◌≤◌, Bool, true, false, cond, ◌||◌, ltb, eqb, List, [], ◌∷◌, map, filter, length, get_or, replicate, All, AllPairs, Option, Some, None, Err, inl, inr, refl, ap, ◌∙◌, sym, arith, subst}
+use Rattle.std.proofs.Common.{◌≡◌, ℕ, zero, suc, ◌+◌, ◌<◌, ◌≤◌, Bool, true, false, cond, ◌||◌, ltb, eqb, List, [], ◌∷◌, map, filter, length, get_or, replicate, All, AllPairs, Option, Some, None, inl, inr, refl, ap, ◌∙◌, sym, arith, subst}
 use Rattle.std.specs.List.{list_any, range_with_len}
 use Rattle.std.proofs.lemmas.List.{length-replicate, get_or-replicate, get_or_past}
 use Rattle.std.proofs.lemmas.List.Elements.{All-weaker}
@@ -7,17 +7,17 @@ use Rattle.std.proofs.lemmas.Bool.{cases_lt, cond-true, cond-false, lt-ltb, le-l
 use Rattle.omf_module.specs.Module.{Module}
 use Rattle.omf_place.specs.Layout.{Layout}
 use Rattle.omf_image.specs.declared.faults.FixFault.{FixFault}
-use Rattle.omf_image.specs.declared.faults.FixFault.TheVariants.{At, TooManyRelocations, Memory}
+use Rattle.omf_image.specs.declared.faults.FixFault.TheVariants.{TooManyRelocations}
 use Rattle.omf_image.specs.Words.{add_words}
 use Rattle.omf_image.specs.Located.{covers, byte_of, last_or, in_page}
-use Rattle.omf_image.specs.Records.{datum, program_byte, entries, relocations, relocated_words, WellPlaced, AllWellPlaced, AllInside, bytes_of, entry_start, LiesInContent}
+use Rattle.omf_image.specs.Records.{datum, program_byte, entries, relocations, relocated_words, written, WellPlaced, AllWellPlaced, AllInside, bytes_of, entry_start, LiesInContent}
 use Rattle.omf_image.specs.Faults.{data_fault, first_of}
 use Rattle.omf_image.specs.Registers.{starts, starts_fault, count_fault, program_fault, entry_at, stack, stack_of, registers, moved}
 use Rattle.omf_image.specs.Pages.{Paged, IsBlank}
 use Rattle.omf_image.specs.Program.{Program}
 use Rattle.omf_image.specs.Ready.{IsReady, IsEntryReady, IsFixupReady}
 use Rattle.omf_image.specs.Working.{State}
-use Rattle.omf_image.specs.Leading.{IsWhole, Leads, Answers}
+use Rattle.omf_image.specs.Leading.{IsWhole, Leads}
 use Rattle.omf_image.specs.Building.{IsProgramOf, registers_of}
 use Rattle.omf_image.proofs.Moved.{In}
 use Rattle.omf_image.proofs.Hits.{SpacedBy}
@@ -90,42 +90,45 @@ inside : (layout : Layout) (modules : List Module) → IsReady layout modules �
 inside layout modules h = All-weaker (IsEntryReady layout) (λ e. entry_start layout e + length (bytes_of e.data_record) ≤ layout.size) (λ e r. r.inside) (entries modules) h.records
 
 -- the program that the code makes of the last state
-abbrev pub made_of : State → List ℕ → ℕ × ℕ → ℕ × ℕ → Program
-made_of s items entry stack' = record { image = s.image; relocations = items; cs = entry.0; ip = entry.1; ss = stack'.0; sp = stack'.1; made = s.made }
+abbrev pub made_of : State → ℕ → List ℕ → ℕ × ℕ → ℕ × ℕ → Program
+made_of s end items entry stack' = record { image = s.image; written = end; relocations = items; cs = entry.0; ip = entry.1; ss = stack'.0; sp = stack'.1; made = s.made }
 
 -- what a program keeps of its relocated words
-pub record Limits (size : ℕ) (items : List ℕ) : Type 0 where
+pub record Limits (end size : ℕ) (items : List ℕ) : Type 0 where
   pub apart : AllPairs (λ r s. r + 2 ≤ s) items
-  pub inside : All (λ r. r + 2 ≤ size) items
+  pub inside : All (λ r. r + 2 ≤ end) items
+  pub written : end ≤ size
   pub few : length items ≤ 65535
 
-pub program_limits : (layout : Layout) (modules : List Module) (s : State) (items : List ℕ) (entry stack' : ℕ × ℕ) → IsReady layout modules → IsWhole layout s → Leads layout modules s [] → items ≡ filter (λ a. get_or s.words a false) (range_with_len 0 (length s.words)) → length items ≤ 65535 → Limits (length s.image) items
-program_limits layout modules s items entry stack' ready whole l e few =
+pub program_limits : (layout : Layout) (modules : List Module) (s : State) (end : ℕ) (items : List ℕ) → IsReady layout modules → IsWhole layout s → Leads layout modules s [] → end ≡ written layout modules → items ≡ filter (λ a. get_or s.words a false) (range_with_len 0 (length s.words)) → length items ≤ 65535 → Limits end (length s.image) items
+program_limits layout modules s end items ready whole l ends e few =
     let is = flags_are layout modules s items whole l e in
     let sound = sound_relocations layout modules (well layout modules ready) (inside layout modules ready) (no_fault layout modules s l) in
     let size = whole.sized in
-    let small = whole.small in
     record {
       apart = subst (AllPairs (λ r s. r + 2 ≤ s)) (sym is) (spaced_pairs (relocations layout modules) sound.spaced);
-      inside = subst (All (λ r. r + 2 ≤ length s.image)) (sym is) (λ k d h. let i = sound.inside (get_or (relocations layout modules) k d) (in_index (relocations layout modules) k d h) in omega (arith, i, size));
+      inside = subst (All (λ r. r + 2 ≤ end)) (sym is) (λ k d h. let i = sound.below (get_or (relocations layout modules) k d) (in_index (relocations layout modules) k d h) in omega (arith, i, ends));
+      written = omega (arith, ends, sound.within, size);
       few = few;
     }
 
-pub program_is : (layout : Layout) (modules : List Module) (s : State) (items : List ℕ) (entry stack' : ℕ × ℕ) → IsReady layout modules → IsWhole layout s → Leads layout modules s [] → starts_fault layout (starts modules) ≡ None → entry ≡ entry_at 0 layout (starts modules) → stack' ≡ stack_of 0 (stack layout modules) → items ≡ filter (λ a. get_or s.words a false) (range_with_len 0 (length s.words)) → length items ≤ 65535 → (program_fault layout modules ≡ None) × IsProgramOf layout modules (made_of s items entry stack')
+pub program_is : (layout : Layout) (modules : List Module) (s : State) (end : ℕ) (items : List ℕ) (entry stack' : ℕ × ℕ) → IsReady layout modules → IsWhole layout s → Leads layout modules s [] → end ≡ written layout modules → starts_fault layout (starts modules) ≡ None → entry ≡ entry_at 0 layout (starts modules) → stack' ≡ stack_of 0 (stack layout modules) → items ≡ filter (λ a. get_or s.words a false) (range_with_len 0 (length s.words)) → length items ≤ 65535 → (program_fault layout modules ≡ None) × IsProgramOf layout modules (made_of s end items entry stack')
 unfolding program_fault registers
-program_is layout modules s items entry stack' ready whole l none at st e few =
+program_is layout modules s end items entry stack' ready whole l ends none at st e few =
     let is = flags_are layout modules s items whole l e in
     let clean = no_fault layout modules s l in
-    let zero_is : registers 0 layout modules ≡ registers_of (made_of s items entry stack') =
-    ap (λ (x : ℕ × ℕ). registers_of (made_of s items x (stack_of 0 (stack layout modules)))) (sym at) ∙ ap (λ (x : ℕ × ℕ). registers_of (made_of s items entry x)) (sym st) in
+    let zero_is : registers 0 layout modules ≡ registers_of (made_of s end items entry stack') =
+    ap (λ (x : ℕ × ℕ). registers_of (made_of s end items x (stack_of 0 (stack layout modules)))) (sym at) ∙ ap (λ (x : ℕ × ℕ). registers_of (made_of s end items entry x)) (sym st) in
     let count : count_fault layout modules ≡ None = cond-false (ltb 65535 (length (relocations layout modules))) (Some TooManyRelocations) None (le-ltb 65535 (length (relocations layout modules)) (omega (arith, few, ap length is))) in (
       ap (λ (o : Option FixFault). first_of o (first_of (starts_fault layout (starts modules)) (count_fault layout modules))) clean
           ∙ ap (λ (o : Option FixFault). first_of o (count_fault layout modules)) none ∙ count,
       record {
         sized = whole.sized;
+        written = ends;
         everywhere = subst (λ (rs : List ℕ). (P a : ℕ) → a < layout.size → get_or (add_words P rs s.image) a 0 ≡ program_byte P layout modules a) (sym is)
             (everywhere layout modules s.image (well layout modules ready) (inside layout modules ready) clean (record { sized = whole.sized; bytes = λ a h. l.image a }));
         listed = is;
+        below = (program_limits layout modules s end items ready whole l ends e few).inside;
         at_zero = zero_is;
         at_each = λ P. registers_move P layout modules none ∙ ap (moved P) zero_is;
         pages = λ k. l.pages k;
@@ -149,8 +152,3 @@ count_last layout modules h k l =
     ap (λ (o : Option FixFault). first_of o (first_of (starts_fault layout (starts modules)) (count_fault layout modules))) h
     ∙ ap (λ (o : Option FixFault). first_of o (count_fault layout modules)) k
     ∙ cond-true (ltb 65535 (length (relocations layout modules))) (Some TooManyRelocations) None (lt-ltb 65535 (length (relocations layout modules)) l)
-
-pub refused_on : {X Y : Type 0} (f : FixFault) (F G : Option FixFault) (K : X → Type 0) (L : Y → Type 0) → ((g : FixFault) → F ≡ Some g → G ≡ Some g) → Answers (Err f) F K → Answers (Err f) G L
-refused_on Memory F G K L h a = tt
-refused_on (At kind input place) F G K L h a = h (At kind input place) a
-refused_on TooManyRelocations F G K L h a = h TooManyRelocations a

@@ -15,6 +15,7 @@ use Rattle.omf_place.specs.declared.layout.Base.TheVariants.{Relocatable as Movi
 use Rattle.omf_image.specs.declared.reference.Resolved.{Resolved}
 use Rattle.omf_image.specs.Reference.{frame'}
 use Rattle.omf_image.specs.Value.{modulo, from_frame, base_patch, patches_at}
+use Rattle.omf_record.specs.Expansion.{StandTogether}
 use Rattle.omf_record.specs.Numbers.{location_width}
 use Rattle.omf_image.specs.Records.{hits, stored_of, LiesInContent}
 use Rattle.omf_image.proofs.Law.{AllClear}
@@ -52,22 +53,25 @@ pub in_hits : (o : ℕ) (stored : List ℕ) (i : ℕ) → In i (hits o stored) �
 in_hits o stored i h = let g = in_filter (λ i. eqb (get_or stored i 0) o) 0 (length stored) i h in (omega (arith, g.1), eqb-true (get_or stored i 0) o g.2)
 
 -- the bytes of a location have stored places of their own, so another hit is past them
-far : (d : DataRecord) (x : ResolvedFixup) → LiesInContent d x → (i j : ℕ) → get_or (stored_of d) i 0 ≡ x.offset → get_or (stored_of d) j 0 ≡ x.offset → i < j → j < length (stored_of d) → i + location_width x.location ≤ j
-far d x lies i j ei ej l m =
-    elim (cases_lt j (i + location_width x.location)) [
+far : (o w : ℕ) (stored : List ℕ) → StandTogether o w stored → (i j : ℕ) → get_or stored i 0 ≡ o → get_or stored j 0 ≡ o → i < j → j < length stored → i + w ≤ j
+far o w stored together i j ei ej l m =
+    elim (cases_lt j (i + w)) [
       | inl near ↦
           let k = j - i in
           let e : i + k ≡ j = omega arith in
-          let g = (lies i k (omega arith) ei (omega arith)).1 in
-          absurd (omega (arith, ap (λ (n : ℕ). get_or (stored_of d) n 0) e, g))
+          let g = (together i k (omega arith) ei (omega arith)).1 in
+          absurd (omega (arith, ap (λ (n : ℕ). get_or stored n 0) e, g))
       | inr past ↦ past
     ]
 
+pub spaced_hits : (o w : ℕ) (stored : List ℕ) → StandTogether o w stored → SpacedBy w (hits o stored)
+spaced_hits o w stored together = spaced_filter (λ i. eqb (get_or stored i 0) o) w 0 (length stored) (λ i j s t l m.
+    let ei : get_or stored i 0 ≡ o = eqb-true (get_or stored i 0) o s in
+    let ej : get_or stored j 0 ≡ o = eqb-true (get_or stored j 0) o t in
+    far o w stored together i j ei ej l (omega (arith, m)))
+
 pub hits_spaced : (d : DataRecord) (x : ResolvedFixup) → LiesInContent d x → SpacedBy (location_width x.location) (hits x.offset (stored_of d))
-hits_spaced d x lies = spaced_filter (λ i. eqb (get_or (stored_of d) i 0) x.offset) (location_width x.location) 0 (length (stored_of d)) (λ i j s t l m.
-    let ei : get_or (stored_of d) i 0 ≡ x.offset = eqb-true (get_or (stored_of d) i 0) x.offset s in
-    let ej : get_or (stored_of d) j 0 ≡ x.offset = eqb-true (get_or (stored_of d) j 0) x.offset t in
-    far d x lies i j ei ej l (omega (arith, m)))
+hits_spaced d x lies = spaced_hits x.offset (location_width x.location) (stored_of d) lies
 
 -- all patches lie from lo to hi
 abbrev pub Within : ℕ → ℕ → List Patch → Type 0

@@ -35,21 +35,21 @@ or_true : (b : Bool) → (b || true) ≡ true
 or_true true = refl
 or_true false = refl
 
-or_false : (b : Bool) → (b || false) ≡ b
+pub or_false : (b : Bool) → (b || false) ≡ b
 or_false true = refl
 or_false false = refl
 
-set_told : (flags : List Bool) (w a : ℕ) → w < length flags → get_or (set flags w true) a false ≡ (get_or flags a false || eqb a w)
+set_told : (flags : List Bool) (w a : ℕ) → (a ≡ w → w < length flags) → get_or (set flags w true) a false ≡ (get_or flags a false || eqb a w)
 set_told flags w a h = elim (cases_eq a w) [
-  | inl e ↦ ap (λ (k : ℕ). get_or (set flags w true) k false) e ∙ get_or-set_same flags w true false h ∙ sym (ap (λ (b : Bool). get_or flags a false || b) (eq-eqb a w e) ∙ or_true (get_or flags a false))
+  | inl e ↦ ap (λ (k : ℕ). get_or (set flags w true) k false) e ∙ get_or-set_same flags w true false (h e) ∙ sym (ap (λ (b : Bool). get_or flags a false || b) (eq-eqb a w e) ∙ or_true (get_or flags a false))
   | inr ne ↦ get_or-set_other flags w a true false ne ∙ sym (ap (λ (b : Bool). get_or flags a false || b) (ne_eqb a w ne) ∙ or_false (get_or flags a false))
 ]
 
 -- flags that are set
-pub begun_told : (ws : List ℕ) (flags : List Bool) (a : ℕ) → ((w : ℕ) → In w ws → w < length flags) → get_or (begun ws flags) a false ≡ (get_or flags a false || list_any (λ w. eqb a w) ws)
+pub begun_told : (ws : List ℕ) (flags : List Bool) (a : ℕ) → ((w : ℕ) → In w ws → a ≡ w → w < length flags) → get_or (begun ws flags) a false ≡ (get_or flags a false || list_any (λ w. eqb a w) ws)
 begun_told [] flags a h = sym (or_false (get_or flags a false))
 begun_told (w ∷ ws) flags a h =
-    begun_told ws (set flags w true) a (λ v k. subst (λ (n : ℕ). v < n) (sym (length-set flags w true)) (h v (inr k)))
+    begun_told ws (set flags w true) a (λ v k e. subst (λ (n : ℕ). v < n) (sym (length-set flags w true)) (h v (inr k) e))
     ∙ ap (λ (b : Bool). b || list_any (λ w. eqb a w) ws) (set_told flags w a (h w (inl refl)))
     ∙ sym (or_assoc (get_or flags a false) (eqb a w) (list_any (λ w. eqb a w) ws))
 
@@ -62,7 +62,7 @@ laid_on d ds a old new e = elim (cases_Bool (covers a d)) [
       ∙ sym (ap (λ (l : List Datum). last_or old (map (byte_of a) l)) (cond-false (covers a d) (d ∷ filter (covers a) ds) (filter (covers a) ds) t))
 ]
 
-in_page_sized : (k start : ℕ) (xs ys : List ℕ) → length xs ≡ length ys → in_page k (record { start = start; bytes = xs }) ≡ in_page k (record { start = start; bytes = ys })
+pub in_page_sized : (k start : ℕ) (xs ys : List ℕ) → length xs ≡ length ys → in_page k (record { start = start; bytes = xs }) ≡ in_page k (record { start = start; bytes = ys })
 in_page_sized k start xs ys e = ap (λ (n : ℕ). ltb 0 n && (ltb start (4096 * (k + 1)) && ltb (4096 * k) (start + n))) e
 
 pub record_clean : (layout : Layout) (e : Entry) (words : List ℕ) → covers_word (datum 0 layout e) words ≡ false → fixups_fault layout e [] e.data_record.fixups ≡ None → record_fault layout words e ≡ None
@@ -84,7 +84,7 @@ leads_on layout modules base now e rest well whole inside l clean none h =
     let two = whole.words in
     omega (arith, g.2, i, n, inside, one, two) in
     let flags : (a : ℕ) → get_or now.words a false ≡ (get_or base.words a false || list_any (λ w. eqb a w) mine) = λ a.
-    ap (λ (f : List Bool). get_or f a false) h.words ∙ begun_told mine base.words a room in
+    ap (λ (f : List Bool). get_or f a false) h.words ∙ begun_told mine base.words a (λ w k e. room w k) in
     record {
       image = λ a. laid_on d (map (datum 0 layout) rest) a (get_or base.image a 0) (get_or now.image a 0) (h.image.each a) ∙ l.image a;
       pages = λ k.
@@ -129,7 +129,10 @@ pub listed_same : (flags flags' : List Bool) (words : List ℕ) → flags' ≡ f
 listed_same flags flags' words e h a = ap (λ (f : List Bool). get_or f a false) e ∙ h a
 
 -- a refusal says the same of every success
+pub refused_on : {X Y : Type 0} (f : FixFault) (F G : Option FixFault) (K : X → Type 0) (L : Y → Type 0) → ((g : FixFault) → F ≡ Some g → G ≡ Some g) → Answers (Err f) F K → Answers (Err f) G L
+refused_on Memory F G K L h a = tt
+refused_on (At kind input place) F G K L h a = h (At kind input place) a
+refused_on TooManyRelocations F G K L h a = h TooManyRelocations a
+
 pub refused : {X Y : Type 0} (f : FixFault) (F : Option FixFault) (K : X → Type 0) (L : Y → Type 0) → Answers (Err f) F K → Answers (Err f) F L
-refused Memory F K L a = tt
-refused (At kind input place) F K L a = a
-refused TooManyRelocations F K L a = a
+refused f F K L a = refused_on f F F K L (λ g e. e) a

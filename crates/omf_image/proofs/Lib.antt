@@ -11,8 +11,12 @@ pub mod Paging
 pub mod Laying
 pub mod Touched
 pub mod Ranges
+pub mod Chains
 pub mod Holding
 pub mod Meaning
+pub mod Copies
+pub mod Twins
+pub mod Copying
 pub mod Covering
 pub mod Leading
 pub mod Listing

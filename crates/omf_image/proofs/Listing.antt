@@ -1,15 +1,17 @@
 -- The data records of modules, one after the other.
-use Rattle.std.proofs.Common.{◌≡◌, ℕ, ◌+◌, ◌<◌, List, [], ◌∷◌, ◌++◌, map, drop, length, get_or, slice_get, Some, None, All, ap, ◌∙◌, sym, arith, subst}
+use Rattle.std.proofs.Common.{◌≡◌, ℕ, ◌+◌, ◌<◌, List, [], ◌∷◌, ◌++◌, map, drop, length, get_or, slice_get, Option, Some, None, Ok, All, ap, ◌∙◌, sym, arith, subst}
 use Rattle.std.proofs.lemmas.List.{get_or_default, length-append, length-map, get_or-map, get_or_append_left, get_or-append-add}
 use Rattle.std.proofs.lemmas.Option.{get_or_from_slice_get}
 use Rattle.omf_module.specs.Module.{DataRecord, Module}
 use Rattle.omf_image.specs.Records.{Entry, module_entries, entries_from}
 use Rattle.omf_module.specs.declared.Start.{Start}
 use Rattle.omf_place.specs.Layout.{Layout}
+use Rattle.omf_image.specs.declared.faults.FixKind.{FixKind}
 use Rattle.omf_image.specs.declared.faults.FixKind.TheVariants.{TwoStarts}
 use Rattle.omf_image.specs.declared.faults.FixFault.TheVariants.{At}
-use Rattle.omf_image.specs.Registers.{StartEntry, module_start, starts_from, starts, starts_fault}
-use Rattle.omf_image.specs.Starting.{FindsStart}
+use Rattle.omf_image.specs.Faults.{or_else}
+use Rattle.omf_image.specs.Registers.{StartEntry, module_start, starts_from, starts, starts_fault, start_meaning, entry_at}
+use Rattle.omf_image.specs.Starting.{FindsStart, GivesEntry}
 use Rattle.omf_image.proofs.Meaning.{drop_more}
 
 pub all_left : {X : Type 0} (P : X → Type 0) (xs ys : List X) → All P (xs ++ ys) → All P xs
@@ -60,6 +62,17 @@ some_item : (ms : List Module) (i : ℕ) → i < length ms → (m : Module) × (
 some_item ms i l =
     let d : Module = record { segments = []; groups = []; externals = []; publics = []; data_records = []; start = None } in
     (get_or ms i d, get_or_default ms i d (get_or ms i d) l)
+
+-- the only one
+pub one_start : (layout : Layout) (ms : List Module) (f : ℕ × Start) (m : Module) (entry : ℕ × ℕ) → m ≡ get_or ms f.0 m → FindsStart ms 0 (Some f) → FindsStart ms (f.0 + 1) None
+    → GivesEntry (start_meaning layout (record { number = f.0; of_module = m; start = f.1 })) (Ok entry)
+    → (starts_fault layout (starts ms) ≡ None) × (entry ≡ entry_at 0 layout (starts ms))
+one_start layout ms f m entry is one none gives =
+    let e : StartEntry = record { number = f.0; of_module = m; start = f.1 } in
+    let only : starts ms ≡ e ∷ [] = one.1 m is ∙ ap (λ (es : List StartEntry). e ∷ es) none in (
+      ap (starts_fault layout) only ∙ ap (λ (k : Option FixKind). or_else k (e.number, e.start.place) None) gives.0,
+      gives.1 ∙ sym (ap (entry_at 0 layout) only),
+    )
 
 pub two_starts : (layout : Layout) (ms : List Module) (f g : ℕ × Start) → FindsStart ms 0 (Some f) → FindsStart ms (f.0 + 1) (Some g) → starts_fault layout (starts ms) ≡ Some (At TwoStarts g.0 g.1.place)
 two_starts layout ms f g one two =

@@ -1,7 +1,8 @@
 -- A fix-up whose frame and target are found.
-use Rattle.std.proofs.Common.{◌≡◌, ℕ, zero, suc, ◌+◌, ◌<◌, ◌≤◌, Bool, true, false, not, List, [], ◌∷◌, ◌++◌, map, flat_map, take, drop, length, get_or, Option, None, Err, add-one, inl, inr, refl, ap, ◌∙◌, sym, arith, subst}
+use Rattle.std.proofs.Common.{◌≡◌, ℕ, zero, suc, ◌+◌, ◌<◌, ◌≤◌, Bool, true, false, not, List, [], ◌∷◌, ◌++◌, map, flat_map, take, drop, length, get_or, Option, Some, None, Err, add-one, inl, inr, refl, ap, ◌∙◌, sym, arith, subst}
 use Rattle.std.specs.List.{zip}
-use Rattle.std.proofs.lemmas.List.{take_more, flat_map_more}
+use Rattle.std.proofs.lemmas.List.{append_assoc, append-nil, take-append-drop, take_more, flat_map_more}
+use Rattle.std.proofs.lemmas.List.Concat.{flat_map-append}
 use Rattle.std.proofs.Math.Seq.{drop-cons}
 use Rattle.omf_record.specs.Numbers.{location_width}
 use Rattle.omf_module.specs.declared.ResolvedFixup.{ResolvedFixup}
@@ -14,7 +15,7 @@ use Rattle.omf_image.specs.declared.reference.Resolved.{Resolved}
 use Rattle.omf_image.specs.Reference.{Found, Is}
 use Rattle.omf_image.specs.Records.{Entry, entry_start, meaning, patches_of, fixup_patches, hits, stored_of, LiesInContent}
 use Rattle.omf_image.specs.Patch.{all_clear}
-use Rattle.omf_image.specs.Faults.{first_kind, is_mixed, out_of_frame, too_far, resolved_fault, fixup_fault, or_else, fixups_fault}
+use Rattle.omf_image.specs.Faults.{first_kind, is_mixed, out_of_frame, too_far, resolved_fault, fixup_fault, or_else, fixups_fault, first_of}
 use Rattle.omf_image.specs.declared.faults.FixFault.{FixFault}
 use Rattle.omf_image.specs.declared.faults.Stop.{Stop}
 use Rattle.omf_image.specs.declared.faults.Stop.TheVariants as stop
@@ -73,17 +74,20 @@ hit_inside d x is k lies e h = hits_room d x lies (get_or is k 0) (subst (λ (l 
 pub flat_more_of : {X Y : Type 0} (f : X → List Y) (xs : List X) (i : ℕ) (d : X) → i < length xs → flat_map f (take i xs) ++ f (get_or xs i d) ≡ flat_map f (take (i + 1) xs)
 flat_more_of f xs i d h = flat_map_more f [] (take i xs) (get_or xs i d) ∙ ap (flat_map f) (sym (take_more xs i d h))
 
+pub patches_more : {X Y : Type 0} (f : X → List Y) (earlier : List Y) (xs : List X) (i : ℕ) (d : X) → i < length xs → (earlier ++ flat_map f (take i xs)) ++ f (get_or xs i d) ≡ earlier ++ flat_map f (take (i + 1) xs)
+patches_more f earlier xs i d h = append_assoc earlier (flat_map f (take i xs)) (f (get_or xs i d)) ∙ ap (λ l. earlier ++ l) (flat_more_of f xs i d h)
+
 pub drop_more : {X : Type 0} (xs : List X) (i : ℕ) (d : X) → i < length xs → drop i xs ≡ get_or xs i d ∷ drop (i + 1) xs
 drop_more xs i d h = rw (add-one, drop-cons xs i d)
 
-pub fixups_more : (layout : Layout) (e : Entry) (xs : List ResolvedFixup) (i : ℕ) (d : ResolvedFixup) (fault : Option FixFault) → i < length xs → fixup_fault layout e (flat_map (fixup_patches 0 layout e) (take i xs)) (get_or xs i d) ≡ None → fixups_fault layout e (flat_map (fixup_patches 0 layout e) (take i xs)) (drop i xs) ≡ fault → fixups_fault layout e (flat_map (fixup_patches 0 layout e) (take (i + 1) xs)) (drop (i + 1) xs) ≡ fault
-fixups_more layout e xs i d fault h none at =
+pub fixups_more : (layout : Layout) (e : Entry) (earlier : List Patch) (xs : List ResolvedFixup) (i : ℕ) (d : ResolvedFixup) (fault : Option FixFault) → i < length xs → fixup_fault layout e (earlier ++ flat_map (fixup_patches 0 layout e) (take i xs)) (get_or xs i d) ≡ None → fixups_fault layout e (earlier ++ flat_map (fixup_patches 0 layout e) (take i xs)) (drop i xs) ≡ fault → fixups_fault layout e (earlier ++ flat_map (fixup_patches 0 layout e) (take (i + 1) xs)) (drop (i + 1) xs) ≡ fault
+fixups_more layout e earlier xs i d fault h none at =
     let f : ResolvedFixup → List Patch = fixup_patches 0 layout e in
-    let earlier = flat_map f (take i xs) in
+    let so_far = earlier ++ flat_map f (take i xs) in
     let x = get_or xs i d in
-    ap (λ (ps : List Patch). fixups_fault layout e ps (drop (i + 1) xs)) (sym (flat_more_of f xs i d h))
-    ∙ ap (λ (o : Option FixKind). or_else o (e.number, x.place) (fixups_fault layout e (earlier ++ f x) (drop (i + 1) xs))) (sym none)
-    ∙ ap (fixups_fault layout e earlier) (sym (drop_more xs i d h))
+    ap (λ (ps : List Patch). fixups_fault layout e ps (drop (i + 1) xs)) (sym (patches_more f earlier xs i d h))
+    ∙ ap (λ (o : Option FixKind). or_else o (e.number, x.place) (fixups_fault layout e (so_far ++ f x) (drop (i + 1) xs))) (sym none)
+    ∙ ap (fixups_fault layout e so_far) (sym (drop_more xs i d h))
     ∙ at
 
 pub fixups_stop : {X : Type 0} (K : X → Type 0) (holds : Type 0) (layout : Layout) (e : Entry) (xs : List ResolvedFixup) (i : ℕ) (d : ResolvedFixup) (s : Stop) (earlier : List Patch) (fault : Option FixFault) → i < length xs → FixupGives layout e earlier (get_or xs i d) (Err s) holds → fixups_fault layout e earlier (drop i xs) ≡ fault → Answers {X = X} (Err (stopped s e.number (get_or xs i d).place)) fault K
@@ -92,6 +96,34 @@ fixups_stop K holds layout e xs i d (stop.Kind k) earlier fault h some at =
     sym at ∙ ap (fixups_fault layout e earlier) (drop_more xs i d h)
     ∙ ap (λ (o : Option FixKind). or_else o (e.number, x.place) (fixups_fault layout e (earlier ++ fixup_patches 0 layout e x) (drop (i + 1) xs))) some
 fixups_stop K holds layout e xs i d stop.Memory earlier fault h some at = tt
+
+-- some fix-ups, and then the rest
+or_first : (o : Option FixKind) (at : ℕ × ℕ) (a b : Option FixFault) → or_else o at (first_of a b) ≡ first_of (or_else o at a) b
+or_first None at a b = refl
+or_first (Some k) at a b = refl
+
+pub fixups_parts : (layout : Layout) (e : Entry) (earlier : List Patch) (xs ys : List ResolvedFixup) → fixups_fault layout e earlier (xs ++ ys) ≡ first_of (fixups_fault layout e earlier xs) (fixups_fault layout e (earlier ++ flat_map (fixup_patches 0 layout e) xs) ys)
+fixups_parts layout e earlier [] ys = ap (λ (ps : List Patch). fixups_fault layout e ps ys) (sym (append-nil earlier))
+fixups_parts layout e earlier (x ∷ xs) ys =
+    let f : ResolvedFixup → List Patch = fixup_patches 0 layout e in
+    let o = fixup_fault layout e earlier x in
+    let first = fixups_fault layout e (earlier ++ f x) xs in
+    ap (or_else o (e.number, x.place)) (fixups_parts layout e (earlier ++ f x) xs ys)
+    ∙ or_first o (e.number, x.place) first (fixups_fault layout e ((earlier ++ f x) ++ flat_map f xs) ys)
+    ∙ ap (λ (ps : List Patch). first_of (or_else o (e.number, x.place) first) (fixups_fault layout e ps ys)) (append_assoc earlier (f x) (flat_map f xs))
+
+pub fixups_left : (layout : Layout) (e : Entry) (xs : List ResolvedFixup) (n : ℕ) → fixups_fault layout e [] (take n xs) ≡ None → fixups_fault layout e (flat_map (fixup_patches 0 layout e) (take n xs)) (drop n xs) ≡ fixups_fault layout e [] xs
+fixups_left layout e xs n none =
+    let rest = fixups_fault layout e (flat_map (fixup_patches 0 layout e) (take n xs)) (drop n xs) in
+    ap (λ (o : Option FixFault). first_of o rest) (sym none) ∙ sym (fixups_parts layout e [] (take n xs) (drop n xs)) ∙ ap (fixups_fault layout e []) (take-append-drop n xs)
+
+pub fixups_first : (layout : Layout) (e : Entry) (xs : List ResolvedFixup) (n : ℕ) (f : FixFault) → fixups_fault layout e [] (take n xs) ≡ Some f → fixups_fault layout e [] xs ≡ Some f
+fixups_first layout e xs n f some =
+    let rest = fixups_fault layout e (flat_map (fixup_patches 0 layout e) (take n xs)) (drop n xs) in
+    ap (fixups_fault layout e []) (sym (take-append-drop n xs)) ∙ fixups_parts layout e [] (take n xs) (drop n xs) ∙ ap (λ (o : Option FixFault). first_of o rest) some
+
+pub patches_left : {X Y : Type 0} (f : X → List Y) (xs : List X) (n : ℕ) → flat_map f (take n xs) ++ flat_map f (drop n xs) ≡ flat_map f xs
+patches_left f xs n = sym (flat_map-append f (take n xs) (drop n xs)) ∙ ap (flat_map f) (take-append-drop n xs)
 
 pub answers_at : {X : Type 0} (f f' : FixFault) (fault : Option FixFault) (K : X → Type 0) → f' ≡ f → Answers (Err f) fault K → Answers (Err f') fault K
 answers_at {X} f f' fault K e h = subst (λ (g : FixFault). Answers {X = X} (Err g) fault K) (sym e) h

@@ -64,20 +64,20 @@ AllWordsInside n rs = (r : ℕ) → In r rs → r + 1 < n
 memory : List ℕ → ℕ → ℕ
 memory xs a = get_or xs a 0
 
-add_word-low : (P r : ℕ) (xs : List ℕ) → r + 1 < length xs → get_or (add_word P r xs) r 0 ≡ (word_at xs r + P) % 65536 % 256
+pub add_word-low : (P r : ℕ) (xs : List ℕ) → r + 1 < length xs → get_or (add_word P r xs) r 0 ≡ (word_at xs r + P) % 65536 % 256
 unfolding add_word put_word
 add_word-low P r xs h =
     let w = (word_at xs r + P) % 65536 in
     get_or-set_other (set xs r (w % 256)) (r + 1) r (w / 256) 0 (omega arith) ∙ get_or-set_same xs r (w % 256) 0 (omega arith)
 
-add_word-high : (P r : ℕ) (xs : List ℕ) → r + 1 < length xs → get_or (add_word P r xs) (r + 1) 0 ≡ (word_at xs r + P) % 65536 / 256
+pub add_word-high : (P r : ℕ) (xs : List ℕ) → r + 1 < length xs → get_or (add_word P r xs) (r + 1) 0 ≡ (word_at xs r + P) % 65536 / 256
 unfolding add_word put_word
 add_word-high P r xs h =
     let w = (word_at xs r + P) % 65536 in
     let n : length (set xs r (w % 256)) ≡ length xs = length-set xs r (w % 256) in
     get_or-set_same (set xs r (w % 256)) (r + 1) (w / 256) 0 (omega arith)
 
-add_word-other : (P r a : ℕ) (xs : List ℕ) → (a < r) ⊎ (r + 1 < a) → get_or (add_word P r xs) a 0 ≡ get_or xs a 0
+pub add_word-other : (P r a : ℕ) (xs : List ℕ) → (a < r) ⊎ (r + 1 < a) → get_or (add_word P r xs) a 0 ≡ get_or xs a 0
 unfolding add_word
 add_word-other P r a xs h = get_or-put_word_other xs r ((word_at xs r + P) % 65536) a h
 

@@ -58,7 +58,7 @@ module _ (ms : List Module) (layout : Layout) (bounded : IsBounded ms layout) wh
     frame_there here OfTarget h l = tt
 
     fixup_ready : (d : DataRecord) (x : ResolvedFixup) → d.segment < length (places_of layout k).segments → FixupFits m.segments m.groups m.externals d x → IsFixupReady layout (entry_of k m d) x
-    fixup_ready d x h fits = record { target = target_there x.target fits.target; frame = frame_there d.segment x.frame fits.frame (λ e. h); lies = fits.together }
+    fixup_ready d x h fits = record { target = target_there x.target fits.target; frame = frame_there d.segment x.frame fits.frame (λ e. h); lies = fits.together; whole = fits.whole }
 
     entry_ready : (d : DataRecord) → DataFits m.segments m.groups m.externals d → IsEntryReady layout (entry_of k m d)
     entry_ready d fits =
@@ -73,6 +73,7 @@ module _ (ms : List Module) (layout : Layout) (bounded : IsBounded ms layout) wh
           segment = here;
           inside = omega (arith, low, count, inner);
           fixups = All-weaker (FixupFits m.segments m.groups m.externals d) (IsFixupReady layout (entry_of k m d)) (λ x h. fixup_ready d x here h) d.fixups fits.fixups;
+          copies = fits.copies;
         }
 
     module_ready : IsSound m → All (IsEntryReady layout) (module_entries k m)

@@ -1,5 +1,5 @@
 -- A data record as the code sees it, and what adding one of its fix-ups answers.
-use Rattle.std.specs.Prelude.{◌≡◌, ℕ, ◌+◌, ◌<◌, true, not, List, [], ◌∷◌, flat_map, length, Option, Some, None, Result, Ok, Err}
+use Rattle.std.specs.Prelude.{◌≡◌, ℕ, ◌+◌, ◌<◌, true, false, not, List, [], ◌∷◌, flat_map, length, Option, Some, None, Result, Ok, Err}
 use Rattle.omf_module.specs.declared.ResolvedFixup.{ResolvedFixup}
 use Rattle.omf_module.specs.Seen.{data_seen}
 use Rattle.omf_place.specs.Layout.{Layout, places_of}
@@ -15,6 +15,7 @@ use Rattle.omf_image.specs.Value.{patches_at}
 use Rattle.omf_image.specs.Records.{Entry, entry_start}
 use Rattle.omf_image.specs.Faults.{first_kind, is_mixed, out_of_frame, too_far, fixup_fault}
 use Rattle.omf_image.specs.Marks.{IsPlain}
+use Rattle.omf_image.specs.Index.{IsIndex}
 
 abbrev pub entry_seen : {A : Type 0} → Site A → Entry
 entry_seen s = record { number = s.number; module' = s.module_of.now; data_record = data_seen s.data_record }
@@ -26,6 +27,7 @@ pub record IsSite {A : Type 0} (s : Site A) : Type 0 where
   pub start : s.start ≡ entry_start s.layout.now (entry_seen s)
   pub lengths : length s.data_record.bytes.now ≡ length s.data_record.places.now
   pub plain : s.plain ≡ true → IsPlain s.data_record.places.now
+  pub index : s.plain ≡ false → IsIndex s.data_record.places.now s.index.now
 
 -- what is added at the hits, and the first test that fails, where frame and target are known
 abbrev pub patches_on : Resolved → ResolvedFixup → (start : ℕ) → List ℕ → List Patch

@@ -18,3 +18,5 @@ pub mod Leading
 pub mod Stopping
 pub mod Building
 pub mod Starting
+pub mod Index
+pub mod Stored

@@ -7,10 +7,14 @@ use Rattle.omf_image.specs.Patch.{is_relocated, patch_start, patch_end}
 abbrev pub touches : ℕ → Patch → Bool
 touches k p = nat_le (patch_start p) k && nat_lt k (patch_end p)
 
+-- as part of a relocated word
+abbrev pub touches_relocated : ℕ → Patch → Bool
+touches_relocated k p = is_relocated p && touches k p
+
 -- which bytes of the data earlier patches touch, and which of them are in relocated words
 pub record IsMarked (touched relocated : List Bool) (earlier : List Patch) : Type 0 where
   pub touches_told : (k : ℕ) → k < length touched → get_or touched k false ≡ list_any (touches k) earlier
-  pub relocated_told : (k : ℕ) → k < length relocated → get_or relocated k false ≡ list_any (λ q. is_relocated q && touches k q) earlier
+  pub relocated_told : (k : ℕ) → k < length relocated → get_or relocated k false ≡ list_any (touches_relocated k) earlier
 
 -- each byte was stored at its own position, as data that isn't repeated is
 abbrev pub IsPlain : List ℕ → Type 0

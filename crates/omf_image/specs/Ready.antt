@@ -7,7 +7,9 @@ use Rattle.omf_module.specs.declared.FixupTarget.TheVariants as fixup_target
 use Rattle.omf_module.specs.declared.ResolvedFixup.{ResolvedFixup}
 use Rattle.omf_module.specs.Module.{Module}
 use Rattle.omf_place.specs.Layout.{Layout, places_of}
-use Rattle.omf_image.specs.Records.{Entry, entries, entry_start, bytes_of, LiesInContent}
+use Rattle.omf_record.specs.Numbers.{location_width}
+use Rattle.omf_image.specs.Records.{Entry, entries, entry_start, bytes_of, stored_of, LiesInContent}
+use Rattle.omf_record.specs.Expansion.{StandWhole, AreCopies}
 use Rattle.omf_image.specs.Registers.{StartEntry, starts}
 
 -- segments, groups and externals that a reference names are there
@@ -27,13 +29,15 @@ pub record IsFixupReady (layout : Layout) (e : Entry) (x : ResolvedFixup) : Type
   pub target : IsTargetThere layout e.number e.module' x.target
   pub frame : IsFrameThere layout e.number e.module' e.data_record.segment x.frame
   pub lies : LiesInContent e.data_record x
+  pub whole : StandWhole x.offset (location_width x.location) (stored_of e.data_record)
 
--- a data record has a part, lies inside the program, and its fix-ups lie in its contents
+-- a data record has a part, lies inside the program, its fix-ups lie in its contents, and its bytes of one stored place are one byte
 pub record IsEntryReady (layout : Layout) (e : Entry) : Type 0 where
   pub input : e.number < length layout.modules
   pub segment : e.data_record.segment < length (places_of layout e.number).segments
   pub inside : entry_start layout e + length (bytes_of e.data_record) ≤ layout.size
   pub fixups : All (IsFixupReady layout e) e.data_record.fixups
+  pub copies : AreCopies e.data_record.pairs
 
 -- a start's frame is never that of a location
 pub record IsStartReady (layout : Layout) (e : StartEntry) : Type 0 where

@@ -1,5 +1,5 @@
 -- The program that modules stand for at a load paragraph (TIS OMF 1.1, LEDATA, LIDATA and FIXUPP).
-use Rattle.std.specs.Prelude.{◌≡◌, ℕ, Bool, ◌+◌, ◌<◌, ◌≤◌, ◌==◌, All, List, [], ◌∷◌, ◌++◌, map, filter, flat_map, length, get_or}
+use Rattle.std.specs.Prelude.{◌≡◌, ℕ, Bool, ◌+◌, ◌<◌, ◌≤◌, ◌==◌, if◌then◌else◌, max, fold, All, List, [], ◌∷◌, ◌++◌, map, filter, flat_map, length, get_or}
 use Rattle.std.specs.List.{range_with_len, list_any}
 use Rattle.omf_record.specs.Expansion.{bytes, places, StandTogether}
 use Rattle.omf_record.specs.Numbers.{location_width}
@@ -80,6 +80,14 @@ relocated_words layout modules = flat_map (record_relocations layout) (entries m
 -- the addresses at which a relocated word begins, rising
 abbrev pub relocations : Layout → List Module → List ℕ
 relocations layout modules = filter (λ a. list_any (λ w. a == w) (relocated_words layout modules)) (range_with_len 0 layout.size)
+
+-- one more than the greatest address that a data record covers, or 0 where it has no byte
+abbrev pub entry_end : Layout → Entry → ℕ
+entry_end layout e = if length (bytes_of e.data_record) == 0 then 0 else entry_start layout e + length (bytes_of e.data_record)
+
+-- The written part of the program: one more than the greatest address that a data record covers, or 0. Bytes 00 of data are data.
+abbrev pub written : Layout → List Module → ℕ
+written layout modules = fold max 0 (map (entry_end layout) (entries modules))
 
 -- data covers a byte of the page
 abbrev pub page_covered : Layout → List Module → (page : ℕ) → Bool

@@ -1,19 +1,19 @@
 -- What the frame and the target of a reference stand for under a layout (TIS OMF 1.1, FIXUPP).
-use Rattle.std.specs.Prelude.{ℕ, ◌*◌, List, [], Option, Some, None, get_or}
+use Rattle.std.specs.Prelude.{ℕ, ◌*◌, false, [], Option, Some, None, get_or}
 use Rattle.omf_module.specs.declared.FixupFrame.{FixupFrame}
 use Rattle.omf_module.specs.declared.FixupFrame.TheVariants.{OfSegment, OfGroup, OfExternal, OfLocation, OfTarget}
 use Rattle.omf_module.specs.declared.FixupTarget.{FixupTarget}
 use Rattle.omf_module.specs.declared.FixupTarget.TheVariants as fixup_target
-use Rattle.omf_module.specs.Module.{Module}
+use Rattle.omf_module.specs.Module.{Module, External}
 use Rattle.omf_place.specs.declared.layout.Base.{Base as Frame}
 use Rattle.omf_place.specs.declared.layout.Base.TheVariants.{Relocatable as Moving, Absolute as Fixed}
 use Rattle.omf_place.specs.Layout.{Layout, group_frame}
 use Rattle.omf_image.specs.declared.reference.Position.{Position}
 use Rattle.omf_image.specs.declared.reference.Position.TheVariants.{Relocatable, Absolute}
 use Rattle.omf_image.specs.declared.reference.Resolved.{Resolved}
-use Rattle.omf_image.specs.Position.{segment_position, public_position}
+use Rattle.omf_image.specs.Position.{segment_position, external_position}
 
--- what a look-up finds: an external without a public, a group without members, or a value
+-- what a look-up finds: an external that means no public, a group without members, or a value
 pub data Found (A : Type 0) : Type 0 where
   Missing : Found A
   Empty : Found A
@@ -48,20 +48,20 @@ own_frame (Relocatable a None) = Empty
 own_frame (Relocatable a (Some f)) = Is (Moving f)
 own_frame (Absolute a f) = Is (Fixed f)
 
-abbrev pub external_name : Module → ℕ → List ℕ
-external_name m e = (get_or m.externals e (record { name = [] })).name
+abbrev pub external_at : Module → ℕ → External
+external_at m e = get_or m.externals e (record { name = []; local = false })
 
 -- where a target stands, in the module with number k
 abbrev pub target_of : Layout → ℕ → Module → FixupTarget → Found Position
 target_of layout k m (fixup_target.Segment s) = Is (segment_position layout k s)
 target_of layout k m (fixup_target.Group g) = group_position (group_frame layout k g)
-target_of layout k m (fixup_target.External e) = found_public (public_position layout (external_name m e))
+target_of layout k m (fixup_target.External e) = found_public (external_position layout k (external_at m e))
 
 -- the frame that a method names; here is the segment of the data record
 abbrev pub frame_of : Layout → ℕ → Module → (here : ℕ) → FixupTarget → FixupFrame → Found Frame
 frame_of layout k m here target (OfSegment s) = own_frame (segment_position layout k s)
 frame_of layout k m here target (OfGroup g) = on_found (group_position (group_frame layout k g)) own_frame
-frame_of layout k m here target (OfExternal e) = on_found (found_public (public_position layout (external_name m e))) own_frame
+frame_of layout k m here target (OfExternal e) = on_found (found_public (external_position layout k (external_at m e))) own_frame
 frame_of layout k m here target OfLocation = own_frame (segment_position layout k here)
 frame_of layout k m here target OfTarget = on_found (target_of layout k m target) own_frame
 

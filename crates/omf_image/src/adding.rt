@@ -1,26 +1,30 @@
 //! A data record laid over the image, and its fix-ups added.
 
-ghost use Rattle.std.specs.Prelude.{◌≡◌, ◌<◌, ◌≤◌, ◌+◌, ◌∷◌, [], ℕ, List, All, None, length, OnOk};
+ghost use Rattle.std.specs.Prelude.{◌≡◌, ◌<◌, ◌≤◌, ◌+◌, ◌++◌, ◌∷◌, [], ℕ, List, All, None, false, flat_map, length, ◌^◌, IfOk, OnOk};
 ghost use Rattle.omf_module.specs.Module.{Module as PlainModule};
 ghost use Rattle.omf_module.specs.Seen.{data_seen};
 ghost use Rattle.omf_place.specs.Layout.{places_of};
 ghost use Rattle.omf_image.specs.Position.{segment_position};
 ghost use Rattle.omf_image.specs.Value.{real_address};
+ghost use Rattle.omf_image.specs.declared.patch.Patch.{Patch};
 ghost use Rattle.omf_image.specs.Located.{Datum, covers_word};
-ghost use Rattle.omf_image.specs.Records.{Entry, entry_start, patches};
+ghost use Rattle.omf_image.specs.Records.{Entry, entry_start, fixup_patches};
 ghost use Rattle.omf_image.specs.Faults.{fixups_fault, data_fault};
 ghost use Rattle.omf_image.specs.Ready.{IsEntryReady, IsFixupReady};
 ghost use Rattle.omf_image.specs.Working.{State, state, IsRoom, Holds};
 ghost use Rattle.omf_image.specs.Fixing.{IsSite, entry_seen};
+ghost use Rattle.omf_image.specs.Index.{IsIndex};
 ghost use Rattle.omf_image.specs.Leading.{IsListed, IsWhole, Leads, Answers};
 
 use crate::faults::{FixFault, FixKind};
 use crate::finding::is_plain;
 use crate::fixing::add_fixup;
+use crate::index::Index;
 use crate::reference::{Position, segment_position};
+use crate::repeated::lay_data;
 use crate::site::Site;
 use crate::work::Work;
-use omf_module::{DataRecord, Module};
+use omf_module::{DataRecord, Module, ResolvedFixup};
 use omf_place::Layout;
 use std::alloc::{AllocError, Allocator};
 
@@ -34,16 +38,16 @@ fn covers_relocated(words: &[bool], start: u32, len: usize) -> bool
         return false;
     }
     let first = (start as usize).saturating_sub(1);
+    let mut covers = false;
     for address in first..start as usize + len {
-        if words[address] {
-            return true;
-        }
+        // without an end at the first flag, so that many are looked at in one step
+        covers |= words[address];
     }
-    false
+    covers
 }
 
 /// The address of a data record's first byte.
-fn data_address<A: Allocator + Copy>(
+pub fn data_address<A: Allocator + Copy>(
     layout: &Layout<A>,
     number: usize,
     segment: u16,
@@ -62,43 +66,41 @@ fn data_address<A: Allocator + Copy>(
     start + u32::from(offset)
 }
 
-impl<A: Allocator + Copy> Work<A> {
-    /// Lays data at an address, with no mark on it.
-    fn lay(&mut self, start: u32, bytes: &[u8]) -> Result<(), AllocError>
-        requires inside { start + length bytes.now ≤ length self.old.pages.bytes }
-        requires words { length self.old.words.items ≡ length self.old.pages.bytes }
-        ensures room { OnOk result (IsRoom start (state self.new)) }
-        ensures sized { OnOk result (length self.new.touched.items ≡ length bytes.now) }
-        ensures holds { OnOk result (Holds start bytes.now (state self.old) (state self.new) []) }
-    {
-        let _size = self.pages.size();
-        self.touched.clear();
-        self.touched.resize(bytes.len(), false)?;
-        self.relocated.clear();
-        self.relocated.resize(bytes.len(), false)?;
-        self.pages.lay(start as usize, bytes)?;
-        Ok(())
+/// The index of data that isn't plain.
+fn record_index<A: Allocator + Copy>(
+    alloc: A,
+    places: &[u16],
+    plain: bool,
+) -> Result<Index<A>, AllocError>
+    requires { length places.now < 2 ^ 32 }
+    ensures { IfOk result (λ x. plain ≡ false → IsIndex places.now x) }
+{
+    if plain {
+        Ok(Index::empty(alloc))
+    } else {
+        Index::new(alloc, places)
     }
 }
 
-/// Adds the fix-ups of a data record in order.
+/// Adds fix-ups of a data record in order.
 fn add_fixups<A: Allocator + Copy>(
     work: &mut Work<A>,
     hits: &mut Vec<u32, A>,
     site: &Site<'_, A>,
+    fixups: &[ResolvedFixup],
 ) -> Result<(), FixFault>
     requires site { IsSite site.now }
-    requires fixups { All (IsFixupReady site.now.layout.now (entry_seen site.now)) site.now.data_record.fixups.now }
+    requires fixups { All (IsFixupReady site.now.layout.now (entry_seen site.now)) fixups.now }
     requires room { IsRoom site.now.start (state work.old) }
     requires sized { length work.old.touched.items ≡ length site.now.data_record.bytes.now }
     ensures room { IsRoom site.now.start (state work.new) }
     ensures sized { length work.new.touched.items ≡ length site.now.data_record.bytes.now }
-    ensures gives { (bytes : List ℕ) → (base : State) → Holds site.now.start bytes base (state work.old) []
-        → Answers result (fixups_fault site.now.layout.now (entry_seen site.now) [] site.now.data_record.fixups.now)
-        (λ _. (fixups_fault site.now.layout.now (entry_seen site.now) [] site.now.data_record.fixups.now ≡ None)
-        × Holds site.now.start bytes base (state work.new) (patches 0 site.now.layout.now (entry_seen site.now))) }
+    ensures gives { (bytes : List ℕ) → (base : State) → (earlier : List Patch) → Holds site.now.start bytes base (state work.old) earlier
+        → Answers result (fixups_fault site.now.layout.now (entry_seen site.now) earlier fixups.now)
+        (λ _. (fixups_fault site.now.layout.now (entry_seen site.now) earlier fixups.now ≡ None)
+        × Holds site.now.start bytes base (state work.new) (earlier ++ flat_map (fixup_patches 0 site.now.layout.now (entry_seen site.now)) fixups.now)) }
 {
-    for fixup in site.data_record.fixups {
+    for fixup in fixups {
         match add_fixup(work, hits, site, fixup) {
             Ok(()) => {}
             Err(stop) => return Err(stop.at(site.number, fixup.place)),
@@ -132,14 +134,24 @@ pub fn add_record<'a, A: Allocator + Copy>(
             place: data_record.place,
         });
     }
-    work.lay(start, data_record.bytes)?;
+    if data_record.fixups.is_empty() {
+        work.lay(start, data_record.bytes)?;
+        return Ok(());
+    }
+    let plain = is_plain(data_record.places);
+    let index = record_index(*hits.allocator(), data_record.places, plain)?;
     let site = Site {
         layout,
         number,
         module_of: in_module,
         data_record,
         start,
-        plain: is_plain(data_record.places),
+        plain,
+        index: &index,
     };
-    add_fixups(work, hits, &site)
+    let laid = match lay_data(work, hits, &site) {
+        Ok(laid) => laid,
+        Err(fault) => return Err(fault),
+    };
+    add_fixups(work, hits, &site, &data_record.fixups[laid..])
 }

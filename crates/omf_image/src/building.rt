@@ -53,7 +53,7 @@ fn add_module<A: Allocator + Copy>(
 {
     for index in 0..in_module.data_record_count() {
         let data_record = in_module.data_record(index);
-        match add_record(work, hits, layout, number, in_module, data_record) {
+        match add_record(work, hits, &*layout, number, &*in_module, data_record) {
             Ok(()) => {}
             Err(fault) => return Err(fault),
         }

@@ -116,6 +116,7 @@ impl Resolved {
     }
 
     /// What is added where the location begins at place `at` of the data, at an address of the program.
+    #[inline(always)]
     pub fn patches(
         &self,
         self_relative: bool,

@@ -1,9 +1,12 @@
 //! The positions of data that a fix-up fixes.
 
-ghost use Rattle.std.specs.Prelude.{◌≡◌, ◌<◌, ◌^◌, ℕ, List, true, length, OnOk};
+ghost use Rattle.std.specs.Prelude.{◌≡◌, ℕ, List, true, false, length, OnOk};
 ghost use Rattle.omf_image.specs.Records.{hits};
 ghost use Rattle.omf_image.specs.Marks.{IsPlain};
+ghost use Rattle.omf_image.specs.Index.{IsIndex};
+ghost use Rattle.omf_image.specs.Stored.{once_at};
 
+use crate::index::Index;
 use std::alloc::{AllocError, Allocator};
 
 /// Whether each byte was stored at its own position, as in data that isn't repeated.
@@ -34,39 +37,51 @@ fn find_one<A: Allocator + Copy>(
     Ok(())
 }
 
-/// Finds the positions in repeated data.
+/// Finds the positions in repeated data by their index.
 fn find_all<A: Allocator + Copy>(
-    places: &[u16],
+    index: &Index<A>,
     offset: u16,
     found: &mut Vec<u32, A>,
 ) -> Result<(), AllocError>
-    requires { length places.now < 2 ^ 32 }
-    ensures { OnOk result (found.new.items ≡ hits offset places.now) }
+    ensures { (places : List ℕ) → IsIndex places index.now → OnOk result (found.new.items ≡ hits offset places) }
 {
     found.clear();
-    for (i, place) in places.iter().enumerate() {
-        if *place == offset {
-            found.push(i as u32)?;
-        }
-    }
+    found.extend_from_slice(index.hits(offset))?;
     Ok(())
 }
 
-/// Finds the positions whose byte was stored at a place, in place of what was found before.
+/// Finds the positions whose byte was stored at a place, in place of what was found before. Data that isn't plain has
+/// an index.
 pub fn find_hits<A: Allocator + Copy>(
     places: &[u16],
     plain: bool,
+    index: &Index<A>,
     offset: u16,
     found: &mut Vec<u32, A>,
 ) -> Result<(), AllocError>
     requires plain { plain ≡ true → IsPlain places.now }
-    requires short { length places.now < 2 ^ 32 }
+    requires index { plain ≡ false → IsIndex places.now index.now }
     ensures { OnOk result (found.new.items ≡ hits offset places.now) }
 {
     if plain {
         find_one(places.len(), offset, found)?;
     } else {
-        find_all(places, offset, found)?;
+        find_all(index, offset, found)?;
+    }
+    Ok(())
+}
+
+/// Finds the place of a location in the bytes as they were stored, where it has a hit.
+pub fn find_once<A: Allocator + Copy>(
+    index: &Index<A>,
+    offset: u16,
+    found: &mut Vec<u32, A>,
+) -> Result<(), AllocError>
+    ensures { (places : List ℕ) → IsIndex places index.now → OnOk result (found.new.items ≡ once_at offset (hits offset places)) }
+{
+    found.clear();
+    if !index.hits(offset).is_empty() {
+        found.push(u32::from(offset))?;
     }
     Ok(())
 }

@@ -3,7 +3,9 @@
 ghost use Rattle.std.specs.Prelude.{◌≡◌, ◌<◌, ◌≤◌, ◌+◌, ◌++◌, ℕ, List, Some, None, length, slice_index, MatchResult, OnOk};
 ghost use Rattle.omf_record.specs.Numbers.{location_width};
 ghost use Rattle.omf_image.specs.declared.patch.Patch.{Patch};
-ghost use Rattle.omf_image.specs.Records.{fixup_patches};
+ghost use Rattle.omf_image.specs.Reference.{Is};
+ghost use Rattle.omf_image.specs.Records.{meaning, fixup_patches};
+ghost use Rattle.omf_image.specs.Faults.{fixup_fault};
 ghost use Rattle.omf_image.specs.Ready.{IsFixupReady};
 ghost use Rattle.omf_image.specs.Working.{State, state, IsRoom, Holds};
 ghost use Rattle.omf_image.specs.Fixing.{IsSite, entry_seen, patches_on, first_test, FixupGives};
@@ -17,8 +19,35 @@ use crate::work::Work;
 use omf_module::ResolvedFixup;
 use std::alloc::Allocator;
 
+/// What the frame and the target of a fix-up stand for.
+pub fn resolve_fixup<A: Allocator + Copy>(
+    site: &Site<'_, A>,
+    fixup: &ResolvedFixup,
+) -> Result<Resolved, FixKind>
+    requires site { IsSite site.now }
+    requires fixup { IsFixupReady site.now.layout.now (entry_seen site.now) fixup.now }
+    ensures { MatchResult result
+        (λ r. meaning site.now.layout.now (entry_seen site.now) fixup.now ≡ Is r)
+        (λ kind. (earlier : List Patch) → fixup_fault site.now.layout.now (entry_seen site.now) earlier fixup.now ≡ Some kind) }
+{
+    let here = site.data_record.segment;
+    match resolve(
+        site.layout,
+        site.number,
+        site.module_of,
+        here,
+        fixup.frame,
+        fixup.target,
+        fixup.displacement,
+    ) {
+        Ok(resolved) => Ok(resolved),
+        Err(Missing::Public) => Err(FixKind::Unresolved),
+        Err(Missing::Members) => Err(FixKind::EmptyGroup),
+    }
+}
+
 /// Tests a fix-up whose frame and target are known at its hits, and adds it.
-fn fix<A: Allocator + Copy>(
+pub fn fix<A: Allocator + Copy>(
     work: &mut Work<A>,
     resolved: &Resolved,
     fixup: &ResolvedFixup,
@@ -62,21 +91,17 @@ pub fn add_fixup<A: Allocator + Copy>(
         → FixupGives site.now.layout.now (entry_seen site.now) earlier fixup.now result
         (Holds site.now.start bytes base (state work.new) (earlier ++ fixup_patches 0 site.now.layout.now (entry_seen site.now) fixup.now)) }
 {
-    let here = site.data_record.segment;
-    let resolved = match resolve(
-        site.layout,
-        site.number,
-        site.module_of,
-        here,
-        fixup.frame,
-        fixup.target,
-        fixup.displacement,
-    ) {
+    let resolved = match resolve_fixup(site, fixup) {
         Ok(resolved) => resolved,
-        Err(Missing::Public) => return Err(Stop::Kind(FixKind::Unresolved)),
-        Err(Missing::Members) => return Err(Stop::Kind(FixKind::EmptyGroup)),
+        Err(kind) => return Err(Stop::Kind(kind)),
     };
-    find_hits(site.data_record.places, site.plain, fixup.offset, hits)?;
+    find_hits(
+        site.data_record.places,
+        site.plain,
+        site.index,
+        fixup.offset,
+        hits,
+    )?;
     match fix(work, &resolved, fixup, site.start, hits) {
         Ok(()) => Ok(()),
         Err(kind) => Err(Stop::Kind(kind)),

@@ -4,14 +4,17 @@
 mod adding;
 mod building;
 mod distance;
+mod extent;
 mod faults;
 mod finding;
 mod fixing;
+mod index;
 mod marks;
 mod pages;
 mod patch;
 mod program;
 mod reference;
+mod repeated;
 mod site;
 mod start;
 mod testing;
@@ -22,6 +25,7 @@ ghost use Rattle.omf_image.specs.Ready.{IsReady};
 ghost use Rattle.omf_image.specs.Building.{Builds};
 
 use building::{add_modules, flagged};
+use extent::written;
 pub use faults::{FixFault, FixKind};
 use omf_module::{Module, all_promise};
 use omf_place::Layout;
@@ -53,6 +57,7 @@ fn build_program<A: Allocator + Copy>(
         Err(fault) => return Err(fault),
     };
     let stack = stack(layout, modules);
+    let written = written(layout, modules);
     let relocations = flagged(alloc, &work.words)?;
     if relocations.len() > MOST_RELOCATIONS {
         return Err(FixFault::TooManyRelocations);
@@ -63,7 +68,7 @@ fn build_program<A: Allocator + Copy>(
         touched: _,
         relocated: _,
     } = work;
-    Ok(Program::new(pages, relocations, entry, stack))
+    Ok(Program::new(pages, written, relocations, entry, stack))
 }
 
 /// Links modules by their layout. The faults are 26 to 34, in order of data records and fix-ups, then that of the

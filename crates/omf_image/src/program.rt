@@ -9,10 +9,12 @@ use std::alloc::{Allocator, Global};
 use std::marker::Model;
 
 /// A linked program: its image, the rising addresses of its relocated words, and its registers at the start. The image
-/// stands in pages of 4,096 bytes, each made when the first data byte fell into it.
+/// stands in pages of 4,096 bytes, each made when the first data byte fell into it. Its written part ends behind the last
+/// byte that data covers; the bytes behind that are 00, and no file holds them.
 #[derive(Drop)]
 pub struct Program<A: Allocator + Copy = Global> {
     pages: Pages<A>,
+    written: u32,
     relocations: Vec<u32, A>,
     cs: u16,
     ip: u16,
@@ -25,27 +27,30 @@ impl<A: Allocator + Copy> Model for Program<A> {
 
     ghost Value = { Program };
 
-    ghost view = { λ p. record { image = p.pages.bytes; relocations = p.relocations.items; cs = p.cs; ip = p.ip; ss = p.ss; sp = p.sp; made = p.pages.made } };
+    ghost view = { λ p. record { image = p.pages.bytes; written = p.written; relocations = p.relocations.items; cs = p.cs; ip = p.ip; ss = p.ss; sp = p.sp; made = p.pages.made } };
 
-    ghost invariant = { λ p. IsProgram (record { image = p.pages.bytes; relocations = p.relocations.items; cs = p.cs; ip = p.ip; ss = p.ss; sp = p.sp; made = p.pages.made }) };
+    ghost invariant = { λ p. IsProgram (record { image = p.pages.bytes; written = p.written; relocations = p.relocations.items; cs = p.cs; ip = p.ip; ss = p.ss; sp = p.sp; made = p.pages.made }) };
 }
 
 impl<A: Allocator + Copy> Program<A> {
     /// A program of these parts.
     pub fn new(
         pages: Pages<A>,
+        written: u32,
         relocations: Vec<u32, A>,
         entry: (u16, u16),
         stack: (u16, u16),
     ) -> Program<A>
         requires apart { AllPairs (λ r s. r + 2 ≤ s) relocations.items }
-        requires inside { All (λ r. r + 2 ≤ length pages.bytes) relocations.items }
+        requires inside { All (λ r. r + 2 ≤ written) relocations.items }
+        requires written { written ≤ length pages.bytes }
         requires few { length relocations.items ≤ 65535 }
-        ensures { result ≡ record { image = pages.bytes; relocations = relocations.items; cs = entry.0; ip = entry.1; ss = stack.0; sp = stack.1; made = pages.made } }
+        ensures { result ≡ record { image = pages.bytes; written = written; relocations = relocations.items; cs = entry.0; ip = entry.1; ss = stack.0; sp = stack.1; made = pages.made } }
     {
         let _size = pages.size();
         Program {
             pages,
+            written,
             relocations,
             cs: entry.0,
             ip: entry.1,
@@ -60,6 +65,14 @@ impl<A: Allocator + Copy> Program<A> {
         ensures limits { IsProgram self.now }
     {
         self.pages.size() as u32
+    }
+
+    /// How many bytes of the image are written: one more than the greatest address that a data record covers, or 0.
+    pub fn written(&self) -> u32
+        ensures same { result ≡ self.now.written }
+        ensures within { result ≤ length self.now.image }
+    {
+        self.written
     }
 
     /// The byte of the image at an address.

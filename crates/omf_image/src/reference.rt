@@ -2,12 +2,13 @@
 
 ghost use Rattle.std.specs.Prelude.{◌≡◌, ◌<◌, length};
 ghost use Rattle.omf_place.specs.Layout.{places_of};
-ghost use Rattle.omf_image.specs.Position.{position, segment_position, public_position};
+ghost use Rattle.omf_module.specs.Seen.{external_seen};
+ghost use Rattle.omf_image.specs.Position.{position, segment_position, external_position};
 ghost use Rattle.omf_image.specs.Reference.{resolved, target_of, frame_of, own_frame, found_public};
 ghost use Rattle.omf_image.specs.Looking.{found};
 ghost use Rattle.omf_image.specs.Ready.{IsTargetThere, IsFrameThere};
 
-use omf_module::{FixupFrame, FixupTarget, Module};
+use omf_module::{External, FixupFrame, FixupTarget, Module};
 use omf_place::{Address, Base, Layout};
 use std::alloc::Allocator;
 
@@ -19,7 +20,7 @@ pub enum Position {
     Absolute(u32, u16),
 }
 
-/// What a look-up lacks: a public of an external's name, or members of a group.
+/// What a look-up lacks: the public that an external means, or members of a group.
 #[derive(Clone, Copy)]
 pub enum Missing {
     Public,
@@ -62,14 +63,20 @@ pub fn segment_position<A: Allocator + Copy>(
     positioned(start, Some(frame))
 }
 
-/// Where the public of an external stands.
-fn public_position<A: Allocator + Copy>(
+/// Where the public stands that an external of the module with a number means: a local one is found in that module alone.
+fn external_position<A: Allocator + Copy>(
     layout: &Layout<A>,
-    name: &[u8],
+    number: usize,
+    external: External<'_>,
 ) -> Result<Position, Missing>
-    ensures { found result ≡ found_public (public_position layout.now name.now) }
+    ensures { found result ≡ found_public (external_position layout.now number (external_seen external.entry)) }
 {
-    match layout.public(name) {
+    let meant = if external.local {
+        layout.local_public(number, external.name)
+    } else {
+        layout.public(external.name)
+    };
+    match meant {
         Some(place) => Ok(positioned(place.address, place.frame)),
         None => Err(Missing::Public),
     }
@@ -103,9 +110,10 @@ fn target<A: Allocator + Copy>(
             Some(frame) => Ok(Position::Relocatable(16 * u32::from(frame), Some(frame))),
             None => Err(Missing::Members),
         },
-        FixupTarget::External(external) => public_position(
+        FixupTarget::External(external) => external_position(
             layout,
-            in_module.external(usize::from(external)).name,
+            number,
+            in_module.external(usize::from(external)),
         ),
     }
 }
@@ -143,7 +151,7 @@ fn frame<A: Allocator + Copy>(
     }
 }
 
-/// What a reference stands for. An external without a public is named before a group without members.
+/// What a reference stands for. An external that means no public is named before a group without members.
 pub fn resolve<A: Allocator + Copy>(
     layout: &Layout<A>,
     number: usize,

@@ -1,5 +1,6 @@
 //! A data record, with what is known of it while its fix-ups are added.
 
+use crate::index::Index;
 use omf_module::{DataRecord, Module};
 use omf_place::Layout;
 use std::alloc::Allocator;
@@ -15,4 +16,6 @@ pub struct Site<'a, A: Allocator + Copy> {
     pub start: u32,
     /// Whether each byte was stored at its own position.
     pub plain: bool,
+    /// The positions by place, where the data isn't plain.
+    pub index: &'a Index<A>,
 }

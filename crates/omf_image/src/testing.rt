@@ -34,12 +34,10 @@ fn is_out_of_frame(
 ) -> bool
     ensures { result ≡ out_of_frame self_relative location resolved.now hits.now start }
 {
-    let target = resolved.is_framed();
-    let locations = are_framed(resolved, start, hits);
     match (self_relative, location) {
-        (true, _) => !target | !locations,
+        (true, _) => !resolved.is_framed() | !are_framed(resolved, start, hits),
         (false, Location::Base) => false,
-        (false, _) => !target,
+        (false, _) => !resolved.is_framed(),
     }
 }
 

@@ -1,7 +1,9 @@
+mod fixups;
+
 use super::*;
 use omf_frame::{MemSource, closing};
 use omf_module::read_module;
-use omf_place::place;
+use omf_place::{Names, place};
 use refusing::Refusing;
 use std::alloc::{AllocError, Global};
 use std::process::Abort;
@@ -87,7 +89,7 @@ fn linked<A: Allocator + Copy>(alloc: A, inputs: &[&[u8]]) -> Result<Program<A>,
             return Err(Unlinked::Unread);
         }
     }
-    let Ok(layout) = place(alloc, &modules) else {
+    let Ok(layout) = place(alloc, &modules, Names::Exact) else {
         return Err(Unlinked::Unplaced);
     };
     match build(alloc, &modules, &layout) {
@@ -176,6 +178,8 @@ const ABSOLUTE: Body<'static> = (SEGDEF, &[0x00, 0x00, 0xB8, 0x00, 0x00, 0x40, 1
 const EXTERNAL_X: Body<'static> = (EXTDEF, &[1, 0x78, 0]);
 
 const TWO_BYTES: Body<'static> = (LEDATA, &[1, 0, 0, 0, 0]);
+
+const ONE_BYTE: Body<'static> = (LEDATA, &[1, 0, 0, 0xAA]);
 
 const FOUR_BYTES: Body<'static> = (LEDATA, &[1, 0, 0, 0, 0, 0, 0]);
 
@@ -674,6 +678,33 @@ fn pages(rt: HostRuntime) -> Result<(), Fail> {
 }
 
 #[test]
+fn written_part(rt: HostRuntime) -> Result<(), Fail> {
+    let cases: [(u16, &[Body<'_>], u32); 10] = [
+        (5, &[], 0),
+        (4, &[FOUR_BYTES], 4),
+        (17, &[(LEDATA, &[1, 0, 0, 0xE8, 0, 0])], 3),
+        // at a page's edge and behind it
+        (5000, &[(LEDATA, &[1, 0xFF, 0x0F, 0xAA])], 4096),
+        (5000, &[(LEDATA, &[1, 0xFF, 0x0F, 0xAA, 0xBB])], 4097),
+        // zeros of data are data
+        (8, &[ONE_BYTE, (LEDATA, &[1, 2, 0, 0, 0])], 4),
+        // an earlier record reaches farther
+        (8, &[(LEDATA, &[1, 3, 0, 0xAA]), ONE_BYTE], 4),
+        // a record without bytes covers none
+        (8, &[ONE_BYTE, (LEDATA, &[1, 8, 0])], 1),
+        (8, &[(LEDATA, &[1, 8, 0])], 0),
+        (8, &[(LIDATA, &[1, 2, 0, 0, 0, 0, 0, 1, 0xAA])], 0),
+    ];
+    for (len, bodies, written) in cases {
+        let bytes = module_bytes(rt.alloc(), len, bodies)?;
+        let program = linked(rt.alloc(), &[&bytes]).expect(&rt, "a program");
+        let found = [program.size(), program.written()];
+        assert_eq!(rt; found, [u32::from(len), written]);
+    }
+    Ok(())
+}
+
+#[test]
 fn relocated_words(rt: HostRuntime) -> Result<(), Fail> {
     let alloc = rt.alloc();
     let part: Body<'_> = (SEGDEF, &[0x60, 0xFE, 0xFF, 1, 1, 1]);
@@ -706,39 +737,6 @@ fn relocated_words(rt: HostRuntime) -> Result<(), Fail> {
             Err(fault) => assert_eq!(rt; (reported(fault), count), ((34, 0, 0), 0)),
         }
     }
-    Ok(())
-}
-
-/// 200,000 fix-ups of 1,024 bytes take no turn over all bytes for each.
-#[test]
-fn many_fixups(rt: HostRuntime) -> Result<(), Fail> {
-    let alloc = rt.alloc();
-    let mut data = Vec::from_slice(alloc, &[1, 0, 0])?;
-    for _ in 0..1024 {
-        data.push(0u8)?;
-    }
-    let mut bytes = Vec::new(alloc);
-    put(&mut bytes, THEADR, &[1, 0x41])?;
-    put(&mut bytes, LNAMES, &[0])?;
-    put(&mut bytes, SEGDEF, &[0x28, 0, 4, 1, 1, 1])?;
-    put(&mut bytes, LEDATA, &data)?;
-    let mut fixups = Vec::new(alloc);
-    for number in 0..200_000u32 {
-        let [low, high] = ((number % 1024) as u16).to_le_bytes();
-        fixups.extend_from_slice(&[0xC0 | high, low, 0, 1, 1, 1, 0])?;
-        if fixups.len() >= 65520 {
-            put(&mut bytes, FIXUPP, &fixups)?;
-            fixups.clear();
-        }
-    }
-    put(&mut bytes, FIXUPP, &fixups)?;
-    put(&mut bytes, MODEND, &[0])?;
-    let program = linked(alloc, &[&bytes]).expect(&rt, "a program");
-    assert_eq!(rt; program.size(), 1024);
-    assert_eq!(rt;
-        [program.byte(0), program.byte(319), program.byte(320)],
-        [196, 196, 195]
-    );
     Ok(())
 }
 

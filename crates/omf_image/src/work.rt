@@ -1,6 +1,6 @@
 //! What is kept while data records are laid over an image.
 
-ghost use Rattle.std.specs.Prelude.{◌≡◌, ◌<◌, ◌≤◌, ◌+◌, ◌/◌, ◌++◌, ◌∷◌, [], ℕ, List, map, flat_map, true, false, length, slice_index, slice_index_or};
+ghost use Rattle.std.specs.Prelude.{◌≡◌, ◌<◌, ◌≤◌, ◌+◌, ◌/◌, ◌++◌, ◌∷◌, [], ℕ, List, map, flat_map, true, false, length, slice_index, slice_index_or, OnOk};
 ghost use Rattle.omf_record.specs.Numbers.{location_width};
 ghost use Rattle.omf_image.specs.declared.patch.Patch.{Patch as PlainPatch};
 ghost use Rattle.omf_image.specs.Patch.{patched, patch_start, patch_end, relocated_places, all_clear};
@@ -14,7 +14,7 @@ use crate::pages::Pages;
 use crate::patch::Patch;
 use crate::reference::Resolved;
 use omf_record::Location;
-use std::alloc::Allocator;
+use std::alloc::{AllocError, Allocator};
 
 /// An image, with a flag for each address at which a relocated word begins, and with marks on the bytes of the data
 /// record that is being laid: those that fix-ups touched, and those that lie in relocated words.
@@ -52,6 +52,23 @@ fn begin_word(words: &mut [bool], start: u32, patch: Patch)
 }
 
 impl<A: Allocator + Copy> Work<A> {
+    /// Lays data at an address, with no mark on it.
+    pub fn lay(&mut self, start: u32, bytes: &[u8]) -> Result<(), AllocError>
+        requires inside { start + length bytes.now ≤ length self.old.pages.bytes }
+        requires words { length self.old.words.items ≡ length self.old.pages.bytes }
+        ensures room { OnOk result (IsRoom start (state self.new)) }
+        ensures sized { OnOk result (length self.new.touched.items ≡ length bytes.now) }
+        ensures holds { OnOk result (Holds start bytes.now (state self.old) (state self.new) []) }
+    {
+        let _size = self.pages.size();
+        self.touched.clear();
+        self.touched.resize(bytes.len(), false)?;
+        self.relocated.clear();
+        self.relocated.resize(bytes.len(), false)?;
+        self.pages.lay(start as usize, bytes)?;
+        Ok(())
+    }
+
     /// Adds a patch of data that stands at `start`.
     fn add_patch(&mut self, start: u32, patch: Patch)
         requires room { IsRoom start (state self.old) }

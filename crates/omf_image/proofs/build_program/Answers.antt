@@ -5,7 +5,8 @@ use Rattle.omf_image.specs.Program.{Program}
 use Rattle.omf_image.specs.Registers.{starts, starts_fault, program_fault}
 use Rattle.omf_image.specs.Working.{state}
 use Rattle.omf_image.specs.Building.{IsProgramOf}
-use Rattle.omf_image.proofs.Finishing.{leads_first, no_fault, flags_are, program_limits, program_is, data_first, start_second, count_last, refused_on}
+use Rattle.omf_image.proofs.Finishing.{leads_first, no_fault, flags_are, program_limits, program_is, data_first, start_second, count_last}
+use Rattle.omf_image.proofs.Leading.{refused_on}
 use Rattle.omf_image.proofs.build_program.Goals as goal
 
 pub returns-in-Err : goal.returns-in-Err
@@ -51,7 +52,7 @@ new-requires-2-clause-apart g c =
     let items = c.in_ok-relocations.relocations.items in
     let is : items ≡ filter (λ a. get_or s.words a false) (range_with_len 0 (length s.words)) =
     c.in_ok-relocations.ensures ∙ ap (λ (l : List Bool). filter (λ a. get_or l a false) (range_with_len 0 (length l))) c.deref.ensures.value in
-    (program_limits layout modules s items c.in-Ok-entry.entry c.stack-stack.result c.requires c.in-Ok.ensures.whole last is (omega (arith, c.len.ensures, c.if-len-gt-MOST_RELOCATIONS.false, c.in_ok-relocations.relocations.ok.0))).apart
+    (program_limits layout modules s c.written-written.result items c.requires c.in-Ok.ensures.whole last c.written-written.ensures is (omega (arith, c.len.ensures, c.if-len-gt-MOST_RELOCATIONS.false, c.in_ok-relocations.relocations.ok.0))).apart
 
 pub new-requires-2-clause-inside : goal.new-requires-2-clause-inside
 new-requires-2-clause-inside g c =
@@ -64,7 +65,20 @@ new-requires-2-clause-inside g c =
     let items = c.in_ok-relocations.relocations.items in
     let is : items ≡ filter (λ a. get_or s.words a false) (range_with_len 0 (length s.words)) =
     c.in_ok-relocations.ensures ∙ ap (λ (l : List Bool). filter (λ a. get_or l a false) (range_with_len 0 (length l))) c.deref.ensures.value in
-    (program_limits layout modules s items c.in-Ok-entry.entry c.stack-stack.result c.requires c.in-Ok.ensures.whole last is (omega (arith, c.len.ensures, c.if-len-gt-MOST_RELOCATIONS.false, c.in_ok-relocations.relocations.ok.0))).inside
+    (program_limits layout modules s c.written-written.result items c.requires c.in-Ok.ensures.whole last c.written-written.ensures is (omega (arith, c.len.ensures, c.if-len-gt-MOST_RELOCATIONS.false, c.in_ok-relocations.relocations.ok.0))).inside
+
+pub new-requires-2-clause-written : goal.new-requires-2-clause-written
+new-requires-2-clause-written g c =
+    let layout = c.args.layout.now in
+    let modules = c.args.modules.now in
+    let work = c.in_ok-work.work in
+    let first = leads_first layout modules (state work) work.pages c.size.result refl refl c.in_ok-work.ensures.words c.in_ok-work.ensures.pages in
+    let s = state c.add_modules.new.work in
+    let last = c.in-Ok.ensures.gives first in
+    let items = c.in_ok-relocations.relocations.items in
+    let is : items ≡ filter (λ a. get_or s.words a false) (range_with_len 0 (length s.words)) =
+    c.in_ok-relocations.ensures ∙ ap (λ (l : List Bool). filter (λ a. get_or l a false) (range_with_len 0 (length l))) c.deref.ensures.value in
+    (program_limits layout modules s c.written-written.result items c.requires c.in-Ok.ensures.whole last c.written-written.ensures is (omega (arith, c.len.ensures, c.if-len-gt-MOST_RELOCATIONS.false, c.in_ok-relocations.relocations.ok.0))).written
 
 pub new-requires-2-clause-few : goal.new-requires-2-clause-few
 new-requires-2-clause-few g c =
@@ -77,7 +91,7 @@ new-requires-2-clause-few g c =
     let items = c.in_ok-relocations.relocations.items in
     let is : items ≡ filter (λ a. get_or s.words a false) (range_with_len 0 (length s.words)) =
     c.in_ok-relocations.ensures ∙ ap (λ (l : List Bool). filter (λ a. get_or l a false) (range_with_len 0 (length l))) c.deref.ensures.value in
-    (program_limits layout modules s items c.in-Ok-entry.entry c.stack-stack.result c.requires c.in-Ok.ensures.whole last is (omega (arith, c.len.ensures, c.if-len-gt-MOST_RELOCATIONS.false, c.in_ok-relocations.relocations.ok.0))).few
+    (program_limits layout modules s c.written-written.result items c.requires c.in-Ok.ensures.whole last c.written-written.ensures is (omega (arith, c.len.ensures, c.if-len-gt-MOST_RELOCATIONS.false, c.in_ok-relocations.relocations.ok.0))).few
 
 pub returns : goal.returns
 returns g c =
@@ -91,4 +105,4 @@ returns g c =
     let is : items ≡ filter (λ a. get_or s.words a false) (range_with_len 0 (length s.words)) =
     c.in_ok-relocations.ensures ∙ ap (λ (l : List Bool). filter (λ a. get_or l a false) (range_with_len 0 (length l))) c.deref.ensures.value in
     subst (λ (p : Program). (program_fault layout modules ≡ None) × IsProgramOf layout modules p) (sym c.new-2.ensures)
-    (program_is layout modules s items c.in-Ok-entry.entry c.stack-stack.result c.requires c.in-Ok.ensures.whole last c.in-Ok-entry.ensures.0 c.in-Ok-entry.ensures.1 c.stack-stack.ensures is (omega (arith, c.len.ensures, c.if-len-gt-MOST_RELOCATIONS.false, c.in_ok-relocations.relocations.ok.0)))
+    (program_is layout modules s c.written-written.result items c.in-Ok-entry.entry c.stack-stack.result c.requires c.in-Ok.ensures.whole last c.written-written.ensures c.in-Ok-entry.ensures.0 c.in-Ok-entry.ensures.1 c.stack-stack.ensures is (omega (arith, c.len.ensures, c.if-len-gt-MOST_RELOCATIONS.false, c.in_ok-relocations.relocations.ok.0)))

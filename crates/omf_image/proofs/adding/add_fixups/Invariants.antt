@@ -1,4 +1,5 @@
-use Rattle.std.proofs.Common.{◌≡◌, ℕ, List, [], take, drop, flat_map, length}
+use Rattle.std.proofs.Common.{◌≡◌, ◌++◌, ℕ, List, take, drop, flat_map, length}
+use Rattle.omf_image.specs.declared.patch.Patch.{Patch}
 use Rattle.omf_image.specs.Records.{fixup_patches}
 use Rattle.omf_image.specs.Faults.{fixups_fault}
 use Rattle.omf_image.specs.Working.{State, state, IsRoom, Holds}
@@ -9,8 +10,8 @@ abbrev pub invariant-loop-fixup : goal.invariant-loop-fixup
 invariant-loop-fixup g l = record {
   room : IsRoom l.site.start (state l.work);
   sized : length l.work.touched.items ≡ length l.site.data_record.bytes.now;
-  gives : (bytes : List ℕ) (base : State) → Holds l.site.start bytes base (state l.initial.work) []
-      → Holds l.site.start bytes base (state l.work) (flat_map (fixup_patches 0 l.site.layout.now (entry_seen l.site)) (take l.fixup-index l.site.data_record.fixups.now))
-      × (fixups_fault l.site.layout.now (entry_seen l.site) (flat_map (fixup_patches 0 l.site.layout.now (entry_seen l.site)) (take l.fixup-index l.site.data_record.fixups.now)) (drop l.fixup-index l.site.data_record.fixups.now)
-      ≡ fixups_fault l.site.layout.now (entry_seen l.site) [] l.site.data_record.fixups.now);
+  gives : (bytes : List ℕ) (base : State) (earlier : List Patch) → Holds l.site.start bytes base (state l.initial.work) earlier
+      → Holds l.site.start bytes base (state l.work) (earlier ++ flat_map (fixup_patches 0 l.site.layout.now (entry_seen l.site)) (take l.fixup-index l.fixups))
+      × (fixups_fault l.site.layout.now (entry_seen l.site) (earlier ++ flat_map (fixup_patches 0 l.site.layout.now (entry_seen l.site)) (take l.fixup-index l.fixups)) (drop l.fixup-index l.fixups)
+      ≡ fixups_fault l.site.layout.now (entry_seen l.site) earlier l.fixups);
 }

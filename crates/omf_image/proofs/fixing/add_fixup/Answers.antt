@@ -6,9 +6,6 @@ use Rattle.omf_image.specs.Fixing.{entry_seen}
 use Rattle.omf_image.proofs.Meaning.{fault_on, patches_found, first_of_zip, hit_inside}
 use Rattle.omf_image.proofs.fixing.add_fixup.Goals as goal
 
-pub find_hits-requires-clause-short : goal.find_hits-requires-clause-short
-find_hits-requires-clause-short g c = omega (arith, c.requires.site.lengths, c.requires.sized, c.requires.room.inside, c.requires.room.small)
-
 pub fix-requires-clause-hits : goal.fix-requires-clause-hits
 fix-requires-clause-hits g c k h =
     let s = c.args.site.now in
@@ -27,16 +24,16 @@ returns-in-Ok-fix-clause-gives g c bytes base earlier h =
     let z : stored_of e.data_record ≡ s.data_record.places.now = first_of_zip s.data_record.places.now s.data_record.bytes.now (sym c.requires.site.lengths) in
     let is = c.deref.ensures.value ∙ c.in_ok-find_hits.ensures ∙ ap (hits x.offset) (sym z) in
     let gives = c.in-Ok-fix.ensures.gives bytes base earlier h in (
-      fault_on s.layout.now e x c.in-Ok.resolved s.start c.deref.result.now earlier (sym c.in-Ok.ensures) c.requires.site.start is ∙ gives.0,
-      subst (λ (ps : List Patch). Holds s.start bytes base (state c.fix.new.work) (earlier ++ ps)) (sym (patches_found s.layout.now e x c.in-Ok.resolved s.start c.deref.result.now (sym c.in-Ok.ensures) c.requires.site.start is)) gives.1,
+      fault_on s.layout.now e x c.in-Ok.resolved s.start c.deref.result.now earlier c.in-Ok.ensures c.requires.site.start is ∙ gives.0,
+      subst (λ (ps : List Patch). Holds s.start bytes base (state c.fix.new.work) (earlier ++ ps)) (sym (patches_found s.layout.now e x c.in-Ok.resolved s.start c.deref.result.now c.in-Ok.ensures c.requires.site.start is)) gives.1,
     )
 
-pub returns-in-Err-clause-gives : goal.returns-in-Err-clause-gives
-returns-in-Err-clause-gives g c bytes base earlier h =
+pub returns-in-Err-fix-clause-gives : goal.returns-in-Err-fix-clause-gives
+returns-in-Err-fix-clause-gives g c bytes base earlier h =
     let s = c.args.site.now in
     let e : Entry = entry_seen s in
     let x = c.args.fixup.now in
     let z : stored_of e.data_record ≡ s.data_record.places.now = first_of_zip s.data_record.places.now s.data_record.bytes.now (sym c.requires.site.lengths) in
     let is = c.deref.ensures.value ∙ c.in_ok-find_hits.ensures ∙ ap (hits x.offset) (sym z) in
-    fault_on s.layout.now e x c.in-Ok.resolved s.start c.deref.result.now earlier (sym c.in-Ok.ensures) c.requires.site.start is
-    ∙ c.in-Err.ensures.gives bytes base earlier h
+    fault_on s.layout.now e x c.in-Ok.resolved s.start c.deref.result.now earlier c.in-Ok.ensures c.requires.site.start is
+    ∙ c.in-Err-fix.ensures.gives bytes base earlier h

@@ -1,0 +1,45 @@
+//! How far the data of a program reaches.
+
+ghost use Rattle.std.specs.Prelude.{◌≡◌, ◌≤◌, All, fold, map, max};
+ghost use Rattle.omf_image.specs.Records.{entries, module_entries, entry_end, written};
+ghost use Rattle.omf_image.specs.Ready.{IsEntryReady};
+
+use crate::adding::data_address;
+use omf_module::Module;
+use omf_place::Layout;
+use std::alloc::Allocator;
+
+/// The greater of an end and one more than the greatest address that a module's data covers.
+fn end_with<A: Allocator + Copy>(
+    end: u32,
+    layout: &Layout<A>,
+    number: usize,
+    in_module: &Module<A>,
+) -> u32
+    requires small { layout.now.size ≤ 1048560 }
+    requires ready { All (IsEntryReady layout.now) (module_entries number in_module.now) }
+    ensures { result ≡ fold max end (map (entry_end layout.now) (module_entries number in_module.now)) }
+{
+    let mut end = end;
+    for index in 0..in_module.data_record_count() {
+        let data_record = in_module.data_record(index);
+        if !data_record.bytes.is_empty() {
+            let start = data_address(layout, number, data_record.segment, data_record.offset);
+            end = end.max(start + data_record.bytes.len() as u32);
+        }
+    }
+    end
+}
+
+/// One more than the greatest address that a data record covers, or 0.
+pub fn written<A: Allocator + Copy>(layout: &Layout<A>, modules: &[Module<A>]) -> u32
+    requires small { layout.now.size ≤ 1048560 }
+    requires ready { All (IsEntryReady layout.now) (entries modules.now) }
+    ensures { result ≡ written layout.now modules.now }
+{
+    let mut end = 0;
+    for (number, module) in modules.iter().enumerate() {
+        end = end_with(end, layout, number, module);
+    }
+    end
+}
