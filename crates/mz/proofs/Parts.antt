@@ -1,6 +1,6 @@
 -- Bytes that reach a sink one part after the other.
 use Rattle.std.proofs.Common.{slice_range, ◌<◌, ◌≡◌, ℕ, ◌+◌, ◌-◌, ◌*◌, ◌≤◌, replicate, List, ◌++◌, take, drop, length, refl, ap, ◌∙◌, sym, subst, arith}
-use Rattle.std.proofs.lemmas.List.{length-take, length-drop, take-replicate, take-append-drop}
+use Rattle.std.proofs.lemmas.List.{length-take-le, take-take, drop-take, take-replicate, take-append-drop}
 use Rattle.std.proofs.lemmas.List.Concat.{flat_map-append}
 use Rattle.std.specs.declared.option.Option.{Option}
 use Rattle.std.specs.Io.KnownBytes.{Appends}
@@ -10,7 +10,7 @@ use lib.Seq.{take-add}
 use Rattle.omf_image.specs.Program.{Program}
 use Rattle.mz.specs.declared.format.Header.{Header}
 use Rattle.mz.specs.Header.{header_bytes, entry_bytes, header_len}
-use Rattle.mz.specs.File.{header_of, entry_of, paragraphs, table, padding, written}
+use Rattle.mz.specs.File.{header_of, entry_of, file_image, paragraphs, table, padding, written}
 
 -- a front of a part is a front of the whole
 pub begun : (a b : Option (List ℕ)) (bs more : List ℕ) → AppendsFront a b bs → AppendsFront a b (bs ++ more)
@@ -38,8 +38,14 @@ begun_table a b c addresses part i j h e p q =
 pub piece_joined : (xs piece : List ℕ) (i : ℕ) → piece ≡ take (length piece) (drop i xs) → take i xs ++ piece ≡ take (i + length piece) xs
 piece_joined xs piece i e = ap (λ l. take i xs ++ l) e ∙ sym (take-add i (length piece) xs)
 
-pub piece_within : (xs piece : List ℕ) (i : ℕ) → i < length xs → piece ≡ take (length piece) (drop i xs) → i + length piece ≤ length xs
-piece_within xs piece i h e = omega (arith, ap length e, length-take (length piece) (drop i xs), length-drop i xs)
+-- what of a piece lies before an end
+pub piece_cut : (xs piece : List ℕ) (i end len : ℕ) → i < end → len ≤ length piece → len ≤ end - i → piece ≡ take (length piece) (drop i xs)
+    → take len piece ≡ take (length (take len piece)) (drop i (take end xs))
+piece_cut xs piece i end len h k m e =
+    let parts : i + (end - i) ≡ end = omega arith in
+    let below : take len (drop i (take end xs)) ≡ take len (drop i xs) =
+    ap (λ (n : ℕ). take len (drop i (take n xs))) (sym parts) ∙ ap (take len) (drop-take i (end - i) xs) ∙ take-take len (end - i) (drop i xs) m in
+    ap (take len) e ∙ take-take len (length piece) (drop i xs) k ∙ sym below ∙ ap (λ (n : ℕ). take n (drop i (take end xs))) (sym (length-take-le len piece k))
 
 -- a front of a piece, behind the front of a list
 pub begun_piece : (a b c : Option (List ℕ)) (xs piece : List ℕ) (i : ℕ) → piece ≡ take (length piece) (drop i xs)
@@ -71,37 +77,37 @@ module _ (a b c d e : Option (List ℕ)) (w x y z : List ℕ) where
 
 -- the file of a program is its parts as they were written
 module _ (p : Program) (head zeros addresses : List ℕ) (a b c d e : Option (List ℕ)) where
-  whole : head ≡ header_bytes (header_of p) → addresses ≡ p.relocations → zeros ≡ padding p → head ++ table addresses ++ zeros ++ p.image ≡ written p
+  whole : head ≡ header_bytes (header_of p) → addresses ≡ p.relocations → zeros ≡ padding p → head ++ table addresses ++ zeros ++ file_image p ≡ written p
   unfolding written
   whole x y z =
-      ap (λ (l : List ℕ). l ++ table addresses ++ zeros ++ p.image) x
-      ∙ ap (λ (l : List ℕ). header_bytes (header_of p) ++ table l ++ zeros ++ p.image) y
-      ∙ ap (λ (l : List ℕ). header_bytes (header_of p) ++ table p.relocations ++ l ++ p.image) z
+      ap (λ (l : List ℕ). l ++ table addresses ++ zeros ++ file_image p) x
+      ∙ ap (λ (l : List ℕ). header_bytes (header_of p) ++ table l ++ zeros ++ file_image p) y
+      ∙ ap (λ (l : List ℕ). header_bytes (header_of p) ++ table p.relocations ++ l ++ file_image p) z
 
   pub stops_in_image : head ≡ header_bytes (header_of p) → addresses ≡ p.relocations → zeros ≡ padding p
-      → Appends a b head → Appends b c (table addresses) → Appends c d zeros → AppendsFront d e p.image → AppendsFront a e (written p)
-  stops_in_image x y z q r s t = subst (AppendsFront a e) (whole x y z) (fails_in_fourth a b c d e head (table addresses) zeros p.image q r s t)
+      → Appends a b head → Appends b c (table addresses) → Appends c d zeros → AppendsFront d e (file_image p) → AppendsFront a e (written p)
+  stops_in_image x y z q r s t = subst (AppendsFront a e) (whole x y z) (fails_in_fourth a b c d e head (table addresses) zeros (file_image p) q r s t)
 
   pub all_written : head ≡ header_bytes (header_of p) → addresses ≡ p.relocations → zeros ≡ padding p
-      → Appends a b head → Appends b c (table addresses) → Appends c d zeros → Appends d e p.image → Appends a e (written p)
-  all_written x y z q r s t = subst (Appends a e) (whole x y z) (all_four a b c d e head (table addresses) zeros p.image q r s t)
+      → Appends a b head → Appends b c (table addresses) → Appends c d zeros → Appends d e (file_image p) → Appends a e (written p)
+  all_written x y z q r s t = subst (Appends a e) (whole x y z) (all_four a b c d e head (table addresses) zeros (file_image p) q r s t)
 
   pub stops_in_padding : head ≡ header_bytes (header_of p) → addresses ≡ p.relocations → zeros ≡ padding p
       → Appends a b head → Appends b c (table addresses) → AppendsFront c d zeros → AppendsFront a d (written p)
-  stops_in_padding x y z q r s = subst (AppendsFront a d) (whole x y z) (fails_in_third a b c d e head (table addresses) zeros p.image q r s)
+  stops_in_padding x y z q r s = subst (AppendsFront a d) (whole x y z) (fails_in_third a b c d e head (table addresses) zeros (file_image p) q r s)
 
   pub stops_in_table : head ≡ header_bytes (header_of p) → addresses ≡ p.relocations
       → Appends a b head → AppendsFront b c (table addresses) → AppendsFront a c (written p)
   unfolding written
   stops_in_table x y q r =
       subst (AppendsFront a c)
-      (ap (λ (l : List ℕ). l ++ table addresses ++ padding p ++ p.image) x ∙ ap (λ (l : List ℕ). header_bytes (header_of p) ++ table l ++ padding p ++ p.image) y)
-      (fails_in_second a b c d e head (table addresses) (padding p) p.image q r)
+      (ap (λ (l : List ℕ). l ++ table addresses ++ padding p ++ file_image p) x ∙ ap (λ (l : List ℕ). header_bytes (header_of p) ++ table l ++ padding p ++ file_image p) y)
+      (fails_in_second a b c d e head (table addresses) (padding p) (file_image p) q r)
 
   pub stops_in_header : head ≡ header_bytes (header_of p) → AppendsFront a b head → AppendsFront a b (written p)
   unfolding written
   stops_in_header x q =
-      subst (AppendsFront a b) (ap (λ (l : List ℕ). l ++ table p.relocations ++ padding p ++ p.image) x) (fails_in_first a b c d e head (table p.relocations) (padding p) p.image q)
+      subst (AppendsFront a b) (ap (λ (l : List ℕ). l ++ table p.relocations ++ padding p ++ file_image p) x) (fails_in_first a b c d e head (table p.relocations) (padding p) (file_image p) q)
 
 -- as many zeros as the header is filled with
 pub zeros_are : (p : Program) (h : Header) (len count : ℕ) → h ≡ header_of p → len ≡ header_len h → count ≡ h.relocation_count

@@ -1,5 +1,5 @@
--- What loading answers, by whether the image fits.
-use Rattle.std.proofs.Common.{◌≡◌, ℕ, ◌+◌, ◌*◌, ◌%◌, ◌<◌, ◌≤◌, List, length, map, ap, ◌∙◌, sym, subst, Result, Ok, Err}
+-- What loading answers, by whether the program fits.
+use Rattle.std.proofs.Common.{◌≡◌, ℕ, ◌+◌, ◌*◌, ◌%◌, ◌<◌, ◌≤◌, List, map, ap, ◌∙◌, sym, subst, Result, Ok, Err}
 use Rattle.std.specs.Prelude.{nat_le}
 use Rattle.std.proofs.lemmas.Bool.{le-leb, lt-leb, cond-true, cond-false}
 use Rattle.omf_image.specs.Words.{add_words}
@@ -8,17 +8,17 @@ use Rattle.mz.specs.declared.fault.LoadFault.{LoadFault}
 use Rattle.mz.specs.declared.fault.LoadFault.TheVariants.{DoesNotFit, Memory}
 use Rattle.mz.specs.Header.{entry_address}
 use Rattle.mz.specs.File.{MzFile}
-use Rattle.mz.specs.Loading.{Loaded, loaded, memory_len, loading, Loads}
+use Rattle.mz.specs.Loading.{Loaded, loaded, memory_len, needed_len, loading, Loads}
 
-pub does_not_fit : (P : ℕ) (f : MzFile) → memory_len < 16 * P + length f.image → loading P f ≡ Err DoesNotFit
+pub does_not_fit : (P : ℕ) (f : MzFile) → memory_len < 16 * P + needed_len f → loading P f ≡ Err DoesNotFit
 unfolding loading
-does_not_fit P f h = cond-false (nat_le (16 * P + length f.image) memory_len) _ _ (lt-leb (16 * P + length f.image) memory_len h)
+does_not_fit P f h = cond-false (nat_le (16 * P + needed_len f) memory_len) _ _ (lt-leb (16 * P + needed_len f) memory_len h)
 
-pub does_fit : (P : ℕ) (f : MzFile) → 16 * P + length f.image ≤ memory_len → loading P f ≡ Ok (loaded P f)
+pub does_fit : (P : ℕ) (f : MzFile) → 16 * P + needed_len f ≤ memory_len → loading P f ≡ Ok (loaded P f)
 unfolding loading
-does_fit P f h = cond-true (nat_le (16 * P + length f.image) memory_len) _ _ (le-leb (16 * P + length f.image) memory_len h)
+does_fit P f h = cond-true (nat_le (16 * P + needed_len f) memory_len) _ _ (le-leb (16 * P + needed_len f) memory_len h)
 
-pub no_memory : (r : Result Loaded LoadFault) (P : ℕ) (f : MzFile) (e : LoadFault) → 16 * P + length f.image ≤ memory_len → r ≡ Err e → e ≡ Memory → Loads r (loading P f)
+pub no_memory : (r : Result Loaded LoadFault) (P : ℕ) (f : MzFile) (e : LoadFault) → 16 * P + needed_len f ≤ memory_len → r ≡ Err e → e ≡ Memory → Loads r (loading P f)
 no_memory r P f e h x y =
     subst (λ (s : Result Loaded LoadFault). Loads s (loading P f)) (sym (x ∙ ap Err y))
     (subst (λ (s : Result Loaded LoadFault). Loads (Err Memory) s) (sym (does_fit P f h)) tt)
@@ -26,7 +26,7 @@ no_memory r P f e h x y =
 made : (P : ℕ) → Header → List ℕ → Loaded
 made P h bytes = record { bytes = bytes; cs = (h.cs + P) % 65536; ip = h.ip; ss = (h.ss + P) % 65536; sp = h.sp }
 
-pub loads_as : (P : ℕ) (f : MzFile) (h : Header) (bytes : List ℕ) → 16 * P + length f.image ≤ memory_len → h ≡ f.header → bytes ≡ add_words P (map entry_address f.entries) f.image
+pub loads_as : (P : ℕ) (f : MzFile) (h : Header) (bytes : List ℕ) → 16 * P + needed_len f ≤ memory_len → h ≡ f.header → bytes ≡ add_words P (map entry_address f.entries) f.image
     → loading P f ≡ Ok (record { bytes = bytes; cs = (h.cs + P) % 65536; ip = h.ip; ss = (h.ss + P) % 65536; sp = h.sp })
 unfolding loaded made
 loads_as P f h bytes fits x y = does_fit P f fits ∙ ap (λ (b : List ℕ). Ok (made P f.header b)) (sym y) ∙ ap (λ (k : Header). Ok (made P k bytes)) (sym x)

@@ -3,6 +3,7 @@ use Rattle.std.proofs.Common.{◌≡◌, ℕ, ◌+◌, ◌-◌, ◌<◌, ◌≤�
 use Rattle.std.proofs.lemmas.Bool.{cases_lt}
 use Rattle.std.proofs.lemmas.List.{take_at}
 use Rattle.std.specs.declared.option.Option.{Option}
+use Rattle.std.specs.Io.KnownBytes.{Consumes}
 use Rattle.omf_frame.specs.Device.{TakesAtMost}
 use Rattle.mz.specs.declared.format.Header.{Header as HeaderWords}
 use Rattle.mz.specs.declared.fault.MzFault.{MzFault}
@@ -13,7 +14,7 @@ use Rattle.mz.specs.Reading.{TakesUpTo, reading, Gives, failures_in, reach, Take
 use Rattle.mz.specs.Steps.{ReadsOn, Stops, header_in, file_in}
 use Rattle.mz.proofs.Taken.{Enough, header_at-append, header_fault, header_errors, file_in_errors, header_stands, behind_header, reads_truncated, is_cut, whole_behind, reach_behind, reach_least, nothing_more}
 use Rattle.mz.proofs.Accepting.{header_within, words_within}
-use Rattle.omf_frame.proofs.Told.{TakesAtMost-then}
+use Rattle.omf_frame.proofs.Told.{Consumes-trans, TakesAtMost-then}
 
 -- the header's bytes were read
 record First (b : List ℕ) (mid : Option (List ℕ)) (xs : List ℕ) : Type 0 where
@@ -59,17 +60,26 @@ bounded : (b : List ℕ) (new : Option (List ℕ)) (n m : ℕ) → TakesAtMost (
 bounded b None n m t h = tt
 bounded b (Some ys) n m t h = (t.0, t.1, elim h [ inl k ↦ omega (arith, t.2) | inr k ↦ omega (arith, ap length t.1, length-append t.0 ys) ])
 
-takes_stop : (old new : Option (List ℕ)) (e : MzFault) → Stops e → IfSome old (λ b. TakesAtMost old new (reach (reading b) b)) → Takes old new (Err e)
-takes_stop old new e stops t =
+-- after want of memory the source tells what is left
+abbrev Tells : (old new : Option (List ℕ)) → MzFault → Type 0
+Tells old new e = e ≡ Memory → (more : List ℕ) × Consumes old new more
+
+up_to : (old new : Option (List ℕ)) (n : List ℕ → ℕ) → IfSome old (λ b. TakesAtMost old new (n b)) → (more : List ℕ) × Consumes old new more → IfSome old (λ b. TakesUpTo old new (n b))
+up_to None new n t told = tt
+up_to (Some b) None n t told = absurd told.1
+up_to (Some b) (Some ys) n t told = t
+
+takes_stop : (old new : Option (List ℕ)) (e : MzFault) → Stops e → IfSome old (λ b. TakesAtMost old new (reach (reading b) b)) → Tells old new e → Takes old new (Err e)
+takes_stop old new e stops t told =
     elim stops [
       | inl p ↦ subst (λ x. Takes old new (Err x)) (sym p) t
-      | inr p ↦ subst (λ x. Takes old new (Err x)) (sym p) t
+      | inr p ↦ subst (λ x. Takes old new (Err x)) (sym p) (up_to old new (λ b. reach (reading b) b) t (told p))
     ]
 
 -- reading the header's bytes stopped
-pub first_stops : (old mid : Option (List ℕ)) (e : MzFault) → Stops e → TakesAtMost old mid 28 → Takes old mid (Err e)
-first_stops None mid e stops t = takes_stop None mid e stops tt
-first_stops (Some b) mid e stops t = takes_stop (Some b) mid e stops (bounded b mid 28 (reach (reading b) b) t (reach_least b))
+pub first_stops : (old mid : Option (List ℕ)) (e : MzFault) → Stops e → TakesAtMost old mid 28 → Tells old mid e → Takes old mid (Err e)
+first_stops None mid e stops t told = takes_stop None mid e stops tt told
+first_stops (Some b) mid e stops t told = takes_stop (Some b) mid e stops (bounded b mid 28 (reach (reading b) b) t (reach_least b)) told
 
 -- the header has a fault
 pub header_exact : (old mid : Option (List ℕ)) (before xs : List ℕ) (e : MzFault) → before ≡ [] → ReadsOn 28 old mid before xs → header_in xs ≡ Err e → IfSome old (λ b. reading b ≡ Err e)
@@ -128,14 +138,18 @@ reaches b h s =
 
 -- reading the rest stopped
 pub second_stops : (old mid new : Option (List ℕ)) (before xs : List ℕ) (h : HeaderWords) (e : MzFault) (n : ℕ) → before ≡ [] → ReadsOn 28 old mid before xs → header_in xs ≡ Ok h
-    → Stops e → n ≡ told_len h - length xs → TakesAtMost mid new n → Takes old new (Err e)
-second_stops None mid new before xs h e n p r given stops k t = takes_stop None new e stops tt
-second_stops (Some b) mid new before xs h e n p r given stops k t =
+    → Stops e → n ≡ told_len h - length xs → TakesAtMost mid new n → Tells mid new e → Takes old new (Err e)
+second_stops None mid new before xs h e n p r given stops k t told = takes_stop None new e stops tt (λ m. ([], tt))
+second_stops (Some b) mid new before xs h e n p r given stops k t told =
     let f = first_read b mid before xs p r in
     let s = stage b mid xs h f given in
     let room : length xs + n ≤ told_len h = omega (arith, f.within, words_within h s.accepted, header_within h s.accepted) in
     let all : TakesAtMost (Some b) new (told_len h) = TakesAtMost-then (Some b) (Some f.rest) new xs n (told_len h) f.split (subst (λ m. TakesAtMost m new n) f.place t) room in
-    takes_stop (Some b) new e stops (bounded b new (told_len h) (reach (reading b) b) all (reaches b h s))
+    let tells : Tells (Some b) new e = λ m. (
+      xs ++ (told m).0,
+      Consumes-trans (Some b) (Some f.rest) new xs (told m).0 f.split (subst (λ o. Consumes o new (told m).0) f.place (told m).1),
+    ) in
+    takes_stop (Some b) new e stops (bounded b new (told_len h) (reach (reading b) b) all (reaches b h s)) tells
 
 both : (b : List ℕ) (mid new : Option (List ℕ)) (xs ys : List ℕ) (len : ℕ) → (f : First b mid xs) → ReadsOn len mid new xs ys → Second b new xs ys len
 both b mid new xs ys len f q = second_read b f.rest new xs ys len f.split (subst (λ m. ReadsOn len m new xs ys) f.place q)

@@ -1,25 +1,26 @@
 -- A file that was written is read as the program, and loads as the program moved.
-use Rattle.std.proofs.Common.{◌≡◌, ◌≢◌, ℕ, ◌+◌, ◌-◌, ◌*◌, ◌/◌, ◌%◌, ◌<◌, ◌≤◌, true, not, ◌==◌, cond, List, [], ◌∷◌, ◌++◌, map, drop, length, get_or, refl, ap, ◌∙◌, sym, arith, inl, inr, Result, Ok, Err}
+use Rattle.std.proofs.Common.{◌≡◌, ◌≢◌, ℕ, ◌+◌, ◌-◌, ◌*◌, ◌/◌, ◌%◌, ◌<◌, ◌≤◌, true, not, ◌==◌, cond, zero, suc, List, [], ◌∷◌, ◌++◌, map, set, take, drop, length, get_or, refl, subst, ap, ◌∙◌, sym, arith, inl, inr, Result, Ok, Err}
 use Rattle.std.specs.Prelude.{nat_le}
 use Rattle.std.specs.List.{list_all, AllByRecursion}
-use Rattle.std.proofs.lemmas.List.{append_assoc, length-append, length-replicate, drop_at, get_or-append-add}
+use Rattle.std.proofs.lemmas.List.{append_assoc, length-append, length-replicate, length-take-le, get_or-take, drop_at, get_or-append-add}
 use Rattle.std.proofs.lemmas.List.Elements.{recursion_from_All}
 use Rattle.std.proofs.lemmas.Bool.{cases_Bool, eqb-true, eqb-false, cond-true, cond-false, and_from, or_right, le-leb, ne_eqb, not_from_false}
-use Rattle.omf_image.specs.Words.{word_at, add_words}
+use Rattle.omf_image.specs.Words.{word_at, put_word, add_word, add_words}
 use Rattle.omf_image.specs.Program.{Program, IsProgram}
 use Rattle.mz.specs.declared.format.Header.{Header}
 use Rattle.mz.specs.declared.format.Entry.{Entry}
 use Rattle.mz.specs.declared.fault.MzFault.{MzFault}
 use Rattle.mz.specs.declared.fault.MzFault.TheVariants.{RelocationOutside}
 use Rattle.mz.specs.Header.{magic, header_bytes, header_at, header_len, told_len, has_table_inside, is_accepted, entry_bytes, entry_address, is_inside}
-use Rattle.mz.specs.File.{paragraphs, file_len, header_of, entry_of, table, padding, written, MzFile}
+use Rattle.mz.specs.File.{paragraphs, file_image, file_len, header_of, entry_of, table, padding, written, MzFile}
 use Rattle.mz.specs.Reading.{entries_at, file_of, reading}
 use Rattle.mz.specs.Steps.{file_in}
 use Rattle.mz.specs.declared.fault.LoadFault.{LoadFault}
-use Rattle.mz.specs.Loading.{Loaded, loaded, loading}
+use Rattle.mz.specs.declared.fault.LoadFault.TheVariants.{DoesNotFit}
+use Rattle.mz.specs.Loading.{Loaded, loaded, memory_len, needed_len, loading}
 use Rattle.mz.specs.Laws.{Fits, memory, moved, as_file}
 use Rattle.mz.proofs.Taken.{header_at-append, file_agrees, reads_accepted, whole_behind}
-use Rattle.mz.proofs.Placing.{does_fit}
+use Rattle.mz.proofs.Placing.{does_fit, does_not_fit}
 
 pub word_back : (w : ℕ) → w < 65536 → w % 256 + 256 * (w / 256 % 256) ≡ w
 word_back w h = omega arith
@@ -132,6 +133,29 @@ low_enough : (n : ℕ) (rs : List ℕ) → n ≤ 1048560 → AllByRecursion (λ 
 low_enough n [] k h = tt
 low_enough n (r ∷ rs) k h = (omega (arith, h.0), low_enough n rs k h.1)
 
+set_front : (w : ℕ) (xs : List ℕ) (i v : ℕ) → i < w → set (take w xs) i v ≡ take w (set xs i v)
+set_front zero xs i v h = absurd (omega (arith, h))
+set_front (suc w) [] i v h = refl
+set_front (suc w) (x ∷ xs) zero v h = refl
+set_front (suc w) (x ∷ xs) (suc i) v h = ap (λ (l : List ℕ). x ∷ l) (set_front w xs i v (omega (arith, h)))
+
+-- additions to words of a front of a list leave its front's length
+add_word_front : (v w i : ℕ) (xs : List ℕ) → i + 2 ≤ w → add_word v i (take w xs) ≡ take w (add_word v i xs)
+unfolding add_word put_word
+add_word_front v w i xs h =
+    let put : ℕ → List ℕ = λ n. set (set (take w xs) i (n % 65536 % 256)) (i + 1) (n % 65536 / 256) in
+    let n = word_at xs i + v in
+    let low = get_or-take w xs i 0 (omega (arith, h)) in
+    let high = get_or-take w xs (i + 1) 0 (omega (arith, h)) in
+    let same : word_at (take w xs) i + v ≡ n = omega (arith, low, high) in
+    ap put same
+    ∙ ap (λ (l : List ℕ). set l (i + 1) (n % 65536 / 256)) (set_front w xs i (n % 65536 % 256) (omega (arith, h)))
+    ∙ set_front w (set xs i (n % 65536 % 256)) (i + 1) (n % 65536 / 256) (omega (arith, h))
+
+add_words_front : (v w : ℕ) (rs xs : List ℕ) → AllByRecursion (λ r. r + 2 ≤ w) rs → add_words v rs (take w xs) ≡ take w (add_words v rs xs)
+add_words_front v w [] xs h = refl
+add_words_front v w (r ∷ rs) xs h = ap (add_words v rs) (add_word_front v w r xs h.0) ∙ add_words_front v w rs (add_word v r xs) h.1
+
 module _ (p : Program) (w : IsProgram p) where
   n : ℕ
   n = length p.relocations
@@ -142,10 +166,10 @@ module _ (p : Program) (w : IsProgram p) where
   words_fit : WordsFit (header_of p)
   words_fit = record {
     last_page_bytes = omega arith;
-    pages = omega (arith, w.few, w.short);
+    pages = omega (arith, w.few, w.written, w.short);
     relocation_count = omega (arith, w.few);
     header_paragraphs = omega (arith, w.few);
-    least_extra_paragraphs = omega arith;
+    least_extra_paragraphs = omega (arith, w.short);
     greatest_extra_paragraphs = omega arith;
     ss = w.ss;
     sp = w.sp;
@@ -156,13 +180,13 @@ module _ (p : Program) (w : IsProgram p) where
     overlay = omega arith;
   }
 
-  in_two : written p ≡ head ++ (table p.relocations ++ (padding p ++ p.image))
+  in_two : written p ≡ head ++ (table p.relocations ++ (padding p ++ file_image p))
   unfolding written head
-  in_two = append_assoc (head ++ table p.relocations) (padding p) p.image ∙ append_assoc head (table p.relocations) (padding p ++ p.image)
+  in_two = append_assoc (head ++ table p.relocations) (padding p) (file_image p) ∙ append_assoc head (table p.relocations) (padding p ++ file_image p)
 
   header_is : header_at (written p) ≡ header_of p
   unfolding head
-  header_is = ap header_at in_two ∙ header_back (header_of p) (table p.relocations ++ (padding p ++ p.image)) words_fit
+  header_is = ap header_at in_two ∙ header_back (header_of p) (table p.relocations ++ (padding p ++ file_image p)) words_fit
 
   magic_is : word_at (written p) 0 ≡ magic
   unfolding written
@@ -180,20 +204,26 @@ module _ (p : Program) (w : IsProgram p) where
       let c : length (padding p) ≡ 16 * paragraphs m - (28 + 4 * m) = length-replicate (16 * paragraphs m - (28 + 4 * m)) 0 in
       omega (arith, a, b, c, length-table p.relocations)
 
+  length-image : length (file_image p) ≡ p.written
+  length-image = length-take-le p.written p.image w.written
+
   pub length-written : length (written p) ≡ file_len p
   unfolding written front
-  length-written = length-append front p.image ∙ ap (λ (k : ℕ). k + length p.image) length-front
+  length-written = length-append front (file_image p) ∙ ap (λ (k : ℕ). k + length (file_image p)) length-front ∙ ap (λ (k : ℕ). 16 * paragraphs (length p.relocations) + k) length-image
 
-  image_is : drop (16 * paragraphs (length p.relocations)) (written p) ≡ p.image
+  image_is : drop (16 * paragraphs (length p.relocations)) (written p) ≡ file_image p
   unfolding written front
-  image_is = drop_at front p.image (16 * paragraphs (length p.relocations)) length-front
+  image_is = drop_at front (file_image p) (16 * paragraphs (length p.relocations)) length-front
 
-  inside : AllByRecursion (λ r. r + 2 ≤ length p.image) p.relocations
-  inside = recursion_from_All (λ r. r + 2 ≤ length p.image) p.relocations w.inside
+  below : AllByRecursion (λ r. r + 2 ≤ p.written) p.relocations
+  below = recursion_from_All (λ r. r + 2 ≤ p.written) p.relocations w.inside
+
+  inside : AllByRecursion (λ r. r + 2 ≤ length (file_image p)) p.relocations
+  inside = subst (λ (n : ℕ). AllByRecursion (λ r. r + 2 ≤ n) p.relocations) (sym length-image) below
 
   entries_are : entries_at (length p.relocations) 28 (written p) ≡ map entry_of p.relocations
   unfolding head
-  entries_are = ap (entries_at (length p.relocations) 28) in_two ∙ entries_back head p.relocations (padding p ++ p.image) (low_enough (length p.image) p.relocations w.short inside)
+  entries_are = ap (entries_at (length p.relocations) 28) in_two ∙ entries_back head p.relocations (padding p ++ file_image p) (low_enough p.written p.relocations (omega (arith, w.written, w.short)) below)
 
   accepted : is_accepted (header_of p) ≡ true
   accepted =
@@ -209,7 +239,7 @@ module _ (p : Program) (w : IsProgram p) where
       let answer : List Entry → List ℕ → Result MzFile MzFault = λ es bs. cond (list_all (is_inside (length bs)) es) (Ok (record { header = h; entries = es; image = bs })) (Err RelocationOutside) in
       ap (λ (es : List Entry). answer es (drop (header_len h) (written p))) entries_are
       ∙ ap (answer (map entry_of p.relocations)) image_is
-      ∙ cond-true _ _ _ (all_inside (length p.image) p.relocations inside)
+      ∙ cond-true _ _ _ (all_inside (length (file_image p)) p.relocations inside)
 
   pub reads_back : (rest : List ℕ) → reading (written p ++ rest) ≡ Ok (as_file p)
   reads_back rest =
@@ -229,12 +259,20 @@ module _ (p : Program) (w : IsProgram p) where
   unfolding loaded
   loaded_back P =
       let made : List ℕ → Loaded = λ bs. record { bytes = bs; cs = (p.cs + P) % 65536; ip = p.ip; ss = (p.ss + P) % 65536; sp = p.sp } in
-      ap (λ (rs : List ℕ). made (add_words P rs p.image)) (addresses_back p.relocations)
+      ap (λ (rs : List ℕ). made (add_words P rs (file_image p))) (addresses_back p.relocations)
+      ∙ ap made (add_words_front P p.written p.relocations p.image below)
+
+  -- the header asks for memory up to the end of the program's last paragraph
+  needed_is : needed_len (as_file p) ≡ 16 * ((length p.image + 15) / 16)
+  needed_is = omega (arith, length-image, w.written)
 
   pub loads_back : (P : ℕ) → Fits P p → loading P (as_file p) ≡ Ok (moved P p)
   loads_back P fits =
       let answer : Loaded → Result Loaded LoadFault = λ l. Ok l in
-      does_fit P (as_file p) fits.1 ∙ ap answer (loaded_back P)
+      does_fit P (as_file p) (omega (arith, needed_is, fits.1)) ∙ ap answer (loaded_back P)
+
+  pub refuses : (P : ℕ) → memory_len < 16 * P + length p.image → loading P (as_file p) ≡ Err DoesNotFit
+  refuses P above = does_not_fit P (as_file p) (omega (arith, needed_is, above))
 
   pub memory_back : (rest : List ℕ) (P : ℕ) → memory P (written p ++ rest) ≡ moved P p
   memory_back rest P =

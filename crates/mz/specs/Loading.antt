@@ -1,5 +1,5 @@
 -- The memory after a file was loaded at a paragraph P, and the registers, as Microsoft published the EXE file.
-use Rattle.std.specs.Prelude.{◌≡◌, ℕ, ◌+◌, ◌*◌, ◌%◌, nat_le, if◌then◌else◌, List, map, length, Ok, Err}
+use Rattle.std.specs.Prelude.{◌≡◌, ℕ, ◌+◌, ◌*◌, ◌/◌, ◌%◌, max, nat_le, if◌then◌else◌, List, map, length, Ok, Err}
 use Rattle.std.specs.declared.result.Result.{Result}
 use Rattle.omf_image.specs.Words.{add_words}
 use Rattle.mz.specs.declared.fault.LoadFault.{LoadFault}
@@ -30,11 +30,16 @@ loaded P f = record {
 abbrev pub memory_len : ℕ
 memory_len = 1048576
 
+-- how many bytes the program needs from the first of its image on: the image, and the extra paragraphs that the header asks
+-- for at least, counted from the end of the image's whole paragraphs
+abbrev pub needed_len : MzFile → ℕ
+needed_len f = max (length f.image) (16 * (length f.image / 16 + f.header.least_extra_paragraphs))
+
 -- what loading a file at paragraph P answers
 unfoldable pub loading : (P : ℕ) → MzFile → Result Loaded LoadFault
-loading P f = if nat_le (16 * P + length f.image) memory_len then Ok (loaded P f) else Err DoesNotFit
+loading P f = if nat_le (16 * P + needed_len f) memory_len then Ok (loaded P f) else Err DoesNotFit
 
--- the answer is that one, unless there was no memory for an image that fits
+-- the answer is that one, unless there was no memory for a program that fits
 abbrev pub Loads : Result Loaded LoadFault → Result Loaded LoadFault → Type 0
 Loads (Ok l) expected = expected ≡ Ok l
 Loads (Err DoesNotFit) expected = expected ≡ Err DoesNotFit

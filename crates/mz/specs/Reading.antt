@@ -76,7 +76,8 @@ abbrev pub TakesUpTo : Option (List ℕ) → Option (List ℕ) → ℕ → Type 
 TakesUpTo old new n = (front : List ℕ) × Consumes old new front × (length front ≤ n)
 
 -- The bytes that the header tells were taken and no more; of a file that is cut off all; after a fault in the header at
--- most its words. Where the source failed or there was no memory, no byte was taken that reading it whole would leave.
+-- most its words. Where the source failed or there was no memory, no byte was taken that reading it whole would leave;
+-- only a source that failed may tell nothing afterwards.
 abbrev pub Takes : Option (List ℕ) → Option (List ℕ) → Result MzFile MzFault → Type 0
 Takes old new (Ok file) = IfSome old (λ b. Consumes old new (take (told_len (header_at b)) b))
 Takes old new (Err Magic) = TakesUpTo old new 28
@@ -84,4 +85,4 @@ Takes old new (Err Header) = TakesUpTo old new 28
 Takes old new (Err Truncated) = IfSome old (Consumes old new)
 Takes old new (Err RelocationOutside) = IfSome old (λ b. Consumes old new (take (told_len (header_at b)) b))
 Takes old new (Err Device) = IfSome old (λ b. TakesAtMost old new (reach (reading b) b))
-Takes old new (Err Memory) = IfSome old (λ b. TakesAtMost old new (reach (reading b) b))
+Takes old new (Err Memory) = IfSome old (λ b. TakesUpTo old new (reach (reading b) b))

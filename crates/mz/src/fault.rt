@@ -39,7 +39,7 @@ impl From<AllocError> for MzFault {
 /// Why a file wasn't loaded.
 #[derive(Clone, Copy, Debug, PartialEq, Eq, Error)]
 pub enum LoadFault {
-    /// The image would end above the memory of 1,048,576 bytes: fault 39.
+    /// The image, or the least extra paragraphs behind it, would end above the memory of 1,048,576 bytes: fault 39.
     #[error("the program doesn't fit at this paragraph")]
     DoesNotFit,
     /// There was no memory.

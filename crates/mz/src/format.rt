@@ -31,7 +31,7 @@ pub struct Header {
     pub relocation_count: u16,
     /// The header's paragraphs of 16 bytes, the relocation table included (`e_cparhdr`).
     pub header_paragraphs: u16,
-    /// The paragraphs that the program needs at least behind its image (`e_minalloc`).
+    /// The paragraphs that the program needs at least behind the whole paragraphs of its image (`e_minalloc`).
     pub least_extra_paragraphs: u16,
     /// The paragraphs that the program wants at most behind its image (`e_maxalloc`).
     pub greatest_extra_paragraphs: u16,

@@ -3,7 +3,7 @@ ghost use Rattle.std.specs.Prelude.{◌≡◌, ◌+◌, ◌≤◌, length, map, 
 ghost use Rattle.std.specs.List.{list_all};
 ghost use Rattle.omf_image.specs.Words.{add_word, add_words};
 ghost use Rattle.mz.specs.Header.{entry_address, is_inside};
-ghost use Rattle.mz.specs.Loading.{Loaded as PlainLoaded, loading, Loads};
+ghost use Rattle.mz.specs.Loading.{Loaded as PlainLoaded, needed_len, loading, Loads};
 
 use crate::fault::LoadFault;
 use crate::format::{Entry, PARAGRAPH_LEN, word};
@@ -90,8 +90,19 @@ fn relocate(bytes: &mut [u8], entries: &[Entry], paragraph: u16)
     }
 }
 
+/// How many bytes the program needs from the first of its image on: the image, and the extra paragraphs that the header asks
+/// for at least, counted from the end of the image's whole paragraphs.
+fn needed_len<A: Allocator + Copy>(file: &MzFile<A>) -> usize
+    ensures { result ≡ needed_len file.now }
+{
+    let len = file.image().len();
+    let extra = usize::from(file.header().least_extra_paragraphs);
+    len.max(PARAGRAPH_LEN * (len / PARAGRAPH_LEN + extra))
+}
+
 /// Loads a file at a paragraph: the image stands at address 16 times the paragraph, which is added to the word of each
-/// entry and to CS and SS, modulo 65,536. It is refused exactly where the image would end above 1,048,576 bytes.
+/// entry and to CS and SS, modulo 65,536. It is refused exactly where the image, or the least extra paragraphs that the
+/// header asks for behind its whole paragraphs, would end above 1,048,576 bytes.
 pub fn load<A: Allocator + Copy, B: Allocator + Copy>(
     alloc: A,
     file: &MzFile<B>,
@@ -100,7 +111,7 @@ pub fn load<A: Allocator + Copy, B: Allocator + Copy>(
     ensures { Loads result (loading paragraph file.now) }
 {
     let start = PARAGRAPH_LEN * usize::from(paragraph);
-    if file.image().len() > MEMORY_LEN - start {
+    if needed_len(file) > MEMORY_LEN - start {
         return Err(LoadFault::DoesNotFit);
     }
     let mut bytes = Vec::from_slice(alloc, file.image())?;

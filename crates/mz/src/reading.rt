@@ -1,7 +1,9 @@
 //! Reading a file.
-ghost use Rattle.std.specs.Prelude.{◌≡◌, ◌+◌, ◌-◌, ◌*◌, ◌^◌, ◌<◌, ◌≤◌, length, vec_len, IfOk, IfErr, OnOk, OnErr, IfSome, IsTrue};
+ghost use Rattle.std.specs.Prelude.{◌≡◌, ℕ, List, ◌+◌, ◌-◌, ◌*◌, ◌^◌, ◌<◌, ◌≤◌, length, vec_len, IfOk, IfErr, OnOk, OnErr, IfSome, IsTrue};
 ghost use Rattle.std.specs.List.{list_all};
+ghost use Rattle.std.specs.Io.KnownBytes.{Consumes};
 ghost use Rattle.omf_frame.specs.Device.{TakesAtMost};
+ghost use Rattle.mz.specs.declared.fault.MzFault.TheVariants.{Memory};
 ghost use Rattle.mz.specs.Header.{header_len, told_len, is_accepted, is_inside};
 ghost use Rattle.mz.specs.Reading.{entries_at, reading, Gives, failures_in, Takes};
 ghost use Rattle.mz.specs.Steps.{ReadsOn, Stops, header_in, file_in};
@@ -74,6 +76,7 @@ fn read_up_to<A: Allocator + Copy, S: Source>(
     ensures stops { IfErr result Stops }
     ensures read { OnOk result (ReadsOn len (S.remaining source.old) (S.remaining source.new) bytes.old.items bytes.new.items) }
     ensures failed { OnErr result (TakesAtMost (S.remaining source.old) (S.remaining source.new) (len - vec_len bytes.old)) }
+    ensures memory { IfErr result (λ e. e ≡ Memory → (more : List ℕ) × Consumes (S.remaining source.old) (S.remaining source.new) more) }
 {
     let mut piece = [0; PIECE_LEN];
     while bytes.len() < len {

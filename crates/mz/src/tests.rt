@@ -94,6 +94,23 @@ fn the_first_fault_is_named(rt: HostRuntime) -> Result<(), Fail> {
 }
 
 #[test]
+fn each_other_first_byte_is_refused(rt: HostRuntime) -> Result<(), Fail> {
+    for (at, own) in [(0, 0x4D), (1, 0x5A)] {
+        for value in 0..=255u8 {
+            if value == own {
+                continue;
+            }
+            let file = changed(rt.alloc(), at, &[value])?;
+            for piece in 1..4 {
+                let answer = fault_of(rt.alloc(), &file, piece, None);
+                assert_eq!(rt; answer, (Some(MzFault::Magic), 9), "{at} {value}");
+            }
+        }
+    }
+    Ok(())
+}
+
+#[test]
 fn a_header_without_relocations(rt: HostRuntime) -> Result<(), Fail> {
     // nothing looks at the table's place, nor at the words that are kept
     let mut bytes = changed(rt.alloc(), 6, &[0x00, 0x00])?;
@@ -140,6 +157,29 @@ fn entries_that_overlap_and_repeat(rt: HostRuntime) -> Result<(), Fail> {
         load(rt.alloc(), &file, 0xFFFF).err(),
         Some(LoadFault::DoesNotFit)
     );
+    Ok(())
+}
+
+#[test]
+fn extra_paragraphs(rt: HostRuntime) -> Result<(), Fail> {
+    // with this many least and greatest extra paragraphs the image of 5 bytes fits at a paragraph, and not at the next
+    let cases = [
+        ([2, 0, 0xFF, 0xFF], 0xFFFE),
+        ([2, 0, 0, 0], 0xFFFE),
+        ([0, 0x10, 0, 0], 0xF000),
+        ([0xFF, 0xFF, 0, 0], 1),
+    ];
+    for (extra, paragraph) in cases {
+        let bytes = changed(rt.alloc(), 10, extra.as_slice())?;
+        let mut source = MemSource::over(&bytes, 512, None);
+        let file = read_mz(rt.alloc(), &mut source).expect(&rt, "a file");
+        assert!(rt; load(rt.alloc(), &file, paragraph).is_ok(), "{extra:?}");
+        assert_eq!(rt;
+            load(rt.alloc(), &file, paragraph + 1).err(),
+            Some(LoadFault::DoesNotFit),
+            "{extra:?}"
+        );
+    }
     Ok(())
 }
 

@@ -4,7 +4,7 @@ ghost use Rattle.std.specs.Io.KnownBytes.{Appends};
 ghost use Rattle.omf_frame.specs.Device.{AppendsFront};
 ghost use Rattle.omf_image.specs.Program.{IsProgram};
 ghost use Rattle.mz.specs.Header.{entry_bytes};
-ghost use Rattle.mz.specs.File.{table, Mz, written, header_of, entry_of, paragraphs, padding};
+ghost use Rattle.mz.specs.File.{table, Mz, written, file_image, header_of, entry_of, paragraphs, padding};
 ghost use Rattle.mz.specs.declared.fault.MzFault.TheVariants.{Device};
 
 use crate::fault::MzFault;
@@ -26,13 +26,15 @@ fn header_of<A: Allocator + Copy>(program: &Program<A>) -> Header
 {
     let count = program.relocations().len();
     let paragraphs = (HEADER_LEN + ENTRY_LEN * count).div_ceil(PARAGRAPH_LEN);
-    let len = PARAGRAPH_LEN * paragraphs + program.size() as usize;
+    let size = program.size() as usize;
+    let written = program.written() as usize;
+    let len = PARAGRAPH_LEN * paragraphs + written;
     Header {
         last_page_bytes: (len % PAGE_LEN) as u16,
         pages: len.div_ceil(PAGE_LEN) as u16,
         relocation_count: count as u16,
         header_paragraphs: paragraphs as u16,
-        least_extra_paragraphs: 0,
+        least_extra_paragraphs: (size.div_ceil(PARAGRAPH_LEN) - written / PARAGRAPH_LEN) as u16,
         greatest_extra_paragraphs: u16::MAX,
         ss: program.ss(),
         sp: program.sp(),
@@ -80,21 +82,23 @@ fn put_table<K: Sink>(addresses: &[u32], sink: &mut K) -> Result<(), IoFault>
     Ok(())
 }
 
-/// Writes the image, piece by piece.
+/// Writes the written part of the image, piece by piece.
 fn put_image<A: Allocator + Copy, K: Sink>(
     program: &Program<A>,
     sink: &mut K,
 ) -> Result<(), IoFault>
     requires { K.failures sink.old < 2 ^ 64 - 1 }
     ensures count { K.failures sink.new ≡ K.failures sink.old + (if is_ok result then 0 else 1) }
-    ensures appended { OnOk result (Appends (K.written sink.old) (K.written sink.new) program.now.image) }
-    ensures failed { OnErr result (AppendsFront (K.written sink.old) (K.written sink.new) program.now.image) }
+    ensures appended { OnOk result (Appends (K.written sink.old) (K.written sink.new) (file_image program.now)) }
+    ensures failed { OnErr result (AppendsFront (K.written sink.old) (K.written sink.new) (file_image program.now)) }
 {
     let mut at = 0;
-    while at < program.size() {
+    let end = program.written();
+    while at < end {
         let piece = program.piece(at);
-        put_all(sink, piece)?;
-        at += piece.len() as u32;
+        let len = piece.len().min((end - at) as usize);
+        put_all(sink, &piece[..len])?;
+        at += len as u32;
     }
     Ok(())
 }
@@ -116,7 +120,8 @@ fn put_file<A: Allocator + Copy, K: Sink>(program: &Program<A>, sink: &mut K) ->
     put_image(program, sink)
 }
 
-/// Writes the file of a program: the header, the relocation table and the image, which is written piece by piece.
+/// Writes the file of a program: the header, the relocation table and the written part of the image, which goes out piece
+/// by piece. The header asks for the memory behind it, which the loader doesn't clear.
 /// The only fault is `Device`, where the sink failed; it then holds a front of the file. No memory is taken.
 pub fn write_mz<A: Allocator + Copy, K: Sink>(
     program: &Program<A>,

@@ -9,7 +9,8 @@ use Rattle.mz.proofs.reading.read_mz.Goals as goal
 pub returns-in_err-read_up_to-clause-stands : goal.returns-in_err-read_up_to-clause-stands
 returns-in_err-read_up_to-clause-stands g c =
     let p = err_from_is_err_and c.from_residual.result c.from_residual.ensures.1 in
-    subst (Takes _ _) (sym (p.1 ∙ ap Err p.2)) (first_stops _ _ c.in_err-read_up_to.field-0.0 c.in_err-read_up_to.ensures.stops (TakesAtMost-more _ _ _ 28 c.in_err-read_up_to.ensures.failed (omega arith)))
+    subst (Takes _ _) (sym (p.1 ∙ ap Err p.2)) (first_stops _ _ c.in_err-read_up_to.field-0.0 c.in_err-read_up_to.ensures.stops (TakesAtMost-more _ _ _ 28 c.in_err-read_up_to.ensures.failed (omega arith))
+    c.in_err-read_up_to.ensures.memory)
 
 pub returns-in_err-header-clause-exact : goal.returns-in_err-header-clause-exact
 returns-in_err-header-clause-exact g c =
@@ -29,7 +30,7 @@ returns-in_err-read_up_to-2-clause-stands g c =
     let given : header_in c.read_up_to.new.bytes.items ≡ Ok c.in_ok-header.header = sym (c.in_ok-header.ensures ∙ ap header_in c.deref.ensures.value) in
     subst (Takes _ _) (sym (p.1 ∙ ap Err p.2))
     (second_stops _ _ _ c.new-bytes.result.items c.read_up_to.new.bytes.items c.in_ok-header.header c.in_err-read_up_to-2.field-0.0 _ c.new-bytes.ensures.items c.in_ok-read_up_to.ensures.read given
-    c.in_err-read_up_to-2.ensures.stops (omega arith) c.in_err-read_up_to-2.ensures.failed)
+    c.in_err-read_up_to-2.ensures.stops (omega arith) c.in_err-read_up_to-2.ensures.failed c.in_err-read_up_to-2.ensures.memory)
 
 pub returns-then-len-clause-exact : goal.returns-then-len-clause-exact
 returns-then-len-clause-exact g c =
