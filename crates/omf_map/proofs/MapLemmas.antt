@@ -8,11 +8,12 @@ use Rattle.omf_frame.specs.Device.{AppendsFront}
 use Rattle.omf_frame.proofs.Told.{Appends-trans}
 use Rattle.omf_text.proofs.PrintLemmas.{flat_map-take_more, item_cut}
 
-item_more : {X : Type 0} (f : X → List ℕ) (xs : List X) (i : ℕ) (d : X) (a b c : Option (List ℕ)) → i < length xs
+-- the text of one more item was written
+pub item_more : {X : Type 0} (f : X → List ℕ) (xs : List X) (i : ℕ) (d : X) (a b c : Option (List ℕ)) → i < length xs
     → Appends a b (flat_map f (take i xs)) → Appends b c (f (get_or xs i d)) → Appends a c (flat_map f (take (i + 1) xs))
 item_more f xs i d a b c h p q = subst (Appends a c) (sym (flat_map-take_more f xs i d h)) (Appends-trans a b c _ _ p q)
 
--- the text of one more item was written
+-- where the item is read by a look-up
 pub read_more : {X : Type 0} (f : X → List ℕ) (xs : List X) (i : ℕ) (x : X) (a b c : Option (List ℕ)) → slice_get xs i ≡ Some x
     → Appends a b (flat_map f (take i xs)) → Appends b c (f x) → Appends a c (flat_map f (take (i + 1) xs))
 read_more f xs i x a b c e p q =

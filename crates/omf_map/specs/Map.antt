@@ -1,6 +1,6 @@
 -- The map of a linked program: its segments, groups and publics, where it starts, and its size. What is out of range in a
 -- table has no line.
-use Rattle.std.specs.Prelude.{ℕ, ◌+◌, ◌-◌, ◌*◌, List, [], ◌∷◌, ◌++◌, length, slice_get, Some, None, codes, decimal}
+use Rattle.std.specs.Prelude.{ℕ, if◌then◌else◌, ◌+◌, ◌-◌, ◌*◌, List, [], ◌∷◌, ◌++◌, length, slice_get, Some, None, codes, decimal}
 use Rattle.std.specs.declared.option.Option.{Option}
 use Rattle.std.specs.List.{concat, flat_map}
 use Rattle.std.specs.Option.{option_and_then, option_map_or}
@@ -64,9 +64,9 @@ address_text (address.Absolute a) = concat (hexadecimal 6 a ∷ codes " A" ∷ [
 abbrev pub placed_public : List ℕ → PublicPlace → List ℕ
 placed_public name p = concat (address_text p.address ∷ codes " " ∷ printed_name name ∷ codes "\n" ∷ [])
 
--- a public stands where its name does
+-- a public stands where its name does; a local one isn't listed
 unfoldable pub public_line : Layout → PublicSymbol → List ℕ
-public_line layout p = option_map_or (placed_public p.name) (public layout p.name) []
+public_line layout p = if p.local then [] else option_map_or (placed_public p.name) (public layout p.name) []
 
 -- ---- the map
 

@@ -165,6 +165,9 @@ fn put_public<K: Sink, A: Allocator + Copy>(
     ensures appended { OnOk result (Appends (K.written sink.old) (K.written sink.new) (spec.public_line layout.now (public_seen symbol.now))) }
     ensures failed { OnErr result (AppendsFront (K.written sink.old) (K.written sink.new) (spec.public_line layout.now (public_seen symbol.now))) }
 {
+    if symbol.local {
+        return Ok(());
+    }
     let Some(place) = layout.public(symbol.name) else {
         return Ok(());
     };

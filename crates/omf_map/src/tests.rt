@@ -5,7 +5,7 @@ use crate::put_map;
 use omf_frame::{IoFault, MemSink, MemSource};
 use omf_image::{Program, build};
 use omf_module::{Module, read_module};
-use omf_place::{Layout, place};
+use omf_place::{Layout, Names, place};
 use std::alloc::{AllocError, Global};
 use std::process::Abort;
 use std::test::*;
@@ -125,6 +125,28 @@ size 000115
 relocations 0
 ";
 
+/// A public, and local publics of its name and of another one.
+const LOCALS: [(u8, &[u8]); 6] = [
+    HEADER,
+    (0x96, b"\x00\x04CODE"),
+    (0x98, &[0x28, 4, 0, 2, 1, 1]),
+    (0xB6, b"\x00\x01\x01x\x02\x00\x00\x01y\x03\x00\x00"),
+    (0x90, b"\x00\x01\x01x\x01\x00\x00"),
+    END,
+];
+
+const LOCALS_MAP: &str = "\
+segments
+000000 000004 public   \"CODE\" \"\"
+groups
+publics
+000001 R \"x\"
+entry 0000:0000
+stack 0000:0000
+size 000004
+relocations 0
+";
+
 /// The most bytes of a map here.
 const ROOM: usize = 500;
 
@@ -154,7 +176,7 @@ fn read_bytes(alloc: Global, bytes: &[u8]) -> Result<Module, Fail> {
 }
 
 fn link_modules(alloc: Global, modules: Vec<Module>) -> Result<Linked, Fail> {
-    let layout = place(alloc, modules.as_slice())?;
+    let layout = place(alloc, modules.as_slice(), Names::Exact)?;
     let program = build(alloc, modules.as_slice(), &layout)?;
     Ok(Linked {
         modules,
@@ -197,10 +219,11 @@ fn maps<R: Abort>(rt: &R, linked: &Linked, map: &str, piece: usize) -> Result<()
 
 #[test]
 fn programs_have_maps(rt: HostRuntime) -> Result<(), Fail> {
-    let rows: [(&[Records<'_>], &str); 3] = [
+    let rows: [(&[Records<'_>], &str); 4] = [
         (&[&DATA_USER, &DATA_OWNER], GROUPED_MAP),
         (&[&ABSOLUTE], ABSOLUTE_MAP),
         (&[&MIXED, &LONGER], MIXED_MAP),
+        (&[&LOCALS], LOCALS_MAP),
     ];
     for (inputs, map) in rows {
         let linked = link_records(rt.alloc(), inputs)?;

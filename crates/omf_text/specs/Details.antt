@@ -82,11 +82,16 @@ group_line name = line (codes "group " ∷ decimal name ∷ [])
 abbrev pub component_line : ℕ → List ℕ
 component_line segment = line (codes "segment " ∷ decimal segment ∷ [])
 
-abbrev pub external_line : External → List ℕ
-external_line e = line (codes "external " ∷ printed_name e.name ∷ codes " type " ∷ decimal e.type_index ∷ [])
+-- the word before a name that is local to its module
+abbrev pub scope : (local : Bool) → List ℕ
+scope true = codes "local "
+scope false = []
 
-abbrev pub public_line : Public → List ℕ
-public_line p = line (codes "public " ∷ printed_name p.name ∷ codes " offset " ∷ hexadecimal 4 p.offset ∷ codes " type " ∷ decimal p.type_index ∷ [])
+abbrev pub external_line : (local : Bool) → External → List ℕ
+external_line local e = line (scope local ∷ codes "external " ∷ printed_name e.name ∷ codes " type " ∷ decimal e.type_index ∷ [])
+
+abbrev pub public_line : (local : Bool) → Public → List ℕ
+public_line local p = line (scope local ∷ codes "public " ∷ printed_name p.name ∷ codes " offset " ∷ hexadecimal 4 p.offset ∷ codes " type " ∷ decimal p.type_index ∷ [])
 
 abbrev pub number_line : Line → List ℕ
 number_line l = line (codes "line " ∷ decimal l.number ∷ codes " offset " ∷ hexadecimal 4 l.offset ∷ [])
@@ -125,8 +130,8 @@ details (Coment kind class bytes) = line (codes "comment " ∷ hexadecimal 2 kin
 details (Lnames names) = flat_map name_line names
 details (Segdef segment) = segment_line segment
 details (Grpdef name segments) = group_line name ++ flat_map component_line segments
-details (Extdef local names) = flat_map external_line names
-details (Pubdef local base publics) = public_base base ++ flat_map public_line publics
+details (Extdef local names) = flat_map (external_line local) names
+details (Pubdef local base publics) = public_base base ++ flat_map (public_line local) publics
 details (Linnum group segment lines) = base_line group segment [] ++ flat_map number_line lines
 details (Ledata segment offset bytes) =
     line (codes "data segment " ∷ decimal segment ∷ codes " offset " ∷ hexadecimal 4 offset ∷ codes " bytes " ∷ decimal (length bytes) ∷ [])

@@ -289,38 +289,6 @@ impl<'a, K: Sink> Printed<K> for &'a [u8] {
     }
 }
 
-impl<'a, K: Sink> Printed<K> for External<'a> {
-    ghost text = { λ external. spec.external_line (external_view external) };
-
-    fn put(&self, sink: &mut K) -> Result<(), IoFault> {
-        let pieces = [
-            Piece::Text("  external "),
-            Piece::Name(self.name),
-            Piece::Text(" type "),
-            Piece::Index(self.type_index),
-            Piece::Text("\n"),
-        ];
-        put_each(sink, pieces.as_slice())
-    }
-}
-
-impl<'a, K: Sink> Printed<K> for Public<'a> {
-    ghost text = { λ public. spec.public_line (public_view public) };
-
-    fn put(&self, sink: &mut K) -> Result<(), IoFault> {
-        let pieces = [
-            Piece::Text("  public "),
-            Piece::Name(self.name),
-            Piece::Text(" offset "),
-            Piece::Word(self.offset),
-            Piece::Text(" type "),
-            Piece::Index(self.type_index),
-            Piece::Text("\n"),
-        ];
-        put_each(sink, pieces.as_slice())
-    }
-}
-
 impl<K: Sink> Printed<K> for Line {
     ghost text = { spec.number_line };
 
@@ -372,13 +340,41 @@ fn put_names<K: Sink>(sink: &mut K, names: &[&[u8]]) -> Result<(), IoFault>
     put_each(sink, names)
 }
 
-fn put_externals<K: Sink>(sink: &mut K, names: &[External<'_>]) -> Result<(), IoFault>
+// The word before a name that is local to its module.
+fn scope(local: bool) -> &'static str
+    ensures { result.now ≡ spec.scope local }
+{
+    if local { "local " } else { "" }
+}
+
+fn put_external<K: Sink>(sink: &mut K, local: bool, external: &External<'_>) -> Result<(), IoFault>
     requires { K.failures sink.old < 2 ^ 64 - 1 }
     ensures count { K.failures sink.new ≡ K.failures sink.old + (if is_ok result then 0 else 1) }
-    ensures appended { OnOk result (Appends (K.written sink.old) (K.written sink.new) (flat_map spec.external_line (map external_view names.now))) }
-    ensures failed { OnErr result (AppendsFront (K.written sink.old) (K.written sink.new) (flat_map spec.external_line (map external_view names.now))) }
+    ensures appended { OnOk result (Appends (K.written sink.old) (K.written sink.new) (spec.external_line local (external_view external.now))) }
+    ensures failed { OnErr result (AppendsFront (K.written sink.old) (K.written sink.new) (spec.external_line local (external_view external.now))) }
 {
-    put_each(sink, names)
+    let pieces = [
+        Piece::Text("  "),
+        Piece::Text(scope(local)),
+        Piece::Text("external "),
+        Piece::Name(external.name),
+        Piece::Text(" type "),
+        Piece::Index(external.type_index),
+        Piece::Text("\n"),
+    ];
+    put_each(sink, pieces.as_slice())
+}
+
+fn put_externals<K: Sink>(sink: &mut K, local: bool, names: &[External<'_>]) -> Result<(), IoFault>
+    requires { K.failures sink.old < 2 ^ 64 - 1 }
+    ensures count { K.failures sink.new ≡ K.failures sink.old + (if is_ok result then 0 else 1) }
+    ensures appended { OnOk result (Appends (K.written sink.old) (K.written sink.new) (flat_map (spec.external_line local) (map external_view names.now))) }
+    ensures failed { OnErr result (AppendsFront (K.written sink.old) (K.written sink.new) (flat_map (spec.external_line local) (map external_view names.now))) }
+{
+    for external in names {
+        put_external(sink, local, external)?;
+    }
+    Ok(())
 }
 
 #[tactic(auto, unfolding(crate::specs::Details::details))]
@@ -402,18 +398,55 @@ fn put_group<K: Sink>(sink: &mut K, name: u16, segments: &[u16]) -> Result<(), I
     put_each(sink, segments)
 }
 
+fn put_public<K: Sink>(sink: &mut K, local: bool, public: &Public<'_>) -> Result<(), IoFault>
+    requires { K.failures sink.old < 2 ^ 64 - 1 }
+    ensures count { K.failures sink.new ≡ K.failures sink.old + (if is_ok result then 0 else 1) }
+    ensures appended { OnOk result (Appends (K.written sink.old) (K.written sink.new) (spec.public_line local (public_view public.now))) }
+    ensures failed { OnErr result (AppendsFront (K.written sink.old) (K.written sink.new) (spec.public_line local (public_view public.now))) }
+{
+    let pieces = [
+        Piece::Text("  "),
+        Piece::Text(scope(local)),
+        Piece::Text("public "),
+        Piece::Name(public.name),
+        Piece::Text(" offset "),
+        Piece::Word(public.offset),
+        Piece::Text(" type "),
+        Piece::Index(public.type_index),
+        Piece::Text("\n"),
+    ];
+    put_each(sink, pieces.as_slice())
+}
+
+fn put_public_lines<K: Sink>(
+    sink: &mut K,
+    local: bool,
+    publics: &[Public<'_>],
+) -> Result<(), IoFault>
+    requires { K.failures sink.old < 2 ^ 64 - 1 }
+    ensures count { K.failures sink.new ≡ K.failures sink.old + (if is_ok result then 0 else 1) }
+    ensures appended { OnOk result (Appends (K.written sink.old) (K.written sink.new) (flat_map (spec.public_line local) (map public_view publics.now))) }
+    ensures failed { OnErr result (AppendsFront (K.written sink.old) (K.written sink.new) (flat_map (spec.public_line local) (map public_view publics.now))) }
+{
+    for public in publics {
+        put_public(sink, local, public)?;
+    }
+    Ok(())
+}
+
 fn put_publics<K: Sink>(
     sink: &mut K,
+    local: bool,
     base: PublicBase,
     publics: &[Public<'_>],
 ) -> Result<(), IoFault>
     requires { K.failures sink.old < 2 ^ 64 - 1 }
     ensures count { K.failures sink.new ≡ K.failures sink.old + (if is_ok result then 0 else 1) }
-    ensures appended { OnOk result (Appends (K.written sink.old) (K.written sink.new) (spec.public_base base ++ flat_map spec.public_line (map public_view publics.now))) }
-    ensures failed { OnErr result (AppendsFront (K.written sink.old) (K.written sink.new) (spec.public_base base ++ flat_map spec.public_line (map public_view publics.now))) }
+    ensures appended { OnOk result (Appends (K.written sink.old) (K.written sink.new) (spec.public_base base ++ flat_map (spec.public_line local) (map public_view publics.now))) }
+    ensures failed { OnErr result (AppendsFront (K.written sink.old) (K.written sink.new) (spec.public_base base ++ flat_map (spec.public_line local) (map public_view publics.now))) }
 {
     put_base(sink, base)?;
-    put_each(sink, publics)
+    put_public_lines(sink, local, publics)
 }
 
 #[tactic(auto, unfolding(crate::specs::Details::details))]
@@ -446,12 +479,12 @@ pub fn put_details<K: Sink, A: Allocator + Copy>(
             main,
             start: Some(start),
         } => put_start(sink, *main, *start),
-        Record::Extdef { local: _, names } => put_externals(sink, names),
+        Record::Extdef { local, names } => put_externals(sink, *local, names),
         Record::Pubdef {
-            local: _,
+            local,
             base,
             publics,
-        } => put_publics(sink, *base, publics),
+        } => put_publics(sink, *local, *base, publics),
         Record::Linnum {
             group,
             segment,

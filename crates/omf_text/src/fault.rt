@@ -24,7 +24,7 @@ pub enum RecordFault {
     /// The closing byte isn't 0, and the record's sum isn't 0 modulo 256.
     #[error("its closing byte is wrong")]
     Closing,
-    /// The type isn't one of the twelve.
+    /// The type isn't one of the fourteen.
     #[error("its type is unknown")]
     Type,
     /// The body isn't one of its type; `at` is the place in the body, in bytes.
@@ -81,7 +81,7 @@ pub enum RecordFault {
     /// The external of a frame or target has no public.
     #[error("an external has no public")]
     Unresolved,
-    /// A frame or target is a group without members, or that of a public of one.
+    /// The group that gives the frame or is the target has no members, or that of the public that gives the frame.
     #[error("a group has no members")]
     EmptyGroup,
     /// A distance would depend on where the program is loaded.

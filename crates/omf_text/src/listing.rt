@@ -15,7 +15,7 @@ const NAME_WIDTH: usize = 7;
 /// The printed width of a body's length.
 const LENGTH_WIDTH: usize = 5;
 
-/// The name of a record's type, empty where the type isn't one of the twelve.
+/// The name of a record's type, empty where the type isn't one of the fourteen.
 #[tactic(auto, unfolding(crate::specs::Listing::record_name))]
 pub fn record_name(kind: u8) -> &'static str
     ensures { result.now ≡ spec.record_name kind }
@@ -33,6 +33,8 @@ pub fn record_name(kind: u8) -> &'static str
         0x9C => "FIXUPP",
         0xA0 => "LEDATA",
         0xA2 => "LIDATA",
+        0xB4 => "LEXTDEF",
+        0xB6 => "LPUBDEF",
         _ => "",
     }
 }

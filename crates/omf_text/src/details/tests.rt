@@ -53,7 +53,7 @@ fn lines_of_names_and_comments(rt: HostRuntime) -> Result<(), Fail> {
 
 #[test]
 fn lines_of_definitions(rt: HostRuntime) -> Result<(), Fail> {
-    let rows: [Row<'_>; 12] = [
+    let rows: [Row<'_>; 14] = [
         (
             0x98,
             &[0x2A, 0x00, 0x00, 0x02, 0x01, 0x01],
@@ -97,6 +97,16 @@ fn lines_of_definitions(rt: HostRuntime) -> Result<(), Fail> {
             0x90,
             &[0x02, 0x03, 0x01, 0x78, 0x0A, 0xB0, 0x01],
             "  base group 2 segment 3\n  public \"x\" offset B00A type 1\n",
+        ),
+        (
+            0xB4,
+            &[0x01, 0x78, 0x00, 0x00, 0x07],
+            "  local external \"x\" type 0\n  local external \"\" type 7\n",
+        ),
+        (
+            0xB6,
+            &[0x02, 0x03, 0x01, 0x78, 0x0A, 0xB0, 0x01],
+            "  base group 2 segment 3\n  local public \"x\" offset B00A type 1\n",
         ),
         (
             0x94,

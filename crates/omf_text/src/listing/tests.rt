@@ -9,6 +9,8 @@ fn head_lines_have_columns(rt: HostRuntime) -> Result<(), Fail> {
         (6, 0x96, 6, "00000006 96 LNAMES      6\n"),
         (0x1A, 0xA2, 17, "0000001A A2 LIDATA     17\n"),
         (0x2F, 0x8A, 6, "0000002F 8A MODEND      6\n"),
+        (0x1A, 0xB4, 3, "0000001A B4 LEXTDEF     3\n"),
+        (0x21, 0xB6, 7, "00000021 B6 LPUBDEF     7\n"),
         (4_294_901_759, 0x88, 65_534, "FFFEFFFF 88 COMENT  65534\n"),
     ];
     for (place, kind, length, line) in rows {
