@@ -1,6 +1,7 @@
 -- Reading inputs one after the other.
 use Rattle.std.proofs.Common.{◌≡◌, ℕ, suc, ◌+◌, ◌<◌, ◌≤◌, List, [], ◌∷◌, ◌++◌, length, get_or, take, drop, set, refl, sym, ap, ap₂, subst, ◌∙◌, arith, Ok, Err, take-append-drop, inl}
 use Rattle.std.specs.declared.option.Option.{Option}
+use Rattle.std.specs.Io.KnownBytes.{Consumes}
 use Rattle.std.proofs.lemmas.List.{take_more, take_more_set, take_all, drop-set-lt, get_or-drop, drop-drop, set_split, length-set, length-take-le, map-append}
 use Rattle.std.proofs.Math.Seq.{drop-cons}
 use Rattle.omf_module.specs.declared.fault.FaultKind.{FaultKind}
@@ -116,6 +117,15 @@ module _ {S : Type 0} (told : S → Option (List ℕ)) (failures : S → ℕ) wh
       → (rs : List Placed) × IsInput told failures rs old new × (m ≡ module_of rs)
   unfolding Reads
   read_input m old new reads works = (reads.0, record { bytes = reads.1; whole = reads.2; taken = reads.3; works = omega (arith, works) }, reads.4)
+
+  -- an input that was read is finished
+  pub finished : (rs : List Placed) (old mid new : S) → told new ≡ told mid → failures new ≡ failures mid → IsInput told failures rs old mid → IsInput told failures rs old new
+  finished rs old mid new same works one = record {
+    bytes = one.bytes;
+    whole = one.whole;
+    taken = subst (λ rest. Consumes (told old) rest one.bytes) (sym same) one.taken;
+    works = works ∙ one.works;
+  }
 
 pub modules_push : (lists : List (List Placed)) (rs : List Placed) (ms : List Module) (m : Module) → ms ≡ modules_of lists → m ≡ module_of rs → ms ++ m ∷ [] ≡ modules_of (lists ++ rs ∷ [])
 modules_push lists rs ms m are is = ap₂ (λ xs x. xs ++ x ∷ []) are is ∙ sym (map-append module_of lists (rs ∷ []))

@@ -3,6 +3,7 @@ pub mod InputSteps
 pub mod LinkSteps
 pub mod Listed
 pub mod OneFile
+pub mod Outcome
 pub mod Placeless
 pub mod PlacelessChecks
 pub mod PlacelessLayout

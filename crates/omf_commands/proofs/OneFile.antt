@@ -5,6 +5,7 @@ use Rattle.std.proofs.lemmas.List.{ext_get_or, set-get_or}
 use Rattle.std.proofs.lemmas.List.Elements.{recursion_from_All}
 use Rattle.omf_module.specs.Module.{Module}
 use Rattle.omf_place.specs.Layout.{Layout}
+use Rattle.omf_place.specs.declared.names.Names.{Names}
 use Rattle.omf_image.specs.Building.{registers_of}
 use Rattle.omf_image.specs.Program.{Program, IsProgram}
 use Rattle.omf_image.specs.Records.{program_byte}
@@ -38,29 +39,32 @@ zero_words [] bytes small = refl
 zero_words (i ∷ is) bytes small = ap (add_words 0 is) (zero_word i bytes small) ∙ zero_words is bytes small
 
 -- a file doesn't tell which pages of the image were made
-abbrev parts : List ℕ → List ℕ → Registers → Program
-parts image relocations r = record { image = image; relocations = relocations; cs = r.cs; ip = r.ip; ss = r.ss; sp = r.sp; made = [] }
+abbrev parts : List ℕ → ℕ → List ℕ → Registers → Program
+parts image end relocations r = record { image = image; written = end; relocations = relocations; cs = r.cs; ip = r.ip; ss = r.ss; sp = r.sp; made = [] }
 
-written_parts : (p : Program) → written p ≡ written (parts p.image p.relocations (registers_of p))
+written_parts : (p : Program) → written p ≡ written (parts p.image p.written p.relocations (registers_of p))
 unfolding written
 written_parts p = refl
 
-image_byte : (modules : List Module) (layout : Layout) (p : Program) → IsLinked modules layout p → IsProgram p → (i : ℕ) → i < layout.size → get_or p.image i 0 ≡ program_byte 0 layout modules i
-image_byte modules layout p linked limits i h =
+image_byte : (names : Names) (modules : List Module) (layout : Layout) (p : Program) → IsLinked names modules layout p → IsProgram p → (i : ℕ) → i < layout.size → get_or p.image i 0 ≡ program_byte 0 layout modules i
+image_byte names modules layout p linked limits i h =
     ap (λ l. get_or l i 0) (sym (zero_words p.relocations p.image (recursion_from_All (λ b. b < 256) p.image limits.image))) ∙ linked.program.everywhere 0 i h
 
-same_written : (modules : List Module) (layout : Layout) (p q : Program) → IsLinked modules layout p → IsLinked modules layout q → IsProgram p → IsProgram q → written p ≡ written q
-same_written modules layout p q a b m n =
+same_written : (names : Names) (modules : List Module) (layout : Layout) (p q : Program) → IsLinked names modules layout p → IsLinked names modules layout q → IsProgram p → IsProgram q → written p ≡ written q
+same_written names modules layout p q a b m n =
     let long = a.program.sized ∙ sym b.program.sized in
     let image : p.image ≡ q.image = ext_get_or 0 p.image q.image long (λ i h.
     let below : i < layout.size = subst (λ k. i < k) a.program.sized h in
-    image_byte modules layout p a m i below ∙ sym (image_byte modules layout q b n i below)) in
+    image_byte names modules layout p a m i below ∙ sym (image_byte names modules layout q b n i below)) in
     let relocations : p.relocations ≡ q.relocations = a.program.listed ∙ sym b.program.listed in
     let registers : registers_of p ≡ registers_of q = sym a.program.at_zero ∙ b.program.at_zero in
-    written_parts p ∙ (ap₂ (λ x y. written (parts x y (registers_of p))) image relocations ∙ (ap (λ r. written (parts q.image q.relocations r)) registers ∙ sym (written_parts q)))
+    let ends : p.written ≡ q.written = a.program.written ∙ sym b.program.written in
+    written_parts p
+    ∙ (ap₂ (λ x y. written (parts x p.written y (registers_of p))) image relocations
+    ∙ (ap₂ (λ n r. written (parts q.image n q.relocations r)) ends registers ∙ sym (written_parts q)))
 
-pub same_file : (modules : List Module) (file other : List ℕ) → IsFileOf modules file → IsFileOf modules other → file ≡ other
-same_file modules file other (layout, p, a, m) (layout', q, b, n) =
+pub same_file : (names : Names) (modules : List Module) (file other : List ℕ) → IsFileOf names modules file → IsFileOf names modules other → file ≡ other
+same_file names modules file other (layout, p, a, m) (layout', q, b, n) =
     let same : layout' ≡ layout = a.is_layout.1 layout' b.is_layout.0 in
-    let b' = subst (λ l. IsLinked modules l q) same b in
-    m.1 ∙ (same_written modules layout p q a b' m.0 n.0 ∙ sym n.1)
+    let b' = subst (λ l. IsLinked names modules l q) same b in
+    m.1 ∙ (same_written names modules layout p q a b' m.0 n.0 ∙ sym n.1)

@@ -1,6 +1,7 @@
 -- A layout doesn't tell where the records of its modules stand.
 use Rattle.std.proofs.Common.{◌≡◌, ℕ, ◌+◌, List, [], ◌∷◌, ◌++◌, map, length, Option, None, Some, slice_get, refl, sym, ap, subst, ◌∙◌, option_map, option_and_then}
 use Rattle.std.proofs.Math.Path.{fun_ext}
+use Rattle.std.proofs.lemmas.List.{length-map}
 use Rattle.std.proofs.lemmas.List.Folds.{flat_map-map}
 use Rattle.std.proofs.lemmas.Simd.{map-map}
 use Rattle.omf_module.specs.declared.Base.{Base}
@@ -13,6 +14,7 @@ use Rattle.omf_place.specs.Placed.{address_of, IsPlaced}
 use Rattle.omf_place.specs.Inputs.{Input, inputs_from}
 use Rattle.omf_place.specs.Tables.{group_frame, public_frame, in_segment, placed_public, publics_of, Grpdef, is_first_grpdef, placed_group, placed_groups}
 use Rattle.omf_place.specs.Layout.{Layout, layout_at}
+use Rattle.omf_place.specs.declared.names.Names.{Names}
 use Rattle.omf_place.specs.Faults.{IsLayout, IsOnlyLayout, placement_fault}
 use Rattle.omf_place.specs.declared.layout.Address.TheVariants as address
 use Rattle.omf_place.specs.declared.layout.Base.TheVariants as base
@@ -66,19 +68,19 @@ placed_groups_same modules addresses = rw (fun_ext (is_first_same modules addres
 
 -- ---- the layout
 
-layout_same : (modules : List Module) (addresses : List ℕ) (size : ℕ) → layout_at (map placeless modules) addresses size ≡ layout_at modules addresses size
-layout_same modules addresses size = rw placed_groups_same (simp (sites_same, inputs_same, publics_of_same, flat_map-map, map-map))
+layout_same : (names : Names) (modules : List Module) (addresses : List ℕ) (size : ℕ) → layout_at names (map placeless modules) addresses size ≡ layout_at names modules addresses size
+layout_same names modules addresses size = rw placed_groups_same (simp (sites_same, inputs_same, publics_of_same, flat_map-map, map-map, length-map))
 
-fault_same : (modules : List Module) (addresses : List ℕ) (size : ℕ) → placement_fault (map placeless modules) addresses size ≡ placement_fault modules addresses size
-fault_same modules addresses size = simp (sites_same, inputs_same, publics_of_same, flat_map-map)
+fault_same : (names : Names) (modules : List Module) (addresses : List ℕ) (size : ℕ) → placement_fault names (map placeless modules) addresses size ≡ placement_fault names modules addresses size
+fault_same names modules addresses size = simp (sites_same, inputs_same, publics_of_same, flat_map-map)
 
-pub only_layout_of : (modules others : List Module) (layout : Layout) → Alike modules others → IsOnlyLayout modules layout → IsOnlyLayout others layout
-only_layout_of modules others layout same only = (layout_of modules others layout same only.0, λ other h. only.1 other (layout_of others modules other (sym same) h))
+pub only_layout_of : (names : Names) (modules others : List Module) (layout : Layout) → Alike modules others → IsOnlyLayout names modules layout → IsOnlyLayout names others layout
+only_layout_of names modules others layout same only = (layout_of modules others layout same only.0, λ other h. only.1 other (layout_of others modules other (sym same) h))
   where
-    layout_of : (ms ns : List Module) (l : Layout) → Alike ms ns → IsLayout ms l → IsLayout ns l
+    layout_of : (ms ns : List Module) (l : Layout) → Alike ms ns → IsLayout names ms l → IsLayout names ns l
     layout_of ms ns l same (addresses, placed, sound, is) = (
       addresses,
       subst (λ ss. IsPlaced ss addresses l.size) (kept sites (sites_same 0 0) ms ns same) placed,
-      sym (kept (λ program. placement_fault program addresses l.size) (λ program. fault_same program addresses l.size) ms ns same) ∙ sound,
-      is ∙ kept (λ program. layout_at program addresses l.size) (λ program. layout_same program addresses l.size) ms ns same,
+      sym (kept (λ program. placement_fault names program addresses l.size) (λ program. fault_same names program addresses l.size) ms ns same) ∙ sound,
+      is ∙ kept (λ program. layout_at names program addresses l.size) (λ program. layout_same names program addresses l.size) ms ns same,
     )

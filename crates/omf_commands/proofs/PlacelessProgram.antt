@@ -20,7 +20,7 @@ use Rattle.omf_image.specs.declared.faults.FixKind.TheVariants.{CoversRelocated}
 use Rattle.omf_image.specs.Faults.{resolved_fault, fixup_fault, fixups_fault, record_fault, records_fault, data_fault, or_else, first_of}
 use Rattle.omf_image.specs.Located.{covers_word}
 use Rattle.omf_image.specs.Reference.{Found, Missing, Empty, Is}
-use Rattle.omf_image.specs.Records.{hits, stored_of, entry_start, meaning, patches_of, Entry, entries_from, entries, module_entries, fixup_patches, datum, record_relocations, relocations, program_byte, page_covered}
+use Rattle.omf_image.specs.Records.{hits, stored_of, entry_start, meaning, patches_of, Entry, entries_from, entries, module_entries, fixup_patches, datum, record_relocations, relocations, program_byte, page_covered, written}
 use Rattle.omf_image.specs.Registers.{StartEntry, module_start, starts_from, starts, starts_fault, count_fault, program_fault, entry_at, is_stack, is_stack_segment, registers}
 use Rattle.omf_commands.proofs.Placeless.{placeless, placeless_fixup, placeless_data, placeless_start, is_some_map}
 
@@ -55,6 +55,9 @@ byte_same P layout a modules = simp (entries_same, map-map, datum_same)
 
 pub pages_same : (layout : Layout) (page : ℕ) (modules : List Module) → page_covered layout (map placeless modules) page ≡ page_covered layout modules page
 pages_same layout page modules = simp (entries_same, map-map, datum_same)
+
+pub written_same : (layout : Layout) (modules : List Module) → written layout (map placeless modules) ≡ written layout modules
+written_same layout modules = simp (entries_same, map-map)
 
 pub relocations_same : (layout : Layout) (modules : List Module) → relocations layout (map placeless modules) ≡ relocations layout modules
 relocations_same layout modules = simp (entries_same, flat_map-map, patches_same)

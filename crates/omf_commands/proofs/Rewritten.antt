@@ -1,20 +1,14 @@
 -- Rewritten modules are modules that say the same.
-use Rattle.std.proofs.Common.{◌≡◌, ℕ, ◌+◌, List, [], ◌∷◌, map, length, refl, sym, ap, ap₂, arith}
-use Rattle.omf_frame.specs.Frame.{frame}
-use Rattle.omf_record.specs.Body.{kind_of}
-use Rattle.omf_record.specs.Canonical.{canonical}
+use Rattle.std.proofs.Common.{◌≡◌, ℕ, List, [], ◌∷◌, map, refl, sym, ap₂, arith}
 use Rattle.omf_record.specs.Records.{Placed}
 use Rattle.omf_module.specs.Bytes.{ModuleBytes}
-use Rattle.omf_commands.specs.Records.{rewritten}
-use Rattle.omf_commands.specs.Inputs.{modules_of, says_of, AreModules}
+use Rattle.omf_place.specs.declared.names.Names.{Names}
+use Rattle.omf_commands.specs.Records.{rewritten, says_of}
+use Rattle.omf_commands.specs.Inputs.{modules_of, AreModules}
 use Rattle.omf_commands.specs.Linking.{IsFileOf}
 use Rattle.omf_commands.proofs.PlacelessChecks.{sound_of}
 use Rattle.omf_commands.proofs.Said.{file_of_said}
-use Rattle.omf_commands.proofs.Through.{rewritten_from, rewritten_are, still_ended}
-
-says_same : (at : ℕ) (rs : List Placed) → map (λ (r : Placed). r.says) (rewritten_from at rs) ≡ map (λ (r : Placed). r.says) rs
-says_same at [] = refl
-says_same at (r ∷ rs) = ap (λ l. r.says ∷ l) (says_same (at + length (frame (kind_of r.says) (canonical r.says))) rs)
+use Rattle.omf_commands.proofs.Through.{rewritten_from, rewritten_are, says_same, still_ended}
 
 rewritten_module : (rs : List Placed) (bytes : List ℕ) → ModuleBytes rs bytes → ModuleBytes (rewritten_from 0 rs) (rewritten rs)
 rewritten_module rs bytes whole = record {
@@ -28,12 +22,12 @@ rewritten_modules [] inputs h = tt
 rewritten_modules (rs ∷ lists) [] h = absurd h
 rewritten_modules (rs ∷ lists) (bytes ∷ inputs) h = (rewritten_module rs bytes h.0, rewritten_modules lists inputs h.1)
 
-said_same : (lists : List (List Placed)) → says_of (map (rewritten_from 0) lists) ≡ says_of lists
+said_same : (lists : List (List Placed)) → map says_of (map (rewritten_from 0) lists) ≡ map says_of lists
 said_same [] = refl
 said_same (rs ∷ lists) = ap₂ (λ says l. says ∷ l) (says_same 0 rs) (said_same lists)
 
-pub file_of_rewritten : (lists : List (List Placed)) (inputs : List (List ℕ)) (file : List ℕ) → AreModules lists inputs → IsFileOf (modules_of lists) file
-    → (others : List (List Placed)) × AreModules others (map rewritten lists) × IsFileOf (modules_of others) file
-file_of_rewritten lists inputs file are made =
+pub file_of_rewritten : (names : Names) (lists : List (List Placed)) (inputs : List (List ℕ)) (file : List ℕ) → AreModules lists inputs → IsFileOf names (modules_of lists) file
+    → (others : List (List Placed)) × AreModules others (map rewritten lists) × (map says_of others ≡ map says_of lists) × IsFileOf names (modules_of others) file
+file_of_rewritten names lists inputs file are made =
     let others = map (rewritten_from 0) lists in
-    (others, rewritten_modules lists inputs are, file_of_said lists others file (sym (said_same lists)) made)
+    (others, rewritten_modules lists inputs are, said_same lists, file_of_said names lists others file (sym (said_same lists)) made)

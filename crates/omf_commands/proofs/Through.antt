@@ -15,7 +15,7 @@ use Rattle.omf_frame.specs.declared.reading.FrameFault.TheVariants as frame_faul
 use Rattle.omf_frame.specs.declared.reading.FramingFault.{FramingFault}
 use Rattle.omf_frame.specs.declared.reading.FramingFault.TheVariants as framing
 use Rattle.omf_frame.proofs.Frames.{framed-frame}
-use Rattle.omf_frame.proofs.Told.{Consumes-nil, Consumes-trans, Appends-nil, Appends-trans, Appends-kept, AppendsFront-then, within_whole}
+use Rattle.omf_frame.proofs.Told.{Consumes-nil, Consumes-trans, Appends-nil, Appends-trans, Appends-kept, AppendsFront-then}
 use Rattle.omf_record.specs.Record as says
 use Rattle.omf_record.specs.Body.{kind_of, Body, BodyOf}
 use Rattle.omf_record.specs.Canonical.{canonical}
@@ -28,7 +28,7 @@ use Rattle.omf_text.specs.declared.fault.LinkFault.{LinkFault}
 use Rattle.omf_text.specs.declared.fault.LinkFault.TheVariants as link
 use Rattle.omf_commands.specs.declared.records.Form.TheVariants.{Rewriting}
 use Rattle.omf_commands.specs.Faults.{record_fault, link_fault}
-use Rattle.omf_commands.specs.Records.{FaultAt, output as written_as}
+use Rattle.omf_commands.specs.Records.{FaultAt, says_of, output as written_as}
 use Rattle.omf_commands.specs.Reading.{TakesFaulty, WentThrough, GoesThrough, Handles, Writes, WritesAll, AppendsRewritten}
 
 pub begun : (output : Placed → List ℕ) (a w : Option (List ℕ)) → (t : WentThrough output [] a a w w) × (0 ≡ length t.bytes)
@@ -84,7 +84,7 @@ pub refused : {A : Type 0} (output : Placed → List ℕ) (rs : List Placed) (a 
     → AreBeforeEnd rs → f.place ≡ length t.bytes → f.place < place_limit → Framed f.kind f.body front → Consumes b c front → TakesWhole b c → IfSome b (λ bytes. frame_at f.place bytes ≡ Ok (Some f))
     → Handles output f.place f.kind f.body v u (Err e) → GoesThrough output a c w u {T = Unit {0}} (Err e)
 unfolding kept_through
-refused output rs a b c w v u f front link.Memory t before at below framed taken whole told h = (rs, b, before, kept_through output rs a b w v u t h, within_whole b c whole)
+refused output rs a b c w v u f front link.Memory t before at below framed taken whole told h = (rs, b, before, kept_through output rs a b w v u t h, inr whole)
 refused output rs a b c w v u f front link.Output t before at below framed taken whole told h =
     let r = placed f.place f.body h.0 in (
       rs,
@@ -163,9 +163,20 @@ still_ended at [] h = h
 still_ended at (r ∷ []) h = h
 still_ended at (r ∷ s ∷ rs) h = (h.0, still_ended (at + length (frame (kind_of r.says) (canonical r.says))) (s ∷ rs) h.1)
 
-pub again : (A : Type 0) (a b w v : Option (List ℕ)) (x : Unit {0}) → GoesThrough (written_as Rewriting) a b w v {T = Unit {0}} {A = A} (Ok x) → AppendsRewritten w v
+pub says_same : (at : ℕ) (rs : List Placed) → says_of (rewritten_from at rs) ≡ says_of rs
+says_same at [] = refl
+says_same at (r ∷ rs) = ap (λ l. r.says ∷ l) (says_same (at + length (frame (kind_of r.says) (canonical r.says))) rs)
+
+pub again : (A : Type 0) (a b w v : Option (List ℕ)) (x : Unit {0}) → GoesThrough (written_as Rewriting) a b w v {T = Unit {0}} {A = A} (Ok x) → AppendsRewritten a b w v
 again A a b w v x k = (
-  flat_map (written_as Rewriting) k.0,
-  k.2.written,
-  record { records = rewritten_from 0 k.0; ended = still_ended 0 k.0 k.1; are_records = rewritten_are 0 0 k.0 k.2.bytes (omega arith) k.2.are_records; same = same_output 0 k.0 },
+  k.0,
+  k.1,
+  k.2,
+  record {
+    records = rewritten_from 0 k.0;
+    ended = still_ended 0 k.0 k.1;
+    are_records = rewritten_are 0 0 k.0 k.2.bytes (omega arith) k.2.are_records;
+    says = says_same 0 k.0;
+    same = same_output 0 k.0;
+  },
 )

@@ -7,7 +7,6 @@ use Rattle.omf_module.specs.declared.fault.FaultKind.{FaultKind}
 use Rattle.omf_module.specs.declared.fault.ModuleFault.{ModuleFault}
 use Rattle.omf_module.specs.declared.fault.ModuleFault.TheVariants as reading
 use Rattle.omf_module.specs.Module.{Module}
-use Rattle.omf_record.specs.Record.{Record}
 use Rattle.omf_record.specs.Records.{Placed}
 use Rattle.omf_module.specs.Tables.{module_of}
 use Rattle.omf_module.specs.Bytes.{ModuleBytes}
@@ -19,10 +18,6 @@ use Rattle.omf_commands.specs.Checking.{fault_at}
 -- the modules of record lists
 abbrev pub modules_of : List (List Placed) → List Module
 modules_of lists = map module_of lists
-
--- what the records of the inputs say, without the places where they stand and how their bodies spell it
-abbrev pub says_of : List (List Placed) → List (List Record)
-says_of lists = map (map (λ (r : Placed). r.says)) lists
 
 -- each input is, as bytes, a whole sound module of its records
 abbrev pub AreModules : List (List Placed) → (inputs : List (List ℕ)) → Type 0

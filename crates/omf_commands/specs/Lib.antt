@@ -5,4 +5,5 @@ pub mod Checking
 pub mod Loading
 pub mod Inputs
 pub mod Linking
+pub mod Outcome
 pub mod Mapping

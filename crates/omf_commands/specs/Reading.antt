@@ -11,14 +11,15 @@ use Rattle.omf_record.specs.declared.record.Record.{Record}
 use Rattle.omf_record.specs.View.{view}
 use Rattle.omf_record.specs.Canonical.{FitsFrame}
 use Rattle.omf_record.specs.Records.{Placed, AreRecords, AreBeforeEnd, AreToEnd}
-use Rattle.omf_frame.specs.Reading.{TakesWhole, TakesWithin}
+use Rattle.omf_frame.specs.Reading.{TakesWhole, TakesNoneOrWhole, TakesPart}
 use Rattle.omf_text.specs.declared.fault.RecordFault.{RecordFault}
 use Rattle.omf_text.specs.declared.fault.RecordFault.TheVariants as fault
 use Rattle.omf_text.specs.declared.fault.FileFault.{FileFault}
 use Rattle.omf_text.specs.declared.fault.FileFault.TheVariants as file
 use Rattle.omf_text.specs.declared.fault.LinkFault.{LinkFault}
 use Rattle.omf_text.specs.declared.fault.LinkFault.TheVariants as link
-use Rattle.omf_commands.specs.Records.{FaultAt, IsRewritten}
+use Rattle.omf_commands.specs.declared.records.Form.TheVariants.{Rewriting}
+use Rattle.omf_commands.specs.Records.{output, rewritten, says_of, FaultAt, IsRewritten}
 
 -- how many calls of the source failed, where the fault is of a program's file
 abbrev pub file_failures : FileFault → ℕ
@@ -70,16 +71,16 @@ GoesThrough output old new wold wnew (Err (link.Record input place fault)) =
     × (input ≡ 0) × (place ≡ length through.bytes) × IfSome mid (λ bytes. FaultAt place bytes fault) × TakesFaulty mid new fault
 GoesThrough output old new wold wnew (Err (link.Device input place)) =
     (rs : List Placed) × (mid : Option (List ℕ)) × AreBeforeEnd rs × (through : WentThrough output rs old mid wold wnew)
-    × (input ≡ 0) × (place ≡ length through.bytes) × TakesWithin mid new
+    × (input ≡ 0) × (place ≡ length through.bytes) × TakesPart mid new
 GoesThrough output old new wold wnew (Err link.Output) =
     (rs : List Placed) × (last : Placed) × AreBeforeEnd rs
     × (bytes : List ℕ) × AreRecords 0 (rs ++ last ∷ []) bytes × Consumes old new bytes × AppendsFront wold wnew (flat_map output (rs ++ last ∷ []))
 GoesThrough output old new wold wnew (Err link.Memory) =
-    (rs : List Placed) × (mid : Option (List ℕ)) × AreBeforeEnd rs × WentThrough output rs old mid wold wnew × TakesWithin mid new
+    (rs : List Placed) × (mid : Option (List ℕ)) × AreBeforeEnd rs × WentThrough output rs old mid wold wnew × TakesNoneOrWhole mid new
 GoesThrough output old new wold wnew (Err (link.Program f)) = ⊥
 GoesThrough output old new wold wnew (Err (link.File f)) = ⊥
 
--- a framed record's type is none of the twelve, or its body is none of its type
+-- a framed record's type is none of the fourteen, or its body is none of its type
 abbrev pub IsBodyFault : (kind : ℕ) (body : List ℕ) → RecordFault → Type 0
 IsBodyFault kind body f =
     ((IsRecordType kind → ⊥) × (f ≡ fault.Type)) ⊎ ((at : ℕ) × IsRecordType kind × BodyFault kind body at × (f ≡ fault.Body at))
@@ -128,6 +129,7 @@ Writes out rest new wold wnew (Err (link.Record input place f)) = ⊥
 Writes out rest new wold wnew (Err (link.Program f)) = ⊥
 Writes out rest new wold wnew (Err (link.File f)) = ⊥
 
--- what was appended was rewritten
-abbrev pub AppendsRewritten : Option (List ℕ) → Option (List ℕ) → Type 0
-AppendsRewritten old new = (bytes : List ℕ) × Appends old new bytes × IsRewritten bytes
+-- The input begins with these records, which were taken, and what was appended says the same and is rewritten as it stands.
+abbrev pub AppendsRewritten : (old new wold wnew : Option (List ℕ)) → Type 0
+AppendsRewritten old new wold wnew =
+    (rs : List Placed) × AreToEnd rs × WentThrough (output Rewriting) rs old new wold wnew × IsRewritten (says_of rs) (rewritten rs)

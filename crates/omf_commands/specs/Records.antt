@@ -1,7 +1,8 @@
 -- What is written of the records of an input, and the fault that stands where none begins.
-use Rattle.std.specs.Prelude.{◌≡◌, ℕ, List}
+use Rattle.std.specs.Prelude.{◌≡◌, ℕ, List, map}
 use Rattle.std.specs.List.{flat_map}
 use Rattle.omf_frame.specs.Frame.{frame}
+use Rattle.omf_record.specs.Record.{Record}
 use Rattle.omf_record.specs.Body.{kind_of}
 use Rattle.omf_record.specs.Canonical.{canonical}
 use Rattle.omf_record.specs.Records.{Placed, AreRecords, AreToEnd, NoRecord, NoRecordAt}
@@ -24,9 +25,14 @@ rewritten rs = flat_map (output Rewriting) rs
 abbrev pub FaultAt : ℕ → List ℕ → RecordFault → Type 0
 FaultAt place bytes fault = (why : NoRecord) × NoRecordAt place bytes why × (fault ≡ reading_fault why)
 
--- the records of one module, which are rewritten as they stand
-pub record IsRewritten (bytes : List ℕ) : Type 0 where
+-- what records say, without the places where they stand and how their bodies spell it
+abbrev pub says_of : List Placed → List Record
+says_of rs = map (λ (r : Placed). r.says) rs
+
+-- the records of one module that say this, and are rewritten as they stand
+pub record IsRewritten (said : List Record) (bytes : List ℕ) : Type 0 where
   pub records : List Placed
   pub ended : AreToEnd records
   pub are_records : AreRecords 0 records bytes
-  pub same : flat_map (output Rewriting) records ≡ bytes
+  pub says : says_of records ≡ said
+  pub same : rewritten records ≡ bytes

@@ -8,8 +8,8 @@ use omf_module::{Module, read_module};
 use omf_text::LinkFault;
 use std::alloc::Allocator;
 
-/// The modules of all inputs, in order, or the first fault of reading. Inputs behind the one whose reading
-/// stopped aren't touched.
+/// The modules of all inputs, in order, or the first fault of reading. Each input is finished once its module is
+/// read. Inputs behind the one whose reading stopped aren't touched.
 pub(crate) fn read_inputs<S: Source, A: Allocator + Copy>(
     alloc: A,
     sources: &mut [S],
@@ -19,10 +19,12 @@ pub(crate) fn read_inputs<S: Source, A: Allocator + Copy>(
 {
     let mut modules = Vec::new(alloc);
     for input in 0..sources.len() {
-        let says = match read_module(alloc, &mut sources[input]) {
+        let source = &mut sources[input];
+        let says = match read_module(alloc, source) {
             Ok(says) => says,
             Err(fault) => return Err(module_fault(input, fault)),
         };
+        source.finish();
         if modules.push(says).is_err() {
             return Err(LinkFault::Memory);
         }

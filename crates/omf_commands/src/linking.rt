@@ -1,11 +1,14 @@
 //! Object modules linked into a program.
 ghost use Rattle.std.specs.Prelude.{All, OnOk, ◌≡◌, ◌+◌, ◌-◌, ◌^◌, ◌<◌, ℕ, List, map};
 ghost use Rattle.omf_module.specs.Module.{Module as Says};
+ghost use Rattle.omf_place.specs.declared.names.Names.{Names as Choice};
+ghost use Rattle.omf_place.specs.declared.names.Names.TheVariants.{AsciiFolded, Exact};
 ghost use Rattle.omf_record.specs.Records.{Placed};
 ghost use Rattle.omf_text.specs.declared.fault.LinkFault.{LinkFault as Fault};
-ghost use Rattle.omf_commands.specs.Inputs.{AreModules, modules_of, says_of};
-ghost use Rattle.omf_commands.specs.Records.{rewritten};
+ghost use Rattle.omf_commands.specs.Inputs.{AreModules, modules_of};
+ghost use Rattle.omf_commands.specs.Records.{rewritten, says_of};
 ghost use Rattle.omf_commands.specs.Linking.{IsFileOf, IsModulesFault, Links, LinksModules, WritesProgram, build_fault, fix_fault, place_fault};
+ghost use Rattle.omf_commands.specs.Outcome.{AreTold, Outcome, telling};
 ghost use Rattle.omf_commands.specs.Reading.{sink_failures};
 
 use crate::inputs::read_inputs;
@@ -13,18 +16,34 @@ use mz::{loads_as_written, write_mz};
 use omf_frame::{Sink, Source};
 use omf_image::{FixFault, FixKind, Program, build};
 use omf_module::Module;
-use omf_place::{Layout, PlaceFault, place};
+use omf_place::{Layout, Names, PlaceFault, place};
 use omf_text::{LinkFault, ProgramFault, RecordFault};
 use std::alloc::{Allocator, Global};
 
-/// How modules are linked. There is no choice yet.
+/// How modules are linked.
 #[derive(Clone, Copy, Debug)]
-pub struct Options {}
+pub struct Options {
+    /// Which names of publics and externals agree.
+    pub names: Names,
+}
 
 impl Options {
-    /// The ordinary way.
-    pub fn new() -> Options {
-        Options {}
+    /// The ordinary way: names agree where their bytes are the same.
+    pub fn new() -> Options
+        ensures { result ≡ record { names = Exact } }
+    {
+        Options {
+            names: Names::Exact,
+        }
+    }
+
+    /// The ordinary way, but that names agree without regard to the case of `A` to `Z`.
+    pub fn ignoring_case() -> Options
+        ensures { result ≡ record { names = AsciiFolded } }
+    {
+        Options {
+            names: Names::AsciiFolded,
+        }
     }
 }
 
@@ -88,11 +107,12 @@ fn build_fault<A: Allocator + Copy>(fault: FixFault) -> LinkFault<A>
 fn link_modules<A: Allocator + Copy>(
     alloc: A,
     modules: Vec<Module<A>, A>,
+    names: Names,
 ) -> Result<Report<A>, LinkFault<A>>
-    ensures { LinksModules modules.items result }
+    ensures { LinksModules names modules.items result }
 {
     let says = modules.as_slice();
-    let layout = match place(alloc, says) {
+    let layout = match place(alloc, says, names) {
         Ok(layout) => layout,
         Err(fault) => return Err(place_fault(fault)),
     };
@@ -116,22 +136,25 @@ pub fn link<S: Source, K: Sink, A: Allocator + Copy>(
     alloc: A,
     sources: &mut [S],
     sink: &mut K,
-    _options: &Options,
+    options: &Options,
 ) -> Result<Report<A>, LinkFault<A>>
     requires sources { All (λ s. S.failures s < 2 ^ 64 - 1) sources.old }
     requires sink { K.failures sink.old < 2 ^ 64 - 1 }
     // The sink failed exactly where the answer says so, and then once.
     ensures sink { K.failures sink.new ≡ K.failures sink.old + sink_failures result }
     // What was read and written, and the fault where one stands. A source failed exactly where the answer names it.
-    ensures links { Links S.remaining S.failures sources.old sources.new (K.written sink.old) (K.written sink.new) result }
-    // Loading the file at any paragraph where the program fits gives, at each address, the byte that the records stand for.
-    ensures headline { OnOk result (WritesProgram S.remaining S.failures sources.old sources.new (K.written sink.old) (K.written sink.new)) }
+    ensures links { Links S.remaining S.failures options.now.names sources.old sources.new (K.written sink.old) (K.written sink.new) result }
+    // Where the sources tell their bytes, a program is answered exactly where no fault stands in them, else the only one.
+    ensures outcome { (inputs : List (List ℕ)) → AreTold S.remaining sources.old inputs → Outcome options.now.names inputs result }
+    // Loading the file at any paragraph where the program fits gives, at each address of its written part, the byte that the
+    // records stand for.
+    ensures headline { OnOk result (WritesProgram S.remaining S.failures options.now.names sources.old sources.new (K.written sink.old) (K.written sink.new)) }
 {
     let modules = match read_inputs(alloc, sources) {
         Ok(modules) => modules,
         Err(fault) => return Err(fault),
     };
-    let report = match link_modules(alloc, modules) {
+    let report = match link_modules(alloc, modules, options.names) {
         Ok(report) => report,
         Err(fault) => return Err(fault),
     };
@@ -142,22 +165,23 @@ pub fn link<S: Source, K: Sink, A: Allocator + Copy>(
     }
 }
 
-/// Modules that have a file have no fault, so that an answer is the only one.
+/// Modules that have a file have no fault, and others one, so that an answer is the only one.
 pub fn file_or_fault<A: Allocator + Copy>()
-    ensures { (modules : List Says) (file : List ℕ) (fault : Fault A) → IsFileOf modules file → IsModulesFault modules fault → ⊥ }
+    ensures exclusive { (names : Choice) (modules : List Says) (file : List ℕ) (fault : Fault A) → IsFileOf names modules file → IsModulesFault names modules fault → ⊥ }
+    ensures one_fault { (names : Choice) (modules : List Says) (fault other : Fault A) → IsModulesFault names modules fault → IsModulesFault names modules other → telling fault ≡ telling other }
 {}
 
-/// Modules have one file, whatever their bytes were: it hangs on what the records say alone, and neither on where they
-/// stand nor on how their bodies spell it.
+/// Modules have one file under each choice of which names agree, whatever their bytes were: it hangs on what the records
+/// say alone and on that choice, and neither on where they stand nor on how their bodies spell it.
 pub fn one_file()
-    ensures of_modules { (modules : List Says) (file other : List ℕ) → IsFileOf modules file → IsFileOf modules other → file ≡ other }
+    ensures of_modules { (names : Choice) (modules : List Says) (file other : List ℕ) → IsFileOf names modules file → IsFileOf names modules other → file ≡ other }
     // Records that say the same have the same file.
-    ensures of_records { (lists others : List (List Placed)) (file other : List ℕ) → says_of lists ≡ says_of others → IsFileOf (modules_of lists) file → IsFileOf (modules_of others) other → file ≡ other }
+    ensures of_records { (names : Choice) (lists others : List (List Placed)) (file other : List ℕ) → map says_of lists ≡ map says_of others → IsFileOf names (modules_of lists) file → IsFileOf names (modules_of others) other → file ≡ other }
     // Where the ones have a file, so have the others.
-    ensures shared { (lists others : List (List Placed)) (file : List ℕ) → says_of lists ≡ says_of others → IsFileOf (modules_of lists) file → IsFileOf (modules_of others) file }
-    // Modules that are rewritten are modules, and have the file that they had.
-    ensures rewritten { (lists : List (List Placed)) (inputs : List (List ℕ)) (file : List ℕ) → AreModules lists inputs → IsFileOf (modules_of lists) file
-        → (others : List (List Placed)) × AreModules others (map rewritten lists) × IsFileOf (modules_of others) file }
+    ensures shared { (names : Choice) (lists others : List (List Placed)) (file : List ℕ) → map says_of lists ≡ map says_of others → IsFileOf names (modules_of lists) file → IsFileOf names (modules_of others) file }
+    // Modules that are rewritten are modules that say the same, and have the file that they had.
+    ensures rewritten { (names : Choice) (lists : List (List Placed)) (inputs : List (List ℕ)) (file : List ℕ) → AreModules lists inputs → IsFileOf names (modules_of lists) file
+        → (others : List (List Placed)) × AreModules others (map rewritten lists) × (map says_of others ≡ map says_of lists) × IsFileOf names (modules_of others) file }
 {}
 
 #[cfg(test)]

@@ -194,8 +194,8 @@ pub fn rewrite<S: Source, K: Sink, A: Allocator + Copy>(
     // Where the input has a module's records, they are written, and no byte more is read.
     ensures only { (rs : List Placed) (bytes rest : List ℕ) → AreToEnd rs → AreRecords 0 rs bytes → S.remaining source.old ≡ Some (bytes ++ rest)
         → Writes (flat_map (output Rewriting) rs) rest (S.remaining source.new) (K.written sink.old) (K.written sink.new) result }
-    // What was written is records again, which are rewritten as they are.
-    ensures again { OnOk result (AppendsRewritten (K.written sink.old) (K.written sink.new)) }
+    // What was written is records that say the same again, and are rewritten as they are.
+    ensures again { OnOk result (AppendsRewritten (S.remaining source.old) (S.remaining source.new) (K.written sink.old) (K.written sink.new)) }
 {
     go_through(alloc, source, sink, Form::Rewriting)
 }

@@ -2,6 +2,7 @@ ghost use Rattle.std.specs.Prelude.{◌≡◌};
 
 mod hostile;
 pub mod modules;
+mod names;
 pub mod objects;
 
 use super::*;
@@ -221,6 +222,31 @@ fn lines_of_records_are_shown(rt: HostRuntime) -> Result<(), Fail> {
 ",
         ),
         (
+            with_segment(
+                alloc,
+                "1100",
+                &[
+                    "B4017800",
+                    "B600010178100000",
+                    "A0010000E80000",
+                    "9C84015601",
+                ],
+            )?,
+            "\
+0000001A B4 LEXTDEF     3
+  local external \"x\" type 0
+00000021 B6 LPUBDEF     7
+  base group 0 segment 1
+  local public \"x\" offset 0010 type 0
+0000002C A0 LEDATA      6
+  data segment 1 offset 0000 bytes 3
+00000036 9C FIXUPP      4
+  fixup at 001 self location 1 frame method 5 target method 2 index 1
+0000003E 8A MODEND      1
+  main 0 start 0
+",
+        ),
+        (
             with_segment(alloc, "0C00", &["A2010000FFFF0100FFFF0100FFFF00000141"])?,
             "\
 0000001A A2 LIDATA     17
@@ -346,7 +372,7 @@ fn module_with(alloc: Global, kind: u8, body: &[u8]) -> Result<Vec<u8>, Fail> {
 
 #[test]
 fn bodies_are_rewritten_or_refused(rt: HostRuntime) -> Result<(), Fail> {
-    let rows: [(u8, &[u8], Result<&[u8], usize>); 12] = [
+    let rows: [(u8, &[u8], Result<&[u8], usize>); 16] = [
         (0x8A, &[0x3E], Ok(&[0x00])),
         (0x8A, &[0xC0, 0x00, 0x01, 0x01, 0x00, 0x00], Err(0)),
         (0x98, &[0x2A, 0x05, 0x00, 0x02, 0x01, 0x01], Err(1)),
@@ -363,6 +389,14 @@ fn bodies_are_rewritten_or_refused(rt: HostRuntime) -> Result<(), Fail> {
         (0x9C, &[0x10, 0x01], Ok(&[0x00, 0x01])),
         (0x9C, &[0x64, 0x01], Ok(&[0x44, 0x01])),
         (0x9C, &[0xC4, 0x04, 0xCC], Ok(&[0xC4, 0x04, 0x8C])),
+        (0xB4, &[0x01, 0x78, 0x80, 0x07], Ok(&[0x01, 0x78, 0x07])),
+        (0xB4, &[0x02, 0x78], Err(2)),
+        (
+            0xB6,
+            &[0x00, 0x80, 0x01, 0x01, 0x78, 0x10, 0x00, 0x00],
+            Ok(&[0x00, 0x01, 0x01, 0x78, 0x10, 0x00, 0x00]),
+        ),
+        (0xB6, &[0x00, 0x01, 0x01, 0x78, 0x10], Err(5)),
     ];
     for (kind, body, answer) in rows {
         let input = module_with(rt.alloc(), kind, body)?;

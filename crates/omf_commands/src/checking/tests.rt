@@ -59,7 +59,7 @@ fn answers<R: Abort>(
 
 #[test]
 fn records_are_checked_in_order(rt: HostRuntime) -> Result<(), Fail> {
-    let rows: [(u16, &[Entry<'_>], Result<(), (u64, RecordFault)>); 17] = [
+    let rows: [(u16, &[Entry<'_>], Result<(), (u64, RecordFault)>); 21] = [
         (1, &[(0x80, &[0x01, 0x42])], Ok(())),
         (
             1,
@@ -75,6 +75,38 @@ fn records_are_checked_in_order(rt: HostRuntime) -> Result<(), Fail> {
             2,
             &[(0x90, &[0x05, 0x01, 0x01, 0x78, 0x00, 0x00, 0x00])],
             Err((26, RecordFault::GroupIndex)),
+        ),
+        (
+            2,
+            &[(0xB6, &[0x00, 0x02, 0x01, 0x78, 0x00, 0x00, 0x00])],
+            Err((26, RecordFault::SegmentIndex)),
+        ),
+        (
+            2,
+            &[(0xB6, &[0x05, 0x01, 0x01, 0x78, 0x00, 0x00, 0x00])],
+            Err((26, RecordFault::GroupIndex)),
+        ),
+        // local externals and others are counted together
+        (
+            2,
+            &[
+                (0x8C, &[0x01, 0x78, 0x00]),
+                (0xB4, &[0x01, 0x79, 0x00, 0x01, 0x7A, 0x00]),
+                (0x8C, &[0x01, 0x78, 0x00]),
+                (0xA0, &[0x01, 0x00, 0x00, 0x00, 0x00]),
+                (0x9C, &[0xC4, 0x00, 0x56, 0x04]),
+            ],
+            Ok(()),
+        ),
+        (
+            2,
+            &[
+                (0xB4, &[0x01, 0x78, 0x00]),
+                (0x8C, &[0x01, 0x79, 0x00]),
+                (0xA0, &[0x01, 0x00, 0x00, 0x00, 0x00]),
+                (0x9C, &[0xC4, 0x00, 0x56, 0x03]),
+            ],
+            Err((49, RecordFault::ExternalIndex)),
         ),
         (
             2,

@@ -1,8 +1,11 @@
 ghost use Rattle.std.specs.Prelude.{◌≡◌};
 
+mod local_names;
+
 use super::*;
 use crate::tests::modules::{append, append_digits, module_of, two_modules, with_segment};
 use crate::tests::{BYTE_TOO_MANY, LONG_INDEX, SMALL, record_place};
+use crate::{check, load_file};
 use mz::{Loaded, load, read_mz};
 use omf_frame::{MemSink, MemSource};
 use omf_text::{fault_line, status};
@@ -13,14 +16,14 @@ use std::test::*;
 
 /// The file of the small module.
 pub const SMALL_FILE: [u8; 37] = [
-    0x4D, 0x5A, 0x25, 0x00, 0x01, 0x00, 0x01, 0x00, 0x02, 0x00, 0x00, 0x00, 0xFF, 0xFF, 0x00, 0x00,
+    0x4D, 0x5A, 0x25, 0x00, 0x01, 0x00, 0x01, 0x00, 0x02, 0x00, 0x01, 0x00, 0xFF, 0xFF, 0x00, 0x00,
     0x00, 0x00, 0x00, 0x00, 0x00, 0x00, 0x00, 0x00, 0x1C, 0x00, 0x00, 0x00, 0x01, 0x00, 0x00, 0x00,
     0xB8, 0x00, 0x00, 0x8E, 0xD8,
 ];
 
 /// The file of two modules with a group over both.
 const PAIR_FILE: [u8; 56] = [
-    0x4D, 0x5A, 0x38, 0x00, 0x01, 0x00, 0x01, 0x00, 0x02, 0x00, 0x00, 0x00, 0xFF, 0xFF, 0x00, 0x00,
+    0x4D, 0x5A, 0x38, 0x00, 0x01, 0x00, 0x01, 0x00, 0x02, 0x00, 0x01, 0x00, 0xFF, 0xFF, 0x00, 0x00,
     0x00, 0x00, 0x00, 0x00, 0x00, 0x00, 0x00, 0x00, 0x1C, 0x00, 0x00, 0x00, 0x01, 0x00, 0x00, 0x00,
     0xB8, 0x01, 0x00, 0xA1, 0x06, 0x00, 0x00, 0x00, 0x00, 0x00, 0x00, 0x00, 0x00, 0x00, 0x00, 0x00,
     0x00, 0x00, 0x00, 0x00, 0x00, 0x00, 0x34, 0x12,
@@ -42,13 +45,12 @@ pub fn link_one(
     link(alloc, &mut sources, sink, &Options::new()).err()
 }
 
-/// The fault of linking two inputs. The second isn't touched before all of the first was read.
-fn link_two<R: Abort, A: Allocator + Copy>(
-    rt: &R,
+/// The fault of linking two inputs, and how often the second was called.
+fn link_two<A: Allocator + Copy>(
     alloc: A,
     inputs: (&[u8], &[u8]),
     sink: &mut MemSink<'_>,
-) -> Option<LinkFault<A>>
+) -> (Option<LinkFault<A>>, u64)
     requires { sink.old.failures ≡ 0 }
 {
     let mut sources = [
@@ -56,8 +58,7 @@ fn link_two<R: Abort, A: Allocator + Copy>(
         MemSource::over(inputs.1, 7, None),
     ];
     let fault = link(alloc, &mut sources, sink, &Options::new()).err();
-    assert!(rt; sources[0].rest().is_empty() || sources[1].calls() == 0);
-    fault
+    (fault, sources[1].calls())
 }
 
 /// The fault of linking no input.
@@ -69,15 +70,11 @@ fn link_none(alloc: Global, sink: &mut MemSink<'_>) -> Option<LinkFault>
 }
 
 /// The file of at most two inputs, or the fault.
-fn linked<R: Abort>(
-    rt: &R,
-    alloc: Global,
-    inputs: &[&[u8]],
-) -> Result<(Vec<u8>, Option<LinkFault>), Fail> {
+fn linked(alloc: Global, inputs: &[&[u8]]) -> Result<(Vec<u8>, Option<LinkFault>), Fail> {
     let mut room = vec![in alloc; 0u8; ROOM]?;
     let mut sink = MemSink::over(&mut room, 4_096);
     let fault = match inputs {
-        [one, two] => link_two(rt, alloc, (one, two), &mut sink),
+        [one, two] => link_two(alloc, (one, two), &mut sink).0,
         [one] => link_one(alloc, one, 1, &mut sink),
         _ => link_none(alloc, &mut sink),
     };
@@ -92,9 +89,11 @@ fn gives<R: Abort>(
     image: &str,
     relocations: &str,
 ) -> Result<(), Fail> {
-    let (file, fault) = linked(rt, alloc, inputs)?;
+    let (file, fault) = linked(alloc, inputs)?;
     assert_eq!(rt; fault, None);
     let relocations = hex::decode(alloc, relocations)?;
+    let count = (relocations.len() / 4).min(65_535) as u16;
+    assert_eq!(rt; file.get(6..8), Some(count.to_le_bytes().as_slice()));
     let end = 28usize.saturating_add(relocations.len());
     assert_eq!(rt; file.get(28..end), Some(relocations.as_slice()));
     let image = hex::decode(alloc, image)?;
@@ -110,7 +109,7 @@ fn modules_give_files(rt: HostRuntime) -> Result<(), Fail> {
         open[at] = 0;
     }
     for input in [SMALL.as_slice(), open.as_slice(), LONG_INDEX.as_slice()] {
-        let (file, fault) = linked(&rt, rt.alloc(), &[input])?;
+        let (file, fault) = linked(rt.alloc(), &[input])?;
         assert_eq!(rt; fault, None);
         assert_eq!(rt; file.as_slice(), SMALL_FILE.as_slice());
     }
@@ -120,13 +119,10 @@ fn modules_give_files(rt: HostRuntime) -> Result<(), Fail> {
         "4D5A20000100000002000000FFFF000000000000000000001C00000000000000",
     )?;
     assert_eq!(rt;
-        linked(&rt, rt.alloc(), &[nothing.as_slice()])?.0.as_slice(),
+        linked(rt.alloc(), &[nothing.as_slice()])?.0.as_slice(),
         empty.as_slice()
     );
-    assert_eq!(rt;
-        linked(&rt, rt.alloc(), &[])?.0.as_slice(),
-        empty.as_slice()
-    );
+    assert_eq!(rt; linked(rt.alloc(), &[])?.0.as_slice(), empty.as_slice());
     Ok(())
 }
 
@@ -156,7 +152,7 @@ fn fixups_are_added(rt: HostRuntime) -> Result<(), Fail> {
                 "A0010000E80000",
                 "9C84015601",
             ],
-            "E80D000000000000000000000000000000",
+            "E80D00",
             "",
         ),
         (
@@ -182,12 +178,7 @@ fn fixups_are_added(rt: HostRuntime) -> Result<(), Fail> {
             "34AA0000",
             "",
         ),
-        (
-            "1100",
-            &["8C017800", "A0010000E80000"],
-            "E800000000000000000000000000000000",
-            "",
-        ),
+        ("1100", &["8C017800", "A0010000E80000"], "E80000", ""),
         ("0200", &["A0010000EB00", "9C80010001018100"], "EB7F", ""),
         (
             "0100",
@@ -240,7 +231,7 @@ fn files_are_loaded(rt: HostRuntime) -> Result<(), Fail> {
         "0600",
         &["A201000003000000020000", "9CC805040101"],
     )?;
-    let (file, _) = linked(&rt, rt.alloc(), &[repeated.as_slice()])?;
+    let (file, _) = linked(rt.alloc(), &[repeated.as_slice()])?;
     assert_eq!(rt; file.len(), 54);
     let thrice = loaded(rt.alloc(), &file, 0x1234)?.ok_or("no room")?;
     assert_eq!(rt;
@@ -252,8 +243,10 @@ fn files_are_loaded(rt: HostRuntime) -> Result<(), Fail> {
         "FEFF",
         &["98280400010101", "A00201000000", "9CC800040202"],
     )?;
-    let (file, fault) = linked(&rt, rt.alloc(), &[far.as_slice()])?;
+    let (file, fault) = linked(rt.alloc(), &[far.as_slice()])?;
     assert_eq!(rt; fault, None);
+    assert_eq!(rt; file.len(), 32 + 65_537);
+    assert_eq!(rt; file.get(10..12), Some([0x01, 0x00].as_slice()));
     assert_eq!(rt; file.get(28..32), Some([0x0F, 0x00, 0xFF, 0x0F].as_slice()));
     assert_eq!(rt;
         file.get(32 + 65_535..32 + 65_537),
@@ -278,14 +271,18 @@ fn modules_are_linked_together(rt: HostRuntime) -> Result<(), Fail> {
         "B80100A10600000000000000000000000000000000003412",
         "01000000",
     )?;
-    let (file, _) = linked(&rt, rt.alloc(), &inputs)?;
+    let (file, _) = linked(rt.alloc(), &inputs)?;
     assert_eq!(rt; file.as_slice(), PAIR_FILE.as_slice());
     let high = loaded(rt.alloc(), &file, 0xFFFE)?.ok_or("no room")?;
     assert_eq!(rt;
         high.bytes().get(..6),
         Some([0xB8, 0xFF, 0xFF, 0xA1, 0x06, 0x00].as_slice())
     );
-    assert!(rt; loaded(rt.alloc(), &file, 0xFFFF)?.is_none());
+    let mut source = MemSource::over(&file, 4_096, None);
+    let mut room = [0u8; 4];
+    let mut sink = MemSink::over(&mut room, 4);
+    let fault = load_file(rt.alloc(), &mut source, 0xFFFF, &mut sink).err();
+    assert_eq!(rt; fault.and_then(|fault| fault.number()), Some(39));
     let names = "960004434F4445";
     let first = module_of(
         rt.alloc(),
@@ -315,46 +312,88 @@ fn has<R: Abort>(rt: &R, file: &[u8], at: usize, bytes: &[u8]) -> Result<(), Fai
 #[test]
 fn stacks_sizes_and_pages(rt: HostRuntime) -> Result<(), Fail> {
     // length and records, and then the length of the file, a place and what stands there
-    let rows: [(&str, &[&str], usize, usize, &[u8]); 5] = [
+    let rows: [(&str, &[&str], usize, usize, &[u8]); 9] = [
         (
             "0500",
             &["98740001020101"],
-            304,
-            14,
-            &[0x01, 0x00, 0x00, 0x01],
+            32,
+            2,
+            &[
+                0x20, 0x00, 0x01, 0x00, 0x00, 0x00, 0x02, 0x00, 0x11, 0x00, 0xFF, 0xFF, 0x01, 0x00,
+                0x00, 0x01, 0x00, 0x00, 0x00, 0x00, 0x00, 0x00, 0x1C, 0x00, 0x00, 0x00, 0x00, 0x00,
+                0x00, 0x00,
+            ],
         ),
         (
             "0000",
             &["98760000020101"],
-            65_568,
-            2,
-            &[0x20, 0x00, 0x81, 0x00],
+            32,
+            10,
+            &[0x00, 0x10, 0xFF, 0xFF, 0x00, 0x00, 0x00, 0x00],
         ),
-        ("0000", &["98760000020101"], 65_568, 14, &[0x00; 4]),
+        (
+            "1100",
+            &[
+                "8C017800",
+                "9000010178100000",
+                "A0010000E80000",
+                "9C84015601",
+            ],
+            35,
+            2,
+            &[0x23, 0x00, 0x01, 0x00, 0x00, 0x00, 0x02, 0x00, 0x02, 0x00],
+        ),
         (
             "0210",
             &["A001FF0F0000", "9CC4000001013412"],
-            4_130,
+            4_129,
             32 + 4_095,
             &[0x34, 0x12],
         ),
-        ("FEFF", &["A00100F0AA"], 65_566, 32 + 61_440, &[0xAA]),
+        ("FEFF", &["A00100F0AA"], 61_473, 32 + 61_440, &[0xAA]),
+        // to the end, and to the edges of a page and of a paragraph
+        ("0400", &["A0010200AABB"], 36, 10, &[0x01, 0x00]),
+        ("0020", &["A001FF0FAA"], 4_128, 10, &[0x00, 0x01]),
+        ("2100", &["A0010F00AA"], 48, 10, &[0x02, 0x00]),
+        // zeros of the last data are data, and a record without bytes is none
+        (
+            "2100",
+            &["A0010000AA", "A00101000000", "A0012100"],
+            35,
+            10,
+            &[0x03, 0x00],
+        ),
     ];
     for (length, records, size, at, bytes) in rows {
         let input = with_segment(rt.alloc(), length, records)?;
-        let (file, _) = linked(&rt, rt.alloc(), &[input.as_slice()])?;
+        let (file, _) = linked(rt.alloc(), &[input.as_slice()])?;
         assert_eq!(rt; file.len(), size);
         has(&rt, file.as_slice(), at, bytes)?;
     }
+    // what the file doesn't hold has to fit too
+    let stack = with_segment(rt.alloc(), "0500", &["98740001020101"])?;
+    let (file, _) = linked(rt.alloc(), &[stack.as_slice()])?;
+    let last = loaded(rt.alloc(), &file, 0xFFEF)?.ok_or("no room")?;
+    assert_eq!(rt;
+        (last.bytes().len(), last.ss(), last.sp()),
+        (0, 0xFFF0, 0x100)
+    );
+    assert!(rt; loaded(rt.alloc(), &file, 0xFFF0)?.is_none());
     Ok(())
 }
 
-/// The inputs are refused with this line, and nothing is written.
-fn refuses<R: Abort>(rt: &R, alloc: Global, inputs: &[&[u8]], line: &str) -> Result<(), Fail> {
-    let (file, fault) = linked(rt, alloc, inputs)?;
+/// The inputs are refused with this line, which is of this input where one is at fault, and nothing is written.
+fn refuses<R: Abort>(
+    rt: &R,
+    alloc: Global,
+    inputs: &[&[u8]],
+    wanted: (Option<usize>, &str),
+) -> Result<(), Fail> {
+    let (input, line) = wanted;
+    let (file, fault) = linked(alloc, inputs)?;
     assert!(rt; file.is_empty());
     let fault = fault.ok_or("no fault")?;
-    assert_eq!(rt; status(&fault), 1);
+    assert_eq!(rt; (status(&fault), fault.input()), (1, input));
     let mut room = [0u8; 80];
     let mut sink = MemSink::over(&mut room, 80);
     assert!(rt; fault_line(&fault, "A.OBJ", &mut sink).is_ok());
@@ -380,13 +419,13 @@ fn faults_of_an_input_are_named(rt: HostRuntime) -> Result<(), Fail> {
         ),
     ];
     for (input, line) in rows {
-        refuses(&rt, rt.alloc(), &[input], line)?;
+        refuses(&rt, rt.alloc(), &[input], (Some(0), line))?;
     }
     refuses(
         &rt,
         rt.alloc(),
         &[&SMALL, &SMALL],
-        "omf: A.OBJ: 33 TwoStarts at record 47\n",
+        (Some(1), "omf: A.OBJ: 33 TwoStarts at record 47\n"),
     )?;
     // a fix-up of the first is at fault, and the second isn't a module
     let unresolved = with_segment(
@@ -398,7 +437,7 @@ fn faults_of_an_input_are_named(rt: HostRuntime) -> Result<(), Fail> {
         &rt,
         rt.alloc(),
         &[unresolved.as_slice(), &[]],
-        "omf: A.OBJ: 8 NoEnd at record 0\n",
+        (Some(1), "omf: A.OBJ: 8 NoEnd at record 0\n"),
     )
 }
 
@@ -499,7 +538,8 @@ fn faults_of_modules_are_named(rt: HostRuntime) -> Result<(), Fail> {
     ];
     for (length, records, line) in rows {
         let input = with_segment(rt.alloc(), length, records)?;
-        refuses(&rt, rt.alloc(), &[input.as_slice()], line)?;
+        let at = (!line.starts_with("omf: link: ")).then_some(0);
+        refuses(&rt, rt.alloc(), &[input.as_slice()], (at, line))?;
     }
     Ok(())
 }
@@ -541,26 +581,25 @@ fn the_greatest_programs_are_linked(rt: HostRuntime) -> Result<(), Fail> {
     let rows = [
         (
             large(alloc, "F0FF")?,
-            1_048_592usize,
-            [0x10u8, 0x00, 0x01, 0x08, 0x00, 0x00, 0x02, 0x00],
+            32usize,
+            [0x20u8, 0x00, 0x01, 0x00, 0x00, 0x00, 0x02, 0x00, 0xFF, 0xFF],
+            false,
         ),
         (
             many_words(alloc, "")?,
             393_252,
-            [0x24, 0x00, 0x01, 0x03, 0xFF, 0xFF, 0x02, 0x40],
+            [0x24, 0x00, 0x01, 0x03, 0xFF, 0xFF, 0x02, 0x40, 0x01, 0x00],
+            true,
         ),
     ];
-    for (input, size, head) in rows {
+    for (input, size, head, fits) in rows {
         let mut room = vec![in alloc; 0u8; size]?;
         let mut sink = MemSink::over(&mut room, 65_536);
         assert_eq!(rt; link_one(alloc, &input, 512, &mut sink), None);
         assert_eq!(rt; sink.written().len(), size);
         has(&rt, sink.written(), 2, &head)?;
         assert!(rt; loaded(alloc, sink.written(), 1)?.is_some());
-        assert_eq!(rt;
-            loaded(alloc, sink.written(), 2)?.is_none(),
-            size > 1_048_576
-        );
+        assert_eq!(rt; loaded(alloc, sink.written(), 2)?.is_some(), fits);
     }
     Ok(())
 }
@@ -578,21 +617,28 @@ fn programs_are_too_large(rt: HostRuntime) -> Result<(), Fail> {
         ),
     ];
     for (input, line) in rows {
-        refuses(&rt, rt.alloc(), &[input.as_slice()], line)?;
+        refuses(&rt, rt.alloc(), &[input.as_slice()], (None, line))?;
     }
     Ok(())
 }
 
-/// A module with the publics "a0" to "a1999", each at its number, and then one with this name.
-fn many_publics(alloc: Global, last: &str) -> Result<Vec<u8>, Fail> {
+/// Puts a public at the end of a PUBDEF's body.
+fn push_public(body: &mut Vec<u8>, name: &str, offset: u16) -> Result<(), Fail> {
+    body.push(name.len().min(255) as u8)?;
+    body.extend_from_slice(name.as_bytes())?;
+    body.extend_from_slice(&offset.to_le_bytes())?;
+    body.push(0)?;
+    Ok(())
+}
+
+/// A module with the publics "a0" to "a1999", each at its number, and then one with this name, if there is one.
+pub fn many_publics(alloc: Global, last: Option<&str>) -> Result<Vec<u8>, Fail> {
     let mut body = Vec::from_slice(alloc, &[0x00, 0x01])?;
-    for n in 0..2_001u16 {
-        let own = format!(in alloc; "a{n}")?;
-        let name = if n < 2_000 { own.as_str() } else { last };
-        body.push(name.len().min(255) as u8)?;
-        body.extend_from_slice(name.as_bytes())?;
-        body.extend_from_slice(&n.to_le_bytes())?;
-        body.push(0)?;
+    for n in 0..2_000u16 {
+        push_public(&mut body, &format!(in alloc; "a{n}")?, n)?;
+    }
+    if let Some(name) = last {
+        push_public(&mut body, name, 2_000)?;
     }
     let mut module = with_segment(alloc, "D007", &[])?;
     module.truncate(26);
@@ -604,16 +650,16 @@ fn many_publics(alloc: Global, last: &str) -> Result<Vec<u8>, Fail> {
 #[test]
 fn two_of_many_publics_have_one_name(rt: HostRuntime) -> Result<(), Fail> {
     let alloc = rt.alloc();
-    let other = many_publics(alloc, "a2000")?;
-    let (file, fault) = linked(&rt, alloc, &[other.as_slice()])?;
+    let other = many_publics(alloc, Some("a2000"))?;
+    let (file, fault) = linked(alloc, &[other.as_slice()])?;
     assert_eq!(rt; fault, None);
-    assert_eq!(rt; file.len(), 2_032);
-    let again = many_publics(alloc, "a7")?;
+    assert_eq!(rt; file.len(), 32);
+    let again = many_publics(alloc, Some("a7"))?;
     refuses(
         &rt,
         alloc,
         &[again.as_slice()],
-        "omf: link: 25 DuplicatePublic \"a7\"\n",
+        (None, "omf: link: 25 DuplicatePublic \"a7\"\n"),
     )
 }
 
@@ -654,7 +700,7 @@ fn each_failing_read_is_told(rt: HostRuntime) -> Result<(), Fail> {
 fn each_full_sink_is_told(rt: HostRuntime) -> Result<(), Fail> {
     for piece in [1usize, 7, 10] {
         for n in 0..38usize {
-            let mut sources = [MemSource::over(&SMALL, 60, None)];
+            let mut sources = [MemSource::over(&SMALL, 1, None)];
             let mut room = [0u8; 37];
             let mut sink = MemSink::over(&mut room[..n.min(37)], piece);
             let fault = link(rt.alloc(), &mut sources, &mut sink, &Options::new()).err();
@@ -669,38 +715,80 @@ fn each_full_sink_is_told(rt: HostRuntime) -> Result<(), Fail> {
     Ok(())
 }
 
-/// The growth with this number is refused in a link of two modules, if there is one. Whether there is.
-fn refuses_growth<R: Abort>(rt: &R, alloc: Global, number: u64, inputs: (&[u8], &[u8])) -> bool {
+/// How many growths reading this module takes.
+fn growths_of(alloc: Global, module: &[u8]) -> u64 {
+    let mut growths = 0;
+    for number in 1..500u64 {
+        let alloc = Refusing::nth(alloc, number);
+        let mut source = MemSource::over(module, 60, None);
+        let mut room = [0u8; 4];
+        let mut sink = MemSink::over(&mut room, 4);
+        let _result = check(&alloc, &mut source, &mut sink);
+        if !alloc.has_refused() {
+            break;
+        }
+        growths = number;
+    }
+    growths
+}
+
+/// What a refused growth does to a link.
+#[derive(Clone, Copy, Debug, PartialEq, Eq)]
+enum Refusal {
+    /// There is no growth with this number.
+    Unmet,
+    /// The link ends in want of memory.
+    Wanted,
+    /// An index map makes do with a smaller growth, and the file is right.
+    MadeDo,
+}
+
+/// The growth with this number is refused in a link of two modules, the second of which isn't called before so many.
+fn refuse_growth<R: Abort>(
+    rt: &R,
+    alloc: Global,
+    number: u64,
+    before: u64,
+    inputs: (&[u8], &[u8]),
+) -> Refusal {
     let alloc = Refusing::nth(alloc, number);
     let mut room = [0u8; 60];
     let mut sink = MemSink::over(&mut room, 60);
-    let fault = link_two(rt, &alloc, inputs, &mut sink);
-    let is_refused = alloc.has_refused();
-    if is_refused && fault.is_some() {
-        assert!(rt; fault == Some(LinkFault::Memory));
-        assert!(rt; sink.written().is_empty());
-        let mut room = [0u8; 60];
-        let mut sink = MemSink::over(&mut room, 60);
-        assert!(rt; link_two(rt, &alloc, inputs, &mut sink).is_none());
+    let (fault, calls) = link_two(&alloc, inputs, &mut sink);
+    let Some(fault) = fault else {
         assert_eq!(rt; sink.written(), PAIR_FILE.as_slice());
-    } else {
-        // a map makes do with a smaller growth
-        assert!(rt; fault.is_none());
-        assert_eq!(rt; sink.written(), PAIR_FILE.as_slice());
-    }
-    is_refused
+        return if alloc.has_refused() {
+            Refusal::MadeDo
+        } else {
+            Refusal::Unmet
+        };
+    };
+    assert!(rt; alloc.has_refused());
+    assert!(rt; fault == LinkFault::Memory);
+    assert_eq!(rt; status(&fault), 3);
+    assert!(rt; sink.written().is_empty());
+    assert_eq!(rt; calls == 0, number <= before);
+    let mut room = [0u8; 60];
+    let mut sink = MemSink::over(&mut room, 60);
+    assert!(rt; link_two(&alloc, inputs, &mut sink).0.is_none());
+    assert_eq!(rt; sink.written(), PAIR_FILE.as_slice());
+    Refusal::Wanted
 }
 
 #[test]
 fn each_refused_growth_is_want_of_memory(rt: HostRuntime) -> Result<(), Fail> {
     let (one, two) = two_modules(rt.alloc())?;
-    let mut refusals = 0;
+    // the first is read, the list of modules grows, and so does the buffer of the second
+    let before = growths_of(rt.alloc(), &one).saturating_add(2);
+    let (mut wanted, mut made_do) = (0u64, 0u64);
     for number in 1..500u64 {
-        if !refuses_growth(&rt, rt.alloc(), number, (&one, &two)) {
-            break;
+        match refuse_growth(&rt, rt.alloc(), number, before, (&one, &two)) {
+            Refusal::Unmet => break,
+            Refusal::Wanted => wanted = wanted.saturating_add(1),
+            Refusal::MadeDo => made_do = made_do.saturating_add(1),
         }
-        refusals = number;
     }
-    assert!(rt; refusals > 0 && refusals < 499);
+    assert!(rt; before > 10 && wanted > before && wanted < 400);
+    assert_eq!(rt; made_do, 2);
     Ok(())
 }

@@ -6,7 +6,7 @@ use crate::tests::modules::{nested, two_modules, with_segment};
 use crate::tests::{LISTING, SMALL, SMALL_LINES, record_place};
 use crate::{check, load_file, rewrite, show};
 use omf_frame::{MemSink, MemSource};
-use omf_text::{LinkFault, RecordFault};
+use omf_text::{LinkFault, RecordFault, status};
 use refusing::Refusing;
 use std::alloc::{Allocator, Global};
 use std::process::Abort;
@@ -126,7 +126,7 @@ fn each_changed_byte_is_told(rt: HostRuntime) -> Result<(), Fail> {
 
 /// The file of a program of one byte.
 const BYTE_FILE: [u8; 33] = [
-    0x4D, 0x5A, 0x21, 0x00, 0x01, 0x00, 0x00, 0x00, 0x02, 0x00, 0x00, 0x00, 0xFF, 0xFF, 0x00, 0x00,
+    0x4D, 0x5A, 0x21, 0x00, 0x01, 0x00, 0x00, 0x00, 0x02, 0x00, 0x01, 0x00, 0xFF, 0xFF, 0x00, 0x00,
     0x00, 0x00, 0x00, 0x00, 0x00, 0x00, 0x00, 0x00, 0x1C, 0x00, 0x00, 0x00, 0x00, 0x00, 0x00, 0x00,
     0x41,
 ];
@@ -163,7 +163,7 @@ fn run_command<A: Allocator + Copy>(
 ) -> Result<(), LinkFault<A>>
     requires { sink.old.failures ≡ 0 }
 {
-    let mut source = MemSource::over(input, 3, None);
+    let mut source = MemSource::over(input, 1, None);
     match command {
         Command::Show => show(alloc, &mut source, sink),
         Command::Rewrite => rewrite(alloc, &mut source, sink),
@@ -253,6 +253,9 @@ fn refuses_growth<R: Abort>(
     let is_refused = alloc.has_refused();
     if is_refused {
         assert!(rt; result == Err(LinkFault::Memory));
+        if let Err(fault) = &result {
+            assert_eq!(rt; status(fault), 3);
+        }
         assert!(rt; is_whole(command, output, sink.written()));
         let mut room = [0u8; 1200];
         let mut sink = MemSink::over(&mut room, 1200);

@@ -1,6 +1,6 @@
 use Rattle.std.proofs.Common.{rules, ◌≡◌, ◌<◌, ◌++◌, ◌∷◌, [], length, sym, subst, inr}
 use Rattle.std.proofs.lemmas.List.Elements.{All-get_or}
-use Rattle.omf_commands.proofs.InputSteps.{front_read, modules_push, read_input, read_one, refused, same_at}
+use Rattle.omf_commands.proofs.InputSteps.{finished, front_read, modules_push, read_input, read_one, refused, same_at}
 use Rattle.omf_commands.proofs.inputs.read_inputs.Goals as goal
 
 pub read_module-requires : goal.read_module-requires
@@ -26,11 +26,12 @@ returns-then-is_err g c =
     let told = g.S.Source.remaining in
     let failures = g.S.Source.failures in
     let here : c.loop-input.input < length c.args.sources.now = search rules in
-    let (rs, input, says) = read_input told failures c.in-Ok.says _ c.read_module.new.source c.in-Ok.ensures.reads c.in-Ok.ensures.device in
+    let (rs, read, says) = read_input told failures c.in-Ok.says _ c.read_module.new.source c.in-Ok.ensures.reads c.in-Ok.ensures.device in
+    let input = finished told failures rs _ c.read_module.new.source c.finish.new.self c.finish.ensures.told c.finish.ensures.failures read in
     inr (
       lists ++ rs ∷ [],
       front_read told failures _ _ _ _ (read_one told failures lists c.loop-input.input c.args.sources.now c.loop-input.sources c.index-sources-input.result rs
-          c.read_module.new.source here so input),
+          c.finish.new.self here so input),
     )
 
 pub loop-input-preserved : goal.loop-input-preserved
@@ -39,9 +40,10 @@ loop-input-preserved g c =
     let told = g.S.Source.remaining in
     let failures = g.S.Source.failures in
     let here : c.loop-input.input < length c.args.sources.now = search rules in
-    let (rs, input, says) = read_input told failures c.in-Ok.says _ c.read_module.new.source c.in-Ok.ensures.reads c.in-Ok.ensures.device in
+    let (rs, read, says) = read_input told failures c.in-Ok.says _ c.read_module.new.source c.in-Ok.ensures.reads c.in-Ok.ensures.device in
+    let input = finished told failures rs _ c.read_module.new.source c.finish.new.self c.finish.ensures.told c.finish.ensures.failures read in
     let pushed : c.push.new.self.items ≡ c.loop-input.modules.items ++ c.in-Ok.says ∷ [] = search rules in (
       lists ++ rs ∷ [],
-      read_one told failures lists c.loop-input.input c.args.sources.now c.loop-input.sources c.index-sources-input.result rs c.read_module.new.source here so input,
+      read_one told failures lists c.loop-input.input c.args.sources.now c.loop-input.sources c.index-sources-input.result rs c.finish.new.self here so input,
       rw pushed (modules_push lists rs _ c.in-Ok.says are says),
     )

@@ -1,4 +1,4 @@
-use Rattle.std.proofs.Common.{◌≡◌, ◌<◌, [], ◌∷◌, ◌++◌, Ok, Err, Some, None, arith, refl, sym, ap, subst, ◌∙◌}
+use Rattle.std.proofs.Common.{◌≡◌, ◌<◌, [], ◌∷◌, ◌++◌, Ok, Err, Some, None, arith, refl, sym, ap, subst, ◌∙◌, inl}
 use Rattle.std.proofs.lemmas.Result.{err_from_is_err_and}
 use Rattle.std.proofs.lemmas.Option.{IfSome_then}
 use Rattle.std.specs.declared.option.Option.{Option}
@@ -8,7 +8,7 @@ use Rattle.omf_frame.specs.Frame.{Framed, place_limit, frame_at}
 use Rattle.omf_frame.specs.Reading.{Gives, IsAt}
 use Rattle.omf_frame.specs.Lending.{plain_frame, next_place, IfFrame}
 use Rattle.omf_frame.specs.declared.frame.Frame.{Frame}
-use Rattle.omf_frame.proofs.Told.{at_some, none_taken}
+use Rattle.omf_frame.proofs.Told.{Keeps-refl, at_some}
 use Rattle.omf_frame.specs.declared.reading.FrameFault.{FrameFault}
 use Rattle.omf_record.specs.Records.{Placed, NoEnd}
 use Rattle.omf_record.proofs.Records.{AreBeforeEnd-push, AreToEnd-push, kind_end, not_end}
@@ -27,7 +27,7 @@ returns-in_err-buf-clause-output g c =
     let p = err_from_is_err_and c.from_residual.result c.from_residual.ensures.1 in
     let a = g.S.Source.remaining c.args.source.now in
     let t = begun (output c.args.form) a (g.K.Sink.written c.args.sink.now) in
-    rw (p.1, p.2) ([], a, tt, t.0, none_taken a)
+    rw (p.1, p.2) ([], a, tt, t.0, inl (Keeps-refl a))
 
 pub returns-in-Ok-None-clause-output : goal.returns-in-Ok-None-clause-output
 returns-in-Ok-None-clause-output g c =
