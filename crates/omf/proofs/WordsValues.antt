@@ -12,7 +12,7 @@ use Rattle.std.proofs.lemmas.Slice.Eq.{bytes_eq-Decides}
 use Rattle.hex.specs.Hex.{decode_of, decode_sized}
 use Rattle.hex.specs.declared.error.FromHexError.{FromHexError}
 use Rattle.hex.proofs.HexLemmas.{IsOk-decode_sized, decode_of-ok, decode_sized-ok, decode_sized-twice}
-use Rattle.clap.specs.Words.{App, HasMatchesOf, Row, Text, all_of, built, fault_of, first_of, first_value, found_of, has_subcommand, is_simple, is_simple_and_free, matched_of, raw_values, rows_of, subcommand_name_of, subcommand_of, subcommand_rows, subcommand_rows_of}
+use Rattle.clap.specs.Words.{App, HasMatchesOf, Row, Text, all_of, built, fault_of, first_of, first_value, found_of, has_subcommand, is_simple, is_simple_and_free, matched_of, one_text, raw_values, rows_of, subcommand_name_of, subcommand_of, subcommand_rows, subcommand_rows_of}
 use Rattle.clap.specs.Kinds.{FailsBy}
 use Rattle.clap.specs.declared.error.Error.{Error}
 use Rattle.clap.specs.declared.parser.matches.ArgMatches.{ArgMatches}
@@ -21,11 +21,11 @@ use Rattle.clap.specs.declared.parser.matches.Found.{Found}
 use Rattle.clap.proofs.CallerLemmas.{some_of_text}
 use Rattle.clap.proofs.OnLiterals.{clap_on_literals}
 use Rattle.clap.proofs.TakesLemmas.{some_rows}
-use Rattle.clap.proofs.WalkLemmas.{first_value-rows, raw_values-rows}
+use Rattle.clap.proofs.WalkLemmas.{first_value-rows, one_text-rows, raw_values-rows}
 use Rattle.omf.specs.declared.words.Job.{Job}
 use Rattle.omf.specs.declared.words.WordsFault.{WordsFault}
 use Rattle.omf.specs.declared.words.WordsFault.TheVariants.{Help, Wrong, Memory}
-use Rattle.omf.specs.Words.{HasTooManyFiles, HasWrongParagraph, IsEntered, IsFourDigits, IsJobFor, IsJobOf, IsRefusalFor, IsRefusalOf, IsWrong, omf_command, texts}
+use Rattle.omf.specs.Words.{HasTooManyFiles, HasWrongParagraph, IsEntered, IsFlag, IsFourDigits, IsJobFor, IsJobOf, IsRefusalFor, IsRefusalOf, IsWrong, omf_command, texts}
 use Rattle.omf.proofs.WordsTaken.{is_settled_app, takes_where_no_fault}
 use Rattle.omf.proofs.WordsRequired.{enters_one, is_entered, required_given, wants_values}
 
@@ -37,6 +37,15 @@ value_there f id o is there = some_of_text (λ s. s.now) o (first_of id (rows_of
 -- the value of an argument that may be missing
 pub value_or_none : (f : Found) (id : Text) (o : Option (Bor Text)) → option_map (λ s. s.now) o ≡ first_value f id → first_of id (rows_of f) ≡ option_map (λ s. s.now) o
 value_or_none f id o is = sym (is ∙ first_value-rows f id)
+
+-- a flag is what its value says
+pub flag_of : (f : Found) (id : Text) (flag : Bool) → (one_text f id ≡ Some (codes "true") → flag ≡ true) → (one_text f id ≡ Some (codes "false") → flag ≡ false) → (one_text f id ≡ None → flag ≡ false)
+    → IsFlag id (rows_of f) flag
+flag_of f id flag given other none = record {
+  given = λ e. given (one_text-rows f id ∙ e);
+  other = λ e. other (one_text-rows f id ∙ e);
+  none = λ e. none (one_text-rows f id ∙ e);
+}
 
 pub value_given : (f : Found) (id : Text) (o : Option (Bor Text)) (text : Bor Text) → option_map (λ s. s.now) o ≡ first_value f id → o ≡ Some text
     → first_of id (rows_of f) ≡ Some text.now

@@ -1,13 +1,35 @@
 -- Files that are read, and a sink in front of a writer that is written in large pieces.
-use Rattle.std.specs.Prelude.{ℕ, List, option_and_then}
+use Rattle.std.specs.Prelude.{◌≡◌, ℕ, List, Bool, true, false, None}
 use Rattle.std.specs.declared.option.Option.{Option}
-use Rattle.std.specs.Io.Buffered.{writer_buffer, writer_contents}
+use Rattle.std.specs.Io.Buffered.{reader_remaining, writer_buffer, writer_contents}
 use Rattle.omf.specs.declared.files.BufferedSink.{BufferedSink}
-use Rattle.omf.specs.declared.files.OpenedFile.{OpenedFile}
+use Rattle.omf.specs.declared.files.Stage.{Stage}
+use Rattle.omf.specs.declared.files.Stage.TheVariants.{Waiting, Open, Failed, NoMemory, Finished}
 
--- the bytes to come of a file, where it was opened and tells them
-abbrev pub opened_bytes : {F : Type 0} → (F → Option (List ℕ)) → OpenedFile F → Option (List ℕ)
-opened_bytes remaining f = option_and_then remaining f.file
+-- the bytes to come of a file that has these before it is opened, where they are told
+abbrev pub stage_bytes : {F A : Type 0} → (F → Option (List ℕ)) → Option (List ℕ) → Stage F A → Option (List ℕ)
+stage_bytes remaining unopened Waiting = unopened
+stage_bytes remaining unopened (Open reader) = reader_remaining remaining reader
+stage_bytes remaining unopened Failed = None
+stage_bytes remaining unopened NoMemory = None
+stage_bytes remaining unopened (Finished last) = reader_remaining remaining last.value
+
+-- a file with these bytes was opened and no byte of it read, or it couldn't be opened
+abbrev pub IsOpenedAt : {F A : Type 0} → (F → Option (List ℕ)) → Option (List ℕ) → Stage F A → Type 0
+IsOpenedAt remaining bytes Waiting = ⊥
+IsOpenedAt remaining bytes (Open reader) = reader_remaining remaining reader ≡ bytes
+IsOpenedAt remaining bytes Failed = Unit {0}
+IsOpenedAt remaining bytes NoMemory = Unit {0}
+IsOpenedAt remaining bytes (Finished last) = ⊥
+
+-- no file is open, and there is no buffer
+abbrev pub HoldsNothing : {F A : Type 0} → Stage F A → Type 0
+HoldsNothing (Open reader) = ⊥
+HoldsNothing _ = Unit {0}
+
+abbrev pub is_out_of_memory : {F A : Type 0} → Stage F A → Bool
+is_out_of_memory NoMemory = true
+is_out_of_memory _ = false
 
 -- the bytes that the writer holds, and then those that are held back
 abbrev pub sink_bytes : {W A : Type 0} → (W → Option (List ℕ)) → BufferedSink W A → Option (List ℕ)

@@ -1,12 +1,13 @@
 -- The command line: what each subcommand takes, and which job its values are.
-use Rattle.std.specs.Prelude.{◌≡◌, ◌≤◌, ◌<◌, ◌&&◌, ◌||◌, ◌⊎◌, ⊤, true, not, List, [], ◌∷◌, length, map, Some, is_some, IsSomeAnd, option_map, codes, Ok}
+use Rattle.std.specs.Prelude.{◌≡◌, ◌≤◌, ◌<◌, ◌&&◌, ◌||◌, ◌⊎◌, ⊤, Bool, true, false, None, not, List, [], ◌∷◌, length, map, Some, is_some, IsSomeAnd, option_map, codes, Ok}
 use Rattle.std.specs.Int.{to_be_bytes, w16}
 use Rattle.std.specs.List.{AllPass, list_all, list_any}
 use Rattle.std.specs.Str.{bytes_eq}
 use Rattle.std.specs.Borrow.{Bor}
 use Rattle.hex.specs.Hex.{decode_of, is_hex_digit}
-use Rattle.clap.specs.Words.{App, Row, Rule, Text, all_of, first_of, new_app, new_rule, subcommand_of, takes, with_rule, with_subcommand}
+use Rattle.clap.specs.Words.{App, Row, Rule, Text, all_of, first_of, one_of, new_app, new_rule, subcommand_of, takes, with_rule, with_subcommand}
 use Rattle.clap.specs.Lexer.{usize_max}
+use Rattle.clap.specs.declared.builder.action.ArgAction.TheVariants.{SetTrue}
 use Rattle.omf.specs.declared.words.WordsFault.{WordsFault}
 use Rattle.omf.specs.declared.words.WordsFault.TheVariants.{Help, Wrong, Memory}
 use Rattle.omf.specs.declared.words.Job.{Job}
@@ -22,6 +23,10 @@ out_rule = record (needed (codes "OUT")) { short = Some 111 }
 -- a value that may be missing
 abbrev pub map_rule : Rule
 map_rule = record (new_rule (codes "MAP")) { short = Some 109 }
+
+-- a flag, whose value is true where it is given and else false
+abbrev pub case_rule : Rule
+case_rule = record (new_rule (codes "ignore-case")) { long = Some (codes "ignore-case"); action = Some SetTrue }
 
 -- one or more files
 abbrev pub files_rule : Rule
@@ -39,7 +44,7 @@ abbrev pub rewrite_command : App
 rewrite_command = with_rule (with_rule (new_app (codes "rewrite")) (needed (codes "IN"))) (needed (codes "OUT"))
 
 abbrev pub link_command : App
-link_command = with_rule (with_rule (with_rule (new_app (codes "link")) out_rule) map_rule) files_rule
+link_command = with_rule (with_rule (with_rule (with_rule (new_app (codes "link")) out_rule) map_rule) case_rule) files_rule
 
 abbrev pub load_command : App
 load_command = with_rule (with_rule (new_app (codes "load")) (needed (codes "FILE"))) (needed (codes "PARAGRAPH"))
@@ -68,13 +73,20 @@ IsEntered name rows =
 abbrev pub IsFourDigits : Text → Type 0
 IsFourDigits digits = (length digits ≡ 4) × AllPass is_hex_digit digits
 
+-- what a flag is: its value, or false where it has none
+pub record IsFlag (id : Text) (rows : List Row) (flag : Bool) : Type 0 where
+  pub given : one_of id rows ≡ Some (codes "true") → flag ≡ true
+  pub other : one_of id rows ≡ Some (codes "false") → flag ≡ false
+  pub none : one_of id rows ≡ None → flag ≡ false
+
 -- `job` is what these values of the subcommand `name` ask for
 abbrev pub IsJobOf : Text → List Row → Job → Type 0
 IsJobOf name rows (Show file) = (name ≡ codes "show") × (first_of (codes "FILE") rows ≡ Some file.now)
 IsJobOf name rows (Check file) = (name ≡ codes "check") × (first_of (codes "FILE") rows ≡ Some file.now)
 IsJobOf name rows (Rewrite from to) = (name ≡ codes "rewrite") × (first_of (codes "IN") rows ≡ Some from.now) × (first_of (codes "OUT") rows ≡ Some to.now)
-IsJobOf name rows (Link out map files) = (name ≡ codes "link") × (first_of (codes "OUT") rows ≡ Some out.now)
+IsJobOf name rows (Link out map ignore_case files) = (name ≡ codes "link") × (first_of (codes "OUT") rows ≡ Some out.now)
     × (first_of (codes "MAP") rows ≡ option_map (λ path. path.now) map)
+    × IsFlag (codes "ignore-case") rows ignore_case
     × (all_of (codes "FILES") rows ≡ Some (texts files.items)) × (1 ≤ length files.items) × (length files.items ≤ 65535)
 IsJobOf name rows (Load file digits paragraph) = (name ≡ codes "load") × (first_of (codes "FILE") rows ≡ Some file.now)
     × (first_of (codes "PARAGRAPH") rows ≡ Some digits.now) × IsFourDigits digits.now

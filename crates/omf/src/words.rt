@@ -9,13 +9,19 @@ ghost use Rattle.omf.specs.Words.{IsEntered, IsJobFor, IsJobOf, IsRefusalFor, Is
 
 use clap::builder::ValueRange;
 use clap::error::ErrorKind;
-use clap::{Arg, ArgMatches, Command};
+use clap::{Arg, ArgAction, ArgMatches, Command};
 use hex::FromHex;
 use std::alloc::{AllocError, Global};
 use thiserror::Error;
 
 /// A link has no more files than this.
 const MAX_FILES: usize = 65_535;
+
+/// What stands at the end of help.
+const STATUSES: &str = "\
+Exit status: 0 all is done, 1 an input is at fault, 2 wrong arguments, 3 a file or\n\
+device failed or out of memory. A fault is one line on standard error; docs/FAULTS.md\n\
+and the man page say what to do about each.";
 
 /// What the words ask for: a subcommand with its values.
 #[derive(Debug, Drop)]
@@ -43,6 +49,8 @@ pub enum Job<'a> {
         out: &'a str,
         /// The path of the map that is written after the program, where one is asked for.
         map: Option<&'a str>,
+        /// Whether names of publics and externals agree without regard to case.
+        ignore_case: bool,
         /// The paths of the object modules, in their order.
         files: Vec<&'a str>,
     },
@@ -93,7 +101,7 @@ fn out_option<'a>(alloc: Global) -> Arg<'a>
 {
     needed(alloc, "OUT")
         .short('o')
-        .help("The program that is written")
+        .help("The program to write, none of FILES")
 }
 
 fn map_option<'a>(alloc: Global) -> Arg<'a>
@@ -102,16 +110,26 @@ fn map_option<'a>(alloc: Global) -> Arg<'a>
 {
     Arg::new(alloc, "MAP")
         .short('m')
-        .help("The map that is written after it")
+        .help("The map to write after it, another file than OUT")
+}
+
+fn case_flag<'a>(alloc: Global) -> Arg<'a>
+    ensures rule { rule_of result ≡ spec.case_rule }
+    ensures local { result.global ≡ false }
+{
+    Arg::new(alloc, "ignore-case")
+        .long("ignore-case")
+        .action(ArgAction::SetTrue)
+        .help("Names agree without regard to case: for Pascal, and assemblers that write capitals")
 }
 
 fn files<'a>(alloc: Global) -> Arg<'a>
     ensures rule { rule_of result ≡ spec.files_rule }
     ensures local { result.global ≡ false }
 {
-    needed(alloc, "FILES")
-        .num_args(ValueRange::from(1..))
-        .help("The object modules in their order")
+    needed(alloc, "FILES").num_args(ValueRange::from(1..)).help(
+        "The object modules to link, one in each file, in their order",
+    )
 }
 
 fn with_arg<'a>(command: Command<'a>, arg: Arg<'a>) -> Result<Command<'a>, AllocError>
@@ -127,7 +145,9 @@ fn show_command<'a>(alloc: Global) -> Result<Command<'a>, AllocError>
     ensures app { IfOk result (λ c. app_of c ≡ spec.show_command) }
     ensures local { IfOk result (λ c. (fields_of c).has_globals ≡ false) }
 {
-    let command = Command::new(alloc, "show").about("Lists the records of an object module");
+    let command = Command::new(alloc, "show").about(
+        "Prints what each record of an object module says",
+    );
     with_arg(command, needed(alloc, "FILE").help("The object module"))
 }
 
@@ -135,7 +155,9 @@ fn check_command<'a>(alloc: Global) -> Result<Command<'a>, AllocError>
     ensures app { IfOk result (λ c. app_of c ≡ spec.check_command) }
     ensures local { IfOk result (λ c. (fields_of c).has_globals ≡ false) }
 {
-    let command = Command::new(alloc, "check").about("Checks an object module");
+    let command = Command::new(alloc, "check").about(
+        "Says whether an object module is sound, or names its first fault",
+    );
     with_arg(command, needed(alloc, "FILE").help("The object module"))
 }
 
@@ -143,11 +165,13 @@ fn rewrite_command<'a>(alloc: Global) -> Result<Command<'a>, AllocError>
     ensures app { IfOk result (λ c. app_of c ≡ spec.rewrite_command) }
     ensures local { IfOk result (λ c. (fields_of c).has_globals ≡ false) }
 {
-    let command = Command::new(alloc, "rewrite").about("Writes an object module in canonical form");
+    let command = Command::new(alloc, "rewrite").about(
+        "Writes the records of an object module in their canonical form",
+    );
     let command = with_arg(command, needed(alloc, "IN").help("The object module"))?;
     with_arg(
         command,
-        needed(alloc, "OUT").help("The file that is written"),
+        needed(alloc, "OUT").help("The file to write, another one than IN"),
     )
 }
 
@@ -155,9 +179,12 @@ fn link_command<'a>(alloc: Global) -> Result<Command<'a>, AllocError>
     ensures app { IfOk result (λ c. app_of c ≡ spec.link_command) }
     ensures local { IfOk result (λ c. (fields_of c).has_globals ≡ false) }
 {
-    let command = Command::new(alloc, "link").about("Links object modules into a program");
+    let command = Command::new(alloc, "link")
+        .about("Links object modules into a program; a refused link writes nothing")
+        .after_help(STATUSES);
     let command = with_arg(command, out_option(alloc))?;
     let command = with_arg(command, map_option(alloc))?;
+    let command = with_arg(command, case_flag(alloc))?;
     with_arg(command, files(alloc))
 }
 
@@ -166,12 +193,14 @@ fn load_command<'a>(alloc: Global) -> Result<Command<'a>, AllocError>
     ensures local { IfOk result (λ c. (fields_of c).has_globals ≡ false) }
 {
     let command = Command::new(alloc, "load").about(
-        "Lists a program as it is loaded at a paragraph",
+        "Prints registers and memory of a program as it is loaded at a paragraph",
     );
     let command = with_arg(command, needed(alloc, "FILE").help("The program"))?;
     with_arg(
         command,
-        needed(alloc, "PARAGRAPH").help("Where it is loaded: four hexadecimal digits"),
+        needed(alloc, "PARAGRAPH").help(
+            "Where it is loaded: four hexadecimal digits, such as 1000",
+        ),
     )
 }
 
@@ -190,6 +219,7 @@ fn bare_command<'a>(alloc: Global) -> Result<Command<'a>, AllocError>
 {
     Command::new(alloc, "omf")
         .about("Links 16-bit OMF object modules into an MS-DOS program")
+        .after_help(STATUSES)
         .no_binary_name(true)
         .subcommand_required(true)
         .arg_required_else_help(true)
@@ -253,6 +283,7 @@ fn link_job<'a>(alloc: Global, values: &ArgMatches<'a>) -> Result<Job<'a>, Words
     Ok(Job::Link {
         out: value(values, "OUT"),
         map: values.get_str("MAP"),
+        ignore_case: values.get_flag("ignore-case"),
         files,
     })
 }

@@ -1,7 +1,10 @@
 use super::*;
-use omf_frame::{Source, put_all};
+use crate::world::memory::{Count, Desk, Page};
+use omf_frame::put_all;
+use std::fs;
+use std::io::ErrorKind;
+use std::process::Abort;
 use std::test::*;
-
 // A writer that takes so many bytes, in pieces of at most 1,000, and then fails.
 #[derive(Drop)]
 struct Room {
@@ -64,10 +67,45 @@ fn a_file_is_created_at_its_first_byte(rt: HostRuntime) -> Result<(), Fail> {
 }
 
 #[test]
-fn a_file_that_cannot_be_opened_fails_at_its_first_read(rt: HostRuntime) -> Result<(), Fail> {
-    let mut source = open_source(rt.alloc(), &rt, "no-folder/x")?;
-    assert_eq!(rt; source.failures(), 0u64);
-    assert_eq!(rt; source.read_some(&mut [0u8; 3]), Err(IoFault));
-    assert_eq!(rt; source.failures(), 1u64);
+fn a_file_is_opened_at_its_first_read_and_once(rt: HostRuntime) -> Result<(), Fail> {
+    let alloc = rt.alloc();
+    let page = Page::new(alloc, "", b"", 100)?;
+    let opened = Page::new(alloc, "", b"", 100)?;
+    let count = Count::new();
+    reads_once(&rt, alloc, &page, &opened, &count)
+}
+
+/// Of two sources over a desk with one file each opens its path at its first read, and not again.
+fn reads_once<'a>(
+    rt: &impl Abort,
+    alloc: Global,
+    page: &'a Page<'a>,
+    opened: &'a Page<'a>,
+    count: &'a Count,
+) -> Result<(), Fail> {
+    let desk = Desk {
+        files: &[("A", b"abc")],
+        out: page,
+        map: page,
+        output: page,
+        errors: page,
+        opened,
+        count,
+    };
+    let mut there = open_source(alloc, desk, "A");
+    let mut missing = open_source(alloc, desk, "NO");
+    assert_eq!(rt; opened.bytes(alloc)?.len(), 0usize);
+    let mut buf = [0u8; 2];
+    assert_eq!(rt; missing.read_some(&mut buf), Err(IoFault));
+    assert_eq!(rt; missing.read_some(&mut buf), Err(IoFault));
+    assert_eq!(rt; (missing.failures(), missing.lacks_memory()), (2, false));
+    assert_eq!(rt; there.read_some(&mut buf), Ok(2));
+    assert_eq!(rt; count.open(), 1usize);
+    there.finish();
+    assert_eq!(rt; count.open(), 0usize);
+    assert_eq!(rt; there.failures(), 0u64);
+    assert_eq!(rt; there.read_some(&mut buf), Err(IoFault));
+    assert_eq!(rt; there.failures(), 1u64);
+    assert_eq!(rt; opened.bytes(alloc)?.as_slice(), b"NO A ".as_slice());
     Ok(())
 }

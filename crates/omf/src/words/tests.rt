@@ -11,11 +11,11 @@ fn reads_each_subcommand(rt: HostRuntime) {
         ),
         (
             ["link", "A", "-o", "P", "B"].as_slice(),
-            "Link { out: \"P\", map: None, files: [\"A\", \"B\"] }",
+            "Link { out: \"P\", map: None, ignore_case: false, files: [\"A\", \"B\"] }",
         ),
         (
             ["link", "-oP", "A"].as_slice(),
-            "Link { out: \"P\", map: None, files: [\"A\"] }",
+            "Link { out: \"P\", map: None, ignore_case: false, files: [\"A\"] }",
         ),
         (
             ["load", "P", "1234"].as_slice(),
@@ -47,7 +47,7 @@ fn reads_each_subcommand(rt: HostRuntime) {
 
 #[test]
 fn reads_the_path_of_a_map(rt: HostRuntime) {
-    let linked = "Link { out: \"P\", map: Some(\"M\"), files: [\"A\", \"B\"] }";
+    let linked = "Link { out: \"P\", map: Some(\"M\"), ignore_case: false, files: [\"A\", \"B\"] }";
     let taken = [
         (["link", "-m", "M", "-o", "P", "A", "B"].as_slice(), linked),
         (["link", "-o", "P", "-m", "M", "A", "B"].as_slice(), linked),
@@ -57,11 +57,47 @@ fn reads_the_path_of_a_map(rt: HostRuntime) {
         (["link", "-m=M", "-o=P", "A", "B"].as_slice(), linked),
         (
             ["link", "-o", "P", "-m", "", "A"].as_slice(),
-            "Link { out: \"P\", map: Some(\"\"), files: [\"A\"] }",
+            "Link { out: \"P\", map: Some(\"\"), ignore_case: false, files: [\"A\"] }",
         ),
         (
             ["link", "-o", "P", "--", "A", "-m"].as_slice(),
-            "Link { out: \"P\", map: None, files: [\"A\", \"-m\"] }",
+            "Link { out: \"P\", map: None, ignore_case: false, files: [\"A\", \"-m\"] }",
+        ),
+    ];
+    for (words, shown) in taken {
+        match parse_words(rt.alloc(), words) {
+            Ok(job) => {
+                let text = format!(in rt.alloc(); "{job:?}").expect(&rt, "text");
+                assert_eq!(rt; text.as_str(), shown);
+            }
+            Err(_) => panic!(rt; "refused"),
+        }
+    }
+}
+
+#[test]
+fn reads_whether_case_counts(rt: HostRuntime) {
+    let linked = "Link { out: \"P\", map: None, ignore_case: true, files: [\"A\", \"B\"] }";
+    let taken = [
+        (
+            ["link", "--ignore-case", "-o", "P", "A", "B"].as_slice(),
+            linked,
+        ),
+        (
+            ["link", "-o", "P", "--ignore-case", "A", "B"].as_slice(),
+            linked,
+        ),
+        (
+            ["link", "A", "--ignore-case", "B", "-o", "P"].as_slice(),
+            linked,
+        ),
+        (
+            ["link", "-o", "P", "A", "B", "--ignore-case"].as_slice(),
+            linked,
+        ),
+        (
+            ["link", "-o", "P", "--", "A", "--ignore-case"].as_slice(),
+            "Link { out: \"P\", map: None, ignore_case: false, files: [\"A\", \"--ignore-case\"] }",
         ),
     ];
     for (words, shown) in taken {
@@ -114,6 +150,14 @@ fn answers_with_the_texts_of_the_parser(rt: HostRuntime) {
             "a value is required for '-m <MAP>' but none was supplied",
         ),
         (
+            ["link", "--ignore-case", "-o", "P", "A", "--ignore-case"].as_slice(),
+            "the argument '--ignore-case' cannot be used multiple times",
+        ),
+        (
+            ["link", "--ignore-case=yes", "-o", "P", "A"].as_slice(),
+            "unexpected value 'yes' for '--ignore-case' found",
+        ),
+        (
             ["load", "P.EXE"].as_slice(),
             "Usage: omf load <FILE> <PARAGRAPH>\n",
         ),
@@ -143,7 +187,16 @@ fn answers_with_the_texts_of_the_parser(rt: HostRuntime) {
         ),
         (
             ["link", "-h"].as_slice(),
-            "  -m <MAP>    The map that is written after it\n",
+            "  -m <MAP>           The map to write after it, another file than OUT\n",
+        ),
+        (
+            ["help", "link"].as_slice(),
+            "\n\nExit status: 0 all is done, 1 an input is at fault,",
+        ),
+        (["help"].as_slice(), "docs/FAULTS.md\nand the man page say"),
+        (
+            ["link", "-h"].as_slice(),
+            "--ignore-case  Names agree without regard to case: for Pascal, and assemblers that write capitals\n",
         ),
         (
             ["rewrite", "--help"].as_slice(),

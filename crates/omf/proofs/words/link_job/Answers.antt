@@ -1,7 +1,7 @@
 use Rattle.std.proofs.Common.{rules, ◌≡◌, ◌≤◌, ◌∙◌, Some, ap, codes, refl, sym, length}
 use Rattle.clap.specs.Words.{found_of, rows_of}
 use Rattle.omf.specs.Words.{texts}
-use Rattle.omf.proofs.WordsValues.{all_given, all_there, one_or_more, too_many, value_or_none}
+use Rattle.omf.proofs.WordsValues.{all_given, all_there, flag_of, one_or_more, too_many, value_or_none}
 use Rattle.omf.proofs.words.link_job.Goals as goal
 
 pub unwrap-files-requires : goal.unwrap-files-requires
@@ -20,4 +20,5 @@ returns-clause-ok c =
     let every = all ∙ ap (λ xs. Some (texts xs)) (sym items) in
     let few : length c.in-Ok.files.items ≤ 65535 = search rules in
     let map = value_or_none f (codes "MAP") c.get_str.result c.get_str.ensures in
-    (refl, c.value.ensures, map, every, one_or_more (codes "FILES") (rows_of f) c.in-Ok.files.items c.requires.files every, few)
+    let flag = flag_of f (codes "ignore-case") c.get_flag.result c.get_flag.ensures.value c.get_flag.ensures.other c.get_flag.ensures.none in
+    (refl, c.value.ensures, map, flag, every, one_or_more (codes "FILES") (rows_of f) c.in-Ok.files.items c.requires.files every, few)
