@@ -3,6 +3,7 @@
 import struct
 from dataclasses import dataclass
 from enum import IntEnum
+from typing import Optional
 
 # most data bytes of a record, all of which a fix-up's ten bits of offset reach
 RECORD_DATA = 1024
@@ -14,9 +15,25 @@ CALLS = 5
 NAMES = 5000
 # names in one record
 NAMES_IN_RECORD = 1000
+# names that a module defines and uses, local ones or not
+OWN_NAMES = 100
 # words of data that are repeated, each stored behind its own repeat and block counts and length
 REPEATED_WORDS = 140
 REPEATS = 234
+# the most copies of a block
+MOST_REPEATS = 65535
+# fix-ups of three bytes that one record holds, and the place of the first content behind counts and length
+SHORT_FIXUPS_IN_RECORD = 21_000
+FIRST_CONTENT = 5
+# bytes that a record of 13 bytes stands for
+EXPANDED = 65_000
+# bytes of code of a program that is long and has no other data
+CODE = 16
+
+
+# types of the records that define names and use them, for all modules or for their own
+PUBDEF, LPUBDEF = 0x90, 0xB6
+EXTDEF, LEXTDEF = 0x8C, 0xB4
 
 
 class Location(IntEnum):
@@ -51,11 +68,13 @@ class Combination(IntEnum):
 
 @dataclass
 class Inputs:
-    """The modules of a link, and what the program that they make must have."""
+    """The modules of a link, and what the program that they make must have; its file has all of the size, or
+    the written bytes where it has fewer."""
 
     modules: list
     size: int
     relocations: int
+    written: Optional[int] = None
 
 
 def record(kind, body):
@@ -92,18 +111,18 @@ def segment(length, alignment=Alignment.BYTE, combination=Combination.PUBLIC):
     return record(0x98, struct.pack("<BH", attributes, 0 if whole else length) + b"\1\2\1")
 
 
-def publics(offsets):
+def publics(offsets, kind=PUBDEF):
     """Publics of the first segment, of a dictionary from names to offsets."""
     entries = list(offsets.items())
     return b"".join(
-        record(0x90, b"\0\1" + b"".join(name(text) + struct.pack("<HB", offset, 0) for text, offset in some))
+        record(kind, b"\0\1" + b"".join(name(text) + struct.pack("<HB", offset, 0) for text, offset in some))
         for some in pieces(entries, NAMES_IN_RECORD)
     )
 
 
-def externals(texts):
+def externals(texts, kind=EXTDEF):
     return b"".join(
-        record(0x8C, b"".join(name(text) + b"\0" for text in some)) for some in pieces(texts, NAMES_IN_RECORD)
+        record(kind, b"".join(name(text) + b"\0" for text in some)) for some in pieces(texts, NAMES_IN_RECORD)
     )
 
 
@@ -210,7 +229,7 @@ def fixups_to_names(count, targets=1000):
     offsets = {f"public_{number}": number for number in range(targets)}
     defining = header("names") + names("CODE", "CODE") + segment(targets) + publics(offsets) + end()
     fixed = fixed_module(count, 1, Location.LOW_BYTE, Target.EXTERNAL, targets, externals(list(offsets)))
-    return Inputs([fixed, defining], count + targets, 0)
+    return Inputs([fixed, defining], count + targets, 0, count)
 
 
 def base_words(count):
@@ -235,28 +254,113 @@ def repeated_data(count):
     return Inputs([module], size, 0)
 
 
-def naming_module(number, count):
-    """A module that defines some names and uses those of the next one."""
-    defined = [f"_name_{number}_{at}" for at in range(NAMES)]
-    used = [f"_name_{(number + 1) % count}_{at}" for at in range(NAMES)]
-    records = [header(f"m{number}"), names(f"DATA{number}", "DATA"), segment(2 * NAMES)]
-    records.append(publics({text: 2 * at for at, text in enumerate(defined)}))
-    records.append(externals(used))
-    for at in range(0, 2 * NAMES, RECORD_DATA):
-        length = min(RECORD_DATA, 2 * NAMES - at)
-        records.append(data(1, at, bytes(length)))
+def fixed_to_externals(count):
+    """Words of data, one for each of some externals, with fix-ups to them."""
+    records = []
+    for at in range(0, 2 * count, RECORD_DATA):
+        length = min(RECORD_DATA, 2 * count - at)
         places = range(0, length, 2)
+        records.append(data(1, at, bytes(length)))
         records.append(
             fixups(fixup(place, Location.OFFSET, Target.EXTERNAL, (at + place) // 2 + 1) for place in places)
         )
-    records.append(end())
     return b"".join(records)
 
 
-def many_names(count):
+def naming_module(number, count, used_as):
+    """A module that defines some names and uses those of the next one, as they are spelled there."""
+    defined = [f"_name_{number}_{at}" for at in range(NAMES)]
+    used = [used_as(f"_name_{(number + 1) % count}_{at}") for at in range(NAMES)]
+    return (
+        header(f"m{number}")
+        + names(f"DATA{number}", "DATA")
+        + segment(2 * NAMES)
+        + publics({text: 2 * at for at, text in enumerate(defined)})
+        + externals(used)
+        + fixed_to_externals(NAMES)
+        + end()
+    )
+
+
+def many_names(count, used_as=str):
     """Modules with many publics, each of which another module uses."""
     modules = count // NAMES
-    return Inputs([naming_module(number, modules) for number in range(modules)], 2 * count, 0)
+    return Inputs([naming_module(number, modules, used_as) for number in range(modules)], 2 * count, 0)
+
+
+def many_names_in_capitals(count):
+    """The same, but used in capitals."""
+    return many_names(count, str.upper)
+
+
+def own_names_module(number, text, definition, use):
+    """A module that uses the names that it defines."""
+    defined = {text.format(number, at): 2 * at for at in range(OWN_NAMES)}
+    return (
+        header(f"m{number}")
+        + names("DATA", "DATA")
+        + segment(2 * OWN_NAMES, combination=Combination.PRIVATE)
+        + externals(list(defined), use)
+        + publics(defined, definition)
+        + fixed_to_externals(OWN_NAMES)
+        + end()
+    )
+
+
+def local_names(count):
+    """Modules that define the same names, each for itself, and use them."""
+    modules = [own_names_module(number, "_name_{1:05}", LPUBDEF, LEXTDEF) for number in range(count)]
+    return Inputs(modules, 2 * OWN_NAMES * count, 0)
+
+
+def own_publics(count):
+    """Modules that define publics, no two alike and each as long as those of `local_names`, and use them."""
+    modules = [own_names_module(number, "_{0:05}_{1:04}", PUBDEF, EXTDEF) for number in range(count)]
+    return Inputs(modules, 2 * OWN_NAMES * count, 0)
+
+
+def fixups_by_threads(title, content, repeats, mode, location, count):
+    """A content that is repeated as often as can be, and fix-ups of three bytes each to its first place, by threads."""
+    frame_of_target, target_of_segment = b"\x54", b"\x00\1"
+    by_threads = struct.pack(">HB", mode | location << 10 | FIRST_CONTENT, 0x8C)
+    size = repeats * len(content)
+    module = (
+        header(title)
+        + names("DATA", "DATA")
+        + segment(size)
+        + record(0xA2, index(1) + struct.pack("<3HB", 0, repeats, 0, len(content)) + content)
+        + fixups([frame_of_target, target_of_segment])
+        + b"".join(fixups(some) for some in pieces([by_threads] * count, SHORT_FIXUPS_IN_RECORD))
+        + end()
+    )
+    return Inputs([module], size, 0)
+
+
+def short_fixups(count):
+    """Segment-relative fix-ups to one byte."""
+    return fixups_by_threads("short", b"A", MOST_REPEATS, 0xC000, Location.LOW_BYTE, count)
+
+
+def self_relative_fixups(count):
+    """Self-relative fix-ups to one word, whose distance is another at each copy."""
+    return fixups_by_threads("distances", b"AB", MOST_REPEATS // 2, 0x8000, Location.OFFSET, count)
+
+
+def expanding_records(count):
+    """One module with many records of 13 bytes, each of which stands for the whole segment."""
+    expanding = record(0xA2, index(1) + struct.pack("<3HB", 0, EXPANDED, 0, 1) + b"A")
+    assert len(expanding) == 13
+    module = header("expanding") + names("DATA", "DATA") + segment(EXPANDED) + expanding * count + end()
+    return Inputs([module], EXPANDED, 0)
+
+
+def without_data(size):
+    """A program of some code and, behind it, segments of a size in all that have no data."""
+    lengths = filled_segments(size)
+    records = [header("empty"), names("DATA", "DATA"), segment(CODE, Alignment.PARAGRAPH, Combination.PRIVATE)]
+    records += [segment(length, Alignment.PARAGRAPH, Combination.PRIVATE) for length in lengths]
+    records += [data(1, 0, filler(CODE, 0)), end()]
+    return Inputs([b"".join(records)], CODE + size, 0, CODE)
 
 
 def large_program(size):

@@ -8,7 +8,7 @@ NAMES = {
     22: "SegmentTooLong", 23: "ProgramTooLarge", 24: "GroupTooLong", 25: "DuplicatePublic",
     26: "CoversRelocated", 27: "Unresolved", 28: "EmptyGroup", 29: "Mixed", 30: "OutOfFrame",
     31: "ShortTooFar", 32: "OverlapRelocated", 33: "TwoStarts",
-    39: "DoesNotFit",
+    35: "Magic", 36: "Header", 37: "Truncated", 38: "RelocationOutside", 39: "DoesNotFit",
 }
 
 

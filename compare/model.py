@@ -6,19 +6,20 @@ here, from the rules alone; no code is shared with the linker. The model takes r
 them, spends no thought on speed, and answers the program's file, the memory that it loads to and the map of
 the link, or the first fault.
 
-Reading stands in `reading.py` and placing in `placing.py`; here are data, fix-ups, the start, and what comes
-out. An `owner` is the number of an input, and of its module, from 0 on. Left out are
+Reading stands in `reading.py`, placing in `placing.py`, and in `loading.py` what `omf load` makes of a program's
+file, of whatever linker; here are data, fix-ups, the start, and what comes out. An `owner` is the number of an
+input, and of its module, from 0 on. Left out are
 
 - how bytes are read as records: no body is refused (fault 6), and of the faults 2 to 5 the model is told
   where `generate.py` put them;
 - devices that fail (1 and 40), and want of memory;
-- counts and lengths at their limits (34 and 41, the deepest blocks, the longest records);
-- files of programs that another linker wrote (35 to 38).
+- counts and lengths at their limits (34 and 41, the deepest blocks, the longest records).
 """
 
 import struct
 from dataclasses import dataclass, field
 
+import loading
 import placing
 import reading
 from faults import Fault, printed_name, refuse_smallest
@@ -26,7 +27,6 @@ from modules import Location, Method
 from placing import Address, Frame
 
 HIGHEST_IN_FRAME = 65535
-END_OF_MEMORY = 1_048_576
 
 
 @dataclass
@@ -73,16 +73,6 @@ class LaidData:
             self.patches.append(Patch(position, fixup, located))
 
 
-@dataclass
-class Registers:
-    """CS, IP, SS and SP, as the program's file has them."""
-
-    code: int
-    instruction: int
-    stack: int
-    stack_pointer: int
-
-
 class References:
     """What the references of modules come to in a layout."""
 
@@ -98,7 +88,7 @@ class References:
         if direct.method == Method.SEGMENT:
             return placing.meaning_of_segment(self.modules, self.layout, owner, direct.index)
         if direct.method == Method.EXTERNAL:
-            found = self.layout.publics.get(self.modules[owner].externals[direct.index - 1])
+            found = self.layout.meaning_of_external(owner, self.modules[owner].externals[direct.index - 1])
             if found is None:
                 faults.append(27)
             return found
@@ -280,43 +270,49 @@ class Program:
     layout: placing.Layout
     laid: list
     relocations: list
-    registers: Registers
+    registers: loading.Registers
+
+    def written(self):
+        """How many bytes of the program its file has: up to the last that data covers."""
+        return max((laid.address + len(laid.content) for laid in self.laid if laid.content), default=0)
 
     def image(self, paragraph):
-        """The bytes of the program at a paragraph: later data wins, and what no data covers is 0."""
-        image = bytearray(self.layout.size)
+        """The bytes of the program's file at a paragraph: later data wins, and what no data covers is 0."""
+        image = bytearray(self.written())
         for laid in self.laid:
             content = bytearray(laid.content)
             for patch in laid.patches:
                 address = 16 * paragraph + laid.address + patch.position
                 for position, width, value in values(patch.fixup, patch.located, address, paragraph):
                     add(content, patch.position + position, width, value)
-            image[laid.address:laid.address + len(content)] = content
+            if content:
+                image[laid.address:laid.address + len(content)] = content
         return bytes(image)
 
     def file(self):
-        """The program's file: header, relocation table, bytes 00 to a whole paragraph, image."""
+        """The program's file: header, relocation table, bytes 00 to a whole paragraph, image.
+
+        The least extra paragraphs ask for the memory behind the image, up to the program's size.
+        """
         paragraphs = -(-(28 + 4 * len(self.relocations)) // 16)
-        length = 16 * paragraphs + self.layout.size
+        length = 16 * paragraphs + self.written()
+        least_extra = -(-self.layout.size // 16) - self.written() // 16
         registers = self.registers
         header = struct.pack(
-            "<2s13H", b"MZ", length % 512, -(-length // 512), len(self.relocations), paragraphs, 0, 0xFFFF,
+            "<2s13H", b"MZ", length % 512, -(-length // 512), len(self.relocations), paragraphs, least_extra, 0xFFFF,
             registers.stack, registers.stack_pointer, 0, registers.instruction, registers.code, 0x1C, 0)
         table = b"".join(struct.pack("<2H", word % 16, word // 16) for word in self.relocations)
         return (header + table).ljust(16 * paragraphs, b"\0") + self.image(0)
 
+    def last_paragraph(self):
+        """The last paragraph at which the program fits into memory."""
+        return (loading.END_OF_MEMORY - self.layout.size) // 16
+
     def load_listing(self, paragraph):
         """What `omf load` lists at a paragraph; fault 39 is a program that ends above the memory."""
-        if 16 * paragraph + self.layout.size > END_OF_MEMORY:
+        if 16 * paragraph + self.layout.size > loading.END_OF_MEMORY:
             raise Fault(39, 0)
-        registers = self.registers
-        code, stack = (registers.code + paragraph) % 65536, (registers.stack + paragraph) % 65536
-        entry = f"{code:04X}:{registers.instruction:04X}"
-        lines = [f"CS:IP {entry} SS:SP {stack:04X}:{registers.stack_pointer:04X}"]
-        image = self.image(paragraph)
-        for place in range(0, len(image), 16):
-            lines.append(f"{16 * paragraph + place:05X} {image[place:place + 16].hex().upper()}")
-        return "\n".join(lines) + "\n"
+        return loading.listing(self.registers, self.image(paragraph), paragraph)
 
     def map(self):
         """The map of the link."""
@@ -348,16 +344,16 @@ class Program:
 
     def map_of_publics(self):
         """The publics in order of inputs and records."""
-        for name, meaning in self.layout.publics.items():
-            address = meaning.address
-            yield f"{address.value:06X} {'R' if address.is_relocatable else 'A'} {printed_name(name)}"
+        for public in self.layout.publics():
+            address = public.meaning.address
+            yield f"{address.value:06X} {'R' if address.is_relocatable else 'A'} {printed_name(public.name)}"
 
 
-def link(inputs):
+def link(inputs, ignores_case):
     """The program of some inputs, or the first fault: of reading all, placing, the data, the start."""
     modules = [reading.read(given, owner) for owner, given in enumerate(inputs)]
-    layout = placing.place(modules)
+    layout = placing.place(modules, ignores_case)
     laying = Laying(modules, layout)
     laying.lay_all()
-    registers = Registers(*find_start(modules, laying.references), *find_stack(layout))
+    registers = loading.Registers(*find_start(modules, laying.references), *find_stack(layout))
     return Program(modules, layout, laying.laid, sorted(laying.relocations), registers)

@@ -139,6 +139,7 @@ class ExternalNames:
     """EXTDEF: names, and a type index each."""
 
     TYPE = 0x8C
+    IS_LOCAL = False
     names: list
     types: list
 
@@ -147,9 +148,16 @@ class ExternalNames:
         return b"".join(name(external) + spelling.index(kind) for external, kind in pairs)
 
 
+class LocalExternalNames(ExternalNames):
+    """LEXTDEF, which means names of its own module."""
+
+    TYPE = 0xB4
+    IS_LOCAL = True
+
+
 @dataclass
 class PublicName:
-    """A name of a PUBDEF."""
+    """A name of a PUBDEF or LPUBDEF."""
 
     name: bytes
     offset: int
@@ -164,6 +172,7 @@ class PublicNames:
     """PUBDEF; it has a frame where its segment index is 0."""
 
     TYPE = 0x90
+    IS_LOCAL = False
     group: int
     segment: int
     frame: Optional[int]
@@ -174,6 +183,13 @@ class PublicNames:
         if self.segment == 0:
             base += word(self.frame)
         return base + b"".join(public.spelled(spelling) for public in self.publics)
+
+
+class LocalPublicNames(PublicNames):
+    """LPUBDEF, which its own module alone sees."""
+
+    TYPE = 0xB6
+    IS_LOCAL = True
 
 
 @dataclass
@@ -365,7 +381,7 @@ class RepeatedData:
 # all types that the format has a body for
 TYPES = [kind.TYPE for kind in [
     Header, Comment, ModuleEnd, ExternalNames, PublicNames, LineNumbers, NameList, SegmentDefinition,
-    GroupDefinition, FixupRecord, Data, RepeatedData]]
+    GroupDefinition, FixupRecord, Data, RepeatedData, LocalExternalNames, LocalPublicNames]]
 
 
 @dataclass

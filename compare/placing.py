@@ -86,15 +86,47 @@ class Combined:
         return self.start // 16
 
 
+def folded(name):
+    """A name with small letters in the place of the capitals A to Z; other bytes stay."""
+    return bytes(byte + 0x20 if 0x41 <= byte <= 0x5A else byte for byte in name)
+
+
+@dataclass
+class Definition:
+    """A public or a local public, as it was spelled, and what it means."""
+
+    name: bytes
+    meaning: Meaning
+
+
 @dataclass
 class Layout:
-    """Where everything stands: combined segments in their order, members of groups, meanings of publics."""
+    """Where everything stands: combined segments in their order, members of groups, meanings of names.
+
+    A definition is found by who sees it, None for all modules or the owner of a local public, and by its name,
+    folded where case is ignored.
+    """
 
     combined: list
     places: dict
     groups: dict
-    publics: dict
+    definitions: dict
     size: int
+    ignores_case: bool
+
+    def key(self, owner, named):
+        """Under what a public or external stands in the definitions."""
+        name = folded(named.name) if self.ignores_case else named.name
+        return (owner if named.is_local else None, name)
+
+    def meaning_of_external(self, owner, external):
+        """What the external of a module means, or None."""
+        found = self.definitions.get(self.key(owner, external))
+        return None if found is None else found.meaning
+
+    def publics(self):
+        """The publics in order of inputs and records, without the local ones."""
+        return [definition for (owner, _), definition in self.definitions.items() if owner is None]
 
     def part(self, owner, index):
         """The part of a segment, and what it was combined into."""
@@ -208,20 +240,24 @@ def check_lengths(layout):
 
 
 def define_publics(modules, layout):
-    """Gives each public its meaning; fault 25 is a name that an earlier one has."""
+    """Gives each public, local or not, its meaning; fault 25 is a name that an earlier one has.
+
+    A local public clashes with those of its own module alone, and never with one that all modules see.
+    """
     for owner, module in enumerate(modules):
         for public in module.publics:
-            if public.name in layout.publics:
+            key = layout.key(owner, public)
+            if key in layout.definitions:
                 raise Fault(25, name=public.name)
-            layout.publics[public.name] = meaning_of_public(modules, layout, owner, public)
+            layout.definitions[key] = Definition(public.name, meaning_of_public(modules, layout, owner, public))
 
 
-def place(modules):
+def place(modules, ignores_case):
     """The layout of modules, or the smallest of the faults 22 to 25."""
     combined = in_order_of_classes(combine(modules))
     size = put_all(combined)
     places = {(part.owner, part.index): (part, each) for each in combined for part in each.parts}
-    layout = Layout(combined, places, gather_groups(modules, places), {}, size)
+    layout = Layout(combined, places, gather_groups(modules, places), {}, size, ignores_case)
     check_lengths(layout)
     define_publics(modules, layout)
     return layout

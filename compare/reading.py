@@ -38,10 +38,19 @@ class Group:
 
 
 @dataclass
+class External:
+    """A name that means a public, or where it is local a local public of its own module."""
+
+    name: bytes
+    is_local: bool
+
+
+@dataclass
 class Public:
     """A public name, with the indexes of its group and segment; with segment index 0 it has a frame."""
 
     name: bytes
+    is_local: bool
     offset: int
     group: int
     segment: int
@@ -161,7 +170,7 @@ class Module:
 
     def define_externals(self, record, place):
         """Externals are never refused here: one that nothing uses needs no public."""
-        self.externals += record.names
+        self.externals += [External(name, record.IS_LOCAL) for name in record.names]
 
     def define_publics(self, record, place):
         """Faults 11 and 12 are indexes above the tables; 0 is none."""
@@ -170,7 +179,7 @@ class Module:
         self.refuse(faults, place)
         for public in record.publics:
             self.publics.append(Public(
-                public.name, public.offset, record.group, record.segment, record.frame))
+                public.name, record.IS_LOCAL, public.offset, record.group, record.segment, record.frame))
 
     def add_data(self, record, place):
         """A LEDATA is one content."""
@@ -255,7 +264,9 @@ STEPS = {
     modules.SegmentDefinition: Module.define_segment,
     modules.GroupDefinition: Module.define_group,
     modules.ExternalNames: Module.define_externals,
+    modules.LocalExternalNames: Module.define_externals,
     modules.PublicNames: Module.define_publics,
+    modules.LocalPublicNames: Module.define_publics,
     modules.Data: Module.add_data,
     modules.RepeatedData: Module.add_repeated_data,
     modules.FixupRecord: Module.add_fixups,
