@@ -4,8 +4,8 @@ use Rattle.std.proofs.lemmas.Bool.{eqb-true}
 use Rattle.omf_record.specs.Language.{each, Word, Name}
 use Rattle.omf_record.specs.Record.{Block, Content, Nested, Blocks, End, More, block_list, blocks_of}
 use Rattle.omf_record.specs.Body.{BlockText}
-use Rattle.omf_record.specs.Reading.{times}
-use Rattle.omf_record.specs.Fields.{mapped, word_at, name_at, zero_word_at, block_at}
+use Rattle.omf_record.specs.inside.Reading.{times}
+use Rattle.omf_record.specs.inside.Fields.{mapped, word_at, name_at, zero_word_at, block_at}
 use Rattle.omf_record.proofs.Laws.{Reads, Anything, Then, next_reads, same_reads, Times, times_reads, IsFilled}
 use Rattle.omf_record.proofs.Primitives.{if_reads, Made, mapped_reads, word_reads, name_reads, filled_front}
 use Rattle.omf_record.proofs.Subrecords.{eqb-false}

@@ -12,13 +12,13 @@ use Rattle.std.specs.Prelude.{Vec}
 use Rattle.omf_record.specs.declared.record.Block.TheFolds.{fold-roll-Block}
 use Rattle.omf_record.specs.Record as says
 use Rattle.omf_record.specs.View.{block_step, block_view}
-use Rattle.omf_record.specs.Reading.{◌>>=◌, times, Fails}
-use Rattle.omf_record.specs.Fields.{mapped, word_at, block_at}
+use Rattle.omf_record.specs.inside.Reading.{◌>>=◌, times, Fails}
+use Rattle.omf_record.specs.inside.Fields.{mapped, word_at, block_at}
 
 pub view_nested : {A : Type 0} (repeat : ℕ) (blocks : Vec (Block A) A) → block_view (views.Nested repeat blocks) ≡ says.Nested repeat (says.blocks_of (map block_view blocks.items))
 view_nested {A} repeat blocks = ap block_view (sym (rolls-Nested repeat blocks)) ∙ fold-roll-Block A says.Block block_step (layer.Nested repeat blocks)
 
-behind : (below : ℕ) (bytes : List ℕ) → block_at (suc below) bytes ≡ (word_at bytes >>= λ r. word_at r.1 >>= λ c. cond (eqb c.0 0) (mapped (says.Content r.0) Rattle.omf_record.specs.Fields.name_at) (mapped (λ bs. says.Nested r.0 (says.blocks_of bs)) (times c.0 (block_at below))) c.1)
+behind : (below : ℕ) (bytes : List ℕ) → block_at (suc below) bytes ≡ (word_at bytes >>= λ r. word_at r.1 >>= λ c. cond (eqb c.0 0) (mapped (says.Content r.0) Rattle.omf_record.specs.inside.Fields.name_at) (mapped (λ bs. says.Nested r.0 (says.blocks_of bs)) (times c.0 (block_at below))) c.1)
 unfolding block_at
 behind below bytes = refl
 
@@ -30,7 +30,7 @@ nested_at (suc below) bytes repeat rest count after ne h k some =
     let down : suc below - 1 ≡ below = omega arith in
     rw (down, behind below bytes, h, k) (go (eqb count 0) refl)
   where
-    go : (t : Bool) → eqb count 0 ≡ t → cond t (mapped (says.Content repeat) Rattle.omf_record.specs.Fields.name_at) (mapped (λ bs. says.Nested repeat (says.blocks_of bs)) (times count (block_at below))) after ≡ (times count (block_at below) after >>= λ x. Ok (says.Nested repeat (says.blocks_of x.0), x.1))
+    go : (t : Bool) → eqb count 0 ≡ t → cond t (mapped (says.Content repeat) Rattle.omf_record.specs.inside.Fields.name_at) (mapped (λ bs. says.Nested repeat (says.blocks_of bs)) (times count (block_at below))) after ≡ (times count (block_at below) after >>= λ x. Ok (says.Nested repeat (says.blocks_of x.0), x.1))
     go true e = absurd (some (eqb-true count 0 e))
     go false e = refl
 

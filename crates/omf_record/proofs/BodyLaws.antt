@@ -10,8 +10,8 @@ use Rattle.omf_record.specs.Language.{◌⋆◌, each, One, Byte, Word, Index, N
 use Rattle.omf_record.specs.Record.{Block, External, Record, Theadr, Coment, Modend, Extdef, Pubdef, Linnum, Lnames, Segdef, Grpdef, Fixupp, Ledata, Lidata}
 use Rattle.omf_record.specs.Numbers.{bit}
 use Rattle.omf_record.specs.Body.{bits, kind_of, Body, BodyOf, IsRecordType, ExternalText, PublicText, LineText, ComponentText, ReferenceText, SubrecordText, SegmentText, BaseText, BlockText}
-use Rattle.omf_record.specs.Reading.{Reader, next, ended, ending, rest_at, to_end}
-use Rattle.omf_record.specs.Fields.{mapped, byte_at, word_at, index_at, name_at, reference_at, subrecord_at, segment_at, base_at, public_at, external_at, line_at, component_at, block_at, theadr_body, coment_body, modend_body, extdef_body, pubdef_body, linnum_body, lnames_body, segdef_body, grpdef_body, fixupp_body, ledata_body, lidata_body, is_attribute, is_record_kind, body_at}
+use Rattle.omf_record.specs.inside.Reading.{Reader, next, ended, ending, rest_at, to_end}
+use Rattle.omf_record.specs.inside.Fields.{mapped, byte_at, word_at, index_at, name_at, reference_at, subrecord_at, segment_at, base_at, public_at, external_at, line_at, component_at, block_at, theadr_body, coment_body, modend_body, extdef_body, pubdef_body, linnum_body, lnames_body, segdef_body, grpdef_body, fixupp_body, ledata_body, lidata_body, is_attribute, is_record_kind, body_at}
 use Rattle.omf_record.proofs.Laws.{Reads, Anything, Nothing, Then, next_reads, same_reads, ended_reads, rest_reads, to_end_reads, ok_is, blank, zeros, IsBytes-zeros}
 use Rattle.omf_record.proofs.Primitives.{if_reads, Made, made_at, ending_reads, byte_then, byte_at_reads, word_reads, index_reads, name_reads, one_joined, joined_one, one_split}
 use Rattle.omf_record.proofs.Subrecords.{reference_reads, eqb-false, or_cases, or_left, or_right, or_not}

@@ -29,7 +29,7 @@ use Rattle.omf_record.specs.Numbers.{bit, frame_number, target_number, thread_nu
 use Rattle.omf_record.specs.Body.{bits, Acbp, AbsoluteText, LengthText, SegmentText, BaseText, BlockText, ExternalText, PublicText, LineText, ComponentText, FrameIndex, TargetIndex, FrameText, TargetText, FixData, ReferenceText, SubrecordText, Body}
 use Rattle.omf_record.specs.Canonical as canon
 use Rattle.omf_record.specs.Canonical.{canonical, FitsFrame, length_word}
-use Rattle.omf_record.specs.Room.{Room, onward, ◌▹◌, no_text, empty, taking, byte_room, word_room, all_bytes, bytes_room, index_room, name_room, external_room, public_room, line_room, component_room, base_room, absolute_room, segment_room, frame_index_room, target_index_room, frame_room, target_room, displacement_room, reference_room, subrecord_room, each_room, content_room, counts_room, block_room, blocks_room, record_room}
+use Rattle.omf_record.specs.inside.Room.{Room, onward, ◌▹◌, no_text, empty, taking, byte_room, word_room, all_bytes, bytes_room, index_room, name_room, external_room, public_room, line_room, component_room, base_room, absolute_room, segment_room, frame_index_room, target_index_room, frame_room, target_room, displacement_room, reference_room, subrecord_room, each_room, content_room, counts_room, block_room, blocks_room, record_room}
 use Rattle.omf_record.proofs.Subrecords.{eqb-false, FrameFirst, TargetFirst, FixupFirst}
 use Rattle.omf_record.proofs.BlockLaws.{list_blocks}
 use Rattle.omf_record.proofs.Stored.{blocks-flat}

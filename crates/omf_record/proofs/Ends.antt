@@ -4,7 +4,7 @@ use Rattle.std.proofs.lemmas.List.{append-nil, length-append}
 use Rattle.omf_record.specs.declared.reading.ReadError.{ReadError}
 use Rattle.omf_record.specs.declared.reading.ReadError.TheVariants as errors
 use Rattle.omf_record.specs.Language.{IsBytes}
-use Rattle.omf_record.specs.Reading.{◌>>=◌, Reader, give, next, cons_at, many, to_end, times, Moves, Fails}
+use Rattle.omf_record.specs.inside.Reading.{◌>>=◌, Reader, give, next, cons_at, many, to_end, times, Moves, Fails}
 use Rattle.omf_record.proofs.Laws.{ReadsItem, IsFilled, IsBytes-rest}
 
 pub moves : {A : Type 0} (L : A → List ℕ → Type 0) (r : Reader A) → ReadsItem L r → IsFilled L → Moves r

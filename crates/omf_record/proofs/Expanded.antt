@@ -5,7 +5,8 @@ use Rattle.std.proofs.Math.Nat.{mul-le-mul_left}
 use Rattle.std.proofs.lemmas.List.{length-append, take_more, take_all, map_push}
 use Rattle.omf_record.specs.Record.{Block, Content, Nested, Blocks, End, More, blocks_of}
 use Rattle.omf_record.proofs.Stored.{stored_more, stored_front}
-use Rattle.omf_record.specs.Expansion.{stored_from, copies, stored_len, all_stored_len, expansion_at, expansions_at, expansion, expanded_len, all_expanded_len, capped}
+use Rattle.omf_record.specs.Expansion.{stored_from, copies, stored_len, all_stored_len, expansion_at, expansions_at, expansion, capped}
+use Rattle.omf_record.specs.inside.Expansion.{expanded_len, all_expanded_len}
 
 pub length-stored : (place : ℕ) (bytes : List ℕ) → length (stored_from place bytes) ≡ length bytes
 length-stored place [] = refl

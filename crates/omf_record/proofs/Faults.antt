@@ -5,8 +5,8 @@ use Rattle.std.proofs.Math.Seq.{take-append-add}
 use Rattle.omf_record.specs.Language.{IsBytes}
 use Rattle.omf_record.specs.Record.{Record}
 use Rattle.omf_record.specs.Body.{BodyOf, IsFront, BodyFault}
-use Rattle.omf_record.specs.Reading.{Reader}
-use Rattle.omf_record.specs.Fields.{body_at, is_record_kind}
+use Rattle.omf_record.specs.inside.Reading.{Reader}
+use Rattle.omf_record.specs.inside.Fields.{body_at, is_record_kind}
 use Rattle.omf_record.proofs.BodyLaws.{body_reads, kind_ok}
 use Rattle.omf_record.proofs.Laws.{Reads, Nothing, ok_is, zeros, IsBytes-append, IsBytes-front, IsBytes-rest, IsBytes-zeros}
 

@@ -20,7 +20,7 @@ use Rattle.omf_record.specs.declared.fields.SegmentDefinition.{SegmentDefinition
 use Rattle.omf_record.specs.Language.{each, Index, Name}
 use Rattle.omf_record.specs.Record.{Block, Content, Nested, Blocks, End, More, block_list, blocks_of, External, Public, Record, Theadr, Coment, Modend, Extdef, Pubdef, Linnum, Lnames, Segdef, Grpdef, Fixupp, Ledata, Lidata}
 use Rattle.omf_record.specs.Body.{Body, BlockText, BaseText, ExternalText, PublicText, ComponentText, FrameIndex, TargetIndex, FrameText, TargetText, ReferenceText, SubrecordText, SegmentText}
-use Rattle.omf_record.specs.Fits.{FrameFits, TargetFits, FrameDatumFits, TargetDatumFits, ReferenceFits, SubrecordFits, SegmentFits, ExternalFits, PublicFits, BaseFits, BlockFits, AllBlocksFit, RecordFits}
+use Rattle.omf_record.specs.inside.Fits.{FrameFits, TargetFits, FrameDatumFits, TargetDatumFits, ReferenceFits, SubrecordFits, SegmentFits, ExternalFits, PublicFits, BaseFits, BlockFits, AllBlocksFit, RecordFits}
 use Rattle.omf_record.proofs.BlockLaws.{list_blocks}
 
 -- an element of a list of what fits

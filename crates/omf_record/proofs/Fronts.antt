@@ -3,8 +3,8 @@ use Rattle.std.proofs.Common.{◌≡◌, ℕ, suc, ◌+◌, ◌*◌, ◌-◌, �
 use Rattle.std.proofs.lemmas.Bool.{ltb-true, ltb-false}
 use Rattle.std.proofs.lemmas.List.{take-append-drop, length-take-le, take_all, drop_all, length-drop}
 use Rattle.omf_record.specs.Language.{IsBytes, Index, Name}
-use Rattle.omf_record.specs.Reading.{bytes_at}
-use Rattle.omf_record.specs.Fields.{index_at, name_at}
+use Rattle.omf_record.specs.inside.Reading.{bytes_at}
+use Rattle.omf_record.specs.inside.Fields.{index_at, name_at}
 use Rattle.omf_record.proofs.Primitives.{index_reads, name_reads}
 use Rattle.omf_record.proofs.Laws.{IsBytes-front}
 

@@ -1,10 +1,10 @@
 -- No item is empty, so reading one moves on.
 use Rattle.std.proofs.Common.{ℕ, length, ap, arith}
-use Rattle.omf_record.specs.Reading.{Moves}
+use Rattle.omf_record.specs.inside.Reading.{Moves}
 use Rattle.omf_record.specs.Language.{Name}
 use Rattle.omf_record.specs.declared.fields.Subrecord.TheVariants as sub
 use Rattle.omf_record.specs.Body.{ExternalText, PublicText, LineText, ComponentText, SubrecordText, BlockText}
-use Rattle.omf_record.specs.Fields.{name_at, public_at, external_at, subrecord_at, line_at, block_at, component_at}
+use Rattle.omf_record.specs.inside.Fields.{name_at, public_at, external_at, subrecord_at, line_at, block_at, component_at}
 use Rattle.omf_record.proofs.Laws.{IsFilled, ReadsItem, item}
 use Rattle.omf_record.proofs.Ends.{moves}
 use Rattle.omf_record.proofs.Primitives.{name_reads, filled_front}

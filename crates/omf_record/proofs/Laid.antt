@@ -2,7 +2,8 @@
 use Rattle.std.proofs.Common.{◌≡◌, ℕ, ◌+◌, ◌*◌, ◌<◌, List, [], ◌∷◌, ◌++◌, ◌≤◌, length, get_or, take, map, refl, sym, ap, ◌∙◌, append_assoc, arith}
 use Rattle.std.proofs.lemmas.List.{append-nil, take_more, take_all, map_push, map-append, length-map}
 use Rattle.omf_record.specs.Record.{Block, blocks_of}
-use Rattle.omf_record.specs.Expansion.{copies, stored_len, all_stored_len, expansion_at, expansions_at, expansion, all_expanded_len, blocks_len}
+use Rattle.omf_record.specs.Expansion.{copies, stored_len, all_stored_len, expansion_at, expansions_at, expansion, blocks_len}
+use Rattle.omf_record.specs.inside.Expansion.{all_expanded_len}
 use Rattle.omf_record.proofs.Expanded.{length-expansions_at, length-expansion}
 
 expansions-push : (place : ℕ) (xs : List Block) (b : Block) → expansions_at place (blocks_of (xs ++ b ∷ [])) ≡ expansions_at place (blocks_of xs) ++ expansion_at (place + all_stored_len (blocks_of xs)) b

@@ -4,7 +4,7 @@ use Rattle.std.specs.Prelude.{replicate}
 use Rattle.std.proofs.lemmas.List.{append-nil, replicate-append-replicate, length-append, take-append-drop, length-take, length-replicate, take_at, drop_at, take_all, drop_all}
 use Rattle.std.proofs.lemmas.Bool.{ltb-false, ltb-true, le-ltb}
 use Rattle.omf_record.specs.Language.{IsBytes, Joined, each, Bytes}
-use Rattle.omf_record.specs.Reading.{◌>>=◌, Reader, give, next, byte_if, bytes_at, ended, rest_at, cons_at, times, many, to_end}
+use Rattle.omf_record.specs.inside.Reading.{◌>>=◌, Reader, give, next, byte_if, bytes_at, ended, rest_at, cons_at, times, many, to_end}
 
 abbrev pub zeros : ℕ → List ℕ
 zeros n = replicate n 0

@@ -3,8 +3,8 @@ use Rattle.std.proofs.Common.{◌≡◌, ℕ, ◌+◌, ◌*◌, ◌-◌, ◌/◌
 use Rattle.std.proofs.lemmas.Bool.{ltb-false, ltb-true}
 use Rattle.std.proofs.lemmas.List.{append-nil, length-append}
 use Rattle.omf_record.specs.Language.{IsBytes, Joined, One, Byte, Word, Index, Name}
-use Rattle.omf_record.specs.Reading.{Reader, give, next, byte_if, bytes_at, ended, ending}
-use Rattle.omf_record.specs.Fields.{mapped, any_byte, byte_at, word_at, index_at, name_at}
+use Rattle.omf_record.specs.inside.Reading.{Reader, give, next, byte_if, bytes_at, ended, ending}
+use Rattle.omf_record.specs.inside.Fields.{mapped, any_byte, byte_at, word_at, index_at, name_at}
 use Rattle.omf_record.proofs.Laws.{Found, Refusal, Failed, at_first, at_second, bind_ok, bind_err, bind_is, bind_fails, ok_is, zeros, Reads, Anything, Nothing, Then, next_reads, give_reads, same_reads, ended_reads, byte_reads, ByteIf, bytes_reads, BytesOf}
 
 -- the same whichever way a test goes

@@ -3,7 +3,7 @@ use Rattle.std.proofs.Common.{◌≡◌, ℕ, suc, ◌+◌, ◌<◌, ◌≤◌, 
 use Rattle.std.proofs.lemmas.List.{drop_more, drop_all}
 use Rattle.std.proofs.lemmas.Bool.{lt-ltb}
 use Rattle.omf_record.specs.Record.{Block, blocks_of}
-use Rattle.omf_record.specs.Room.{Room, onward, taking, all_bytes, bytes_room, each_room, block_room, blocks_room}
+use Rattle.omf_record.specs.inside.Room.{Room, onward, taking, all_bytes, bytes_room, each_room, block_room, blocks_room}
 
 module _ {X Y : Type 0} (f : Y → Room) (v : X → Y) (xs : List X) where
   step : (i : ℕ) (x : X) (left : ℕ) → i < length xs → x ≡ get_or xs i x → each_room f (map v (drop i xs)) left ≡ onward (f (v x) left) (each_room f (map v (drop (i + 1) xs)))

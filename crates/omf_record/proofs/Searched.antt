@@ -6,7 +6,7 @@ use Rattle.omf_record.specs.declared.content.Found.{Found}
 use Rattle.omf_record.specs.declared.content.Found.TheVariants.{Inside, Outside, Beyond}
 use Rattle.omf_record.specs.Record.{Block, Content, Nested, Blocks, End, More, blocks_of}
 use Rattle.omf_record.specs.Expansion.{stored_len, all_stored_len, contents_at, all_contents_at, contents, LiesInOne}
-use Rattle.omf_record.specs.Searching.{content_search, going_on, block_search, blocks_search}
+use Rattle.omf_record.specs.inside.Searching.{content_search, going_on, block_search, blocks_search}
 
 -- ---- one block after the other
 

@@ -16,8 +16,8 @@ use Rattle.omf_record.specs.Language.{IsBytes, Joined, ◌⋆◌, Byte, Word, In
 use Rattle.omf_record.specs.Record.{External, Public}
 use Rattle.omf_record.specs.Numbers.{alignment_number, combination_number, big}
 use Rattle.omf_record.specs.Body.{bits, Acbp, AbsoluteText, LengthText, SegmentText, BaseText, ExternalText, PublicText, LineText, ComponentText}
-use Rattle.omf_record.specs.Reading.{◌>>=◌, next, byte_if}
-use Rattle.omf_record.specs.Fields.{mapped, byte_at, word_at, index_at, name_at, is_zero, zero_word_at, is_acbp, alignment_of, alignment_at, combination_of, length_at, three_indexes_at, segment_at, base_behind, base_at, public_at, external_at, line_at, is_ff, component_at}
+use Rattle.omf_record.specs.inside.Reading.{◌>>=◌, next, byte_if}
+use Rattle.omf_record.specs.inside.Fields.{mapped, byte_at, word_at, index_at, name_at, is_zero, zero_word_at, is_acbp, alignment_of, alignment_at, combination_of, length_at, three_indexes_at, segment_at, base_behind, base_at, public_at, external_at, line_at, is_ff, component_at}
 use Rattle.omf_record.proofs.Laws.{Reads, Anything, Then, next_reads, same_reads, byte_reads, ByteIf, Found, Stall, ReadsItem}
 use Rattle.omf_record.proofs.Primitives.{if_reads, Made, mapped_reads, byte_then, byte_at_reads, word_reads, index_reads, name_reads, field_reads, last_reads, one_joined, joined_one, one_split}
 use Rattle.omf_record.proofs.Subrecords.{made_reads, gives_reads, eqb-false, and_cases, both}

@@ -20,8 +20,8 @@ use Rattle.omf_record.specs.declared.fields.ThreadNumber.{ThreadNumber}
 use Rattle.omf_record.specs.declared.fields.ThreadNumber.TheVariants.{Zero, One as OneThread, Two, Three}
 use Rattle.omf_record.specs.Numbers.{bit, thread_number, frame_number, target_number, absent, location_number}
 use Rattle.omf_record.specs.Body.{bits, FrameIndex, TargetIndex, FrameBits, TargetBits, FrameText, TargetText, FixData, ReferenceText, SubrecordText}
-use Rattle.omf_record.specs.Reading.{Reader, give, next}
-use Rattle.omf_record.specs.Fields.{mapped, byte_at, word_at, index_at, thread_of, is_frame_method, frame_method_at, target_method_at, is_fix_data, frame_at, target_at, displacement_at, reference_behind, reference_at, is_location, location_of, is_subrecord, fixup_at, subrecord_at}
+use Rattle.omf_record.specs.inside.Reading.{Reader, give, next}
+use Rattle.omf_record.specs.inside.Fields.{mapped, byte_at, word_at, index_at, thread_of, is_frame_method, frame_method_at, target_method_at, is_fix_data, frame_at, target_at, displacement_at, reference_behind, reference_at, is_location, location_of, is_subrecord, fixup_at, subrecord_at}
 use Rattle.omf_record.proofs.Laws.{Reads, Anything, Then, next_reads, give_reads, same_reads}
 use Rattle.omf_record.proofs.Primitives.{if_reads, Made, mapped_reads, byte_then, field_reads, last_reads, one_joined, joined_one, one_split, byte_at_reads, word_reads, index_reads}
 

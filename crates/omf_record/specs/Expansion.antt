@@ -1,6 +1,8 @@
 -- What repeated data stands for: each byte with the place at which it is stored (TIS OMF 1.1, LIDATA).
-use Rattle.std.specs.Prelude.{◌≡◌, ℕ, zero, suc, ◌+◌, ◌-◌, ◌*◌, ◌<◌, ◌≤◌, List, [], ◌∷◌, ◌++◌, length, get_or, map, min, ◌⊎◌}
-use Rattle.omf_record.specs.Record.{Block, Content, Nested, Blocks, End, More, blocks_of, Record, Theadr, Coment, Modend, Extdef, Pubdef, Linnum, Lnames, Segdef, Grpdef, Fixupp, Ledata, Lidata}
+use Rattle.std.specs.Prelude.{◌≡◌, ℕ, zero, suc, ◌+◌, ◌-◌, ◌<◌, ◌≤◌, List, [], ◌∷◌, ◌++◌, length, get_or, map}
+use Rattle.std.specs.Prelude.{min, ◌⊎◌}
+use Rattle.omf_record.specs.Record.{Block, Content, Nested, Blocks, End, More, blocks_of, Record, Theadr, Coment}
+use Rattle.omf_record.specs.Record.{Modend, Extdef, Pubdef, Linnum, Lnames, Segdef, Grpdef, Fixupp, Ledata, Lidata}
 
 -- bytes with their places, the first of which is given
 abbrev pub stored_from : ℕ → List ℕ → List (ℕ × ℕ)
@@ -31,7 +33,8 @@ abbrev mutual
   expansions_at place End = []
   expansions_at place (More b bs) = expansion_at place b ++ expansions_at (place + stored_len b) bs
 
--- The expansion of a record's blocks: pairs of stored place and byte. Places count from the first byte of the first block.
+-- The expansion of a record's blocks: pairs of stored place and byte. Places count from the first byte of the first
+-- block.
 unfoldable pub expansion : List Block → List (ℕ × ℕ)
 expansion blocks = expansions_at 0 (blocks_of blocks)
 
@@ -62,15 +65,6 @@ data_len (Ledata segment offset bytes) = length bytes
 data_len (Lidata segment offset blocks) = blocks_len blocks
 
 -- ---- the length of an expansion, without making it
-
-abbrev mutual
-  pub expanded_len : Block → ℕ
-  expanded_len (Content repeat bytes) = repeat * length bytes
-  expanded_len (Nested repeat blocks) = repeat * all_expanded_len blocks
-
-  pub all_expanded_len : Blocks → ℕ
-  all_expanded_len End = 0
-  all_expanded_len (More b bs) = expanded_len b + all_expanded_len bs
 
 -- up to 65,536, and else 65,537
 abbrev pub capped : ℕ → ℕ
@@ -104,7 +98,8 @@ LiesInOne at width (content ∷ others) = LiesIn at width content ⊎ LiesInOne 
 -- from each position with the stored place on, the places stand one after the other
 abbrev pub StandTogether : ℕ → ℕ → List ℕ → Type 0
 StandTogether at width places =
-    (i k : ℕ) → i < length places → get_or places i 0 ≡ at → k < width → (i + k < length places) × (get_or places (i + k) 0 ≡ at + k)
+    (i k : ℕ) → i < length places → get_or places i 0 ≡ at → k < width
+    → (i + k < length places) × (get_or places (i + k) 0 ≡ at + k)
 
 -- each byte that was stored at one of so many places from `at` on stands in a whole copy of them
 abbrev pub StandWhole : ℕ → ℕ → List ℕ → Type 0
@@ -113,5 +108,6 @@ StandWhole at width places =
 
 -- bytes that were stored at one place are one byte
 abbrev pub AreCopies : List (ℕ × ℕ) → Type 0
-AreCopies pairs = (i j : ℕ) → i < length pairs → j < length pairs → get_or (places pairs) i 0 ≡ get_or (places pairs) j 0
+AreCopies pairs =
+    (i j : ℕ) → i < length pairs → j < length pairs → get_or (places pairs) i 0 ≡ get_or (places pairs) j 0
     → get_or (bytes pairs) i 0 ≡ get_or (bytes pairs) j 0

@@ -4,12 +4,7 @@ pub mod Numbers
 pub mod Body
 pub mod Canonical
 pub mod Expansion
-pub mod Reading
-pub mod Fields
 pub mod View
 pub mod Answer
-pub mod Fits
-pub mod Keeping
-pub mod Room
-pub mod Searching
 pub mod Records
+pub mod inside

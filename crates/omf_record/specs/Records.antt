@@ -1,4 +1,5 @@
--- The records that bytes hold, one frame after the other (TIS OMF 1.1, "Record Format"), and what stands where none begins.
+-- The records that bytes hold, one frame after the other (TIS OMF 1.1, "Record Format"), and what stands where none
+-- begins.
 use Rattle.std.specs.Prelude.{◌≡◌, ℕ, Bool, true, false, List, [], ◌∷◌, map, Some, None, Ok, Err}
 use Rattle.std.specs.List.{AllByRecursion}
 use Rattle.omf_frame.specs.Frame.{Frame, AreFrames, frame_at}
@@ -18,7 +19,8 @@ frame_of_record r = record { place = r.place; kind = kind_of r.says; body = r.bo
 
 -- these bytes, the first of which stands at this place, are the frames of these records, joined
 abbrev pub AreRecords : (place : ℕ) → List Placed → List ℕ → Type 0
-AreRecords place rs bytes = AreFrames place (map frame_of_record rs) bytes × AllByRecursion (λ (r : Placed). Body r.says r.body) rs
+AreRecords place rs bytes =
+    AreFrames place (map frame_of_record rs) bytes × AllByRecursion (λ (r : Placed). Body r.says r.body) rs
 
 -- MODEND ends a module
 abbrev pub is_end : Record → Bool
@@ -48,4 +50,5 @@ abbrev pub NoRecordAt : (place : ℕ) → List ℕ → NoRecord → Type 0
 NoRecordAt place bytes (Framing e) = frame_at place bytes ≡ Err e
 NoRecordAt place bytes NoEnd = frame_at place bytes ≡ Ok None
 NoRecordAt place bytes OtherType = (f : Frame) × (frame_at place bytes ≡ Ok (Some f)) × (IsRecordType f.kind → ⊥)
-NoRecordAt place bytes (WrongBody at) = (f : Frame) × (frame_at place bytes ≡ Ok (Some f)) × IsRecordType f.kind × BodyFault f.kind f.body at
+NoRecordAt place bytes (WrongBody at) =
+    (f : Frame) × (frame_at place bytes ≡ Ok (Some f)) × IsRecordType f.kind × BodyFault f.kind f.body at

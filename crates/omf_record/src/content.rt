@@ -3,7 +3,7 @@
 ghost use Rattle.std.specs.Prelude.{◌≡◌, ◌↔◌, IsTrue, map};
 ghost use Rattle.omf_record.specs.Expansion.{expansion, places, contents, LiesInOne, StandTogether, StandWhole};
 ghost use Rattle.omf_record.specs.Record.{blocks_of};
-ghost use Rattle.omf_record.specs.Searching.{content_search, blocks_search};
+ghost use Rattle.omf_record.specs.inside.Searching.{content_search, blocks_search};
 ghost use Rattle.omf_record.specs.View.{block_view};
 
 use crate::record::Block;
@@ -59,7 +59,8 @@ fn find_place<A: Allocator + Copy>(blocks: &[Block<'_, A>], at: usize, width: us
     Found::Beyond(left)
 }
 
-/// Whether the stored places from `at` on, `width` of them, lie wholly in one content. Stored places count from the first byte of the first block.
+/// Whether the stored places from `at` on, `width` of them, lie wholly in one content. Stored places count from the
+/// first byte of the first block.
 pub fn place_in_content<A: Allocator + Copy>(blocks: &[Block<'_, A>], at: u16, width: u16) -> bool
     ensures exact { IsTrue result ↔ LiesInOne at width (contents (map block_view blocks.now)) }
     // Wherever the expansion has a byte that is stored at `at`, the bytes of the other places follow it.

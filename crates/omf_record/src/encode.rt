@@ -7,10 +7,10 @@ ghost use Rattle.omf_record.specs.declared.fields.Subrecord.{Subrecord};
 ghost use Rattle.omf_record.specs.Body.{Body};
 ghost use Rattle.omf_record.specs.Canonical as canon;
 ghost use Rattle.omf_record.specs.Canonical.{canonical, FitsFrame};
-ghost use Rattle.omf_record.specs.Fits.{ExternalFits, PublicFits, SubrecordFits, RecordFits};
+ghost use Rattle.omf_record.specs.inside.Fits.{ExternalFits, PublicFits, SubrecordFits, RecordFits};
 ghost use Rattle.omf_record.specs.Record as says;
 ghost use Rattle.omf_record.specs.View.{view, external_view, public_view, block_view};
-ghost use Rattle.omf_record.specs.Keeping.{Keeps};
+ghost use Rattle.omf_record.specs.inside.Keeping.{Keeps};
 
 use crate::fields::{Line, PublicBase, Reference, Subrecord};
 use crate::record::{Block, External, Public, Record};
@@ -183,7 +183,8 @@ fn put_pubdef<A: Allocator + Copy>(
     out: &mut Vec<u8, A>,
 ) -> Result<(), AllocError>
     requires { RecordFits (says.Pubdef local base (map public_view publics.now)) }
-    ensures ok { OnOk result (out.new.items ≡ out.old.items ++ canonical (says.Pubdef local base (map public_view publics.now))) }
+    ensures ok { OnOk result (out.new.items ≡ out.old.items
+        ++ canonical (says.Pubdef local base (map public_view publics.now))) }
     ensures err { OnErr result (Keeps out.old.items out.new.items) }
 {
     put_base(base, out)?;
@@ -244,7 +245,8 @@ fn put_lidata<A: Allocator + Copy>(
     out: &mut Vec<u8, A>,
 ) -> Result<(), AllocError>
     requires { RecordFits (says.Lidata segment offset (map block_view blocks.now)) }
-    ensures ok { OnOk result (out.new.items ≡ out.old.items ++ canonical (says.Lidata segment offset (map block_view blocks.now))) }
+    ensures ok { OnOk result (out.new.items ≡ out.old.items
+        ++ canonical (says.Lidata segment offset (map block_view blocks.now))) }
     ensures err { OnErr result (Keeps out.old.items out.new.items) }
 {
     put_index(segment, out)?;

@@ -1,7 +1,9 @@
 //! Repeated data: its expansion.
 
 ghost use Rattle.std.specs.Prelude.{◌≡◌, ◌≤◌, ◌<◌, ◌+◌, ◌*◌, ◌-◌, ℕ, length, map, take, slice_index, slice_index_or};
-ghost use Rattle.omf_record.specs.Expansion.{stored_from, copies, all_stored_len, expansions_at, all_expanded_len, expansion, places, bytes as byte_values, blocks_len};
+ghost use Rattle.omf_record.specs.Expansion.{stored_from, copies, all_stored_len, expansions_at, expansion, places};
+ghost use Rattle.omf_record.specs.Expansion.{bytes as byte_values, blocks_len};
+ghost use Rattle.omf_record.specs.inside.Expansion.{all_expanded_len};
 ghost use Rattle.omf_record.specs.Record.{blocks_of};
 ghost use Rattle.omf_record.specs.View.{block_view};
 
@@ -13,7 +15,8 @@ use std::alloc::Allocator;
 /// What is laid doubles in each turn.
 fn repeat_front<T: Copy>(items: &mut [T], len: usize)
     ensures front { (k : ℕ) (d : T) → k < len → slice_index_or items.new k d ≡ slice_index_or items.old k d }
-    ensures period { (k : ℕ) (d : T) → len ≤ k → k < length items.new → slice_index_or items.new k d ≡ slice_index_or items.new (k - len) d }
+    ensures period { (k : ℕ) (d : T) → len ≤ k → k < length items.new → slice_index_or items.new k d
+        ≡ slice_index_or items.new (k - len) d }
 {
     if len == 0 {
         return;
@@ -37,7 +40,8 @@ fn number(items: &mut [u16], place: u16)
     }
 }
 
-/// Lays copies of a content, the first byte of which is stored at the place, into the fronts of the slices, and tells their length.
+/// Lays copies of a content, the first byte of which is stored at the place, into the fronts of the slices, and
+/// tells their length.
 fn expand_content(
     repeat: u16,
     content: &[u8],
@@ -79,7 +83,8 @@ fn stored_len<A: Allocator + Copy>(blocks: &[Block<'_, A>]) -> u16
     len
 }
 
-/// Lays copies of the blocks' expansions, the first block of which is stored at the place, into the fronts of the slices, and tells their length.
+/// Lays copies of the blocks' expansions, the first block of which is stored at the place, into the fronts of the
+/// slices, and tells their length.
 fn expand<A: Allocator + Copy>(
     repeat: u16,
     blocks: &[Block<'_, A>],
@@ -91,8 +96,10 @@ fn expand<A: Allocator + Copy>(
     requires room { repeat * all_expanded_len (blocks_of (map block_view blocks.now)) ≤ length bytes.old }
     requires same { length bytes.old ≡ length stored.old }
     ensures len { result ≡ repeat * all_expanded_len (blocks_of (map block_view blocks.now)) }
-    ensures bytes { take result bytes.new ≡ byte_values (copies repeat (expansions_at place (blocks_of (map block_view blocks.now)))) }
-    ensures stored { take result stored.new ≡ places (copies repeat (expansions_at place (blocks_of (map block_view blocks.now)))) }
+    ensures bytes { take result bytes.new
+        ≡ byte_values (copies repeat (expansions_at place (blocks_of (map block_view blocks.now)))) }
+    ensures stored { take result stored.new
+        ≡ places (copies repeat (expansions_at place (blocks_of (map block_view blocks.now)))) }
 {
     if repeat == 0 {
         return 0;
@@ -132,7 +139,8 @@ fn expand<A: Allocator + Copy>(
     len
 }
 
-/// Lays the blocks' expansion, of at most 65,536 bytes, into `bytes`, and the place at which each byte is stored into `stored`. Both have its length,
+/// Lays the blocks' expansion, of at most 65,536 bytes, into `bytes`, and the place at which each byte is stored
+/// into `stored`. Both have its length,
 /// which `expanded_len` tells; the blocks take at most 65,534 bytes in their record.
 pub fn expand_into<A: Allocator + Copy>(
     blocks: &[Block<'_, A>],

@@ -18,10 +18,12 @@ pub fn one_value()
 
 /// The canonical body of what has a body is one, and none is shorter.
 pub fn canonical_shortest()
-    ensures { (r : says.Record) (bytes : List ℕ) → body.Body r bytes → body.Body r (canonical r) × (length (canonical r) ≤ length bytes) }
+    ensures { (r : says.Record) (bytes : List ℕ) → body.Body r bytes → body.Body r (canonical r)
+        × (length (canonical r) ≤ length bytes) }
 {}
 
 /// What is answered for a canonical body is the record that it was written for.
 pub fn encoded_is_read<A: Allocator + Copy>()
-    ensures { (r : says.Record) (answer : Result (Record A) RecordFault) → FitsFrame r → Answers (kind_of r) (canonical r) answer → IsRead r answer }
+    ensures { (r : says.Record) (answer : Result (Record A) RecordFault) → FitsFrame r
+        → Answers (kind_of r) (canonical r) answer → IsRead r answer }
 {}

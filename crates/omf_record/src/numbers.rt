@@ -1,9 +1,10 @@
 //! The numbers by which fields are written, both ways.
 
 ghost use Rattle.std.specs.Prelude.{◌≡◌, ◌<◌};
-ghost use Rattle.omf_record.specs.Numbers.{thread_number, frame_number, target_number, absent, location_number, alignment_number, combination_number, big};
+ghost use Rattle.omf_record.specs.Numbers.{thread_number, frame_number, target_number, absent, location_number};
+ghost use Rattle.omf_record.specs.Numbers.{alignment_number, combination_number, big};
 ghost use Rattle.omf_record.specs.Canonical.{length_word};
-ghost use Rattle.omf_record.specs.Fields.{thread_of, location_of, alignment_of, combination_of};
+ghost use Rattle.omf_record.specs.inside.Fields.{thread_of, location_of, alignment_of, combination_of};
 
 use crate::fields::{
     Alignment, Combination, FrameMethod, Location, SegmentLength, TargetMethod, ThreadNumber,

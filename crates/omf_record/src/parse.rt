@@ -1,7 +1,7 @@
 //! A record from its frame.
 
 ghost use Rattle.std.specs.Prelude.{◌≡◌, ◌≤◌, ℕ, true, length, IfOk};
-ghost use Rattle.omf_record.specs.Fields.{is_record_kind};
+ghost use Rattle.omf_record.specs.inside.Fields.{is_record_kind};
 ghost use Rattle.omf_record.specs.Answer.{Answers};
 ghost use Rattle.omf_record.specs.Canonical.{FitsFrame};
 ghost use Rattle.omf_record.specs.Expansion.{data_len};
@@ -76,7 +76,8 @@ fn record_in<'a, A: Allocator + Copy + 'a>(
     }
 }
 
-/// The record that the frame holds, or the one fault that stands: `OtherType`, or `Body` with its exact place. `Memory` where the lists of the record
+/// The record that the frame holds, or the one fault that stands: `OtherType`, or `Body` with its exact place.
+/// `Memory` where the lists of the record
 /// find none.
 pub fn parse_record<'a, A: Allocator + Copy + 'a>(
     alloc: A,

@@ -1,12 +1,16 @@
 //! Reading the bodies of the fourteen types.
 
 ghost use Rattle.std.specs.Prelude.{◌≡◌, ◌≤◌, ◌<◌, ◌+◌, ℕ, List, [], Result, Some, None, length, map};
-ghost use Rattle.omf_record.specs.Reading.{Gives, Reader, ended, ending, to_end, times, Moves};
+ghost use Rattle.omf_record.specs.inside.Reading.{Gives, Reader, ended, ending, to_end, times, Moves};
 ghost use Rattle.omf_record.specs.declared.fields.Subrecord.{Subrecord};
 ghost use Rattle.omf_record.specs.declared.fields.Line.{Line};
 ghost use Rattle.omf_record.specs.Record as says;
 ghost use Rattle.omf_record.specs.View.{external_view, public_view, block_view, view};
-ghost use Rattle.omf_record.specs.Fields.{name_at, external_at, public_at, subrecord_at, component_at, line_at, theadr_body, lnames_body, extdef_body, pubdef_body, segdef_body, fixupp_body, ledata_body, coment_body, grpdef_body, linnum_body, modend_body, is_attribute, mapped, reference_at, lidata_body, body_at, is_record_kind, block_at};
+ghost use Rattle.omf_record.specs.inside.Fields.{name_at, external_at, public_at, subrecord_at, component_at};
+ghost use Rattle.omf_record.specs.inside.Fields.{line_at, theadr_body, lnames_body, extdef_body, pubdef_body};
+ghost use Rattle.omf_record.specs.inside.Fields.{segdef_body, fixupp_body, ledata_body, coment_body, grpdef_body};
+ghost use Rattle.omf_record.specs.inside.Fields.{linnum_body, modend_body, is_attribute, mapped, reference_at};
+ghost use Rattle.omf_record.specs.inside.Fields.{lidata_body, body_at, is_record_kind, block_at};
 
 use crate::fields::{Line, Subrecord};
 use crate::reading::{
@@ -76,7 +80,7 @@ impl<'a, A: Allocator + Copy> Item<'a, A> for Public<'a> {
 
     ghost read = { public_at };
 
-    #[tactic(auto, unfolding(crate::specs::Fields::public_at))]
+    #[tactic(auto, unfolding(crate::specs::inside::Fields::public_at))]
     fn item_of(_alloc: A, bytes: &'a [u8]) -> Result<(Public<'a>, &'a [u8]), ReadError<'a>> {
         let (name, rest) = name_of(bytes)?;
         let (offset, rest) = word_of(rest)?;
@@ -92,7 +96,7 @@ impl<'a, A: Allocator + Copy> Item<'a, A> for Public<'a> {
     }
 }
 
-#[tactic(auto, unfolding(crate::specs::Fields::theadr_body, crate::specs::View::view))]
+#[tactic(auto, unfolding(crate::specs::inside::Fields::theadr_body, crate::specs::View::view))]
 fn theadr_of<A: Allocator + Copy>(bytes: &[u8]) -> Result<Record<'_, A>, ReadError<'_>>
     ensures { Gives (λ r. (view r, [])) result (theadr_body bytes.now) }
 {
@@ -103,7 +107,7 @@ fn theadr_of<A: Allocator + Copy>(bytes: &[u8]) -> Result<Record<'_, A>, ReadErr
     Ok(Record::Theadr { name })
 }
 
-#[tactic(auto, unfolding(crate::specs::Fields::segdef_body, crate::specs::View::view))]
+#[tactic(auto, unfolding(crate::specs::inside::Fields::segdef_body, crate::specs::View::view))]
 fn segdef_of<A: Allocator + Copy>(bytes: &[u8]) -> Result<Record<'_, A>, ReadError<'_>>
     ensures { Gives (λ r. (view r, [])) result (segdef_body bytes.now) }
 {
@@ -114,7 +118,7 @@ fn segdef_of<A: Allocator + Copy>(bytes: &[u8]) -> Result<Record<'_, A>, ReadErr
     Ok(Record::Segdef { segment })
 }
 
-#[tactic(auto, unfolding(crate::specs::Fields::ledata_body, crate::specs::View::view))]
+#[tactic(auto, unfolding(crate::specs::inside::Fields::ledata_body, crate::specs::View::view))]
 fn ledata_of<A: Allocator + Copy>(bytes: &[u8]) -> Result<Record<'_, A>, ReadError<'_>>
     ensures { Gives (λ r. (view r, [])) result (ledata_body bytes.now) }
 {
@@ -127,7 +131,7 @@ fn ledata_of<A: Allocator + Copy>(bytes: &[u8]) -> Result<Record<'_, A>, ReadErr
     })
 }
 
-#[tactic(auto, using(crate::proofs::Items::name_moves), unfolding(crate::specs::Fields::lnames_body, crate::specs::View::view))]
+#[tactic(auto, using(crate::proofs::Items::name_moves), unfolding(crate::specs::inside::Fields::lnames_body, crate::specs::View::view))]
 fn lnames_of<A: Allocator + Copy>(alloc: A, bytes: &[u8]) -> Result<Record<'_, A>, ReadError<'_>>
     ensures { Gives (λ r. (view r, [])) result (lnames_body bytes.now) }
 {
@@ -135,7 +139,7 @@ fn lnames_of<A: Allocator + Copy>(alloc: A, bytes: &[u8]) -> Result<Record<'_, A
     Ok(Record::Lnames { names })
 }
 
-#[tactic(auto, using(crate::proofs::Items::public_moves), unfolding(crate::specs::Fields::pubdef_body, crate::specs::View::view))]
+#[tactic(auto, using(crate::proofs::Items::public_moves), unfolding(crate::specs::inside::Fields::pubdef_body, crate::specs::View::view))]
 fn pubdef_of<A: Allocator + Copy>(
     alloc: A,
     local: bool,
@@ -152,7 +156,7 @@ fn pubdef_of<A: Allocator + Copy>(
     })
 }
 
-#[tactic(auto, using(crate::proofs::Items::subrecord_moves), unfolding(crate::specs::Fields::fixupp_body, crate::specs::View::view))]
+#[tactic(auto, using(crate::proofs::Items::subrecord_moves), unfolding(crate::specs::inside::Fields::fixupp_body, crate::specs::View::view))]
 fn fixupp_of<A: Allocator + Copy>(alloc: A, bytes: &[u8]) -> Result<Record<'_, A>, ReadError<'_>>
     ensures { Gives (λ r. (view r, [])) result (fixupp_body bytes.now) }
 {
@@ -167,7 +171,7 @@ impl<'a, A: Allocator + Copy> Item<'a, A> for External<'a> {
 
     ghost read = { external_at };
 
-    #[tactic(auto, unfolding(crate::specs::Fields::external_at))]
+    #[tactic(auto, unfolding(crate::specs::inside::Fields::external_at))]
     fn item_of(_alloc: A, bytes: &'a [u8]) -> Result<(External<'a>, &'a [u8]), ReadError<'a>> {
         let (name, rest) = name_of(bytes)?;
         let (type_index, rest) = index_of(rest)?;
@@ -200,7 +204,7 @@ impl<'a, A: Allocator + Copy> Item<'a, A> for u16 {
     }
 }
 
-#[tactic(auto, unfolding(crate::specs::Fields::block_at))]
+#[tactic(auto, unfolding(crate::specs::inside::Fields::block_at))]
 fn block_of<A: Allocator + Copy>(
     alloc: A,
     below: u8,
@@ -242,7 +246,7 @@ impl<'a, A: Allocator + Copy> Item<'a, A> for Block<'a, A> {
     }
 }
 
-#[tactic(auto, using(crate::proofs::Items::external_moves), unfolding(crate::specs::Fields::extdef_body, crate::specs::View::view))]
+#[tactic(auto, using(crate::proofs::Items::external_moves), unfolding(crate::specs::inside::Fields::extdef_body, crate::specs::View::view))]
 fn extdef_of<A: Allocator + Copy>(
     alloc: A,
     local: bool,
@@ -254,7 +258,7 @@ fn extdef_of<A: Allocator + Copy>(
     Ok(Record::Extdef { local, names })
 }
 
-#[tactic(auto, using(crate::proofs::Items::line_moves), unfolding(crate::specs::Fields::linnum_body, crate::specs::View::view))]
+#[tactic(auto, using(crate::proofs::Items::line_moves), unfolding(crate::specs::inside::Fields::linnum_body, crate::specs::View::view))]
 fn linnum_of<A: Allocator + Copy>(alloc: A, bytes: &[u8]) -> Result<Record<'_, A>, ReadError<'_>>
     ensures { Gives (λ r. (view r, [])) result (linnum_body bytes.now) }
 {
@@ -268,7 +272,7 @@ fn linnum_of<A: Allocator + Copy>(alloc: A, bytes: &[u8]) -> Result<Record<'_, A
     })
 }
 
-#[tactic(auto, using(crate::proofs::Items::component_moves), unfolding(crate::specs::Fields::grpdef_body, crate::specs::View::view))]
+#[tactic(auto, using(crate::proofs::Items::component_moves), unfolding(crate::specs::inside::Fields::grpdef_body, crate::specs::View::view))]
 fn grpdef_of<A: Allocator + Copy>(alloc: A, bytes: &[u8]) -> Result<Record<'_, A>, ReadError<'_>>
     ensures { Gives (λ r. (view r, [])) result (grpdef_body bytes.now) }
 {
@@ -277,7 +281,7 @@ fn grpdef_of<A: Allocator + Copy>(alloc: A, bytes: &[u8]) -> Result<Record<'_, A
     Ok(Record::Grpdef { name, segments })
 }
 
-#[tactic(auto, using(crate::proofs::Items::block_moves), unfolding(crate::specs::Fields::lidata_body, crate::specs::View::view))]
+#[tactic(auto, using(crate::proofs::Items::block_moves), unfolding(crate::specs::inside::Fields::lidata_body, crate::specs::View::view))]
 fn lidata_of<'a, A: Allocator + Copy + 'a>(
     alloc: A,
     bytes: &'a [u8],
@@ -294,7 +298,7 @@ fn lidata_of<'a, A: Allocator + Copy + 'a>(
     })
 }
 
-#[tactic(auto, unfolding(crate::specs::Fields::coment_body, crate::specs::View::view))]
+#[tactic(auto, unfolding(crate::specs::inside::Fields::coment_body, crate::specs::View::view))]
 fn coment_of<A: Allocator + Copy>(bytes: &[u8]) -> Result<Record<'_, A>, ReadError<'_>>
     ensures { Gives (λ r. (view r, [])) result (coment_body bytes.now) }
 {
@@ -315,7 +319,8 @@ fn is_attribute(byte: u8) -> bool
 
 #[tactic(auto, unfolding(crate::specs::View::view))]
 fn with_start<A: Allocator + Copy>(main: bool, bytes: &[u8]) -> Result<Record<'_, A>, ReadError<'_>>
-    ensures { Gives (λ r. (view r, [])) result (mapped (λ r. says.Modend main (Some r)) (ending reference_at) bytes.now) }
+    ensures { Gives (λ r. (view r, [])) result
+        (mapped (λ r. says.Modend main (Some r)) (ending reference_at) bytes.now) }
 {
     let (start, rest) = reference_of(bytes)?;
     if !rest.is_empty() {
@@ -340,7 +345,7 @@ fn without_start<A: Allocator + Copy>(
     Ok(Record::Modend { main, start: None })
 }
 
-#[tactic(auto, unfolding(crate::specs::Fields::modend_body))]
+#[tactic(auto, unfolding(crate::specs::inside::Fields::modend_body))]
 fn modend_of<A: Allocator + Copy>(bytes: &[u8]) -> Result<Record<'_, A>, ReadError<'_>>
     ensures { Gives (λ r. (view r, [])) result (modend_body bytes.now) }
 {
@@ -356,7 +361,7 @@ fn modend_of<A: Allocator + Copy>(bytes: &[u8]) -> Result<Record<'_, A>, ReadErr
     }
 }
 
-#[tactic(auto, unfolding(crate::specs::Fields::body_at))]
+#[tactic(auto, unfolding(crate::specs::inside::Fields::body_at))]
 pub fn record_of<'a, A: Allocator + Copy + 'a>(
     alloc: A,
     kind: u8,

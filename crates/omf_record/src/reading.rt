@@ -1,9 +1,14 @@
 //! Reading the fields of a body from left to right.
 
 ghost use Rattle.std.specs.Prelude.{◌≡◌, ◌<◌, ℕ, true};
-ghost use Rattle.omf_record.specs.Reading.{Gives, byte_if};
+ghost use Rattle.omf_record.specs.inside.Reading.{Gives, byte_if};
 ghost use Rattle.omf_record.specs.Body.{bits};
-ghost use Rattle.omf_record.specs.Fields.{byte_at, word_at, index_at, name_at, is_frame_method, frame_method_at, target_method_at, is_fix_data, frame_at, target_at, displacement_at, reference_behind, reference_at, is_location, is_subrecord, fixup_at, subrecord_at, is_zero, zero_word_at, is_acbp, alignment_at, length_at, three_indexes_at, segment_at, base_behind, base_at, is_ff, line_at, component_at};
+ghost use Rattle.omf_record.specs.inside.Fields.{byte_at, word_at, index_at, name_at, is_frame_method};
+ghost use Rattle.omf_record.specs.inside.Fields.{frame_method_at, target_method_at, is_fix_data, frame_at, target_at};
+ghost use Rattle.omf_record.specs.inside.Fields.{displacement_at, reference_behind, reference_at, is_location};
+ghost use Rattle.omf_record.specs.inside.Fields.{is_subrecord, fixup_at, subrecord_at, is_zero, zero_word_at};
+ghost use Rattle.omf_record.specs.inside.Fields.{is_acbp, alignment_at, length_at, three_indexes_at, segment_at};
+ghost use Rattle.omf_record.specs.inside.Fields.{base_behind, base_at, is_ff, line_at, component_at};
 
 use crate::fields::{
     Alignment, Fixup, FrameDatum, FrameMethod, Line, PublicBase, Reference, SegmentDefinition,
@@ -30,7 +35,7 @@ pub fn byte_of(bytes: &[u8]) -> Result<(u8, &[u8]), ReadError<'_>>
     }
 }
 
-#[tactic(auto, unfolding(crate::specs::Fields::word_at))]
+#[tactic(auto, unfolding(crate::specs::inside::Fields::word_at))]
 pub fn word_of(bytes: &[u8]) -> Result<(u16, &[u8]), ReadError<'_>>
     ensures { Gives (λ x. (x.0, x.1.now)) result (word_at bytes.now) }
 {
@@ -63,7 +68,7 @@ fn is_frame_method(method: u8) -> bool
     method < 3 || method == 4 || method == 5
 }
 
-#[tactic(auto, unfolding(crate::specs::Fields::frame_method_at))]
+#[tactic(auto, unfolding(crate::specs::inside::Fields::frame_method_at))]
 fn frame_method_of(method: u8, bytes: &[u8]) -> Result<(FrameMethod, &[u8]), ReadError<'_>>
     ensures { Gives (λ x. (x.0, x.1.now)) result (frame_method_at method bytes.now) }
 {
@@ -85,7 +90,7 @@ fn frame_method_of(method: u8, bytes: &[u8]) -> Result<(FrameMethod, &[u8]), Rea
     }
 }
 
-#[tactic(auto, unfolding(crate::specs::Fields::target_method_at))]
+#[tactic(auto, unfolding(crate::specs::inside::Fields::target_method_at))]
 fn target_method_of(method: u8, bytes: &[u8]) -> Result<(TargetMethod, &[u8]), ReadError<'_>>
     ensures { Gives (λ x. (x.0, x.1.now)) result (target_method_at method bytes.now) }
 {
@@ -105,7 +110,7 @@ fn is_fix_data(fields: u8) -> bool
         && (fields / 8 % 2 == 1 || fields % 4 < 3)
 }
 
-#[tactic(auto, unfolding(crate::specs::Fields::frame_at))]
+#[tactic(auto, unfolding(crate::specs::inside::Fields::frame_at))]
 fn frame_of(fields: u8, bytes: &[u8]) -> Result<(FrameDatum, &[u8]), ReadError<'_>>
     ensures { Gives (λ x. (x.0, x.1.now)) result (frame_at fields bytes.now) }
 {
@@ -116,7 +121,7 @@ fn frame_of(fields: u8, bytes: &[u8]) -> Result<(FrameDatum, &[u8]), ReadError<'
     Ok((FrameDatum::By(method), rest))
 }
 
-#[tactic(auto, unfolding(crate::specs::Fields::target_at))]
+#[tactic(auto, unfolding(crate::specs::inside::Fields::target_at))]
 fn target_of(fields: u8, bytes: &[u8]) -> Result<(TargetDatum, &[u8]), ReadError<'_>>
     ensures { Gives (λ x. (x.0, x.1.now)) result (target_at fields bytes.now) }
 {
@@ -127,7 +132,7 @@ fn target_of(fields: u8, bytes: &[u8]) -> Result<(TargetDatum, &[u8]), ReadError
     Ok((TargetDatum::By(method), rest))
 }
 
-#[tactic(auto, unfolding(crate::specs::Fields::displacement_at))]
+#[tactic(auto, unfolding(crate::specs::inside::Fields::displacement_at))]
 fn displacement_of(fields: u8, bytes: &[u8]) -> Result<(Option<u16>, &[u8]), ReadError<'_>>
     ensures { Gives (λ x. (x.0, x.1.now)) result (displacement_at fields bytes.now) }
 {
@@ -138,7 +143,7 @@ fn displacement_of(fields: u8, bytes: &[u8]) -> Result<(Option<u16>, &[u8]), Rea
     Ok((Some(displacement), rest))
 }
 
-#[tactic(auto, unfolding(crate::specs::Fields::reference_behind))]
+#[tactic(auto, unfolding(crate::specs::inside::Fields::reference_behind))]
 fn reference_behind(fields: u8, bytes: &[u8]) -> Result<(Reference, &[u8]), ReadError<'_>>
     ensures { Gives (λ x. (x.0, x.1.now)) result (reference_behind fields bytes.now) }
 {
@@ -153,7 +158,7 @@ fn reference_behind(fields: u8, bytes: &[u8]) -> Result<(Reference, &[u8]), Read
     Ok((reference, rest))
 }
 
-#[tactic(auto, unfolding(crate::specs::Fields::reference_at))]
+#[tactic(auto, unfolding(crate::specs::inside::Fields::reference_at))]
 pub fn reference_of(bytes: &[u8]) -> Result<(Reference, &[u8]), ReadError<'_>>
     ensures { Gives (λ x. (x.0, x.1.now)) result (reference_at bytes.now) }
 {
@@ -182,7 +187,7 @@ fn is_subrecord(first: u8) -> bool
     }
 }
 
-#[tactic(auto, unfolding(crate::specs::Fields::fixup_at))]
+#[tactic(auto, unfolding(crate::specs::inside::Fields::fixup_at))]
 fn fixup_of(first: u8, bytes: &[u8]) -> Result<(Subrecord, &[u8]), ReadError<'_>>
     ensures { Gives (λ x. (x.0, x.1.now)) result (fixup_at first bytes.now) }
 {
@@ -197,7 +202,7 @@ fn fixup_of(first: u8, bytes: &[u8]) -> Result<(Subrecord, &[u8]), ReadError<'_>
     Ok((Subrecord::Fixup(fixup), rest))
 }
 
-#[tactic(auto, unfolding(crate::specs::Fields::subrecord_at))]
+#[tactic(auto, unfolding(crate::specs::inside::Fields::subrecord_at))]
 pub fn subrecord_of(bytes: &[u8]) -> Result<(Subrecord, &[u8]), ReadError<'_>>
     ensures { Gives (λ x. (x.0, x.1.now)) result (subrecord_at bytes.now) }
 {
@@ -226,7 +231,7 @@ fn zero_byte_of(bytes: &[u8]) -> Result<(u8, &[u8]), ReadError<'_>>
     Ok((byte, rest))
 }
 
-#[tactic(auto, unfolding(crate::specs::Fields::zero_word_at))]
+#[tactic(auto, unfolding(crate::specs::inside::Fields::zero_word_at))]
 pub fn zero_word_of(bytes: &[u8]) -> Result<(u16, &[u8]), ReadError<'_>>
     ensures { Gives (λ x. (x.0, x.1.now)) result (zero_word_at bytes.now) }
 {
@@ -242,7 +247,7 @@ fn is_acbp(byte: u8) -> bool
 }
 
 /// The alignment with this number, with the place of an absolute segment.
-#[tactic(auto, unfolding(crate::specs::Fields::alignment_at))]
+#[tactic(auto, unfolding(crate::specs::inside::Fields::alignment_at))]
 fn placed_alignment_of(number: u8, bytes: &[u8]) -> Result<(Alignment, &[u8]), ReadError<'_>>
     ensures { Gives (λ x. (x.0, x.1.now)) result (alignment_at number bytes.now) }
 {
@@ -254,7 +259,7 @@ fn placed_alignment_of(number: u8, bytes: &[u8]) -> Result<(Alignment, &[u8]), R
     Ok((alignment_of(number), bytes))
 }
 
-#[tactic(auto, unfolding(crate::specs::Fields::length_at))]
+#[tactic(auto, unfolding(crate::specs::inside::Fields::length_at))]
 fn length_of(big: u8, bytes: &[u8]) -> Result<(SegmentLength, &[u8]), ReadError<'_>>
     ensures { Gives (λ x. (x.0, x.1.now)) result (length_at big bytes.now) }
 {
@@ -266,7 +271,7 @@ fn length_of(big: u8, bytes: &[u8]) -> Result<(SegmentLength, &[u8]), ReadError<
     Ok((SegmentLength::Word(length), rest))
 }
 
-#[tactic(auto, unfolding(crate::specs::Fields::three_indexes_at))]
+#[tactic(auto, unfolding(crate::specs::inside::Fields::three_indexes_at))]
 fn three_indexes_of(bytes: &[u8]) -> Result<((u16, u16, u16), &[u8]), ReadError<'_>>
     ensures { Gives (λ x. (x.0, x.1.now)) result (three_indexes_at bytes.now) }
 {
@@ -276,7 +281,7 @@ fn three_indexes_of(bytes: &[u8]) -> Result<((u16, u16, u16), &[u8]), ReadError<
     Ok(((name, class, overlay), rest))
 }
 
-#[tactic(auto, unfolding(crate::specs::Fields::segment_at))]
+#[tactic(auto, unfolding(crate::specs::inside::Fields::segment_at))]
 pub fn segment_of(bytes: &[u8]) -> Result<(SegmentDefinition, &[u8]), ReadError<'_>>
     ensures { Gives (λ x. (x.0, x.1.now)) result (segment_at bytes.now) }
 {
@@ -298,7 +303,7 @@ pub fn segment_of(bytes: &[u8]) -> Result<(SegmentDefinition, &[u8]), ReadError<
     Ok((segment, rest))
 }
 
-#[tactic(auto, unfolding(crate::specs::Fields::base_behind))]
+#[tactic(auto, unfolding(crate::specs::inside::Fields::base_behind))]
 fn base_behind(group: u16, segment: u16, bytes: &[u8]) -> Result<(PublicBase, &[u8]), ReadError<'_>>
     ensures { Gives (λ x. (x.0, x.1.now)) result (base_behind group segment bytes.now) }
 {
@@ -309,7 +314,7 @@ fn base_behind(group: u16, segment: u16, bytes: &[u8]) -> Result<(PublicBase, &[
     Ok((PublicBase::InSegment { group, segment }, bytes))
 }
 
-#[tactic(auto, unfolding(crate::specs::Fields::base_at))]
+#[tactic(auto, unfolding(crate::specs::inside::Fields::base_at))]
 pub fn base_of(bytes: &[u8]) -> Result<(PublicBase, &[u8]), ReadError<'_>>
     ensures { Gives (λ x. (x.0, x.1.now)) result (base_at bytes.now) }
 {
@@ -318,7 +323,7 @@ pub fn base_of(bytes: &[u8]) -> Result<(PublicBase, &[u8]), ReadError<'_>>
     base_behind(group, segment, rest)
 }
 
-#[tactic(auto, unfolding(crate::specs::Fields::line_at))]
+#[tactic(auto, unfolding(crate::specs::inside::Fields::line_at))]
 pub fn line_of(bytes: &[u8]) -> Result<(Line, &[u8]), ReadError<'_>>
     ensures { Gives (λ x. (x.0, x.1.now)) result (line_at bytes.now) }
 {
@@ -327,7 +332,7 @@ pub fn line_of(bytes: &[u8]) -> Result<(Line, &[u8]), ReadError<'_>>
     Ok((Line { number, offset }, rest))
 }
 
-#[tactic(auto, unfolding(crate::specs::Fields::component_at))]
+#[tactic(auto, unfolding(crate::specs::inside::Fields::component_at))]
 pub fn component_of(bytes: &[u8]) -> Result<(u16, &[u8]), ReadError<'_>>
     ensures { Gives (λ x. (x.0, x.1.now)) result (component_at bytes.now) }
 {

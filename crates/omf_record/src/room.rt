@@ -6,7 +6,12 @@ ghost use Rattle.omf_record.specs.Record as says;
 ghost use Rattle.omf_record.specs.Record.{blocks_of};
 ghost use Rattle.omf_record.specs.declared.fields.Line.{Line};
 ghost use Rattle.omf_record.specs.declared.fields.Subrecord.{Subrecord};
-ghost use Rattle.omf_record.specs.Room.{taking, byte_room, word_room, bytes_room, index_room, name_room, external_room, public_room, line_room, component_room, base_room, absolute_room, segment_room, frame_index_room, target_index_room, frame_room, target_room, displacement_room, reference_room, subrecord_room, each_room, content_room, counts_room, blocks_room, modend_room, record_room};
+ghost use Rattle.omf_record.specs.inside.Room.{◌▹◌, taking, byte_room, word_room, bytes_room, index_room, name_room};
+ghost use Rattle.omf_record.specs.inside.Room.{external_room, public_room, line_room, component_room, base_room};
+ghost use Rattle.omf_record.specs.inside.Room.{absolute_room, segment_room, frame_index_room, target_index_room};
+ghost use Rattle.omf_record.specs.inside.Room.{frame_room, target_room, displacement_room, reference_room};
+ghost use Rattle.omf_record.specs.inside.Room.{subrecord_room, each_room, content_room, counts_room, blocks_room};
+ghost use Rattle.omf_record.specs.inside.Room.{modend_room, record_room};
 ghost use Rattle.omf_record.specs.View.{view, external_view, public_view, block_view};
 
 use crate::fields::{
@@ -95,7 +100,7 @@ fn after_absolute(alignment: Alignment, room: usize) -> Option<usize>
     }
 }
 
-#[tactic(auto, unfolding(crate::specs::Room::segment_room))]
+#[tactic(auto, unfolding(crate::specs::inside::Room::segment_room))]
 fn after_segment(segment: &SegmentDefinition, room: usize) -> Option<usize>
     ensures { result ≡ segment_room segment.now room }
 {
@@ -156,7 +161,7 @@ fn after_displacement(displacement: Option<u16>, room: usize) -> Option<usize>
     }
 }
 
-#[tactic(auto, unfolding(crate::specs::Room::reference_room))]
+#[tactic(auto, unfolding(crate::specs::inside::Room::reference_room))]
 fn after_reference(reference: Reference, room: usize) -> Option<usize>
     ensures { result ≡ reference_room reference room }
 {
@@ -166,7 +171,7 @@ fn after_reference(reference: Reference, room: usize) -> Option<usize>
     after_displacement(reference.displacement, room)
 }
 
-#[tactic(auto, unfolding(crate::specs::Room::subrecord_room))]
+#[tactic(auto, unfolding(crate::specs::inside::Room::subrecord_room))]
 fn after_subrecord(subrecord: Subrecord, room: usize) -> Option<usize>
     ensures { result ≡ subrecord_room subrecord room }
 {
@@ -328,7 +333,14 @@ fn after_modend(start: &Option<Reference>, room: usize) -> Option<usize>
     }
 }
 
-#[tactic(auto, unfolding(crate::specs::Room::record_room, crate::specs::View::view))]
+// The room behind the segment and the offset of data.
+fn after_place(segment: u16, offset: u16, room: usize) -> Option<usize>
+    ensures { result ≡ (index_room segment ▹ word_room offset) room }
+{
+    after_word(offset, after_index(segment, room)?)
+}
+
+#[tactic(auto, unfolding(crate::specs::inside::Room::record_room, crate::specs::View::view))]
 fn after_record<A: Allocator + Copy>(record: &Record<'_, A>, room: usize) -> Option<usize>
     ensures { result ≡ record_room (view «record».now) room }
 {
@@ -363,25 +375,19 @@ fn after_record<A: Allocator + Copy>(record: &Record<'_, A>, room: usize) -> Opt
             segment,
             offset,
             bytes,
-        } => {
-            let room = after_index(*segment, room)?;
-            let room = after_word(*offset, room)?;
-            after_bytes(bytes, room)
-        }
+        } => after_bytes(bytes, after_place(*segment, *offset, room)?),
         Record::Lidata {
             segment,
             offset,
             blocks,
-        } => {
-            let room = after_index(*segment, room)?;
-            let room = after_word(*offset, room)?;
-            after_blocks(blocks, 63, room)
-        }
+        } => after_blocks(blocks, 63, after_place(*segment, *offset, room)?),
     }
 }
 
-/// Whether the record has a canonical body, of at most 65,534 bytes. It does where each index is at most 32,767, each name and content at most 255
-/// bytes, each fix-up's offset at most 1,023, no block deeper than 64 levels, and so on; each record that was read does.
+/// Whether the record has a canonical body, of at most 65,534 bytes. It does where each index is at most 32,767,
+/// each name and content at most 255
+/// bytes, each fix-up's offset at most 1,023, no block deeper than 64 levels, and so on; each record that was read
+/// does.
 pub fn fits_frame<A: Allocator + Copy>(record: &Record<'_, A>) -> bool
     ensures { IsTrue result ↔ FitsFrame (view «record».now) }
 {

@@ -2,10 +2,12 @@
 
 ghost use Rattle.std.specs.Prelude.{◌≡◌, ◌≤◌, ◌<◌, ◌++◌, ◌∷◌, length, map, OnOk, OnErr};
 ghost use Rattle.omf_record.specs.Canonical as canon;
-ghost use Rattle.omf_record.specs.Fits.{FrameFits, TargetFits, FrameDatumFits, TargetDatumFits, ReferenceFits, SubrecordFits, SegmentFits, ExternalFits, PublicFits, BaseFits, BlockFits, AllBlocksFit};
+ghost use Rattle.omf_record.specs.inside.Fits.{FrameFits, TargetFits, FrameDatumFits, TargetDatumFits, ReferenceFits};
+ghost use Rattle.omf_record.specs.inside.Fits.{SubrecordFits, SegmentFits, ExternalFits, PublicFits, BaseFits};
+ghost use Rattle.omf_record.specs.inside.Fits.{BlockFits, AllBlocksFit};
 ghost use Rattle.omf_record.specs.Record.{blocks_of};
 ghost use Rattle.omf_record.specs.View.{external_view, public_view, block_view};
-ghost use Rattle.omf_record.specs.Keeping.{Keeps};
+ghost use Rattle.omf_record.specs.inside.Keeping.{Keeps};
 
 use crate::fields::{
     Alignment, Fixup, FrameDatum, FrameMethod, Line, PublicBase, Reference, SegmentDefinition,
@@ -288,7 +290,8 @@ fn put_content<A: Allocator + Copy>(
     out: &mut Vec<u8, A>,
 ) -> Result<(), AllocError>
     requires { length bytes.now ≤ 255 }
-    ensures ok { OnOk result (out.new.items ≡ out.old.items ++ (canon.word repeat ++ (canon.word 0 ++ canon.name bytes.now))) }
+    ensures ok { OnOk result (out.new.items ≡ out.old.items
+        ++ (canon.word repeat ++ (canon.word 0 ++ canon.name bytes.now))) }
     ensures err { OnErr result (Keeps out.old.items out.new.items) }
 {
     put_word(repeat, out)?;
@@ -302,7 +305,8 @@ pub fn put_blocks<A: Allocator + Copy>(
     out: &mut Vec<u8, A>,
 ) -> Result<(), AllocError>
     requires { AllBlocksFit (blocks_of (map block_view blocks.now)) }
-    ensures ok { OnOk result (out.new.items ≡ out.old.items ++ canon.blocks_text (blocks_of (map block_view blocks.now))) }
+    ensures ok { OnOk result (out.new.items ≡ out.old.items
+        ++ canon.blocks_text (blocks_of (map block_view blocks.now))) }
     ensures err { OnErr result (Keeps out.old.items out.new.items) }
 {
     for block in blocks {

@@ -1,7 +1,7 @@
 use Rattle.std.proofs.Common.{◌≡◌, ◌-◌, map, sym, ◌∙◌}
 use Rattle.omf_record.specs.Record as says
 use Rattle.omf_record.specs.View.{block_view}
-use Rattle.omf_record.specs.Searching.{block_search, blocks_search}
+use Rattle.omf_record.specs.inside.Searching.{block_search, blocks_search}
 use Rattle.omf_record.proofs.BlockParts.{view_content, view_nested}
 use Rattle.omf_record.proofs.Searched.{search_goes, search_stops, nested_short, nested_deep}
 use Rattle.omf_record.proofs.content.+find_place.Goals.{in-Content, in-Nested+then-left-lt4, in-Nested+else-left-lt4}

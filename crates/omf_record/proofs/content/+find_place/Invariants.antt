@@ -1,7 +1,7 @@
 use Rattle.std.proofs.Common.{◌≡◌, drop, map}
 use Rattle.omf_record.specs.Record.{blocks_of}
 use Rattle.omf_record.specs.View.{block_view}
-use Rattle.omf_record.specs.Searching.{blocks_search}
+use Rattle.omf_record.specs.inside.Searching.{blocks_search}
 use Rattle.omf_record.proofs.content.+find_place.Given as goal
 
 abbrev pub invariant-loop-block : goal.invariant-loop-block

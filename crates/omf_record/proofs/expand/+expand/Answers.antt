@@ -2,6 +2,7 @@ use Rattle.std.proofs.Common.{◌≡◌, ◌+◌, ◌-◌, ◌*◌, ◌≤◌, l
 use Rattle.omf_record.specs.Record as says
 use Rattle.omf_record.specs.View.{block_view}
 use Rattle.omf_record.specs.Expansion as store
+use Rattle.omf_record.specs.inside.Expansion as inside
 use Rattle.omf_record.proofs.BlockParts.{view_content, view_nested}
 use Rattle.omf_record.proofs.Stored.{stored_in, stored_more}
 use Rattle.omf_record.proofs.Expanded.{has_room, expanded_more}
@@ -15,7 +16,7 @@ overflow_add-inner g t c =
     let b = c.block-item.result in
     let room = has_room block_view c.args.blocks.now c.loop-block.block-index b c.args.place c.args.repeat (length c.args.bytes.now) c.loop-block.at c.loop-block.inner c.loop-block-test.true c.block-item.is c.if-repeat-eq0.false c.requires.short c.requires.room c.loop-block.invariant.at c.loop-block.invariant.inner in
     let taken : store.stored_len (block_view b) ≡ 5 + length c.in-Content.content.now = rw (c.in-Content.is, view_content g.row.A.Denot c.in-Content.repeat c.in-Content.content) refl in
-    let used : store.expanded_len (block_view b) ≡ c.in-Content.repeat * length c.in-Content.content.now = rw (c.in-Content.is, view_content g.row.A.Denot c.in-Content.repeat c.in-Content.content) refl in
+    let used : inside.expanded_len (block_view b) ≡ c.in-Content.repeat * length c.in-Content.content.now = rw (c.in-Content.is, view_content g.row.A.Denot c.in-Content.repeat c.in-Content.content) refl in
     let short : c.loop-block.inner + 5 + length c.in-Content.content.now ≤ 65535 = omega (arith, room.stored, taken) in
     let fits : c.loop-block.at + c.in-Content.repeat * length c.in-Content.content.now ≤ length c.loop-block.bytes = omega (arith, room.expanded, used, c.loop-block.auto.bytes) in
     let fits_too : c.loop-block.at ≤ length c.loop-block.stored = omega (arith, room.expanded, c.loop-block.auto.stored, c.requires.same) in
@@ -26,7 +27,7 @@ slice_bounds-expand_content-count g t c =
     let b = c.block-item.result in
     let room = has_room block_view c.args.blocks.now c.loop-block.block-index b c.args.place c.args.repeat (length c.args.bytes.now) c.loop-block.at c.loop-block.inner c.loop-block-test.true c.block-item.is c.if-repeat-eq0.false c.requires.short c.requires.room c.loop-block.invariant.at c.loop-block.invariant.inner in
     let taken : store.stored_len (block_view b) ≡ 5 + length c.in-Content.content.now = rw (c.in-Content.is, view_content g.row.A.Denot c.in-Content.repeat c.in-Content.content) refl in
-    let used : store.expanded_len (block_view b) ≡ c.in-Content.repeat * length c.in-Content.content.now = rw (c.in-Content.is, view_content g.row.A.Denot c.in-Content.repeat c.in-Content.content) refl in
+    let used : inside.expanded_len (block_view b) ≡ c.in-Content.repeat * length c.in-Content.content.now = rw (c.in-Content.is, view_content g.row.A.Denot c.in-Content.repeat c.in-Content.content) refl in
     let short : c.loop-block.inner + 5 + length c.in-Content.content.now ≤ 65535 = omega (arith, room.stored, taken) in
     let fits : c.loop-block.at + c.in-Content.repeat * length c.in-Content.content.now ≤ length c.loop-block.bytes = omega (arith, room.expanded, used, c.loop-block.auto.bytes) in
     let fits_too : c.loop-block.at ≤ length c.loop-block.stored = omega (arith, room.expanded, c.loop-block.auto.stored, c.requires.same) in
@@ -37,7 +38,7 @@ slice_bounds-expand_content-start g t c =
     let b = c.block-item.result in
     let room = has_room block_view c.args.blocks.now c.loop-block.block-index b c.args.place c.args.repeat (length c.args.bytes.now) c.loop-block.at c.loop-block.inner c.loop-block-test.true c.block-item.is c.if-repeat-eq0.false c.requires.short c.requires.room c.loop-block.invariant.at c.loop-block.invariant.inner in
     let taken : store.stored_len (block_view b) ≡ 5 + length c.in-Content.content.now = rw (c.in-Content.is, view_content g.row.A.Denot c.in-Content.repeat c.in-Content.content) refl in
-    let used : store.expanded_len (block_view b) ≡ c.in-Content.repeat * length c.in-Content.content.now = rw (c.in-Content.is, view_content g.row.A.Denot c.in-Content.repeat c.in-Content.content) refl in
+    let used : inside.expanded_len (block_view b) ≡ c.in-Content.repeat * length c.in-Content.content.now = rw (c.in-Content.is, view_content g.row.A.Denot c.in-Content.repeat c.in-Content.content) refl in
     let short : c.loop-block.inner + 5 + length c.in-Content.content.now ≤ 65535 = omega (arith, room.stored, taken) in
     let fits : c.loop-block.at + c.in-Content.repeat * length c.in-Content.content.now ≤ length c.loop-block.bytes = omega (arith, room.expanded, used, c.loop-block.auto.bytes) in
     let fits_too : c.loop-block.at ≤ length c.loop-block.stored = omega (arith, room.expanded, c.loop-block.auto.stored, c.requires.same) in
@@ -48,7 +49,7 @@ offset_bounds-stored-at g t c =
     let b = c.block-item.result in
     let room = has_room block_view c.args.blocks.now c.loop-block.block-index b c.args.place c.args.repeat (length c.args.bytes.now) c.loop-block.at c.loop-block.inner c.loop-block-test.true c.block-item.is c.if-repeat-eq0.false c.requires.short c.requires.room c.loop-block.invariant.at c.loop-block.invariant.inner in
     let taken : store.stored_len (block_view b) ≡ 5 + length c.in-Content.content.now = rw (c.in-Content.is, view_content g.row.A.Denot c.in-Content.repeat c.in-Content.content) refl in
-    let used : store.expanded_len (block_view b) ≡ c.in-Content.repeat * length c.in-Content.content.now = rw (c.in-Content.is, view_content g.row.A.Denot c.in-Content.repeat c.in-Content.content) refl in
+    let used : inside.expanded_len (block_view b) ≡ c.in-Content.repeat * length c.in-Content.content.now = rw (c.in-Content.is, view_content g.row.A.Denot c.in-Content.repeat c.in-Content.content) refl in
     let short : c.loop-block.inner + 5 + length c.in-Content.content.now ≤ 65535 = omega (arith, room.stored, taken) in
     let fits : c.loop-block.at + c.in-Content.repeat * length c.in-Content.content.now ≤ length c.loop-block.bytes = omega (arith, room.expanded, used, c.loop-block.auto.bytes) in
     let fits_too : c.loop-block.at ≤ length c.loop-block.stored = omega (arith, room.expanded, c.loop-block.auto.stored, c.requires.same) in
@@ -59,7 +60,7 @@ slice_bounds-expand_content-count-in-Content g t c =
     let b = c.block-item.result in
     let room = has_room block_view c.args.blocks.now c.loop-block.block-index b c.args.place c.args.repeat (length c.args.bytes.now) c.loop-block.at c.loop-block.inner c.loop-block-test.true c.block-item.is c.if-repeat-eq0.false c.requires.short c.requires.room c.loop-block.invariant.at c.loop-block.invariant.inner in
     let taken : store.stored_len (block_view b) ≡ 5 + length c.in-Content.content.now = rw (c.in-Content.is, view_content g.row.A.Denot c.in-Content.repeat c.in-Content.content) refl in
-    let used : store.expanded_len (block_view b) ≡ c.in-Content.repeat * length c.in-Content.content.now = rw (c.in-Content.is, view_content g.row.A.Denot c.in-Content.repeat c.in-Content.content) refl in
+    let used : inside.expanded_len (block_view b) ≡ c.in-Content.repeat * length c.in-Content.content.now = rw (c.in-Content.is, view_content g.row.A.Denot c.in-Content.repeat c.in-Content.content) refl in
     let short : c.loop-block.inner + 5 + length c.in-Content.content.now ≤ 65535 = omega (arith, room.stored, taken) in
     let fits : c.loop-block.at + c.in-Content.repeat * length c.in-Content.content.now ≤ length c.loop-block.bytes = omega (arith, room.expanded, used, c.loop-block.auto.bytes) in
     let fits_too : c.loop-block.at ≤ length c.loop-block.stored = omega (arith, room.expanded, c.loop-block.auto.stored, c.requires.same) in
@@ -70,7 +71,7 @@ slice_bounds-expand_content-start-in-Content g t c =
     let b = c.block-item.result in
     let room = has_room block_view c.args.blocks.now c.loop-block.block-index b c.args.place c.args.repeat (length c.args.bytes.now) c.loop-block.at c.loop-block.inner c.loop-block-test.true c.block-item.is c.if-repeat-eq0.false c.requires.short c.requires.room c.loop-block.invariant.at c.loop-block.invariant.inner in
     let taken : store.stored_len (block_view b) ≡ 5 + length c.in-Content.content.now = rw (c.in-Content.is, view_content g.row.A.Denot c.in-Content.repeat c.in-Content.content) refl in
-    let used : store.expanded_len (block_view b) ≡ c.in-Content.repeat * length c.in-Content.content.now = rw (c.in-Content.is, view_content g.row.A.Denot c.in-Content.repeat c.in-Content.content) refl in
+    let used : inside.expanded_len (block_view b) ≡ c.in-Content.repeat * length c.in-Content.content.now = rw (c.in-Content.is, view_content g.row.A.Denot c.in-Content.repeat c.in-Content.content) refl in
     let short : c.loop-block.inner + 5 + length c.in-Content.content.now ≤ 65535 = omega (arith, room.stored, taken) in
     let fits : c.loop-block.at + c.in-Content.repeat * length c.in-Content.content.now ≤ length c.loop-block.bytes = omega (arith, room.expanded, used, c.loop-block.auto.bytes) in
     let fits_too : c.loop-block.at ≤ length c.loop-block.stored = omega (arith, room.expanded, c.loop-block.auto.stored, c.requires.same) in
@@ -81,7 +82,7 @@ overflow_cast-inner g t c =
     let b = c.block-item.result in
     let room = has_room block_view c.args.blocks.now c.loop-block.block-index b c.args.place c.args.repeat (length c.args.bytes.now) c.loop-block.at c.loop-block.inner c.loop-block-test.true c.block-item.is c.if-repeat-eq0.false c.requires.short c.requires.room c.loop-block.invariant.at c.loop-block.invariant.inner in
     let taken : store.stored_len (block_view b) ≡ 5 + length c.in-Content.content.now = rw (c.in-Content.is, view_content g.row.A.Denot c.in-Content.repeat c.in-Content.content) refl in
-    let used : store.expanded_len (block_view b) ≡ c.in-Content.repeat * length c.in-Content.content.now = rw (c.in-Content.is, view_content g.row.A.Denot c.in-Content.repeat c.in-Content.content) refl in
+    let used : inside.expanded_len (block_view b) ≡ c.in-Content.repeat * length c.in-Content.content.now = rw (c.in-Content.is, view_content g.row.A.Denot c.in-Content.repeat c.in-Content.content) refl in
     let short : c.loop-block.inner + 5 + length c.in-Content.content.now ≤ 65535 = omega (arith, room.stored, taken) in
     let fits : c.loop-block.at + c.in-Content.repeat * length c.in-Content.content.now ≤ length c.loop-block.bytes = omega (arith, room.expanded, used, c.loop-block.auto.bytes) in
     let fits_too : c.loop-block.at ≤ length c.loop-block.stored = omega (arith, room.expanded, c.loop-block.auto.stored, c.requires.same) in
@@ -92,7 +93,7 @@ overflow_add-inner-in-Content g t c =
     let b = c.block-item.result in
     let room = has_room block_view c.args.blocks.now c.loop-block.block-index b c.args.place c.args.repeat (length c.args.bytes.now) c.loop-block.at c.loop-block.inner c.loop-block-test.true c.block-item.is c.if-repeat-eq0.false c.requires.short c.requires.room c.loop-block.invariant.at c.loop-block.invariant.inner in
     let taken : store.stored_len (block_view b) ≡ 5 + length c.in-Content.content.now = rw (c.in-Content.is, view_content g.row.A.Denot c.in-Content.repeat c.in-Content.content) refl in
-    let used : store.expanded_len (block_view b) ≡ c.in-Content.repeat * length c.in-Content.content.now = rw (c.in-Content.is, view_content g.row.A.Denot c.in-Content.repeat c.in-Content.content) refl in
+    let used : inside.expanded_len (block_view b) ≡ c.in-Content.repeat * length c.in-Content.content.now = rw (c.in-Content.is, view_content g.row.A.Denot c.in-Content.repeat c.in-Content.content) refl in
     let short : c.loop-block.inner + 5 + length c.in-Content.content.now ≤ 65535 = omega (arith, room.stored, taken) in
     let fits : c.loop-block.at + c.in-Content.repeat * length c.in-Content.content.now ≤ length c.loop-block.bytes = omega (arith, room.expanded, used, c.loop-block.auto.bytes) in
     let fits_too : c.loop-block.at ≤ length c.loop-block.stored = omega (arith, room.expanded, c.loop-block.auto.stored, c.requires.same) in
@@ -103,7 +104,7 @@ overflow_add-inner-in-Content-2 g t c =
     let b = c.block-item.result in
     let room = has_room block_view c.args.blocks.now c.loop-block.block-index b c.args.place c.args.repeat (length c.args.bytes.now) c.loop-block.at c.loop-block.inner c.loop-block-test.true c.block-item.is c.if-repeat-eq0.false c.requires.short c.requires.room c.loop-block.invariant.at c.loop-block.invariant.inner in
     let taken : store.stored_len (block_view b) ≡ 5 + length c.in-Content.content.now = rw (c.in-Content.is, view_content g.row.A.Denot c.in-Content.repeat c.in-Content.content) refl in
-    let used : store.expanded_len (block_view b) ≡ c.in-Content.repeat * length c.in-Content.content.now = rw (c.in-Content.is, view_content g.row.A.Denot c.in-Content.repeat c.in-Content.content) refl in
+    let used : inside.expanded_len (block_view b) ≡ c.in-Content.repeat * length c.in-Content.content.now = rw (c.in-Content.is, view_content g.row.A.Denot c.in-Content.repeat c.in-Content.content) refl in
     let short : c.loop-block.inner + 5 + length c.in-Content.content.now ≤ 65535 = omega (arith, room.stored, taken) in
     let fits : c.loop-block.at + c.in-Content.repeat * length c.in-Content.content.now ≤ length c.loop-block.bytes = omega (arith, room.expanded, used, c.loop-block.auto.bytes) in
     let fits_too : c.loop-block.at ≤ length c.loop-block.stored = omega (arith, room.expanded, c.loop-block.auto.stored, c.requires.same) in
@@ -114,7 +115,7 @@ expand_content-at-requires-clause-short g t c =
     let b = c.block-item.result in
     let room = has_room block_view c.args.blocks.now c.loop-block.block-index b c.args.place c.args.repeat (length c.args.bytes.now) c.loop-block.at c.loop-block.inner c.loop-block-test.true c.block-item.is c.if-repeat-eq0.false c.requires.short c.requires.room c.loop-block.invariant.at c.loop-block.invariant.inner in
     let taken : store.stored_len (block_view b) ≡ 5 + length c.in-Content.content.now = rw (c.in-Content.is, view_content g.row.A.Denot c.in-Content.repeat c.in-Content.content) refl in
-    let used : store.expanded_len (block_view b) ≡ c.in-Content.repeat * length c.in-Content.content.now = rw (c.in-Content.is, view_content g.row.A.Denot c.in-Content.repeat c.in-Content.content) refl in
+    let used : inside.expanded_len (block_view b) ≡ c.in-Content.repeat * length c.in-Content.content.now = rw (c.in-Content.is, view_content g.row.A.Denot c.in-Content.repeat c.in-Content.content) refl in
     let short : c.loop-block.inner + 5 + length c.in-Content.content.now ≤ 65535 = omega (arith, room.stored, taken) in
     let fits : c.loop-block.at + c.in-Content.repeat * length c.in-Content.content.now ≤ length c.loop-block.bytes = omega (arith, room.expanded, used, c.loop-block.auto.bytes) in
     let fits_too : c.loop-block.at ≤ length c.loop-block.stored = omega (arith, room.expanded, c.loop-block.auto.stored, c.requires.same) in
@@ -125,7 +126,7 @@ expand_content-at-requires-clause-room g t c =
     let b = c.block-item.result in
     let room = has_room block_view c.args.blocks.now c.loop-block.block-index b c.args.place c.args.repeat (length c.args.bytes.now) c.loop-block.at c.loop-block.inner c.loop-block-test.true c.block-item.is c.if-repeat-eq0.false c.requires.short c.requires.room c.loop-block.invariant.at c.loop-block.invariant.inner in
     let taken : store.stored_len (block_view b) ≡ 5 + length c.in-Content.content.now = rw (c.in-Content.is, view_content g.row.A.Denot c.in-Content.repeat c.in-Content.content) refl in
-    let used : store.expanded_len (block_view b) ≡ c.in-Content.repeat * length c.in-Content.content.now = rw (c.in-Content.is, view_content g.row.A.Denot c.in-Content.repeat c.in-Content.content) refl in
+    let used : inside.expanded_len (block_view b) ≡ c.in-Content.repeat * length c.in-Content.content.now = rw (c.in-Content.is, view_content g.row.A.Denot c.in-Content.repeat c.in-Content.content) refl in
     let short : c.loop-block.inner + 5 + length c.in-Content.content.now ≤ 65535 = omega (arith, room.stored, taken) in
     let fits : c.loop-block.at + c.in-Content.repeat * length c.in-Content.content.now ≤ length c.loop-block.bytes = omega (arith, room.expanded, used, c.loop-block.auto.bytes) in
     let fits_too : c.loop-block.at ≤ length c.loop-block.stored = omega (arith, room.expanded, c.loop-block.auto.stored, c.requires.same) in
@@ -136,7 +137,7 @@ overflow_add-at g t c =
     let b = c.block-item.result in
     let room = has_room block_view c.args.blocks.now c.loop-block.block-index b c.args.place c.args.repeat (length c.args.bytes.now) c.loop-block.at c.loop-block.inner c.loop-block-test.true c.block-item.is c.if-repeat-eq0.false c.requires.short c.requires.room c.loop-block.invariant.at c.loop-block.invariant.inner in
     let taken : store.stored_len (block_view b) ≡ 5 + length c.in-Content.content.now = rw (c.in-Content.is, view_content g.row.A.Denot c.in-Content.repeat c.in-Content.content) refl in
-    let used : store.expanded_len (block_view b) ≡ c.in-Content.repeat * length c.in-Content.content.now = rw (c.in-Content.is, view_content g.row.A.Denot c.in-Content.repeat c.in-Content.content) refl in
+    let used : inside.expanded_len (block_view b) ≡ c.in-Content.repeat * length c.in-Content.content.now = rw (c.in-Content.is, view_content g.row.A.Denot c.in-Content.repeat c.in-Content.content) refl in
     let short : c.loop-block.inner + 5 + length c.in-Content.content.now ≤ 65535 = omega (arith, room.stored, taken) in
     let fits : c.loop-block.at + c.in-Content.repeat * length c.in-Content.content.now ≤ length c.loop-block.bytes = omega (arith, room.expanded, used, c.loop-block.auto.bytes) in
     let fits_too : c.loop-block.at ≤ length c.loop-block.stored = omega (arith, room.expanded, c.loop-block.auto.stored, c.requires.same) in
@@ -149,9 +150,9 @@ overflow_add-inner-in-Nested g t c =
     let room = has_room block_view c.args.blocks.now c.loop-block.block-index b c.args.place c.args.repeat (length c.args.bytes.now) c.loop-block.at c.loop-block.inner c.loop-block-test.true c.block-item.is c.if-repeat-eq0.false c.requires.short c.requires.room c.loop-block.invariant.at c.loop-block.invariant.inner in
     let bs = says.blocks_of (map block_view c.in-Nested.blocks.items) in
     let taken : store.stored_len (block_view b) ≡ 4 + store.all_stored_len bs = rw (c.in-Nested.is, view_nested c.in-Nested.repeat c.in-Nested.blocks) refl in
-    let used : store.expanded_len (block_view b) ≡ c.in-Nested.repeat * store.all_expanded_len bs = rw (c.in-Nested.is, view_nested c.in-Nested.repeat c.in-Nested.blocks) refl in
+    let used : inside.expanded_len (block_view b) ≡ c.in-Nested.repeat * inside.all_expanded_len bs = rw (c.in-Nested.is, view_nested c.in-Nested.repeat c.in-Nested.blocks) refl in
     let short : c.loop-block.inner + 4 + store.all_stored_len bs ≤ 65535 = omega (arith, room.stored, taken) in
-    let fits : c.loop-block.at + c.in-Nested.repeat * store.all_expanded_len bs ≤ length c.loop-block.bytes = omega (arith, room.expanded, used, c.loop-block.auto.bytes) in
+    let fits : c.loop-block.at + c.in-Nested.repeat * inside.all_expanded_len bs ≤ length c.loop-block.bytes = omega (arith, room.expanded, used, c.loop-block.auto.bytes) in
     let fits_too : c.loop-block.at ≤ length c.loop-block.stored = omega (arith, room.expanded, c.loop-block.auto.stored, c.requires.same) in
     search rules
 
@@ -161,9 +162,9 @@ slice_bounds-expand-count g t c =
     let room = has_room block_view c.args.blocks.now c.loop-block.block-index b c.args.place c.args.repeat (length c.args.bytes.now) c.loop-block.at c.loop-block.inner c.loop-block-test.true c.block-item.is c.if-repeat-eq0.false c.requires.short c.requires.room c.loop-block.invariant.at c.loop-block.invariant.inner in
     let bs = says.blocks_of (map block_view c.in-Nested.blocks.items) in
     let taken : store.stored_len (block_view b) ≡ 4 + store.all_stored_len bs = rw (c.in-Nested.is, view_nested c.in-Nested.repeat c.in-Nested.blocks) refl in
-    let used : store.expanded_len (block_view b) ≡ c.in-Nested.repeat * store.all_expanded_len bs = rw (c.in-Nested.is, view_nested c.in-Nested.repeat c.in-Nested.blocks) refl in
+    let used : inside.expanded_len (block_view b) ≡ c.in-Nested.repeat * inside.all_expanded_len bs = rw (c.in-Nested.is, view_nested c.in-Nested.repeat c.in-Nested.blocks) refl in
     let short : c.loop-block.inner + 4 + store.all_stored_len bs ≤ 65535 = omega (arith, room.stored, taken) in
-    let fits : c.loop-block.at + c.in-Nested.repeat * store.all_expanded_len bs ≤ length c.loop-block.bytes = omega (arith, room.expanded, used, c.loop-block.auto.bytes) in
+    let fits : c.loop-block.at + c.in-Nested.repeat * inside.all_expanded_len bs ≤ length c.loop-block.bytes = omega (arith, room.expanded, used, c.loop-block.auto.bytes) in
     let fits_too : c.loop-block.at ≤ length c.loop-block.stored = omega (arith, room.expanded, c.loop-block.auto.stored, c.requires.same) in
     search rules
 
@@ -173,9 +174,9 @@ slice_bounds-expand-start g t c =
     let room = has_room block_view c.args.blocks.now c.loop-block.block-index b c.args.place c.args.repeat (length c.args.bytes.now) c.loop-block.at c.loop-block.inner c.loop-block-test.true c.block-item.is c.if-repeat-eq0.false c.requires.short c.requires.room c.loop-block.invariant.at c.loop-block.invariant.inner in
     let bs = says.blocks_of (map block_view c.in-Nested.blocks.items) in
     let taken : store.stored_len (block_view b) ≡ 4 + store.all_stored_len bs = rw (c.in-Nested.is, view_nested c.in-Nested.repeat c.in-Nested.blocks) refl in
-    let used : store.expanded_len (block_view b) ≡ c.in-Nested.repeat * store.all_expanded_len bs = rw (c.in-Nested.is, view_nested c.in-Nested.repeat c.in-Nested.blocks) refl in
+    let used : inside.expanded_len (block_view b) ≡ c.in-Nested.repeat * inside.all_expanded_len bs = rw (c.in-Nested.is, view_nested c.in-Nested.repeat c.in-Nested.blocks) refl in
     let short : c.loop-block.inner + 4 + store.all_stored_len bs ≤ 65535 = omega (arith, room.stored, taken) in
-    let fits : c.loop-block.at + c.in-Nested.repeat * store.all_expanded_len bs ≤ length c.loop-block.bytes = omega (arith, room.expanded, used, c.loop-block.auto.bytes) in
+    let fits : c.loop-block.at + c.in-Nested.repeat * inside.all_expanded_len bs ≤ length c.loop-block.bytes = omega (arith, room.expanded, used, c.loop-block.auto.bytes) in
     let fits_too : c.loop-block.at ≤ length c.loop-block.stored = omega (arith, room.expanded, c.loop-block.auto.stored, c.requires.same) in
     search rules
 
@@ -185,9 +186,9 @@ offset_bounds-stored-at-in-Nested g t c =
     let room = has_room block_view c.args.blocks.now c.loop-block.block-index b c.args.place c.args.repeat (length c.args.bytes.now) c.loop-block.at c.loop-block.inner c.loop-block-test.true c.block-item.is c.if-repeat-eq0.false c.requires.short c.requires.room c.loop-block.invariant.at c.loop-block.invariant.inner in
     let bs = says.blocks_of (map block_view c.in-Nested.blocks.items) in
     let taken : store.stored_len (block_view b) ≡ 4 + store.all_stored_len bs = rw (c.in-Nested.is, view_nested c.in-Nested.repeat c.in-Nested.blocks) refl in
-    let used : store.expanded_len (block_view b) ≡ c.in-Nested.repeat * store.all_expanded_len bs = rw (c.in-Nested.is, view_nested c.in-Nested.repeat c.in-Nested.blocks) refl in
+    let used : inside.expanded_len (block_view b) ≡ c.in-Nested.repeat * inside.all_expanded_len bs = rw (c.in-Nested.is, view_nested c.in-Nested.repeat c.in-Nested.blocks) refl in
     let short : c.loop-block.inner + 4 + store.all_stored_len bs ≤ 65535 = omega (arith, room.stored, taken) in
-    let fits : c.loop-block.at + c.in-Nested.repeat * store.all_expanded_len bs ≤ length c.loop-block.bytes = omega (arith, room.expanded, used, c.loop-block.auto.bytes) in
+    let fits : c.loop-block.at + c.in-Nested.repeat * inside.all_expanded_len bs ≤ length c.loop-block.bytes = omega (arith, room.expanded, used, c.loop-block.auto.bytes) in
     let fits_too : c.loop-block.at ≤ length c.loop-block.stored = omega (arith, room.expanded, c.loop-block.auto.stored, c.requires.same) in
     search rules
 
@@ -197,9 +198,9 @@ slice_bounds-expand-count-in-Nested g t c =
     let room = has_room block_view c.args.blocks.now c.loop-block.block-index b c.args.place c.args.repeat (length c.args.bytes.now) c.loop-block.at c.loop-block.inner c.loop-block-test.true c.block-item.is c.if-repeat-eq0.false c.requires.short c.requires.room c.loop-block.invariant.at c.loop-block.invariant.inner in
     let bs = says.blocks_of (map block_view c.in-Nested.blocks.items) in
     let taken : store.stored_len (block_view b) ≡ 4 + store.all_stored_len bs = rw (c.in-Nested.is, view_nested c.in-Nested.repeat c.in-Nested.blocks) refl in
-    let used : store.expanded_len (block_view b) ≡ c.in-Nested.repeat * store.all_expanded_len bs = rw (c.in-Nested.is, view_nested c.in-Nested.repeat c.in-Nested.blocks) refl in
+    let used : inside.expanded_len (block_view b) ≡ c.in-Nested.repeat * inside.all_expanded_len bs = rw (c.in-Nested.is, view_nested c.in-Nested.repeat c.in-Nested.blocks) refl in
     let short : c.loop-block.inner + 4 + store.all_stored_len bs ≤ 65535 = omega (arith, room.stored, taken) in
-    let fits : c.loop-block.at + c.in-Nested.repeat * store.all_expanded_len bs ≤ length c.loop-block.bytes = omega (arith, room.expanded, used, c.loop-block.auto.bytes) in
+    let fits : c.loop-block.at + c.in-Nested.repeat * inside.all_expanded_len bs ≤ length c.loop-block.bytes = omega (arith, room.expanded, used, c.loop-block.auto.bytes) in
     let fits_too : c.loop-block.at ≤ length c.loop-block.stored = omega (arith, room.expanded, c.loop-block.auto.stored, c.requires.same) in
     search rules
 
@@ -209,9 +210,9 @@ slice_bounds-expand-start-in-Nested g t c =
     let room = has_room block_view c.args.blocks.now c.loop-block.block-index b c.args.place c.args.repeat (length c.args.bytes.now) c.loop-block.at c.loop-block.inner c.loop-block-test.true c.block-item.is c.if-repeat-eq0.false c.requires.short c.requires.room c.loop-block.invariant.at c.loop-block.invariant.inner in
     let bs = says.blocks_of (map block_view c.in-Nested.blocks.items) in
     let taken : store.stored_len (block_view b) ≡ 4 + store.all_stored_len bs = rw (c.in-Nested.is, view_nested c.in-Nested.repeat c.in-Nested.blocks) refl in
-    let used : store.expanded_len (block_view b) ≡ c.in-Nested.repeat * store.all_expanded_len bs = rw (c.in-Nested.is, view_nested c.in-Nested.repeat c.in-Nested.blocks) refl in
+    let used : inside.expanded_len (block_view b) ≡ c.in-Nested.repeat * inside.all_expanded_len bs = rw (c.in-Nested.is, view_nested c.in-Nested.repeat c.in-Nested.blocks) refl in
     let short : c.loop-block.inner + 4 + store.all_stored_len bs ≤ 65535 = omega (arith, room.stored, taken) in
-    let fits : c.loop-block.at + c.in-Nested.repeat * store.all_expanded_len bs ≤ length c.loop-block.bytes = omega (arith, room.expanded, used, c.loop-block.auto.bytes) in
+    let fits : c.loop-block.at + c.in-Nested.repeat * inside.all_expanded_len bs ≤ length c.loop-block.bytes = omega (arith, room.expanded, used, c.loop-block.auto.bytes) in
     let fits_too : c.loop-block.at ≤ length c.loop-block.stored = omega (arith, room.expanded, c.loop-block.auto.stored, c.requires.same) in
     search rules
 
@@ -221,14 +222,14 @@ expand-at-requires g t c κs within =
     let room = has_room block_view c.args.blocks.now c.loop-block.block-index b c.args.place c.args.repeat (length c.args.bytes.now) c.loop-block.at c.loop-block.inner c.loop-block-test.true c.block-item.is c.if-repeat-eq0.false c.requires.short c.requires.room c.loop-block.invariant.at c.loop-block.invariant.inner in
     let bs = says.blocks_of (map block_view c.in-Nested.blocks.items) in
     let taken : store.stored_len (block_view b) ≡ 4 + store.all_stored_len bs = rw (c.in-Nested.is, view_nested c.in-Nested.repeat c.in-Nested.blocks) refl in
-    let used : store.expanded_len (block_view b) ≡ c.in-Nested.repeat * store.all_expanded_len bs = rw (c.in-Nested.is, view_nested c.in-Nested.repeat c.in-Nested.blocks) refl in
+    let used : inside.expanded_len (block_view b) ≡ c.in-Nested.repeat * inside.all_expanded_len bs = rw (c.in-Nested.is, view_nested c.in-Nested.repeat c.in-Nested.blocks) refl in
     let short : c.loop-block.inner + 4 + store.all_stored_len bs ≤ 65535 = omega (arith, room.stored, taken) in
-    let fits : c.loop-block.at + c.in-Nested.repeat * store.all_expanded_len bs ≤ length c.loop-block.bytes = omega (arith, room.expanded, used, c.loop-block.auto.bytes) in
+    let fits : c.loop-block.at + c.in-Nested.repeat * inside.all_expanded_len bs ≤ length c.loop-block.bytes = omega (arith, room.expanded, used, c.loop-block.auto.bytes) in
     let fits_too : c.loop-block.at ≤ length c.loop-block.stored = omega (arith, room.expanded, c.loop-block.auto.stored, c.requires.same) in
     let same : says.blocks_of (map block_view c.deref.result.now) ≡ bs = rw c.deref.ensures.value refl in
     let smaller = stored_in block_view c.args.blocks.now c.loop-block.block-index b c.loop-block-test.true c.block-item.is in
     let here : store.all_stored_len (says.blocks_of (map block_view c.deref.result.now)) ≡ store.all_stored_len bs = ap store.all_stored_len same in
-    let there : c.in-Nested.repeat * store.all_expanded_len (says.blocks_of (map block_view c.deref.result.now)) ≡ c.in-Nested.repeat * store.all_expanded_len bs = ap (λ cs. c.in-Nested.repeat * store.all_expanded_len cs) same in
+    let there : c.in-Nested.repeat * inside.all_expanded_len (says.blocks_of (map block_view c.deref.result.now)) ≡ c.in-Nested.repeat * inside.all_expanded_len bs = ap (λ cs. c.in-Nested.repeat * inside.all_expanded_len cs) same in
     let rest = length-take (length c.loop-block.bytes - c.loop-block.at) (drop c.loop-block.at c.loop-block.bytes) in
     let rest_too = length-take (length c.loop-block.stored - c.loop-block.at) (drop c.loop-block.at c.loop-block.stored) in
     let dropped = length-drop c.loop-block.at c.loop-block.bytes in
@@ -244,12 +245,12 @@ overflow_add-at-in-Nested g t c =
     let room = has_room block_view c.args.blocks.now c.loop-block.block-index b c.args.place c.args.repeat (length c.args.bytes.now) c.loop-block.at c.loop-block.inner c.loop-block-test.true c.block-item.is c.if-repeat-eq0.false c.requires.short c.requires.room c.loop-block.invariant.at c.loop-block.invariant.inner in
     let bs = says.blocks_of (map block_view c.in-Nested.blocks.items) in
     let taken : store.stored_len (block_view b) ≡ 4 + store.all_stored_len bs = rw (c.in-Nested.is, view_nested c.in-Nested.repeat c.in-Nested.blocks) refl in
-    let used : store.expanded_len (block_view b) ≡ c.in-Nested.repeat * store.all_expanded_len bs = rw (c.in-Nested.is, view_nested c.in-Nested.repeat c.in-Nested.blocks) refl in
+    let used : inside.expanded_len (block_view b) ≡ c.in-Nested.repeat * inside.all_expanded_len bs = rw (c.in-Nested.is, view_nested c.in-Nested.repeat c.in-Nested.blocks) refl in
     let short : c.loop-block.inner + 4 + store.all_stored_len bs ≤ 65535 = omega (arith, room.stored, taken) in
-    let fits : c.loop-block.at + c.in-Nested.repeat * store.all_expanded_len bs ≤ length c.loop-block.bytes = omega (arith, room.expanded, used, c.loop-block.auto.bytes) in
+    let fits : c.loop-block.at + c.in-Nested.repeat * inside.all_expanded_len bs ≤ length c.loop-block.bytes = omega (arith, room.expanded, used, c.loop-block.auto.bytes) in
     let fits_too : c.loop-block.at ≤ length c.loop-block.stored = omega (arith, room.expanded, c.loop-block.auto.stored, c.requires.same) in
     let same : says.blocks_of (map block_view c.deref.result.now) ≡ bs = rw c.deref.ensures.value refl in
-    let len : c.expand-at.result ≡ c.in-Nested.repeat * store.all_expanded_len bs = rw (← same) c.expand-at.ensures.len in
+    let len : c.expand-at.result ≡ c.in-Nested.repeat * inside.all_expanded_len bs = rw (← same) c.expand-at.ensures.len in
     let sum : c.loop-block.at + c.expand-at.result ≤ length c.loop-block.bytes = omega (arith, len, fits) in
     search rules
 
@@ -259,9 +260,9 @@ stored_len-requires g t c =
     let room = has_room block_view c.args.blocks.now c.loop-block.block-index b c.args.place c.args.repeat (length c.args.bytes.now) c.loop-block.at c.loop-block.inner c.loop-block-test.true c.block-item.is c.if-repeat-eq0.false c.requires.short c.requires.room c.loop-block.invariant.at c.loop-block.invariant.inner in
     let bs = says.blocks_of (map block_view c.in-Nested.blocks.items) in
     let taken : store.stored_len (block_view b) ≡ 4 + store.all_stored_len bs = rw (c.in-Nested.is, view_nested c.in-Nested.repeat c.in-Nested.blocks) refl in
-    let used : store.expanded_len (block_view b) ≡ c.in-Nested.repeat * store.all_expanded_len bs = rw (c.in-Nested.is, view_nested c.in-Nested.repeat c.in-Nested.blocks) refl in
+    let used : inside.expanded_len (block_view b) ≡ c.in-Nested.repeat * inside.all_expanded_len bs = rw (c.in-Nested.is, view_nested c.in-Nested.repeat c.in-Nested.blocks) refl in
     let short : c.loop-block.inner + 4 + store.all_stored_len bs ≤ 65535 = omega (arith, room.stored, taken) in
-    let fits : c.loop-block.at + c.in-Nested.repeat * store.all_expanded_len bs ≤ length c.loop-block.bytes = omega (arith, room.expanded, used, c.loop-block.auto.bytes) in
+    let fits : c.loop-block.at + c.in-Nested.repeat * inside.all_expanded_len bs ≤ length c.loop-block.bytes = omega (arith, room.expanded, used, c.loop-block.auto.bytes) in
     let fits_too : c.loop-block.at ≤ length c.loop-block.stored = omega (arith, room.expanded, c.loop-block.auto.stored, c.requires.same) in
     let same : store.all_stored_len (says.blocks_of (map block_view c.deref-in-Nested.result.now)) ≡ store.all_stored_len bs = rw c.deref-in-Nested.ensures.value refl in
     omega (arith, same, short)
@@ -272,9 +273,9 @@ overflow_add-inner-in-Nested-2 g t c =
     let room = has_room block_view c.args.blocks.now c.loop-block.block-index b c.args.place c.args.repeat (length c.args.bytes.now) c.loop-block.at c.loop-block.inner c.loop-block-test.true c.block-item.is c.if-repeat-eq0.false c.requires.short c.requires.room c.loop-block.invariant.at c.loop-block.invariant.inner in
     let bs = says.blocks_of (map block_view c.in-Nested.blocks.items) in
     let taken : store.stored_len (block_view b) ≡ 4 + store.all_stored_len bs = rw (c.in-Nested.is, view_nested c.in-Nested.repeat c.in-Nested.blocks) refl in
-    let used : store.expanded_len (block_view b) ≡ c.in-Nested.repeat * store.all_expanded_len bs = rw (c.in-Nested.is, view_nested c.in-Nested.repeat c.in-Nested.blocks) refl in
+    let used : inside.expanded_len (block_view b) ≡ c.in-Nested.repeat * inside.all_expanded_len bs = rw (c.in-Nested.is, view_nested c.in-Nested.repeat c.in-Nested.blocks) refl in
     let short : c.loop-block.inner + 4 + store.all_stored_len bs ≤ 65535 = omega (arith, room.stored, taken) in
-    let fits : c.loop-block.at + c.in-Nested.repeat * store.all_expanded_len bs ≤ length c.loop-block.bytes = omega (arith, room.expanded, used, c.loop-block.auto.bytes) in
+    let fits : c.loop-block.at + c.in-Nested.repeat * inside.all_expanded_len bs ≤ length c.loop-block.bytes = omega (arith, room.expanded, used, c.loop-block.auto.bytes) in
     let fits_too : c.loop-block.at ≤ length c.loop-block.stored = omega (arith, room.expanded, c.loop-block.auto.stored, c.requires.same) in
     let same : store.all_stored_len (says.blocks_of (map block_view c.deref-in-Nested.result.now)) ≡ store.all_stored_len bs = rw c.deref-in-Nested.ensures.value refl in
     let sum : 4 + c.stored_len.result ≤ 65535 = omega (arith, same, short, c.stored_len.ensures) in
@@ -286,9 +287,9 @@ overflow_add-inner-in-Nested-3 g t c =
     let room = has_room block_view c.args.blocks.now c.loop-block.block-index b c.args.place c.args.repeat (length c.args.bytes.now) c.loop-block.at c.loop-block.inner c.loop-block-test.true c.block-item.is c.if-repeat-eq0.false c.requires.short c.requires.room c.loop-block.invariant.at c.loop-block.invariant.inner in
     let bs = says.blocks_of (map block_view c.in-Nested.blocks.items) in
     let taken : store.stored_len (block_view b) ≡ 4 + store.all_stored_len bs = rw (c.in-Nested.is, view_nested c.in-Nested.repeat c.in-Nested.blocks) refl in
-    let used : store.expanded_len (block_view b) ≡ c.in-Nested.repeat * store.all_expanded_len bs = rw (c.in-Nested.is, view_nested c.in-Nested.repeat c.in-Nested.blocks) refl in
+    let used : inside.expanded_len (block_view b) ≡ c.in-Nested.repeat * inside.all_expanded_len bs = rw (c.in-Nested.is, view_nested c.in-Nested.repeat c.in-Nested.blocks) refl in
     let short : c.loop-block.inner + 4 + store.all_stored_len bs ≤ 65535 = omega (arith, room.stored, taken) in
-    let fits : c.loop-block.at + c.in-Nested.repeat * store.all_expanded_len bs ≤ length c.loop-block.bytes = omega (arith, room.expanded, used, c.loop-block.auto.bytes) in
+    let fits : c.loop-block.at + c.in-Nested.repeat * inside.all_expanded_len bs ≤ length c.loop-block.bytes = omega (arith, room.expanded, used, c.loop-block.auto.bytes) in
     let fits_too : c.loop-block.at ≤ length c.loop-block.stored = omega (arith, room.expanded, c.loop-block.auto.stored, c.requires.same) in
     let same : store.all_stored_len (says.blocks_of (map block_view c.deref-in-Nested.result.now)) ≡ store.all_stored_len bs = rw c.deref-in-Nested.ensures.value refl in
     let sum : c.loop-block.inner + (4 + c.stored_len.result) ≤ 65535 = omega (arith, same, short, c.stored_len.ensures) in
@@ -309,7 +310,7 @@ loop-block-preserved g t c =
     elim c.match-block.branch [
       | in-Content w ↦
           let call = w.expand_content-at in
-          let used : call.result ≡ store.expanded_len (block_view b) = rw (w.in-Content.is, view_content g.row.A.Denot w.in-Content.repeat w.in-Content.content) call.ensures.len in
+          let used : call.result ≡ inside.expanded_len (block_view b) = rw (w.in-Content.is, view_content g.row.A.Denot w.in-Content.repeat w.in-Content.content) call.ensures.len in
           let taken : c.match-block.inner ≡ inner + store.stored_len (block_view b) = rw (w.inner-is, w.in-Content.is, view_content g.row.A.Denot w.in-Content.repeat w.in-Content.content) refl in
           let bytes_here : take call.result call.new.bytes ≡ store.bytes (store.expansion_at inner (block_view b)) = rw (w.in-Content.is, view_content g.row.A.Denot w.in-Content.repeat w.in-Content.content) call.ensures.bytes in
           let stored_here : take call.result call.new.stored ≡ store.places (store.expansion_at inner (block_view b)) = rw (w.in-Content.is, view_content g.row.A.Denot w.in-Content.repeat w.in-Content.content) call.ensures.stored in
@@ -331,7 +332,7 @@ loop-block-preserved g t c =
           }
       | in-Nested w ↦
           let call = w.expand-at in
-          let used : call.result ≡ store.expanded_len (block_view b) = rw (w.in-Nested.is, view_nested w.in-Nested.repeat w.in-Nested.blocks, ← w.deref.ensures.value) call.ensures.len in
+          let used : call.result ≡ inside.expanded_len (block_view b) = rw (w.in-Nested.is, view_nested w.in-Nested.repeat w.in-Nested.blocks, ← w.deref.ensures.value) call.ensures.len in
           let taken : c.match-block.inner ≡ inner + store.stored_len (block_view b) = rw (w.inner-is, w.stored_len.ensures, w.deref-in-Nested.ensures.value, w.in-Nested.is, view_nested w.in-Nested.repeat w.in-Nested.blocks) refl in
           let bytes_here : take call.result call.new.bytes ≡ store.bytes (store.expansion_at inner (block_view b)) = rw (w.in-Nested.is, view_nested w.in-Nested.repeat w.in-Nested.blocks, ← w.deref.ensures.value) call.ensures.bytes in
           let stored_here : take call.result call.new.stored ≡ store.places (store.expansion_at inner (block_view b)) = rw (w.in-Nested.is, view_nested w.in-Nested.repeat w.in-Nested.blocks, ← w.deref.ensures.value) call.ensures.stored in
@@ -363,7 +364,7 @@ returns-clause-bytes g t c =
     let items = c.repeat_front.new.items in
     let done = at_done block_view c.args.blocks.now c.loop-block.block-index at c.loop-block-test.false c.loop-block.invariant.at in
     let is : len ≡ n * at = ap (λ m. m * at) c.from.ensures in
-    let total : n * at ≡ n * store.all_expanded_len (says.blocks_of bs) = ap (λ m. n * m) done in
+    let total : n * at ≡ n * inside.all_expanded_len (says.blocks_of bs) = ap (λ m. n * m) done in
     let size : length items ≡ len = omega (arith, c.repeat_front.auto.items, length-take len whole, c.loop-block.auto.bytes, c.requires.room, c.requires.same, is, total) in
     let front = map (λ p. p.1) (store.expansions_at c.args.place (says.blocks_of bs)) in
     laid_in n front whole items (drop len whole) at len is (length-laid (λ p. p.1) c.args.place bs ∙ sym done)
@@ -381,7 +382,7 @@ returns-clause-stored g t c =
     let items = c.repeat_front-2.new.items in
     let done = at_done block_view c.args.blocks.now c.loop-block.block-index at c.loop-block-test.false c.loop-block.invariant.at in
     let is : len ≡ n * at = ap (λ m. m * at) c.from.ensures in
-    let total : n * at ≡ n * store.all_expanded_len (says.blocks_of bs) = ap (λ m. n * m) done in
+    let total : n * at ≡ n * inside.all_expanded_len (says.blocks_of bs) = ap (λ m. n * m) done in
     let size : length items ≡ len = omega (arith, c.repeat_front-2.auto.items, length-take len whole, c.loop-block.auto.stored, c.requires.room, c.requires.same, is, total) in
     let front = map (λ p. p.0) (store.expansions_at c.args.place (says.blocks_of bs)) in
     laid_in n front whole items (drop len whole) at len is (length-laid (λ p. p.0) c.args.place bs ∙ sym done)

@@ -1,7 +1,8 @@
 use Rattle.std.proofs.Common.{◌≡◌, ◌+◌, take, map}
 use Rattle.omf_record.specs.Record.{blocks_of}
 use Rattle.omf_record.specs.View.{block_view}
-use Rattle.omf_record.specs.Expansion.{all_stored_len, all_expanded_len, expansions_at, places, bytes}
+use Rattle.omf_record.specs.Expansion.{all_stored_len, expansions_at, places, bytes}
+use Rattle.omf_record.specs.inside.Expansion.{all_expanded_len}
 use Rattle.omf_record.proofs.expand.+expand.Given as goal
 
 abbrev pub decreases-expand : goal.decreases-expand

@@ -2,7 +2,7 @@ use Rattle.std.proofs.Common.{◌≡◌, ◌≤◌, length, true, arith}
 use Rattle.omf_record.specs.Language.{IsBytes}
 use Rattle.omf_record.specs.View.{view}
 use Rattle.omf_record.specs.Canonical.{canonical}
-use Rattle.omf_record.specs.Fields.{is_record_kind, body_at}
+use Rattle.omf_record.specs.inside.Fields.{is_record_kind, body_at}
 use Rattle.omf_record.proofs.Faults.{read_is, fault_is, refused_within, IsBytes-from}
 use Rattle.omf_record.proofs.BodyLaws.{body_reads, has_record}
 use Rattle.omf_record.proofs.CanonicalLaws.{canonical_shortest}

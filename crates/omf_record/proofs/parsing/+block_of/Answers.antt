@@ -3,8 +3,8 @@ use Rattle.std.proofs.lemmas.Result.{err_from_is_err_and}
 use Rattle.std.proofs.lemmas.List.{map_push}
 use Rattle.omf_record.specs.Record as says
 use Rattle.omf_record.specs.View.{block_view}
-use Rattle.omf_record.specs.Reading.{◌>>=◌, times}
-use Rattle.omf_record.specs.Fields.{block_at}
+use Rattle.omf_record.specs.inside.Reading.{◌>>=◌, times}
+use Rattle.omf_record.specs.inside.Fields.{block_at}
 use Rattle.omf_record.proofs.Ends.{times_goes_on, times_ends, times_done}
 use Rattle.omf_record.proofs.BlockParts.{nested_at, nested_fails, view_nested}
 use Rattle.omf_record.proofs.parsing.+block_of.Goals as goal

@@ -1,7 +1,7 @@
 use Rattle.std.proofs.Common.{◌≡◌, ◌++◌, ◌∷◌, [], ◌<◌, length, map, rules}
 use Rattle.std.proofs.lemmas.Result.{err_from_is_err_and}
 use Rattle.std.proofs.lemmas.List.{map_push}
-use Rattle.omf_record.specs.Reading.{to_end}
+use Rattle.omf_record.specs.inside.Reading.{to_end}
 use Rattle.omf_record.proofs.Ends.{goes_on, ends, is_done}
 use Rattle.omf_record.proofs.parsing.items_to_end.Goals as goal
 

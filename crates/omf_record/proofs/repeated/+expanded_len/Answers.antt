@@ -1,7 +1,8 @@
 use Rattle.std.proofs.Common.{◌≡◌, ◌+◌, length, take, map, arith}
 use Rattle.omf_record.specs.Record as says
 use Rattle.omf_record.specs.View.{block_view}
-use Rattle.omf_record.specs.Expansion.{all_expanded_len, expanded_len, capped}
+use Rattle.omf_record.specs.Expansion.{capped}
+use Rattle.omf_record.specs.inside.Expansion.{all_expanded_len, expanded_len}
 use Rattle.omf_record.proofs.Expanded.{cap_mul, cap_add, length-expansion, expanded_more, expanded_front, expanded_all, none_of}
 use Rattle.omf_record.proofs.BlockParts.{view_content, view_nested}
 use Rattle.omf_record.proofs.repeated.+expanded_len.Goals.{in-Content, in-Nested+then-repeat-eq0, in-Nested+else-repeat-eq0}

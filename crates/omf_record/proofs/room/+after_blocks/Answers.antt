@@ -1,7 +1,7 @@
 use Rattle.std.proofs.Common.{◌≡◌, ◌-◌, Some, None, length, map, sym, ap, ◌∙◌, arith}
 use Rattle.omf_record.specs.Record as says
 use Rattle.omf_record.specs.View.{block_view}
-use Rattle.omf_record.specs.Room.{onward, block_room, counts_room, blocks_room}
+use Rattle.omf_record.specs.inside.Room.{onward, block_room, counts_room, blocks_room}
 use Rattle.omf_record.proofs.BlockParts.{view_content, view_nested}
 use Rattle.omf_record.proofs.Fitting.{nested_count}
 use Rattle.omf_record.proofs.Rooms.{each_stops, each_goes, blocks_each}

@@ -1,7 +1,7 @@
 use Rattle.std.proofs.Common.{◌≡◌, drop, map}
 use Rattle.omf_record.specs.Record.{blocks_of}
 use Rattle.omf_record.specs.View.{block_view}
-use Rattle.omf_record.specs.Room.{each_room, block_room, blocks_room}
+use Rattle.omf_record.specs.inside.Room.{each_room, block_room, blocks_room}
 use Rattle.omf_record.proofs.room.+after_blocks.Given as goal
 
 abbrev pub invariant-loop-block : goal.invariant-loop-block

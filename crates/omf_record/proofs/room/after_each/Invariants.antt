@@ -1,5 +1,5 @@
 use Rattle.std.proofs.Common.{◌≡◌, drop, map}
-use Rattle.omf_record.specs.Room.{each_room}
+use Rattle.omf_record.specs.inside.Room.{each_room}
 use Rattle.omf_record.proofs.room.after_each.Given as goal
 
 abbrev pub invariant-loop-part : goal.invariant-loop-part

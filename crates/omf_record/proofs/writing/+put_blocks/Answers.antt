@@ -3,7 +3,7 @@ use Rattle.omf_record.specs.Record as says
 use Rattle.omf_record.specs.View.{block_view}
 use Rattle.omf_record.specs.Canonical as canon
 use Rattle.omf_record.specs.Expansion.{stored_len, all_stored_len}
-use Rattle.omf_record.specs.Fits.{BlockFits, AllBlocksFit}
+use Rattle.omf_record.specs.inside.Fits.{BlockFits, AllBlocksFit}
 use Rattle.omf_record.proofs.BlockParts.{view_content, view_nested}
 use Rattle.omf_record.proofs.Fitting.{block_fits_in, nested_count}
 use Rattle.omf_record.proofs.Kept.{on_err, keeps_on, two_texts}
