@@ -22,10 +22,11 @@ use Rattle.omf_module.specs.declared.fault.FaultKind.TheVariants as kind
 use Rattle.omf_module.specs.declared.fault.ModuleFault.{ModuleFault}
 use Rattle.omf_module.specs.declared.fault.ModuleFault.TheVariants as fault
 use Rattle.omf_module.specs.Module.{Module}
-use Rattle.omf_module.specs.Running.{State, state_of, step, module_in}
+use Rattle.omf_module.specs.inside.Running.{State, state_of, step, module_in}
 use Rattle.omf_module.specs.Bytes.{StopsAt}
-use Rattle.omf_module.specs.Reading.{Took, Reads, TakesRecord, IsRecordFault}
-use Rattle.omf_module.specs.Faulty.{frame_fault}
+use Rattle.omf_module.specs.Reading.{Took, Reads}
+use Rattle.omf_module.specs.inside.Reading.{TakesRecord, IsRecordFault}
+use Rattle.omf_module.specs.inside.ModuleFaults.{read_fault}
 use Rattle.omf_module.specs.Sound.{IsSound}
 use Rattle.omf_module.proofs.Whole.{ok_more, err_of}
 use Rattle.omf_module.proofs.Promised.{sound_module}
@@ -49,7 +50,7 @@ module _ (rs : List Placed) (front : List ℕ) (a b c : Option (List ℕ)) (t : 
   no_end place at none stands = (rs, front, b, t, at, stands, stops rs front a b place kind.NoEnd t at (IfSome_then b {Q = (λ rest. StopsAt place rest kind.NoEnd)} none (λ x e. (NoEnd, e, refl))))
 
   pub frame_stopped : (place : ℕ) (e : FrameFault) → place ≡ length front → IsAt {A = Option lent.Frame} place (Err e) → IfSome b (λ bytes. Gives plain_frame (Err e) (frame_at place bytes)) → framing_of.TakesRecord {A = Option lent.Frame} b c (Err e)
-      → reads a c (Err (frame_fault e))
+      → reads a c (Err (read_fault e))
   unfolding Reads
   frame_stopped place (frame.Device p) at h exact stands = (rs, front, b, t, h.0 ∙ at, stands, always a)
   frame_stopped place (frame.Framing p framing.ZeroLength) at h exact stands =

@@ -3,10 +3,10 @@ use Rattle.std.proofs.Common.{ℕ, zero, suc, ◌+◌, ◌<◌, ◌≤◌, List,
 use Rattle.std.specs.Prelude.{IfSome}
 use Rattle.std.specs.List.{AllByRecursion}
 use Rattle.omf_record.specs.Expansion.{AreCopies}
-use Rattle.omf_module.specs.Module.{Segment, Group, External, PublicSymbol, DataRecord, Module}
+use Rattle.omf_module.specs.Module.{Segment, Group, ExternalSymbol, PublicSymbol, DataRecord, Module}
 use Rattle.omf_module.specs.Sound.{IsShort, SegmentFits, BaseMeans, IsPart, IsMember, FixupFits, DataFits, StartFits, IsSound}
 
-pub record DataFitting (ss : List Segment) (gs : List Group) (es : List External) (d : DataRecord) : Type 0 where
+pub record DataFitting (ss : List Segment) (gs : List Group) (es : List ExternalSymbol) (d : DataRecord) : Type 0 where
   pub segment : Segment
   pub is_part : IsPart ss gs es d.segment segment
   pub inside : d.offset + length d.pairs ≤ segment.length
@@ -16,7 +16,7 @@ pub record DataFitting (ss : List Segment) (gs : List Group) (es : List External
 pub record Fitting (m : Module) : Type 0 where
   pub segments : AllByRecursion SegmentFits m.segments
   pub group_names : AllByRecursion (λ (g : Group). IsShort g.name) m.groups
-  pub externals : AllByRecursion (λ (e : External). IsShort e.name) m.externals
+  pub externals : AllByRecursion (λ (e : ExternalSymbol). IsShort e.name) m.externals
   pub public_names : AllByRecursion (λ (p : PublicSymbol). IsShort p.name × (p.offset < 65536)) m.publics
   pub groups : AllByRecursion (λ (g : Group). AllByRecursion (IsMember m.segments m.groups m.externals) g.members) m.groups
   pub publics : AllByRecursion (λ (p : PublicSymbol). BaseMeans m.segments m.groups m.externals p.base) m.publics
@@ -28,7 +28,7 @@ all_at P [] h k d lt = absurd (omega arith)
 all_at P (x ∷ xs) h zero d lt = h.0
 all_at P (x ∷ xs) h (suc k) d lt = all_at P xs h.1 k d (omega arith)
 
-data_fits : (ss : List Segment) (gs : List Group) (es : List External) (d : DataRecord) → DataFitting ss gs es d → DataFits ss gs es d
+data_fits : (ss : List Segment) (gs : List Group) (es : List ExternalSymbol) (d : DataRecord) → DataFitting ss gs es d → DataFits ss gs es d
 data_fits ss gs es d h = record { segment = h.segment; is_part = h.is_part; inside = h.inside; copies = h.copies; fixups = all_at _ d.fixups h.fixups }
 
 pub sound_is : (m : Module) → Fitting m → IsSound m

@@ -8,8 +8,9 @@ use Rattle.omf_record.specs.Records.{Placed}
 use Rattle.omf_module.specs.declared.ResolvedFixup.{ResolvedFixup}
 use Rattle.omf_module.specs.Before.{along_from}
 use Rattle.omf_module.specs.Tables.{Stretch, stretches, subrecords, fixups, fixups_in, fixups_on, data_record, data_records}
-use Rattle.omf_module.specs.Running.{add_to_last}
-use Rattle.omf_module.proofs.Lists.{filter_map_append, enumerate_push}
+use Rattle.omf_module.specs.inside.Running.{add_to_last}
+use Rattle.std.proofs.lemmas.List.Elements.{filter_map-append}
+use Rattle.omf_module.proofs.Lists.{enumerate_push}
 
 -- each is on a data record of at most this number
 abbrev UpTo : ℕ → List (ℕ × ResolvedFixup) → Type 0
@@ -56,10 +57,10 @@ pub new_fixups : (xs : List (ℕ × ResolvedFixup)) (fs : List ResolvedFixup) (n
 new_fixups xs fs n t [] e = refl
 new_fixups xs fs n t (d ∷ []) e =
     let same : n ≡ t = omega arith in
-    let on : fixups_on n (xs ++ map (λ x. (t, x)) fs) ≡ fixups_on n xs ++ fs = filter_map_append _ xs _ ∙ ap (λ ys. fixups_on n xs ++ ys) (rw same (all_on t fs)) in
+    let on : fixups_on n (xs ++ map (λ x. (t, x)) fs) ≡ fixups_on n xs ++ fs = filter_map-append _ xs _ ∙ ap (λ ys. fixups_on n xs ++ ys) (rw same (all_on t fs)) in
     ap (λ ys. record { place = d.place; segment = d.segment; offset = d.offset; pairs = d.pairs; fixups = ys } ∷ []) on
 new_fixups xs fs n t (d ∷ c ∷ ds) e =
     let ne : t ≢ n = omega arith in
-    let on : fixups_on n (xs ++ map (λ x. (t, x)) fs) ≡ fixups_on n xs = filter_map_append _ xs _ ∙ ap (λ ys. fixups_on n xs ++ ys) (other_on n t fs ne) ∙ append-nil _ in
+    let on : fixups_on n (xs ++ map (λ x. (t, x)) fs) ≡ fixups_on n xs = filter_map-append _ xs _ ∙ ap (λ ys. fixups_on n xs ++ ys) (other_on n t fs ne) ∙ append-nil _ in
     ap (λ ys. record { place = d.place; segment = d.segment; offset = d.offset; pairs = d.pairs; fixups = ys } ∷ map (data_record (xs ++ map (λ x. (t, x)) fs)) (enumerate_from (n + 1) (c ∷ ds))) on
     ∙ ap (λ zs. data_record xs (n, d) ∷ zs) (new_fixups xs fs (n + 1) t (c ∷ ds) (omega arith))

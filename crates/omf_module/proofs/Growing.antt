@@ -12,7 +12,7 @@ use Rattle.omf_record.specs.Records.{Placed}
 use Rattle.omf_module.specs.Before.{first, last}
 use Rattle.omf_module.specs.Tables.{names, segments, groups, externals, publics, stretches, subrecords, fixups, start, Stretch, frame_thread, target_thread, names_in, segments_in, groups_in, externals_in, publics_in, subrecords_in, stretches_in, frame_set, target_set, data_record, fixups_in, start_in, frame_used, target_used}
 use Rattle.omf_module.specs.Faults.{begun, items}
-use Rattle.omf_module.specs.Running.{State, state_of, checked, step_record, thread_numbers, slot, later}
+use Rattle.omf_module.specs.inside.Running.{State, state_of, checked, step_record, thread_numbers, slot, later}
 use Rattle.omf_module.proofs.FixupsOn.{new_data}
 use Rattle.omf_record.specs.declared.fields.ThreadNumber.TheVariants.{Zero, One, Two, Three}
 use Rattle.omf_record.specs.declared.fields.FrameMethod.{FrameMethod}
@@ -21,7 +21,8 @@ use Rattle.omf_record.specs.declared.fields.FrameDatum.{FrameDatum}
 use Rattle.omf_record.specs.declared.fields.FrameDatum.TheVariants as frame_datum
 use Rattle.omf_record.specs.declared.fields.TargetDatum.{TargetDatum}
 use Rattle.omf_record.specs.declared.fields.TargetDatum.TheVariants as target_datum
-use Rattle.omf_module.proofs.Lists.{flat_map_push, along_push, filter_map_append, last_append}
+use Rattle.std.proofs.lemmas.List.Elements.{filter_map-append}
+use Rattle.omf_module.proofs.Lists.{flat_map_push, along_push, last_append}
 
 pub begun_push : (rs : List Placed) (r : Placed) → begun (rs ++ r ∷ []) ≡ true
 begun_push [] r = refl
@@ -46,7 +47,7 @@ grown rs r = record {
 }
 
 pub state_push : (rs : List Placed) (r : Placed) → state_of (rs ++ r ∷ []) ≡ grown rs r
-state_push rs r = simp (begun_push, flat_map_push, along_push, filter_map_append, last_append)
+state_push rs r = simp (begun_push, flat_map_push, along_push, filter_map-append, last_append)
 
 -- what one record leaves: its items' first fault, or what is kept with it
 abbrev pub Steps : Record → Type 0

@@ -3,7 +3,7 @@ use Rattle.std.proofs.Common.{◌≡◌, ℕ, zero, suc, List, [], ◌∷◌, �
 use Rattle.std.proofs.lemmas.List.{append-nil}
 use Rattle.omf_module.specs.declared.ResolvedFixup.{ResolvedFixup}
 use Rattle.omf_module.specs.Module.{DataRecord}
-use Rattle.omf_module.specs.Running.{add_to_last}
+use Rattle.omf_module.specs.inside.Running.{add_to_last}
 
 module _ {E : Type 0} (see : E → DataRecord) where
   pub at_last : (fs : List ResolvedFixup) (xs : List E) (i : ℕ) (d d' : E) → suc i ≡ length xs → d ≡ get_or xs i d → see d' ≡ record (see d) { fixups = (see d).fixups ++ fs } → map see (set xs i d') ≡ add_to_last fs (map see xs)

@@ -1,15 +1,15 @@
 -- Lists that are read in order, one element further.
 use Rattle.std.proofs.Common.{◌≡◌, ℕ, zero, suc, ◌+◌, ◌<◌, List, [], ◌∷◌, ◌++◌, length, map, Option, None, Some, refl, sym, ap, ◌∙◌, append_assoc, arith, reverse, add-zero, get_or, take, drop}
 use Rattle.std.proofs.lemmas.List.{append-nil, reverse-append, map-append, map_more, drop_more, take-append-drop}
-use Rattle.std.specs.List.{flat_map, filter_map, enumerate_from, cons_option, slice_get}
+use Rattle.std.proofs.lemmas.Grind.{flat_map-append}
+use Rattle.std.specs.List.{flat_map, enumerate_from, slice_get}
 use Rattle.std.specs.Option.{option_map}
 use Rattle.std.proofs.lemmas.Option.{slice_get_within, get_or_from_slice_get}
 use Rattle.omf_module.specs.Before.{along_from, along, last, first, entry}
-use Rattle.omf_module.specs.Running.{later}
+use Rattle.omf_module.specs.inside.Running.{later}
 
 pub flat_map_push : {X A : Type 0} (f : X → List A) (xs : List X) (x : X) → flat_map f (xs ++ x ∷ []) ≡ flat_map f xs ++ f x
-flat_map_push f [] x = append-nil (f x)
-flat_map_push f (y ∷ ys) x = ap (λ zs. f y ++ zs) (flat_map_push f ys x) ∙ sym (append_assoc (f y) (flat_map f ys) (f x))
+flat_map_push f xs x = flat_map-append f xs (x ∷ []) ∙ ap (λ zs. flat_map f xs ++ zs) (append-nil (f x))
 
 pub along_from_append : {A B : Type 0} (f : List A → A → List B) (before xs ys : List A) → along_from before f (xs ++ ys) ≡ along_from before f xs ++ along_from (before ++ xs) f ys
 along_from_append f before [] ys = rw append-nil refl
@@ -19,11 +19,6 @@ along_from_append f before (x ∷ xs) ys =
 
 pub along_push : {A B : Type 0} (f : List A → A → List B) (xs : List A) (x : A) → along f (xs ++ x ∷ []) ≡ along f xs ++ f xs x
 along_push f xs x = along_from_append f [] xs (x ∷ []) ∙ ap (λ zs. along f xs ++ zs) (append-nil (f xs x))
-
-pub filter_map_append : {X Y : Type 0} (f : X → Option Y) (xs ys : List X) → filter_map f (xs ++ ys) ≡ filter_map f xs ++ filter_map f ys
-filter_map_append f [] ys = refl
-filter_map_append f (x ∷ xs) ys = elim (f x) as (λ o. cons_option o (filter_map f (xs ++ ys)) ≡ cons_option o (filter_map f xs) ++ filter_map f ys)
-    [ None ↦ filter_map_append f xs ys | Some y ↦ ap (λ zs. y ∷ zs) (filter_map_append f xs ys) ]
 
 pub last_append : {A : Type 0} (xs ys : List A) → last (xs ++ ys) ≡ later (last ys) (last xs)
 last_append xs ys = rw reverse-append (heads (reverse ys) (reverse xs))

@@ -6,7 +6,7 @@ use Rattle.omf_record.specs.Body.{Body}
 use Rattle.omf_record.specs.Records.{Placed}
 use Rattle.omf_module.specs.Tables.{module_of}
 use Rattle.omf_module.specs.Faults.{first_fault}
-use Rattle.omf_module.specs.Running.{state_of, checked}
+use Rattle.omf_module.specs.inside.Running.{state_of, checked}
 use Rattle.omf_module.specs.Bytes.{ModuleBytes}
 use Rattle.omf_module.specs.Sound.{IsSound}
 use Rattle.omf_module.proofs.Whole.{step_whole, no_fault_at}

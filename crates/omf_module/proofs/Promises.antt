@@ -28,19 +28,19 @@ use Rattle.omf_record.specs.declared.fields.Subrecord.TheVariants as sub
 use Rattle.omf_record.specs.declared.fields.Reference.{Reference}
 use Rattle.omf_module.specs.declared.fault.CheckFault.{CheckFault}
 use Rattle.omf_module.specs.declared.fault.CheckFault.TheVariants.{NameIndex, SegmentIndex, GroupIndex, ExternalIndex, FixupPlace, DataOutside, DataInAbsolute, SelfRelativeBase, GroupOfAbsolute}
-use Rattle.omf_module.specs.declared.Base.{Base}
-use Rattle.omf_module.specs.declared.Base.TheVariants.{AtFrame, InSegment}
+use Rattle.omf_module.specs.declared.SymbolBase.{SymbolBase}
+use Rattle.omf_module.specs.declared.SymbolBase.TheVariants.{AtFrame, InSegment}
 use Rattle.omf_module.specs.declared.FixupFrame.{FixupFrame}
 use Rattle.omf_module.specs.declared.FixupFrame.TheVariants as frames
 use Rattle.omf_module.specs.declared.FixupTarget.{FixupTarget}
 use Rattle.omf_module.specs.declared.FixupTarget.TheVariants as targets
 use Rattle.omf_module.specs.declared.ResolvedFixup.{ResolvedFixup}
 use Rattle.omf_module.specs.declared.Start.{Start}
-use Rattle.omf_module.specs.Module.{Segment, Group, External, PublicSymbol, DataRecord, Module}
+use Rattle.omf_module.specs.Module.{Segment, Group, ExternalSymbol, PublicSymbol, DataRecord, Module}
 use Rattle.omf_module.specs.Before.{first, entry}
 use Rattle.omf_module.specs.Tables.{frame_used, target_used, name_at, standing_of, segment_of, group_of, base_of, public_of, external_of, frame_of, target_of, fixup_of, start_of}
-use Rattle.omf_module.specs.Faults.{number, header_fault, segment_fault, group_fault, when, ◌⊓◌, misses, passes, Tables, is_absolute, component_fault, data_fault, public_fault, frame_fault, target_fault, holds_base, lies_in, place_fault, relative_fault, fixup_fault, location_fault, start_fault}
-use Rattle.omf_module.specs.Running.{State, state_of, checked, slot, add_to_last, add_data, module_in, later, step, step_record, step_subrecord, step_subrecords, ◌>>=◌}
+use Rattle.omf_module.specs.Faults.{number, header_fault, segment_fault, when, ◌⊓◌, is_beyond, misses, Tables, is_absolute, component_fault, data_fault, public_fault, frame_fault, target_fault, holds_base, lies_in, place_fault, relative_fault, fixup_fault, location_fault, start_fault}
+use Rattle.omf_module.specs.inside.Running.{State, state_of, checked, slot, group_fault, add_to_last, add_data, module_in, later, step, step_record, step_subrecord, step_subrecords, ◌>>=◌}
 use Rattle.omf_module.specs.Sound.{IsShort, FrameMeans, TargetMeans, BaseMeans, IsPart, IsMember, FixupFits, StartFits, SegmentFits, IsStanding}
 use Rattle.omf_record.proofs.Expanded.{length-stored}
 use Rattle.omf_record.proofs.Places.{all-append}
@@ -63,7 +63,7 @@ get_more [] ys i x e = cc
 get_more (z ∷ xs) ys zero x e = e
 get_more (z ∷ xs) ys (suc i) x e = get_more xs ys i x e
 
-module _ (ss ss' : List Segment) (gs gs' : List Group) (es es' : List External) where
+module _ (ss ss' : List Segment) (gs gs' : List Group) (es es' : List ExternalSymbol) where
   frame_more : (f : FixupFrame) → FrameMeans ss gs es f → FrameMeans (ss ++ ss') (gs ++ gs') (es ++ es') f
   frame_more (frames.OfSegment i) h = less_more ss ss' i h
   frame_more (frames.OfGroup i) h = less_more gs gs' i h
@@ -76,7 +76,7 @@ module _ (ss ss' : List Segment) (gs gs' : List Group) (es es' : List External) 
   target_more (targets.Group i) h = less_more gs gs' i h
   target_more (targets.External i) h = less_more es es' i h
 
-  base_more : (b : Base) → BaseMeans ss gs es b → BaseMeans (ss ++ ss') (gs ++ gs') (es ++ es') b
+  base_more : (b : SymbolBase) → BaseMeans ss gs es b → BaseMeans (ss ++ ss') (gs ++ gs') (es ++ es') b
   base_more (AtFrame f) h = h
   base_more (InSegment i None) h = less_more ss ss' i h
   base_more (InSegment i (Some g)) h = (less_more ss ss' i h.0, less_more gs gs' g h.1)
@@ -100,11 +100,11 @@ module _ (ss ss' : List Segment) (gs gs' : List Group) (es es' : List External) 
   maybe_start_more None h = tt
   maybe_start_more (Some s) h = start_more s h
 
-abbrev grown : Module → List Segment → List Group → List External → Module
+abbrev grown : Module → List Segment → List Group → List ExternalSymbol → Module
 grown m ss gs es = record { segments = m.segments ++ ss; groups = m.groups ++ gs; externals = m.externals ++ es; publics = m.publics; data_records = m.data_records; start = m.start }
 
 -- more segments, groups and externals
-more : (m : Module) (ss : List Segment) (gs : List Group) (es : List External) → Fitting m → AllByRecursion SegmentFits ss → AllByRecursion (λ (g : Group). IsShort g.name) gs → AllByRecursion (λ (e : External). IsShort e.name) es
+more : (m : Module) (ss : List Segment) (gs : List Group) (es : List ExternalSymbol) → Fitting m → AllByRecursion SegmentFits ss → AllByRecursion (λ (g : Group). IsShort g.name) gs → AllByRecursion (λ (e : ExternalSymbol). IsShort e.name) es
     → AllByRecursion (λ (g : Group). AllByRecursion (IsMember (m.segments ++ ss) (m.groups ++ gs) (m.externals ++ es)) g.members) gs → Fitting (grown m ss gs es)
 more m ss gs es h a b c d = record {
   segments = all-append _ m.segments ss h.segments a;
@@ -140,7 +140,7 @@ means xs (suc i) e = grind (arith, nat_tests)
 not_less : (a b : ℕ) → nat_lt a b ≡ false → b ≤ a
 not_less a b e = grind (arith, nat_tests)
 
-not_past : {X : Type 0} (xs : List X) (i : ℕ) → passes xs i ≡ false → i ≤ length xs
+not_past : {X : Type 0} (xs : List X) (i : ℕ) → is_beyond xs i ≡ false → i ≤ length xs
 not_past xs i e = grind (arith, nat_tests)
 
 -- ---- names
@@ -156,7 +156,7 @@ unfolding Body
 names_short [] body h = tt
 names_short (n ∷ listed) body h = (h.first.0, names_short listed h.rest h.second)
 
-externals_short : (local : Bool) (listed : List ExternalName) (body : List ℕ) → Body (Extdef local listed) body → AllByRecursion (λ (e : External). IsShort e.name) (map (external_of local) listed)
+externals_short : (local : Bool) (listed : List ExternalName) (body : List ℕ) → Body (Extdef local listed) body → AllByRecursion (λ (e : ExternalSymbol). IsShort e.name) (map (external_of local) listed)
 unfolding Body
 externals_short local [] body h = tt
 externals_short local (n ∷ listed) body h = (h.first.first.0, externals_short local listed h.rest h.second)
@@ -241,10 +241,10 @@ segment_keeps s d body b h =
     let all = more (module_in s) (x ∷ []) [] [] h.sound (segment_fits s.tables.names d body b h.names, tt) tt tt tt in
     record { names = h.names; sound = simp append-nil at all; last = h.last }
 
-abbrev with_externals : State → List External → State
+abbrev with_externals : State → List ExternalSymbol → State
 with_externals s es = record s { tables = record s.tables { externals = s.tables.externals ++ es } }
 
-externals_keep : (s : State) (es : List External) → AllByRecursion (λ (e : External). IsShort e.name) es → Promises s → Promises (with_externals s es)
+externals_keep : (s : State) (es : List ExternalSymbol) → AllByRecursion (λ (e : ExternalSymbol). IsShort e.name) es → Promises s → Promises (with_externals s es)
 externals_keep s es e h =
     let all = more (module_in s) [] [] es h.sound tt tt e tt in
     record { names = h.names; sound = simp append-nil at all; last = h.last }
@@ -255,7 +255,7 @@ first_both : (o : Option CheckFault) (os : List (Option CheckFault)) → first (
 first_both None os e = (refl, e)
 first_both (Some f) os e = cc
 
-member_fits : (ss : List Segment) (gs : List Group) (es : List External) (i : ℕ) → component_fault (entry ss i) ≡ None → IsMember ss gs es (i - 1)
+member_fits : (ss : List Segment) (gs : List Group) (es : List ExternalSymbol) (i : ℕ) → component_fault (entry ss i) ≡ None → IsMember ss gs es (i - 1)
 member_fits ss gs es zero e = cc
 member_fits ss gs es (suc n) e = go (slice_get ss n) refl e
   where
@@ -265,7 +265,7 @@ member_fits ss gs es (suc n) e = go (slice_get ss n) refl e
         let here : suc n - 1 ≡ n = omega arith in
         (s, (ap (slice_get ss) here ∙ k, when_none (is_absolute s.standing) GroupOfAbsolute f))
 
-members_fit : (ss : List Segment) (gs : List Group) (es : List External) (is : List ℕ) → first (map (λ i. component_fault (entry ss i)) is) ≡ None → AllByRecursion (IsMember ss gs es) (map (λ i. i - 1) is)
+members_fit : (ss : List Segment) (gs : List Group) (es : List ExternalSymbol) (is : List ℕ) → first (map (λ i. component_fault (entry ss i)) is) ≡ None → AllByRecursion (IsMember ss gs es) (map (λ i. i - 1) is)
 members_fit ss gs es [] e = tt
 members_fit ss gs es (i ∷ is) e =
     let p = first_both (component_fault (entry ss i)) (map (λ i. component_fault (entry ss i)) is) e in
@@ -287,11 +287,11 @@ group_keeps s name is e h =
 base_fits : (t : Tables) (b : PublicBase) (text : List ℕ) → BaseText b text → public_fault t b ≡ None → BaseMeans t.segments t.groups t.externals (base_of b)
 base_fits t (public_base.AtFrame group frame) text b e = b.second.second.0
 base_fits t (public_base.InSegment zero segment) text b e =
-    let p = none_both (when (misses t.segments segment) SegmentIndex) (when (passes t.groups 0) GroupIndex) e in
+    let p = none_both (when (misses t.segments segment) SegmentIndex) (when (is_beyond t.groups 0) GroupIndex) e in
     means t.segments segment (when_none (misses t.segments segment) SegmentIndex p.0)
 base_fits t (public_base.InSegment (suc group) segment) text b e =
-    let p = none_both (when (misses t.segments segment) SegmentIndex) (when (passes t.groups (suc group)) GroupIndex) e in
-    let g = not_past t.groups (suc group) (when_none (passes t.groups (suc group)) GroupIndex p.1) in
+    let p = none_both (when (misses t.segments segment) SegmentIndex) (when (is_beyond t.groups (suc group)) GroupIndex) e in
+    let g = not_past t.groups (suc group) (when_none (is_beyond t.groups (suc group)) GroupIndex p.1) in
     (means t.segments segment (when_none (misses t.segments segment) SegmentIndex p.0), omega (arith, g))
 
 abbrev with_publics : State → List PublicSymbol → State
@@ -326,7 +326,7 @@ last_push cs (c ∷ e ∷ ds) d h = last_push cs (e ∷ ds) d h
 abbrev plain : (place segment offset : ℕ) (pairs : List (ℕ × ℕ)) → DataRecord
 plain place segment offset pairs = record { place = place; segment = segment; offset = offset; pairs = pairs; fixups = [] }
 
-data_fits : (ss : List Segment) (gs : List Group) (es : List External) (place i offset n : ℕ) (pairs : List (ℕ × ℕ)) → length pairs ≡ n → AreCopies pairs → data_fault (entry ss i) offset n ≡ None → DataFitting ss gs es (plain place (i - 1) offset pairs)
+data_fits : (ss : List Segment) (gs : List Group) (es : List ExternalSymbol) (place i offset n : ℕ) (pairs : List (ℕ × ℕ)) → length pairs ≡ n → AreCopies pairs → data_fault (entry ss i) offset n ≡ None → DataFitting ss gs es (plain place (i - 1) offset pairs)
 data_fits ss gs es place zero offset n pairs len copies e = cc
 data_fits ss gs es place (suc i) offset n pairs len copies e = go (slice_get ss i) refl e
   where
@@ -409,10 +409,10 @@ fixup_fits s place x (Some f) (Some t) d e h =
       tt,
     )
 
-refit : (ss : List Segment) (gs : List Group) (es : List External) (d : DataRecord) (fs : List ResolvedFixup) (x : ResolvedFixup) → FixupFits ss gs es d x → FixupFits ss gs es (record d { fixups = fs }) x
+refit : (ss : List Segment) (gs : List Group) (es : List ExternalSymbol) (d : DataRecord) (fs : List ResolvedFixup) (x : ResolvedFixup) → FixupFits ss gs es d x → FixupFits ss gs es (record d { fixups = fs }) x
 refit ss gs es d fs x h = record { frame = h.frame; target = h.target; together = h.together; whole = h.whole; relative = h.relative }
 
-module _ (ss : List Segment) (gs : List Group) (es : List External) (o : Option (List (ℕ × ℕ))) (fs : List ResolvedFixup) (on : (d : DataRecord) → LastFits o (d ∷ []) → AllByRecursion (FixupFits ss gs es d) fs) where
+module _ (ss : List Segment) (gs : List Group) (es : List ExternalSymbol) (o : Option (List (ℕ × ℕ))) (fs : List ResolvedFixup) (on : (d : DataRecord) → LastFits o (d ∷ []) → AllByRecursion (FixupFits ss gs es d) fs) where
   fit_last : (ds : List DataRecord) → AllByRecursion (DataFitting ss gs es) ds → LastFits o ds → AllByRecursion (DataFitting ss gs es) (add_to_last fs ds)
   fit_last [] h l = tt
   fit_last (d ∷ []) h l =

@@ -14,10 +14,6 @@ range_push a (suc n) =
 pub range_more : (xs : List ℕ) (n : ℕ) → (xs ++ range_with_len 0 n) ++ n ∷ [] ≡ xs ++ range_with_len 0 (n + 1)
 range_more xs n = append_assoc xs (range_with_len 0 n) (n ∷ []) ∙ ap (λ ys. xs ++ ys) (ap (λ m. range_with_len 0 n ++ m ∷ []) (sym (zero-add n)) ∙ sym (range_push 0 n))
 
-pub length-range : (a n : ℕ) → length (range_with_len a n) ≡ n
-length-range a zero = refl
-length-range a (suc n) = ap suc (length-range (a + 1) n)
-
 -- those in front are a shorter row
 pub take-range : (a n k : ℕ) → k ≤ n → take k (range_with_len a n) ≡ range_with_len a k
 take-range a n zero le = refl

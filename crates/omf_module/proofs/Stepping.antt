@@ -5,8 +5,8 @@ use Rattle.omf_record.specs.declared.fields.Subrecord.{Subrecord}
 use Rattle.omf_module.specs.declared.fault.CheckFault.{CheckFault}
 use Rattle.omf_module.specs.declared.builder.AddFault.{AddFault}
 use Rattle.omf_module.specs.declared.builder.AddFault.TheVariants as adds
-use Rattle.omf_module.specs.Running.{State, step_subrecord, step_subrecords, ◌>>=◌}
-use Rattle.omf_module.specs.Building.{Refuses}
+use Rattle.omf_module.specs.inside.Running.{State, step_subrecord, step_subrecords, ◌>>=◌}
+use Rattle.omf_module.specs.inside.Building.{Refuses}
 
 module _ (place : ℕ) (s : State) (xs : List Subrecord) (i : ℕ) (d : Subrecord) (total : Result State CheckFault) (lt : i < length xs) (so_far : step_subrecords place s (drop i xs) ≡ total) where
   here : (step_subrecord place s (get_or xs i d) >>= λ t. step_subrecords place t (drop (i + 1) xs)) ≡ total

@@ -2,19 +2,19 @@
 use Rattle.std.proofs.Common.{◌≡◌, ℕ, ◌-◌, ◌≤◌, Bool, List, [], ◌∷◌, ◌++◌, length, take, drop, map, refl, sym, ap, ◌∙◌, arith, length-append, length-drop, length-take}
 use Rattle.std.specs.List.{AllByRecursion, zip}
 use Rattle.std.proofs.lemmas.List.{append-nil, drop-append-le, take-append-le, drop_at, take_at, take-take, take_all, map_push}
-use Rattle.omf_module.specs.declared.store.Part.{Part}
-use Rattle.omf_module.specs.declared.store.SegmentEntry.{SegmentEntry}
-use Rattle.omf_module.specs.declared.store.GroupEntry.{GroupEntry}
-use Rattle.omf_module.specs.declared.store.ExternalEntry.{ExternalEntry}
-use Rattle.omf_module.specs.declared.store.PublicEntry.{PublicEntry}
-use Rattle.omf_module.specs.declared.store.DataEntry.{DataEntry}
-use Rattle.omf_module.specs.declared.Base.{Base}
+use Rattle.omf_record.proofs.Places.{all-append}
+use Rattle.omf_module.specs.declared.pieces.Piece.{Piece}
+use Rattle.omf_module.specs.declared.entries.SegmentEntry.{SegmentEntry}
+use Rattle.omf_module.specs.declared.entries.GroupEntry.{GroupEntry}
+use Rattle.omf_module.specs.declared.entries.ExternalEntry.{ExternalEntry}
+use Rattle.omf_module.specs.declared.entries.PublicEntry.{PublicEntry}
+use Rattle.omf_module.specs.declared.entries.DataEntry.{DataEntry}
+use Rattle.omf_module.specs.declared.SymbolBase.{SymbolBase}
 use Rattle.omf_module.specs.Module.{DataRecord}
-use Rattle.omf_module.specs.Store.{Kept, part, segment, group, external, public_symbol, places_part, data_record, IsIn, SegmentIsIn, GroupIsIn, ExternalIsIn, PublicIsIn, DataIsIn, Holds, Entries, kept, AreIn}
+use Rattle.omf_module.specs.inside.Store.{Kept, elements, segment, group, external, public_symbol, places_piece, data_record, IsIn, SegmentIsIn, GroupIsIn, ExternalIsIn, PublicIsIn, DataIsIn, Holds, Entries, kept, AreIn}
 
 pub all_push : {X : Type 0} (P : X → Type 0) (xs : List X) (x : X) → AllByRecursion P xs → P x → AllByRecursion P (xs ++ x ∷ [])
-all_push P [] x h p = (p, tt)
-all_push P (y ∷ xs) x h p = (h.0, all_push P xs x h.1 p)
+all_push P xs x h p = all-append P xs (x ∷ []) h (p, tt)
 
 -- entries that say the same, and stay in bounds
 all_stay : {E V : Type 0} (see see' : E → V) (In In' : E → Type 0) → ((e : E) → In e → (see' e ≡ see e) × In' e) → (xs : List E) → AllByRecursion In xs → (map see' xs ≡ map see xs) × AllByRecursion In' xs
@@ -24,43 +24,43 @@ all_stay see see' In In' one (x ∷ xs) h =
     let more = all_stay see see' In In' one xs h.1 in
     (ap (λ v. v ∷ map see' xs) here.0 ∙ ap (λ vs. see x ∷ vs) more.0, (here.1, more.1))
 
-pub part_stays : {X : Type 0} (xs more : List X) (p : Part) → IsIn xs p → (part (xs ++ more) p ≡ part xs p) × IsIn (xs ++ more) p
-part_stays xs more p h =
+pub piece_stays : {X : Type 0} (xs more : List X) (p : Piece) → IsIn xs p → (elements (xs ++ more) p ≡ elements xs p) × IsIn (xs ++ more) p
+piece_stays xs more p h =
     let a : p.from ≤ length xs = omega arith in
     let b : p.len ≤ length (drop p.from xs) = omega (arith, length-drop p.from xs) in
     (ap (take p.len) (drop-append-le p.from xs more a) ∙ take-append-le p.len (drop p.from xs) more b, omega (arith, length-append xs more))
 
 segment_stays : (bytes more : List ℕ) (s : SegmentEntry) → SegmentIsIn bytes s → (segment (bytes ++ more) s ≡ segment bytes s) × SegmentIsIn (bytes ++ more) s
 segment_stays bytes more s h =
-    let n = part_stays bytes more s.name h.0 in
-    let c = part_stays bytes more s.class h.1 in
+    let n = piece_stays bytes more s.name h.0 in
+    let c = piece_stays bytes more s.class h.1 in
     (rw (n.0, c.0) refl, (n.1, c.1))
 
 group_stays : {A : Type 0} (bytes more : List ℕ) (g : GroupEntry A) → GroupIsIn bytes g → (group (bytes ++ more) g ≡ group bytes g) × GroupIsIn (bytes ++ more) g
 group_stays bytes more g h =
-    let n = part_stays bytes more g.name h in
+    let n = piece_stays bytes more g.name h in
     (rw n.0 refl, n.1)
 
 external_stays : (bytes more : List ℕ) (x : ExternalEntry) → ExternalIsIn bytes x → (external (bytes ++ more) x ≡ external bytes x) × ExternalIsIn (bytes ++ more) x
 external_stays bytes more x h =
-    let n = part_stays bytes more x.name h in
+    let n = piece_stays bytes more x.name h in
     (rw n.0 refl, n.1)
 
 public_stays : (bytes more : List ℕ) (p : PublicEntry) → PublicIsIn bytes p → (public_symbol (bytes ++ more) p ≡ public_symbol bytes p) × PublicIsIn (bytes ++ more) p
 public_stays bytes more p h =
-    let n = part_stays bytes more p.name h in
+    let n = piece_stays bytes more p.name h in
     (rw n.0 refl, n.1)
 
 data_stays : {A : Type 0} (bytes more places more' : List ℕ) (d : DataEntry A) → DataIsIn bytes places d → (data_record (bytes ++ more) (places ++ more') d ≡ data_record bytes places d) × DataIsIn (bytes ++ more) (places ++ more') d
 data_stays bytes more places more' d h =
-    let b = part_stays bytes more d.bytes h.0 in
-    let p = part_stays places more' (places_part d) h.1 in
+    let b = piece_stays bytes more d.bytes h.0 in
+    let p = piece_stays places more' (places_piece d) h.1 in
     (rw (b.0, p.0) refl, (b.1, p.1))
 
 -- longer lists
 pub stays : {A : Type 0} (bytes more places more' : List ℕ) (e : Entries A) → AreIn bytes places e → (kept (bytes ++ more) (places ++ more') e ≡ kept bytes places e) × AreIn (bytes ++ more) (places ++ more') e
 stays bytes more places more' e h =
-    let n = all_stay (part bytes) (part (bytes ++ more)) (IsIn bytes) (IsIn (bytes ++ more)) (λ p k. part_stays bytes more p k) e.names h.names in
+    let n = all_stay (elements bytes) (elements (bytes ++ more)) (IsIn bytes) (IsIn (bytes ++ more)) (λ p k. piece_stays bytes more p k) e.names h.names in
     let s = all_stay (segment bytes) (segment (bytes ++ more)) (SegmentIsIn bytes) (SegmentIsIn (bytes ++ more)) (λ p k. segment_stays bytes more p k) e.segments h.segments in
     let g = all_stay (group bytes) (group (bytes ++ more)) (GroupIsIn bytes) (GroupIsIn (bytes ++ more)) (λ p k. group_stays bytes more p k) e.groups h.groups in
     let x = all_stay (external bytes) (external (bytes ++ more)) (ExternalIsIn bytes) (ExternalIsIn (bytes ++ more)) (λ x k. external_stays bytes more x k) e.externals h.externals in
@@ -75,17 +75,17 @@ pub places_stay : {A : Type 0} (bytes places more : List ℕ) (e : Entries A) �
 places_stay bytes places more e h = (rw append-nil at (stays bytes [] places more e h)).1
 
 -- the piece that was kept last
-abbrev pub last_of : {X : Type 0} → List X → List X → Part
+abbrev pub last_of : {X : Type 0} → List X → List X → Piece
 last_of xs piece = record { from = length xs; len = length piece }
 
-pub last_part : {X : Type 0} (xs piece : List X) → part (xs ++ piece) (last_of xs piece) ≡ piece
-last_part xs piece = ap (take (length piece)) (drop_at xs piece (length xs) refl) ∙ take_all (length piece) piece (omega arith)
+pub last_piece : {X : Type 0} (xs piece : List X) → elements (xs ++ piece) (last_of xs piece) ≡ piece
+last_piece xs piece = ap (take (length piece)) (drop_at xs piece (length xs) refl) ∙ take_all (length piece) piece (omega arith)
 
 pub last_is_in : {X : Type 0} (xs piece : List X) → IsIn (xs ++ piece) (last_of xs piece)
 last_is_in xs piece = omega (arith, length-append xs piece)
 
 -- a piece with which another one begins
-pub begins_in : {X : Type 0} (xs piece : List X) (p : Part) → IsIn xs p → length piece ≤ length (part xs p) → piece ≡ take (length piece) (part xs p) → Holds xs (record { from = p.from; len = length piece }) piece
+pub begins_in : {X : Type 0} (xs piece : List X) (p : Piece) → IsIn xs p → length piece ≤ length (elements xs p) → piece ≡ take (length piece) (elements xs p) → Holds xs (record { from = p.from; len = length piece }) piece
 begins_in xs piece p h le e =
     let short : length piece ≤ p.len = omega (arith, le, length-take p.len (drop p.from xs)) in
     (omega arith, sym (e ∙ take-take (length piece) p.len (drop p.from xs) short))
@@ -101,13 +101,13 @@ once_kept places laid now cut from at len is f l k h =
 
 -- what a store says and where it lies, with one entry more
 module _ {A : Type 0} (bytes places : List ℕ) (e : Entries A) (h : AreIn bytes places e) where
-  abbrev named : Part → Entries A
+  abbrev named : Piece → Entries A
   named p = record { names = e.names ++ p ∷ []; segments = e.segments; groups = e.groups; externals = e.externals; publics = e.publics; data_records = e.data_records }
 
   pub name_kept : (name : List ℕ) → kept (bytes ++ name) places (named (last_of bytes name)) ≡ record (kept bytes places e) { names = (kept bytes places e).names ++ name ∷ [] }
   name_kept name =
       let s = bytes_stay bytes name places e h in
-      let n : map (part (bytes ++ name)) (e.names ++ last_of bytes name ∷ []) ≡ map (part (bytes ++ name)) e.names ++ name ∷ [] = map_push _ e.names (last_of bytes name) ∙ ap (λ x. map (part (bytes ++ name)) e.names ++ x ∷ []) (last_part bytes name) in
+      let n : map (elements (bytes ++ name)) (e.names ++ last_of bytes name ∷ []) ≡ map (elements (bytes ++ name)) e.names ++ name ∷ [] = map_push _ e.names (last_of bytes name) ∙ ap (λ x. map (elements (bytes ++ name)) e.names ++ x ∷ []) (last_piece bytes name) in
       ap (λ ns. record (kept (bytes ++ name) places e) { names = ns }) n ∙ ap (λ (k : Kept). record k { names = k.names ++ name ∷ [] }) s.0
 
   pub name_in : (name : List ℕ) → AreIn (bytes ++ name) places (named (last_of bytes name))
@@ -124,7 +124,7 @@ module _ {A : Type 0} (bytes places : List ℕ) (e : Entries A) (h : AreIn bytes
   pub external_kept : (name : List ℕ) (local : Bool) → kept (bytes ++ name) places (externed (external_entry name local)) ≡ record (kept bytes places e) { externals = (kept bytes places e).externals ++ record { name = name; local = local } ∷ [] }
   external_kept name local =
       let s = bytes_stay bytes name places e h in
-      let n : map (external (bytes ++ name)) (e.externals ++ external_entry name local ∷ []) ≡ map (external (bytes ++ name)) e.externals ++ record { name = name; local = local } ∷ [] = map_push _ e.externals (external_entry name local) ∙ ap (λ x. map (external (bytes ++ name)) e.externals ++ record { name = x; local = local } ∷ []) (last_part bytes name) in
+      let n : map (external (bytes ++ name)) (e.externals ++ external_entry name local ∷ []) ≡ map (external (bytes ++ name)) e.externals ++ record { name = name; local = local } ∷ [] = map_push _ e.externals (external_entry name local) ∙ ap (λ x. map (external (bytes ++ name)) e.externals ++ record { name = x; local = local } ∷ []) (last_piece bytes name) in
       ap (λ ns. record (kept (bytes ++ name) places e) { externals = ns }) n ∙ ap (λ (k : Kept). record k { externals = k.externals ++ record { name = name; local = local } ∷ [] }) s.0
 
   pub external_in : (name : List ℕ) (local : Bool) → AreIn (bytes ++ name) places (externed (external_entry name local))
@@ -135,16 +135,16 @@ module _ {A : Type 0} (bytes places : List ℕ) (e : Entries A) (h : AreIn bytes
   abbrev published : PublicEntry → Entries A
   published p = record { names = e.names; segments = e.segments; groups = e.groups; externals = e.externals; publics = e.publics ++ p ∷ []; data_records = e.data_records }
 
-  abbrev public_entry : List ℕ → Base → ℕ → Bool → PublicEntry
+  abbrev public_entry : List ℕ → SymbolBase → ℕ → Bool → PublicEntry
   public_entry name base offset local = record { name = last_of bytes name; base = base; offset = offset; local = local }
 
-  pub public_kept : (name : List ℕ) (base : Base) (offset : ℕ) (local : Bool) → kept (bytes ++ name) places (published (public_entry name base offset local)) ≡ record (kept bytes places e) { publics = (kept bytes places e).publics ++ record { name = name; base = base; offset = offset; local = local } ∷ [] }
+  pub public_kept : (name : List ℕ) (base : SymbolBase) (offset : ℕ) (local : Bool) → kept (bytes ++ name) places (published (public_entry name base offset local)) ≡ record (kept bytes places e) { publics = (kept bytes places e).publics ++ record { name = name; base = base; offset = offset; local = local } ∷ [] }
   public_kept name base offset local =
       let s = bytes_stay bytes name places e h in
-      let n : map (public_symbol (bytes ++ name)) (e.publics ++ public_entry name base offset local ∷ []) ≡ map (public_symbol (bytes ++ name)) e.publics ++ record { name = name; base = base; offset = offset; local = local } ∷ [] = map_push _ e.publics (public_entry name base offset local) ∙ ap (λ x. map (public_symbol (bytes ++ name)) e.publics ++ record { name = x; base = base; offset = offset; local = local } ∷ []) (last_part bytes name) in
+      let n : map (public_symbol (bytes ++ name)) (e.publics ++ public_entry name base offset local ∷ []) ≡ map (public_symbol (bytes ++ name)) e.publics ++ record { name = name; base = base; offset = offset; local = local } ∷ [] = map_push _ e.publics (public_entry name base offset local) ∙ ap (λ x. map (public_symbol (bytes ++ name)) e.publics ++ record { name = x; base = base; offset = offset; local = local } ∷ []) (last_piece bytes name) in
       ap (λ ns. record (kept (bytes ++ name) places e) { publics = ns }) n ∙ ap (λ (k : Kept). record k { publics = k.publics ++ record { name = name; base = base; offset = offset; local = local } ∷ [] }) s.0
 
-  pub public_in : (name : List ℕ) (base : Base) (offset : ℕ) (local : Bool) → AreIn (bytes ++ name) places (published (public_entry name base offset local))
+  pub public_in : (name : List ℕ) (base : SymbolBase) (offset : ℕ) (local : Bool) → AreIn (bytes ++ name) places (published (public_entry name base offset local))
   public_in name base offset local =
       let s = (bytes_stay bytes name places e h).1 in
       record { names = s.names; segments = s.segments; groups = s.groups; externals = s.externals; publics = all_push (PublicIsIn (bytes ++ name)) e.publics (public_entry name base offset local) s.publics (last_is_in bytes name); data_records = s.data_records }
@@ -155,7 +155,7 @@ module _ {A : Type 0} (bytes places : List ℕ) (e : Entries A) (h : AreIn bytes
   -- its bytes are kept last, and its stored places, these or others, stand somewhere
   abbrev is_data : (more added stored_at : List ℕ) → DataEntry A → Type 0
   is_data more added stored_at d =
-      (d.bytes ≡ last_of bytes more) × IsIn (places ++ added) (places_part d) × (part (places ++ added) (places_part d) ≡ stored_at) × (d.fixups.items ≡ [])
+      (d.bytes ≡ last_of bytes more) × IsIn (places ++ added) (places_piece d) × (elements (places ++ added) (places_piece d) ≡ stored_at) × (d.fixups.items ≡ [])
 
   abbrev plain_data : DataEntry A → List (ℕ × ℕ) → DataRecord
   plain_data d pairs = record { place = d.place; segment = d.segment; offset = d.offset; pairs = pairs; fixups = [] }
@@ -163,9 +163,9 @@ module _ {A : Type 0} (bytes places : List ℕ) (e : Entries A) (h : AreIn bytes
   pub data_kept : (more added stored_at : List ℕ) (d : DataEntry A) → is_data more added stored_at d → kept (bytes ++ more) (places ++ added) (stored d) ≡ record (kept bytes places e) { data_records = (kept bytes places e).data_records ++ plain_data d (zip stored_at more) ∷ [] }
   data_kept more added stored_at d k =
       let s = stays bytes more places added e h in
-      let b : part (bytes ++ more) d.bytes ≡ more = ap (part (bytes ++ more)) k.0 ∙ last_part bytes more in
+      let b : elements (bytes ++ more) d.bytes ≡ more = ap (elements (bytes ++ more)) k.0 ∙ last_piece bytes more in
       let one : data_record (bytes ++ more) (places ++ added) d ≡ plain_data d (zip stored_at more) =
-      ap (λ x. record { place = d.place; segment = d.segment; offset = d.offset; pairs = zip x (part (bytes ++ more) d.bytes); fixups = d.fixups.items }) k.2
+      ap (λ x. record { place = d.place; segment = d.segment; offset = d.offset; pairs = zip x (elements (bytes ++ more) d.bytes); fixups = d.fixups.items }) k.2
       ∙ ap (λ x. record { place = d.place; segment = d.segment; offset = d.offset; pairs = zip stored_at x; fixups = d.fixups.items }) b
       ∙ ap (λ x. record { place = d.place; segment = d.segment; offset = d.offset; pairs = zip stored_at more; fixups = x }) k.3 in
       let n : map (data_record (bytes ++ more) (places ++ added)) (e.data_records ++ d ∷ []) ≡ map (data_record (bytes ++ more) (places ++ added)) e.data_records ++ plain_data d (zip stored_at more) ∷ [] = map_push _ e.data_records d ∙ ap (λ x. map (data_record (bytes ++ more) (places ++ added)) e.data_records ++ x ∷ []) one in

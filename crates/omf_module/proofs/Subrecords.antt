@@ -17,8 +17,9 @@ use Rattle.omf_module.specs.Tables.{stretches, subrecords, fixups, frame_thread,
 use Rattle.omf_record.specs.Numbers.{thread_number}
 use Rattle.omf_record.specs.Records.{Placed}
 use Rattle.omf_module.specs.Faults.{tables, subrecord_item, last_contents}
-use Rattle.omf_module.specs.Running.{State, state_of, checked, step_subrecord, step_subrecords, step_record, thread_numbers, add_to_last, ◌>>=◌}
-use Rattle.omf_module.proofs.Lists.{along_push, filter_map_append, last_append}
+use Rattle.omf_module.specs.inside.Running.{State, state_of, checked, step_subrecord, step_subrecords, step_record, thread_numbers, add_to_last, ◌>>=◌}
+use Rattle.std.proofs.lemmas.List.Elements.{filter_map-append}
+use Rattle.omf_module.proofs.Lists.{along_push, last_append}
 use Rattle.omf_module.proofs.FixupsOn.{new_fixups}
 use Rattle.omf_module.proofs.Growing.{Steps, state_push, frame_slots, target_slots}
 
@@ -32,7 +33,7 @@ Inside place rs done = record (state_of rs) {
 }
 
 inside_whole : (place : ℕ) (body : List ℕ) (rs : List Placed) (subs : List Subrecord) → state_of (rs ++ record { place = place; body = body; says = Fixupp subs } ∷ []) ≡ Inside place rs subs
-inside_whole place body rs subs = rw state_push (simp (append-nil, filter_map_append, last_append))
+inside_whole place body rs subs = rw state_push (simp (append-nil, filter_map-append, last_append))
 
 inside_none : (place : ℕ) (rs : List Placed) → Inside place rs [] ≡ record (state_of rs) { begun = true }
 inside_none place rs = simp append-nil
@@ -41,16 +42,16 @@ abbrev item : List Placed → List Subrecord → Subrecord → Option CheckFault
 item rs earlier x = subrecord_item (tables rs) (last_contents rs) (subrecords rs ++ earlier) x
 
 frame_set_more : (subs : List Subrecord) (t : ThreadNumber) (method : FrameMethod) → map (frame_thread (subs ++ sub.SetFrame t method ∷ [])) thread_numbers ≡ set (map (frame_thread subs) thread_numbers) (thread_number t) (Some method)
-frame_set_more subs Zero method = simp (filter_map_append, last_append)
-frame_set_more subs One method = simp (filter_map_append, last_append)
-frame_set_more subs Two method = simp (filter_map_append, last_append)
-frame_set_more subs Three method = simp (filter_map_append, last_append)
+frame_set_more subs Zero method = simp (filter_map-append, last_append)
+frame_set_more subs One method = simp (filter_map-append, last_append)
+frame_set_more subs Two method = simp (filter_map-append, last_append)
+frame_set_more subs Three method = simp (filter_map-append, last_append)
 
 target_set_more : (subs : List Subrecord) (t : ThreadNumber) (method : TargetMethod) → map (target_thread (subs ++ sub.SetTarget t method ∷ [])) thread_numbers ≡ set (map (target_thread subs) thread_numbers) (thread_number t) (Some method)
-target_set_more subs Zero method = simp (filter_map_append, last_append)
-target_set_more subs One method = simp (filter_map_append, last_append)
-target_set_more subs Two method = simp (filter_map_append, last_append)
-target_set_more subs Three method = simp (filter_map_append, last_append)
+target_set_more subs Zero method = simp (filter_map-append, last_append)
+target_set_more subs One method = simp (filter_map-append, last_append)
+target_set_more subs Two method = simp (filter_map-append, last_append)
+target_set_more subs Three method = simp (filter_map-append, last_append)
 
 abbrev FixupsIn : ℕ → List Placed → List Subrecord → List ResolvedFixup
 FixupsIn place rs done = along (λ earlier x. option_to_list (fixup_in place (subrecords rs ++ earlier) x)) done
@@ -62,11 +63,11 @@ data_more place rs done x = rw (along_push, map-append, ← append_assoc) (new_f
 
 one : (place : ℕ) (rs : List Placed) (done : List Subrecord) (x : Subrecord) → step_subrecord place (Inside place rs done) x ≡ checked (item rs done x) (Inside place rs (done ++ x ∷ []))
 unfolding step_subrecord
-one place rs done (sub.SetFrame t method) = rw (← frame_set_more (subrecords rs ++ done) t method) (simp (append_assoc, along_push, append-nil, filter_map_append, last_append))
-one place rs done (sub.SetTarget t method) = rw (← target_set_more (subrecords rs ++ done) t method) (simp (append_assoc, along_push, append-nil, filter_map_append, last_append))
+one place rs done (sub.SetFrame t method) = rw (← frame_set_more (subrecords rs ++ done) t method) (simp (append_assoc, along_push, append-nil, filter_map-append, last_append))
+one place rs done (sub.SetTarget t method) = rw (← target_set_more (subrecords rs ++ done) t method) (simp (append_assoc, along_push, append-nil, filter_map-append, last_append))
 one place rs done (sub.Fixup c) =
     rw (frame_slots (frame_thread (subrecords rs ++ done)) c.reference.frame, target_slots (target_thread (subrecords rs ++ done)) c.reference.target, ← data_more place rs done (sub.Fixup c))
-    (simp (filter_map_append, last_append))
+    (simp (filter_map-append, last_append))
 
 by_item : (place : ℕ) (rs : List Placed) (done todo : List Subrecord) (x : Subrecord) (o : Option CheckFault)
     → step_subrecords place (Inside place rs (done ++ x ∷ [])) todo ≡ checked (first (along_from (done ++ x ∷ []) (λ earlier x. item rs earlier x ∷ []) todo)) (Inside place rs ((done ++ x ∷ []) ++ todo))

@@ -6,7 +6,7 @@ use Rattle.omf_record.specs.Records.{Placed}
 use Rattle.omf_module.specs.declared.fault.CheckFault.{CheckFault}
 use Rattle.omf_module.specs.Before.{along, along_from, first}
 use Rattle.omf_module.specs.Faults.{begun, header_fault, items, fault, first_fault}
-use Rattle.omf_module.specs.Running.{State, state_of, checked, step, step_record, ◌>>=◌}
+use Rattle.omf_module.specs.inside.Running.{State, state_of, checked, step, step_record, ◌>>=◌}
 use Rattle.omf_module.proofs.Lists.{along_push, along_from_append}
 use Rattle.omf_module.proofs.Growing.{Steps, header_steps, comment_steps, lines_steps, names_steps, externals_steps, publics_steps, segment_steps, group_steps, no_start_steps, start_steps, data_steps, repeated_steps}
 use Rattle.omf_module.proofs.Subrecords.{fixup_steps}

@@ -2,7 +2,8 @@
 use Rattle.std.specs.Prelude.{◌≡◌, ℕ, List, [], ◌∷◌, ◌++◌, length, None, Some, ◌⊎◌}
 use Rattle.omf_frame.specs.declared.reading.FramingFault.{FramingFault}
 use Rattle.omf_frame.specs.declared.reading.FramingFault.TheVariants as framing
-use Rattle.omf_record.specs.Records.{Placed, AreRecords, AreBeforeEnd, AreToEnd, NoRecord, Framing, NoEnd, OtherType, WrongBody, NoRecordAt}
+use Rattle.omf_record.specs.Records.{Placed, AreRecords, AreBeforeEnd, AreToEnd, NoRecord, Framing, NoEnd, OtherType}
+use Rattle.omf_record.specs.Records.{WrongBody, NoRecordAt}
 use Rattle.omf_module.specs.declared.fault.CheckFault.{CheckFault}
 use Rattle.omf_module.specs.declared.fault.FaultKind.{FaultKind}
 use Rattle.omf_module.specs.declared.fault.FaultKind.TheVariants as kind
@@ -17,7 +18,7 @@ framing_kind framing.InputTooLong = kind.InputTooLong
 
 -- why no record begins, as a fault of the reading
 abbrev pub reading_kind : NoRecord → FaultKind
-reading_kind (Framing e) = framing_kind e
+reading_kind (Framing why) = framing_kind why
 reading_kind NoEnd = kind.NoEnd
 reading_kind OtherType = kind.Type
 reading_kind (WrongBody at) = kind.Body at
@@ -34,23 +35,25 @@ pub record Beginning (rs : List Placed) (bytes : List ℕ) : Type 0 where
   pub open' : AreBeforeEnd rs
   pub sound : first_fault rs ≡ None
 
--- a record begins at this place, the bytes from there on being these, and a check refuses it behind the records before it
+-- a record begins at this place, the bytes from there on being these, and a check refuses it behind the records before
+-- it
 abbrev pub RefusedAt : (before : List Placed) → (place : ℕ) → List ℕ → FaultKind → Type 0
-RefusedAt before place bytes f =
+RefusedAt before place bytes found =
     (r : Placed) × (front : List ℕ) × (rest : List ℕ) × (bytes ≡ front ++ rest) × AreRecords place (r ∷ []) front
-    × (check : CheckFault) × (f ≡ kind.Check check) × (fault before r.says ≡ Some check)
+    × (check : CheckFault) × (found ≡ kind.Check check) × (fault before r.says ≡ Some check)
 
 -- none begins there
 abbrev pub StopsAt : (place : ℕ) → List ℕ → FaultKind → Type 0
-StopsAt place bytes f = (why : NoRecord) × NoRecordAt place bytes why × (f ≡ reading_kind why)
+StopsAt place bytes found = (why : NoRecord) × NoRecordAt place bytes why × (found ≡ reading_kind why)
 
 -- the fault of what stands behind these records
 abbrev pub FaultBehind : (before : List Placed) → (place : ℕ) → List ℕ → FaultKind → Type 0
-FaultBehind before place bytes f = RefusedAt before place bytes f ⊎ StopsAt place bytes f
+FaultBehind before place bytes found = RefusedAt before place bytes found ⊎ StopsAt place bytes found
 
 -- The fault of reading bytes as a module, and its place: the bytes begin with records that no check refuses and that
 -- don't end a module, and behind them, at this place, a check refuses the next record, or none begins.
 abbrev pub ReadingFault : List ℕ → (place : ℕ) → FaultKind → Type 0
-ReadingFault bytes place f =
-    (rs : List Placed) × (front : List ℕ) × (rest : List ℕ) × (bytes ≡ front ++ rest) × Beginning rs front × (place ≡ length front)
-    × FaultBehind rs place rest f
+ReadingFault bytes place found =
+    (rs : List Placed) × (front : List ℕ) × (rest : List ℕ) × (bytes ≡ front ++ rest) × Beginning rs front
+    × (place ≡ length front)
+    × FaultBehind rs place rest found

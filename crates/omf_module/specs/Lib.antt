@@ -2,12 +2,8 @@ pub mod Before
 pub mod Module
 pub mod Tables
 pub mod Faults
-pub mod Running
-pub mod Store
 pub mod Seen
-pub mod Contents
-pub mod Building
 pub mod Bytes
 pub mod Sound
 pub mod Reading
-pub mod Faulty
+pub mod inside

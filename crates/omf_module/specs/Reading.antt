@@ -1,19 +1,16 @@
 -- What reading a module answers, and where the source then stands.
-use Rattle.std.specs.Prelude.{◌≡◌, ℕ, Bool, List, length, Some, Ok, Err, IfSome}
+use Rattle.std.specs.Prelude.{◌≡◌, ℕ, List, length, Some, Ok, Err, IfSome}
 use Rattle.std.specs.declared.option.Option.{Option}
 use Rattle.std.specs.declared.result.Result.{Result}
 use Rattle.std.specs.Io.KnownBytes.{Consumes, Keeps}
 use Rattle.omf_frame.specs.Reading.{TakesWhole, TakesNoneOrWhole, TakesPart}
-use Rattle.omf_record.specs.Record.{Record}
-use Rattle.omf_record.specs.Body.{BodyOf, BodyFault, IsRecordType}
-use Rattle.omf_record.specs.Records.{Placed, is_end}
+use Rattle.omf_record.specs.Records.{Placed}
 use Rattle.omf_module.specs.declared.fault.FaultKind.{FaultKind}
 use Rattle.omf_module.specs.declared.fault.FaultKind.TheVariants as kind
 use Rattle.omf_module.specs.declared.fault.ModuleFault.{ModuleFault}
 use Rattle.omf_module.specs.declared.fault.ModuleFault.TheVariants as fault
 use Rattle.omf_module.specs.Module.{Module}
 use Rattle.omf_module.specs.Tables.{module_of}
-use Rattle.omf_module.specs.Running.{State, step}
 use Rattle.omf_module.specs.Bytes.{Beginning, ModuleBytes, ReadingFault}
 
 -- how many calls of the source failed
@@ -28,12 +25,14 @@ device_failures (kind.Check fault) = 0
 device_failures kind.NoEnd = 0
 device_failures kind.InputTooLong = 0
 
+-- the same of an answer
 abbrev pub failures_in : {A : Type 0} → Result A ModuleFault → ℕ
-failures_in (Ok x) = 0
+failures_in (Ok answer) = 0
 failures_in (Err fault.Memory) = 0
 failures_in (Err (fault.Record place kind)) = device_failures kind
 
--- What is taken of the record at fault: the whole of it, all that is left of one that is cut off, of one of length 0 its
+-- What is taken of the record at fault: the whole of it, all that is left of one that is cut off, of one of length 0
+-- its
 -- three bytes; at the limit nothing, and where the source failed not all of it.
 abbrev pub TakesFaulty : Option (List ℕ) → Option (List ℕ) → FaultKind → Type 0
 TakesFaulty old new kind.Device = TakesPart old new
@@ -63,50 +62,38 @@ pub record Took (rs : List Placed) (front : List ℕ) (old new : Option (List �
   pub beginning : Beginning rs front
   pub taken : Consumes old new front
 
--- What is told of the source before and after, and the answer: the module of the records of a whole sound module, having
+-- What is told of the source before and after, and the answer: the module of the records of a whole sound module,
+-- having
 -- taken exactly its bytes; else a fault of the record behind those that were taken.
 unfoldable pub Reads : {A : Type 0} → (A → Module) → Option (List ℕ) → Option (List ℕ) → Result A ModuleFault → Type 0
-Reads view old new (Ok m) = (rs : List Placed) × (front : List ℕ) × ModuleBytes rs front × Consumes old new front × (view m ≡ module_of rs)
-Reads view old new (Err fault.Memory) = (rs : List Placed) × (front : List ℕ) × (mid : Option (List ℕ)) × Took rs front old mid × TakesNoneOrWhole mid new
+Reads view old new (Ok module') =
+    (rs : List Placed) × (front : List ℕ) × ModuleBytes rs front × Consumes old new front
+    × (view module' ≡ module_of rs)
+Reads view old new (Err fault.Memory) =
+    (rs : List Placed) × (front : List ℕ) × (mid : Option (List ℕ)) × Took rs front old mid × TakesNoneOrWhole mid new
 Reads view old new (Err (fault.Record place kind)) =
-    (rs : List Placed) × (front : List ℕ) × (mid : Option (List ℕ)) × Took rs front old mid × (place ≡ length front) × TakesFaulty mid new kind
+    (rs : List Placed) × (front : List ℕ) × (mid : Option (List ℕ)) × Took rs front old mid × (place ≡ length front)
+    × TakesFaulty mid new kind
     × IfSome old (λ bytes. IsFaultOf bytes place kind)
 
--- why a record isn't taken: its type, its body or a check is at fault
-abbrev pub IsRecordFault : (type : ℕ) (body : List ℕ) → ℕ → State → FaultKind → Type 0
-IsRecordFault type body place s kind.Type = IsRecordType type → ⊥
-IsRecordFault type body place s (kind.Body at) = IsRecordType type × BodyFault type body at
-IsRecordFault type body place s (kind.Check fault) = (r : Record) × BodyOf type r body × (step s place r ≡ Err fault)
-IsRecordFault type body place s kind.Device = ⊥
-IsRecordFault type body place s kind.ZeroLength = ⊥
-IsRecordFault type body place s kind.Truncated = ⊥
-IsRecordFault type body place s kind.Closing = ⊥
-IsRecordFault type body place s kind.NoEnd = ⊥
-IsRecordFault type body place s kind.InputTooLong = ⊥
-
--- taking a record of this type and body into a state: whether it ends the module, or its fault
-abbrev pub TakesRecord : (type : ℕ) (body : List ℕ) → ℕ → (s t : State) → Result Bool ModuleFault → Type 0
-TakesRecord type body place s t (Ok end) = (r : Record) × BodyOf type r body × (is_end r ≡ end) × (step s place r ≡ Ok t)
-TakesRecord type body place s t (Err fault.Memory) = Unit {0}
-TakesRecord type body place s t (Err (fault.Record at kind)) = (at ≡ place) × IsRecordFault type body place s kind
-
 -- The answer is this module, and these bytes are left, unless memory or the source failed.
-abbrev pub IsModule : {A : Type 0} → (A → Module) → Module → (rest : List ℕ) → (new : Option (List ℕ)) → Result A ModuleFault → Type 0
-IsModule view m rest new (Ok x) = (view x ≡ m) × (new ≡ Some rest)
-IsModule view m rest new (Err fault.Memory) = Unit {0}
-IsModule view m rest new (Err (fault.Record place kind.Device)) = Unit {0}
-IsModule view m rest new (Err (fault.Record place kind.ZeroLength)) = ⊥
-IsModule view m rest new (Err (fault.Record place kind.Truncated)) = ⊥
-IsModule view m rest new (Err (fault.Record place kind.Closing)) = ⊥
-IsModule view m rest new (Err (fault.Record place kind.Type)) = ⊥
-IsModule view m rest new (Err (fault.Record place (kind.Body at))) = ⊥
-IsModule view m rest new (Err (fault.Record place (kind.Check f))) = ⊥
-IsModule view m rest new (Err (fault.Record place kind.NoEnd)) = ⊥
-IsModule view m rest new (Err (fault.Record place kind.InputTooLong)) = ⊥
+abbrev pub IsModule : {A : Type 0} → (A → Module) → Module → (rest : List ℕ) → (new : Option (List ℕ))
+    → Result A ModuleFault → Type 0
+IsModule view module' rest new (Ok answer) = (view answer ≡ module') × (new ≡ Some rest)
+IsModule view module' rest new (Err fault.Memory) = Unit {0}
+IsModule view module' rest new (Err (fault.Record place kind.Device)) = Unit {0}
+IsModule view module' rest new (Err (fault.Record place kind.ZeroLength)) = ⊥
+IsModule view module' rest new (Err (fault.Record place kind.Truncated)) = ⊥
+IsModule view module' rest new (Err (fault.Record place kind.Closing)) = ⊥
+IsModule view module' rest new (Err (fault.Record place kind.Type)) = ⊥
+IsModule view module' rest new (Err (fault.Record place (kind.Body at))) = ⊥
+IsModule view module' rest new (Err (fault.Record place (kind.Check check))) = ⊥
+IsModule view module' rest new (Err (fault.Record place kind.NoEnd)) = ⊥
+IsModule view module' rest new (Err (fault.Record place kind.InputTooLong)) = ⊥
 
 -- The answer is this fault at this place, unless memory or the source failed.
 abbrev pub IsFault : {A : Type 0} → ℕ → FaultKind → Result A ModuleFault → Type 0
-IsFault place f (Ok x) = ⊥
-IsFault place f (Err fault.Memory) = Unit {0}
-IsFault place f (Err (fault.Record at kind.Device)) = Unit {0}
-IsFault place f (Err (fault.Record at k)) = (at ≡ place) × (k ≡ f)
+IsFault place reported (Ok answer) = ⊥
+IsFault place reported (Err fault.Memory) = Unit {0}
+IsFault place reported (Err (fault.Record at kind.Device)) = Unit {0}
+IsFault place reported (Err (fault.Record at found)) = (at ≡ place) × (found ≡ reported)

@@ -2,22 +2,41 @@
 use Rattle.std.specs.List.{zip}
 use Rattle.omf_module.specs.declared.lookups.Segment.{Segment}
 use Rattle.omf_module.specs.declared.lookups.Group.{Group}
-use Rattle.omf_module.specs.declared.lookups.External.{External}
+use Rattle.omf_module.specs.declared.lookups.ExternalSymbol.{ExternalSymbol}
 use Rattle.omf_module.specs.declared.lookups.PublicSymbol.{PublicSymbol}
 use Rattle.omf_module.specs.declared.lookups.DataRecord.{DataRecord}
 use Rattle.omf_module.specs.Module as says
 
+-- a segment that the code hands out, as the module says it
 abbrev pub segment_seen : Segment → says.Segment
-segment_seen s = record { name = s.name.now; class = s.class.now; length = s.length; standing = s.standing }
+segment_seen segment =
+    record { name = segment.name.now; class = segment.class.now; length = segment.length; standing = segment.standing }
 
+-- a part of a group
 abbrev pub group_seen : Group → says.Group
-group_seen g = record { name = g.name.now; members = g.members.now }
+group_seen group = record { name = group.name.now; members = group.members.now }
 
-abbrev pub external_seen : External → says.External
-external_seen e = record { name = e.name.now; local = e.local }
+-- an external name
+abbrev pub external_seen : ExternalSymbol → says.ExternalSymbol
+external_seen external = record { name = external.name.now; local = external.local }
 
+-- a public name
 abbrev pub public_seen : PublicSymbol → says.PublicSymbol
-public_seen p = record { name = p.name.now; base = p.base; offset = p.offset; local = p.local }
+public_seen public_symbol =
+    record {
+      name = public_symbol.name.now;
+      base = public_symbol.base;
+      offset = public_symbol.offset;
+      local = public_symbol.local;
+    }
 
+-- a data record: each stored place beside its byte
 abbrev pub data_seen : DataRecord → says.DataRecord
-data_seen d = record { place = d.place; segment = d.segment; offset = d.offset; pairs = zip d.places.now d.bytes.now; fixups = d.fixups.now }
+data_seen data' =
+    record {
+      place = data'.place;
+      segment = data'.segment;
+      offset = data'.offset;
+      pairs = zip data'.places.now data'.bytes.now;
+      fixups = data'.fixups.now;
+    }

@@ -1,5 +1,24 @@
 //! Takes the records of a module one after the other.
-ghost use Rattle.std.specs.Prelude.{Some, None, ◌≡◌, ◌+◌, ◌-◌, ◌++◌, ◌∷◌, [], ◌^◌, ◌<◌, ◌≤◌, ℕ, length, List, map, OnOk, IfOk, slice_set};
+ghost use Rattle.std.specs.Prelude.{
+  Some,
+  None,
+  ◌≡◌,
+  ◌+◌,
+  ◌-◌,
+  ◌++◌,
+  ◌∷◌,
+  [],
+  ◌^◌,
+  ◌<◌,
+  ◌≤◌,
+  ℕ,
+  length,
+  List,
+  map,
+  OnOk,
+  IfOk,
+  slice_set,
+};
 ghost use Rattle.std.specs.Option.{option_to_list};
 ghost use Rattle.omf_record.specs.Record as says;
 ghost use Rattle.omf_record.specs.View.{external_view, public_view, block_view, view};
@@ -8,19 +27,19 @@ ghost use Rattle.omf_record.specs.declared.fields.Subrecord.TheVariants as sub;
 ghost use Rattle.omf_module.specs.Before.{first, entry};
 ghost use Rattle.omf_module.specs.Tables as tables;
 ghost use Rattle.omf_module.specs.Faults as faults;
-ghost use Rattle.omf_module.specs.Running as running;
+ghost use Rattle.omf_module.specs.inside.Running as running;
 ghost use Rattle.omf_module.specs.Sound.{IsSound};
-ghost use Rattle.omf_module.specs.Building.{Gives, state, contents_of};
+ghost use Rattle.omf_module.specs.inside.Building.{Gives, state, contents_of};
 
-use crate::checks::{holds_base, misses, passes, slot_of, smaller, when};
+use crate::checks::{holds_base, is_beyond, misses, smaller, when};
 use crate::contents::{Content, contents_of_blocks, lies_in};
 use crate::fault::CheckFault;
 use crate::lookups::Module;
 use crate::store::Store;
-use crate::{Base, FixupFrame, FixupTarget, ResolvedFixup, Start};
+use crate::{FixupFrame, FixupTarget, ResolvedFixup, Start, SymbolBase};
 use omf_record::{
     Block, External, Fixup, FrameDatum, FrameMethod, Public, PublicBase, Record, Reference,
-    SegmentDefinition, Subrecord, TargetDatum, TargetMethod, expanded_len,
+    SegmentDefinition, Subrecord, TargetDatum, TargetMethod, expanded_len, thread_number,
 };
 use std::alloc::{AllocError, AllocFailed, Allocator};
 
@@ -63,18 +82,20 @@ pub struct Builder<A: Allocator + Copy> {
     start: Option<Start>,
 }
 
-fn base_of(base: PublicBase) -> Base
+/// What the offset of a public symbol counts from.
+fn base_of(base: PublicBase) -> SymbolBase
     ensures { result ≡ tables.base_of base }
 {
     match base {
-        PublicBase::AtFrame { frame, .. } => Base::AtFrame(frame),
+        PublicBase::AtFrame { frame, .. } => SymbolBase::AtFrame(frame),
         PublicBase::InSegment { group, segment } => {
             let group = if group == 0 { None } else { Some(group - 1) };
-            Base::InSegment(segment.saturating_sub(1), group)
+            SymbolBase::InSegment(segment.saturating_sub(1), group)
         }
     }
 }
 
+/// Keeps the names of LNAMES.
 fn add_names<A: Allocator + Copy>(store: &mut Store<A>, names: &[&[u8]]) -> Result<(), AllocError>
     ensures { OnOk result (store.new ≡ record store.old { names = store.old.names ++ map (λ n. n.now) names.now }) }
 {
@@ -84,12 +105,18 @@ fn add_names<A: Allocator + Copy>(store: &mut Store<A>, names: &[&[u8]]) -> Resu
     Ok(())
 }
 
+/// Keeps the names of EXTDEF or LEXTDEF.
 fn add_externals<A: Allocator + Copy>(
     store: &mut Store<A>,
     local: bool,
     names: &[External<'_>],
 ) -> Result<(), AllocError>
-    ensures { OnOk result (store.new ≡ record store.old { externals = store.old.externals ++ map (tables.external_of local) (map external_view names.now) }) }
+    ensures { OnOk result
+        (store.new
+        ≡ record store.old {
+          externals = store.old.externals
+              ++ map (tables.external_of local) (map external_view names.now);
+        }) }
 {
     for external in names {
         store.push_external(external.name, local)?;
@@ -97,13 +124,19 @@ fn add_externals<A: Allocator + Copy>(
     Ok(())
 }
 
+/// Keeps the names of PUBDEF or LPUBDEF.
 fn add_publics<A: Allocator + Copy>(
     store: &mut Store<A>,
     local: bool,
     base: PublicBase,
     publics: &[Public<'_>],
 ) -> Result<(), AllocError>
-    ensures { OnOk result (store.new ≡ record store.old { publics = store.old.publics ++ map (tables.public_of local base) (map public_view publics.now) }) }
+    ensures { OnOk result
+        (store.new
+        ≡ record store.old {
+          publics = store.old.publics
+              ++ map (tables.public_of local base) (map public_view publics.now);
+        }) }
 {
     let base = base_of(base);
     for public in publics {
@@ -112,91 +145,99 @@ fn add_publics<A: Allocator + Copy>(
     Ok(())
 }
 
+/// The method of a frame, by the threads as they are set; none where its thread isn't.
 fn frame_used(threads: &[Option<FrameMethod>; 4], datum: FrameDatum) -> Option<FrameMethod>
     ensures { result ≡ tables.frame_used (running.slot threads.now) datum }
 {
     match datum {
-        FrameDatum::Thread(thread) => threads[slot_of(thread)],
+        FrameDatum::Thread(thread) => threads[usize::from(thread_number(thread))],
         FrameDatum::By(method) => Some(method),
     }
 }
 
+/// The method of a target, by the threads as they are set; none where its thread isn't.
 fn target_used(threads: &[Option<TargetMethod>; 4], datum: TargetDatum) -> Option<TargetMethod>
     ensures { result ≡ tables.target_used (running.slot threads.now) datum }
 {
     match datum {
-        TargetDatum::Thread(thread) => threads[slot_of(thread)],
+        TargetDatum::Thread(thread) => threads[usize::from(thread_number(thread))],
         TargetDatum::By(method) => Some(method),
     }
 }
 
+/// The frame by its method. The index of the method counts from 1.
 fn frame_of(method: FrameMethod) -> FixupFrame
     ensures { result ≡ tables.frame_of method }
 {
     match method {
-        FrameMethod::Segment(i) => FixupFrame::OfSegment(i.saturating_sub(1)),
-        FrameMethod::Group(i) => FixupFrame::OfGroup(i.saturating_sub(1)),
-        FrameMethod::External(i) => FixupFrame::OfExternal(i.saturating_sub(1)),
+        FrameMethod::Segment(index) => FixupFrame::OfSegment(index.saturating_sub(1)),
+        FrameMethod::Group(index) => FixupFrame::OfGroup(index.saturating_sub(1)),
+        FrameMethod::External(index) => FixupFrame::OfExternal(index.saturating_sub(1)),
         FrameMethod::Location => FixupFrame::OfLocation,
         FrameMethod::Target => FixupFrame::OfTarget,
     }
 }
 
+/// The target by its method. The index of the method counts from 1.
 fn target_of(method: TargetMethod) -> FixupTarget
     ensures { result ≡ tables.target_of method }
 {
     match method {
-        TargetMethod::Segment(i) => FixupTarget::Segment(i.saturating_sub(1)),
-        TargetMethod::Group(i) => FixupTarget::Group(i.saturating_sub(1)),
-        TargetMethod::External(i) => FixupTarget::External(i.saturating_sub(1)),
+        TargetMethod::Segment(index) => FixupTarget::Segment(index.saturating_sub(1)),
+        TargetMethod::Group(index) => FixupTarget::Group(index.saturating_sub(1)),
+        TargetMethod::External(index) => FixupTarget::External(index.saturating_sub(1)),
     }
 }
 
+/// The fix-up by the methods that it uses; none where a thread isn't set.
 fn fixup_of(
     place: u64,
-    x: &Fixup,
+    fixup: &Fixup,
     frame: Option<FrameMethod>,
     target: Option<TargetMethod>,
 ) -> Option<ResolvedFixup>
-    ensures { result ≡ tables.fixup_of place x.now frame target }
+    ensures { result ≡ tables.fixup_of place fixup.now frame target }
 {
     Some(ResolvedFixup {
         place,
-        self_relative: x.self_relative,
-        location: x.location,
-        offset: x.offset,
+        self_relative: fixup.self_relative,
+        location: fixup.location,
+        offset: fixup.offset,
         frame: frame_of(frame?),
         target: target_of(target?),
-        displacement: x.reference.displacement.unwrap_or(0),
+        displacement: fixup.reference.displacement.unwrap_or(0),
     })
 }
 
+/// The start by the methods that it uses; none where a thread isn't set.
 fn start_of(
     place: u64,
-    r: &Reference,
+    reference: &Reference,
     frame: Option<FrameMethod>,
     target: Option<TargetMethod>,
 ) -> Option<Start>
-    ensures { result ≡ tables.start_of place r.now frame target }
+    ensures { result ≡ tables.start_of place reference.now frame target }
 {
     Some(Start {
         place,
         frame: frame_of(frame?),
         target: target_of(target?),
-        displacement: r.displacement.unwrap_or(0),
+        displacement: reference.displacement.unwrap_or(0),
     })
 }
 
-fn relative_fault(x: &Fixup) -> Option<CheckFault>
-    ensures { result ≡ faults.relative_fault x.now }
+/// The fault of a base that would be relative to itself.
+fn relative_fault(fixup: &Fixup) -> Option<CheckFault>
+    ensures { result ≡ faults.relative_fault fixup.now }
 {
-    if x.self_relative {
-        when(holds_base(x.location), CheckFault::SelfRelativeBase)
+    if fixup.self_relative {
+        when(holds_base(fixup.location), CheckFault::SelfRelativeBase)
     } else {
         None
     }
 }
 
+/// The fault of a start with the frame of its location, which it hasn't.
 fn location_fault(frame: Option<FrameMethod>) -> Option<CheckFault>
     ensures { result ≡ faults.location_fault frame }
 {
@@ -206,31 +247,34 @@ fn location_fault(frame: Option<FrameMethod>) -> Option<CheckFault>
     }
 }
 
+/// The fault of a first record that isn't THEADR.
 #[tactic(auto, unfolding(omf_record::specs::View::view))]
-fn header_fault<A: Allocator + Copy>(begun: bool, r: &Record<'_, A>) -> Option<CheckFault>
-    ensures { result ≡ faults.header_fault begun (view r.now) }
+fn header_fault<A: Allocator + Copy>(begun: bool, record: &Record<'_, A>) -> Option<CheckFault>
+    ensures { result ≡ faults.header_fault begun (view «record».now) }
 {
-    match r {
+    match record {
         Record::Theadr { .. } => None,
         _ => when(!begun, CheckFault::NotHeader),
     }
 }
 
 impl<A: Allocator + Copy> LastData<A> {
-    fn place_fault(&self, x: &Fixup) -> Option<CheckFault>
-        ensures { result ≡ faults.place_fault (contents_of self.now) x.now }
+    /// The fault of a fix-up's location against the contents.
+    fn place_fault(&self, fixup: &Fixup) -> Option<CheckFault>
+        ensures { result ≡ faults.place_fault (contents_of self.now) fixup.now }
     {
-        let width = usize::from(x.location.width());
+        let width = usize::from(fixup.location.width());
         let lies = match self {
             LastData::Absent => return Some(CheckFault::FixupBeforeData),
-            LastData::Stored(len) => usize::from(x.offset) + width <= *len,
-            LastData::Repeated(contents) => lies_in(contents, usize::from(x.offset), width),
+            LastData::Stored(len) => usize::from(fixup.offset) + width <= *len,
+            LastData::Repeated(contents) => lies_in(contents, usize::from(fixup.offset), width),
         };
         when(!lies, CheckFault::FixupPlace)
     }
 }
 
 impl<A: Allocator + Copy> Builder<A> {
+    /// The fault of an index that has to mean a segment.
     fn segment_index(&self, index: u16) -> Option<CheckFault>
         ensures { result ≡ faults.when (faults.misses (state self.now).tables.segments index) CheckFault.SegmentIndex }
     {
@@ -238,6 +282,7 @@ impl<A: Allocator + Copy> Builder<A> {
         when(misses(count, index), CheckFault::SegmentIndex)
     }
 
+    /// The fault of an index that has to mean a group.
     fn group_index(&self, index: u16) -> Option<CheckFault>
         ensures { result ≡ faults.when (faults.misses (state self.now).tables.groups index) CheckFault.GroupIndex }
     {
@@ -245,13 +290,16 @@ impl<A: Allocator + Copy> Builder<A> {
         when(misses(count, index), CheckFault::GroupIndex)
     }
 
+    /// The fault of an index that has to mean an external.
     fn external_index(&self, index: u16) -> Option<CheckFault>
-        ensures { result ≡ faults.when (faults.misses (state self.now).tables.externals index) CheckFault.ExternalIndex }
+        ensures { result
+            ≡ faults.when (faults.misses (state self.now).tables.externals index) CheckFault.ExternalIndex }
     {
         let count = self.store.external_count();
         when(misses(count, index), CheckFault::ExternalIndex)
     }
 
+    /// The fault of a frame by its method; none: its thread isn't set.
     fn frame_fault(&self, frame: Option<FrameMethod>) -> Option<CheckFault>
         ensures { result ≡ faults.frame_fault (state self.now).tables frame }
     {
@@ -264,6 +312,7 @@ impl<A: Allocator + Copy> Builder<A> {
         }
     }
 
+    /// The fault of a target by its method; none: its thread isn't set.
     fn target_fault(&self, target: Option<TargetMethod>) -> Option<CheckFault>
         ensures { result ≡ faults.target_fault (state self.now).tables target }
     {
@@ -277,21 +326,23 @@ impl<A: Allocator + Copy> Builder<A> {
         }
     }
 
+    /// The fault of a fix-up by the methods that it uses.
     fn fixup_fault(
         &self,
         frame: Option<FrameMethod>,
         target: Option<TargetMethod>,
-        x: &Fixup,
+        fixup: &Fixup,
     ) -> Option<CheckFault>
-        ensures { result ≡ faults.fixup_fault (state self.now).tables frame target (state self.now).contents x.now }
+        ensures { result ≡ faults.fixup_fault (state self.now).tables frame target (state self.now).contents fixup.now }
     {
-        let of_place = smaller(self.last_data.place_fault(x), relative_fault(x));
+        let of_place = smaller(self.last_data.place_fault(fixup), relative_fault(fixup));
         smaller(
             self.frame_fault(frame),
             smaller(self.target_fault(target), of_place),
         )
     }
 
+    /// The fault of a start by the methods that it uses.
     fn start_fault(
         &self,
         frame: Option<FrameMethod>,
@@ -303,61 +354,68 @@ impl<A: Allocator + Copy> Builder<A> {
         smaller(self.frame_fault(frame), of_target)
     }
 
-    #[tactic(auto, using(crate::proofs::LastData::none_to_last), unfolding(crate::specs::Running::step_subrecord))]
-    fn add_fixup(&mut self, place: u64, x: &Fixup) -> Result<(), AddFault>
-        ensures { Gives (λ _. state self.new) result (running.step_subrecord place (state self.old) (sub.Fixup x.now)) }
+    /// Takes a fix-up, which goes to the last data record.
+    #[tactic(auto, using(crate::proofs::LastData::none_to_last), unfolding(crate::specs::inside::Running::step_subrecord))]
+    fn add_fixup(&mut self, place: u64, fixup: &Fixup) -> Result<(), AddFault>
+        ensures { Gives (λ _. state self.new) result
+            (running.step_subrecord place (state self.old) (sub.Fixup fixup.now)) }
     {
-        let frame = frame_used(&self.frame_threads, x.reference.frame);
-        let target = target_used(&self.target_threads, x.reference.target);
-        if let Some(fault) = self.fixup_fault(frame, target, x) {
+        let frame = frame_used(&self.frame_threads, fixup.reference.frame);
+        let target = target_used(&self.target_threads, fixup.reference.target);
+        if let Some(fault) = self.fixup_fault(frame, target, fixup) {
             return Err(AddFault::Check(fault));
         }
-        if let Some(fixup) = fixup_of(place, x, frame, target) {
-            self.store.push_fixup(fixup)?;
+        if let Some(resolved) = fixup_of(place, fixup, frame, target) {
+            self.store.push_fixup(resolved)?;
         }
         Ok(())
     }
 
-    #[tactic(auto, unfolding(crate::specs::Running::step_subrecord))]
-    fn add_subrecord(&mut self, place: u64, x: &Subrecord) -> Result<(), AddFault>
-        ensures { Gives (λ _. state self.new) result (running.step_subrecord place (state self.old) x.now) }
+    /// Takes one subrecord of FIXUPP: it sets a thread or is a fix-up.
+    #[tactic(auto, unfolding(crate::specs::inside::Running::step_subrecord))]
+    fn add_subrecord(&mut self, place: u64, subrecord: &Subrecord) -> Result<(), AddFault>
+        ensures { Gives (λ _. state self.new) result (running.step_subrecord place (state self.old) subrecord.now) }
     {
-        match x {
+        match subrecord {
             Subrecord::SetFrame(thread, method) => {
-                self.frame_threads[slot_of(*thread)] = Some(*method);
+                self.frame_threads[usize::from(thread_number(*thread))] = Some(*method);
                 Ok(())
             }
             Subrecord::SetTarget(thread, method) => {
-                self.target_threads[slot_of(*thread)] = Some(*method);
+                self.target_threads[usize::from(thread_number(*thread))] = Some(*method);
                 Ok(())
             }
-            Subrecord::Fixup(x) => self.add_fixup(place, x),
+            Subrecord::Fixup(fixup) => self.add_fixup(place, fixup),
         }
     }
 
+    /// Takes FIXUPP.
     fn add_subrecords(&mut self, place: u64, subrecords: &[Subrecord]) -> Result<(), AddFault>
         ensures { Gives (λ _. state self.new) result (running.step_subrecords place (state self.old) subrecords.now) }
     {
-        for x in subrecords {
-            self.add_subrecord(place, x)?;
+        for subrecord in subrecords {
+            self.add_subrecord(place, subrecord)?;
         }
         Ok(())
     }
 
-    #[tactic(auto, unfolding(crate::specs::Running::step_record))]
-    fn add_segment(&mut self, place: u64, d: &SegmentDefinition) -> Result<(), AddFault>
-        ensures { Gives (λ _. state self.new) result (running.step_record place (state self.old) (says.Segdef d.now)) }
+    /// Takes SEGDEF.
+    #[tactic(auto, unfolding(crate::specs::inside::Running::step_record))]
+    fn add_segment(&mut self, place: u64, definition: &SegmentDefinition) -> Result<(), AddFault>
+        ensures { Gives (λ _. state self.new) result
+            (running.step_record place (state self.old) (says.Segdef definition.now)) }
     {
         let names = self.store.name_count();
-        if passes(names, d.name) || passes(names, d.class) {
+        if is_beyond(names, definition.name) || is_beyond(names, definition.class) {
             return Err(AddFault::Check(CheckFault::NameIndex));
         }
-        self.store.push_segment(d)?;
+        self.store.push_segment(definition)?;
         Ok(())
     }
 
+    /// The first fault of a group's name and components.
     fn group_fault(&self, name: u16, components: &[u16]) -> Option<CheckFault>
-        ensures { result ≡ faults.group_fault (state self.now).tables name components.now }
+        ensures { result ≡ running.group_fault (state self.now).tables name components.now }
     {
         match when(misses(self.store.name_count(), name), CheckFault::NameIndex) {
             Some(fault) => Some(fault),
@@ -365,7 +423,8 @@ impl<A: Allocator + Copy> Builder<A> {
         }
     }
 
-    #[tactic(auto, unfolding(crate::specs::Running::step_record))]
+    /// Takes GRPDEF.
+    #[tactic(auto, unfolding(crate::specs::inside::Running::step_record))]
     fn add_group(
         &mut self,
         alloc: A,
@@ -373,7 +432,8 @@ impl<A: Allocator + Copy> Builder<A> {
         name: u16,
         components: &[u16],
     ) -> Result<(), AddFault>
-        ensures { Gives (λ _. state self.new) result (running.step_record place (state self.old) (says.Grpdef name components.now)) }
+        ensures { Gives (λ _. state self.new) result
+            (running.step_record place (state self.old) (says.Grpdef name components.now)) }
     {
         if let Some(fault) = self.group_fault(name, components) {
             return Err(AddFault::Check(fault));
@@ -382,25 +442,27 @@ impl<A: Allocator + Copy> Builder<A> {
         Ok(())
     }
 
+    /// The fault of what the offsets of public symbols count from.
     fn public_fault(&self, base: PublicBase) -> Option<CheckFault>
         ensures { result ≡ faults.public_fault (state self.now).tables base }
     {
         let groups = self.store.group_count();
         match base {
             PublicBase::AtFrame { group, .. } => {
-                when(passes(groups, group), CheckFault::GroupIndex)
+                when(is_beyond(groups, group), CheckFault::GroupIndex)
             }
             PublicBase::InSegment { group, segment } => smaller(
                 when(
                     misses(self.store.segment_count(), segment),
                     CheckFault::SegmentIndex,
                 ),
-                when(passes(groups, group), CheckFault::GroupIndex),
+                when(is_beyond(groups, group), CheckFault::GroupIndex),
             ),
         }
     }
 
-    #[tactic(auto, unfolding(crate::specs::Running::step_record))]
+    /// Takes PUBDEF or LPUBDEF.
+    #[tactic(auto, unfolding(crate::specs::inside::Running::step_record))]
     fn add_publics(
         &mut self,
         place: u64,
@@ -408,7 +470,8 @@ impl<A: Allocator + Copy> Builder<A> {
         base: PublicBase,
         publics: &[Public<'_>],
     ) -> Result<(), AddFault>
-        ensures { Gives (λ _. state self.new) result (running.step_record place (state self.old) (says.Pubdef local base (map public_view publics.now))) }
+        ensures { Gives (λ _. state self.new) result
+            (running.step_record place (state self.old) (says.Pubdef local base (map public_view publics.now))) }
     {
         if let Some(fault) = self.public_fault(base) {
             return Err(AddFault::Check(fault));
@@ -417,7 +480,8 @@ impl<A: Allocator + Copy> Builder<A> {
         Ok(())
     }
 
-    #[tactic(auto, unfolding(crate::specs::Running::step_record))]
+    /// Takes LEDATA.
+    #[tactic(auto, unfolding(crate::specs::inside::Running::step_record))]
     fn add_bytes(
         &mut self,
         alloc: A,
@@ -427,7 +491,8 @@ impl<A: Allocator + Copy> Builder<A> {
         bytes: &[u8],
     ) -> Result<(), AddFault>
         requires { length bytes.now ≤ 65534 }
-        ensures { Gives (λ _. state self.new) result (running.step_record place (state self.old) (says.Ledata segment offset bytes.now)) }
+        ensures { Gives (λ _. state self.new) result
+            (running.step_record place (state self.old) (says.Ledata segment offset bytes.now)) }
     {
         let len = bytes.len() as u32;
         if let Some(fault) = self.store.data_fault(segment, offset, len) {
@@ -439,23 +504,25 @@ impl<A: Allocator + Copy> Builder<A> {
         Ok(())
     }
 
-    #[tactic(auto, unfolding(crate::specs::Running::step_record))]
-    fn add_start(&mut self, place: u64, main: bool, r: &Reference) -> Result<(), AddFault>
-        ensures { Gives (λ _. state self.new) result (running.step_record place (state self.old) (says.Modend main (Some r.now))) }
+    /// Takes MODEND with a start.
+    #[tactic(auto, unfolding(crate::specs::inside::Running::step_record))]
+    fn add_start(&mut self, place: u64, main: bool, reference: &Reference) -> Result<(), AddFault>
+        ensures { Gives (λ _. state self.new) result
+            (running.step_record place (state self.old) (says.Modend main (Some reference.now))) }
     {
-        let _main = main;
-        let frame = frame_used(&self.frame_threads, r.frame);
-        let target = target_used(&self.target_threads, r.target);
+        let frame = frame_used(&self.frame_threads, reference.frame);
+        let target = target_used(&self.target_threads, reference.target);
         if let Some(fault) = self.start_fault(frame, target) {
             return Err(AddFault::Check(fault));
         }
-        if let Some(start) = start_of(place, r, frame, target) {
+        if let Some(start) = start_of(place, reference, frame, target) {
             self.start = Some(start);
         }
         Ok(())
     }
 
-    #[tactic(auto, unfolding(crate::specs::Running::step_record))]
+    /// Takes LIDATA.
+    #[tactic(auto, unfolding(crate::specs::inside::Running::step_record))]
     fn add_blocks(
         &mut self,
         alloc: A,
@@ -465,7 +532,8 @@ impl<A: Allocator + Copy> Builder<A> {
         blocks: &[Block<'_, A>],
     ) -> Result<(), AddFault>
         requires { blocks_len (map block_view blocks.now) ≤ 65534 }
-        ensures { Gives (λ _. state self.new) result (running.step_record place (state self.old) (says.Lidata segment offset (map block_view blocks.now))) }
+        ensures { Gives (λ _. state self.new) result
+            (running.step_record place (state self.old) (says.Lidata segment offset (map block_view blocks.now))) }
     {
         let count = expanded_len(blocks);
         if let Some(fault) = self.store.data_fault(segment, offset, count) {
@@ -484,23 +552,18 @@ impl<A: Allocator + Copy> Builder<A> {
         Ok(())
     }
 
-    #[tactic(auto, unfolding(crate::specs::Running::step_record, omf_record::specs::View::view, omf_record::specs::Expansion::data_len))]
-    fn add_record(&mut self, alloc: A, place: u64, r: &Record<'_, A>) -> Result<(), AddFault>
-        requires { data_len (view r.now) ≤ 65534 }
-        ensures { Gives (λ _. state self.new) result (running.step_record place (state self.old) (view r.now)) }
+    /// Takes a record that may stand here.
+    #[tactic(auto, unfolding(crate::specs::inside::Running::step_record, omf_record::specs::View::view, omf_record::specs::Expansion::data_len))]
+    fn add_record(&mut self, alloc: A, place: u64, record: &Record<'_, A>) -> Result<(), AddFault>
+        requires { data_len (view «record».now) ≤ 65534 }
+        ensures { Gives (λ _. state self.new) result (running.step_record place (state self.old) (view «record».now)) }
     {
-        match r {
+        match record {
             Record::Theadr { .. } | Record::Coment { .. } | Record::Linnum { .. } => Ok(()),
-            Record::Lnames { names } => {
-                add_names(&mut self.store, names)?;
-                Ok(())
-            }
+            Record::Lnames { names } => Ok(add_names(&mut self.store, names)?),
             Record::Segdef { segment } => self.add_segment(place, segment),
             Record::Grpdef { name, segments } => self.add_group(alloc, place, *name, segments),
-            Record::Extdef { local, names } => {
-                add_externals(&mut self.store, *local, names)?;
-                Ok(())
-            }
+            Record::Extdef { local, names } => Ok(add_externals(&mut self.store, *local, names)?),
             Record::Pubdef {
                 local,
                 base,
@@ -520,22 +583,22 @@ impl<A: Allocator + Copy> Builder<A> {
             Record::Modend { start: None, .. } => Ok(()),
             Record::Modend {
                 main,
-                start: Some(r),
-            } => self.add_start(place, *main, r),
+                start: Some(reference),
+            } => self.add_start(place, *main, reference),
         }
     }
 
     /// Takes one more record. What is kept stands for the records so far and this one, or the record has this fault.
-    #[tactic(auto, unfolding(crate::specs::Running::step))]
-    pub fn add(&mut self, alloc: A, place: u64, r: &Record<'_, A>) -> Result<(), AddFault>
-        requires { data_len (view r.now) ≤ 65534 }
-        ensures { Gives (λ _. state self.new) result (running.step (state self.old) place (view r.now)) }
+    #[tactic(auto, unfolding(crate::specs::inside::Running::step))]
+    pub fn add(&mut self, alloc: A, place: u64, record: &Record<'_, A>) -> Result<(), AddFault>
+        requires { data_len (view «record».now) ≤ 65534 }
+        ensures { Gives (λ _. state self.new) result (running.step (state self.old) place (view «record».now)) }
     {
-        if let Some(fault) = header_fault(self.begun, r) {
+        if let Some(fault) = header_fault(self.begun, record) {
             return Err(AddFault::Check(fault));
         }
         self.begun = true;
-        self.add_record(alloc, place, r)
+        self.add_record(alloc, place, record)
     }
 
     /// What is kept of no record.

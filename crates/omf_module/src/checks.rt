@@ -2,21 +2,20 @@
 ghost use Rattle.std.specs.Prelude.{◌≡◌, ◌+◌, ◌==◌, ◌||◌, ◌<◌, nat_lt, nat_le, length, List};
 ghost use Rattle.std.specs.Option.{option_copied};
 ghost use Rattle.omf_module.specs.Before.{entry};
-ghost use Rattle.omf_record.specs.Numbers.{thread_number};
 ghost use Rattle.omf_module.specs.Faults as faults;
 ghost use Rattle.omf_module.specs.Faults.{◌⊓◌};
 
 use crate::Standing;
 use crate::fault::CheckFault;
-use omf_record::{Location, ThreadNumber};
+use omf_record::Location;
 
 /// Of two faults the one with the smaller number.
-pub fn smaller(a: Option<CheckFault>, b: Option<CheckFault>) -> Option<CheckFault>
-    ensures { result ≡ a ⊓ b }
+pub fn smaller(one: Option<CheckFault>, other: Option<CheckFault>) -> Option<CheckFault>
+    ensures { result ≡ one ⊓ other }
 {
-    match (a, b) {
-        (None, b) => b,
-        (Some(f), None) => Some(f),
+    match (one, other) {
+        (None, other) => other,
+        (one, None) => one,
         (Some(f), Some(g)) => if f.number() <= g.number() {
             Some(f)
         } else {
@@ -32,51 +31,41 @@ pub fn when(test: bool, fault: CheckFault) -> Option<CheckFault>
     if test { Some(fault) } else { None }
 }
 
-/// An index that has to mean something in a list of this length, and doesn't.
-pub fn misses(len: usize, index: u16) -> bool
-    ensures { result ≡ (index == 0 || nat_lt len index) }
-{
-    index == 0 || len < usize::from(index)
-}
-
-/// An index that may be 0, above a list of this length.
-pub fn passes(len: usize, index: u16) -> bool
+/// Whether an index that may be 0 is beyond the end of a list of this length.
+pub fn is_beyond(len: usize, index: u16) -> bool
     ensures { result ≡ nat_lt len index }
 {
     len < usize::from(index)
 }
 
-/// What an index means.
+/// Whether an index that has to mean something in a list of this length is 0 or beyond its end.
+pub fn misses(len: usize, index: u16) -> bool
+    ensures { result ≡ (index == 0 || nat_lt len index) }
+{
+    index == 0 || is_beyond(len, index)
+}
+
+/// What an index means: the n-th of the list, counted from 1.
 pub fn entry<T>(list: &[T], index: u16) -> Option<&T>
     ensures { option_copied result ≡ entry list.now index }
 {
-    if index == 0 || list.len() < usize::from(index) {
+    if misses(list.len(), index) {
         None
     } else {
         Some(&list[usize::from(index) - 1])
     }
 }
 
+/// Whether a segment is absolute.
 pub fn is_absolute(standing: Standing) -> bool
     ensures { result ≡ faults.is_absolute standing }
 {
     matches!(standing, Standing::Absolute { .. })
 }
 
+/// Whether a location holds a base, which can't be relative to itself.
 pub fn holds_base(location: Location) -> bool
     ensures { result ≡ faults.holds_base location }
 {
     matches!(location, Location::Base | Location::Pointer)
-}
-
-pub fn slot_of(thread: ThreadNumber) -> usize
-    ensures number { result ≡ thread_number thread }
-    ensures small { result < 4 }
-{
-    match thread {
-        ThreadNumber::Zero => 0,
-        ThreadNumber::One => 1,
-        ThreadNumber::Two => 2,
-        ThreadNumber::Three => 3,
-    }
 }

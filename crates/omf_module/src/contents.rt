@@ -4,7 +4,7 @@ ghost use Rattle.omf_record.specs.Record.{blocks_of};
 ghost use Rattle.omf_record.specs.View.{block_view};
 ghost use Rattle.omf_record.specs.Expansion.{all_stored_len, all_contents_at, blocks_len, contents};
 ghost use Rattle.omf_module.specs.Faults as faults;
-ghost use Rattle.omf_module.specs.Contents.{pair};
+ghost use Rattle.omf_module.specs.inside.Contents.{pair};
 
 use omf_record::Block;
 use std::alloc::{AllocError, Allocator};
@@ -16,6 +16,7 @@ pub struct Content {
     len: usize,
 }
 
+/// Whether so many stored places from one on lie wholly in a content.
 fn lies_within(content: Content, at: usize, width: usize) -> bool
     ensures { result ≡ faults.lies_within at width (pair content) }
 {
@@ -42,7 +43,8 @@ fn list_contents<A: Allocator + Copy>(
 ) -> Result<usize, AllocError>
     requires { place + all_stored_len (blocks_of (map block_view blocks.now)) < 2 ^ 32 }
     ensures { IfOk result (λ end. (end ≡ place + all_stored_len (blocks_of (map block_view blocks.now)))
-        × (map pair list.new.items ≡ map pair list.old.items ++ all_contents_at place (blocks_of (map block_view blocks.now)))) }
+        × (map pair list.new.items
+        ≡ map pair list.old.items ++ all_contents_at place (blocks_of (map block_view blocks.now)))) }
 {
     let mut place = place;
     for block in blocks {

@@ -9,43 +9,43 @@ use thiserror::Error;
 #[derive(Clone, Copy, Debug, PartialEq, Eq, Error)]
 pub enum CheckFault {
     /// 7: the first record isn't THEADR.
-    #[error("the first record isn't a header")]
+    #[error("the first record is no THEADR")]
     NotHeader,
     /// 10: an index of a name that isn't listed.
-    #[error("no such name")]
+    #[error("a name index is out of range")]
     NameIndex,
     /// 11: an index of a segment that isn't defined.
-    #[error("no such segment")]
+    #[error("a segment index is out of range")]
     SegmentIndex,
     /// 12: an index of a group that isn't defined.
-    #[error("no such group")]
+    #[error("a group index is out of range")]
     GroupIndex,
     /// 13: an index of an external that isn't defined.
-    #[error("no such external name")]
+    #[error("an external index is out of range")]
     ExternalIndex,
     /// 14: a fix-up or start uses a thread that no earlier subrecord set.
-    #[error("the thread isn't set")]
+    #[error("a thread isn't set")]
     ThreadNotSet,
     /// 15: a fix-up with no data record before it.
-    #[error("a fix-up before any data")]
+    #[error("a fix-up stands before any data")]
     FixupBeforeData,
     /// 16: a fix-up's location isn't wholly in the data, or not wholly in one content.
-    #[error("a fix-up outside the data")]
+    #[error("a fix-up lies outside the data")]
     FixupPlace,
     /// 17: data passes the segment's length.
-    #[error("data outside its segment")]
+    #[error("data passes the end of its segment")]
     DataOutside,
     /// 18: data for an absolute segment.
-    #[error("data in an absolute segment")]
+    #[error("data is for an absolute segment")]
     DataInAbsolute,
     /// 19: a self-relative fix-up of a base.
-    #[error("a self-relative base")]
+    #[error("a self-relative fix-up is of a base")]
     SelfRelativeBase,
     /// 20: the start's frame is that of its location.
-    #[error("a start without a location")]
+    #[error("the start's frame is that of a location")]
     FrameOfLocation,
     /// 21: a member of a group is an absolute segment.
-    #[error("an absolute segment in a group")]
+    #[error("a group has an absolute segment")]
     GroupOfAbsolute,
 }
 
@@ -88,7 +88,7 @@ pub enum FaultKind {
     #[error("its closing byte is wrong")]
     Closing,
     /// 5: the type isn't one of the fourteen.
-    #[error("its type isn't known")]
+    #[error("its type is unknown")]
     Type,
     /// 6: the body isn't one of its type, from this byte of it on.
     #[error("its body is wrong at byte {at}")]
@@ -97,10 +97,10 @@ pub enum FaultKind {
     #[error("{0}")]
     Check(CheckFault),
     /// 8: the input ends between records before MODEND.
-    #[error("the input ends before the module")]
+    #[error("the input ends before MODEND")]
     NoEnd,
     /// 41: the record would begin at a place that is too great.
-    #[error("it begins too far into the input")]
+    #[error("it would begin too late in the input")]
     InputTooLong,
 }
 

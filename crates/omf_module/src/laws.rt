@@ -6,15 +6,18 @@ ghost use Rattle.omf_module.specs.Bytes.{ModuleBytes, ReadingFault};
 
 /// Bytes begin with at most one whole sound module.
 pub fn one_module()
-    ensures { (rs ss : List Placed) (x y r s : List ℕ) → ModuleBytes rs x → ModuleBytes ss y → x ++ r ≡ y ++ s → (rs ≡ ss) × (x ≡ y) × (r ≡ s) }
+    ensures { (rs ss : List Placed) (x y r s : List ℕ) → ModuleBytes rs x → ModuleBytes ss y → x ++ r ≡ y ++ s
+        → (rs ≡ ss) × (x ≡ y) × (r ≡ s) }
 {}
 
 /// Bytes that begin with a whole sound module have no reading fault.
 pub fn no_fault()
-    ensures { (rs : List Placed) (bytes rest : List ℕ) (place : ℕ) (fault : FaultKind) → ModuleBytes rs bytes → ReadingFault (bytes ++ rest) place fault → ⊥ }
+    ensures { (rs : List Placed) (bytes rest : List ℕ) (place : ℕ) (fault : FaultKind) → ModuleBytes rs bytes
+        → ReadingFault (bytes ++ rest) place fault → ⊥ }
 {}
 
 /// Bytes have at most one reading fault, at one place.
 pub fn one_fault()
-    ensures { (bytes : List ℕ) (p q : ℕ) (f g : FaultKind) → ReadingFault bytes p f → ReadingFault bytes q g → (p ≡ q) × (f ≡ g) }
+    ensures { (bytes : List ℕ) (p q : ℕ) (f g : FaultKind) → ReadingFault bytes p f → ReadingFault bytes q g → (p ≡ q)
+        × (f ≡ g) }
 {}

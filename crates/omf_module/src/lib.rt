@@ -4,17 +4,19 @@
 mod builder;
 mod checks;
 mod contents;
+mod entries;
 mod fault;
 mod laws;
 mod lookups;
+mod pieces;
 mod reading;
 mod store;
 
 pub use fault::{CheckFault, FaultKind, ModuleFault};
 pub use laws::{no_fault, one_fault, one_module};
 pub use lookups::{
-    DataRecord, DataRecords, External, Externals, Group, Groups, Module, PublicSymbol, Publics,
-    Segment, Segments, all_promise,
+    DataRecord, DataRecords, ExternalSymbol, Externals, Group, Groups, Module, PublicSymbol,
+    Publics, Segment, Segments, all_promise,
 };
 use omf_record::Location;
 pub use reading::read_module;
@@ -39,7 +41,7 @@ pub enum Standing {
 
 /// What a public symbol's offset counts from. Segments and groups count from 0.
 #[derive(Clone, Copy, Debug)]
-pub enum Base {
+pub enum SymbolBase {
     /// An absolute frame.
     AtFrame(u16),
     /// A segment of the module, under the frame of the group where there is one.

@@ -4,7 +4,7 @@ ghost use Rattle.omf_module.specs.Seen.{segment_seen, group_seen, external_seen,
 ghost use Rattle.omf_module.specs.Sound.{IsSound};
 
 use crate::store::Store;
-use crate::{Base, ResolvedFixup, Standing, Start};
+use crate::{ResolvedFixup, Standing, Start, SymbolBase};
 use std::alloc::{Allocator, Global};
 use std::marker::Model;
 
@@ -27,7 +27,7 @@ pub struct Group<'a> {
 
 /// A name that the module uses: a public name of some module, or, where it is local, a local public name of its own.
 #[derive(Clone, Copy, Debug)]
-pub struct External<'a> {
+pub struct ExternalSymbol<'a> {
     pub name: &'a [u8],
     pub local: bool,
 }
@@ -36,7 +36,7 @@ pub struct External<'a> {
 #[derive(Clone, Copy, Debug)]
 pub struct PublicSymbol<'a> {
     pub name: &'a [u8],
-    pub base: Base,
+    pub base: SymbolBase,
     pub offset: u16,
     pub local: bool,
 }
@@ -115,6 +115,7 @@ impl<A: Allocator + Copy> Module<A> {
     pub fn promises(&self)
         ensures { IsSound self.now }
     {
+        // A look at a field tells of the invariant.
         let _ = &self.store;
     }
 
@@ -176,7 +177,7 @@ impl<A: Allocator + Copy> Module<A> {
     }
 
     /// The one at an index, counted from 0.
-    pub fn external(&self, index: usize) -> External<'_>
+    pub fn external(&self, index: usize) -> ExternalSymbol<'_>
         requires { index < length self.now.externals }
         ensures { slice_get self.now.externals index ≡ Some (external_seen result) }
     {
@@ -350,7 +351,7 @@ impl<'a, A: Allocator + Copy> Model for Externals<'a, A> {
     ghost use Rattle.std.specs.Prelude.{List, drop, ◌≤◌, length};
     ghost use Rattle.omf_module.specs.Module as says;
 
-    ghost Value = { List says.External };
+    ghost Value = { List says.ExternalSymbol };
 
     ghost view = { λ s. drop s.next s.module.now.externals };
 
@@ -358,7 +359,7 @@ impl<'a, A: Allocator + Copy> Model for Externals<'a, A> {
 }
 
 impl<'a, A: Allocator + Copy> Iterator for Externals<'a, A> {
-    type Item = External<'a>;
+    type Item = ExternalSymbol<'a>;
 
     ghost use Rattle.std.specs.Iterator.{YieldsFirstBy, item_count};
     ghost use Rattle.omf_module.specs.Seen.{external_seen};
@@ -367,7 +368,7 @@ impl<'a, A: Allocator + Copy> Iterator for Externals<'a, A> {
 
     ghost remaining = { item_count (λ s. s) };
 
-    fn next(&mut self) -> Option<External<'a>> {
+    fn next(&mut self) -> Option<ExternalSymbol<'a>> {
         if self.next < self.module.external_count() {
             let item = self.module.external(self.next);
             self.next += 1;

@@ -4,10 +4,11 @@ ghost use Rattle.omf_record.specs.View.{view};
 ghost use Rattle.omf_record.specs.Records.{Placed, is_end};
 ghost use Rattle.omf_module.specs.declared.fault.FaultKind.{FaultKind};
 ghost use Rattle.omf_module.specs.Tables.{module_of};
-ghost use Rattle.omf_module.specs.Building.{state};
+ghost use Rattle.omf_module.specs.inside.Building.{state};
 ghost use Rattle.omf_module.specs.Bytes.{framing_kind, ModuleBytes, ReadingFault};
-ghost use Rattle.omf_module.specs.Reading.{failures_in, Reads, TakesRecord, IsModule, IsFault};
-ghost use Rattle.omf_module.specs.Faulty.{frame_fault, record_fault, add_fault};
+ghost use Rattle.omf_module.specs.Reading.{failures_in, Reads, IsModule, IsFault};
+ghost use Rattle.omf_module.specs.inside.Reading.{TakesRecord};
+ghost use Rattle.omf_module.specs.inside.ModuleFaults as module_fault;
 
 use crate::builder::{AddFault, Builder};
 use crate::fault::{FaultKind, ModuleFault};
@@ -16,6 +17,7 @@ use omf_frame::{Frame, FrameBuf, FrameFault, FramingFault, Source};
 use omf_record::{Record, RecordFault, parse_record};
 use std::alloc::Allocator;
 
+/// A fault of the framing as one of the reading.
 fn framing_kind(fault: FramingFault) -> FaultKind
     ensures { result ≡ framing_kind fault }
 {
@@ -27,8 +29,9 @@ fn framing_kind(fault: FramingFault) -> FaultKind
     }
 }
 
-fn frame_fault(fault: FrameFault) -> ModuleFault
-    ensures { result ≡ frame_fault fault }
+/// Why no frame was read, as a fault of the module.
+fn read_fault(fault: FrameFault) -> ModuleFault
+    ensures { result ≡ module_fault.read_fault fault }
 {
     let (place, kind) = match fault {
         FrameFault::Device { place } => (place, FaultKind::Device),
@@ -38,8 +41,9 @@ fn frame_fault(fault: FrameFault) -> ModuleFault
     ModuleFault::Record { place, kind }
 }
 
-fn record_fault(place: u64, fault: RecordFault) -> ModuleFault
-    ensures { result ≡ record_fault place fault }
+/// Why the frame at this place is no record, as a fault of the module.
+fn parse_fault(place: u64, fault: RecordFault) -> ModuleFault
+    ensures { result ≡ module_fault.parse_fault place fault }
 {
     let kind = match fault {
         RecordFault::Memory => return ModuleFault::Memory,
@@ -49,23 +53,23 @@ fn record_fault(place: u64, fault: RecordFault) -> ModuleFault
     ModuleFault::Record { place, kind }
 }
 
+/// Why the record at this place wasn't taken, as a fault of the module.
 fn add_fault(place: u64, fault: AddFault) -> ModuleFault
-    ensures { result ≡ add_fault place fault }
+    ensures { result ≡ module_fault.add_fault place fault }
 {
-    match fault {
-        AddFault::Memory => ModuleFault::Memory,
-        AddFault::Check(fault) => ModuleFault::Record {
-            place,
-            kind: FaultKind::Check(fault),
-        },
-    }
+    let kind = match fault {
+        AddFault::Memory => return ModuleFault::Memory,
+        AddFault::Check(check) => FaultKind::Check(check),
+    };
+    ModuleFault::Record { place, kind }
 }
 
+/// Whether a record is MODEND, which ends a module.
 #[tactic(auto, unfolding(omf_record::specs::View::view))]
-fn is_end<A: Allocator + Copy>(r: &Record<'_, A>) -> bool
-    ensures { result ≡ is_end (view r.now) }
+fn is_end<A: Allocator + Copy>(record: &Record<'_, A>) -> bool
+    ensures { result ≡ is_end (view «record».now) }
 {
-    matches!(r, Record::Modend { .. })
+    matches!(record, Record::Modend { .. })
 }
 
 /// Takes the record of a frame, and says whether it is MODEND.
@@ -74,19 +78,18 @@ fn take_record<'a, A: Allocator + Copy + 'a>(
     builder: &mut Builder<A>,
     frame: &Frame<'a>,
 ) -> Result<bool, ModuleFault>
-    ensures { TakesRecord frame.now.kind frame.now.body.now frame.now.place (state builder.old) (state builder.new) result }
+    ensures { TakesRecord frame.now.kind frame.now.body.now frame.now.place (state builder.old)
+        (state builder.new) result }
 {
     let place = frame.place;
-    let record = match parse_record(alloc, frame) {
-        Ok(record) => record,
-        Err(fault) => return Err(record_fault(place, fault)),
-    };
-    match builder.add(alloc, place, &record) {
-        Ok(()) => Ok(is_end(&record)),
-        Err(fault) => Err(add_fault(place, fault)),
-    }
+    let record = parse_record(alloc, frame).map_err(|fault| parse_fault(place, fault))?;
+    builder
+        .add(alloc, place, &record)
+        .map_err(|fault| add_fault(place, fault))?;
+    Ok(is_end(&record))
 }
 
+/// The module of the records that the source gives, up to the first MODEND; else the first fault.
 fn read_records<A: Allocator + Copy, S: Source>(
     alloc: A,
     source: &mut S,
@@ -107,7 +110,7 @@ fn read_records<A: Allocator + Copy, S: Source>(
                     kind: FaultKind::NoEnd,
                 });
             }
-            Err(fault) => return Err(frame_fault(fault)),
+            Err(fault) => return Err(read_fault(fault)),
         };
         if take_record(alloc, &mut builder, &frame)? {
             return Ok(builder.finish());
@@ -116,7 +119,8 @@ fn read_records<A: Allocator + Copy, S: Source>(
     }
 }
 
-/// The module whose records the source gives, up to the first MODEND, which is the last that is read; else the first fault.
+/// The module whose records the source gives, up to the first MODEND, which is the last that is read; else the first
+/// fault.
 ///
 /// `Memory` comes only where memory was refused, and `Device` exactly where the source failed.
 pub fn read_module<A: Allocator + Copy, S: Source>(
@@ -129,10 +133,12 @@ pub fn read_module<A: Allocator + Copy, S: Source>(
     // What was read, the answer, and where the source stands.
     ensures reads { Reads (λ m. m) (S.remaining source.old) (S.remaining source.new) result }
     // A whole sound module is answered, and no byte behind it read.
-    ensures whole { (rs : List Placed) (bytes rest : List ℕ) → ModuleBytes rs bytes → S.remaining source.old ≡ Some (bytes ++ rest)
+    ensures whole { (rs : List Placed) (bytes rest : List ℕ) → ModuleBytes rs bytes
+        → S.remaining source.old ≡ Some (bytes ++ rest)
         → IsModule (λ m. m) (module_of rs) rest (S.remaining source.new) result }
     // A reading fault is answered, at its place.
-    ensures fault { (bytes : List ℕ) (place : ℕ) (f : FaultKind) → ReadingFault bytes place f → S.remaining source.old ≡ Some bytes
+    ensures fault { (bytes : List ℕ) (place : ℕ) (f : FaultKind) → ReadingFault bytes place f
+        → S.remaining source.old ≡ Some bytes
         → IsFault place f result }
 {
     read_records(alloc, source)

@@ -258,3 +258,38 @@ fn start_at_its_location(rt: HostRuntime) -> Result<(), Fail> {
     assert!(rt; has_outcome(rt.alloc(), &bytes, (20, 21)));
     Ok(())
 }
+
+/// Each list of a module by its iterator, in a word that tells its items apart.
+#[test]
+fn lists_are_handed_out_in_order(rt: HostRuntime) -> Result<(), Fail> {
+    let records: [(u8, &[u8]); 7] = [
+        (SEGDEF, &[0x28, 7, 0, 1, 1, 1]),
+        (GRPDEF, &[2, 0xFF, 1]),
+        (GRPDEF, &[1, 0xFF, 2, 0xFF, 1]),
+        (EXTDEF, &[1, 0x78, 0, 2, 0x79, 0x7A, 0]),
+        (PUBDEF, &[0, 1, 1, 0x61, 1, 0, 0, 1, 0x62, 2, 0, 0]),
+        (LEDATA, &[2, 3, 0, 5]),
+        (LEDATA, &[1, 0, 0, 6]),
+    ];
+    let bytes = module_bytes(rt.alloc(), 2, &records)?;
+    let mut source = MemSource::over(&bytes, 9, None);
+    let module = read_module(rt.alloc(), &mut source)?;
+    let mut seen = Vec::new(rt.alloc());
+    for segment in module.segments() {
+        seen.push(segment.length as usize)?;
+    }
+    for group in module.groups() {
+        seen.push(group.members.len())?;
+    }
+    for external in module.externals() {
+        seen.push(external.name.len())?;
+    }
+    for public in module.publics() {
+        seen.push(usize::from(public.offset))?;
+    }
+    for data_record in module.data_records() {
+        seen.push(usize::from(data_record.segment))?;
+    }
+    assert_eq!(rt; seen.as_slice(), [2, 7, 1, 2, 1, 2, 1, 2, 1, 0].as_slice());
+    Ok(())
+}

@@ -4,7 +4,7 @@ use Rattle.omf_record.specs.Record.{Blocks, More, blocks_of}
 use Rattle.omf_record.specs.View.{block_view}
 use Rattle.omf_record.specs.Expansion.{stored_len, all_stored_len, contents_at, all_contents_at}
 use Rattle.omf_record.proofs.BlockParts.{view_content, view_nested}
-use Rattle.omf_module.specs.Contents.{pair}
+use Rattle.omf_module.specs.inside.Contents.{pair}
 use Rattle.omf_module.proofs.contents.+list_contents.Goals.{in-Content+in_ok-push-in-Content, in-Nested+in_ok-place-in-Nested}
 use Rattle.omf_module.proofs.contents.+list_contents.Goals as goal
 

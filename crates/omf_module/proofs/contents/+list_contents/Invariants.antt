@@ -2,7 +2,7 @@ use Rattle.std.proofs.Common.{◌≡◌, ◌+◌, ◌++◌, drop, map}
 use Rattle.omf_record.specs.Record.{blocks_of}
 use Rattle.omf_record.specs.View.{block_view}
 use Rattle.omf_record.specs.Expansion.{all_stored_len, all_contents_at}
-use Rattle.omf_module.specs.Contents.{pair}
+use Rattle.omf_module.specs.inside.Contents.{pair}
 use Rattle.omf_module.proofs.contents.+list_contents.Given as goal
 
 -- what is left ends where all end, and gives what is missing

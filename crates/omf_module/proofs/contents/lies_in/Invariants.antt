@@ -1,6 +1,6 @@
 use Rattle.std.proofs.Common.{◌≡◌, map, drop}
 use Rattle.omf_module.specs.Faults as faults
-use Rattle.omf_module.specs.Contents.{pair}
+use Rattle.omf_module.specs.inside.Contents.{pair}
 use Rattle.omf_module.proofs.contents.lies_in.Given as goal
 
 -- those that are left decide

@@ -9,7 +9,7 @@ use Rattle.omf_frame.specs.Lending.{plain_frame, next_place, IfFrame}
 use Rattle.omf_frame.proofs.Told.{at_some}
 use Rattle.omf_frame.specs.declared.frame.Frame.{Frame}
 use Rattle.omf_frame.specs.declared.reading.FrameFault.{FrameFault}
-use Rattle.omf_module.specs.Building.{state}
+use Rattle.omf_module.specs.inside.Building.{state}
 use Rattle.omf_module.proofs.Taking.{begun}
 use Rattle.omf_module.proofs.Answering.{no_memory, no_end, frame_stopped, refuses, ends, ends_sound, goes_on}
 use Rattle.omf_module.proofs.reading.read_records.Goals as goal
@@ -39,7 +39,7 @@ returns-in-Err-clause-reads g c =
     let e = c.in-Err.fault in
     let here = at_some _ place (λ p. IsAt {A = Option Frame} p (Err e) × IfFrame (Err e) (λ f. f.place ≡ p)) held c.in-Err.ensures.at in
     let exact = at_some _ place (λ p. IfSome told (λ bytes. Gives plain_frame (Err e) (frame_at p bytes))) held c.in-Err.ensures.exact in
-    rw c.frame_fault.ensures (frame_stopped rs front _ told _ took place e at here.0 exact c.in-Err.ensures.stands)
+    rw c.read_fault.ensures (frame_stopped rs front _ told _ took place e at here.0 exact c.in-Err.ensures.stands)
 
 pub returns-in_err-take_record-clause-reads : goal.returns-in_err-take_record-clause-reads
 returns-in_err-take_record-clause-reads g c =

@@ -1,7 +1,7 @@
 use Rattle.std.proofs.Common.{◌≡◌, ◌-◌, ℕ, List, length, Some}
 use Rattle.omf_record.specs.Records.{Placed}
-use Rattle.omf_module.specs.Running.{state_of}
-use Rattle.omf_module.specs.Building.{state}
+use Rattle.omf_module.specs.inside.Running.{state_of}
+use Rattle.omf_module.specs.inside.Building.{state}
 use Rattle.omf_module.specs.Reading.{Took}
 use Rattle.omf_module.proofs.reading.read_records.Given as goal
 

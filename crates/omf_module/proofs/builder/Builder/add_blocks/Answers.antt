@@ -1,7 +1,7 @@
 use Rattle.std.proofs.Common.{map, length, refl, sym, ◌∙◌, arith}
 use Rattle.omf_record.specs.View.{block_view}
 use Rattle.omf_record.specs.Expansion.{expansion}
-use Rattle.omf_module.specs.Running.{step_record}
+use Rattle.omf_module.specs.inside.Running.{step_record}
 use Rattle.omf_module.proofs.builder.Builder.add_blocks.Goals as goal
 
 pub returns-in-Some : goal.returns-in-Some

@@ -1,6 +1,6 @@
 use Rattle.std.proofs.Common.{◌≡◌, Some, refl, sym, ap, ◌∙◌}
 use Rattle.omf_module.specs.Before.{entry}
-use Rattle.omf_module.specs.Store.{Kept, segment}
+use Rattle.omf_module.specs.inside.Store.{Kept, segment}
 use Rattle.omf_module.proofs.Lists.{entry-map}
 use Rattle.omf_module.proofs.store.Store.data_fault.Goals as goal
 

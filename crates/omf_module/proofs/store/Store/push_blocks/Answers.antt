@@ -2,14 +2,14 @@ use Rattle.std.proofs.Common.{◌≡◌, ◌++◌, ◌∷◌, [], List, ℕ, map
 use Rattle.std.proofs.lemmas.List.{take_at}
 use Rattle.omf_record.specs.View.{block_view}
 use Rattle.omf_record.specs.Expansion.{expansion, places, bytes}
-use Rattle.omf_module.specs.declared.store.Part.{Part}
-use Rattle.omf_module.specs.Store.{Kept, IsConsistent}
+use Rattle.omf_module.specs.declared.pieces.Piece.{Piece}
+use Rattle.omf_module.specs.inside.Store.{Kept, IsConsistent}
 use Rattle.omf_module.proofs.Stored.{data_kept_as, data_in, stays, last_of, once_kept}
 use Rattle.omf_module.proofs.Rising.{rises_on}
 use Rattle.omf_module.proofs.Ranges.{zipped, length-places, length-bytes}
 use Rattle.omf_module.proofs.store.Store.push_blocks.Goals as goal
 
-abbrev piece : ℕ → ℕ → Part
+abbrev piece : ℕ → ℕ → Piece
 piece from len = record { from = from; len = len }
 
 same_piece : (xs more : List ℕ) (from len : ℕ) → from ≡ length xs → len ≡ length more → piece from len ≡ last_of xs more

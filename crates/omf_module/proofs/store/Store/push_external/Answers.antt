@@ -1,5 +1,5 @@
 use Rattle.std.proofs.Common.{◌++◌, ◌∷◌, [], ap, ◌∙◌}
-use Rattle.omf_module.specs.Store.{Kept, IsConsistent}
+use Rattle.omf_module.specs.inside.Store.{Kept, IsConsistent}
 use Rattle.omf_module.proofs.Stored.{external_kept, external_in}
 use Rattle.omf_module.proofs.store.Store.push_external.Goals as goal
 

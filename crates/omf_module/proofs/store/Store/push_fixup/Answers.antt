@@ -1,7 +1,7 @@
 use Rattle.std.proofs.Common.{◌∷◌, [], ap}
 use Rattle.std.proofs.lemmas.Result.{on_ok_weaker}
-use Rattle.omf_module.specs.Store.{Kept, IsConsistent}
-use Rattle.omf_module.specs.Running.{add_to_last}
+use Rattle.omf_module.specs.inside.Store.{Kept, IsConsistent}
+use Rattle.omf_module.specs.inside.Running.{add_to_last}
 use Rattle.omf_module.proofs.store.Store.push_fixup.Goals as goal
 
 pub invariant_of-self : goal.invariant_of-self

@@ -1,14 +1,14 @@
 use Rattle.std.proofs.Common.{◌++◌, ◌∷◌, [], ap, ◌∙◌}
-use Rattle.omf_module.specs.Store.{Kept, IsConsistent}
+use Rattle.omf_module.specs.inside.Store.{Kept, IsConsistent}
 use Rattle.omf_module.proofs.Stored.{name_kept, name_in}
 use Rattle.omf_module.proofs.store.Store.push_name.Goals as goal
 
 pub invariant_of-self-2 : goal.invariant_of-self-2
 unfolding IsConsistent
-invariant_of-self-2 g c = rw (c.in_ok-push.ensures.items, c.in_ok-part.ensures.ok.0, c.in_ok-part.ensures.ok.1) ((name_in _ _ _ c.self.invariant.0 c.args.name.now, c.self.invariant.1))
+invariant_of-self-2 g c = rw (c.in_ok-push.ensures.items, c.in_ok-name.ensures.ok.0, c.in_ok-name.ensures.ok.1) ((name_in _ _ _ c.self.invariant.0 c.args.name.now, c.self.invariant.1))
 
 pub returns : goal.returns
 unfolding IsConsistent
 returns g c =
-    rw (c.in_ok-push.ensures.items, c.in_ok-part.ensures.ok.0, c.in_ok-part.ensures.ok.1)
+    rw (c.in_ok-push.ensures.items, c.in_ok-name.ensures.ok.0, c.in_ok-name.ensures.ok.1)
     (name_kept _ _ _ c.self.invariant.0 c.args.name.now ∙ ap (λ (k : Kept). record k { names = k.names ++ c.args.name.now ∷ [] }) c.self.view_is)

@@ -1,5 +1,5 @@
 use Rattle.std.proofs.Common.{◌++◌, ◌∷◌, [], ap, ◌∙◌}
-use Rattle.omf_module.specs.Store.{Kept, IsConsistent}
+use Rattle.omf_module.specs.inside.Store.{Kept, IsConsistent}
 use Rattle.omf_module.proofs.Stored.{public_kept, public_in}
 use Rattle.omf_module.proofs.store.Store.push_public.Goals as goal
 

@@ -1,0 +1,43 @@
+-- What a builder keeps, as a plain state.
+use Rattle.std.specs.Prelude.{◌≡◌, ℕ, List, [], ◌∷◌, map, Option, Some, None, Result, Ok, Err}
+use Rattle.omf_module.specs.declared.fault.CheckFault.{CheckFault}
+use Rattle.omf_module.specs.declared.builder.AddFault.{AddFault}
+use Rattle.omf_module.specs.declared.builder.AddFault.TheVariants as adds
+use Rattle.omf_module.specs.declared.builder.LastData.{LastData}
+use Rattle.omf_module.specs.declared.builder.LastData.TheVariants.{Absent, Stored, Repeated}
+use Rattle.omf_module.specs.declared.builder.Builder.{Builder}
+use Rattle.omf_module.specs.inside.Contents.{pair}
+use Rattle.omf_module.specs.inside.Running.{State}
+
+abbrev pub contents_of : {A : Type 0} → LastData A → Option (List (ℕ × ℕ))
+contents_of Absent = None
+contents_of (Stored len) = Some ((0, len) ∷ [])
+contents_of (Repeated contents) = Some (map pair contents.items)
+
+abbrev pub state : {A : Type 0} → Builder A → State
+state builder = record {
+  begun = builder.begun;
+  tables =
+      record {
+        names = builder.store.names;
+        segments = builder.store.segments;
+        groups = builder.store.groups;
+        externals = builder.store.externals;
+      };
+  publics = builder.store.publics;
+  frame_threads = builder.frame_threads;
+  target_threads = builder.target_threads;
+  data_records = builder.store.data_records;
+  contents = contents_of builder.last_data;
+  start = builder.start;
+}
+
+-- a fault of the code, unless memory ran out
+abbrev pub Refuses : {Y : Type 0} → AddFault → Result Y CheckFault → Type 0
+Refuses adds.Memory step = Unit {0}
+Refuses (adds.Check check) step = step ≡ Err check
+
+-- what a call gave is what a step gives
+abbrev pub Gives : {X Y : Type 0} → (X → Y) → Result X AddFault → Result Y CheckFault → Type 0
+Gives view (Ok answer) step = step ≡ Ok (view answer)
+Gives view (Err fault) step = Refuses fault step
