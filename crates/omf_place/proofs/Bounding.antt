@@ -8,8 +8,8 @@ use Rattle.std.specs.List.{AllByRecursion}
 use Rattle.std.specs.Option.{option_map, option_and_then, option_to_list}
 use Rattle.omf_module.specs.declared.Standing.{Standing}
 use Rattle.omf_module.specs.declared.Standing.TheVariants.{Absolute, Relocatable}
-use Rattle.omf_module.specs.declared.Base as public_base
-use Rattle.omf_module.specs.declared.Base.TheVariants.{AtFrame, InSegment}
+use Rattle.omf_module.specs.declared.SymbolBase.{SymbolBase}
+use Rattle.omf_module.specs.declared.SymbolBase.TheVariants.{AtFrame, InSegment}
 use Rattle.omf_module.specs.Module.{Module, Segment, Group, PublicSymbol}
 use Rattle.omf_place.specs.Bounded.{HasOwnFrame, IsPlaceOf, ArePlacesOf, IsBounded}
 use Rattle.omf_place.specs.declared.layout.Address.TheVariants as address
@@ -28,9 +28,10 @@ use Rattle.omf_place.specs.Parts.{Site, module_sites, sites_from, sites, is_part
 use Rattle.omf_place.specs.Placed.{IsPlaced, address_of}
 use Rattle.omf_place.specs.Scopes.{Entry, local_tables, owned_by, same_owner, table}
 use Rattle.omf_place.specs.Tables.{segment_start, segment_end, leaders, combined_segment, placed, group_frame, in_segment, placed_public, public_entry, publics_of, placed_publics}
-use Rattle.omf_place.proofs.LinkLayout.{inputs-length}
+use Rattle.omf_place.proofs.LinkProgram.{inputs-length}
 use Rattle.omf_place.proofs.KeyPlaces.{All-make}
-use Rattle.omf_place.proofs.LinkRows.{All-flat, RowIs, input_rows, row_at}
+use Rattle.omf_place.proofs.LinkRows.{All-flat, input_rows, row_at}
+use Rattle.omf_place.specs.inside.Program.{RowIs}
 use Rattle.omf_place.proofs.SiteLists.{length-module_sites, numbered_sites}
 use Rattle.omf_place.proofs.Walks.{All-get, numbered_found}
 use Rattle.omf_place.proofs.Within.{part-within}
@@ -151,7 +152,7 @@ module _ (names : Names) (program : List Module) (A : List ℕ) (size : ℕ) (pl
       found n p o group None = tt
       found n p o group (Some a) = (own-public n.says a o group a.segment.standing, tt)
 
-      by : (n : Input) (p : PublicSymbol) (o : ℕ) (b : public_base.Base) → AllByRecursion Own (option_to_list (option_map (public_entry n.input p) (placed_public program A n o b)))
+      by : (n : Input) (p : PublicSymbol) (o : ℕ) (b : SymbolBase) → AllByRecursion Own (option_to_list (option_map (public_entry n.input p) (placed_public program A n o b)))
       by n p o (AtFrame frame) = (tt, tt)
       by n p o (InSegment k group) = found n p o group (slice_get n.sites k)
 

@@ -6,8 +6,8 @@ use Rattle.omf_module.specs.declared.Standing.TheVariants.{Absolute, Relocatable
 use Rattle.omf_module.specs.Sound.{SegmentFits, IsStanding}
 use Rattle.omf_place.specs.Parts.{Site, combines, rank, before, parts, placement_order, is_part}
 use Rattle.omf_place.specs.Placed.{greatest, members, leads, is_common, is_stack, alignment_of}
-use Rattle.omf_place.specs.Numbered.{IsNumberedFrom}
-use Rattle.omf_place.specs.Walk.{IsUnitBounded}
+use Rattle.omf_place.specs.inside.Numbered.{IsNumberedFrom}
+use Rattle.omf_place.specs.inside.Walk.{IsUnitBounded}
 use Rattle.omf_place.proofs.Walks.{All-get, All-filter, All-map, All-sorted, numbered_found}
 use Rattle.omf_place.proofs.Leaders.{combines-itself}
 use Rattle.omf_place.proofs.Only.{All-unfilter}

@@ -11,9 +11,9 @@ use Rattle.omf_place.specs.declared.order.Joining.{Joining}
 use Rattle.omf_place.specs.declared.order.Joining.TheVariants as joining
 use Rattle.omf_place.specs.Parts.{Site, combines}
 use Rattle.omf_place.specs.Placed.{greatest, members}
-use Rattle.omf_place.specs.Keys.{Key, Alone, Joined, key, same_joining, same_key, segment_place}
-use Rattle.omf_place.specs.Numbered.{IsNumberedFrom}
-use Rattle.omf_place.specs.Greatest.{greatest_at}
+use Rattle.omf_place.specs.inside.Keys.{Key, Alone, Joined, key, same_joining, same_key, segment_place}
+use Rattle.omf_place.specs.inside.Numbered.{IsNumberedFrom}
+use Rattle.omf_place.specs.inside.Greatest.{greatest_at}
 use Rattle.omf_place.proofs.SiteLists.{one_place}
 use Rattle.omf_place.proofs.KeyPlaces.{keys_combine, place_congr}
 use Rattle.omf_place.proofs.Leaders.{combines-itself, and_both, at_own}

@@ -12,7 +12,7 @@ use Rattle.omf_place.specs.declared.names.Names.{Names}
 use Rattle.omf_place.specs.declared.names.Names.TheVariants.{Exact}
 use Rattle.omf_place.specs.declared.scopes.Entry as held
 use Rattle.omf_place.specs.Faults.{DuplicatePublic, duplicate_in}
-use Rattle.omf_place.specs.HeldNames.{HoldsAll, IsOwner, Scopes, entry_view, scopes_of, table_of, with_entry}
+use Rattle.omf_place.specs.inside.HeldNames.{HoldsAll, IsOwner, Scopes, entry_view, scopes_of, table_of, with_entry}
 use Rattle.omf_place.specs.Named.{value_where}
 use Rattle.omf_place.specs.Names.{Table, agrees, empty, means, spelled}
 use Rattle.omf_place.specs.Scopes.{Entry, clashes, local_tables, owned_by, repeats, same_owner, table}

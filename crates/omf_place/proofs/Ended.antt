@@ -1,43 +1,13 @@
 -- What placement answers, from what its last step gives.
-use Rattle.std.proofs.Common.{◌≡◌, ℕ, ◌<◌, ◌≤◌, true, false, cond, nat_lt, List, map, Option, Some, None, Result, IfOk, OnOk, refl, ap, sym, ◌∙◌, subst, arith}
+use Rattle.std.proofs.Common.{◌≡◌, ℕ, ◌<◌, ◌≤◌, true, false, cond, nat_lt, List, Option, Some, None, refl, ap, sym, ◌∙◌, subst, arith}
 use Rattle.std.proofs.lemmas.Bool.{ltb-true}
-use Rattle.std.specs.List.{AllByRecursion}
 use Rattle.std.specs.Option.{option_or}
 use Rattle.omf_module.specs.Module.{Module}
-use Rattle.omf_place.specs.declared.groups.GroupEntry.{GroupEntry}
-use Rattle.omf_place.specs.declared.inputs.Input as held
-use Rattle.omf_place.specs.declared.layout.Combined.{Combined}
 use Rattle.omf_place.specs.declared.names.Names.{Names}
 use Rattle.omf_place.specs.Faults.{PlacementFault, IsFirstFault, IsOnlyLayout, later_fault, placement_fault, segment_fault, size_fault, ProgramTooLarge}
-use Rattle.omf_place.specs.HeldLayout.{MeetsGroups, held_fault, held_layout}
-use Rattle.omf_place.specs.Inputs.{inputs}
-use Rattle.omf_place.specs.InputViews.{HasStands, IsSoundInput, input_view}
 use Rattle.omf_place.specs.Layout.{Layout, layout_at}
-use Rattle.omf_place.specs.Parts.{Site, sites}
+use Rattle.omf_place.specs.Parts.{sites}
 use Rattle.omf_place.specs.Placed.{IsPlaced, IsOnlyPlacement}
-use Rattle.omf_place.specs.Tables.{combined_segment, leaders}
-use Rattle.omf_place.proofs.LinkLayout.{fault_same, layout_same}
-use Rattle.omf_place.proofs.Results.{IfOk-map, OnOk-from}
-
-abbrev Gathered : {H : Type 0} → Names → ℕ → List Combined → List (held.Input H) → Layout → Type 0
-Gathered names size combined xs l = (groups : List (List ℕ × GroupEntry)) × MeetsGroups xs groups × (held_fault names xs groups ≡ None) × (l ≡ held_layout names size combined xs groups)
-
-module _ {H : Type 0} (names : Names) (program : List Module) (A : List ℕ) (size : ℕ) (ss : List Site) (same : ss ≡ sites program) (xs : List (held.Input H)) (made : map input_view xs ≡ inputs program)
-    (own : AllByRecursion (HasStands ss A) xs) (snd : AllByRecursion IsSoundInput xs) (combined : List Combined) (cs : combined ≡ map (combined_segment ss A) (leaders ss)) where
-  stands : AllByRecursion (HasStands (sites program) A) xs
-  stands = subst (λ s. AllByRecursion (HasStands s A) xs) same own
-
-  all : combined ≡ map (combined_segment (sites program) A) (leaders (sites program))
-  all = cs ∙ ap (λ s. map (combined_segment s A) (leaders s)) same
-
-  pub ended-apart : {E : Type 0} (r : Result Layout E) → IfOk r (Gathered names size combined xs) → OnOk r (later_fault names program A ≡ None)
-  ended-apart r h = OnOk-from (Gathered names size combined xs) (later_fault names program A ≡ None) r (λ l g. sym (fault_same program A xs made stands snd g.0 g.1 names) ∙ g.2) h
-
-  pub ended-layout : {E : Type 0} (r : Result Layout E) → IfOk r (Gathered names size combined xs) → IfOk r (λ l. l ≡ layout_at names program A size)
-  ended-layout r h = IfOk-map (Gathered names size combined xs) (λ l. l ≡ layout_at names program A size) r (λ l g. g.3 ∙ layout_same program A xs made stands snd g.0 g.1 names size combined all) h
-
-  pub ended-fault : (f : PlacementFault) → ((groups : List (List ℕ × GroupEntry)) × MeetsGroups xs groups × (held_fault names xs groups ≡ Some f)) → later_fault names program A ≡ Some f
-  ended-fault f g = sym (fault_same program A xs made stands snd g.0 g.1 names) ∙ g.2
 
 or_first : {X : Type 0} (a b c : Option X) (f : X) → option_or a b ≡ Some f → option_or a (option_or b c) ≡ Some f
 or_first None b c f e = ap (λ o. option_or o c) e

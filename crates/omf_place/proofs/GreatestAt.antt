@@ -3,7 +3,7 @@ use Rattle.std.proofs.Common.{◌≡◌, ℕ, zero, suc, ◌+◌, ◌<◌, ◌�
 use Rattle.std.proofs.lemmas.List.{take_more, get_or-set_same, get_or-set_other}
 use Rattle.std.proofs.lemmas.Bool.{eqb-true}
 use Rattle.std.specs.List.{AllByRecursion}
-use Rattle.omf_place.specs.Greatest.{greatest_at}
+use Rattle.omf_place.specs.inside.Greatest.{greatest_at}
 
 greatest_at-push : (fs vs : List ℕ) (f v k : ℕ) → length vs ≡ length fs → greatest_at (fs ++ f ∷ []) (vs ++ v ∷ []) k ≡ max (greatest_at fs vs k) (cond (eqb f k) v 0)
 greatest_at-push [] [] f v k e = omega arith

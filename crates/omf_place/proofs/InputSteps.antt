@@ -5,10 +5,10 @@ use Rattle.omf_module.specs.Module.{Module}
 use Rattle.omf_place.specs.declared.sites.Site as stored
 use Rattle.omf_place.specs.declared.stands.Stand.{Stand}
 use Rattle.omf_place.specs.Inputs.{Input, inputs_from}
-use Rattle.omf_place.specs.InputViews.{addresses_of, AreStands}
+use Rattle.omf_place.specs.inside.Program.{addresses_of, AreStands}
 use Rattle.omf_place.specs.Parts.{module_sites, sites}
-use Rattle.omf_place.specs.Sites.{site, sites_view}
-use Rattle.omf_place.specs.Stands.{stand_of}
+use Rattle.omf_place.specs.inside.Sites.{site, sites_view}
+use Rattle.omf_place.specs.inside.Stands.{stand_of}
 use Rattle.omf_place.proofs.InputLists.{start_of, inputs-more, row_from, map_take, map_drop, stays_within}
 
 module _ (ss : List stored.Site) (stands : List Stand) (ms : List Module) (same : sites_view ss ≡ sites ms) (are : AreStands (sites_view ss) stands)

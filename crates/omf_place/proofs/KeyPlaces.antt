@@ -18,11 +18,11 @@ use Rattle.omf_place.specs.declared.order.SegmentKey.{SegmentKey}
 use Rattle.omf_place.specs.declared.order.SegmentKey.TheVariants as held
 use Rattle.omf_place.specs.declared.order.ClassKey.{ClassKey}
 use Rattle.omf_place.specs.declared.order.ClassKey.TheVariants as held_class
-use Rattle.omf_place.specs.Keys.{key_view, class_view, Key, Alone, Joined, key, key_by, joining_of, joining_of_kind, same_joining, same_key, class_of, same_option, class_place, segment_place}
+use Rattle.omf_place.specs.inside.Keys.{key_view, class_view, Key, Alone, Joined, key, key_by, joining_of, joining_of_kind, same_joining, same_key, class_of, same_option, class_place, segment_place}
 use Rattle.omf_place.proofs.Places.{place_map}
 use Rattle.omf_place.proofs.SiteLists.{one_place}
 use Rattle.omf_place.proofs.Walks.{numbered_found}
-use Rattle.omf_place.specs.Numbered.{IsNumberedFrom}
+use Rattle.omf_place.specs.inside.Numbered.{IsNumberedFrom}
 
 pub place_congr : {X : Type 0} (p q : X → Bool) (xs : List X) → AllByRecursion (λ x. p x ≡ q x) xs → position_or_len p xs ≡ position_or_len q xs
 place_congr p q [] h = refl

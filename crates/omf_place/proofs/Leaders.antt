@@ -6,7 +6,7 @@ use Rattle.std.proofs.lemmas.List.Sums.{position_or_len_is, fails_before_first, 
 use Rattle.std.proofs.lemmas.Slice.Eq.{bytes_eq-Decides}
 use Rattle.std.proofs.lemmas.Bool.{eqb-true, cases_lt}
 use Rattle.std.proofs.lemmas.Option.{slice_get-get_or, get_or_from_slice_get, slice_get_within}
-use Rattle.omf_place.specs.Numbered.{IsNumberedFrom}
+use Rattle.omf_place.specs.inside.Numbered.{IsNumberedFrom}
 use Rattle.omf_module.specs.declared.Kind.{Kind}
 use Rattle.omf_module.specs.declared.Kind.TheVariants.{Public, Stack, Common}
 use Rattle.omf_module.specs.declared.Standing.{Standing}

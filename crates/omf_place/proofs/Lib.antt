@@ -28,9 +28,8 @@ pub mod RowSteps
 pub mod LinkRows
 pub mod Owners
 pub mod LinkGroups
-pub mod LinkTables
 pub mod SpanAddresses
-pub mod LinkLayout
+pub mod LinkProgram
 pub mod Ended
 pub mod Bounding
 pub mod Worked

@@ -1,27 +1,27 @@
--- What the code gathers of each module is what the definitions say: groups.
-use Rattle.std.proofs.Common.{◌≡◌, false, ℕ, ◌+◌, ◌/◌, min, max, List, [], ◌∷◌, ◌++◌, map, fold, Some, None, Option, slice_get, get_or, refl, ap, sym, ◌∙◌, arith, subst, All}
-use Rattle.std.proofs.lemmas.List.{map-append}
+-- What the GRPDEFs of a module reach is what the definitions say.
+use Rattle.std.proofs.Common.{◌≡◌, false, ℕ, ◌+◌, ◌/◌, min, max, List, [], ◌∷◌, ◌++◌, map, fold, Some, None, Option, slice_get, get_or, refl, ap, sym, ◌∙◌, arith, All}
+use Rattle.std.proofs.lemmas.List.Sums.{fold-append}
 use Rattle.std.proofs.lemmas.Option.{slice_get-map, get_or_from_slice_get}
 use Rattle.std.proofs.Common.{suc}
-use Rattle.std.specs.List.{AllByRecursion, enumerate_from, flat_map}
+use Rattle.std.specs.List.{AllByRecursion, enumerate_from}
 use Rattle.std.specs.Option.{option_map, option_to_list}
 use Rattle.omf_module.specs.declared.Standing.{Standing}
 use Rattle.omf_module.specs.declared.Standing.TheVariants.{Absolute, Relocatable}
 use Rattle.omf_module.specs.Faults.{is_absolute}
-use Rattle.omf_module.specs.Module.{Module, Segment, Group}
+use Rattle.omf_module.specs.Module.{Segment, Group}
 use Rattle.omf_module.specs.Sound.{IsMember, GroupFits}
 use Rattle.omf_place.specs.declared.groups.Reach.{Reach}
 use Rattle.omf_place.specs.declared.inputs.Input as held
 use Rattle.omf_place.specs.declared.stands.Stand.{Stand}
-use Rattle.omf_place.specs.Inputs.{Input, inputs}
-use Rattle.omf_place.specs.InputViews.{HasStands, IsSoundInput, input_view}
-use Rattle.omf_place.specs.Parts.{Site, sites}
-use Rattle.omf_place.specs.Reaches.{GroupReach, widened, no_stand, reach_in, join, held_grpdefs, reach_of_span, reached}
-use Rattle.omf_place.specs.Stands.{stand_of}
-use Rattle.omf_place.specs.Tables.{Grpdef, Span, components, grpdefs_of, grpdefs, widen, segment_start, segment_end}
+use Rattle.omf_place.specs.Inputs.{Input}
+use Rattle.omf_place.specs.inside.Program.{IsPlacedInput, RowIs, input_view}
+use Rattle.omf_place.specs.Parts.{Site}
+use Rattle.omf_place.specs.inside.Groups.{GroupReach, widened, no_stand, reach_in, join, reach_of_span, reached}
+use Rattle.omf_place.specs.inside.Stands.{stand_of}
+use Rattle.omf_place.specs.Tables.{Grpdef, Span, components, grpdefs_of, span, widen, segment_start, segment_end}
 use Rattle.omf_place.proofs.KeyPlaces.{map_congr, map_two}
 use Rattle.omf_place.proofs.Walks.{All-map}
-use Rattle.omf_place.proofs.LinkRows.{RowIs, row_at, input_rows, All-mapped_back}
+use Rattle.omf_place.proofs.LinkRows.{row_at}
 
 min_div : (a b : ℕ) → min a b / 16 ≡ min (a / 16) (b / 16)
 min_div a b = omega arith
@@ -49,7 +49,7 @@ together-widen None t a b = refl
 together-widen (Some s) None a b = refl
 together-widen (Some s) (Some t) a b = spans_eq _ _ _ _ (omega arith) (omega arith)
 
-pub together-none : (s : Option Span) → together s None ≡ s
+together-none : (s : Option Span) → together s None ≡ s
 together-none None = refl
 together-none (Some s) = refl
 
@@ -63,16 +63,15 @@ widen_reach None t start end f e = reaches_eq _ _ _ _ f e
 widen_reach (Some s) t start end f e = reaches_eq _ _ _ _ (omega (arith, f, min_div s.start start)) (omega (arith, e))
 
 module _ (ss : List Site) (A : List ℕ) where
-  abbrev pub step : Option Span → Site → Option Span
+  abbrev step : Option Span → Site → Option Span
   step s a = widen s (segment_start ss A a) (segment_end ss A a)
 
-  pub fold-together : (s t : Option Span) (xs : List Site) → together s (fold step t xs) ≡ fold step (together s t) xs
+  fold-together : (s t : Option Span) (xs : List Site) → together s (fold step t xs) ≡ fold step (together s t) xs
   fold-together s t [] = refl
   fold-together s t (x ∷ xs) = fold-together s (step t x) xs ∙ ap (λ o. fold step o xs) (sym (together-widen s t (segment_start ss A x) (segment_end ss A x)))
 
-  pub fold-append : (s : Option Span) (xs ys : List Site) → fold step s (xs ++ ys) ≡ fold step (fold step s xs) ys
-  fold-append s [] ys = refl
-  fold-append s (x ∷ xs) ys = fold-append (step s x) xs ys
+  pub span-append : (xs ys : List Site) → span ss A (xs ++ ys) ≡ together (span ss A xs) (span ss A ys)
+  span-append xs ys = fold-append step None xs ys ∙ ap (λ s. fold step s ys) (sym (together-none (span ss A xs))) ∙ sym (fold-together (span ss A xs) None ys)
 
   -- a relocatable segment's stand has the frame of its combined segment
   stand_frame : (a : Site) (st : Standing) → is_absolute st ≡ false → a.segment.standing ≡ st → (stand_of ss A a).frame ≡ segment_start ss A a / 16
@@ -110,44 +109,24 @@ All-numbered : {X : Type 0} (P : X → Type 0) (n : ℕ) (xs : List X) → AllBy
 All-numbered P n [] ps = tt
 All-numbered P n (x ∷ xs) ps = (ps.0, All-numbered P (n + 1) xs ps.1)
 
-pub flat_map_congr : {X Y : Type 0} (f g : X → List Y) (xs : List X) → AllByRecursion (λ x. f x ≡ g x) xs → flat_map f xs ≡ flat_map g xs
-flat_map_congr f g [] h = refl
-flat_map_congr f g (x ∷ xs) h = rw (h.0, flat_map_congr f g xs h.1) refl
+module _ {H : Type 0} (ss : List Site) (A : List ℕ) (x : held.Input H) (placed : IsPlacedInput ss A x) where
+  abbrev groups : List Group
+  groups = x.says.now.groups
 
-pub flat_map_two : {X Y Z : Type 0} (f : X → Y) (g : Y → List Z) (xs : List X) → flat_map g (map f xs) ≡ flat_map (λ x. g (f x)) xs
-flat_map_two f g [] = refl
-flat_map_two f g (x ∷ xs) = ap (λ ys. g (f x) ++ ys) (flat_map_two f g xs)
+  abbrev named : ℕ × Group → GroupReach
+  named e = record { input = x.input; group = e.0; name = e.1.name; reach = reach_in x.stands.now e.1.members }
 
-map_flat : {X Y Z : Type 0} (f : X → List Y) (g : Y → Z) (xs : List X) → map g (flat_map f xs) ≡ flat_map (λ x. map g (f x)) xs
-map_flat f g [] = refl
-map_flat f g (x ∷ xs) = map-append g (f x) (flat_map f xs) ∙ ap (λ ys. map g (f x) ++ ys) (map_flat f g xs)
+  abbrev defs : ℕ × Group → Grpdef
+  defs e = record { input = x.input; group = e.0; name = e.1.name; sites = components (input_view x).sites e.1.members }
 
-pub All-two : {X : Type 0} (P Q R : X → Type 0) (xs : List X) → ((x : X) → P x → Q x → R x) → AllByRecursion P xs → AllByRecursion Q xs → AllByRecursion R xs
-All-two P Q R [] f ps qs = tt
-All-two P Q R (x ∷ xs) f ps qs = (f x ps.0 qs.0, All-two P Q R xs f ps.1 qs.1)
+  abbrev fits : Group → Type 0
+  fits = GroupFits x.says.now.segments groups x.says.now.externals
 
-module _ {H : Type 0} (program : List Module) (A : List ℕ) (xs : List (held.Input H)) (made : map input_view xs ≡ inputs program) (stands : AllByRecursion (HasStands (sites program) A) xs) (sound : AllByRecursion IsSoundInput xs) where
-  rows : AllByRecursion (λ x. RowIs (input_view x)) xs
-  rows = All-mapped_back input_view RowIs xs (subst (λ ns. AllByRecursion RowIs ns) (sym made) (input_rows program))
-
-  grpdefs_here : (x : held.Input H) → RowIs (input_view x) → HasStands (sites program) A x → IsSoundInput x → held_grpdefs x ≡ map (reached program A) (grpdefs_of (input_view x))
-  grpdefs_here x row own snd =
-      let n = input_view x in
-      let groups = x.says.now.groups in
-      let named : ℕ × Group → GroupReach = λ e. record { input = x.input; number = e.0; name = e.1.name; reach = reach_in x.stands.now e.1.members } in
-      let defs : ℕ × Group → Grpdef = λ e. record { input = x.input; number = e.0; name = e.1.name; sites = components n.sites e.1.members } in
-      let fits : Group → Type 0 = GroupFits x.says.now.segments x.says.now.groups x.says.now.externals in
-      let all : AllByRecursion (λ (e : ℕ × Group). fits e.1) (enumerate_from 0 groups) = All-numbered fits 0 groups (to_recursion fits groups snd.groups) in
-      map_congr named (λ e. reached program A (defs e)) (enumerate_from 0 groups)
-      (All-map (λ (e : ℕ × Group). fits e.1) (λ e. named e ≡ reached program A (defs e)) (enumerate_from 0 groups)
-      (λ e own_fits. ap (λ r. record { input = x.input; number = e.0; name = e.1.name; reach = r })
-      (reach_span (sites program) A n row x.stands.now own e.1.members (to_recursion (IsMember x.says.now.segments x.says.now.groups x.says.now.externals) e.1.members own_fits.members) None)) all)
-      ∙ sym (map_two defs (reached program A) (enumerate_from 0 groups))
-
-  pub grpdefs_same : flat_map held_grpdefs xs ≡ map (reached program A) (grpdefs program)
-  grpdefs_same =
-      flat_map_congr held_grpdefs (λ x. map (reached program A) (grpdefs_of (input_view x))) xs
-      (All-two (λ x. RowIs (input_view x)) (λ x. HasStands (sites program) A x × IsSoundInput x) (λ x. held_grpdefs x ≡ map (reached program A) (grpdefs_of (input_view x))) xs
-      (λ x row h. grpdefs_here x row h.0 h.1) rows (All-two (HasStands (sites program) A) IsSoundInput (λ x. HasStands (sites program) A x × IsSoundInput x) xs (λ x p q. (p, q)) stands sound))
-      ∙ sym (flat_map_two input_view (λ n. map (reached program A) (grpdefs_of n)) xs) ∙ ap (λ ns. flat_map (λ n. map (reached program A) (grpdefs_of n)) ns) made
-      ∙ sym (map_flat grpdefs_of (reached program A) (inputs program))
+  pub grpdefs_here : map named (enumerate_from 0 groups) ≡ map (reached ss A) (grpdefs_of (input_view x))
+  grpdefs_here =
+      map_congr named (λ e. reached ss A (defs e)) (enumerate_from 0 groups)
+      (All-map (λ (e : ℕ × Group). fits e.1) (λ e. named e ≡ reached ss A (defs e)) (enumerate_from 0 groups)
+      (λ e own_fits. ap (λ r. record { input = x.input; group = e.0; name = e.1.name; reach = r })
+      (reach_span ss A (input_view x) placed.row x.stands.now placed.own e.1.members (to_recursion (IsMember x.says.now.segments groups x.says.now.externals) e.1.members own_fits.members) None))
+      (All-numbered fits 0 groups (to_recursion fits groups placed.sound.groups)))
+      ∙ sym (map_two defs (reached ss A) (enumerate_from 0 groups))

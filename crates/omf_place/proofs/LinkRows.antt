@@ -6,9 +6,10 @@ use Rattle.omf_module.specs.declared.Standing.TheVariants.{Absolute, Relocatable
 use Rattle.omf_module.specs.Module.{Module, Segment}
 use Rattle.omf_place.specs.Inputs.{Input, inputs_from, inputs}
 use Rattle.omf_place.specs.Parts.{Site, module_sites}
-use Rattle.omf_place.specs.Rows.{placed_row}
-use Rattle.omf_place.specs.Spans.{span_of}
-use Rattle.omf_place.specs.Stands.{placed_by, stand_by, stand_of}
+use Rattle.omf_place.specs.inside.Program.{RowIs}
+use Rattle.omf_place.specs.inside.Rows.{placed_row}
+use Rattle.omf_place.specs.inside.Spans.{span_of}
+use Rattle.omf_place.specs.inside.Stands.{placed_by, stand_by, stand_of}
 use Rattle.omf_place.specs.Tables.{placed, placed_at}
 
 placed_same : (ss : List Site) (A : List ℕ) (a : Site) (st : Standing) → placed_by st (stand_by st (span_of ss A a)) ≡ placed_at ss A a st
@@ -18,10 +19,6 @@ placed_same ss A a (Relocatable alignment kind) = refl
 pub row_same : (ss : List Site) (A : List ℕ) (xs : List Site) → placed_row xs (map (stand_of ss A) xs) ≡ map (placed ss A) xs
 row_same ss A [] = refl
 row_same ss A (x ∷ xs) = rw (placed_same ss A x x.segment.standing, row_same ss A xs) refl
-
--- the sites of a module are its segments
-pub RowIs : Input → Type 0
-RowIs n = (k : ℕ) (s : Segment) → slice_get n.says.segments k ≡ Some s → (a : Site) × (slice_get n.sites k ≡ Some a) × (a.segment ≡ s)
 
 module_row : (p i n : ℕ) (ss : List Segment) (k : ℕ) (s : Segment) → slice_get ss k ≡ Some s → (a : Site) × (slice_get (module_sites p i n ss) k ≡ Some a) × (a.segment ≡ s)
 module_row p i n [] k s e = cc

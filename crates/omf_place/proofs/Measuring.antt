@@ -9,13 +9,13 @@ use Rattle.std.proofs.lemmas.Bool.{eqb-true}
 use Rattle.omf_module.specs.declared.Standing.{Standing}
 use Rattle.omf_module.specs.declared.Standing.TheVariants.{Absolute, Relocatable}
 use Rattle.omf_place.specs.declared.sites.Site as stored
-use Rattle.omf_place.specs.Sites.{site, sites_view}
+use Rattle.omf_place.specs.inside.Sites.{site, sites_view}
 use Rattle.omf_place.specs.Parts.{Site, rank}
 use Rattle.omf_place.specs.Placed.{greatest, members, leads, alignment_of, is_common}
-use Rattle.omf_place.specs.Keys.{segment_place}
-use Rattle.omf_place.specs.Numbered.{IsNumberedFrom}
-use Rattle.omf_place.specs.Greatest.{greatest_at}
-use Rattle.omf_place.specs.Walk.{HoldsGreatest, measured, unit_measure, settled, settled_at, settled_by}
+use Rattle.omf_place.specs.inside.Keys.{segment_place}
+use Rattle.omf_place.specs.inside.Numbered.{IsNumberedFrom}
+use Rattle.omf_place.specs.inside.Greatest.{HoldsGreatest, greatest_at}
+use Rattle.omf_place.specs.inside.Walk.{measured, unit_measure, settled, settled_at, settled_by}
 use Rattle.omf_place.proofs.CombinedParts.{places_within, place_within, greatest_combined}
 use Rattle.omf_place.proofs.GreatestAt.{All-at}
 use Rattle.omf_place.proofs.Leaders.{position_at}

@@ -1,11 +1,15 @@
 -- Look-ups in a map, as look-ups in its entries by name.
-use Rattle.std.proofs.Common.{◌≡◌, ℕ, Bool, true, false, cond, List, [], ◌∷◌, ◌++◌, Option, Some, None, Vec, map, is_some, subst, refl, ap, sym, ◌∙◌}
+use Rattle.std.proofs.Common.{◌≡◌, ℕ, Bool, true, false, cond, not, List, [], ◌∷◌, ◌++◌, Option, Some, None, Vec, map, is_some, subst, refl, ap, sym, ◌∙◌}
 use Rattle.indexmap.specs.IndexMap.{insert_entry}
 use Rattle.std.specs.Map.{lookup}
 use Rattle.omf_place.specs.Named.{value_where}
 
 abbrev pub vector_name : {A : Type 0} → Vec ℕ A → List ℕ
 vector_name key = key.items
+
+none_from : {A : Type 0} (o : Option A) → is_some o ≡ false → o ≡ None
+none_from None e = refl
+none_from (Some x) e = cc
 
 -- keys that have names
 module _ {K V : Type 0} (f : K → List ℕ) where
@@ -25,11 +29,22 @@ module _ {K V : Type 0} (f : K → List ℕ) where
         named (cond b ((e.0, v) ∷ es) (e ∷ insert_entry (λ a c. same (f a) (f c)) es key v)) ≡ (f e.0, e.1) ∷ (named es ++ (f key, v) ∷ []))
         [ true ↦ λ g. cc | false ↦ λ g. ap (λ xs. (f e.0, e.1) ∷ xs) (named-insert key v es g) ]) h
 
-    pub named-insert_new : (key : K) (name : List ℕ) (v : V) (es : List (K × V)) → f key ≡ name → value_where (same name) (named es) ≡ None →
+    named-insert_new : (key : K) (name : List ℕ) (v : V) (es : List (K × V)) → f key ≡ name → value_where (same name) (named es) ≡ None →
         named (insert_entry (λ a b. same (f a) (f b)) es key v) ≡ named es ++ (name, v) ∷ []
     named-insert_new key name v es e h =
         named-insert key v es (subst (λ n. value_where (same n) (named es) ≡ None) (sym e) h) ∙ ap (λ n. named es ++ (n, v) ∷ []) e
 
-pub none_from : {A : Type 0} (o : Option A) → is_some o ≡ false → o ≡ None
-none_from None e = refl
-none_from (Some x) e = cc
+    -- what the insertion of a key that has a name says of an earlier entry
+    module _ (key : K) (name : List ℕ) (es : List (K × V)) (earlier : Option V) (fresh : Bool) (at : f key ≡ name)
+        (was : earlier ≡ lookup (λ k. same (f key) (f k)) es) (is : is_some earlier ≡ not fresh) where
+      earlier-named : earlier ≡ value_where (same name) (named es)
+      earlier-named = was ∙ lookup-named (same (f key)) es ∙ ap (λ n. value_where (same n) (named es)) at
+
+      pub insert-absent : fresh ≡ true → value_where (same name) (named es) ≡ None
+      insert-absent t = none_from _ (ap is_some (sym earlier-named) ∙ is ∙ ap not t)
+
+      pub insert-there : fresh ≡ false → is_some (value_where (same name) (named es)) ≡ true
+      insert-there t = ap is_some (sym earlier-named) ∙ is ∙ ap not t
+
+      pub insert-fresh : (v : V) → fresh ≡ true → named (insert_entry (λ a b. same (f a) (f b)) es key v) ≡ named es ++ (name, v) ∷ []
+      insert-fresh v t = named-insert_new key name v es at (insert-absent t)

@@ -8,8 +8,8 @@ use Rattle.omf_module.specs.declared.Standing.{Standing}
 use Rattle.omf_module.specs.declared.Standing.TheVariants.{Absolute, Relocatable}
 use Rattle.omf_place.specs.Parts.{Site, inserted, sorted, parts, placement_order, is_part, is_relocatable, combines, joins, rank, before}
 use Rattle.omf_place.specs.Placed.{IsNextStart, FollowFrom, StandsAside, IsPlaced, IsOnlyPlacement, address_of, is_unit, is_common, leads, unit_alignment, unit_length}
-use Rattle.omf_place.specs.Numbered.{IsNumberedFrom}
-use Rattle.omf_place.specs.Walk.{IsUnitBounded, units}
+use Rattle.omf_place.specs.inside.Numbered.{IsNumberedFrom}
+use Rattle.omf_place.specs.inside.Walk.{IsUnitBounded, units}
 use Rattle.omf_place.proofs.Walks.{All-get, All-filter, All-map}
 use Rattle.omf_place.proofs.Leaders.{leader, at_own, one_place, position_at, and_both, or_either, or_right}
 

@@ -1,19 +1,19 @@
 -- The owners of publics are modules.
-use Rattle.std.proofs.Common.{◌≡◌, ℕ, ◌<◌, Bool, true, false, List, map, Option, Some, None, subst, sym}
+use Rattle.std.proofs.Common.{◌≡◌, ℕ, ◌<◌, Bool, true, false, List, map, Option, Some, None, length, subst, sym, arith, ◌≤◌}
 use Rattle.std.specs.Bool.{then_some}
-use Rattle.std.specs.List.{AllByRecursion, flat_map}
+use Rattle.std.specs.List.{AllByRecursion}
 use Rattle.std.specs.Option.{option_map, option_to_list}
 use Rattle.omf_module.specs.Module.{PublicSymbol}
-use Rattle.omf_place.specs.declared.groups.GroupEntry.{GroupEntry}
-use Rattle.omf_place.specs.declared.inputs.Input.{Input}
+use Rattle.omf_module.specs.Module.{Module}
+use Rattle.omf_place.specs.Inputs.{inputs}
 use Rattle.omf_place.specs.declared.layout.PublicPlace.{PublicPlace}
 use Rattle.omf_place.specs.declared.scopes.Entry as held
-use Rattle.omf_place.specs.HeldNames.{IsOwner, entry_view}
-use Rattle.omf_place.specs.PublicTables.{held_public, held_publics}
+use Rattle.omf_place.specs.inside.HeldNames.{IsOwner, entry_view}
 use Rattle.omf_place.specs.Scopes.{Entry}
-use Rattle.omf_place.specs.Tables.{public_entry}
+use Rattle.omf_place.specs.Tables.{placed_public, placed_publics, public_entry, publics_of}
 use Rattle.omf_place.proofs.KeyPlaces.{All-make}
 use Rattle.omf_place.proofs.LinkRows.{All-flat, All-mapped_back}
+use Rattle.omf_place.proofs.LinkProgram.{indexed_from}
 use Rattle.omf_place.proofs.Walks.{All-map}
 
 module _ (count : ℕ) where
@@ -28,12 +28,12 @@ module _ (count : ℕ) where
   one input p h None = tt
   one input p h (Some x) = (owner p.local input h, tt)
 
-  module _ {A : Type 0} (groups : List (List ℕ × GroupEntry)) (xs : List (Input A)) (h : AllByRecursion (λ x. x.input < count) xs) where
-    all : AllByRecursion Owned (flat_map (held_publics groups) xs)
-    all = All-flat Owned (held_publics groups) xs (All-map (λ x. x.input < count) (λ x. AllByRecursion Owned (held_publics groups x)) xs
-        (λ x w.
-        let of_public = λ (p : PublicSymbol). option_to_list (option_map (public_entry x.input p) (held_public x groups p)) in
-        All-flat Owned of_public x.says.now.publics (All-make (λ p. AllByRecursion Owned (of_public p)) x.says.now.publics (λ p. one x.input p w (held_public x groups p)))) h)
-
-    pub owned : (es : List (held.Entry PublicPlace)) → map entry_view es ≡ flat_map (held_publics groups) xs → AllByRecursion (λ e. IsOwner count e.owner) es
-    owned es made = All-mapped_back entry_view Owned es (subst (λ ys. AllByRecursion Owned ys) (sym made) all)
+  -- of the inputs of a program
+  pub owned : (program : List Module) (A : List ℕ) → length program ≤ count → (es : List (held.Entry PublicPlace)) → map entry_view es ≡ placed_publics program A →
+      AllByRecursion (λ e. IsOwner count e.owner) es
+  owned program A few es made = All-mapped_back entry_view Owned es (subst (λ ys. AllByRecursion Owned ys) (sym made)
+      (All-flat Owned (publics_of program A) (inputs program) (All-map (λ n. n.input < count) (λ n. AllByRecursion Owned (publics_of program A n)) (inputs program)
+      (λ n w.
+      let of_public = λ (p : PublicSymbol). option_to_list (option_map (public_entry n.input p) (placed_public program A n p.offset p.base)) in
+      All-flat Owned of_public n.says.publics (All-make (λ p. AllByRecursion Owned (of_public p)) n.says.publics (λ p. one n.input p w (placed_public program A n p.offset p.base))))
+      (indexed_from 0 0 program count (omega (arith, few))))))

@@ -6,9 +6,9 @@ use Rattle.omf_place.specs.declared.layout.SegmentPlace.{SegmentPlace}
 use Rattle.omf_place.specs.declared.sites.Site as stored
 use Rattle.omf_place.specs.declared.stands.Stand.{Stand}
 use Rattle.omf_place.specs.Parts.{Site}
-use Rattle.omf_place.specs.Rows.{placed_row}
-use Rattle.omf_place.specs.Sites.{site, sites_view}
-use Rattle.omf_place.specs.Stands.{placed_by}
+use Rattle.omf_place.specs.inside.Rows.{placed_row}
+use Rattle.omf_place.specs.inside.Sites.{site, sites_view}
+use Rattle.omf_place.specs.inside.Stands.{placed_by}
 
 row-push : (xs : List Site) (ss : List Stand) (a : Site) (s : Stand) → length ss ≡ length xs → placed_row (xs ++ a ∷ []) (ss ++ s ∷ []) ≡ placed_row xs ss ++ placed_by a.segment.standing s ∷ []
 row-push [] [] a s e = refl

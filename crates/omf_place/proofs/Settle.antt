@@ -7,8 +7,8 @@ use Rattle.std.specs.Option.{option_map}
 use Rattle.omf_module.specs.declared.Standing.TheVariants.{Absolute, Relocatable}
 use Rattle.omf_place.specs.Parts.{Site, rank, parts, placement_order, is_part, is_relocatable, before}
 use Rattle.omf_place.specs.Placed.{IsNextStart, FollowFrom, StandsAside, IsPlaced, address_of, is_unit, is_common, leads, unit_alignment, unit_length}
-use Rattle.omf_place.specs.Numbered.{IsNumberedFrom}
-use Rattle.omf_place.specs.Walk.{units, settled, settled_at}
+use Rattle.omf_place.specs.inside.Numbered.{IsNumberedFrom}
+use Rattle.omf_place.specs.inside.Walk.{units, settled, settled_at}
 use Rattle.omf_place.proofs.Walks.{All-filter, All-map, All-sorted, numbered_found, found_in_order}
 use Rattle.omf_place.proofs.Leaders.{leader, or_right}
 use Rattle.omf_place.proofs.Only.{part_combined}

@@ -4,7 +4,7 @@ use Rattle.std.proofs.lemmas.Option.{get_or_from_slice_get, slice_get_within}
 use Rattle.omf_module.specs.Module.{Module, Segment}
 use Rattle.omf_place.specs.Parts.{Site, module_sites, sites_from, sites}
 use Rattle.std.specs.List.{AllByRecursion}
-use Rattle.omf_place.specs.Numbered.{IsNumberedFrom}
+use Rattle.omf_place.specs.inside.Numbered.{IsNumberedFrom}
 
 pub length-module_sites : (p i n : ℕ) (ss : List Segment) → length (module_sites p i n ss) ≡ length ss
 length-module_sites p i n [] = refl

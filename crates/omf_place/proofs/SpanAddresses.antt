@@ -2,10 +2,10 @@
 use Rattle.std.proofs.Common.{◌≡◌, ℕ, ◌+◌, ◌<◌, List, [], ◌∷◌, map, length, drop, get_or, refl, ap, sym, ◌∙◌, arith}
 use Rattle.std.proofs.lemmas.Option.{slice_get-get_or}
 use Rattle.omf_place.specs.declared.spans.SegmentSpan.{SegmentSpan}
-use Rattle.omf_place.specs.Numbered.{IsNumberedFrom}
+use Rattle.omf_place.specs.inside.Numbered.{IsNumberedFrom}
 use Rattle.omf_place.specs.Parts.{Site}
 use Rattle.omf_place.specs.Placed.{address_of}
-use Rattle.omf_place.specs.Spans.{addresses_in, span_of}
+use Rattle.omf_place.specs.inside.Spans.{addresses_in, span_of}
 use Rattle.omf_place.proofs.InputLists.{drop-at}
 use Rattle.omf_place.proofs.KeyPlaces.{map_two}
 

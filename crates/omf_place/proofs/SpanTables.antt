@@ -2,32 +2,35 @@
 use Rattle.std.proofs.Common.{◌≡◌, ℕ, ◌+◌, ◌<◌, List, [], ◌∷◌, ◌++◌, map, length, take, get_or, refl, ap, sym, ◌∙◌, arith}
 use Rattle.std.proofs.Common.{Bool, true, false, cond, ◌&&◌, ◌*◌, ◌/◌, ◌^◌, nat_eq, nat_lt, ◌≤◌, Some, find, filter, slice_get, subst, add-one}
 use Rattle.std.proofs.lemmas.List.{length-map, map-append}
+use Rattle.std.proofs.lemmas.Option.{slice_get_within}
+use Rattle.std.specs.Borrow.{Bor}
+use Rattle.std.specs.List.{AllByRecursion}
+use Rattle.omf_place.specs.declared.greatest.Asked.TheVariants.{End}
 use Rattle.omf_place.specs.declared.sites.Site as stored
 use Rattle.omf_place.specs.declared.order.Rank.{Rank}
 use Rattle.omf_place.specs.Parts.{rank, placement_order}
 use Rattle.omf_place.specs.Placed.{leads}
-use Rattle.omf_place.specs.Small.{IsSmall}
-use Rattle.omf_place.specs.Spans.{AreSpans, addresses_in}
+use Rattle.omf_place.specs.inside.Small.{IsSmall}
+use Rattle.omf_place.specs.inside.Spans.{AreSpans, addresses_in}
 use Rattle.omf_place.specs.Faults.{is_long_segment}
 use Rattle.omf_place.proofs.Measuring.{map_at}
-use Rattle.omf_place.proofs.PartRanks.{filter-push}
 use Rattle.omf_place.proofs.SiteLists.{take-all}
-use Rattle.omf_place.proofs.Walks.{met, met-within_at, met-leads, take-push}
+use Rattle.omf_place.proofs.Walks.{filter-push, met, met-within_at, met-leads, take-push}
 use Rattle.std.proofs.Common.{eq-eqb}
 use Rattle.std.proofs.lemmas.Bool.{eqb-true}
 use Rattle.omf_place.specs.declared.layout.Combined.{Combined}
 use Rattle.omf_place.specs.Tables.{combined_segment}
 use Rattle.omf_place.specs.declared.spans.SegmentSpan.{SegmentSpan}
-use Rattle.omf_place.specs.Sites.{site, sites_view}
+use Rattle.omf_place.specs.inside.Sites.{site, sites_view}
 use Rattle.omf_place.specs.Parts.{Site}
 use Rattle.omf_place.specs.Placed.{address_of}
-use Rattle.omf_place.specs.Keys.{segment_place}
-use Rattle.omf_place.specs.Numbered.{IsNumberedFrom}
-use Rattle.omf_place.specs.Spans.{span_of}
-use Rattle.omf_place.specs.Walk.{HoldsGreatest}
+use Rattle.omf_place.specs.inside.Keys.{segment_place}
+use Rattle.omf_place.specs.inside.Numbered.{IsNumberedFrom}
+use Rattle.omf_place.specs.inside.Spans.{span_of}
+use Rattle.omf_place.specs.inside.Greatest.{CanAnswer, HoldsGreatest}
 use Rattle.omf_place.proofs.GreatestAt.{All-at}
 use Rattle.omf_place.proofs.Measuring.{places_inside, places_length, place_is, held, map_site-more, position_is}
-use Rattle.omf_place.proofs.Walks.{no_site}
+use Rattle.omf_place.proofs.Walks.{All-map, no_site, numbered_found}
 
 abbrev span_at : ℕ → ℕ → ℕ → SegmentSpan
 span_at a s e = record { address = a; start = s; end = e }
@@ -35,11 +38,11 @@ span_at a s e = record { address = a; start = s; end = e }
 abbrev pub own_end : List ℕ → Site → ℕ
 own_end A b = address_of A b + b.segment.length
 
-pub own_end-more : (sites : List stored.Site) (A : List ℕ) (i n : ℕ) (d : stored.Site) (done : List ℕ) → IsNumberedFrom 0 (sites_view sites) → i < length sites → n ≡ (get_or sites i d).segment.length →
-    done ≡ map (own_end A) (sites_view (take i sites)) → done ++ (get_or A i 0 + n) ∷ [] ≡ map (own_end A) (sites_view (take (i + 1) sites))
-own_end-more sites A i n d done numbered h len was =
-    map_site-more (own_end A) sites i d done (get_or A i 0 + n) h was
-    (ap (λ m. get_or A i 0 + m) len ∙ ap (λ k. get_or A k 0 + (get_or sites i d).segment.length) (sym (position_is sites numbered i d h)))
+-- the end of each site may be asked
+pub ends-asked : (ss : List Site) (A : Bor (List ℕ)) → IsNumberedFrom 0 ss → length A.now ≡ length ss → IsSmall A.now → AllByRecursion (CanAnswer (End A)) ss
+ends-asked ss A numbered e small =
+    All-map (λ a. slice_get ss a.position ≡ Some a) (CanAnswer (End A)) ss
+    (λ a at. (let w = slice_get_within ss a.position a at in omega (arith, w, e), small a.position)) (numbered_found ss numbered)
 
 spans_are : (a s e b t f : ℕ) → a ≡ b → s ≡ t → e ≡ f → span_at a s e ≡ span_at b t f
 spans_are a s e b t f p q r = cc
@@ -90,16 +93,16 @@ find-both p q (x ∷ xs) =
       | false ↦ find-both p q xs
     ]
 
--- one leader more
-pub leaders-more : {Y : Type 0} (f : Site → Y) (p : Site → Bool) (os : List Site) (k : ℕ) (u : Site) (done : List Y) (y : Y) → slice_get os k ≡ Some u → p u ≡ true → y ≡ f u →
+-- one that passes more
+pub passing-more : {X Y : Type 0} (f : X → Y) (p : X → Bool) (os : List X) (k : ℕ) (u : X) (done : List Y) (y : Y) → slice_get os k ≡ Some u → p u ≡ true → y ≡ f u →
     done ≡ map f (filter p (take k os)) → done ++ y ∷ [] ≡ map f (filter p (take (k + 1) os))
-leaders-more f p os k u done y at t is was =
+passing-more f p os k u done y at t is was =
     let e : filter p (take (k + 1) os) ≡ filter p (take k os) ++ u ∷ [] = rw (add-one, take-push os k u at, filter-push, t) refl in
     rw (e, map-append, was, is) refl
 
-pub leaders-kept : {Y : Type 0} (f : Site → Y) (p : Site → Bool) (os : List Site) (k : ℕ) (u : Site) (done : List Y) → slice_get os k ≡ Some u → p u ≡ false →
+pub passing-kept : {X Y : Type 0} (f : X → Y) (p : X → Bool) (os : List X) (k : ℕ) (u : X) (done : List Y) → slice_get os k ≡ Some u → p u ≡ false →
     done ≡ map f (filter p (take k os)) → done ≡ map f (filter p (take (k + 1) os))
-leaders-kept f p os k u done at t was =
+passing-kept f p os k u done at t was =
     let e : filter p (take (k + 1) os) ≡ filter p (take k os) = rw (add-one, take-push os k u at, filter-push, t) refl in
     rw (e, was) refl
 
@@ -122,7 +125,7 @@ module _ (sites : List stored.Site) (ranks : List Rank) (k : ℕ) (dr : Rank) (d
       done ≡ map (combined_segment (sites_view sites) (addresses_in spans)) (filter (leads (sites_view sites)) (take k (placement_order (sites_view sites)))) →
       done ++ y ∷ [] ≡ map (combined_segment (sites_view sites) (addresses_in spans)) (filter (leads (sites_view sites)) (take (k + 1) (placement_order (sites_view sites))))
   combined-added done y t e was =
-      leaders-more (combined_segment (sites_view sites) (addresses_in spans)) (leads (sites_view sites)) (placement_order (sites_view sites)) k (met_site sites ranks k dr ds spans dp order numbered h are) done y
+      passing-more (combined_segment (sites_view sites) (addresses_in spans)) (leads (sites_view sites)) (placement_order (sites_view sites)) k (met_site sites ranks k dr ds spans dp order numbered h are) done y
       (met sites ranks k dr ds order numbered h) (sym (met-leads sites ranks k dr ds order numbered h) ∙ eq-eqb _ _ t) (met_combined y e) was
 
   pub combined-kept : (done : List Combined) → ((get_or ranks k dr).segment ≡ (get_or ranks k dr).own → ⊥) →
@@ -131,5 +134,5 @@ module _ (sites : List stored.Site) (ranks : List Rank) (k : ℕ) (dr : Rank) (d
   combined-kept done f was =
       let t : nat_eq (get_or ranks k dr).segment (get_or ranks k dr).own ≡ false =
       (elim (nat_eq (get_or ranks k dr).segment (get_or ranks k dr).own) as (λ b. nat_eq (get_or ranks k dr).segment (get_or ranks k dr).own ≡ b → b ≡ false) [ true ↦ λ e. absurd (f (eqb-true _ _ e)) | false ↦ λ e. refl ]) refl in
-      leaders-kept (combined_segment (sites_view sites) (addresses_in spans)) (leads (sites_view sites)) (placement_order (sites_view sites)) k (met_site sites ranks k dr ds spans dp order numbered h are) done
+      passing-kept (combined_segment (sites_view sites) (addresses_in spans)) (leads (sites_view sites)) (placement_order (sites_view sites)) k (met_site sites ranks k dr ds spans dp order numbered h are) done
       (met sites ranks k dr ds order numbered h) (sym (met-leads sites ranks k dr ds order numbered h) ∙ t) was

@@ -5,11 +5,11 @@ use Rattle.omf_module.specs.declared.Standing.{Standing}
 use Rattle.omf_module.specs.declared.Standing.TheVariants.{Absolute, Relocatable}
 use Rattle.omf_place.specs.declared.sites.Site as stored
 use Rattle.omf_place.specs.declared.spans.SegmentSpan.{SegmentSpan}
-use Rattle.omf_place.specs.Sites.{site, sites_view}
+use Rattle.omf_place.specs.inside.Sites.{site, sites_view}
 use Rattle.omf_place.specs.Parts.{is_relocatable}
-use Rattle.omf_place.specs.Spans.{AreSpans, addresses_in, span_of}
+use Rattle.omf_place.specs.inside.Spans.{AreSpans, addresses_in, span_of}
 use Rattle.omf_place.specs.declared.stands.Stand.{Stand}
-use Rattle.omf_place.specs.Stands.{IsFramed, StartsLow, stand_by, stand_of}
+use Rattle.omf_place.specs.inside.Stands.{IsFramed, StartsLow, stand_by, stand_of}
 use Rattle.omf_place.proofs.Measuring.{map_at, All-site}
 
 framed_by : (st : Standing) (s : SegmentSpan) → (is_relocatable st ≡ true → s.start ≤ 1048560) → IsFramed st s

@@ -7,12 +7,12 @@ use Rattle.std.proofs.lemmas.List.{get_or-set_other}
 use Rattle.std.proofs.lemmas.Option.{slice_get-map, slice_get-get_or, slice_get_within, get_or_from_slice_get}
 use Rattle.omf_place.specs.declared.sites.Site as stored
 use Rattle.omf_place.specs.declared.order.Rank.{Rank}
-use Rattle.omf_place.specs.Sites.{site, sites_view}
+use Rattle.omf_place.specs.inside.Sites.{site, sites_view}
 use Rattle.omf_place.specs.Parts.{Site, inserted, sorted, rank, parts, placement_order, before, is_part}
 use Rattle.omf_place.specs.Placed.{FollowFrom, IsNextStart, leads, is_common, is_unit, unit_alignment, unit_length, address_of}
-use Rattle.omf_place.specs.Numbered.{IsNumberedFrom}
+use Rattle.omf_place.specs.inside.Numbered.{IsNumberedFrom}
 use Rattle.omf_place.specs.declared.starts.Measure.{Measure}
-use Rattle.omf_place.specs.Walk.{IsUnitBounded, Places, PlacesUnit, KeepsOthers, unit_measure}
+use Rattle.omf_place.specs.inside.Walk.{IsUnitBounded, Places, PlacesUnit, KeepsOthers, unit_measure}
 use Rattle.omf_module.specs.declared.Standing.TheVariants.{Absolute}
 
 -- what holds of each element holds of each that a filter keeps, and of each of the list in order
@@ -164,9 +164,6 @@ module _ (sites : List stored.Site) (ranks : List Rank) (k : ℕ) (dr : Rank) (d
   pub met-leads : nat_eq (get_or ranks k dr).segment (get_or ranks k dr).own ≡ leads (sites_view sites) (site (get_or sites (get_or ranks k dr).own ds))
   met-leads = sym (ap (λ (r : Rank). nat_eq r.segment r.own) at_k.rank)
 
-  pub met-rank : get_or ranks k dr ≡ rank (sites_view sites) (site (get_or sites (get_or ranks k dr).own ds))
-  met-rank = sym at_k.rank
-
   pub met-bounded : AllByRecursion (IsUnitBounded (sites_view sites)) (placement_order (sites_view sites)) → IsUnitBounded (sites_view sites) (site (get_or sites (get_or ranks k dr).own ds))
   met-bounded bounds = All-get (IsUnitBounded (sites_view sites)) (placement_order (sites_view sites)) k _ bounds at_k.met
 
@@ -174,7 +171,7 @@ module _ (sites : List stored.Site) (ranks : List Rank) (k : ℕ) (dr : Rank) (d
   met = at_k.met
 
 -- one step of the walk
-filter-push : {X : Type 0} (p : X → Bool) (xs : List X) (x : X) → filter p (xs ++ x ∷ []) ≡ cond (p x) (filter p xs ++ x ∷ []) (filter p xs)
+pub filter-push : {X : Type 0} (p : X → Bool) (xs : List X) (x : X) → filter p (xs ++ x ∷ []) ≡ cond (p x) (filter p xs ++ x ∷ []) (filter p xs)
 filter-push p [] x = refl
 filter-push p (y ∷ ys) x =
     elim (p y) as (λ b. cond b (y ∷ filter p (ys ++ x ∷ [])) (filter p (ys ++ x ∷ [])) ≡ cond (p x) (cond b (y ∷ filter p ys) (filter p ys) ++ x ∷ []) (cond b (y ∷ filter p ys) (filter p ys))) [

@@ -11,9 +11,9 @@ use Rattle.omf_module.specs.declared.Standing.TheVariants.{Absolute, Relocatable
 use Rattle.omf_module.specs.Sound.{SegmentFits, IsStanding}
 use Rattle.omf_place.specs.Parts.{Site, combines, joins, joins_kind, rank, is_part, is_relocatable}
 use Rattle.omf_place.specs.Placed.{IsPlaced, FollowFrom, StandsAside, greatest, members, leads, is_unit, is_common, has_kind, is_kind_common, unit_length, address_of}
-use Rattle.omf_place.specs.Numbered.{IsNumberedFrom}
+use Rattle.omf_place.specs.inside.Numbered.{IsNumberedFrom}
 use Rattle.omf_place.specs.Tables.{segment_start, segment_end}
-use Rattle.omf_place.specs.Walk.{units}
+use Rattle.omf_place.specs.inside.Walk.{units}
 use Rattle.omf_place.proofs.Bounds.{most-each, most-within}
 use Rattle.omf_place.proofs.CombinedParts.{combines-symm}
 use Rattle.omf_place.proofs.Leaders.{leader, or_either, or_right, and_both, combines-itself, at_own, position_at}

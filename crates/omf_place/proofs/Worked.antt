@@ -3,7 +3,7 @@ use Rattle.std.proofs.Common.{◌≡◌, ℕ, List, [], ◌∷◌, Some, None, r
 use Rattle.std.specs.Prelude.{codes, replicate, ◌++◌}
 use Rattle.omf_module.specs.declared.Kind.TheVariants.{Private, Public, Stack, Common}
 use Rattle.omf_module.specs.declared.Standing.TheVariants.{Relocatable}
-use Rattle.omf_module.specs.declared.Base.TheVariants.{AtFrame, InSegment}
+use Rattle.omf_module.specs.declared.SymbolBase.TheVariants.{AtFrame, InSegment}
 use Rattle.omf_module.specs.Module.{Module, Segment, Group, PublicSymbol}
 use Rattle.omf_place.specs.declared.layout.Address.TheVariants as address
 use Rattle.omf_place.specs.declared.layout.Base.TheVariants as base

@@ -24,6 +24,7 @@ LiesInside size length (Relocatable alignment kind) (address.Relocatable a) = a 
 LiesInside size length (Absolute frame offset) (address.Absolute a) = Unit {0}
 LiesInside size length standing a = ⊥
 
+-- the place of a segment in a program of a size
 pub record IsPlaceOf (size : ℕ) (s : Segment) (p : SegmentPlace) : Type 0 where
   pub inside : LiesInside size s.length s.standing p.address
   pub frame : HasOwnFrame p.address (Some p.frame)
@@ -34,6 +35,7 @@ pub record ArePlacesOf (size : ℕ) (m : Module) (places : ModulePlaces) : Type 
   pub groups : length places.groups ≡ length m.groups
   pub each : (i : ℕ) (s : Segment) → slice_get m.segments i ≡ Some s → IsPlaceOf size s (segment_in places i)
 
+-- what may be relied on of a layout: no number in it is out of range
 pub record IsBounded (program : List Module) (layout : Layout) : Type 0 where
   pub size : layout.size ≤ 1048560
   pub modules : length layout.modules ≡ length program
@@ -43,4 +45,5 @@ pub record IsBounded (program : List Module) (layout : Layout) : Type 0 where
   pub publics : (name : List ℕ) → IfSome (public layout name) (λ p. HasOwnFrame p.address p.frame)
   -- each module has its local publics
   pub scopes : length layout.locals ≡ length program
-  pub locals : (input : ℕ) (name : List ℕ) → IfSome (local_public layout input name) (λ p. HasOwnFrame p.address p.frame)
+  pub locals : (input : ℕ) (name : List ℕ) →
+      IfSome (local_public layout input name) (λ p. HasOwnFrame p.address p.frame)

@@ -10,6 +10,7 @@ use Rattle.omf_place.specs.Scopes.{Entry, first_clash}
 use Rattle.omf_place.specs.declared.layout.PublicPlace.{PublicPlace}
 use Rattle.omf_place.specs.declared.names.Names.{Names}
 
+-- why a program has no layout, with the name of the first at fault
 pub data PlacementFault : Type 0 where
   SegmentTooLong : (name : List ℕ) → PlacementFault
   ProgramTooLarge : PlacementFault
@@ -24,8 +25,10 @@ is_too_long frame end = nat_lt (16 * frame + 65536) end
 abbrev pub is_long_segment : List Site → List ℕ → Site → Bool
 is_long_segment ss addresses a = is_too_long (segment_frame ss addresses a) (segment_end ss addresses a)
 
+-- the fault of the first combined segment that is too long, by the name of its first part
 abbrev pub segment_fault : List Site → List ℕ → Option PlacementFault
-segment_fault ss addresses = option_map (λ a. SegmentTooLong a.segment.name) (find (is_long_segment ss addresses) (leaders ss))
+segment_fault ss addresses =
+    option_map (λ a. SegmentTooLong a.segment.name) (find (is_long_segment ss addresses) (leaders ss))
 
 -- fault 23
 abbrev pub size_fault : ℕ → Option PlacementFault
@@ -36,6 +39,7 @@ abbrev pub duplicate_in : Names → List (Entry PublicPlace) → Option Placemen
 duplicate_in names publics = option_map (λ p. DuplicatePublic p.1.name) (first_clash names publics)
 
 module _ (program : List Module) (addresses : List ℕ) where
+  -- a group, by its name, ends more than 65,536 above its frame
   abbrev pub is_long_group : List ℕ → Bool
   is_long_group name = option_map_or (λ s. is_too_long (s.start / 16) s.end) (group_span program addresses name) false
 
@@ -45,23 +49,30 @@ module _ (program : List Module) (addresses : List ℕ) where
 
 -- of 24 and 25 the first
 abbrev pub later_fault : Names → List Module → (addresses : List ℕ) → Option PlacementFault
-later_fault names program addresses = option_or (group_fault program addresses) (duplicate_in names (placed_publics program addresses))
+later_fault names program addresses =
+    option_or (group_fault program addresses) (duplicate_in names (placed_publics program addresses))
 
 -- the first in order of number
 abbrev pub placement_fault : Names → List Module → (addresses : List ℕ) → (size : ℕ) → Option PlacementFault
 placement_fault names program addresses size =
-    option_or (segment_fault (sites program) addresses) (option_or (size_fault size) (later_fault names program addresses))
+    option_or (segment_fault (sites program) addresses)
+    (option_or (size_fault size) (later_fault names program addresses))
 
--- under a choice of which names of publics agree a layout is that of a program where its parts start by the rules and no fault stands
+-- under a choice of which names of publics agree a layout is that of a program where its parts start by the rules and
+-- no fault stands
 abbrev pub IsLayout : Names → List Module → Layout → Type 0
 IsLayout names program layout = (addresses : List ℕ) × IsPlaced (sites program) addresses layout.size
-    × (placement_fault names program addresses layout.size ≡ None) × (layout ≡ layout_at names program addresses layout.size)
+    × (placement_fault names program addresses layout.size ≡ None) ×
+    (layout ≡ layout_at names program addresses layout.size)
 
 -- and no other is
 abbrev pub IsOnlyLayout : Names → List Module → Layout → Type 0
-IsOnlyLayout names program layout = IsLayout names program layout × ((other : Layout) → IsLayout names program other → other ≡ layout)
+IsOnlyLayout names program layout =
+    IsLayout names program layout × ((other : Layout) → IsLayout names program other → other ≡ layout)
 
 -- the first fault of a program
 abbrev pub IsFirstFault : Names → List Module → PlacementFault → Type 0
-IsFirstFault names program fault = (addresses : List ℕ) × (size : ℕ) × IsPlaced (sites program) addresses size × IsOnlyPlacement (sites program) addresses size
+IsFirstFault names program fault =
+    (addresses : List ℕ) × (size : ℕ) × IsPlaced (sites program) addresses size ×
+    IsOnlyPlacement (sites program) addresses size
     × (placement_fault names program addresses size ≡ Some fault)

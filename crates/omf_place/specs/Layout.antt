@@ -5,7 +5,8 @@ use Rattle.omf_place.specs.Parts.{sites}
 use Rattle.omf_place.specs.Inputs.{Input, inputs}
 use Rattle.omf_place.specs.Names.{Table, empty, means}
 use Rattle.omf_place.specs.Scopes.{local_tables, table}
-use Rattle.omf_place.specs.Tables.{placed, leaders, combined_segment, group_frame as frame_of_group, placed_groups, placed_publics}
+use Rattle.omf_place.specs.Tables.{placed, leaders, combined_segment, group_frame as frame_of_group, placed_groups}
+use Rattle.omf_place.specs.Tables.{placed_publics}
 use Rattle.omf_place.specs.declared.layout.Address.{Address}
 use Rattle.omf_place.specs.declared.layout.Address.TheVariants as address
 use Rattle.omf_place.specs.declared.layout.Base.{Base}
@@ -22,6 +23,7 @@ pub record ModulePlaces : Type 0 where
   pub segments : List SegmentPlace
   pub groups : List (Option ℕ)
 
+-- where everything of a program stands
 pub record Layout : Type 0 where
   pub size : ℕ
   -- by input
@@ -37,8 +39,12 @@ pub record Layout : Type 0 where
 
 -- what the addresses of the segments make of a program
 module _ (program : List Module) (addresses : List ℕ) where
+  -- the places of a module
   abbrev pub module_places : Input → ModulePlaces
-  module_places n = record { segments = map (placed (sites program) addresses) n.sites; groups = map (λ g. frame_of_group program addresses g.name) n.says.groups }
+  module_places n = record {
+    segments = map (placed (sites program) addresses) n.sites;
+    groups = map (λ g. frame_of_group program addresses g.name) n.says.groups;
+  }
 
 -- under a choice of which names of publics agree
 abbrev pub layout_at : Names → List Module → (addresses : List ℕ) → (size : ℕ) → Layout
@@ -55,8 +61,10 @@ layout_at names program addresses size = record {
 abbrev pub places_of : Layout → (input : ℕ) → ModulePlaces
 places_of layout input = get_or layout.modules input (record { segments = []; groups = [] })
 
+-- the place of a segment of a module; what is out of range isn't looked at
 abbrev pub segment_in : ModulePlaces → (segment : ℕ) → SegmentPlace
-segment_in places segment = get_or places.segments segment (record { address = address.Absolute 0; frame = base.Absolute 0 })
+segment_in places segment =
+    get_or places.segments segment (record { address = address.Absolute 0; frame = base.Absolute 0 })
 
 -- where a segment of a module stands
 abbrev pub part_start : Layout → (input segment : ℕ) → Address

@@ -1,16 +1,7 @@
 -- A map by name, as its entries in order.
-use Rattle.std.specs.Prelude.{ℕ, Bool, List, [], ◌∷◌, map, Option, Some, None, if◌then◌else◌}
-use Rattle.std.specs.Borrow.{Bor}
-use Rattle.std.specs.Str.{bytes_eq}
+use Rattle.std.specs.Prelude.{ℕ, Bool, List, [], ◌∷◌, Option, Some, None, if◌then◌else◌}
 
 -- the value of the first entry whose name passes a test
 abbrev pub value_where : {V : Type 0} → (List ℕ → Bool) → List (List ℕ × V) → Option V
 value_where test [] = None
 value_where test (e ∷ es) = if test e.0 then Some e.1 else value_where test es
-
--- the value at a name
-abbrev pub value_of : {V : Type 0} → List (List ℕ × V) → List ℕ → Option V
-value_of es name = value_where (bytes_eq name) es
-
-abbrev pub named_slices : {V : Type 0} → List (Bor (List ℕ) × V) → List (List ℕ × V)
-named_slices es = map (λ e. (e.0.now, e.1)) es

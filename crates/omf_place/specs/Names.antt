@@ -15,6 +15,7 @@ abbrev pub spelled : Names → List ℕ → List ℕ
 spelled Exact name = name
 spelled AsciiFolded name = folded name
 
+-- two names are one
 abbrev pub agrees : Names → (one other : List ℕ) → Bool
 agrees names one other = bytes_eq (spelled names one) (spelled names other)
 
@@ -27,5 +28,6 @@ pub record Table (V : Type 0) : Type 0 where
 abbrev pub means : {V : Type 0} → Table V → (name : List ℕ) → Option V
 means t name = value_where (agrees t.names name) t.entries
 
+-- a table without names
 abbrev pub empty : {V : Type 0} → Names → Table V
 empty names = record { names = names; entries = [] }

@@ -1,5 +1,6 @@
 -- Where the parts start (TIS OMF 1.1, SEGDEF, the alignment): a relation between the segments and their addresses.
-use Rattle.std.specs.Prelude.{◌≡◌, ℕ, ◌+◌, ◌*◌, ◌%◌, ◌<◌, ◌≤◌, max, Bool, true, false, ◌==◌, ◌||◌, not, List, [], ◌∷◌, length, filter, fold, slice_index, if◌then◌else◌}
+use Rattle.std.specs.Prelude.{◌≡◌, ℕ, ◌+◌, ◌*◌, ◌%◌, ◌<◌, ◌≤◌, max, Bool, true, false, ◌==◌, ◌||◌, not, List, [], ◌∷◌}
+use Rattle.std.specs.Prelude.{length, filter, fold, slice_index, if◌then◌else◌}
 use Rattle.omf_module.specs.declared.Kind.{Kind}
 use Rattle.omf_module.specs.declared.Kind.TheVariants.{Stack, Common}
 use Rattle.omf_module.specs.declared.Standing.{Standing}
@@ -7,28 +8,35 @@ use Rattle.omf_module.specs.declared.Standing.TheVariants.{Absolute, Relocatable
 use Rattle.std.specs.List.{AllByRecursion}
 use Rattle.omf_place.specs.Parts.{Site, combines, rank, placement_order}
 
+-- the greatest of what is asked of each; 0 of none
 abbrev pub greatest : {X : Type 0} → (X → ℕ) → List X → ℕ
 greatest f xs = fold (λ most x. max most (f x)) 0 xs
 
+-- the alignment of a segment in bytes: an absolute one has none, and counts as 1
 abbrev pub alignment_of : Standing → ℕ
 alignment_of (Absolute frame offset) = 1
 alignment_of (Relocatable alignment kind) = alignment
 
+-- a part whose kind passes a test
 abbrev pub has_kind : (Kind → Bool) → Standing → Bool
 has_kind test (Absolute frame offset) = false
 has_kind test (Relocatable alignment kind) = test kind
 
+-- the kind of common segments
 abbrev pub is_kind_common : Kind → Bool
 is_kind_common Common = true
 is_kind_common k = false
 
+-- the kind of stack segments
 abbrev pub is_kind_stack : Kind → Bool
 is_kind_stack Stack = true
 is_kind_stack k = false
 
+-- a part of a common segment
 abbrev pub is_common : Site → Bool
 is_common a = has_kind is_kind_common a.segment.standing
 
+-- a part of a stack segment
 abbrev pub is_stack : Site → Bool
 is_stack a = has_kind is_kind_stack a.segment.standing
 
@@ -44,12 +52,14 @@ leads ss a = (rank ss a).segment == a.position
 abbrev pub is_unit : List Site → Site → Bool
 is_unit ss a = not (is_common a) || leads ss a
 
+-- the greatest alignment of a common segment; a part of a stack that isn't its first follows without a gap
 abbrev pub unit_alignment : List Site → Site → ℕ
 unit_alignment ss a =
     if is_common a then greatest (λ b. alignment_of b.segment.standing) (members ss a)
     else if is_stack a then (if leads ss a then alignment_of a.segment.standing else 1)
     else alignment_of a.segment.standing
 
+-- a common segment is as long as its longest part
 abbrev pub unit_length : List Site → Site → ℕ
 unit_length ss a = if is_common a then greatest (λ b. b.segment.length) (members ss a) else a.segment.length
 
@@ -70,12 +80,14 @@ FollowFrom ss addresses end (u ∷ us) size =
     IsNextStart end (unit_alignment ss u) (address_of addresses u)
     × FollowFrom ss addresses (address_of addresses u + unit_length ss u) us size
 
--- a part that isn't placed by itself starts with the first part of its combined segment, and an absolute segment stands where it says
+-- a part that isn't placed by itself starts with the first part of its combined segment, and an absolute segment
+-- stands where it says
 abbrev pub StandsAside : List Site → List ℕ → Site → Standing → Type 0
 StandsAside ss addresses a (Absolute frame offset) = address_of addresses a ≡ 16 * frame + offset
 StandsAside ss addresses a (Relocatable alignment kind) =
     is_unit ss a ≡ false → address_of addresses a ≡ slice_index addresses (rank ss a).segment
 
+-- the addresses of the segments, by position, and the size of the program, by the rules
 pub record IsPlaced (ss : List Site) (addresses : List ℕ) (size : ℕ) : Type 0 where
   pub each : length addresses ≡ length ss
   pub units : FollowFrom ss addresses 0 (filter (is_unit ss) (placement_order ss)) size
@@ -83,4 +95,5 @@ pub record IsPlaced (ss : List Site) (addresses : List ℕ) (size : ℕ) : Type 
 
 -- and no other addresses and size stand in the relation
 abbrev pub IsOnlyPlacement : List Site → List ℕ → ℕ → Type 0
-IsOnlyPlacement ss addresses size = (others : List ℕ) (end : ℕ) → IsPlaced ss others end → (others ≡ addresses) × (end ≡ size)
+IsOnlyPlacement ss addresses size =
+    (others : List ℕ) (end : ℕ) → IsPlaced ss others end → (others ≡ addresses) × (end ≡ size)

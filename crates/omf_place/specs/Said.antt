@@ -4,6 +4,7 @@ use Rattle.omf_place.specs.declared.faults.PlaceFault.{PlaceFault}
 use Rattle.omf_place.specs.declared.faults.PlaceFault.TheVariants as held
 use Rattle.omf_place.specs.Faults.{PlacementFault, SegmentTooLong, ProgramTooLarge, GroupTooLong, DuplicatePublic}
 
+-- the fault, if it is one of placement
 abbrev pub said : {A : Type 0} → PlaceFault A → Option PlacementFault
 said held.Memory = None
 said (held.SegmentTooLong name) = Some (SegmentTooLong name.items)

@@ -10,11 +10,13 @@ pub record Entry (V : Type 0) : Type 0 where
   pub name : List ℕ
   pub value : V
 
+-- two names are known to the same
 abbrev pub same_owner : Option ℕ → Option ℕ → Bool
 same_owner None None = true
 same_owner (Some m) (Some n) = m == n
 same_owner p q = false
 
+-- the entries of an owner
 abbrev pub owned_by : {V : Type 0} → Option ℕ → List (Entry V) → List (Entry V)
 owned_by owner es = filter (λ e. same_owner owner e.owner) es
 

@@ -1,13 +1,14 @@
 -- Combined segments, groups and publics of a placed program (TIS OMF 1.1, SEGDEF, GRPDEF and PUBDEF).
-use Rattle.std.specs.Prelude.{ℕ, ◌+◌, ◌*◌, ◌/◌, min, max, Bool, false, ◌==◌, ◌&&◌, List, filter, map, fold, find, Option, Some, None, slice_index, slice_get}
+use Rattle.std.specs.Prelude.{ℕ, ◌+◌, ◌*◌, ◌/◌, min, max, Bool, false, ◌==◌, ◌&&◌, List, filter, map, fold, find}
+use Rattle.std.specs.Prelude.{Option, Some, None, slice_index, slice_get}
 use Rattle.std.specs.Bool.{then_some}
 use Rattle.std.specs.List.{enumerate_from, flat_map}
 use Rattle.std.specs.Option.{option_map, option_map_or, option_and_then, option_to_list}
 use Rattle.std.specs.Str.{bytes_eq}
 use Rattle.omf_module.specs.declared.Standing.{Standing}
 use Rattle.omf_module.specs.declared.Standing.TheVariants.{Absolute, Relocatable}
-use Rattle.omf_module.specs.declared.Base.TheVariants.{AtFrame, InSegment}
-use Rattle.omf_module.specs.declared.Base as public_base
+use Rattle.omf_module.specs.declared.SymbolBase.TheVariants.{AtFrame, InSegment}
+use Rattle.omf_module.specs.declared.SymbolBase.{SymbolBase}
 use Rattle.omf_module.specs.Module.{Module, PublicSymbol}
 use Rattle.omf_place.specs.Parts.{Site, sites, rank, placement_order}
 use Rattle.omf_place.specs.Placed.{greatest, members, leads, address_of}
@@ -27,39 +28,54 @@ leaders ss = filter (leads ss) (placement_order ss)
 
 -- A combined segment is named by any of its parts. It starts with its first part, and ends with the greatest end.
 module _ (ss : List Site) (addresses : List ℕ) where
+  -- the address of its first part
   abbrev pub segment_start : Site → ℕ
   segment_start a = slice_index addresses (rank ss a).segment
 
+  -- the greatest end of its parts
   abbrev pub segment_end : Site → ℕ
   segment_end a = greatest (λ b. address_of addresses b + b.segment.length) (members ss a)
 
+  -- the paragraph of its start
   abbrev pub segment_frame : Site → ℕ
   segment_frame a = segment_start a / 16
 
+  -- a combined segment, as a layout says it
   abbrev pub combined_segment : Site → Combined
   combined_segment a = record { start = segment_start a; end = segment_end a; input = a.input; segment = a.number }
 
   -- where a segment stands
   abbrev pub placed_at : Site → Standing → SegmentPlace
-  placed_at a (Absolute frame offset) = record { address = address.Absolute (16 * frame + offset); frame = base.Absolute frame }
-  placed_at a (Relocatable alignment kind) = record { address = address.Relocatable (address_of addresses a); frame = base.Relocatable (segment_frame a) }
+  placed_at a (Absolute frame offset) =
+      record { address = address.Absolute (16 * frame + offset); frame = base.Absolute frame }
+  placed_at a (Relocatable alignment kind) =
+      record { address = address.Relocatable (address_of addresses a); frame = base.Relocatable (segment_frame a) }
 
+  -- where a segment stands, by its own definition
   abbrev pub placed : Site → SegmentPlace
   placed a = placed_at a a.segment.standing
 
 -- a GRPDEF, with the sites of its components
 pub record Grpdef : Type 0 where
   pub input : ℕ
-  pub number : ℕ
+  pub group : ℕ
   pub name : List ℕ
   pub sites : List Site
 
+-- the sites of a GRPDEF's components, by their indexes in the module
 abbrev pub components : List Site → List ℕ → List Site
 components row members = flat_map (λ k. option_to_list (slice_get row k)) members
 
+-- the GRPDEFs of a module
 abbrev pub grpdefs_of : Input → List Grpdef
-grpdefs_of n = map (λ e. record { input = n.input; number = e.0; name = e.1.name; sites = components n.sites e.1.members }) (enumerate_from 0 n.says.groups)
+grpdefs_of n = map (λ e. record {
+  input = n.input;
+  group = e.0;
+  name = e.1.name;
+  sites = components n.sites e.1.members;
+}) (enumerate_from 0 n.says.groups)
 
+-- those of a program, in order of inputs and records
 abbrev pub grpdefs : List Module → List Grpdef
 grpdefs program = flat_map grpdefs_of (inputs program)
 
@@ -68,51 +84,66 @@ pub record Span : Type 0 where
   pub start : ℕ
   pub end : ℕ
 
+-- a span, with a combined segment more
 abbrev pub widen : Option Span → (start end : ℕ) → Option Span
 widen None start end = Some (record { start = start; end = end })
 widen (Some s) start end = Some (record { start = min s.start start; end = max s.end end })
+
+-- the span of the combined segments of some parts, where there are any
+abbrev pub span : List Site → (addresses : List ℕ) → List Site → Option Span
+span ss addresses parts = fold (λ s a. widen s (segment_start ss addresses a) (segment_end ss addresses a)) None parts
 
 -- a local public is one of its module alone
 abbrev pub public_entry : (input : ℕ) → PublicSymbol → PublicPlace → Entry PublicPlace
 public_entry input p placed = record { owner = then_some p.local input; name = p.name; value = placed }
 
 module _ (program : List Module) (addresses : List ℕ) where
-  -- the span of the combined segments of some parts, where there are any
-  abbrev pub span : List Site → Option Span
-  span parts = fold (λ s a. widen s (segment_start (sites program) addresses a) (segment_end (sites program) addresses a)) None parts
-
   -- All GRPDEFs of one name are one group.
   abbrev pub group_span : List ℕ → Option Span
-  group_span name = span (flat_map (λ g. g.sites) (filter (λ g. bytes_eq name g.name) (grpdefs program)))
+  group_span name = span (sites program) addresses
+      (flat_map (λ g. g.sites) (filter (λ g. bytes_eq name g.name) (grpdefs program)))
 
+  -- the paragraph of a group's start, where it has members
   abbrev pub group_frame : List ℕ → Option ℕ
   group_frame name = option_map (λ s. s.start / 16) (group_span name)
 
   -- whether a GRPDEF is the first of its name
   abbrev pub is_first_grpdef : Grpdef → Bool
-  is_first_grpdef g = option_map_or (λ f. f.input == g.input && f.number == g.number) (find (λ f. bytes_eq g.name f.name) (grpdefs program)) false
+  is_first_grpdef g = option_map_or (λ f. f.input == g.input && f.group == g.group)
+      (find (λ f. bytes_eq g.name f.name) (grpdefs program)) false
 
+  -- a group, by its first GRPDEF
   abbrev pub placed_group : Grpdef → GroupPlace
-  placed_group g = record { frame = group_frame g.name; input = g.input; group = g.number }
+  placed_group g = record { frame = group_frame g.name; input = g.input; group = g.group }
 
+  -- the groups in order of first meeting
   abbrev pub placed_groups : List GroupPlace
   placed_groups = map placed_group (filter is_first_grpdef (grpdefs program))
 
   -- a public of a part has the frame of its group, where it has a group, and else that of its segment
   abbrev pub public_frame : Module → Site → Option ℕ → Option Base
   public_frame m a None = Some (base.Relocatable (segment_frame (sites program) addresses a))
-  public_frame m a (Some g) = option_and_then (λ group. option_map base.Relocatable (group_frame group.name)) (slice_get m.groups g)
+  public_frame m a (Some g) =
+      option_and_then (λ group. option_map base.Relocatable (group_frame group.name)) (slice_get m.groups g)
 
+  -- a public of a segment: it moves with the program where the segment is a part
   abbrev pub in_segment : Module → Option ℕ → (offset : ℕ) → Site → Standing → PublicPlace
-  in_segment m group offset a (Absolute frame at) = record { address = address.Absolute (16 * frame + at + offset); frame = Some (base.Absolute frame) }
-  in_segment m group offset a (Relocatable alignment kind) = record { address = address.Relocatable (address_of addresses a + offset); frame = public_frame m a group }
+  in_segment m group offset a (Absolute frame at) =
+      record { address = address.Absolute (16 * frame + at + offset); frame = Some (base.Absolute frame) }
+  in_segment m group offset a (Relocatable alignment kind) =
+      record { address = address.Relocatable (address_of addresses a + offset); frame = public_frame m a group }
 
-  abbrev pub placed_public : Input → (offset : ℕ) → public_base.Base → Option PublicPlace
-  placed_public n offset (AtFrame frame) = Some (record { address = address.Absolute (16 * frame + offset); frame = Some (base.Absolute frame) })
-  placed_public n offset (InSegment number group) = option_map (λ a. in_segment n.says group offset a a.segment.standing) (slice_get n.sites number)
+  -- what a public stands for, if its segment is there
+  abbrev pub placed_public : Input → (offset : ℕ) → SymbolBase → Option PublicPlace
+  placed_public n offset (AtFrame frame) =
+      Some (record { address = address.Absolute (16 * frame + offset); frame = Some (base.Absolute frame) })
+  placed_public n offset (InSegment segment group) =
+      option_map (λ a. in_segment n.says group offset a a.segment.standing) (slice_get n.sites segment)
 
+  -- the publics of a module
   abbrev pub publics_of : Input → List (Entry PublicPlace)
-  publics_of n = flat_map (λ p. option_to_list (option_map (public_entry n.input p) (placed_public n p.offset p.base))) n.says.publics
+  publics_of n = flat_map
+      (λ p. option_to_list (option_map (public_entry n.input p) (placed_public n p.offset p.base))) n.says.publics
 
   -- the publics, local ones too, in order of inputs and records
   abbrev pub placed_publics : List (Entry PublicPlace)

@@ -2,7 +2,6 @@
 
 ghost use Rattle.std.specs.Prelude.{◌≡◌, IfSome};
 ghost use Rattle.omf_place.specs.declared.faults.PlaceFault.TheVariants.{Memory};
-ghost use Rattle.omf_place.specs.Faults.{PlacementFault};
 ghost use Rattle.omf_place.specs.Faults as fault;
 ghost use Rattle.omf_place.specs.Said.{said};
 
@@ -37,6 +36,7 @@ impl<A: Allocator + Copy> From<AllocError> for PlaceFault<A> {
     }
 }
 
+/// The fault of a combined segment, by the name of its first part.
 pub(crate) fn segment_too_long<A: Allocator + Copy>(alloc: A, name: &[u8]) -> PlaceFault<A>
     ensures { IfSome (said result) (λ f. f ≡ fault.SegmentTooLong name.now) }
 {
@@ -46,6 +46,7 @@ pub(crate) fn segment_too_long<A: Allocator + Copy>(alloc: A, name: &[u8]) -> Pl
     }
 }
 
+/// The fault of a group, by its name.
 pub(crate) fn group_too_long<A: Allocator + Copy>(alloc: A, name: &[u8]) -> PlaceFault<A>
     ensures { IfSome (said result) (λ f. f ≡ fault.GroupTooLong name.now) }
 {
@@ -55,6 +56,7 @@ pub(crate) fn group_too_long<A: Allocator + Copy>(alloc: A, name: &[u8]) -> Plac
     }
 }
 
+/// The fault of a public whose name an earlier one has, by that name.
 pub(crate) fn duplicate_public<A: Allocator + Copy>(alloc: A, name: &[u8]) -> PlaceFault<A>
     ensures { IfSome (said result) (λ f. f ≡ fault.DuplicatePublic name.now) }
 {

@@ -1,6 +1,6 @@
 //! Where keys are first met.
 
-ghost use Rattle.std.specs.Prelude.{◌≡◌, ℕ, map, cond, IfOk, OnOk, Some, is_some, unwrap_or, true, false};
+ghost use Rattle.std.specs.Prelude.{◌≡◌, map, cond, IfOk, OnOk, Some, is_some, unwrap_or, true, false};
 ghost use Rattle.std.specs.List.{position_or_len};
 ghost use Rattle.indexmap.specs.IndexMap.{get};
 
@@ -18,14 +18,13 @@ fn first_met<K: Eq + Hash + Copy, A: Allocator + Copy>(
     place: usize,
 ) -> Result<usize, AllocError>
     ensures first { IfOk result (λ first. first ≡ unwrap_or (get K.eq met.old key) place) }
-    ensures kept { OnOk result ((q : K) → is_some (get K.eq met.old key) ≡ true → get K.eq met.new q ≡ get K.eq met.old q) }
-    ensures added { OnOk result ((q : K) → is_some (get K.eq met.old key) ≡ false → get K.eq met.new q ≡ cond (K.eq key q) (Some place) (get K.eq met.old q)) }
+    ensures kept { OnOk result
+        ((q : K) → is_some (get K.eq met.old key) ≡ true → get K.eq met.new q ≡ get K.eq met.old q) }
+    ensures added { OnOk result
+        ((q : K) → is_some (get K.eq met.old key) ≡ false →
+        get K.eq met.new q ≡ cond (K.eq key q) (Some place) (get K.eq met.old q)) }
 {
-    if let Some(first) = met.get(&key).copied() {
-        return Ok(first);
-    }
-    met.insert(key, place)?;
-    Ok(place)
+    Ok(*met.entry(key)?.or_insert(place))
 }
 
 /// For each key, the place of the first key that is equal to it.

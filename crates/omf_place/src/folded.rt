@@ -7,7 +7,7 @@ ghost use Rattle.std.specs.Cmp.Lexicographic.{on_texts_equal, bytes_decides};
 ghost use Rattle.std.specs.Hash as fed;
 ghost use Rattle.std.specs.List.{flat_map};
 ghost use Rattle.std.specs.Str.{bytes_eq};
-ghost use Rattle.omf_place.specs.HeldNames.{folded_key, key_name};
+ghost use Rattle.omf_place.specs.inside.HeldNames.{folded_key, key_name};
 
 use std::alloc::Allocator;
 use std::hash::{Hash, Hasher};
@@ -20,6 +20,7 @@ pub(crate) enum FoldedName<'a, A: Allocator + Copy> {
 }
 
 impl<'a, A: Allocator + Copy> FoldedName<'a, A> {
+    /// The bytes of the name.
     fn bytes(&self) -> &[u8]
         ensures { result.now ≡ key_name self.now }
     {

@@ -1,20 +1,26 @@
 //! Groups: all GRPDEFs of one name are one group.
 
-ghost use Rattle.std.specs.Prelude.{◌≡◌, ◌+◌, ◌*◌, ◌++◌, ◌<◌, [], ℕ, List, Some, IfOk, OnOk, if◌then◌else◌, filter, find, length, map, nat_lt};
-ghost use Rattle.std.specs.List.{AllByRecursion, flat_map};
+ghost use Rattle.std.specs.Prelude.{◌≡◌, ◌+◌, ◌*◌, ◌++◌, ◌<◌, ℕ, List, Some, IfOk, OnOk, if◌then◌else◌, length, map};
+ghost use Rattle.std.specs.Prelude.{nat_lt};
+ghost use Rattle.std.specs.List.{AllByRecursion};
 ghost use Rattle.std.specs.Str.{bytes_eq};
 ghost use Rattle.std.specs.Option.{option_map};
-ghost use Rattle.omf_place.specs.InputViews.{HasComponents};
-ghost use Rattle.omf_place.specs.Named.{named_slices, value_of};
-ghost use Rattle.omf_place.specs.Reaches.{entry_with as entry_by, frame_named, group_in, is_first_named, is_long_named, placed_named, reach_named, grpdef_view, held_grpdefs, join, reach_in, widened};
+ghost use Rattle.omf_place.specs.Faults.{GroupTooLong, group_fault, is_long_group};
+ghost use Rattle.omf_place.specs.Parts.{Site, sites};
+ghost use Rattle.omf_place.specs.Tables.{group_frame, group_span, grpdefs as program_grpdefs, grpdefs_of};
+ghost use Rattle.omf_place.specs.Tables.{is_first_grpdef, placed_groups as program_groups};
+ghost use Rattle.omf_place.specs.inside.Groups.{AreGroups, AreGrpdefs, entry_in, entry_with, grpdef_view, join};
+ghost use Rattle.omf_place.specs.inside.Groups.{reach_in, reach_of_span, reached, widened};
+ghost use Rattle.omf_place.specs.inside.Named.{named_slices, value_of};
+ghost use Rattle.omf_place.specs.inside.OfProgram.{IsPlacedProgram, of_program};
+ghost use Rattle.omf_place.specs.inside.Program.{HasComponents, IsPlacedInput, input_view};
 
-use crate::inputs::Input;
+use crate::inputs::{Input, PlacedProgram};
 use crate::layout::GroupPlace;
 use crate::stands::Stand;
 use indexmap::IndexMap;
 use std::alloc::{AllocError, Allocator};
 use std::hash::{BuildHasherDefault, FoldHasher};
-use std::marker::Model;
 
 /// The least frame and the greatest end of some combined segments.
 #[derive(Clone, Copy)]
@@ -23,11 +29,20 @@ pub(crate) struct Reach {
     pub end: u32,
 }
 
+impl Reach {
+    /// Whether the end is more than 65,536 bytes above the frame.
+    fn is_long(self) -> bool
+        ensures { result ≡ nat_lt (16 * self.frame + 65536) self.end }
+    {
+        16 * u32::from(self.frame) + 65536 < self.end
+    }
+}
+
 /// A GRPDEF, with what its components reach, where it has any.
 #[derive(Clone, Copy)]
 pub(crate) struct Grpdef<'a> {
     pub input: usize,
-    pub number: usize,
+    pub group: usize,
     pub name: &'a [u8],
     pub reach: Option<Reach>,
 }
@@ -37,9 +52,10 @@ pub(crate) struct Grpdef<'a> {
 pub(crate) struct GroupEntry {
     pub reach: Option<Reach>,
     pub input: usize,
-    pub number: usize,
+    pub group: usize,
 }
 
+/// What a segment reaches with others before it.
 fn widen(reach: Option<Reach>, stand: Stand) -> Reach
     ensures { result ≡ widened reach stand }
 {
@@ -67,6 +83,7 @@ fn reach_of(members: &[u16], stands: &[Stand]) -> Option<Reach>
     reach
 }
 
+/// What two lists of segments reach together.
 fn joined(one: Option<Reach>, other: Option<Reach>) -> Option<Reach>
     ensures { result ≡ join one other }
 {
@@ -80,145 +97,119 @@ fn joined(one: Option<Reach>, other: Option<Reach>) -> Option<Reach>
     }
 }
 
-type ByName<'a, A> = IndexMap<&'a [u8], GroupEntry, BuildHasherDefault<FoldHasher>, A>;
-
-fn entry_at<'a, A: Allocator + Copy>(by_name: &ByName<'a, A>, name: &[u8]) -> Option<GroupEntry>
-    ensures { result ≡ value_of (named_slices by_name.now.entries) name.now }
-{
-    by_name.get(&name).copied()
-}
-
-fn put_at<'a, A: Allocator + Copy>(
-    by_name: &mut ByName<'a, A>,
-    name: &'a [u8],
-    entry: GroupEntry,
-) -> Result<(), AllocError>
-    ensures { OnOk result ((q : List ℕ) → value_of (named_slices by_name.new.entries) q ≡ (if bytes_eq name.now q then Some entry else value_of (named_slices by_name.old.entries) q)) }
-{
-    by_name.insert(name, entry)?;
-    Ok(())
-}
-
-/// The groups by name, in order of first meeting. The hash has a fixed seed.
-#[derive(Drop)]
-pub(crate) struct Groups<'a, A: Allocator + Copy> {
-    by_name: ByName<'a, A>,
-}
-
-impl<'a, A: Allocator + Copy> Model for Groups<'a, A> {
-    ghost use Rattle.std.specs.Prelude.{List, ℕ};
-    ghost use Rattle.omf_place.specs.declared.groups.GroupEntry as entry;
-
-    ghost Value = { List (List ℕ × entry.GroupEntry) };
-
-    ghost use Rattle.omf_place.specs.InputViews.{HasComponents};
-    ghost use Rattle.omf_place.specs.Named.{named_slices};
-
-    ghost view = { λ g. named_slices g.by_name.entries };
-}
-
-impl<'a, A: Allocator + Copy> Groups<'a, A> {
-    fn new(alloc: A) -> Self
-        ensures { result ≡ [] }
-    {
-        Groups {
-            by_name: IndexMap::new(alloc),
-        }
-    }
-
-    /// The group of a name.
-    pub(crate) fn get(&self, name: &[u8]) -> Option<GroupEntry>
-        ensures { result ≡ value_of self.now name.now }
-    {
-        entry_at(&self.by_name, name)
-    }
-
-    fn put(&mut self, name: &'a [u8], entry: GroupEntry) -> Result<(), AllocError>
-        ensures { OnOk result ((q : List ℕ) → value_of self.new q ≡ (if bytes_eq name.now q then Some entry else value_of self.old q)) }
-    {
-        put_at(&mut self.by_name, name, entry)
-    }
-}
-
-fn entry_with(entry: Option<GroupEntry>, g: Grpdef<'_>) -> GroupEntry
-    ensures { result ≡ entry_by entry (grpdef_view g.entry) }
-{
-    match entry {
-        None => GroupEntry {
-            reach: g.reach,
-            input: g.input,
-            number: g.number,
-        },
-        Some(entry) => GroupEntry {
-            reach: joined(entry.reach, g.reach),
-            input: entry.input,
-            number: entry.number,
-        },
-    }
-}
-
-/// The groups of some GRPDEFs.
-pub(crate) fn collect_groups<'a, A: Allocator + Copy>(
-    alloc: A,
-    grpdefs: &[Grpdef<'a>],
-) -> Result<Groups<'a, A>, AllocError>
-    ensures { IfOk result (λ m. (q : List ℕ) → value_of m q ≡ group_in q (map grpdef_view grpdefs.now)) }
-{
-    let mut groups = Groups::new(alloc);
-    for g in grpdefs {
-        let entry = entry_with(groups.get(g.name), *g);
-        groups.put(g.name, entry)?;
-    }
-    Ok(groups)
-}
-
+/// Adds the GRPDEFs of a module.
 fn push_grpdefs<'a, A: Allocator + Copy>(
     all: &mut Vec<Grpdef<'a>, A>,
-    x: &Input<'a, A>,
+    input: &Input<'a, A>,
 ) -> Result<(), AllocError>
-    requires { HasComponents x.now }
-    ensures { OnOk result (map grpdef_view all.new.items ≡ map grpdef_view all.old.items ++ held_grpdefs x.now) }
+    requires { HasComponents input.now }
+    ensures { OnOk result ((ss : List Site) (addresses : List ℕ) → IsPlacedInput ss addresses input.now →
+        map grpdef_view all.new.items ≡
+        map grpdef_view all.old.items ++ map (reached ss addresses) (grpdefs_of (input_view input.now))) }
 {
-    for number in 0..x.says.group_count() {
-        let group = x.says.group(number);
+    for index in 0..input.says.group_count() {
+        let group = input.says.group(index);
         all.push(Grpdef {
-            input: x.input,
-            number,
+            input: input.input,
+            group: index,
             name: group.name,
-            reach: reach_of(group.members, x.stands),
+            reach: reach_of(group.members, input.stands),
         })?;
     }
     Ok(())
 }
 
-/// The GRPDEFs of all modules, in order.
-pub(crate) fn collect_grpdefs<'a, A: Allocator + Copy>(
+/// The GRPDEFs of a program, in order.
+fn collect_grpdefs<'a, A: Allocator + Copy>(
     alloc: A,
-    inputs: &[Input<'a, A>],
+    program: &PlacedProgram<'a, A>,
 ) -> Result<Vec<Grpdef<'a>, A>, AllocError>
-    requires { AllByRecursion HasComponents inputs.now }
-    ensures { IfOk result (λ v. map grpdef_view v.items ≡ flat_map held_grpdefs inputs.now) }
+    requires { IsPlacedProgram program.now }
+    ensures { IfOk result (λ v. of_program AreGrpdefs program.now v.items) }
 {
     let mut all = Vec::new(alloc);
-    for x in inputs {
-        push_grpdefs(&mut all, x)?;
+    for input in &program.inputs {
+        push_grpdefs(&mut all, input)?;
     }
     Ok(all)
 }
 
-impl Reach {
-    /// Whether the end is more than 65,536 bytes above the frame.
-    fn is_long(self) -> bool
-        ensures { result ≡ nat_lt (16 * self.frame + 65536) self.end }
-    {
-        16 * u32::from(self.frame) + 65536 < self.end
+/// The group of a name, where there was one before, with a GRPDEF more.
+fn with_grpdef(entry: Option<GroupEntry>, grpdef: &Grpdef<'_>) -> GroupEntry
+    ensures { result ≡ entry_with entry (grpdef_view grpdef.now) }
+{
+    match entry {
+        None => GroupEntry {
+            reach: grpdef.reach,
+            input: grpdef.input,
+            group: grpdef.group,
+        },
+        Some(entry) => GroupEntry {
+            reach: joined(entry.reach, grpdef.reach),
+            input: entry.input,
+            group: entry.group,
+        },
     }
 }
 
+/// Groups by name, in order of first meeting. The hash has a fixed seed.
+type ByName<'a, A> = IndexMap<&'a [u8], GroupEntry, BuildHasherDefault<FoldHasher>, A>;
+
+/// Adds a GRPDEF to the group of its name.
+fn add_grpdef<'a, A: Allocator + Copy>(
+    by_name: &mut ByName<'a, A>,
+    grpdef: &Grpdef<'a>,
+) -> Result<(), AllocError>
+    ensures { OnOk result ((q : List ℕ) → value_of (named_slices by_name.new.entries) q ≡
+        (if bytes_eq grpdef.now.name.now q
+        then Some (entry_with (value_of (named_slices by_name.old.entries) grpdef.now.name.now)
+        (grpdef_view grpdef.now))
+        else value_of (named_slices by_name.old.entries) q)) }
+{
+    let entry = with_grpdef(by_name.get(&grpdef.name).copied(), grpdef);
+    by_name.insert(grpdef.name, entry)?;
+    Ok(())
+}
+
+/// The groups of a program.
+#[derive(Drop)]
+pub(crate) struct Groups<'a, A: Allocator + Copy> {
+    pub program: &'a PlacedProgram<'a, A>,
+    pub grpdefs: Vec<Grpdef<'a>, A>,
+    by_name: ByName<'a, A>,
+    ghost listed: { of_program AreGrpdefs program.now grpdefs.items },
+    ghost named: { of_program AreGroups program.now (named_slices by_name.entries) },
+}
+
 impl<'a, A: Allocator + Copy> Groups<'a, A> {
+    /// The groups of a program.
+    pub(crate) fn collect(alloc: A, program: &'a PlacedProgram<'a, A>) -> Result<Self, AllocError>
+        requires { IsPlacedProgram program.now }
+        ensures { IfOk result (λ groups. groups.program.now ≡ program.now) }
+    {
+        let grpdefs = collect_grpdefs(alloc, program)?;
+        let mut by_name: ByName<'a, A> = IndexMap::new(alloc);
+        for grpdef in &grpdefs {
+            add_grpdef(&mut by_name, grpdef)?;
+        }
+        Ok(Groups {
+            program,
+            grpdefs,
+            by_name,
+        })
+    }
+
+    /// The group of a name.
+    fn get(&self, name: &[u8]) -> Option<GroupEntry>
+        ensures { result ≡ of_program
+            (λ ms addresses. entry_in (sites ms) addresses (program_grpdefs ms)) self.now.program.now name.now }
+    {
+        self.by_name.get(&name).copied()
+    }
+
     /// What the members of a group reach, where it has any.
     fn reach(&self, name: &[u8]) -> Option<Reach>
-        ensures { result ≡ reach_named self.now name.now }
+        ensures { result ≡ option_map reach_of_span (of_program group_span self.now.program.now name.now) }
     {
         match self.get(name) {
             None => None,
@@ -228,7 +219,7 @@ impl<'a, A: Allocator + Copy> Groups<'a, A> {
 
     /// The frame of a group, where it has members.
     pub(crate) fn frame(&self, name: &[u8]) -> Option<u16>
-        ensures { result ≡ frame_named self.now name.now }
+        ensures { result ≡ of_program group_frame self.now.program.now name.now }
     {
         match self.reach(name) {
             None => None,
@@ -236,8 +227,9 @@ impl<'a, A: Allocator + Copy> Groups<'a, A> {
         }
     }
 
+    /// Whether a group ends more than 65,536 bytes above its frame.
     fn is_long(&self, name: &[u8]) -> bool
-        ensures { result ≡ is_long_named self.now name.now }
+        ensures { result ≡ of_program is_long_group self.now.program.now name.now }
     {
         match self.reach(name) {
             None => false,
@@ -245,46 +237,44 @@ impl<'a, A: Allocator + Copy> Groups<'a, A> {
         }
     }
 
-    fn is_first(&self, g: &Grpdef<'_>) -> bool
-        ensures { result ≡ is_first_named self.now (grpdef_view g.now) }
+    /// Whether a GRPDEF is the first of its name.
+    fn is_first(&self, grpdef: &Grpdef<'_>) -> bool
+        ensures { (sites : List Site) → result ≡ of_program is_first_grpdef self.now.program.now
+            (record { input = grpdef.now.input; group = grpdef.now.group; name = grpdef.now.name.now; sites = sites }) }
     {
-        match self.get(g.name) {
+        match self.get(grpdef.name) {
             None => false,
-            Some(entry) => entry.input == g.input && entry.number == g.number,
+            Some(entry) => entry.input == grpdef.input && entry.group == grpdef.group,
         }
     }
-}
 
-/// The first group, in order of first meeting, that ends more than 65,536 bytes above its frame: its first GRPDEF.
-pub(crate) fn first_long_group<'g, 'a, A: Allocator + Copy>(
-    grpdefs: &'g [Grpdef<'a>],
-    groups: &Groups<'_, A>,
-) -> Option<&'g Grpdef<'a>>
-    ensures { option_map (λ g. grpdef_view g.now) result ≡ find (λ g. is_long_named groups.now g.name) (map grpdef_view grpdefs.now) }
-{
-    for g in grpdefs {
-        if groups.is_long(g.name) {
-            return Some(g);
+    /// The first group that ends more than 65,536 bytes above its frame, in order of first meeting: its first GRPDEF.
+    pub(crate) fn first_long(&self) -> Option<&Grpdef<'a>>
+        ensures { option_map (λ g. GroupTooLong g.now.name.now) result ≡ of_program group_fault self.now.program.now }
+    {
+        for grpdef in &self.grpdefs {
+            if self.is_long(grpdef.name) {
+                return Some(grpdef);
+            }
         }
+        None
     }
-    None
 }
 
 /// The groups, in order of first meeting.
 pub(crate) fn placed_groups<A: Allocator + Copy>(
     alloc: A,
-    grpdefs: &[Grpdef<'_>],
     groups: &Groups<'_, A>,
 ) -> Result<Vec<GroupPlace, A>, AllocError>
-    ensures { IfOk result (λ v. v.items ≡ map (placed_named groups.now) (filter (is_first_named groups.now) (map grpdef_view grpdefs.now))) }
+    ensures { IfOk result (λ v. v.items ≡ of_program program_groups groups.now.program.now) }
 {
     let mut all = Vec::new(alloc);
-    for g in grpdefs {
-        if groups.is_first(g) {
+    for grpdef in &groups.grpdefs {
+        if groups.is_first(grpdef) {
             all.push(GroupPlace {
-                frame: groups.frame(g.name),
-                input: g.input,
-                group: g.number,
+                frame: groups.frame(grpdef.name),
+                input: grpdef.input,
+                group: grpdef.group,
             })?;
         }
     }
@@ -294,14 +284,15 @@ pub(crate) fn placed_groups<A: Allocator + Copy>(
 /// The frame of each GRPDEF's group.
 pub(crate) fn frames_of<A: Allocator + Copy>(
     alloc: A,
-    x: &Input<'_, A>,
+    input: &Input<'_, A>,
     groups: &Groups<'_, A>,
 ) -> Result<Vec<Option<u16>, A>, AllocError>
-    ensures { IfOk result (λ v. v.items ≡ map (λ g. frame_named groups.now g.name) x.now.says.now.groups) }
+    ensures { IfOk result (λ v. v.items ≡
+        map (λ g. of_program group_frame groups.now.program.now g.name) input.now.says.now.groups) }
 {
     let mut frames = Vec::new(alloc);
-    for number in 0..x.says.group_count() {
-        frames.push(groups.frame(x.says.group(number).name))?;
+    for index in 0..input.says.group_count() {
+        frames.push(groups.frame(input.says.group(index).name))?;
     }
     Ok(frames)
 }

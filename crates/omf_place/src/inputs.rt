@@ -3,9 +3,9 @@
 ghost use Rattle.std.specs.Prelude.{◌≡◌, ◌+◌, ◌≤◌, IfOk, drop, length, map, take};
 ghost use Rattle.std.specs.List.{AllByRecursion};
 ghost use Rattle.omf_place.specs.Inputs.{inputs};
-ghost use Rattle.omf_place.specs.InputViews.{addresses_of, AreStands, HasStands, IsSoundInput, input_view};
+ghost use Rattle.omf_place.specs.inside.Program.{addresses_of, AreStands, HasStands, IsSoundInput, input_view};
 ghost use Rattle.omf_place.specs.Parts.{sites as sites_of};
-ghost use Rattle.omf_place.specs.Sites.{sites_view};
+ghost use Rattle.omf_place.specs.inside.Sites.{sites_view};
 
 use crate::sites::Site;
 use crate::stands::Stand;
@@ -22,6 +22,15 @@ pub(crate) struct Input<'a, A: Allocator + Copy> {
     pub stands: &'a [Stand],
 }
 
+/// A program whose segments stand.
+#[derive(Drop)]
+pub(crate) struct PlacedProgram<'a, A: Allocator + Copy> {
+    pub modules: &'a [Module<A>],
+    /// By position.
+    pub stands: &'a [Stand],
+    pub inputs: Vec<Input<'a, A>, A>,
+}
+
 /// The modules in order.
 pub(crate) fn collect_inputs<'a, A: Allocator + Copy>(
     alloc: A,
@@ -32,7 +41,8 @@ pub(crate) fn collect_inputs<'a, A: Allocator + Copy>(
     requires sites { sites_view sites.now ≡ sites_of modules.now }
     requires stands { AreStands (sites_view sites.now) stands.now }
     ensures made { IfOk result (λ v. map input_view v.items ≡ inputs modules.now) }
-    ensures stands { IfOk result (λ v. AllByRecursion (HasStands (sites_view sites.now) (addresses_of stands.now)) v.items) }
+    ensures stands { IfOk result
+        (λ v. AllByRecursion (HasStands (sites_view sites.now) (addresses_of stands.now)) v.items) }
     ensures sound { IfOk result (λ v. AllByRecursion IsSoundInput v.items) }
 {
     let mut all = Vec::new(alloc);
@@ -43,28 +53,20 @@ pub(crate) fn collect_inputs<'a, A: Allocator + Copy>(
         all.push(Input {
             input,
             says,
-            sites: sites_from(sites, start, count),
-            stands: stands_from(stands, start, count),
+            sites: row(sites, start, count),
+            stands: row(stands, start, count),
         })?;
         start += count;
     }
     Ok(all)
 }
 
-fn sites_from<'a>(sites: &'a [Site<'a>], start: usize, count: usize) -> &'a [Site<'a>]
-    requires { start + count ≤ length sites.now }
-    ensures { result.now ≡ take count (drop start sites.now) }
+/// Some elements one after the other.
+fn row<T>(all: &[T], start: usize, count: usize) -> &[T]
+    requires { start + count ≤ length all.now }
+    ensures { result.now ≡ take count (drop start all.now) }
 {
-    let (_, rest) = sites.split_at(start);
-    let (row, _) = rest.split_at(count);
-    row
-}
-
-fn stands_from(stands: &[Stand], start: usize, count: usize) -> &[Stand]
-    requires { start + count ≤ length stands.now }
-    ensures { result.now ≡ take count (drop start stands.now) }
-{
-    let (_, rest) = stands.split_at(start);
+    let (_, rest) = all.split_at(start);
     let (row, _) = rest.split_at(count);
     row
 }

@@ -81,7 +81,8 @@ impl<A: Allocator + Copy> Layout<A> {
         self.publics.shared(name)
     }
 
-    /// What a name means in a module alone, by its index among the inputs: None where no local public of it has the name.
+    /// What a name means in a module alone, by its index among the inputs: None where no local public of it has the
+    /// name.
     /// It takes no memory.
     pub fn local_public(&self, input: usize, name: &[u8]) -> Option<PublicPlace>
         ensures { result ≡ local_public self.now input name.now }

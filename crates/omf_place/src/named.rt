@@ -1,7 +1,7 @@
 //! A map by name: a name means the only entry whose name agrees with it.
 
-ghost use Rattle.std.specs.Prelude.{◌≡◌, IfOk, None, OnOk, is_some, true, false};
-ghost use Rattle.omf_place.specs.HeldNames.{exact_table, folded_table, with_entry};
+ghost use Rattle.std.specs.Prelude.{◌≡◌, IfOk, None, is_some, true, false};
+ghost use Rattle.omf_place.specs.inside.HeldNames.{exact_table, folded_table, with_entry};
 ghost use Rattle.omf_place.specs.Names.{empty, means};
 
 use crate::folded::FoldedName;
@@ -15,54 +15,56 @@ type ByExact<V, A> = IndexMap<Vec<u8, A>, V, BuildHasherDefault<FoldHasher>, A>;
 
 type ByFolded<V, A> = IndexMap<FoldedName<'static, A>, V, BuildHasherDefault<FoldHasher>, A>;
 
+/// What a name means where names agree byte for byte.
 fn exact_value<V: Copy, A: Allocator + Copy>(by_name: &ByExact<V, A>, name: &[u8]) -> Option<V>
     ensures { result ≡ means (exact_table by_name.now.entries) name.now }
 {
     by_name.get(name).copied()
 }
 
+/// What a name means where names agree without regard to case.
 fn folded_value<V: Copy, A: Allocator + Copy>(by_name: &ByFolded<V, A>, name: &[u8]) -> Option<V>
     ensures { result ≡ means (folded_table by_name.now.entries) name.now }
 {
     by_name.get(&FoldedName::Asked(name)).copied()
 }
 
-/// Adds a name at the end, unless it is there.
+/// Adds a name at the end, or says that it is there, and gives it another value.
 fn add_exact<V: Copy, A: Allocator + Copy>(
     alloc: A,
     by_name: &mut ByExact<V, A>,
     name: &[u8],
     value: V,
 ) -> Result<bool, AllocError>
-    ensures fresh { IfOk result (λ fresh. fresh ≡ true → exact_table by_name.new.entries ≡ with_entry (exact_table by_name.old.entries) name.now value) }
+    ensures fresh { IfOk result
+        (λ fresh. fresh ≡ true →
+        exact_table by_name.new.entries ≡ with_entry (exact_table by_name.old.entries) name.now value) }
     ensures absent { IfOk result (λ fresh. fresh ≡ true → means (exact_table by_name.old.entries) name.now ≡ None) }
-    ensures there { IfOk result (λ fresh. fresh ≡ false → is_some (means (exact_table by_name.old.entries) name.now) ≡ true) }
+    ensures there { IfOk result
+        (λ fresh. fresh ≡ false → is_some (means (exact_table by_name.old.entries) name.now) ≡ true) }
 {
-    if by_name.contains_key(name) {
-        return Ok(false);
-    }
     let key = Vec::from_slice(alloc, name)?;
-    by_name.insert(key, value)?;
-    Ok(true)
+    let earlier = by_name.insert(key, value)?;
+    Ok(earlier.is_none())
 }
 
-/// Adds a name at the end, unless one that agrees without regard to case is there.
+/// Adds a name at the end, or says that one that agrees without regard to case is there, and gives that another value.
 fn add_folded<V: Copy, A: Allocator + Copy>(
     alloc: A,
     by_name: &mut ByFolded<V, A>,
     name: &[u8],
     value: V,
 ) -> Result<bool, AllocError>
-    ensures fresh { IfOk result (λ fresh. fresh ≡ true → folded_table by_name.new.entries ≡ with_entry (folded_table by_name.old.entries) name.now value) }
+    ensures fresh { IfOk result
+        (λ fresh. fresh ≡ true →
+        folded_table by_name.new.entries ≡ with_entry (folded_table by_name.old.entries) name.now value) }
     ensures absent { IfOk result (λ fresh. fresh ≡ true → means (folded_table by_name.old.entries) name.now ≡ None) }
-    ensures there { IfOk result (λ fresh. fresh ≡ false → is_some (means (folded_table by_name.old.entries) name.now) ≡ true) }
+    ensures there { IfOk result
+        (λ fresh. fresh ≡ false → is_some (means (folded_table by_name.old.entries) name.now) ≡ true) }
 {
-    if by_name.contains_key(&FoldedName::Asked(name)) {
-        return Ok(false);
-    }
     let key = FoldedName::Held(Vec::from_slice(alloc, name)?);
-    by_name.insert(key, value)?;
-    Ok(true)
+    let earlier = by_name.insert(key, value)?;
+    Ok(earlier.is_none())
 }
 
 /// A map for each choice.
@@ -79,7 +81,7 @@ pub(crate) struct Named<V: Copy, A: Allocator + Copy> {
 }
 
 impl<V: Copy, A: Allocator + Copy> Model for Named<V, A> {
-    ghost use Rattle.omf_place.specs.HeldNames.{table_view};
+    ghost use Rattle.omf_place.specs.inside.HeldNames.{table_view};
     ghost use Rattle.omf_place.specs.Names.{Table};
 
     ghost Value = { Table V };
@@ -88,6 +90,7 @@ impl<V: Copy, A: Allocator + Copy> Model for Named<V, A> {
 }
 
 impl<V: Copy, A: Allocator + Copy> Named<V, A> {
+    /// No names.
     pub(crate) fn new(alloc: A, names: Names) -> Self
         ensures { result ≡ empty names }
     {
@@ -109,7 +112,7 @@ impl<V: Copy, A: Allocator + Copy> Named<V, A> {
         }
     }
 
-    /// Adds a name with its value at the end, unless one that agrees is there.
+    /// Adds a name with its value at the end, or says that one that agrees is there, which may then have another value.
     pub(crate) fn add(&mut self, alloc: A, name: &[u8], value: V) -> Result<bool, AllocError>
         ensures fresh { IfOk result (λ fresh. fresh ≡ true → self.new ≡ with_entry self.old name.now value) }
         ensures absent { IfOk result (λ fresh. fresh ≡ true → means self.old name.now ≡ None) }

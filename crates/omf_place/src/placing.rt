@@ -1,23 +1,22 @@
 //! Placement of modules.
 
-ghost use Rattle.std.specs.Prelude.{◌≡◌, ◌≤◌, ◌<◌, ◌^◌, ℕ, List, None, Some, IfErr, IfOk, IfSome, map, length, OnOk};
-ghost use Rattle.std.specs.List.{AllByRecursion, flat_map};
-ghost use Rattle.std.specs.Option.{option_map, option_or};
+ghost use Rattle.std.specs.Prelude.{◌≡◌, ◌≤◌, ◌<◌, None, Some, IfErr, IfOk, IfSome, map, OnOk};
+ghost use Rattle.std.specs.List.{AllByRecursion};
+ghost use Rattle.std.specs.Option.{option_or};
 ghost use Rattle.omf_module.specs.Sound.{SegmentFits};
 ghost use Rattle.omf_place.specs.Bounded.{IsBounded};
 ghost use Rattle.omf_place.specs.Faults.{IsFirstFault, IsOnlyLayout, later_fault, segment_fault, size_fault};
 ghost use Rattle.omf_place.specs.Layout.{layout_at};
-ghost use Rattle.omf_place.specs.Numbered.{IsNumberedFrom};
+ghost use Rattle.omf_place.specs.inside.Numbered.{IsNumberedFrom};
 ghost use Rattle.omf_place.specs.Parts.{rank, placement_order, sites as sites_of};
 ghost use Rattle.omf_place.specs.Placed.{IsOnlyPlacement, IsPlaced};
 ghost use Rattle.omf_place.specs.Said.{said};
-ghost use Rattle.omf_place.specs.Sites.{sites_view};
-ghost use Rattle.omf_place.specs.Small.{IsSmall};
-ghost use Rattle.omf_place.specs.Spans.{AreSpans, addresses_in};
-ghost use Rattle.omf_place.specs.Tables.{placed_publics};
+ghost use Rattle.omf_place.specs.inside.Sites.{sites_view};
+ghost use Rattle.omf_place.specs.inside.Small.{IsSmall};
+ghost use Rattle.omf_place.specs.inside.Spans.{AreSpans, addresses_in};
 
 use crate::faults::{PlaceFault, segment_too_long};
-use crate::inputs::collect_inputs;
+use crate::inputs::{PlacedProgram, collect_inputs};
 use crate::laying::lay_out;
 use crate::lookups::Layout;
 use crate::names::Names;
@@ -40,10 +39,12 @@ struct Started<A: Allocator + Copy> {
     size: u128,
 }
 
+/// Orders the parts and gives every segment its address.
 fn start_parts<A: Allocator + Copy>(alloc: A, sites: &[Site<'_>]) -> Result<Started<A>, AllocError>
     requires numbered { IsNumberedFrom 0 (sites_view sites.now) }
     requires sound { AllByRecursion (λ a. SegmentFits a.segment) (sites_view sites.now) }
-    ensures order { IfOk result (λ s. s.ranks.items ≡ map (rank (sites_view sites.now)) (placement_order (sites_view sites.now))) }
+    ensures order { IfOk result
+        (λ s. s.ranks.items ≡ map (rank (sites_view sites.now)) (placement_order (sites_view sites.now))) }
     ensures spans { IfOk result (λ s. AreSpans (sites_view sites.now) s.spans.items) }
     ensures placed { IfOk result (λ s. IsPlaced (sites_view sites.now) (addresses_in s.spans.items) s.size) }
     ensures only { IfOk result (λ s. IsOnlyPlacement (sites_view sites.now) (addresses_in s.spans.items) s.size) }
@@ -66,14 +67,17 @@ fn check_segments<A: Allocator + Copy>(
     sites: &[Site<'_>],
     started: &Started<A>,
 ) -> Result<(), PlaceFault<A>>
-    requires order { started.now.ranks.items ≡ map (rank (sites_view sites.now)) (placement_order (sites_view sites.now)) }
+    requires order { started.now.ranks.items ≡
+        map (rank (sites_view sites.now)) (placement_order (sites_view sites.now)) }
     requires numbered { IsNumberedFrom 0 (sites_view sites.now) }
     requires spans { AreSpans (sites_view sites.now) started.now.spans.items }
     requires small { IsSmall (addresses_in started.now.spans.items) }
-    ensures segments { OnOk result (segment_fault (sites_view sites.now) (addresses_in started.now.spans.items) ≡ None) }
+    ensures segments { OnOk result
+        (segment_fault (sites_view sites.now) (addresses_in started.now.spans.items) ≡ None) }
     ensures size { OnOk result (started.now.size ≤ 1048560) }
     ensures fault { IfErr result (λ e. IfSome (said e) (λ f.
-        option_or (segment_fault (sites_view sites.now) (addresses_in started.now.spans.items)) (size_fault started.now.size) ≡ Some f)) }
+        option_or (segment_fault (sites_view sites.now) (addresses_in started.now.spans.items))
+        (size_fault started.now.size) ≡ Some f)) }
 {
     if let Some(first) = first_long_segment(sites, &started.ranks, &started.spans) {
         return Err(segment_too_long(alloc, first.segment.name));
@@ -95,18 +99,26 @@ fn place_started<A: Allocator + Copy>(
     requires made { sites_view sites.now ≡ sites_of modules.now }
     requires numbered { IsNumberedFrom 0 (sites_view sites.now) }
     requires sound { AllByRecursion (λ a. SegmentFits a.segment) (sites_view sites.now) }
-    requires order { started.now.ranks.items ≡ map (rank (sites_view sites.now)) (placement_order (sites_view sites.now)) }
+    requires order { started.now.ranks.items ≡
+        map (rank (sites_view sites.now)) (placement_order (sites_view sites.now)) }
     requires spans { AreSpans (sites_view sites.now) started.now.spans.items }
     requires placed { IsPlaced (sites_view sites.now) (addresses_in started.now.spans.items) started.now.size }
     requires size { started.now.size ≤ 1048560 }
     ensures apart { OnOk result (later_fault names modules.now (addresses_in started.now.spans.items) ≡ None) }
-    ensures layout { IfOk result (λ l. l ≡ layout_at names modules.now (addresses_in started.now.spans.items) started.now.size) }
-    ensures fault { IfErr result (λ e. IfSome (said e) (λ f. later_fault names modules.now (addresses_in started.now.spans.items) ≡ Some f)) }
+    ensures layout { IfOk result
+        (λ l. l ≡ layout_at names modules.now (addresses_in started.now.spans.items) started.now.size) }
+    ensures fault { IfErr result
+        (λ e. IfSome (said e) (λ f. later_fault names modules.now (addresses_in started.now.spans.items) ≡ Some f)) }
 {
     let stands = collect_stands(alloc, sites, &started.spans)?;
     let combined = combined_segments(alloc, sites, &started.ranks, &started.spans)?;
     let inputs = collect_inputs(alloc, modules, sites, &stands)?;
-    lay_out(alloc, names, &inputs, started.size as u32, combined)
+    let program = PlacedProgram {
+        modules,
+        stands: &stands,
+        inputs,
+    };
+    lay_out(alloc, names, &program, started.size as u32, combined)
 }
 
 /// Places the parts of modules, in order of inputs, and finds their groups and publics.
@@ -126,8 +138,6 @@ pub fn place<A: Allocator + Copy>(
 {
     let sites = collect_sites(alloc, modules)?;
     let started = start_parts(alloc, &sites)?;
-    if let Err(fault) = check_segments(alloc, &sites, &started) {
-        return Err(fault);
-    }
+    check_segments(alloc, &sites, &started)?;
     place_started(alloc, modules, names, &sites, &started)
 }

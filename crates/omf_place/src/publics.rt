@@ -1,125 +1,126 @@
 //! What publics stand for.
 
-ghost use Rattle.std.specs.Prelude.{◌≡◌, ◌+◌, ◌*◌, ◌++◌, ◌∷◌, ◌<◌, ◌^◌, [], Some, None, IfOk, IfErr, IfSome, OnOk, is_some, length, map, true, false};
-ghost use Rattle.std.specs.List.{AllByRecursion, flat_map};
+ghost use Rattle.std.specs.Prelude.{◌≡◌, ◌*◌, ◌++◌, ◌/◌, ◌<◌, Some, IfOk, IfSome, OnOk, length, map};
+ghost use Rattle.omf_module.specs.declared.SymbolBase.TheVariants.{InSegment};
 ghost use Rattle.omf_module.specs.Sound.{PublicFits};
 ghost use Rattle.omf_module.specs.Seen.{public_seen};
-ghost use Rattle.omf_place.specs.HeldNames.{entry_view};
-ghost use Rattle.omf_place.specs.PublicTables.{IsWholeInput, held_at, held_frame, held_public, held_publics, held_segment};
+ghost use Rattle.omf_place.specs.Parts.{Site, sites};
+ghost use Rattle.omf_place.specs.Tables.{placed_public, placed_publics, public_frame, publics_of, segment_start};
+ghost use Rattle.omf_place.specs.inside.HeldNames.{entry_view};
+ghost use Rattle.omf_place.specs.inside.OfProgram.{IsPlacedProgram, of_program};
+ghost use Rattle.omf_place.specs.inside.Program.{IsPlacedInput, input_view};
 
 use crate::groups::Groups;
 use crate::inputs::Input;
 use crate::layout::{Address, Base, PublicPlace};
 use crate::scopes::Entry;
 use crate::stands::Stand;
-use omf_module::{Base as PublicBase, PublicSymbol, Standing};
+use omf_module::{PublicSymbol, Standing, SymbolBase};
 use std::alloc::{AllocError, Allocator};
 
 /// The frame of a public: that of its group, where it has a group, and else that of its segment.
-fn public_frame<A: Allocator + Copy>(
-    x: &Input<'_, A>,
+fn frame_of_public<A: Allocator + Copy>(
+    input: &Input<'_, A>,
     stand: Stand,
     group: Option<u16>,
     groups: &Groups<'_, A>,
 ) -> Option<Base>
-    requires { IfSome group (λ g. g < length x.now.says.now.groups) }
-    ensures { result ≡ held_frame x.now groups.now stand group }
+    requires { IfSome group (λ g. g < length input.now.says.now.groups) }
+    ensures { (a : Site) → stand.frame ≡ of_program (λ ms. segment_start (sites ms)) groups.now.program.now a / 16 →
+        result ≡ of_program public_frame groups.now.program.now input.now.says.now a group }
 {
-    let Some(group) = group else {
-        return Some(Base::Relocatable(stand.frame));
-    };
-    match groups.frame(x.says.group(usize::from(group)).name) {
-        None => None,
-        Some(frame) => Some(Base::Relocatable(frame)),
+    match group {
+        None => Some(Base::Relocatable(stand.frame)),
+        Some(group) => {
+            let frame = groups.frame(input.says.group(usize::from(group)).name)?;
+            Some(Base::Relocatable(frame))
+        }
     }
 }
 
-fn public_at(standing: Standing, stand: Stand, offset: u16, frame: Option<Base>) -> PublicPlace
-    requires { stand.address < 2 ^ 21 }
-    ensures { result ≡ held_at standing stand offset frame }
-{
-    let offset = u32::from(offset);
-    match standing {
-        Standing::Absolute { frame, offset: at } => PublicPlace {
-            address: Address::Absolute(16 * u32::from(frame) + u32::from(at) + offset),
-            frame: Some(Base::Absolute(frame)),
-        },
-        Standing::Relocatable { .. } => PublicPlace {
-            address: Address::Relocatable(stand.address + offset),
-            frame,
-        },
-    }
-}
-
+/// Where a public of a segment stands.
 fn public_in_segment<A: Allocator + Copy>(
-    x: &Input<'_, A>,
+    input: &Input<'_, A>,
     segment: u16,
     group: Option<u16>,
     offset: u16,
     groups: &Groups<'_, A>,
 ) -> PublicPlace
-    requires whole { IsWholeInput x.now }
-    requires segment { segment < length x.now.says.now.segments }
-    requires group { IfSome group (λ g. g < length x.now.says.now.groups) }
-    ensures { Some result ≡ held_segment x.now groups.now segment group offset }
+    requires placed { of_program (λ ms. IsPlacedInput (sites ms)) groups.now.program.now input.now }
+    requires segment { segment < length input.now.says.now.segments }
+    requires group { IfSome group (λ g. g < length input.now.says.now.groups) }
+    ensures { Some result ≡ of_program placed_public groups.now.program.now (input_view input.now) offset
+        (InSegment segment group) }
 {
     let segment = usize::from(segment);
-    let stand = x.stands[segment];
-    let frame = public_frame(x, stand, group, groups);
-    public_at(x.sites[segment].segment.standing, stand, offset, frame)
-}
-
-fn placed_public<A: Allocator + Copy>(
-    x: &Input<'_, A>,
-    p: PublicSymbol<'_>,
-    groups: &Groups<'_, A>,
-) -> PublicPlace
-    requires whole { IsWholeInput x.now }
-    requires public { PublicFits x.now.says.now.segments x.now.says.now.groups x.now.says.now.externals (public_seen p) }
-    ensures { Some result ≡ held_public x.now groups.now (public_seen p.entry) }
-{
-    match p.base {
-        PublicBase::AtFrame(frame) => PublicPlace {
-            address: Address::Absolute(16 * u32::from(frame) + u32::from(p.offset)),
+    let stand = input.stands[segment];
+    match input.sites[segment].segment.standing {
+        Standing::Absolute { frame, offset: at } => PublicPlace {
+            address: Address::Absolute(16 * u32::from(frame) + u32::from(at) + u32::from(offset)),
             frame: Some(Base::Absolute(frame)),
         },
-        PublicBase::InSegment(segment, group) => {
-            public_in_segment(x, segment, group, p.offset, groups)
+        Standing::Relocatable { .. } => PublicPlace {
+            address: Address::Relocatable(stand.address + u32::from(offset)),
+            frame: frame_of_public(input, stand, group, groups),
+        },
+    }
+}
+
+/// Where a public stands.
+fn place_of_public<A: Allocator + Copy>(
+    input: &Input<'_, A>,
+    public: PublicSymbol<'_>,
+    groups: &Groups<'_, A>,
+) -> PublicPlace
+    requires placed { of_program (λ ms. IsPlacedInput (sites ms)) groups.now.program.now input.now }
+    requires public { PublicFits input.now.says.now.segments input.now.says.now.groups input.now.says.now.externals
+        (public_seen public) }
+    ensures { Some result ≡ of_program placed_public groups.now.program.now
+        (input_view input.now) public.entry.offset public.entry.base }
+{
+    match public.base {
+        SymbolBase::AtFrame(frame) => PublicPlace {
+            address: Address::Absolute(16 * u32::from(frame) + u32::from(public.offset)),
+            frame: Some(Base::Absolute(frame)),
+        },
+        SymbolBase::InSegment(segment, group) => {
+            public_in_segment(input, segment, group, public.offset, groups)
         }
     }
 }
 
+/// Adds the publics of a module.
 fn push_publics<'a, A: Allocator + Copy>(
     all: &mut Vec<Entry<'a, PublicPlace>, A>,
-    x: &Input<'a, A>,
+    input: &Input<'a, A>,
     groups: &Groups<'_, A>,
 ) -> Result<(), AllocError>
-    requires { IsWholeInput x.now }
-    ensures { OnOk result (map entry_view all.new.items ≡ map entry_view all.old.items ++ held_publics groups.now x.now) }
+    requires { of_program (λ ms. IsPlacedInput (sites ms)) groups.now.program.now input.now }
+    ensures { OnOk result (map entry_view all.new.items ≡
+        map entry_view all.old.items ++ of_program publics_of groups.now.program.now (input_view input.now)) }
 {
-    for number in 0..x.says.public_symbol_count() {
-        let p = x.says.public_symbol(number);
+    for index in 0..input.says.public_symbol_count() {
+        let public = input.says.public_symbol(index);
         all.push(Entry {
-            owner: p.local.then_some(x.input),
-            name: p.name,
-            value: placed_public(x, p, groups),
+            owner: public.local.then_some(input.input),
+            name: public.name,
+            value: place_of_public(input, public, groups),
         })?;
     }
     Ok(())
 }
 
-/// The publics of all modules, local ones too, in order.
+/// The publics of a program, local ones too, in order.
 pub(crate) fn collect_publics<'a, A: Allocator + Copy>(
     alloc: A,
-    inputs: &[Input<'a, A>],
-    groups: &Groups<'_, A>,
+    groups: &Groups<'a, A>,
 ) -> Result<Vec<Entry<'a, PublicPlace>, A>, AllocError>
-    requires { AllByRecursion IsWholeInput inputs.now }
-    ensures { IfOk result (λ v. map entry_view v.items ≡ flat_map (held_publics groups.now) inputs.now) }
+    requires { IsPlacedProgram groups.now.program.now }
+    ensures { IfOk result (λ v. map entry_view v.items ≡ of_program placed_publics groups.now.program.now) }
 {
     let mut all = Vec::new(alloc);
-    for x in inputs {
-        push_publics(&mut all, x, groups)?;
+    for input in &groups.program.inputs {
+        push_publics(&mut all, input, groups)?;
     }
     Ok(all)
 }

@@ -1,9 +1,11 @@
 //! The names known to all modules, and those of each module.
 
-ghost use Rattle.std.specs.Prelude.{◌≡◌, ℕ, Option, IfErr, IfOk, IfSome, OnOk, Some, None, if◌then◌else◌, is_some, length, map, replicate, true, false};
+ghost use Rattle.std.specs.Prelude.{◌≡◌, ℕ, Option, IfErr, IfOk, IfSome, OnOk, Some, None, if◌then◌else◌, is_some};
+ghost use Rattle.std.specs.Prelude.{length, map, replicate, true, false};
 ghost use Rattle.std.specs.List.{AllByRecursion};
 ghost use Rattle.omf_place.specs.Faults.{duplicate_in};
-ghost use Rattle.omf_place.specs.HeldNames.{IsModuleOf, IsOwner, entry_view, local_table, scopes_of, table_of, with_entry};
+ghost use Rattle.omf_place.specs.inside.HeldNames.{IsModuleOf, IsOwner, entry_view, local_table, scopes_of, table_of};
+ghost use Rattle.omf_place.specs.inside.HeldNames.{with_entry};
 ghost use Rattle.omf_place.specs.Names.{empty, means};
 ghost use Rattle.omf_place.specs.Said.{said};
 ghost use Rattle.omf_place.specs.Scopes.{same_owner};
@@ -32,7 +34,7 @@ pub(crate) struct Scopes<V: Copy, A: Allocator + Copy> {
 }
 
 impl<V: Copy, A: Allocator + Copy> Model for Scopes<V, A> {
-    ghost use Rattle.omf_place.specs.HeldNames as value;
+    ghost use Rattle.omf_place.specs.inside.HeldNames as value;
 
     ghost Value = { value.Scopes V };
 
@@ -40,6 +42,7 @@ impl<V: Copy, A: Allocator + Copy> Model for Scopes<V, A> {
 }
 
 impl<V: Copy, A: Allocator + Copy> Scopes<V, A> {
+    /// No names, for some modules.
     fn new(alloc: A, names: Names, count: usize) -> Result<Self, AllocError>
         ensures { IfOk result (λ s. s ≡ record { shared = empty names; locals = replicate count (empty names) }) }
     {
@@ -53,6 +56,7 @@ impl<V: Copy, A: Allocator + Copy> Scopes<V, A> {
         })
     }
 
+    /// Adds a name, or says that its owner has one that agrees.
     fn add(
         &mut self,
         alloc: A,
@@ -62,9 +66,13 @@ impl<V: Copy, A: Allocator + Copy> Scopes<V, A> {
     ) -> Result<bool, AllocError>
         requires { IsModuleOf self.old owner }
         ensures count { OnOk result (length self.new.locals ≡ length self.old.locals) }
-        ensures fresh { IfOk result (λ fresh. fresh ≡ true → (q : Option ℕ) → table_of self.new q ≡ (if same_owner q owner then with_entry (table_of self.old q) name.now value else table_of self.old q)) }
+        ensures fresh { IfOk result
+            (λ fresh. fresh ≡ true → (q : Option ℕ) →
+            table_of self.new q ≡
+            (if same_owner q owner then with_entry (table_of self.old q) name.now value else table_of self.old q)) }
         ensures absent { IfOk result (λ fresh. fresh ≡ true → means (table_of self.old owner) name.now ≡ None) }
-        ensures there { IfOk result (λ fresh. fresh ≡ false → is_some (means (table_of self.old owner) name.now) ≡ true) }
+        ensures there { IfOk result
+            (λ fresh. fresh ≡ false → is_some (means (table_of self.old owner) name.now) ≡ true) }
     {
         match owner {
             None => self.shared.add(alloc, name, value),
@@ -100,7 +108,8 @@ pub(crate) fn index_publics<A: Allocator + Copy>(
     requires { AllByRecursion (λ e. IsOwner count e.owner) entries.now }
     ensures made { IfOk result (λ s. s ≡ scopes_of names count (map entry_view entries.now)) }
     ensures apart { OnOk result (duplicate_in names (map entry_view entries.now) ≡ None) }
-    ensures fault { IfErr result (λ e. IfSome (said e) (λ f. duplicate_in names (map entry_view entries.now) ≡ Some f)) }
+    ensures fault { IfErr result
+        (λ e. IfSome (said e) (λ f. duplicate_in names (map entry_view entries.now) ≡ Some f)) }
 {
     let mut scopes = Scopes::new(alloc, names, count)?;
     for entry in entries {

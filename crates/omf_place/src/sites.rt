@@ -3,9 +3,10 @@
 ghost use Rattle.std.specs.Prelude.{◌≡◌, ◌++◌, IfOk, OnOk, length};
 ghost use Rattle.std.specs.List.{AllByRecursion};
 ghost use Rattle.omf_module.specs.Sound.{SegmentFits};
-ghost use Rattle.omf_place.specs.Numbered.{IsNumberedFrom};
+ghost use Rattle.omf_place.specs.inside.Numbered.{IsNumberedFrom};
 ghost use Rattle.omf_place.specs.Parts.{sites, module_sites, is_part};
-ghost use Rattle.omf_place.specs.Sites.{site, sites_view};
+ghost use Rattle.omf_place.specs.Placed.{alignment_of};
+ghost use Rattle.omf_place.specs.inside.Sites.{site, sites_view};
 
 use omf_module::{Module, Segment, Standing};
 use std::alloc::{AllocError, Allocator};
@@ -29,15 +30,28 @@ impl Site<'_> {
     {
         matches!(self.segment.standing, Standing::Relocatable { .. })
     }
+
+    /// Its alignment: 1 where it is absolute.
+    pub(crate) fn alignment(&self) -> u16
+        ensures { result ≡ alignment_of self.now.segment.standing }
+    {
+        match self.segment.standing {
+            Standing::Absolute { .. } => 1,
+            Standing::Relocatable { alignment, .. } => alignment,
+        }
+    }
 }
 
+/// Adds the segments of a module.
 fn push_sites<'a, A: Allocator + Copy>(
     sites: &mut Vec<Site<'a>, A>,
     input: usize,
     from: &'a Module<A>,
 ) -> Result<(), AllocError>
     requires sound { AllByRecursion (λ a. SegmentFits a.segment) (sites_view sites.old.items) }
-    ensures made { OnOk result (sites_view sites.new.items ≡ sites_view sites.old.items ++ module_sites (length sites.old.items) input 0 from.now.segments) }
+    ensures made { OnOk result
+        (sites_view sites.new.items ≡
+        sites_view sites.old.items ++ module_sites (length sites.old.items) input 0 from.now.segments) }
     ensures sound { OnOk result (AllByRecursion (λ a. SegmentFits a.segment) (sites_view sites.new.items)) }
 {
     from.promises();

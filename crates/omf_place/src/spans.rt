@@ -1,20 +1,20 @@
 //! Where combined segments start and end.
 
-ghost use Rattle.std.specs.Prelude.{◌≡◌, ◌+◌, ◌*◌, ◌/◌, ◌<◌, ◌≤◌, ◌^◌, ◌&&◌, nat_eq, nat_lt, IfOk, find, length, map};
+ghost use Rattle.std.specs.Prelude.{◌≡◌, ◌+◌, ◌*◌, ◌/◌, ◌<◌, ◌^◌, ◌&&◌, nat_eq, nat_lt, IfOk, find, length, map};
 ghost use Rattle.std.specs.List.{AllByRecursion};
 ghost use Rattle.std.specs.Option.{option_map};
 ghost use Rattle.omf_place.specs.Faults.{is_long_segment};
-ghost use Rattle.omf_place.specs.Keys.{segment_place};
-ghost use Rattle.omf_place.specs.Numbered.{IsNumberedFrom};
+ghost use Rattle.omf_place.specs.inside.Keys.{segment_place};
+ghost use Rattle.omf_place.specs.inside.Numbered.{IsNumberedFrom};
 ghost use Rattle.omf_place.specs.Parts.{rank, placement_order};
-ghost use Rattle.omf_place.specs.Placed.{address_of};
-ghost use Rattle.omf_place.specs.Sites.{site, sites_view};
-ghost use Rattle.omf_place.specs.Small.{IsSmall};
-ghost use Rattle.omf_place.specs.Spans.{AreSpans, IsLow, addresses_in, span_of};
+ghost use Rattle.omf_place.specs.inside.Sites.{site, sites_view};
+ghost use Rattle.omf_place.specs.inside.Small.{IsSmall};
+ghost use Rattle.omf_place.specs.inside.Spans.{AreSpans, IsLow, addresses_in, span_of};
 ghost use Rattle.omf_place.specs.Tables.{combined_segment as combined_at, leaders};
-ghost use Rattle.omf_place.specs.Walk.{HoldsGreatest};
+ghost use Rattle.omf_place.specs.declared.greatest.Asked.TheVariants.{End};
+ghost use Rattle.omf_place.specs.inside.Greatest.{HoldsGreatest, answer};
 
-use crate::greatest::greatest_by_first;
+use crate::greatest::{Asked, greatest_of};
 use crate::layout::Combined;
 use crate::order::Rank;
 use crate::sites::Site;
@@ -38,27 +38,7 @@ impl SegmentSpan {
     }
 }
 
-/// At the place of each combined segment, the greatest end of its parts.
-fn greatest_ends<A: Allocator + Copy>(
-    alloc: A,
-    sites: &[Site<'_>],
-    places: &[usize],
-    addresses: &[u128],
-) -> Result<Vec<u128, A>, AllocError>
-    requires numbered { IsNumberedFrom 0 (sites_view sites.now) }
-    requires places { places.now ≡ map (segment_place (sites_view sites.now)) (sites_view sites.now) }
-    requires table { length addresses.now ≡ length sites.now }
-    requires small { IsSmall addresses.now }
-    ensures len { IfOk result (λ v. length v.items ≡ length sites.now) }
-    ensures each { IfOk result (λ v. HoldsGreatest (sites_view sites.now) (λ b. address_of addresses.now b + b.segment.length) v.items) }
-{
-    let mut own = Vec::new(alloc);
-    for (i, a) in sites.iter().enumerate() {
-        own.push(addresses[i] + u128::from(a.segment.length))?;
-    }
-    greatest_by_first(alloc, places, &own)
-}
-
+/// Where each segment stands, and where its combined segment starts and ends.
 fn gather_spans<A: Allocator + Copy>(
     alloc: A,
     sites: &[Site<'_>],
@@ -70,7 +50,7 @@ fn gather_spans<A: Allocator + Copy>(
     requires places { places.now ≡ map (segment_place (sites_view sites.now)) (sites_view sites.now) }
     requires table { length addresses.now ≡ length sites.now }
     requires count { length ends.now ≡ length sites.now }
-    requires ends { HoldsGreatest (sites_view sites.now) (λ b. address_of addresses.now b + b.segment.length) ends.now }
+    requires ends { HoldsGreatest (sites_view sites.now) (answer (End addresses)) ends.now }
     ensures { IfOk result (λ v. v.items ≡ map (span_of (sites_view sites.now) addresses.now) (sites_view sites.now)) }
 {
     let mut all = Vec::new(alloc);
@@ -98,10 +78,11 @@ pub(crate) fn segment_spans<A: Allocator + Copy>(
     requires small { IsSmall addresses.now }
     ensures { IfOk result (λ v. v.items ≡ map (span_of (sites_view sites.now) addresses.now) (sites_view sites.now)) }
 {
-    let ends = greatest_ends(alloc, sites, places, addresses)?;
+    let ends = greatest_of(alloc, sites, places, Asked::End(addresses))?;
     gather_spans(alloc, sites, places, addresses, &ends)
 }
 
+/// Whether a part is the first of its combined segment, and that one is too long.
 fn is_long_leader(rank: Rank, span: SegmentSpan) -> bool
     requires { span.start < 2 ^ 127 }
     ensures { result ≡ nat_eq rank.segment rank.own && nat_lt (16 * (span.start / 16) + 65536) span.end }
@@ -109,7 +90,8 @@ fn is_long_leader(rank: Rank, span: SegmentSpan) -> bool
     rank.segment == rank.own && span.is_long()
 }
 
-/// The first combined segment, in the order of placement, that ends more than 65,536 bytes above its frame: its first part.
+/// The first combined segment, in the order of placement, that ends more than 65,536 bytes above its frame: its first
+/// part.
 pub(crate) fn first_long_segment<'s, 'a>(
     sites: &'s [Site<'a>],
     ranks: &[Rank],
@@ -119,7 +101,8 @@ pub(crate) fn first_long_segment<'s, 'a>(
     requires numbered { IsNumberedFrom 0 (sites_view sites.now) }
     requires spans { AreSpans (sites_view sites.now) spans.now }
     requires small { IsSmall (addresses_in spans.now) }
-    ensures { option_map (λ a. site a.now) result ≡ find (is_long_segment (sites_view sites.now) (addresses_in spans.now)) (leaders (sites_view sites.now)) }
+    ensures { option_map (λ a. site a.now) result ≡
+        find (is_long_segment (sites_view sites.now) (addresses_in spans.now)) (leaders (sites_view sites.now)) }
 {
     for rank in ranks {
         let a = &sites[rank.own];
@@ -141,7 +124,8 @@ pub(crate) fn combined_segments<A: Allocator + Copy>(
     requires numbered { IsNumberedFrom 0 (sites_view sites.now) }
     requires spans { AreSpans (sites_view sites.now) spans.now }
     requires low { AllByRecursion IsLow spans.now }
-    ensures { IfOk result (λ v. v.items ≡ map (combined_at (sites_view sites.now) (addresses_in spans.now)) (leaders (sites_view sites.now))) }
+    ensures { IfOk result (λ v. v.items ≡
+        map (combined_at (sites_view sites.now) (addresses_in spans.now)) (leaders (sites_view sites.now))) }
 {
     let mut all = Vec::new(alloc);
     for rank in ranks {
@@ -152,9 +136,15 @@ pub(crate) fn combined_segments<A: Allocator + Copy>(
     Ok(all)
 }
 
+/// A combined segment, by its first part.
 fn combined_segment(first: &Site<'_>, span: SegmentSpan) -> Combined
     requires { IsLow span }
-    ensures { result ≡ record { start = span.start; end = span.end; input = first.now.input; segment = first.now.number } }
+    ensures { result ≡ record {
+      start = span.start;
+      end = span.end;
+      input = first.now.input;
+      segment = first.now.number;
+    } }
 {
     Combined {
         start: span.start as u32,

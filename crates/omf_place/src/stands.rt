@@ -1,10 +1,10 @@
 //! Where each segment stands, in the numbers of a layout.
 
-ghost use Rattle.std.specs.Prelude.{◌≡◌, ◌<◌, ◌≤◌, ◌^◌, IfOk, map};
+ghost use Rattle.std.specs.Prelude.{◌≡◌, ◌<◌, IfOk, map};
 ghost use Rattle.std.specs.List.{AllByRecursion};
-ghost use Rattle.omf_place.specs.Sites.{sites_view};
-ghost use Rattle.omf_place.specs.Spans.{AreSpans, IsLow, addresses_in};
-ghost use Rattle.omf_place.specs.Stands.{IsFramed, StartsLow, placed_by, stand_by, stand_of};
+ghost use Rattle.omf_place.specs.inside.Sites.{sites_view};
+ghost use Rattle.omf_place.specs.inside.Spans.{AreSpans, IsLow, addresses_in};
+ghost use Rattle.omf_place.specs.inside.Stands.{IsFramed, StartsLow, placed_by, stand_by, stand_of};
 
 use crate::layout::{Address, Base, SegmentPlace};
 use crate::sites::Site;
@@ -12,7 +12,8 @@ use crate::spans::SegmentSpan;
 use omf_module::Standing;
 use std::alloc::{AllocError, Allocator};
 
-/// The address of a segment, the frame of its combined segment or, where it is absolute, its own, and its combined segment's end.
+/// The address of a segment, the frame of its combined segment or, where it is absolute, its own, and its combined
+/// segment's end.
 #[derive(Clone, Copy)]
 pub(crate) struct Stand {
     pub address: u32,
@@ -20,6 +21,7 @@ pub(crate) struct Stand {
     pub end: u32,
 }
 
+/// Where a segment stands, in narrow numbers.
 fn stand_in(standing: Standing, span: SegmentSpan) -> Stand
     requires low { IsLow span }
     requires framed { IsFramed standing span }
@@ -44,8 +46,10 @@ pub(crate) fn collect_stands<A: Allocator + Copy>(
 ) -> Result<Vec<Stand, A>, AllocError>
     requires spans { AreSpans (sites_view sites.now) spans.now }
     requires low { AllByRecursion IsLow spans.now }
-    requires framed { AllByRecursion (StartsLow (sites_view sites.now) (addresses_in spans.now)) (sites_view sites.now) }
-    ensures { IfOk result (λ v. v.items ≡ map (stand_of (sites_view sites.now) (addresses_in spans.now)) (sites_view sites.now)) }
+    requires framed { AllByRecursion (StartsLow (sites_view sites.now) (addresses_in spans.now))
+        (sites_view sites.now) }
+    ensures { IfOk result (λ v. v.items ≡
+        map (stand_of (sites_view sites.now) (addresses_in spans.now)) (sites_view sites.now)) }
 {
     let mut all = Vec::new(alloc);
     for (i, a) in sites.iter().enumerate() {

@@ -3,15 +3,18 @@
 ghost use Rattle.std.specs.Prelude.{◌≡◌, ◌+◌, ◌*◌, ◌<◌, ◌≤◌, ◌^◌, ◌||◌, not, IfOk, length, map};
 ghost use Rattle.std.specs.List.{AllByRecursion};
 ghost use Rattle.omf_module.specs.Sound.{SegmentFits};
-ghost use Rattle.omf_place.specs.Keys.{segment_place};
-ghost use Rattle.omf_place.specs.Numbered.{IsNumberedFrom};
+ghost use Rattle.omf_place.specs.inside.Keys.{segment_place};
+ghost use Rattle.omf_place.specs.inside.Numbered.{IsNumberedFrom};
 ghost use Rattle.omf_place.specs.Parts.{rank, placement_order};
-ghost use Rattle.omf_place.specs.Placed.{IsPlaced, IsOnlyPlacement, IsNextStart, FollowFrom, alignment_of, is_common, is_stack};
-ghost use Rattle.omf_place.specs.Sites.{site, sites_view};
-ghost use Rattle.omf_place.specs.Small.{IsSmall};
-ghost use Rattle.omf_place.specs.Walk.{HoldsGreatest, IsUnitBounded, KeepsOthers, Places, measured, settled, settled_by, unit_measure, units};
+ghost use Rattle.omf_place.specs.Placed.{IsPlaced, IsOnlyPlacement, IsNextStart, FollowFrom, is_common, is_stack};
+ghost use Rattle.omf_place.specs.inside.Sites.{site, sites_view};
+ghost use Rattle.omf_place.specs.inside.Small.{IsSmall};
+ghost use Rattle.omf_place.specs.declared.greatest.Asked.TheVariants.{Alignment, Length};
+ghost use Rattle.omf_place.specs.inside.Greatest.{HoldsGreatest, answer};
+ghost use Rattle.omf_place.specs.inside.Walk.{IsUnitBounded, KeepsOthers, Places, measured, settled, settled_by};
+ghost use Rattle.omf_place.specs.inside.Walk.{unit_measure, units};
 
-use crate::greatest::greatest_by_first;
+use crate::greatest::{Asked, greatest_of};
 use crate::order::Rank;
 use crate::sites::Site;
 use omf_module::{Kind, Standing};
@@ -39,6 +42,7 @@ fn next_start(end: u128, alignment: u128) -> u128
 }
 
 impl Site<'_> {
+    /// Whether it is a part of a common segment.
     fn is_common(&self) -> bool
         ensures { result ≡ is_common (site self.now) }
     {
@@ -51,6 +55,7 @@ impl Site<'_> {
         )
     }
 
+    /// Whether it is a part of a stack segment.
     fn is_stack(&self) -> bool
         ensures { result ≡ is_stack (site self.now) }
     {
@@ -64,71 +69,26 @@ impl Site<'_> {
     }
 }
 
-fn alignment_in(standing: Standing) -> u16
-    ensures { result ≡ alignment_of standing }
-{
-    match standing {
-        Standing::Absolute { .. } => 1,
-        Standing::Relocatable { alignment, .. } => alignment,
-    }
-}
-
 /// How a part is placed, by the greatest alignment and length of the parts that combine with it.
-fn part_measure(a: &Site<'_>, leads: bool, alignment: u128, length: u128) -> Measure
-    ensures { result ≡ measured (site a.now) leads alignment length }
+fn part_measure(segment: &Site<'_>, leads: bool, alignment: u128, length: u128) -> Measure
+    ensures { result ≡ measured (site segment.now) leads alignment length }
 {
-    let own = u128::from(alignment_in(a.segment.standing));
-    if a.is_common() {
+    if segment.is_common() {
         Measure { alignment, length }
-    } else if a.is_stack() && !leads {
+    } else if segment.is_stack() && !leads {
         Measure {
             alignment: 1,
-            length: u128::from(a.segment.length),
+            length: u128::from(segment.segment.length),
         }
     } else {
         Measure {
-            alignment: own,
-            length: u128::from(a.segment.length),
+            alignment: u128::from(segment.alignment()),
+            length: u128::from(segment.segment.length),
         }
     }
 }
 
-/// At the place of each combined segment, the greatest alignment of its parts.
-fn greatest_alignments<A: Allocator + Copy>(
-    alloc: A,
-    sites: &[Site<'_>],
-    places: &[usize],
-) -> Result<Vec<u128, A>, AllocError>
-    requires numbered { IsNumberedFrom 0 (sites_view sites.now) }
-    requires places { places.now ≡ map (segment_place (sites_view sites.now)) (sites_view sites.now) }
-    ensures len { IfOk result (λ v. length v.items ≡ length sites.now) }
-    ensures each { IfOk result (λ v. HoldsGreatest (sites_view sites.now) (λ a. alignment_of a.segment.standing) v.items) }
-{
-    let mut own = Vec::new(alloc);
-    for a in sites {
-        own.push(u128::from(alignment_in(a.segment.standing)))?;
-    }
-    greatest_by_first(alloc, places, &own)
-}
-
-/// At the place of each combined segment, the greatest length of its parts.
-fn greatest_lengths<A: Allocator + Copy>(
-    alloc: A,
-    sites: &[Site<'_>],
-    places: &[usize],
-) -> Result<Vec<u128, A>, AllocError>
-    requires numbered { IsNumberedFrom 0 (sites_view sites.now) }
-    requires places { places.now ≡ map (segment_place (sites_view sites.now)) (sites_view sites.now) }
-    ensures len { IfOk result (λ v. length v.items ≡ length sites.now) }
-    ensures each { IfOk result (λ v. HoldsGreatest (sites_view sites.now) (λ a. a.segment.length) v.items) }
-{
-    let mut own = Vec::new(alloc);
-    for a in sites {
-        own.push(u128::from(a.segment.length))?;
-    }
-    greatest_by_first(alloc, places, &own)
-}
-
+/// How each segment is placed, by the greatest alignment and length of each combined segment.
 fn measure_parts<A: Allocator + Copy>(
     alloc: A,
     sites: &[Site<'_>],
@@ -139,15 +99,15 @@ fn measure_parts<A: Allocator + Copy>(
     requires numbered { IsNumberedFrom 0 (sites_view sites.now) }
     requires places { places.now ≡ map (segment_place (sites_view sites.now)) (sites_view sites.now) }
     requires alignment_count { length alignments.now ≡ length sites.now }
-    requires alignments { HoldsGreatest (sites_view sites.now) (λ a. alignment_of a.segment.standing) alignments.now }
+    requires alignments { HoldsGreatest (sites_view sites.now) (answer Alignment) alignments.now }
     requires length_count { length lengths.now ≡ length sites.now }
-    requires lengths { HoldsGreatest (sites_view sites.now) (λ a. a.segment.length) lengths.now }
+    requires lengths { HoldsGreatest (sites_view sites.now) (answer Length) lengths.now }
     ensures { IfOk result (λ v. v.items ≡ map (unit_measure (sites_view sites.now)) (sites_view sites.now)) }
 {
     let mut all = Vec::new(alloc);
-    for (i, a) in sites.iter().enumerate() {
+    for (i, segment) in sites.iter().enumerate() {
         let first = places[i];
-        all.push(part_measure(a, first == i, alignments[first], lengths[first]))?;
+        all.push(part_measure(segment, first == i, alignments[first], lengths[first]))?;
     }
     Ok(all)
 }
@@ -162,25 +122,32 @@ fn measures<A: Allocator + Copy>(
     requires places { places.now ≡ map (segment_place (sites_view sites.now)) (sites_view sites.now) }
     ensures { IfOk result (λ v. v.items ≡ map (unit_measure (sites_view sites.now)) (sites_view sites.now)) }
 {
-    let alignments = greatest_alignments(alloc, sites, places)?;
-    let lengths = greatest_lengths(alloc, sites, places)?;
+    let alignments = greatest_of(alloc, sites, places, Asked::Alignment)?;
+    let lengths = greatest_of(alloc, sites, places, Asked::Length)?;
     measure_parts(alloc, sites, places, &alignments, &lengths)
 }
 
 /// Gives a unit its address, after an end, and answers where it ends. Any other part of a common segment waits.
-fn place_unit(addresses: &mut [u128], a: &Site<'_>, leads: bool, as_is: Measure, end: u128) -> u128
-    requires within { a.now.position < length addresses.old }
+fn place_unit(
+    addresses: &mut [u128],
+    segment: &Site<'_>,
+    leads: bool,
+    as_is: Measure,
+    end: u128,
+) -> u128
+    requires within { segment.now.position < length addresses.old }
     requires positive { 0 < as_is.alignment }
     requires alignment { as_is.alignment ≤ 256 }
     requires length { as_is.length ≤ 65536 }
     requires room { end + 65792 < 2 ^ 128 }
-    ensures { Places (not (is_common (site a.now)) || leads) as_is end addresses.old addresses.new result a.now.position }
+    ensures { Places (not (is_common
+        (site segment.now)) || leads) as_is end addresses.old addresses.new result segment.now.position }
 {
-    if a.is_common() && !leads {
+    if segment.is_common() && !leads {
         return end;
     }
     let start = next_start(end, as_is.alignment);
-    addresses[a.position] = start;
+    addresses[segment.position] = start;
     start + as_is.length
 }
 
@@ -202,20 +169,20 @@ fn place_units(
 {
     let mut end = 0;
     for rank in ranks {
-        let a = &sites[rank.own];
+        let segment = &sites[rank.own];
         let leads = rank.segment == rank.own;
-        end = place_unit(addresses, a, leads, measures[rank.own], end);
+        end = place_unit(addresses, segment, leads, measures[rank.own], end);
     }
     end
 }
 
 /// The address of a segment, from its own as a unit and that of its combined segment's first part.
-fn settled_address(a: &Site<'_>, standing: Standing, own: u128, first: u128) -> u128
-    ensures { result ≡ settled_by (site a.now) own first standing }
+fn settled_address(segment: &Site<'_>, standing: Standing, own: u128, first: u128) -> u128
+    ensures { result ≡ settled_by (site segment.now) own first standing }
 {
     match standing {
         Standing::Absolute { frame, offset } => 16 * u128::from(frame) + u128::from(offset),
-        Standing::Relocatable { .. } => { if a.is_common() { first } else { own } }
+        Standing::Relocatable { .. } => { if segment.is_common() { first } else { own } }
     }
 }
 
@@ -232,9 +199,14 @@ fn settle<A: Allocator + Copy>(
     ensures { IfOk result (λ v. v.items ≡ map (settled (sites_view sites.now) addresses.now) (sites_view sites.now)) }
 {
     let mut all = Vec::new(alloc);
-    for (i, a) in sites.iter().enumerate() {
+    for (i, segment) in sites.iter().enumerate() {
         let first = places[i];
-        let address = settled_address(a, a.segment.standing, addresses[i], addresses[first]);
+        let address = settled_address(
+            segment,
+            segment.segment.standing,
+            addresses[i],
+            addresses[first],
+        );
         all.push(address)?;
     }
     Ok(all)
@@ -247,6 +219,7 @@ pub(crate) struct Placing<A: Allocator + Copy> {
     pub size: u128,
 }
 
+/// Gives each unit its address.
 fn start_units<A: Allocator + Copy>(
     alloc: A,
     sites: &[Site<'_>],
@@ -258,7 +231,8 @@ fn start_units<A: Allocator + Copy>(
     requires places { places.now ≡ map (segment_place (sites_view sites.now)) (sites_view sites.now) }
     requires bounds { AllByRecursion (IsUnitBounded (sites_view sites.now)) (placement_order (sites_view sites.now)) }
     ensures len { IfOk result (λ p. length p.addresses.items ≡ length sites.now) }
-    ensures follow { IfOk result (λ p. FollowFrom (sites_view sites.now) p.addresses.items 0 (units (sites_view sites.now)) p.size) }
+    ensures follow { IfOk result
+        (λ p. FollowFrom (sites_view sites.now) p.addresses.items 0 (units (sites_view sites.now)) p.size) }
     ensures small { IfOk result (λ p. p.size < 2 ^ 127) }
 {
     let measures = measures(alloc, sites, places)?;

@@ -7,8 +7,8 @@ use std::alloc::Global;
 use std::process::Abort;
 use std::test::*;
 
-/// Want of memory where a growth is refused, but for those that index maps make do without, and then this text. How many
-/// these are.
+/// Want of memory where a growth is refused, but for those that index maps make do without, and then this text.
+/// How many these are.
 fn refuse_each<R: Abort>(
     rt: &R,
     alloc: Global,

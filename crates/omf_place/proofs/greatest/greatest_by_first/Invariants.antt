@@ -1,5 +1,5 @@
 use Rattle.std.proofs.Common.{◌≡◌, ℕ, ◌<◌, length, take, get_or}
-use Rattle.omf_place.specs.Greatest.{greatest_at}
+use Rattle.omf_place.specs.inside.Greatest.{greatest_at}
 use Rattle.omf_place.proofs.greatest.greatest_by_first.Given as goal
 
 abbrev pub invariant-loop-i : goal.invariant-loop-i

@@ -1,7 +1,8 @@
 use Rattle.std.proofs.Common.{◌≡◌, take, map}
 use Rattle.omf_module.specs.Module.{Group}
-use Rattle.omf_place.specs.Reaches.{frame_named}
+use Rattle.omf_place.specs.Tables.{group_frame}
+use Rattle.omf_place.specs.inside.OfProgram.{of_program}
 use Rattle.omf_place.proofs.groups.frames_of.Given as goal
 
-abbrev pub invariant-loop-number : goal.invariant-loop-number
-invariant-loop-number g l = l.frames.items ≡ map (λ (x : Group). frame_named l.groups x.name) (take l.number l.x.says.now.groups)
+abbrev pub invariant-loop-index : goal.invariant-loop-index
+invariant-loop-index g l = l.frames.items ≡ map (λ (x : Group). of_program group_frame l.groups.program.now x.name) (take l.index l.input.says.now.groups)

@@ -1,5 +1,5 @@
 use Rattle.std.proofs.Common.{◌≡◌, take}
-use Rattle.omf_place.specs.Reaches.{reach_in}
+use Rattle.omf_place.specs.inside.Groups.{reach_in}
 use Rattle.omf_place.proofs.groups.reach_of.Given as goal
 
 abbrev pub invariant-loop-member : goal.invariant-loop-member

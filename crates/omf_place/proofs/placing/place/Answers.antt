@@ -1,4 +1,4 @@
-use Rattle.std.proofs.Common.{◌≡◌, Some, None, IfSome, ap, subst, ◌∙◌}
+use Rattle.std.proofs.Common.{◌≡◌, Some, None, IfSome, ap, rules, subst, ◌∙◌}
 use Rattle.std.specs.Option.{option_or}
 use Rattle.omf_place.specs.Bounded.{IsBounded}
 use Rattle.omf_place.specs.Faults.{IsFirstFault, IsOnlyLayout, PlacementFault, later_fault, segment_fault, size_fault}
@@ -6,15 +6,15 @@ use Rattle.omf_place.specs.Layout.{layout_at}
 use Rattle.omf_place.specs.Placed.{IsOnlyPlacement, IsPlaced}
 use Rattle.omf_place.specs.Parts.{sites}
 use Rattle.omf_place.specs.Said.{said}
-use Rattle.omf_place.specs.Sites.{sites_view}
-use Rattle.omf_place.specs.Spans.{addresses_in}
+use Rattle.omf_place.specs.inside.Sites.{sites_view}
+use Rattle.omf_place.specs.inside.Spans.{addresses_in}
 use Rattle.omf_place.proofs.Bounding.{bounded}
 use Rattle.omf_place.proofs.Ended.{early-fault, late-fault, only-layout}
 use Rattle.omf_place.proofs.Results.{IfErr-map, IfOk-both, IfOk-map, IfSome-map}
 use Rattle.omf_place.proofs.placing.place.Goals as goal
 
-pub returns-in-Err-clause-fault : goal.returns-in-Err-clause-fault
-returns-in-Err-clause-fault g c =
+pub returns-in_err-check_segments-clause-fault : goal.returns-in_err-check_segments-clause-fault
+returns-in_err-check_segments-clause-fault g c =
     let program = c.args.modules.now in
     let A = addresses_in c.in_ok-started.started.spans.items in
     let size = c.in_ok-started.started.size in
@@ -22,8 +22,9 @@ returns-in-Err-clause-fault g c =
     let checked : sites_view c.deref-2.result.now ≡ sites program = ap sites_view c.deref-2.ensures.value ∙ c.in_ok-sites.ensures.made in
     let placed : IsPlaced (sites program) A size = subst (λ ss. IsPlaced ss A size) started c.in_ok-started.ensures.placed in
     let only : IsOnlyPlacement (sites program) A size = subst (λ ss. IsOnlyPlacement ss A size) started c.in_ok-started.ensures.only in
-    IfSome-map _ (IsFirstFault c.args.names program) (said c.in-Err.fault)
-    (λ f h. early-fault c.args.names program A size placed only f (subst (λ ss. option_or (segment_fault ss A) (size_fault size) ≡ Some f) checked h)) c.in-Err.ensures.fault
+    let early = IfSome-map _ (IsFirstFault c.args.names program) _
+    (λ f h. early-fault c.args.names program A size placed only f (subst (λ ss. option_or (segment_fault ss A) (size_fault size) ≡ Some f) checked h)) c.in_err-check_segments.ensures.fault in
+    search rules
 
 pub returns-clause-layout : goal.returns-clause-layout
 returns-clause-layout g c =
@@ -34,9 +35,9 @@ returns-clause-layout g c =
     let checked : sites_view c.deref-2.result.now ≡ sites program = ap sites_view c.deref-2.ensures.value ∙ c.in_ok-sites.ensures.made in
     let placed : IsPlaced (sites program) A size = subst (λ ss. IsPlaced ss A size) started c.in_ok-started.ensures.placed in
     let only : IsOnlyPlacement (sites program) A size = subst (λ ss. IsOnlyPlacement ss A size) started c.in_ok-started.ensures.only in
-    let short : segment_fault (sites program) A ≡ None = subst (λ ss. segment_fault ss A ≡ None) checked c.in_default.ensures.segments in
+    let short : segment_fault (sites program) A ≡ None = subst (λ ss. segment_fault ss A ≡ None) checked c.in_ok-check_segments.ensures.segments in
     IfOk-both (later_fault c.args.names program A ≡ None) (λ l. l ≡ layout_at c.args.names program A size) (IsOnlyLayout c.args.names program) c.place_started.result
-    (λ l none e. only-layout c.args.names program A size placed only short c.in_default.ensures.size none l e) c.place_started.ensures.apart c.place_started.ensures.layout
+    (λ l none e. only-layout c.args.names program A size placed only short c.in_ok-check_segments.ensures.size none l e) c.place_started.ensures.apart c.place_started.ensures.layout
 
 pub returns-clause-bounded : goal.returns-clause-bounded
 returns-clause-bounded g c =
@@ -46,8 +47,8 @@ returns-clause-bounded g c =
     let started : sites_view c.deref.result.now ≡ sites program = ap sites_view c.deref.ensures.value ∙ c.in_ok-sites.ensures.made in
     let checked : sites_view c.deref-2.result.now ≡ sites program = ap sites_view c.deref-2.ensures.value ∙ c.in_ok-sites.ensures.made in
     let placed : IsPlaced (sites program) A size = subst (λ ss. IsPlaced ss A size) started c.in_ok-started.ensures.placed in
-    let short : segment_fault (sites program) A ≡ None = subst (λ ss. segment_fault ss A ≡ None) checked c.in_default.ensures.segments in
-    IfOk-map (λ l. l ≡ layout_at c.args.names program A size) (IsBounded program) c.place_started.result (λ l e. bounded c.args.names program A size placed short c.in_default.ensures.size l e) c.place_started.ensures.layout
+    let short : segment_fault (sites program) A ≡ None = subst (λ ss. segment_fault ss A ≡ None) checked c.in_ok-check_segments.ensures.segments in
+    IfOk-map (λ l. l ≡ layout_at c.args.names program A size) (IsBounded program) c.place_started.result (λ l e. bounded c.args.names program A size placed short c.in_ok-check_segments.ensures.size l e) c.place_started.ensures.layout
 
 pub returns-clause-fault : goal.returns-clause-fault
 returns-clause-fault g c =
@@ -58,7 +59,7 @@ returns-clause-fault g c =
     let checked : sites_view c.deref-2.result.now ≡ sites program = ap sites_view c.deref-2.ensures.value ∙ c.in_ok-sites.ensures.made in
     let placed : IsPlaced (sites program) A size = subst (λ ss. IsPlaced ss A size) started c.in_ok-started.ensures.placed in
     let only : IsOnlyPlacement (sites program) A size = subst (λ ss. IsOnlyPlacement ss A size) started c.in_ok-started.ensures.only in
-    let short : segment_fault (sites program) A ≡ None = subst (λ ss. segment_fault ss A ≡ None) checked c.in_default.ensures.segments in
+    let short : segment_fault (sites program) A ≡ None = subst (λ ss. segment_fault ss A ≡ None) checked c.in_ok-check_segments.ensures.segments in
     IfErr-map _ (λ e. IfSome (said e) (IsFirstFault c.args.names program)) c.place_started.result
     (λ e h. IfSome-map (λ (f : PlacementFault). later_fault c.args.names program A ≡ Some f) (IsFirstFault c.args.names program) (said e)
-    (λ f is. late-fault c.args.names program A size placed only short c.in_default.ensures.size f is) h) c.place_started.ensures.fault
+    (λ f is. late-fault c.args.names program A size placed only short c.in_ok-check_segments.ensures.size f is) h) c.place_started.ensures.fault

@@ -1,8 +1,8 @@
 use Rattle.std.proofs.Common.{ℕ, List, map, subst, sym, ap, ◌∙◌}
 use Rattle.omf_place.specs.Placed.{IsPlaced, IsOnlyPlacement}
-use Rattle.omf_place.specs.Sites.{sites_view}
-use Rattle.omf_place.specs.Small.{IsSmall}
-use Rattle.omf_place.specs.Spans.{span_of}
+use Rattle.omf_place.specs.inside.Sites.{sites_view}
+use Rattle.omf_place.specs.inside.Small.{IsSmall}
+use Rattle.omf_place.specs.inside.Spans.{span_of}
 use Rattle.omf_place.proofs.SpanAddresses.{addresses_are}
 use Rattle.omf_place.proofs.placing.start_parts.Goals as goal
 

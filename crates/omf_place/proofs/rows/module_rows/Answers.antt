@@ -1,13 +1,33 @@
-use Rattle.std.proofs.Common.{◌∙◌, ap, map}
+use Rattle.std.proofs.Common.{◌∙◌, ap, map, sym, subst, take, ◌+◌}
 use Rattle.std.proofs.lemmas.List.{map-append}
-use Rattle.omf_place.specs.Rows.{held_places, row_view}
+use Rattle.std.specs.List.{AllByRecursion}
+use Rattle.omf_place.specs.Layout.{module_places}
+use Rattle.omf_place.specs.Parts.{sites}
+use Rattle.omf_place.specs.Rows.{row_view}
+use Rattle.omf_place.specs.inside.Program.{IsPlacedInput, addresses_of, input_view}
+use Rattle.omf_place.specs.inside.Rows.{placed_row}
+use Rattle.omf_place.specs.inside.Sites.{sites_view}
 use Rattle.omf_place.proofs.FirstMet.{map-turn}
+use Rattle.omf_place.proofs.GreatestAt.{All-at}
+use Rattle.omf_place.proofs.KeyPlaces.{map_two}
+use Rattle.omf_place.proofs.LinkRows.{row_same}
 use Rattle.omf_place.proofs.rows.module_rows.Goals as goal
 
-pub loop-x-preserved : goal.loop-x-preserved
-loop-x-preserved g c =
-    let segments = c.in_ok-segments.ensures in
+pub loop-input-preserved : goal.loop-input-preserved
+loop-input-preserved g c =
+    let p = c.args.groups.now.program.now in
+    let ms = p.modules.now in
+    let A = addresses_of p.stands.now in
+    let items = c.deref-input-items.result.now in
+    let x = c.input-item.result in
+    let i = c.loop-input.input-index in
+    let same = c.deref-input-items.ensures.value in
+    let placed : IsPlacedInput (sites ms) A x = subst (λ y. IsPlacedInput (sites ms) A y) (sym c.input-item.is)
+    (All-at (IsPlacedInput (sites ms) A) items i x (subst (λ ys. AllByRecursion (IsPlacedInput (sites ms) A) ys) (sym same) c.requires.each) c.loop-input-test.true) in
+    let segments = c.in_ok-segments.ensures ∙ ap (λ ts. placed_row (sites_view x.sites.now) ts) placed.own ∙ row_same (sites ms) A (sites_view x.sites.now) in
     let groups = c.in_ok-group_frames.ensures in
-    ap (λ rows. map row_view rows) c.in_ok-push.ensures.items ∙ map-append row_view c.loop-x.all.items _
-    ∙ map-turn (held_places c.args.groups.now) c.args.inputs.now c.loop-x.x-index c.x-item.result (map row_view c.loop-x.all.items) _ c.loop-x-test.true c.x-item.is c.loop-x.invariant
+    ap (λ rows. map row_view rows) c.in_ok-push.ensures.items ∙ map-append row_view c.loop-input.all.items _
+    ∙ map-turn (λ y. module_places ms A (input_view y)) items i x (map row_view c.loop-input.all.items) _ c.loop-input-test.true c.input-item.is
+    (c.loop-input.invariant ∙ map_two input_view (module_places ms A) (take i p.inputs.items) ∙ ap (λ ys. map (λ y. module_places ms A (input_view y)) (take i ys)) (sym same))
     (λ j. record { segments = segments j; groups = groups j })
+    ∙ ap (λ ys. map (λ y. module_places ms A (input_view y)) (take (i + 1) ys)) same ∙ sym (map_two input_view (module_places ms A) (take (i + 1) p.inputs.items))

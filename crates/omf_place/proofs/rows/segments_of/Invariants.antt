@@ -1,7 +1,7 @@
 use Rattle.std.proofs.Common.{◌≡◌, take}
-use Rattle.omf_place.specs.Rows.{placed_row}
-use Rattle.omf_place.specs.Sites.{sites_view}
+use Rattle.omf_place.specs.inside.Rows.{placed_row}
+use Rattle.omf_place.specs.inside.Sites.{sites_view}
 use Rattle.omf_place.proofs.rows.segments_of.Given as goal
 
-abbrev pub invariant-loop-i : goal.invariant-loop-i
-invariant-loop-i g l = l.row.items ≡ placed_row (sites_view (take l.i l.x.sites.now)) (take l.i l.x.stands.now)
+abbrev pub invariant-loop-index : goal.invariant-loop-index
+invariant-loop-index g l = l.row.items ≡ placed_row (sites_view (take l.index l.input.sites.now)) (take l.index l.input.stands.now)

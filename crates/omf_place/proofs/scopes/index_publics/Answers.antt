@@ -1,6 +1,6 @@
 use Rattle.std.proofs.Common.{◌≡◌, Some, ◌∙◌, ap, map, refl, sym}
 use Rattle.omf_place.specs.Faults.{PlacementFault, duplicate_in}
-use Rattle.omf_place.specs.HeldNames.{entry_view}
+use Rattle.omf_place.specs.inside.HeldNames.{entry_view}
 use Rattle.omf_place.specs.Said.{said}
 use Rattle.omf_place.proofs.DuplicateSteps.{starts, owner-within, repeated, apart-more, holds-more, holds-all, no-duplicate}
 use Rattle.omf_place.proofs.Results.{IfSome-map}

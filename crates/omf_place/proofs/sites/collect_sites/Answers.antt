@@ -3,8 +3,8 @@ use Rattle.std.proofs.lemmas.Option.{slice_get_read}
 use Rattle.std.proofs.lemmas.List.{length-map}
 use Rattle.omf_place.proofs.SiteLists.{sites_from-more, numbered_sites, take-all}
 use Rattle.omf_place.specs.Parts.{sites_from}
-use Rattle.omf_place.specs.Numbered.{IsNumberedFrom}
-use Rattle.omf_place.specs.Sites.{site}
+use Rattle.omf_place.specs.inside.Numbered.{IsNumberedFrom}
+use Rattle.omf_place.specs.inside.Sites.{site}
 use Rattle.omf_place.proofs.sites.collect_sites.Goals as goal
 
 pub loop-input-preserved : goal.loop-input-preserved

@@ -2,7 +2,7 @@ use Rattle.std.proofs.Common.{◌≡◌, take}
 use Rattle.omf_place.specs.Parts.{sites_from, Site}
 use Rattle.std.specs.List.{AllByRecursion}
 use Rattle.omf_module.specs.Sound.{SegmentFits}
-use Rattle.omf_place.specs.Sites.{sites_view}
+use Rattle.omf_place.specs.inside.Sites.{sites_view}
 use Rattle.omf_place.proofs.sites.collect_sites.Given as goal
 
 abbrev pub invariant-loop-input : goal.invariant-loop-input

@@ -2,7 +2,7 @@ use Rattle.std.proofs.Common.{length, ap, ◌∙◌, arith, append_assoc, length
 use Rattle.std.proofs.lemmas.List.{map-append}
 use Rattle.omf_place.proofs.SiteLists.{module_sites-more, All-at_get, All-push}
 use Rattle.omf_module.specs.Sound.{SegmentFits}
-use Rattle.omf_place.specs.Sites.{sites_view}
+use Rattle.omf_place.specs.inside.Sites.{sites_view}
 use Rattle.omf_place.proofs.sites.push_sites.Goals as goal
 
 pub loop-number-preserved : goal.loop-number-preserved

@@ -2,7 +2,7 @@ use Rattle.std.proofs.Common.{◌≡◌, ◌+◌, ◌++◌, length, take}
 use Rattle.omf_place.specs.Parts.{module_sites, Site}
 use Rattle.std.specs.List.{AllByRecursion}
 use Rattle.omf_module.specs.Sound.{SegmentFits}
-use Rattle.omf_place.specs.Sites.{sites_view}
+use Rattle.omf_place.specs.inside.Sites.{sites_view}
 use Rattle.omf_place.proofs.sites.push_sites.Given as goal
 
 abbrev pub invariant-loop-number : goal.invariant-loop-number

@@ -1,7 +1,7 @@
 use Rattle.std.proofs.Common.{rules, ◌∙◌, map, filter, ap}
 use Rattle.omf_place.specs.Placed.{leads}
-use Rattle.omf_place.specs.Sites.{sites_view}
-use Rattle.omf_place.specs.Spans.{addresses_in, IsLow}
+use Rattle.omf_place.specs.inside.Sites.{sites_view}
+use Rattle.omf_place.specs.inside.Spans.{addresses_in, IsLow}
 use Rattle.omf_place.specs.Tables.{combined_segment}
 use Rattle.omf_place.proofs.GreatestAt.{All-at}
 use Rattle.omf_place.proofs.SpanTables.{spans_inside, combined-added, combined-kept, all-met}

@@ -1,8 +1,8 @@
 use Rattle.std.proofs.Common.{◌≡◌, take, map, filter}
 use Rattle.omf_place.specs.Parts.{placement_order}
 use Rattle.omf_place.specs.Placed.{leads}
-use Rattle.omf_place.specs.Sites.{sites_view}
-use Rattle.omf_place.specs.Spans.{addresses_in}
+use Rattle.omf_place.specs.inside.Sites.{sites_view}
+use Rattle.omf_place.specs.inside.Spans.{addresses_in}
 use Rattle.omf_place.specs.Tables.{combined_segment}
 use Rattle.omf_place.proofs.spans.combined_segments.Given as goal
 

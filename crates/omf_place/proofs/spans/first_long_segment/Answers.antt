@@ -2,8 +2,8 @@ use Rattle.std.proofs.Common.{rules, sym, ◌∙◌, ◌&&◌, find, ap, Bool}
 use Rattle.omf_place.specs.Faults.{is_long_segment}
 use Rattle.omf_place.specs.Parts.{Site, placement_order}
 use Rattle.omf_place.specs.Placed.{leads}
-use Rattle.omf_place.specs.Sites.{sites_view}
-use Rattle.omf_place.specs.Spans.{addresses_in}
+use Rattle.omf_place.specs.inside.Sites.{sites_view}
+use Rattle.omf_place.specs.inside.Spans.{addresses_in}
 use Rattle.omf_place.proofs.Finds.{find-here, find-more}
 use Rattle.omf_place.proofs.SpanTables.{spans_inside, met_small, met_test, find-both, all-met}
 use Rattle.omf_place.proofs.Walks.{met-within, met, no_site}

@@ -2,8 +2,8 @@ use Rattle.std.proofs.Common.{◌≡◌, take, find, None, ◌&&◌}
 use Rattle.omf_place.specs.Faults.{is_long_segment}
 use Rattle.omf_place.specs.Parts.{Site, placement_order}
 use Rattle.omf_place.specs.Placed.{leads}
-use Rattle.omf_place.specs.Sites.{sites_view}
-use Rattle.omf_place.specs.Spans.{addresses_in}
+use Rattle.omf_place.specs.inside.Sites.{sites_view}
+use Rattle.omf_place.specs.inside.Spans.{addresses_in}
 use Rattle.omf_place.proofs.spans.first_long_segment.Given as goal
 
 abbrev pub invariant-loop-rank : goal.invariant-loop-rank

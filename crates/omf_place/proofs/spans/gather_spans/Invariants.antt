@@ -1,6 +1,6 @@
 use Rattle.std.proofs.Common.{◌≡◌, map, take}
-use Rattle.omf_place.specs.Spans.{span_of}
-use Rattle.omf_place.specs.Sites.{sites_view}
+use Rattle.omf_place.specs.inside.Spans.{span_of}
+use Rattle.omf_place.specs.inside.Sites.{sites_view}
 use Rattle.omf_place.proofs.spans.gather_spans.Given as goal
 
 abbrev pub invariant-loop-i : goal.invariant-loop-i

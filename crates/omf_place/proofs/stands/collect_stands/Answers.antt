@@ -1,7 +1,7 @@
 use Rattle.std.proofs.Common.{◌∙◌}
-use Rattle.omf_place.specs.Sites.{sites_view}
-use Rattle.omf_place.specs.Spans.{addresses_in}
-use Rattle.omf_place.specs.Stands.{stand_of}
+use Rattle.omf_place.specs.inside.Sites.{sites_view}
+use Rattle.omf_place.specs.inside.Spans.{addresses_in}
+use Rattle.omf_place.specs.inside.Stands.{stand_of}
 use Rattle.omf_place.proofs.Measuring.{map_site-more}
 use Rattle.omf_place.proofs.StandTables.{stand_here, framed_here}
 use Rattle.omf_place.proofs.Walks.{no_site}

@@ -1,7 +1,7 @@
 use Rattle.std.proofs.Common.{◌≡◌, take, map}
-use Rattle.omf_place.specs.Sites.{sites_view}
-use Rattle.omf_place.specs.Spans.{addresses_in}
-use Rattle.omf_place.specs.Stands.{stand_of}
+use Rattle.omf_place.specs.inside.Sites.{sites_view}
+use Rattle.omf_place.specs.inside.Spans.{addresses_in}
+use Rattle.omf_place.specs.inside.Stands.{stand_of}
 use Rattle.omf_place.proofs.stands.collect_stands.Given as goal
 
 abbrev pub invariant-loop-i : goal.invariant-loop-i

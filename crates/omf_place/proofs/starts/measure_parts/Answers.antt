@@ -1,6 +1,6 @@
 use Rattle.std.proofs.Common.{◌<◌, ◌∙◌, arith, length, get_or, rules}
-use Rattle.omf_place.specs.Sites.{sites_view}
-use Rattle.omf_place.specs.Walk.{unit_measure}
+use Rattle.omf_place.specs.inside.Sites.{sites_view}
+use Rattle.omf_place.specs.inside.Walk.{unit_measure}
 use Rattle.omf_place.proofs.Measuring.{place_inside, measure_is, map_site-more}
 use Rattle.omf_place.proofs.starts.measure_parts.Goals as goal
 

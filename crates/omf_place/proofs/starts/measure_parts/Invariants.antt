@@ -1,6 +1,6 @@
 use Rattle.std.proofs.Common.{◌≡◌, map, take}
-use Rattle.omf_place.specs.Walk.{unit_measure}
-use Rattle.omf_place.specs.Sites.{sites_view}
+use Rattle.omf_place.specs.inside.Walk.{unit_measure}
+use Rattle.omf_place.specs.inside.Sites.{sites_view}
 use Rattle.omf_place.proofs.starts.measure_parts.Given as goal
 
 abbrev pub invariant-loop-i : goal.invariant-loop-i

@@ -1,8 +1,8 @@
 use Rattle.std.proofs.Common.{List, ℕ, subst, sym, max, arith}
 use Rattle.omf_place.proofs.Within.{address-within}
-use Rattle.omf_place.specs.Sites.{sites_view}
+use Rattle.omf_place.specs.inside.Sites.{sites_view}
 use Rattle.omf_place.specs.Placed.{IsPlaced, FollowFrom}
-use Rattle.omf_place.specs.Walk.{units}
+use Rattle.omf_place.specs.inside.Walk.{units}
 use Rattle.omf_place.proofs.Bounds.{units-bounded}
 use Rattle.omf_place.proofs.Only.{only_placement}
 use Rattle.omf_place.proofs.Settle.{settled_placed}

@@ -1,8 +1,8 @@
 use Rattle.std.proofs.Common.{◌<◌, ◌≤◌, length, get_or, arith, rules, subst, ap, sym, ◌∙◌}
 use Rattle.std.proofs.lemmas.List.{length-map}
 use Rattle.omf_place.specs.declared.starts.Measure.{Measure}
-use Rattle.omf_place.specs.Sites.{site, sites_view}
-use Rattle.omf_place.specs.Walk.{unit_measure}
+use Rattle.omf_place.specs.inside.Sites.{site, sites_view}
+use Rattle.omf_place.specs.inside.Walk.{unit_measure}
 use Rattle.omf_place.proofs.Walks.{met-within, met-position, met-leads, met-bounded, met, Follow-step, Keeps-step, to_unit, map_own, no_site}
 use Rattle.omf_place.proofs.starts.place_units.Goals as goal
 

@@ -1,8 +1,8 @@
 use Rattle.std.proofs.Common.{◌*◌, ◌≤◌, filter, take}
 use Rattle.omf_place.specs.Parts.{placement_order}
 use Rattle.omf_place.specs.Placed.{FollowFrom, is_unit}
-use Rattle.omf_place.specs.Sites.{sites_view}
-use Rattle.omf_place.specs.Walk.{KeepsOthers}
+use Rattle.omf_place.specs.inside.Sites.{sites_view}
+use Rattle.omf_place.specs.inside.Walk.{KeepsOthers}
 use Rattle.omf_place.proofs.starts.place_units.Given as goal
 use Rattle.omf_place.proofs.Walks.{}
 

@@ -1,6 +1,6 @@
 use Rattle.std.proofs.Common.{◌<◌, ◌∙◌, arith, length, get_or, rules}
-use Rattle.omf_place.specs.Sites.{sites_view}
-use Rattle.omf_place.specs.Walk.{settled}
+use Rattle.omf_place.specs.inside.Sites.{sites_view}
+use Rattle.omf_place.specs.inside.Walk.{settled}
 use Rattle.omf_place.proofs.Measuring.{place_inside, settled_is, map_site-more}
 use Rattle.omf_place.proofs.starts.settle.Goals as goal
 

@@ -1,6 +1,6 @@
 use Rattle.std.proofs.Common.{◌≡◌, map, take}
-use Rattle.omf_place.specs.Walk.{settled}
-use Rattle.omf_place.specs.Sites.{sites_view}
+use Rattle.omf_place.specs.inside.Walk.{settled}
+use Rattle.omf_place.specs.inside.Sites.{sites_view}
 use Rattle.omf_place.proofs.starts.settle.Given as goal
 
 abbrev pub invariant-loop-i : goal.invariant-loop-i
