@@ -1,11 +1,12 @@
 -- From the data records to the memory: what holds of each datum holds of the bytes at all addresses.
-use Rattle.std.proofs.Common.{◌≡◌, ◌≢◌, ◌⊎◌, ℕ, ◌+◌, ◌-◌, ◌/◌, ◌%◌, ◌<◌, ◌≤◌, true, false, cond, ◌&&◌, List, [], ◌∷◌, ◌++◌, map, filter, length, get_or, leb, ltb, inl, inr, arith, refl, ap, ◌∙◌, sym, subst}
+use Rattle.std.proofs.Common.{◌≡◌, ◌≢◌, ℕ, ◌+◌, ◌-◌, ◌/◌, ◌%◌, ◌<◌, ◌≤◌, true, false, cond, ◌&&◌, List, [], ◌∷◌, ◌++◌, map, filter, length, get_or, leb, ltb, inl, inr, arith, refl, ap, ◌∙◌, sym, subst}
 use Rattle.std.proofs.lemmas.List.{append_assoc, append-nil}
 use Rattle.std.proofs.lemmas.Bool.{cases_Bool, and_parts, and_from, leb-true, ltb-true, le-leb, lt-ltb, cond-true, cond-false}
 use Rattle.omf_image.specs.Words.{word_at, add_words}
 use Rattle.omf_image.specs.Located.{Datum, covers, byte_of, last_or, located}
 use Rattle.omf_image.proofs.Words.{length-add_word}
-use Rattle.omf_image.proofs.Moved.{In, MovedBy, word, AllApart, AllWordsInside, add_words-moves, moved_once}
+use Rattle.omf_image.proofs.Moved.{MovedBy, word, AllApart, AllWordsInside, add_words-moves, moved_once}
+use Rattle.omf_image.proofs.Members.{In, In-cases, In-left, In-map, In-map-from, In-right}
 
 -- a datum at paragraph 0, with the places of its relocated words
 pub record Piece : Type 0 where
@@ -44,26 +45,6 @@ abbrev pub lay_all : List Datum → (ℕ → ℕ) → ℕ → ℕ
 lay_all [] m = m
 lay_all (d ∷ ds) m = lay_all ds (lay d m)
 
-pub In-left : (r : ℕ) (xs ys : List ℕ) → In r xs → In r (xs ++ ys)
-In-left r [] ys h = absurd h
-In-left r (x ∷ xs) ys h = elim h [ inl e ↦ inl e | inr k ↦ inr (In-left r xs ys k) ]
-
-pub In-right : (r : ℕ) (xs ys : List ℕ) → In r ys → In r (xs ++ ys)
-In-right r [] ys h = h
-In-right r (x ∷ xs) ys h = inr (In-right r xs ys h)
-
-pub In-cases : (r : ℕ) (xs ys : List ℕ) → In r (xs ++ ys) → In r xs ⊎ In r ys
-In-cases r [] ys h = inr h
-In-cases r (x ∷ xs) ys h = elim h [ inl e ↦ inl (inl e) | inr k ↦ elim (In-cases r xs ys k) [ inl l ↦ inl (inr l) | inr l ↦ inr l ] ]
-
-pub In-map : (n r : ℕ) (xs : List ℕ) → In r (map (λ w. n + w) xs) → (w : ℕ) × In w xs × (r ≡ n + w)
-In-map n r [] h = absurd h
-In-map n r (x ∷ xs) h = elim h [ inl e ↦ (x, inl refl, e) | inr k ↦ let g = In-map n r xs k in (g.0, inr g.1, g.2) ]
-
-pub In-map-from : (n w : ℕ) (xs : List ℕ) → In w xs → In (n + w) (map (λ v. n + v) xs)
-In-map-from n w [] h = absurd h
-In-map-from n w (x ∷ xs) h = elim h [ inl e ↦ inl (ap (λ (v : ℕ). n + v) e) | inr k ↦ inr (In-map-from n w xs k) ]
-
 length-add_words : (P : ℕ) (rs : List ℕ) (xs : List ℕ) → length (add_words P rs xs) ≡ length xs
 length-add_words P [] xs = refl
 length-add_words P (r ∷ rs) xs = length-add_words P rs _ ∙ length-add_word P r xs
@@ -80,7 +61,7 @@ lay-in d m a h = cond-true (covers a d) (byte_of a d) (m a) h
 lay-out : (d : Datum) (m : ℕ → ℕ) (a : ℕ) → covers a d ≡ false → lay d m a ≡ m a
 lay-out d m a h = cond-false (covers a d) (byte_of a d) (m a) h
 
-add_sub : (a b : ℕ) → a + b - a ≡ b
+pub add_sub : (a b : ℕ) → a + b - a ≡ b
 add_sub a b = omega arith
 
 -- the i-th byte of a datum that is laid over a memory

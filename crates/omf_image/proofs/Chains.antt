@@ -6,7 +6,7 @@ use Rattle.std.proofs.lemmas.Grind.{get_or_default_zero}
 use Rattle.std.proofs.Math.Seq.{get_or-append_seam}
 use Rattle.std.specs.List.{range_with_len}
 use Rattle.omf_image.specs.Records.{hits}
-use Rattle.omf_image.specs.Index.{Chain, Rises, hits_before}
+use Rattle.omf_image.specs.inside.Index.{Chain, Rises, hits_before}
 use Rattle.omf_image.proofs.Ranges.{range_more, filter_none}
 
 abbrev pub from : ℕ → List ℕ → ℕ → List ℕ

@@ -1,20 +1,20 @@
 -- A fix-up that adds the same at each hit keeps copies of a content the same: it may be added once, to what was stored.
-use Rattle.std.proofs.Common.{◌≡◌, ◌⊎◌, ℕ, zero, suc, ◌+◌, ◌-◌, ◌/◌, ◌%◌, ◌<◌, ◌≤◌, Bool, true, false, cond, eqb, List, [], ◌∷◌, map, filter, flat_map, length, get_or, refl, sym, ap, ◌∙◌, arith, inl, inr, eq-eqb}
+use Rattle.std.proofs.Common.{◌≡◌, ◌⊎◌, ℕ, ◌+◌, ◌-◌, ◌/◌, ◌%◌, ◌<◌, ◌≤◌, eqb, List, [], ◌∷◌, map, flat_map, length, get_or, refl, sym, ap, ◌∙◌, arith, inl, inr, eq-eqb}
 use Rattle.std.proofs.lemmas.Bool.{cases_eq, cases_lt}
 use Rattle.std.proofs.lemmas.List.{get_or-set_same, get_or-set_other}
-use Rattle.std.specs.List.{range_with_len}
 use Rattle.omf_record.specs.Expansion.{StandTogether, StandWhole}
 use Rattle.omf_image.specs.declared.patch.Patch.{Patch}
 use Rattle.omf_image.specs.declared.patch.Patch.TheVariants.{Byte, Word, Relocated}
 use Rattle.omf_image.specs.Words.{word_at, add_byte, add_word}
 use Rattle.omf_image.specs.Patch.{patched, patched_all, patch_end}
-use Rattle.omf_image.specs.Working.{at_start}
+use Rattle.omf_image.specs.inside.States.{at_start}
 use Rattle.omf_image.specs.Records.{hits}
-use Rattle.omf_image.specs.Stored.{Copied}
+use Rattle.omf_image.specs.inside.Stored.{Copied}
 use Rattle.omf_image.proofs.Law.{AllInside, length-patched, length-patched_all}
 use Rattle.omf_image.proofs.Holding.{patched_all-append}
-use Rattle.omf_image.proofs.Moved.{In, add_word-low, add_word-high, add_word-other}
+use Rattle.omf_image.proofs.Moved.{add_word-low, add_word-high, add_word-other}
 use Rattle.omf_image.proofs.Hits.{SpacedBy, in_hits}
+use Rattle.omf_image.proofs.Members.{filter_has, In}
 
 abbrev pub spot : List ℕ → ℕ → ℕ → ℕ
 spot xs i d = get_or xs (i + d) 0
@@ -121,22 +121,6 @@ inside_hits w ps (m ∷ is) xs i d h spaced room (inr at) l =
     ∙ same_all i i w ps (patched_all (at_hit ps m) xs) xs h (omega (arith, n, here)) here (λ e k. outside_all m w ps xs (i + e) h (inr (omega (arith, far)))) d l
 
 -- ---- copies
-filter_has : (p : ℕ → Bool) (a n j : ℕ) → a ≤ j → j < a + n → p j ≡ true → In j (filter p (range_with_len a n))
-filter_has p a zero j h l t = absurd (omega (arith, h, l))
-filter_has p a (suc n) j h l t =
-    elim (cases_eq a j) [
-      | inl e ↦ first (p a) (ap p e ∙ t) e
-      | inr e ↦ rest (p a) (filter_has p (a + 1) n j (omega (arith, h, e)) (omega (arith, l)) t)
-    ]
-  where
-    first : (b : Bool) → b ≡ true → a ≡ j → In j (cond b (a ∷ filter p (range_with_len (a + 1) n)) (filter p (range_with_len (a + 1) n)))
-    first true u e = inl (sym e)
-    first false u e = cc
-
-    rest : (b : Bool) → In j (filter p (range_with_len (a + 1) n)) → In j (cond b (a ∷ filter p (range_with_len (a + 1) n)) (filter p (range_with_len (a + 1) n)))
-    rest true i = inr i
-    rest false i = i
-
 pub hits_have : (o : ℕ) (stored : List ℕ) (i : ℕ) → i < length stored → get_or stored i 0 ≡ o → In i (hits o stored)
 hits_have o stored i h e = filter_has (λ k. eqb (get_or stored k 0) o) 0 (length stored) i (omega arith) (omega (arith, h)) (eq-eqb (get_or stored i 0) o e)
 

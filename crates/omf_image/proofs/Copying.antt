@@ -1,5 +1,6 @@
 -- The bytes of repeated data as they were stored, and copies of them laid over an image.
 use Rattle.std.proofs.Common.{◌≡◌, ◌⊎◌, eq-eqb, ℕ, zero, suc, ◌+◌, ◌-◌, ◌<◌, ◌≤◌, Bool, true, false, ◌||◌, eqb, List, [], ◌∷◌, map, set, replicate, length, get_or, inl, inr, arith, refl, ap, ◌∙◌, sym, subst}
+use Rattle.std.proofs.Math.Bool.{or-false}
 use Rattle.std.specs.List.{zip, list_any}
 use Rattle.std.proofs.lemmas.Bool.{cases_eq, cases_lt, ne_eqb}
 use Rattle.std.proofs.lemmas.List.{get_or-set_same, get_or-set_other, length-map, get_or-map, ext_get_or}
@@ -7,13 +8,13 @@ use Rattle.omf_record.specs.Expansion.{places, bytes, AreCopies}
 use Rattle.omf_image.specs.declared.patch.Patch.{Patch}
 use Rattle.omf_image.specs.declared.patch.Patch.TheVariants.{Byte, Word, Relocated}
 use Rattle.omf_image.specs.Patch.{patched_all, relocated_places}
-use Rattle.omf_image.specs.Marks.{IsMarked}
-use Rattle.omf_image.specs.Pages.{IsLaid, MakesPages}
-use Rattle.omf_image.specs.Working.{State, begun, IsRoom, Holds}
-use Rattle.omf_image.specs.Stored.{begins, IsStored}
+use Rattle.omf_image.specs.inside.Marks.{IsMarked}
+use Rattle.omf_image.specs.inside.Pages.{IsLaid, MakesPages}
+use Rattle.omf_image.specs.inside.States.{State, begun, IsRoom, Holds}
+use Rattle.omf_image.specs.inside.Stored.{begins, IsStored}
 use Rattle.omf_image.proofs.Law.{length-patched_all}
 use Rattle.omf_image.proofs.Meaning.{first_of_zip, second_of_zip}
-use Rattle.omf_image.proofs.Leading.{or_false, in_page_sized, begun_told}
+use Rattle.omf_image.proofs.Leading.{in_page_sized, begun_told}
 use Rattle.omf_image.proofs.Holding.{data_at, laid_byte, words_at, length-begun}
 
 -- ---- flags of words
@@ -67,10 +68,10 @@ copied_next ps bs old new i k n copies h room e before l =
       | inr q ↦ get_or-set_other old p (get_or ps k 0) b 0 q ∙ before (elim (cases_eq k i) [ inl s ↦ absurd (q (ap (λ (j : ℕ). get_or ps j 0) s)) | inr s ↦ omega (arith, l, s) ])
     ]
 
-pub blank_flags : (n k : ℕ) → get_or (replicate n false) k false ≡ false
-blank_flags zero k = refl
-blank_flags (suc n) zero = refl
-blank_flags (suc n) (suc k) = blank_flags n k
+pub get_or-blank : {A : Type 0} (d : A) (n k : ℕ) → get_or (replicate n d) k d ≡ d
+get_or-blank d zero k = refl
+get_or-blank d (suc n) zero = refl
+get_or-blank d (suc n) (suc k) = get_or-blank d n k
 
 -- ---- copies over an image
 zero_plus : (n : ℕ) → 0 + n ≡ n
@@ -123,7 +124,7 @@ module _ (ps bs laid : List ℕ) (start : ℕ) (s base new : State) (earlier : L
       let told = flags_begun (words_at start earlier) base.words a m in
       elim (cases_lt a start) [
         | inl before ↦
-            c.rest a (inl before) ∙ sym (or_false (get_or base.words a false))
+            c.rest a (inl before) ∙ sym (or-false (get_or base.words a false))
             ∙ ap (λ (b : Bool). get_or base.words a false || b) (sym (words_before start a (relocated_places earlier) before)) ∙ sym told
         | inr from ↦
             let k = a - start in
@@ -137,7 +138,7 @@ module _ (ps bs laid : List ℕ) (start : ℕ) (s base new : State) (earlier : L
                   ∙ ap (λ (j : ℕ). get_or base.words j false || list_any (begins k) earlier) e
                   ∙ ap (λ (b : Bool). get_or base.words a false || b) (sym here) ∙ sym told
               | inr past ↦
-                  c.rest a (inr (omega (arith, past, e))) ∙ sym (or_false (get_or base.words a false))
+                  c.rest a (inr (omega (arith, past, e))) ∙ sym (or-false (get_or base.words a false))
                   ∙ ap (λ (b : Bool). get_or base.words a false || b) (sym (none_past k past) ∙ sym here) ∙ sym told
             ]
       ])

@@ -1,19 +1,10 @@
 -- Flags where relocated words begin tell whether data covers one of them.
-use Rattle.std.proofs.Common.{◌≡◌, ℕ, ◌+◌, ◌-◌, ◌<◌, ◌≤◌, Bool, true, false, ◌||◌, leb, ltb, eqb, List, [], ◌∷◌, length, get_or, refl, ap, ◌∙◌, sym, arith, inl, inr, eq-eqb}
-use Rattle.std.specs.List.{list_any}
+use Rattle.std.proofs.Common.{◌≡◌, ℕ, ◌+◌, ◌-◌, ◌<◌, ◌≤◌, Bool, true, false, ◌||◌, leb, ltb, eqb, List, length, get_or, refl, ◌∙◌, sym, arith, inl, inr, eq-eqb}
 use Rattle.std.proofs.lemmas.Bool.{and_parts, or_cases, or_left, or_right, leb-true, ltb-true, cases_lt, true≢false, eqb-true, false_from_ne_true}
 use Rattle.omf_image.specs.Located.{Datum, covers, covers_word}
-use Rattle.omf_image.specs.Leading.{IsListed}
-use Rattle.omf_image.proofs.Moved.{In}
+use Rattle.omf_image.specs.inside.Leading.{IsListed}
 use Rattle.omf_image.proofs.Carry.{covers-from}
-
-pub any_in : (f : ℕ → Bool) (ws : List ℕ) → list_any f ws ≡ true → (w : ℕ) × In w ws × (f w ≡ true)
-any_in f [] h = absurd (true≢false (sym h))
-any_in f (w ∷ ws) h = elim (or_cases (f w) (list_any f ws) h) [ inl t ↦ (w, inl refl, t) | inr t ↦ let g = any_in f ws t in (g.0, inr g.1, g.2) ]
-
-pub any_from : (f : ℕ → Bool) (ws : List ℕ) (w : ℕ) → In w ws → f w ≡ true → list_any f ws ≡ true
-any_from f [] w h t = absurd h
-any_from f (v ∷ ws) w h t = elim h [ inl e ↦ or_left (f v) (list_any f ws) (ap f (sym e) ∙ t) | inr k ↦ or_right (f v) (list_any f ws) (any_from f ws w k t) ]
+use Rattle.omf_image.proofs.Members.{any_from, any_in}
 
 covered_by : (a : ℕ) (d : Datum) → covers a d ≡ true → (d.start ≤ a) × (a < d.start + length d.bytes)
 covered_by a d h = let both = and_parts (leb d.start a) (ltb a (d.start + length d.bytes)) h in (leb-true d.start a both.0, ltb-true a (d.start + length d.bytes) both.1)

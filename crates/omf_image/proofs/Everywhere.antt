@@ -1,20 +1,22 @@
 -- An image of the program at paragraph 0 serves every paragraph.
-use Rattle.std.proofs.Common.{◌≡◌, ℕ, zero, suc, ◌+◌, ◌<◌, ◌≤◌, Bool, true, false, eqb, eq-eqb, cond, fold, max, filter, List, [], ◌∷◌, ◌++◌, map, length, None, inl, inr, arith, refl, ap, ◌∙◌, sym, subst}
+use Rattle.std.proofs.Common.{◌≡◌, ℕ, ◌+◌, ◌<◌, ◌≤◌, Bool, true, false, eqb, eq-eqb, cond, fold, max, List, [], ◌∷◌, ◌++◌, map, length, None, inl, inr, arith, refl, ◌∙◌, sym, subst}
 use Rattle.std.proofs.lemmas.List.{append_assoc, append-nil}
 use Rattle.std.proofs.lemmas.List.Elements.{recursion_from_All}
-use Rattle.std.proofs.lemmas.Bool.{cond-true, cond-false, ne_eqb, true≢false, cases_lt, cases_eq, or_cases, or_left, or_right, eqb-true}
-use Rattle.std.specs.List.{AllByRecursion, list_any, range_with_len}
+use Rattle.std.proofs.lemmas.Bool.{cond-true, cond-false, ne_eqb, true≢false, cases_lt, cases_eq, eqb-true}
+use Rattle.std.specs.List.{AllByRecursion, list_any}
 use Rattle.omf_module.specs.Module.{Module}
 use Rattle.omf_place.specs.Layout.{Layout}
 use Rattle.omf_image.specs.Located.{Datum, covers}
-use Rattle.omf_image.specs.Records.{bytes_of, Entry, entries, entry_start, entry_end, written, WellPlaced, AllWellPlaced, AllInside, patches, IsImage, HoldsEverywhere, relocated_words, relocations}
+use Rattle.omf_image.specs.Records.{bytes_of, Entry, entries, entry_start, entry_end, written, patches, HoldsEverywhere, relocated_words, relocations}
+use Rattle.omf_image.specs.inside.WellPlaced.{WellPlaced, AllWellPlaced, AllInside, IsImage}
 use Rattle.omf_image.specs.Faults.{data_fault}
 use Rattle.omf_image.specs.Patch.{relocated_places}
 use Rattle.omf_image.proofs.Law.{length-patched_all}
-use Rattle.omf_image.proofs.Hits.{SpacedBy, in_filter, spaced_filter}
-use Rattle.omf_image.proofs.Moved.{In, AllApart, AllWordsInside}
-use Rattle.omf_image.proofs.Carry.{Piece, addresses, all_addresses, Uncovered, EachApart, In-cases, In-map, covers-from}
+use Rattle.omf_image.proofs.Hits.{SpacedBy, spaced_filter}
+use Rattle.omf_image.proofs.Moved.{AllApart, AllWordsInside}
+use Rattle.omf_image.proofs.Carry.{Piece, addresses, all_addresses, Uncovered, EachApart, covers-from}
 use Rattle.omf_image.proofs.Records.{piece, sound_records, program_moves}
+use Rattle.omf_image.proofs.Members.{In, In-cases, In-map, any_in, any_from, in_filter, filter_has}
 
 -- each two words of the list are one or apart
 abbrev Apart : List ℕ → Type 0
@@ -111,30 +113,9 @@ all_below end layout (e ∷ es) room each r h =
       | inr k ↦ all_below end layout es room.1 each.2 r k
     ]
 
--- a list of addresses and a test for them
-in_any : (ws : List ℕ) (a : ℕ) → list_any (λ w. eqb a w) ws ≡ true → In a ws
-in_any [] a h = absurd (true≢false (sym h))
-in_any (w ∷ ws) a h = elim (or_cases (eqb a w) (list_any (λ w. eqb a w) ws) h) [ inl e ↦ inl (eqb-true a w e) | inr k ↦ inr (in_any ws a k) ]
-
-any_in : (ws : List ℕ) (a : ℕ) → In a ws → list_any (λ w. eqb a w) ws ≡ true
-any_in [] a h = absurd h
-any_in (w ∷ ws) a h = elim h [ inl e ↦ or_left (eqb a w) (list_any (λ w. eqb a w) ws) (eq-eqb a w e) | inr k ↦ or_right (eqb a w) (list_any (λ w. eqb a w) ws) (any_in ws a k) ]
-
-in_cons : (b : Bool) (x j : ℕ) (xs : List ℕ) → In j xs → In j (cond b (x ∷ xs) xs)
-in_cons true x j xs h = inr h
-in_cons false x j xs h = h
-
-in_kept : (b : Bool) (x : ℕ) (xs : List ℕ) → b ≡ true → In x (cond b (x ∷ xs) xs)
-in_kept true x xs h = inl refl
-in_kept false x xs h = absurd (true≢false (sym h))
-
-in_range : (p : ℕ → Bool) (a n j : ℕ) → a ≤ j → j < a + n → p j ≡ true → In j (filter p (range_with_len a n))
-in_range p a zero j h k t = absurd (omega (arith, h, k))
-in_range p a (suc n) j h k t =
-    elim (cases_eq j a) [
-      | inl e ↦ subst (λ (i : ℕ). In i (cond (p a) (a ∷ filter p (range_with_len (a + 1) n)) (filter p (range_with_len (a + 1) n)))) (sym e) (in_kept (p a) a (filter p (range_with_len (a + 1) n)) (ap p (sym e) ∙ t))
-      | inr ne ↦ in_cons (p a) a j (filter p (range_with_len (a + 1) n)) (in_range p (a + 1) n j (omega (arith, h, ne)) (omega (arith, k)) t)
-    ]
+-- a number that equals one of a list is in it
+listed_in : (ws : List ℕ) (a : ℕ) → list_any (λ w. eqb a w) ws ≡ true → In a ws
+listed_in ws a h = let g = any_in (λ w. eqb a w) ws h in subst (λ (w : ℕ). In w ws) (sym (eqb-true a g.0 g.2)) g.1
 
 spaced_apart : (rs : List ℕ) → SpacedBy 2 rs → AllApart rs
 spaced_apart [] h = tt
@@ -158,15 +139,15 @@ sound_relocations layout modules well inside none =
     let room = all_below (written layout modules) layout es (most_each 0 layout es) s.apart in
     let within = most_within 0 layout.size layout es (omega arith) (recursion_from_All (λ e. entry_start layout e + length (bytes_of e.data_record) ≤ layout.size) es inside) in
     let inner : (r : ℕ) → In r words → In r (all_addresses (map (piece layout) es)) = λ r k. subst (λ (l : List ℕ). In r l) (sym s.listed) k in
-    let there : (r : ℕ) → In r (relocations layout modules) → In r words = λ r k. in_any words r (in_filter p 0 layout.size r k).2 in
+    let there : (r : ℕ) → In r (relocations layout modules) → In r words = λ r k. listed_in words r (in_filter p 0 layout.size r k).2 in
     let apart : Apart words = λ r q h k l. all_apart [] (map (piece layout) es) (λ x y h. absurd h) s.apart s.free r q (inner r h) (inner q k) l in
     record {
-      spaced = spaced_filter p 2 0 layout.size (λ i j s t l m. apart i j (in_any words i s) (in_any words j t) l);
+      spaced = spaced_filter p 2 0 layout.size (λ i j s t l m. apart i j (listed_in words i s) (listed_in words j t) l);
       below = λ r k. room r (inner r (there r k));
       within = within;
       inside = λ r k. omega (arith, room r (inner r (there r k)), within);
       there = there;
-      back = λ r k. in_range p 0 layout.size r (omega arith) (omega (arith, room r (inner r k), within)) (any_in words r k);
+      back = λ r k. filter_has p 0 layout.size r (omega arith) (omega (arith, room r (inner r k), within)) (any_from (λ w. eqb r w) words r k (eq-eqb r r refl));
     }
 
 pub everywhere : (layout : Layout) (modules : List Module) (image : List ℕ) → AllWellPlaced modules → AllInside layout modules → data_fault layout modules ≡ None → IsImage layout modules image → HoldsEverywhere layout modules image (relocations layout modules)

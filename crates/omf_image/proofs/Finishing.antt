@@ -1,55 +1,41 @@
 -- From the first state to the last, and from there to the program.
-use Rattle.std.proofs.Common.{◌≡◌, ℕ, zero, suc, ◌+◌, ◌<◌, ◌≤◌, Bool, true, false, cond, ◌||◌, ltb, eqb, List, [], ◌∷◌, map, filter, length, get_or, replicate, All, AllPairs, Option, Some, None, inl, inr, refl, ap, ◌∙◌, sym, arith, subst}
+use Rattle.std.proofs.Common.{◌≡◌, ℕ, zero, suc, ◌+◌, ◌<◌, ◌≤◌, Bool, false, cond, ◌||◌, ltb, eqb, List, [], ◌∷◌, map, filter, length, get_or, replicate, All, AllPairs, Option, Some, None, refl, ap, ◌∙◌, sym, arith, subst}
+use Rattle.std.proofs.Math.Bool.{or-false}
 use Rattle.std.specs.List.{list_any, range_with_len}
-use Rattle.std.proofs.lemmas.List.{length-replicate, get_or-replicate, get_or_past}
 use Rattle.std.proofs.lemmas.List.Elements.{All-weaker}
-use Rattle.std.proofs.lemmas.Bool.{cases_lt, cond-true, cond-false, lt-ltb, le-ltb}
+use Rattle.std.proofs.lemmas.Bool.{cond-true, cond-false, lt-ltb, le-ltb}
 use Rattle.omf_module.specs.Module.{Module}
 use Rattle.omf_place.specs.Layout.{Layout}
 use Rattle.omf_image.specs.declared.faults.FixFault.{FixFault}
 use Rattle.omf_image.specs.declared.faults.FixFault.TheVariants.{TooManyRelocations}
 use Rattle.omf_image.specs.Words.{add_words}
 use Rattle.omf_image.specs.Located.{covers, byte_of, last_or, in_page}
-use Rattle.omf_image.specs.Records.{datum, program_byte, entries, relocations, relocated_words, written, WellPlaced, AllWellPlaced, AllInside, bytes_of, entry_start, LiesInContent}
+use Rattle.omf_image.specs.Records.{datum, program_byte, entries, relocations, relocated_words, written, bytes_of, entry_start}
+use Rattle.omf_image.specs.inside.WellPlaced.{WellPlaced, AllWellPlaced, AllInside, LiesInContent}
 use Rattle.omf_image.specs.Faults.{data_fault, first_of}
-use Rattle.omf_image.specs.Registers.{starts, starts_fault, count_fault, program_fault, entry_at, stack, stack_of, registers, moved}
-use Rattle.omf_image.specs.Pages.{Paged, IsBlank}
+use Rattle.omf_image.specs.declared.start.Registers.{Registers}
+use Rattle.omf_image.specs.Registers.{starts, starts_fault, count_fault, program_fault, registers, moved}
+use Rattle.omf_image.specs.inside.Pages.{Paged, IsBlank}
 use Rattle.omf_image.specs.Program.{Program}
-use Rattle.omf_image.specs.Ready.{IsReady, IsEntryReady, IsFixupReady}
-use Rattle.omf_image.specs.Working.{State}
-use Rattle.omf_image.specs.Leading.{IsWhole, Leads}
-use Rattle.omf_image.specs.Building.{IsProgramOf, registers_of}
-use Rattle.omf_image.proofs.Moved.{In}
+use Rattle.omf_image.specs.inside.Ready.{IsReady, IsEntryReady, IsFixupReady}
+use Rattle.omf_image.specs.inside.States.{State}
+use Rattle.omf_image.specs.inside.Leading.{IsWhole, Leads}
+use Rattle.omf_image.specs.Building.{IsProgramOf}
 use Rattle.omf_image.proofs.Hits.{SpacedBy}
 use Rattle.omf_image.proofs.Everywhere.{everywhere, sound_relocations}
-use Rattle.omf_image.proofs.Registers.{registers_move}
+use Rattle.omf_image.proofs.Copying.{get_or-blank}
+use Rattle.omf_image.proofs.MovedRegisters.{registers_move}
+use Rattle.omf_image.proofs.Members.{in_index}
 
 -- ---- the first state
-blank_flag : (n a : ℕ) → get_or (replicate n false) a false ≡ false
-blank_flag n a = elim (cases_lt a n) [ inl l ↦ get_or-replicate n a false false l | inr l ↦ get_or_past (replicate n false) a false (omega (arith, length-replicate {A = Bool} n false)) ]
-
-blank_byte : (n a : ℕ) → get_or {A = ℕ} (replicate n 0) a 0 ≡ 0
-blank_byte n a = elim (cases_lt a n) [ inl l ↦ get_or-replicate n a 0 0 l | inr l ↦ get_or_past (replicate n 0) a 0 (omega (arith, length-replicate {A = ℕ} n 0)) ]
-
-or_false : (b : Bool) → (b || false) ≡ b
-or_false true = refl
-or_false false = refl
-
-pub whole_first : (layout : Layout) (s : State) (p : Paged) (n : ℕ) → n ≡ layout.size → n ≤ 1048560 → s.image ≡ p.bytes → s.words ≡ replicate n false → IsBlank n p → IsWhole layout s
-whole_first layout s p n e small i w blank = record {
-  sized = ap length (i ∙ blank.bytes) ∙ length-replicate {A = ℕ} n 0 ∙ e;
-  words = ap length w ∙ length-replicate {A = Bool} n false ∙ sym (ap length (i ∙ blank.bytes) ∙ length-replicate {A = ℕ} n 0);
-  small = omega arith;
-}
-
 pub leads_first : (layout : Layout) (modules : List Module) (s : State) (p : Paged) (n : ℕ) → s.image ≡ p.bytes → s.made ≡ p.made → s.words ≡ replicate n false → IsBlank n p → Leads layout modules s (entries modules)
 leads_first layout modules s p n i m w blank =
     let data' = map (datum 0 layout) (entries modules) in
     let words = relocated_words layout modules in
-    let flag : (a : ℕ) → get_or s.words a false ≡ false = λ a. ap (λ (l : List Bool). get_or l a false) w ∙ blank_flag n a in
+    let flag : (a : ℕ) → get_or s.words a false ≡ false = λ a. ap (λ (l : List Bool). get_or l a false) w ∙ get_or-blank false n a in
     record {
-      image = λ a. ap (λ (b : ℕ). last_or b (map (byte_of a) (filter (covers a) data'))) (ap (λ (l : List ℕ). get_or l a 0) (i ∙ blank.bytes) ∙ blank_byte n a);
-      pages = λ k. ap (λ (b : Bool). list_any (in_page k) data' || b) (ap (λ (l : List Bool). get_or l k false) m ∙ blank.made k) ∙ or_false (list_any (in_page k) data');
+      image = λ a. ap (λ (b : ℕ). last_or b (map (byte_of a) (filter (covers a) data'))) (ap (λ (l : List ℕ). get_or l a 0) (i ∙ blank.bytes) ∙ get_or-blank 0 n a);
+      pages = λ k. ap (λ (b : Bool). list_any (in_page k) data' || b) (ap (λ (l : List Bool). get_or l k false) m ∙ blank.made k) ∙ or-false (list_any (in_page k) data');
       words = λ a. ap (λ (b : Bool). b || list_any (λ w. eqb a w) words) (flag a);
       so_far = [];
       listed = flag;
@@ -68,12 +54,7 @@ pub flags_are : (layout : Layout) (modules : List Module) (s : State) (items : L
 flags_are layout modules s items whole l e =
     e
     ∙ ap (λ (n : ℕ). filter (λ a. get_or s.words a false) (range_with_len 0 n)) (whole.words ∙ whole.sized)
-    ∙ filter_same (λ a. get_or s.words a false) (λ a. list_any (λ w. eqb a w) (relocated_words layout modules)) (range_with_len 0 layout.size) (λ a. sym (or_false (get_or s.words a false)) ∙ l.words a)
-
-in_index : (xs : List ℕ) (k d : ℕ) → k < length xs → In (get_or xs k d) xs
-in_index [] k d h = absurd (omega (arith, h))
-in_index (x ∷ xs) zero d h = inl refl
-in_index (x ∷ xs) (suc k) d h = inr (in_index xs k d (omega (arith, h)))
+    ∙ filter_same (λ a. get_or s.words a false) (λ a. list_any (λ w. eqb a w) (relocated_words layout modules)) (range_with_len 0 layout.size) (λ a. sym (or-false (get_or s.words a false)) ∙ l.words a)
 
 spaced_pairs : (rs : List ℕ) → SpacedBy 2 rs → AllPairs (λ r s. r + 2 ≤ s) rs
 spaced_pairs [] h i j d l m = absurd (omega (arith, l, m))
@@ -90,8 +71,8 @@ inside : (layout : Layout) (modules : List Module) → IsReady layout modules �
 inside layout modules h = All-weaker (IsEntryReady layout) (λ e. entry_start layout e + length (bytes_of e.data_record) ≤ layout.size) (λ e r. r.inside) (entries modules) h.records
 
 -- the program that the code makes of the last state
-abbrev pub made_of : State → ℕ → List ℕ → ℕ × ℕ → ℕ × ℕ → Program
-made_of s end items entry stack' = record { image = s.image; written = end; relocations = items; cs = entry.0; ip = entry.1; ss = stack'.0; sp = stack'.1; made = s.made }
+abbrev pub made_of : State → ℕ → List ℕ → Registers → Program
+made_of s end items start = record { image = s.image; written = end; relocations = items; registers = start; made = s.made }
 
 -- what a program keeps of its relocated words
 pub record Limits (end size : ℕ) (items : List ℕ) : Type 0 where
@@ -112,13 +93,12 @@ program_limits layout modules s end items ready whole l ends e few =
       few = few;
     }
 
-pub program_is : (layout : Layout) (modules : List Module) (s : State) (end : ℕ) (items : List ℕ) (entry stack' : ℕ × ℕ) → IsReady layout modules → IsWhole layout s → Leads layout modules s [] → end ≡ written layout modules → starts_fault layout (starts modules) ≡ None → entry ≡ entry_at 0 layout (starts modules) → stack' ≡ stack_of 0 (stack layout modules) → items ≡ filter (λ a. get_or s.words a false) (range_with_len 0 (length s.words)) → length items ≤ 65535 → (program_fault layout modules ≡ None) × IsProgramOf layout modules (made_of s end items entry stack')
-unfolding program_fault registers
-program_is layout modules s end items entry stack' ready whole l ends none at st e few =
+pub program_is : (layout : Layout) (modules : List Module) (s : State) (end : ℕ) (items : List ℕ) (start : Registers) → IsReady layout modules → IsWhole layout s → Leads layout modules s [] → end ≡ written layout modules → starts_fault layout (starts modules) ≡ None → start ≡ registers 0 layout modules
+    → items ≡ filter (λ a. get_or s.words a false) (range_with_len 0 (length s.words)) → length items ≤ 65535 → (program_fault layout modules ≡ None) × IsProgramOf layout modules (made_of s end items start)
+unfolding program_fault
+program_is layout modules s end items start ready whole l ends none at e few =
     let is = flags_are layout modules s items whole l e in
     let clean = no_fault layout modules s l in
-    let zero_is : registers 0 layout modules ≡ registers_of (made_of s end items entry stack') =
-    ap (λ (x : ℕ × ℕ). registers_of (made_of s end items x (stack_of 0 (stack layout modules)))) (sym at) ∙ ap (λ (x : ℕ × ℕ). registers_of (made_of s end items entry x)) (sym st) in
     let count : count_fault layout modules ≡ None = cond-false (ltb 65535 (length (relocations layout modules))) (Some TooManyRelocations) None (le-ltb 65535 (length (relocations layout modules)) (omega (arith, few, ap length is))) in (
       ap (λ (o : Option FixFault). first_of o (first_of (starts_fault layout (starts modules)) (count_fault layout modules))) clean
           ∙ ap (λ (o : Option FixFault). first_of o (count_fault layout modules)) none ∙ count,
@@ -129,8 +109,8 @@ program_is layout modules s end items entry stack' ready whole l ends none at st
             (everywhere layout modules s.image (well layout modules ready) (inside layout modules ready) clean (record { sized = whole.sized; bytes = λ a h. l.image a }));
         listed = is;
         below = (program_limits layout modules s end items ready whole l ends e few).inside;
-        at_zero = zero_is;
-        at_each = λ P. registers_move P layout modules none ∙ ap (moved P) zero_is;
+        at_zero = sym at;
+        at_each = λ P. registers_move P layout modules none ∙ ap (moved P) (sym at);
         pages = λ k. l.pages k;
       },
     )

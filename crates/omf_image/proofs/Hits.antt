@@ -1,5 +1,5 @@
 -- The hits of a fix-up lie at least its width apart, so that what it adds at them is apart.
-use Rattle.std.proofs.Common.{◌≡◌, ◌⊎◌, ℕ, zero, suc, ◌+◌, ◌-◌, ◌<◌, ◌≤◌, Bool, true, false, not, ◌||◌, cond, leb, eqb, List, [], ◌∷◌, ◌++◌, filter, flat_map, length, get_or, inl, inr, arith, refl, ap, ◌∙◌}
+use Rattle.std.proofs.Common.{◌≡◌, ℕ, zero, suc, ◌+◌, ◌-◌, ◌<◌, ◌≤◌, Bool, true, false, not, ◌||◌, cond, leb, eqb, List, [], ◌∷◌, ◌++◌, filter, flat_map, length, get_or, inl, inr, arith, refl, ap, ◌∙◌}
 use Rattle.std.proofs.lemmas.Bool.{cases_lt, eqb-true, or_left, or_right, and_from, le-leb, and_parts}
 use Rattle.std.proofs.lemmas.List.Folds.{list_all-append}
 use Rattle.std.specs.List.{list_all, range_with_len}
@@ -17,26 +17,14 @@ use Rattle.omf_image.specs.Reference.{frame'}
 use Rattle.omf_image.specs.Value.{modulo, from_frame, base_patch, patches_at}
 use Rattle.omf_record.specs.Expansion.{StandTogether}
 use Rattle.omf_record.specs.Numbers.{location_width}
-use Rattle.omf_image.specs.Records.{hits, stored_of, LiesInContent}
+use Rattle.omf_image.specs.Records.{hits, stored_of}
+use Rattle.omf_image.specs.inside.WellPlaced.{LiesInContent}
 use Rattle.omf_image.proofs.Law.{AllClear}
-use Rattle.omf_image.proofs.Moved.{In}
+use Rattle.omf_image.proofs.Members.{In, in_filter}
 
 abbrev pub SpacedBy : ℕ → List ℕ → Type 0
 SpacedBy w [] = Unit {0}
 SpacedBy w (i ∷ is) = ((j : ℕ) → In j is → i + w ≤ j) × SpacedBy w is
-
-in_cond : (b : Bool) (x : ℕ) (xs : List ℕ) (j : ℕ) → In j (cond b (x ∷ xs) xs) → ((j ≡ x) × (b ≡ true)) ⊎ In j xs
-in_cond true x xs j (inl e) = inl (e, refl)
-in_cond true x xs j (inr h) = inr h
-in_cond false x xs j h = inr h
-
-pub in_filter : (p : ℕ → Bool) (a n j : ℕ) → In j (filter p (range_with_len a n)) → (a ≤ j) × (j < a + n) × (p j ≡ true)
-in_filter p a zero j h = absurd h
-in_filter p a (suc n) j h =
-    elim (in_cond (p a) a (filter p (range_with_len (a + 1) n)) j h) [
-      | inl e ↦ (omega (arith, e.0), omega (arith, e.0), ap p e.0 ∙ e.1)
-      | inr k ↦ let g = in_filter p (a + 1) n j k in (omega (arith, g.0), omega (arith, g.1), g.2)
-    ]
 
 spaced_cond : (w : ℕ) (b : Bool) (x : ℕ) (xs : List ℕ) → (b ≡ true → (j : ℕ) → In j xs → x + w ≤ j) → SpacedBy w xs → SpacedBy w (cond b (x ∷ xs) xs)
 spaced_cond w true x xs h k = (h refl, k)

@@ -7,18 +7,15 @@ use Rattle.omf_image.specs.declared.patch.Patch.TheVariants.{Byte, Word, Relocat
 use Rattle.omf_image.specs.Words.{word_at, put_word, add_byte, add_word}
 use Rattle.omf_image.specs.Patch.{patched, patched_all, relocated_places, patch_end}
 use Rattle.omf_image.specs.Located.{Datum, covers, byte_of}
-use Rattle.omf_image.specs.Pages.{IsLaid}
-use Rattle.omf_image.specs.Marks.{IsMarked}
-use Rattle.omf_image.specs.Working.{State, at_start, begun, IsRoom, Holds}
+use Rattle.omf_image.specs.inside.Pages.{IsLaid}
+use Rattle.omf_image.specs.inside.Marks.{IsMarked}
+use Rattle.omf_image.specs.inside.States.{State, at_start, begun, IsRoom, Holds}
 use Rattle.omf_image.proofs.Law.{length-patched, length-patched_all}
-use Rattle.omf_image.proofs.Carry.{covers-from}
+use Rattle.omf_image.proofs.Carry.{add_sub, covers-from}
 use Rattle.omf_image.proofs.Laying.{covers_not}
 
 abbrev pub data_at : ℕ → List ℕ → Datum
 data_at start bs = record { start = start; bytes = bs }
-
-add_sub : (a b : ℕ) → a + b - a ≡ b
-add_sub a b = omega arith
 
 -- a byte of the data in the image
 pub laid_byte : (start i : ℕ) (bs base now : List ℕ) → i < length bs → IsLaid (data_at start bs) base now → get_or now (start + i) 0 ≡ get_or bs i 0

@@ -1,11 +1,12 @@
 -- Data laid over an image, page by page.
 use Rattle.std.proofs.Common.{◌≡◌, ◌⊎◌, ℕ, ◌+◌, ◌-◌, ◌*◌, ◌/◌, ◌%◌, ◌<◌, ◌≤◌, Bool, true, false, ◌&&◌, ◌||◌, List, [], map, take, drop, set, length, get_or, cond, eqb, ltb, refl, ap, ◌∙◌, sym, arith, subst, inl, inr, Vec}
+use Rattle.std.proofs.Math.Bool.{or_assoc}
 use Rattle.std.proofs.lemmas.List.{map-set, length-take, length-drop, get_or-take, get_or-drop, get_or_past, get_or-set_same, get_or-set_other}
 use Rattle.std.proofs.lemmas.List.Elements.{All-get_or}
 use Rattle.std.proofs.lemmas.Bool.{cases_eq, cases_lt, cond-true, cond-false}
 use Rattle.std.proofs.lemmas.Bool.Decides.{nat_tests}
 use Rattle.omf_image.specs.Located.{Datum, covers, byte_of, in_page}
-use Rattle.omf_image.specs.Pages.{page_bytes, joined, IsPage, IsPaged, IsLaid, MakesPages}
+use Rattle.omf_image.specs.inside.Pages.{page_bytes, joined, IsPage, IsPaged, IsLaid, MakesPages}
 use Rattle.omf_image.proofs.Carry.{covers-from}
 use Rattle.omf_image.proofs.Paging.{full, paged-set, page_bytes-present, length-joined, get_or-joined, get_or-lists, page_inside}
 
@@ -120,10 +121,6 @@ laid-replaced size ps a bs old new h within one some e laid =
 page_on : (k start i j : ℕ) → i ≤ j → ((ltb 0 (j - i) && (ltb (start + i) (4096 * (k + 1)) && ltb (4096 * k) (start + i + (j - i)))) || (ltb 0 i && (ltb start (4096 * (k + 1)) && ltb (4096 * k) (start + i)))) ≡ (ltb 0 j && (ltb start (4096 * (k + 1)) && ltb (4096 * k) (start + j)))
 page_on k start i j h = grind (arith, nat_tests)
 
-or_assoc : (x y z : Bool) → (x || (y || z)) ≡ ((x || y) || z)
-or_assoc true y z = refl
-or_assoc false y z = refl
-
 in_page_front : (start i k : ℕ) (bs : List ℕ) → i ≤ length bs → in_page k (front start bs i) ≡ (ltb 0 i && (ltb start (4096 * (k + 1)) && ltb (4096 * k) (start + i)))
 in_page_front start i k bs h =
     let n : length (take i bs) ≡ i = length-take i bs ∙ omega arith in
@@ -135,7 +132,7 @@ in_page_piece start i j k bs h = ap (λ (m : ℕ). ltb 0 m && (ltb (start + i) (
 pub pages_on : (start i j : ℕ) (bs : List ℕ) (old now new : List Bool) → i ≤ j → j ≤ length bs → MakesPages (front start bs i) old now → MakesPages (piece start bs i j) now new → MakesPages (front start bs j) old new
 pages_on start i j bs old now new order h first next k =
     next k ∙ ap (λ (b : Bool). in_page k (piece start bs i j) || b) (first k)
-    ∙ or_assoc (in_page k (piece start bs i j)) (in_page k (front start bs i)) (get_or old k false)
+    ∙ sym (or_assoc (in_page k (piece start bs i j)) (in_page k (front start bs i)) (get_or old k false))
     ∙ ap (λ (b : Bool). b || get_or old k false)
     (ap (λ (b : Bool). b || in_page k (front start bs i)) (in_page_piece start i j k bs h)
     ∙ ap (λ (b : Bool). (ltb 0 (j - i) && (ltb (start + i) (4096 * (k + 1)) && ltb (4096 * k) (start + i + (j - i)))) || b) (in_page_front start i k bs (omega arith))

@@ -1,6 +1,9 @@
 -- One data record more leads on to the program.
 use Rattle.std.proofs.Common.{◌≡◌, ℕ, ◌+◌, ◌*◌, ◌<◌, ◌≤◌, Bool, true, false, cond, ◌&&◌, ◌||◌, ltb, eqb, List, [], ◌∷◌, ◌++◌, map, filter, flat_map, set, length, get_or, Option, Some, None, Result, Ok, Err, OnOk, inl, inr, eq-eqb, refl, ap, ◌∙◌, sym, arith, subst}
+use Rattle.std.proofs.Math.Bool.{or_assoc, or-true, or-false}
 use Rattle.std.specs.List.{list_any}
+use Rattle.std.specs.Prelude.{IsErrAnd}
+use Rattle.std.proofs.lemmas.Result.{err_from_is_err_and}
 use Rattle.std.proofs.lemmas.List.{get_or-set_same, get_or-set_other, length-set}
 use Rattle.std.proofs.lemmas.List.Folds.{list_any-append}
 use Rattle.std.proofs.lemmas.Bool.{cases_eq, cases_Bool, cond-true, cond-false, ne_eqb}
@@ -11,19 +14,16 @@ use Rattle.omf_image.specs.declared.faults.FixFault.TheVariants.{At, TooManyRelo
 use Rattle.omf_image.specs.declared.faults.FixKind.TheVariants.{CoversRelocated}
 use Rattle.omf_image.specs.Patch.{relocated_places}
 use Rattle.omf_image.specs.Located.{Datum, covers, byte_of, last_or, in_page, covers_word}
-use Rattle.omf_image.specs.Records.{Entry, entry_start, bytes_of, datum, patches, record_relocations, WellPlaced}
+use Rattle.omf_image.specs.Records.{Entry, entry_start, bytes_of, datum, patches, record_relocations}
+use Rattle.omf_image.specs.inside.WellPlaced.{WellPlaced}
 use Rattle.omf_image.specs.Faults.{fixups_fault, record_fault, records_fault, first_of, data_fault}
-use Rattle.omf_image.specs.Working.{State, begun, Holds}
+use Rattle.omf_image.specs.inside.States.{State, begun, Holds}
 use Rattle.omf_image.specs.declared.patch.Patch.{Patch}
-use Rattle.omf_image.specs.Leading.{IsListed, IsWhole, Leads, Answers}
+use Rattle.omf_image.specs.Building.{Answers}
+use Rattle.omf_image.specs.inside.Leading.{IsListed, IsWhole, Leads}
 use Rattle.omf_image.proofs.Law.{length-patched_all}
-use Rattle.omf_image.proofs.Moved.{In}
-use Rattle.omf_image.proofs.Carry.{In-map}
 use Rattle.omf_image.proofs.Records.{sound_entry}
-
-or_assoc : (x y z : Bool) → (x || (y || z)) ≡ ((x || y) || z)
-or_assoc true y z = refl
-or_assoc false y z = refl
+use Rattle.omf_image.proofs.Members.{In, In-map}
 
 or_swap : (x y z : Bool) → (x || (y || z)) ≡ ((y || x) || z)
 or_swap true true z = refl
@@ -31,27 +31,19 @@ or_swap true false z = refl
 or_swap false true z = refl
 or_swap false false z = refl
 
-or_true : (b : Bool) → (b || true) ≡ true
-or_true true = refl
-or_true false = refl
-
-pub or_false : (b : Bool) → (b || false) ≡ b
-or_false true = refl
-or_false false = refl
-
 set_told : (flags : List Bool) (w a : ℕ) → (a ≡ w → w < length flags) → get_or (set flags w true) a false ≡ (get_or flags a false || eqb a w)
 set_told flags w a h = elim (cases_eq a w) [
-  | inl e ↦ ap (λ (k : ℕ). get_or (set flags w true) k false) e ∙ get_or-set_same flags w true false (h e) ∙ sym (ap (λ (b : Bool). get_or flags a false || b) (eq-eqb a w e) ∙ or_true (get_or flags a false))
-  | inr ne ↦ get_or-set_other flags w a true false ne ∙ sym (ap (λ (b : Bool). get_or flags a false || b) (ne_eqb a w ne) ∙ or_false (get_or flags a false))
+  | inl e ↦ ap (λ (k : ℕ). get_or (set flags w true) k false) e ∙ get_or-set_same flags w true false (h e) ∙ sym (ap (λ (b : Bool). get_or flags a false || b) (eq-eqb a w e) ∙ or-true (get_or flags a false))
+  | inr ne ↦ get_or-set_other flags w a true false ne ∙ sym (ap (λ (b : Bool). get_or flags a false || b) (ne_eqb a w ne) ∙ or-false (get_or flags a false))
 ]
 
 -- flags that are set
 pub begun_told : (ws : List ℕ) (flags : List Bool) (a : ℕ) → ((w : ℕ) → In w ws → a ≡ w → w < length flags) → get_or (begun ws flags) a false ≡ (get_or flags a false || list_any (λ w. eqb a w) ws)
-begun_told [] flags a h = sym (or_false (get_or flags a false))
+begun_told [] flags a h = sym (or-false (get_or flags a false))
 begun_told (w ∷ ws) flags a h =
     begun_told ws (set flags w true) a (λ v k e. subst (λ (n : ℕ). v < n) (sym (length-set flags w true)) (h v (inr k) e))
     ∙ ap (λ (b : Bool). b || list_any (λ w. eqb a w) ws) (set_told flags w a (h w (inl refl)))
-    ∙ sym (or_assoc (get_or flags a false) (eqb a w) (list_any (λ w. eqb a w) ws))
+    ∙ or_assoc (get_or flags a false) (eqb a w) (list_any (λ w. eqb a w) ws)
 
 -- the byte of the program at an address, with the first datum that is left laid over the image
 pub laid_on : (d : Datum) (ds : List Datum) (a old new : ℕ) → new ≡ cond (covers a d) (byte_of a d) old → last_or new (map (byte_of a) (filter (covers a) ds)) ≡ last_or old (map (byte_of a) (filter (covers a) (d ∷ ds)))
@@ -66,7 +58,7 @@ pub in_page_sized : (k start : ℕ) (xs ys : List ℕ) → length xs ≡ length 
 in_page_sized k start xs ys e = ap (λ (n : ℕ). ltb 0 n && (ltb start (4096 * (k + 1)) && ltb (4096 * k) (start + n))) e
 
 pub record_clean : (layout : Layout) (e : Entry) (words : List ℕ) → covers_word (datum 0 layout e) words ≡ false → fixups_fault layout e [] e.data_record.fixups ≡ None → record_fault layout words e ≡ None
-record_clean layout e words h k = cond-false (covers_word (datum 0 layout e) words) (Some (At CoversRelocated e.number e.data_record.place)) (fixups_fault layout e [] e.data_record.fixups) h ∙ k
+record_clean layout e words h k = cond-false (covers_word (datum 0 layout e) words) (Some (At CoversRelocated e.input e.data_record.place)) (fixups_fault layout e [] e.data_record.fixups) h ∙ k
 
 -- a data record was added to the state base
 pub leads_on : (layout : Layout) (modules : List Module) (base now : State) (e : Entry) (rest : List Entry) → WellPlaced e.data_record → IsWhole layout base → entry_start layout e + length (bytes_of e.data_record) ≤ layout.size → (l : Leads layout modules base (e ∷ rest)) → covers_word (datum 0 layout e) l.so_far ≡ false → fixups_fault layout e [] e.data_record.fixups ≡ None → Holds (entry_start layout e) (bytes_of e.data_record) base now (patches 0 layout e) → Leads layout modules now rest
@@ -93,7 +85,7 @@ leads_on layout modules base now e rest well whole inside l clean none h =
           ∙ l.pages k;
       words = λ a.
           ap (λ (b : Bool). b || list_any (λ w. eqb a w) (flat_map (record_relocations layout) rest)) (flags a)
-          ∙ sym (or_assoc (get_or base.words a false) (list_any (λ w. eqb a w) mine) (list_any (λ w. eqb a w) (flat_map (record_relocations layout) rest)))
+          ∙ or_assoc (get_or base.words a false) (list_any (λ w. eqb a w) mine) (list_any (λ w. eqb a w) (flat_map (record_relocations layout) rest))
           ∙ ap (λ (b : Bool). get_or base.words a false || b) (sym (list_any-append (λ w. eqb a w) mine (flat_map (record_relocations layout) rest)))
           ∙ l.words a;
       so_far = l.so_far ++ mine;
@@ -105,11 +97,11 @@ leads_on layout modules base now e rest well whole inside l clean none h =
 pub leads_to_fault : (layout : Layout) (modules : List Module) (base : State) (e : Entry) (rest : List Entry) (f : FixFault) → (l : Leads layout modules base (e ∷ rest)) → record_fault layout l.so_far e ≡ Some f → data_fault layout modules ≡ Some f
 leads_to_fault layout modules base e rest f l h = sym l.fault ∙ ap (λ (o : Option FixFault). first_of o (records_fault layout (l.so_far ++ record_relocations layout e) rest)) h
 
-pub covers_fault : (layout : Layout) (e : Entry) (words : List ℕ) → covers_word (datum 0 layout e) words ≡ true → record_fault layout words e ≡ Some (At CoversRelocated e.number e.data_record.place)
-covers_fault layout e words h = cond-true (covers_word (datum 0 layout e) words) (Some (At CoversRelocated e.number e.data_record.place)) (fixups_fault layout e [] e.data_record.fixups) h
+pub covers_fault : (layout : Layout) (e : Entry) (words : List ℕ) → covers_word (datum 0 layout e) words ≡ true → record_fault layout words e ≡ Some (At CoversRelocated e.input e.data_record.place)
+covers_fault layout e words h = cond-true (covers_word (datum 0 layout e) words) (Some (At CoversRelocated e.input e.data_record.place)) (fixups_fault layout e [] e.data_record.fixups) h
 
 pub fixups_are_fault : (layout : Layout) (e : Entry) (words : List ℕ) (f : FixFault) → covers_word (datum 0 layout e) words ≡ false → fixups_fault layout e [] e.data_record.fixups ≡ Some f → record_fault layout words e ≡ Some f
-fixups_are_fault layout e words f h k = cond-false (covers_word (datum 0 layout e) words) (Some (At CoversRelocated e.number e.data_record.place)) (fixups_fault layout e [] e.data_record.fixups) h ∙ k
+fixups_are_fault layout e words f h k = cond-false (covers_word (datum 0 layout e) words) (Some (At CoversRelocated e.input e.data_record.place)) (fixups_fault layout e [] e.data_record.fixups) h ∙ k
 
 -- ---- answers
 pub answers_on : {X : Type 0} (r : Result X FixFault) (F G : Option FixFault) (P Q : Type 0) → ((f : FixFault) → F ≡ Some f → G ≡ Some f) → (P → Q) → Answers r F (λ _. P) → Answers r G (λ _. Q)
@@ -136,3 +128,10 @@ refused_on TooManyRelocations F G K L h a = h TooManyRelocations a
 
 pub refused : {X Y : Type 0} (f : FixFault) (F : Option FixFault) (K : X → Type 0) (L : Y → Type 0) → Answers (Err f) F K → Answers (Err f) F L
 refused f F K L a = refused_on f F F K L (λ g e. e) a
+
+-- a refusal that is handed on
+pub refused_by : {X Y : Type 0} (r : Result Y FixFault) (f : FixFault) (F G : Option FixFault) (K : X → Type 0) (L : Y → Type 0) → IsErrAnd r (λ e. e ≡ f)
+    → ((g : FixFault) → F ≡ Some g → G ≡ Some g) → Answers (Err f) F K → Answers r G L
+refused_by r f F G K L h e a =
+    let p = err_from_is_err_and r h in
+    subst (λ q. Answers q G L) (sym (p.1 ∙ ap Err p.2)) (refused_on f F G K L e a)

@@ -1,3 +1,4 @@
+pub mod Members
 pub mod Words
 pub mod Law
 pub mod Moved
@@ -6,7 +7,7 @@ pub mod Values
 pub mod Hits
 pub mod Records
 pub mod Everywhere
-pub mod Registers
+pub mod MovedRegisters
 pub mod Paging
 pub mod Laying
 pub mod Touched

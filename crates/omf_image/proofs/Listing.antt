@@ -11,7 +11,7 @@ use Rattle.omf_image.specs.declared.faults.FixKind.TheVariants.{TwoStarts}
 use Rattle.omf_image.specs.declared.faults.FixFault.TheVariants.{At}
 use Rattle.omf_image.specs.Faults.{or_else}
 use Rattle.omf_image.specs.Registers.{StartEntry, module_start, starts_from, starts, starts_fault, start_meaning, entry_at}
-use Rattle.omf_image.specs.Starting.{FindsStart, GivesEntry}
+use Rattle.omf_image.specs.inside.Starts.{FindsStart, GivesEntry}
 use Rattle.omf_image.proofs.Meaning.{drop_more}
 
 pub all_left : {X : Type 0} (P : X → Type 0) (xs ys : List X) → All P (xs ++ ys) → All P xs
@@ -21,7 +21,7 @@ pub all_right : {X : Type 0} (P : X → Type 0) (xs ys : List X) → All P (xs +
 all_right P xs ys h k d l = subst P (get_or-append-add xs ys k d) (h (length xs + k) d (omega (arith, length-append xs ys)))
 
 abbrev pub entry_of : ℕ → Module → DataRecord → Entry
-entry_of n m d = record { number = n; module' = m; data_record = d }
+entry_of n m d = record { input = n; module' = m; data_record = d }
 
 pub all_at : {X Y : Type 0} (P : Y → Type 0) (f : X → Y) (xs : List X) (i : ℕ) (x : X) → All P (map f xs) → i < length xs → slice_get xs i ≡ Some x → P (f x)
 all_at P f xs i x h l e =
@@ -45,16 +45,6 @@ start_next ms i m l e =
     ap (starts_from i) (drop_more ms i m l)
     ∙ ap (λ (x : Module). module_start x.start i x ++ starts_from (i + 1) (drop (i + 1) ms)) (sym e)
 
--- without a start, and with one
-pub start_none : (ms : List Module) (i : ℕ) (m : Module) → i < length ms → m ≡ get_or ms i m → m.start ≡ None → starts_from i (drop i ms) ≡ starts_from (i + 1) (drop (i + 1) ms)
-start_none ms i m l e h = start_next ms i m l e ∙ ap (λ o. module_start o i m ++ starts_from (i + 1) (drop (i + 1) ms)) h
-
-pub start_some : (ms : List Module) (i : ℕ) (m : Module) (s : Start) → i < length ms → m ≡ get_or ms i m → m.start ≡ Some s → starts_from i (drop i ms) ≡ record { number = i; of_module = m; start = s } ∷ starts_from (i + 1) (drop (i + 1) ms)
-start_some ms i m s l e h = start_next ms i m l e ∙ ap (λ o. module_start o i m ++ starts_from (i + 1) (drop (i + 1) ms)) h
-
-pub same_item : {X : Type 0} (xs : List X) (i : ℕ) (m n : X) → i < length xs → m ≡ get_or xs i m → n ≡ get_or xs i n → n ≡ m
-same_item xs i m n l e f = f ∙ get_or_default xs i n m l ∙ sym e
-
 pub all_head : {X : Type 0} (P : X → Type 0) (x : X) (xs : List X) → All P (x ∷ xs) → P x
 all_head P x xs h = h 0 x (omega arith)
 
@@ -65,12 +55,12 @@ some_item ms i l =
 
 -- the only one
 pub one_start : (layout : Layout) (ms : List Module) (f : ℕ × Start) (m : Module) (entry : ℕ × ℕ) → m ≡ get_or ms f.0 m → FindsStart ms 0 (Some f) → FindsStart ms (f.0 + 1) None
-    → GivesEntry (start_meaning layout (record { number = f.0; of_module = m; start = f.1 })) (Ok entry)
+    → GivesEntry (start_meaning layout (record { input = f.0; module' = m; start = f.1 })) (Ok entry)
     → (starts_fault layout (starts ms) ≡ None) × (entry ≡ entry_at 0 layout (starts ms))
 one_start layout ms f m entry is one none gives =
-    let e : StartEntry = record { number = f.0; of_module = m; start = f.1 } in
+    let e : StartEntry = record { input = f.0; module' = m; start = f.1 } in
     let only : starts ms ≡ e ∷ [] = one.1 m is ∙ ap (λ (es : List StartEntry). e ∷ es) none in (
-      ap (starts_fault layout) only ∙ ap (λ (k : Option FixKind). or_else k (e.number, e.start.place) None) gives.0,
+      ap (starts_fault layout) only ∙ ap (λ (k : Option FixKind). or_else k (e.input, e.start.place) None) gives.0,
       gives.1 ∙ sym (ap (entry_at 0 layout) only),
     )
 
@@ -78,5 +68,5 @@ pub two_starts : (layout : Layout) (ms : List Module) (f g : ℕ × Start) → F
 two_starts layout ms f g one two =
     let m = some_item ms f.0 one.0 in
     let n = some_item ms g.0 two.0 in
-    let e : StartEntry = record { number = f.0; of_module = m.0; start = f.1 } in
+    let e : StartEntry = record { input = f.0; module' = m.0; start = f.1 } in
     ap (starts_fault layout) (one.1 m.0 m.1 ∙ ap (λ (es : List StartEntry). e ∷ es) (two.1 n.0 n.1))

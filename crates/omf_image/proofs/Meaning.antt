@@ -1,5 +1,7 @@
 -- A fix-up whose frame and target are found.
-use Rattle.std.proofs.Common.{◌≡◌, ℕ, zero, suc, ◌+◌, ◌<◌, ◌≤◌, Bool, true, false, not, List, [], ◌∷◌, ◌++◌, map, flat_map, take, drop, length, get_or, Option, Some, None, Err, add-one, inl, inr, refl, ap, ◌∙◌, sym, arith, subst}
+use Rattle.std.proofs.Common.{◌≡◌, ℕ, ◌+◌, ◌<◌, ◌≤◌, Bool, true, false, not, List, [], ◌∷◌, ◌++◌, map, flat_map, take, drop, length, get_or, Option, Some, None, Err, add-one, refl, ap, ◌∙◌, sym, arith, subst}
+use Rattle.std.specs.Prelude.{IsErrAnd, MatchResult, Result}
+use Rattle.std.proofs.lemmas.Result.{err_from_is_err_and}
 use Rattle.std.specs.List.{zip}
 use Rattle.std.proofs.lemmas.List.{append_assoc, append-nil, take-append-drop, take_more, flat_map_more}
 use Rattle.std.proofs.lemmas.List.Concat.{flat_map-append}
@@ -13,17 +15,22 @@ use Rattle.omf_image.specs.declared.faults.FixKind.TheVariants.{Mixed, OutOfFram
 use Rattle.omf_image.specs.declared.patch.Patch.{Patch}
 use Rattle.omf_image.specs.declared.reference.Resolved.{Resolved}
 use Rattle.omf_image.specs.Reference.{Found, Is}
-use Rattle.omf_image.specs.Records.{Entry, entry_start, meaning, patches_of, fixup_patches, hits, stored_of, LiesInContent}
-use Rattle.omf_image.specs.Patch.{all_clear}
-use Rattle.omf_image.specs.Faults.{first_kind, is_mixed, out_of_frame, too_far, resolved_fault, fixup_fault, or_else, fixups_fault, first_of}
+use Rattle.omf_image.specs.Records.{Entry, entry_start, meaning, patches_on, patches_of, fixup_patches, hits, stored_of}
+use Rattle.omf_image.specs.inside.WellPlaced.{LiesInContent}
+use Rattle.omf_image.specs.Faults.{first_kind, first_test, resolved_fault, fixup_fault, or_else, fixups_fault, first_of}
 use Rattle.omf_image.specs.declared.faults.FixFault.{FixFault}
 use Rattle.omf_image.specs.declared.faults.Stop.{Stop}
 use Rattle.omf_image.specs.declared.faults.Stop.TheVariants as stop
-use Rattle.omf_image.specs.Fixing.{patches_on, first_test, FixupGives}
-use Rattle.omf_image.specs.Stopping.{stopped}
-use Rattle.omf_image.specs.Leading.{Answers}
-use Rattle.omf_image.proofs.Moved.{In}
+use Rattle.omf_image.specs.inside.PlacedData.{FixupGives}
+use Rattle.omf_image.specs.declared.reference.Missing.{Missing}
+use Rattle.omf_image.specs.declared.reference.Missing.TheVariants.{Public, Members}
+use Rattle.omf_image.specs.inside.Lookups.{found}
+use Rattle.omf_image.specs.inside.Starts.{GivesEntry}
+use Rattle.omf_image.specs.inside.Lacks.{missing_fault}
+use Rattle.omf_image.specs.inside.Stops.{stopped}
+use Rattle.omf_image.specs.Building.{Answers}
 use Rattle.omf_image.proofs.Records.{hits_room}
+use Rattle.omf_image.proofs.Members.{In, in_index}
 
 pub first_four : (m o t c : Bool) → first_kind ((m, Mixed) ∷ (o, OutOfFrame) ∷ (t, ShortTooFar) ∷ []) ≡ None → c ≡ true → first_kind ((m, Mixed) ∷ (o, OutOfFrame) ∷ (t, ShortTooFar) ∷ (not c, OverlapRelocated) ∷ []) ≡ None
 first_four true o t c h k = cc
@@ -33,21 +40,44 @@ first_four false false false true h k = refl
 first_four false false false false h k = cc
 
 -- at what the code found
-pub fault_on : (layout : Layout) (e : Entry) (x : ResolvedFixup) (r : Resolved) (start : ℕ) (is : List ℕ) (earlier : List Patch) → meaning layout e x ≡ Is r → start ≡ entry_start layout e → is ≡ hits x.offset (stored_of e.data_record) → fixup_fault layout e earlier x ≡ first_test r x start is earlier
+pub fault_on : (layout : Layout) (e : Entry) (x : ResolvedFixup) (r : Resolved) (start : ℕ) (is : List ℕ) (earlier : List Patch) → meaning layout e x ≡ Is r → start ≡ entry_start layout e → is ≡ hits x.offset (stored_of e.data_record)
+    → fixup_fault layout e earlier x ≡ first_test r x.self_relative x.location start is earlier
 fault_on layout e x r start is earlier m s h =
     let at = entry_start layout e in
     let found = hits x.offset (stored_of e.data_record) in
-    ap (λ (f : Found Resolved). resolved_fault f layout e earlier x) m
-    ∙ ap (λ (ps : List Patch). first_kind ((is_mixed x.self_relative x.location r, Mixed) ∷ (out_of_frame x.self_relative x.location r found at, OutOfFrame) ∷ (too_far x.self_relative x.location r found at, ShortTooFar) ∷ (not (all_clear earlier ps), OverlapRelocated) ∷ []))
-    (ap (λ (f : Found Resolved). patches_of 0 f x at found) m)
-    ∙ ap (λ (n : ℕ). first_test r x n found earlier) (sym s)
-    ∙ ap (λ (l : List ℕ). first_test r x start l earlier) (sym h)
+    ap (λ (f : Found Resolved). resolved_fault f (λ q. first_test q x.self_relative x.location at found earlier)) m
+    ∙ ap (λ (n : ℕ). first_test r x.self_relative x.location n found earlier) (sym s)
+    ∙ ap (λ (l : List ℕ). first_test r x.self_relative x.location start l earlier) (sym h)
 
-pub patches_found : (layout : Layout) (e : Entry) (x : ResolvedFixup) (r : Resolved) (start : ℕ) (is : List ℕ) → meaning layout e x ≡ Is r → start ≡ entry_start layout e → is ≡ hits x.offset (stored_of e.data_record) → fixup_patches 0 layout e x ≡ patches_on r x start is
+pub patches_found : (layout : Layout) (e : Entry) (x : ResolvedFixup) (r : Resolved) (start : ℕ) (is : List ℕ) → meaning layout e x ≡ Is r → start ≡ entry_start layout e → is ≡ hits x.offset (stored_of e.data_record)
+    → fixup_patches 0 layout e x ≡ patches_on 0 r x.self_relative x.location start is
 patches_found layout e x r start is m s h =
-    ap (λ (f : Found Resolved). patches_of 0 f x (entry_start layout e) (hits x.offset (stored_of e.data_record))) m
-    ∙ ap (λ (n : ℕ). patches_on r x n (hits x.offset (stored_of e.data_record))) (sym s)
-    ∙ ap (patches_on r x start) (sym h)
+    let found = hits x.offset (stored_of e.data_record) in
+    ap (λ (f : Found Resolved). patches_of 0 f x (entry_start layout e) found) m
+    ∙ ap (λ (n : ℕ). patches_on 0 r x.self_relative x.location n found) (sym s)
+    ∙ ap (patches_on 0 r x.self_relative x.location start) (sym h)
+
+-- a fix-up's fault that is handed on
+pub gives_fault : (layout : Layout) (e : Entry) (earlier : List Patch) (x : ResolvedFixup) (r : Result (Unit {0}) Stop) (k : FixKind) (holds : Type 0) → IsErrAnd r (λ s. s ≡ stop.Kind k) → fixup_fault layout e earlier x ≡ Some k → FixupGives layout e earlier x r holds
+gives_fault layout e earlier x r k holds h f =
+    let p = err_from_is_err_and r h in
+    subst (λ q. FixupGives layout e earlier x q holds) (sym (p.1 ∙ ap Err p.2)) f
+
+-- what a look-up lacks is the fault of a reference
+pub lacks_fault : (lacks : Missing) (m : Found Resolved) (test : Resolved → Option FixKind) → found (Err lacks) ≡ m → resolved_fault m test ≡ Some (missing_fault lacks)
+lacks_fault Public m test e = ap (λ (f : Found Resolved). resolved_fault f test) (sym e)
+lacks_fault Members m test e = ap (λ (f : Found Resolved). resolved_fault f test) (sym e)
+
+pub fixup_lacks : (layout : Layout) (e : Entry) (x : ResolvedFixup) (r : Result Resolved FixKind) (lacks : Missing) → IsErrAnd r (λ k. k ≡ missing_fault lacks) → found (Err lacks) ≡ meaning layout e x
+    → MatchResult r (λ q. meaning layout e x ≡ Is q) (λ kind. (earlier : List Patch) → fixup_fault layout e earlier x ≡ Some kind)
+fixup_lacks layout e x r lacks h m =
+    let p = err_from_is_err_and r h in
+    subst (λ q. MatchResult q (λ q. meaning layout e x ≡ Is q) (λ kind. (earlier : List Patch) → fixup_fault layout e earlier x ≡ Some kind)) (sym (p.1 ∙ ap Err p.2)) (λ earlier. lacks_fault lacks _ _ m)
+
+pub start_lacks : (m : Found Resolved) (r : Result (ℕ × ℕ) FixKind) (lacks : Missing) → IsErrAnd r (λ k. k ≡ missing_fault lacks) → found (Err lacks) ≡ m → GivesEntry m r
+start_lacks m r lacks h e =
+    let p = err_from_is_err_and r h in
+    subst (GivesEntry m) (sym (p.1 ∙ ap Err p.2)) (lacks_fault lacks m _ e)
 
 -- a zip's halves
 pub first_of_zip : (xs ys : List ℕ) → length xs ≡ length ys → map (λ (p : ℕ × ℕ). p.0) (zip xs ys) ≡ xs
@@ -61,14 +91,9 @@ second_of_zip [] (y ∷ ys) h = absurd (omega (arith, h))
 second_of_zip (x ∷ xs) [] h = absurd (omega (arith, h))
 second_of_zip (x ∷ xs) (y ∷ ys) h = ap (λ (l : List ℕ). y ∷ l) (second_of_zip xs ys (omega (arith, h)))
 
-in_index : (xs : List ℕ) (k : ℕ) → k < length xs → In (get_or xs k 0) xs
-in_index [] k h = absurd (omega (arith, h))
-in_index (x ∷ xs) zero h = inl refl
-in_index (x ∷ xs) (suc k) h = inr (in_index xs k (omega (arith, h)))
-
 -- a location lies inside the data from each hit on
 pub hit_inside : (d : DataRecord) (x : ResolvedFixup) (is : List ℕ) (k : ℕ) → LiesInContent d x → is ≡ hits x.offset (stored_of d) → k < length is → get_or is k 0 + location_width x.location ≤ length (stored_of d)
-hit_inside d x is k lies e h = hits_room d x lies (get_or is k 0) (subst (λ (l : List ℕ). In (get_or is k 0) l) e (in_index is k h))
+hit_inside d x is k lies e h = hits_room d x lies (get_or is k 0) (subst (λ (l : List ℕ). In (get_or is k 0) l) e (in_index is k 0 h))
 
 -- ---- one fix-up after the other
 pub flat_more_of : {X Y : Type 0} (f : X → List Y) (xs : List X) (i : ℕ) (d : X) → i < length xs → flat_map f (take i xs) ++ f (get_or xs i d) ≡ flat_map f (take (i + 1) xs)
@@ -86,15 +111,15 @@ fixups_more layout e earlier xs i d fault h none at =
     let so_far = earlier ++ flat_map f (take i xs) in
     let x = get_or xs i d in
     ap (λ (ps : List Patch). fixups_fault layout e ps (drop (i + 1) xs)) (sym (patches_more f earlier xs i d h))
-    ∙ ap (λ (o : Option FixKind). or_else o (e.number, x.place) (fixups_fault layout e (so_far ++ f x) (drop (i + 1) xs))) (sym none)
+    ∙ ap (λ (o : Option FixKind). or_else o (e.input, x.place) (fixups_fault layout e (so_far ++ f x) (drop (i + 1) xs))) (sym none)
     ∙ ap (fixups_fault layout e so_far) (sym (drop_more xs i d h))
     ∙ at
 
-pub fixups_stop : {X : Type 0} (K : X → Type 0) (holds : Type 0) (layout : Layout) (e : Entry) (xs : List ResolvedFixup) (i : ℕ) (d : ResolvedFixup) (s : Stop) (earlier : List Patch) (fault : Option FixFault) → i < length xs → FixupGives layout e earlier (get_or xs i d) (Err s) holds → fixups_fault layout e earlier (drop i xs) ≡ fault → Answers {X = X} (Err (stopped s e.number (get_or xs i d).place)) fault K
+pub fixups_stop : {X : Type 0} (K : X → Type 0) (holds : Type 0) (layout : Layout) (e : Entry) (xs : List ResolvedFixup) (i : ℕ) (d : ResolvedFixup) (s : Stop) (earlier : List Patch) (fault : Option FixFault) → i < length xs → FixupGives layout e earlier (get_or xs i d) (Err s) holds → fixups_fault layout e earlier (drop i xs) ≡ fault → Answers {X = X} (Err (stopped s e.input (get_or xs i d).place)) fault K
 fixups_stop K holds layout e xs i d (stop.Kind k) earlier fault h some at =
     let x = get_or xs i d in
     sym at ∙ ap (fixups_fault layout e earlier) (drop_more xs i d h)
-    ∙ ap (λ (o : Option FixKind). or_else o (e.number, x.place) (fixups_fault layout e (earlier ++ fixup_patches 0 layout e x) (drop (i + 1) xs))) some
+    ∙ ap (λ (o : Option FixKind). or_else o (e.input, x.place) (fixups_fault layout e (earlier ++ fixup_patches 0 layout e x) (drop (i + 1) xs))) some
 fixups_stop K holds layout e xs i d stop.Memory earlier fault h some at = tt
 
 -- some fix-ups, and then the rest
@@ -108,9 +133,9 @@ fixups_parts layout e earlier (x ∷ xs) ys =
     let f : ResolvedFixup → List Patch = fixup_patches 0 layout e in
     let o = fixup_fault layout e earlier x in
     let first = fixups_fault layout e (earlier ++ f x) xs in
-    ap (or_else o (e.number, x.place)) (fixups_parts layout e (earlier ++ f x) xs ys)
-    ∙ or_first o (e.number, x.place) first (fixups_fault layout e ((earlier ++ f x) ++ flat_map f xs) ys)
-    ∙ ap (λ (ps : List Patch). first_of (or_else o (e.number, x.place) first) (fixups_fault layout e ps ys)) (append_assoc earlier (f x) (flat_map f xs))
+    ap (or_else o (e.input, x.place)) (fixups_parts layout e (earlier ++ f x) xs ys)
+    ∙ or_first o (e.input, x.place) first (fixups_fault layout e ((earlier ++ f x) ++ flat_map f xs) ys)
+    ∙ ap (λ (ps : List Patch). first_of (or_else o (e.input, x.place) first) (fixups_fault layout e ps ys)) (append_assoc earlier (f x) (flat_map f xs))
 
 pub fixups_left : (layout : Layout) (e : Entry) (xs : List ResolvedFixup) (n : ℕ) → fixups_fault layout e [] (take n xs) ≡ None → fixups_fault layout e (flat_map (fixup_patches 0 layout e) (take n xs)) (drop n xs) ≡ fixups_fault layout e [] xs
 fixups_left layout e xs n none =

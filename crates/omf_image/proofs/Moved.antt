@@ -4,11 +4,7 @@ use Rattle.std.proofs.lemmas.List.{get_or-set_same, get_or-set_other, length-set
 use Rattle.std.proofs.lemmas.Bool.{cases_eq, cases_lt}
 use Rattle.omf_image.specs.Words.{word_at, put_word, add_word, add_words}
 use Rattle.omf_image.proofs.Words.{get_or-put_word_other, word_at-put_word_other, length-add_word}
-
--- r is one of the numbers
-abbrev pub In : ℕ → List ℕ → Type 0
-In r [] = ⊥
-In r (x ∷ xs) = (r ≡ x) ⊎ In r xs
+use Rattle.omf_image.proofs.Members.{In}
 
 -- the word at r of a memory
 abbrev pub word : (ℕ → ℕ) → ℕ → ℕ

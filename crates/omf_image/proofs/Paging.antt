@@ -5,7 +5,7 @@ use Rattle.std.proofs.lemmas.List.Elements.{All-take, All-get_or, All-map, All-s
 use Rattle.std.proofs.lemmas.List.Concat.{get_or-flat_map}
 use Rattle.std.proofs.lemmas.Bool.{cases_eq, cases_lt, cond-true, cond-false, ne_eqb, eqb-false}
 use Rattle.std.specs.List.{AllByRecursion}
-use Rattle.omf_image.specs.Pages.{page_bytes, joined, made_pages, IsPage, IsPaged}
+use Rattle.omf_image.specs.inside.Pages.{page_bytes, joined, made_pages, IsPage, IsPaged}
 
 not-true : (b : Bool) → not b ≡ true → b ≡ false
 not-true true h = cc

@@ -24,7 +24,7 @@ use Rattle.omf_image.specs.Position.{position}
 use Rattle.omf_image.specs.Value.{real_address}
 use Rattle.omf_image.specs.Records.{Entry, module_entries, entries_from, bytes_of}
 use Rattle.omf_image.specs.Registers.{StartEntry, module_start, starts_from}
-use Rattle.omf_image.specs.Ready.{IsTargetThere, IsFrameThere, IsFixupReady, IsEntryReady, IsStartReady, IsReady}
+use Rattle.omf_image.specs.inside.Ready.{IsTargetThere, IsFrameThere, IsFixupReady, IsEntryReady, IsStartReady, IsReady}
 use Rattle.omf_image.proofs.Listing.{entry_of}
 
 all_get : {X : Type 0} (P : X → Type 0) (xs : List X) (k : ℕ) (x : X) → All P xs → slice_get xs k ≡ Some x → P x
@@ -82,7 +82,7 @@ module _ (ms : List Module) (layout : Layout) (bounded : IsBounded ms layout) wh
 
     start_ready : (o : Option Start) → IfSome o (StartFits m.segments m.groups m.externals) → All (IsStartReady layout) (module_start o k m)
     start_ready None h = All-nil (IsStartReady layout)
-    start_ready (Some s) h = All-cons (IsStartReady layout) (record { number = k; of_module = m; start = s }) []
+    start_ready (Some s) h = All-cons (IsStartReady layout) (record { input = k; module' = m; start = s }) []
         (record { input = input_there; target = target_there s.target h.target; frame = frame_there 0 s.frame h.frame (λ e. absurd (h.no_location e)) })
         (All-nil (IsStartReady layout))
 

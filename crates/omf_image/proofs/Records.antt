@@ -18,15 +18,17 @@ use Rattle.omf_image.specs.declared.reference.Resolved.{Resolved}
 use Rattle.omf_image.specs.Reference.{Found, Missing, Empty, Is}
 use Rattle.omf_image.specs.Value.{patches_at}
 use Rattle.omf_record.specs.Numbers.{location_width}
-use Rattle.omf_image.specs.Records.{hits, bytes_of, stored_of, LiesInContent, WellPlaced, Entry, entries, entry_start, meaning, patches_of, fixup_patches, patches, datum, program_byte, record_relocations, relocated_words, AllWellPlaced}
+use Rattle.omf_image.specs.Records.{hits, bytes_of, stored_of, Entry, entries, entry_start, meaning, patches_on, patches_of, fixup_patches, patches, datum, program_byte, record_relocations, relocated_words}
+use Rattle.omf_image.specs.inside.WellPlaced.{LiesInContent, WellPlaced, AllWellPlaced}
 use Rattle.omf_image.specs.declared.faults.FixKind.{FixKind}
 use Rattle.omf_image.specs.declared.faults.FixFault.{FixFault}
-use Rattle.omf_image.specs.Faults.{is_mixed, out_of_frame, too_far, resolved_fault, fixup_fault, or_else, fixups_fault, record_fault, first_of, records_fault, data_fault}
+use Rattle.omf_image.specs.Faults.{is_mixed, out_of_frame, too_far, first_test, resolved_fault, fixup_fault, or_else, fixups_fault, record_fault, first_of, records_fault, data_fault}
 use Rattle.omf_image.proofs.Law.{at_paragraph, AllClear, AllInside, sides, law, length-patched_all}
-use Rattle.omf_image.proofs.Moved.{In, AllApart, AllWordsInside, ApartWords}
+use Rattle.omf_image.proofs.Moved.{AllApart, AllWordsInside, ApartWords}
 use Rattle.omf_image.proofs.Values.{patches_stay}
 use Rattle.omf_image.proofs.Hits.{Within, within_append, in_hits, hits_spaced, hits_clear, hits_within, clear_append}
 use Rattle.omf_image.proofs.Carry.{Piece, datum_at, datum_at_0, all_addresses, Uncovered, EachApart, image_moves}
+use Rattle.omf_image.proofs.Members.{In}
 
 -- ---- no fault, part by part
 none_cond : {A : Type 0} (b : Bool) (a : A) (o : Option A) → cond b (Some a) o ≡ None → (b ≡ false) × (o ≡ None)
@@ -37,7 +39,7 @@ not-false : (b : Bool) → not b ≡ false → b ≡ true
 not-false true h = refl
 not-false false h = cc
 
-none_or_else : (o : Option FixKind) (at : ℕ × ℕ) (rest : Option FixFault) → or_else o at rest ≡ None → (o ≡ None) × (rest ≡ None)
+pub none_or_else : (o : Option FixKind) (at : ℕ × ℕ) (rest : Option FixFault) → or_else o at rest ≡ None → (o ≡ None) × (rest ≡ None)
 none_or_else None at rest h = (refl, h)
 none_or_else (Some k) at rest h = cc
 
@@ -46,7 +48,8 @@ none_first None rest h = (refl, h)
 none_first (Some k) rest h = cc
 
 -- ---- one fix-up
-stay_list : (P : ℕ) (r : Resolved) (x : ResolvedFixup) (start : ℕ) (is : List ℕ) → is_mixed x.self_relative x.location r ≡ false → patches_of P (Is r) x start is ≡ map (at_paragraph P) (patches_of 0 (Is r) x start is)
+stay_list : (P : ℕ) (r : Resolved) (x : ResolvedFixup) (start : ℕ) (is : List ℕ) → is_mixed x.self_relative x.location r ≡ false
+    → patches_on P r x.self_relative x.location start is ≡ map (at_paragraph P) (patches_on 0 r x.self_relative x.location start is)
 stay_list P r x start [] h = refl
 stay_list P r x start (i ∷ is) h =
     let f : ℕ → ℕ → List Patch = λ q j. patches_at q r x.self_relative x.location j (start + j) in
@@ -59,9 +62,9 @@ record Sound (P : ℕ) (layout : Layout) (e : Entry) (earlier : List Patch) (x :
   stays : patches_of P m x (entry_start layout e) (hits x.offset (stored_of e.data_record)) ≡ map (at_paragraph P) (patches_of 0 m x (entry_start layout e) (hits x.offset (stored_of e.data_record)))
   itself : AllClear (patches_of 0 m x (entry_start layout e) (hits x.offset (stored_of e.data_record)))
   inside : Within 0 (length (stored_of e.data_record)) (patches_of 0 m x (entry_start layout e) (hits x.offset (stored_of e.data_record)))
-  others : all_clear earlier (fixup_patches 0 layout e x) ≡ true
+  others : all_clear earlier (patches_of 0 m x (entry_start layout e) (hits x.offset (stored_of e.data_record))) ≡ true
 
-width_some : (l : Location) → 0 < location_width l
+pub width_some : (l : Location) → 0 < location_width l
 width_some LowByte = lit< tt
 width_some Offset = lit< tt
 width_some Base = lit< tt
@@ -75,7 +78,7 @@ hits_room d x lies i h =
     let g = (lies i (location_width x.location - 1) at.0 at.1 (omega arith)).0 in
     omega (arith, g)
 
-sound : (P : ℕ) (layout : Layout) (e : Entry) (earlier : List Patch) (x : ResolvedFixup) (m : Found Resolved) → LiesInContent e.data_record x → resolved_fault m layout e earlier x ≡ None → Sound P layout e earlier x m
+sound : (P : ℕ) (layout : Layout) (e : Entry) (earlier : List Patch) (x : ResolvedFixup) (m : Found Resolved) → LiesInContent e.data_record x → resolved_fault m (λ r. first_test r x.self_relative x.location (entry_start layout e) (hits x.offset (stored_of e.data_record)) earlier) ≡ None → Sound P layout e earlier x m
 sound P layout e earlier x Missing lies h = cc
 sound P layout e earlier x Empty lies h = cc
 sound P layout e earlier x (Is r) lies h =
@@ -84,12 +87,13 @@ sound P layout e earlier x (Is r) lies h =
     let one = none_cond (is_mixed x.self_relative x.location r) _ _ h in
     let two = none_cond (out_of_frame x.self_relative x.location r is start) _ _ one.1 in
     let three = none_cond (too_far x.self_relative x.location r is start) _ _ two.1 in
-    let four = none_cond (not (all_clear earlier (fixup_patches 0 layout e x))) _ _ three.1 in
+    let mine : List Patch = patches_on 0 r x.self_relative x.location start is in
+    let four = none_cond (not (all_clear earlier mine)) _ _ three.1 in
     record {
       stays = stay_list P r x start is one.0;
       itself = hits_clear r x.self_relative x.location start (length (stored_of e.data_record)) is (hits_spaced e.data_record x lies) (hits_room e.data_record x lies);
       inside = hits_within r x.self_relative x.location start 0 (length (stored_of e.data_record)) is (λ i k. (omega arith, hits_room e.data_record x lies i k));
-      others = not-false (all_clear earlier (fixup_patches 0 layout e x)) four.0;
+      others = not-false (all_clear earlier mine) four.0;
     }
 
 -- ---- one data record
@@ -106,7 +110,7 @@ sound_fixups P layout e earlier [] lies h before = record { stays = refl; apart 
 sound_fixups P layout e earlier (x ∷ xs) lies h before =
     let mine : List Patch = fixup_patches 0 layout e x in
     let rest : List Patch = flat_map (fixup_patches 0 layout e) xs in
-    let both = none_or_else (fixup_fault layout e earlier x) (e.number, x.place) (fixups_fault layout e (earlier ++ mine) xs) h in
+    let both = none_or_else (fixup_fault layout e earlier x) (e.input, x.place) (fixups_fault layout e (earlier ++ mine) xs) h in
     let first = sound P layout e earlier x (meaning layout e x) lies.0 both.0 in
     let others = sound_fixups P layout e (earlier ++ mine) xs lies.1 both.1 (clear_append earlier mine before first.itself first.others) in
     record {

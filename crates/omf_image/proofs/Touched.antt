@@ -1,14 +1,14 @@
 -- A patch is clear of earlier ones exactly where its bytes have no mark against it.
 use Rattle.std.proofs.Common.{◌≡◌, ℕ, ◌+◌, ◌<◌, ◌≤◌, length, get_or, Bool, true, false, not, ◌||◌, ◌&&◌, List, [], ◌∷◌, ◌++◌, flat_map, take, refl, ap, ◌∙◌, sym, arith}
 use Rattle.std.specs.List.{list_all, list_any}
-use Rattle.std.proofs.lemmas.List.Folds.{list_all-append, list_any-append, list_all_at}
+use Rattle.std.proofs.lemmas.List.Folds.{list_all-append, list_all_at}
 use Rattle.std.proofs.lemmas.List.{take_more, flat_map_more}
 use Rattle.std.proofs.lemmas.Bool.{and_from}
 use Rattle.std.proofs.lemmas.Bool.Decides.{nat_tests}
 use Rattle.omf_image.specs.declared.patch.Patch.{Patch}
 use Rattle.omf_image.specs.declared.patch.Patch.TheVariants.{Byte, Word, Relocated}
 use Rattle.omf_image.specs.Patch.{patch_start, patch_end, is_relocated, clear, all_clear}
-use Rattle.omf_image.specs.Marks.{touches, IsMarked}
+use Rattle.omf_image.specs.inside.Marks.{touches, IsMarked}
 
 all_of : (f g : Patch → Bool) → ((q : Patch) → f q ≡ not (g q)) → (qs : List Patch) → list_all f qs ≡ not (list_any g qs)
 all_of f g e [] = refl
@@ -90,30 +90,6 @@ other_test (Word i v) ts rs earlier start last t e f room m =
     ∙ ap (λ (b : Bool). not (list_any (λ q. is_relocated q && touches i q) earlier || b)) (ap (λ (k : ℕ). get_or rs k false) g ∙ m.relocated_told (i + 1) (omega arith))
     ∙ sym (word_clear i v earlier)
 other_test (Relocated i v) ts rs earlier start last t e f room m = cc
-
--- one patch more
-or_false : (b : Bool) → (b || false) ≡ b
-or_false true = refl
-or_false false = refl
-
-any_more : (f : Patch → Bool) (earlier : List Patch) (p : Patch) → list_any f (earlier ++ p ∷ []) ≡ (list_any f earlier || f p)
-any_more f earlier p = list_any-append f earlier (p ∷ []) ∙ ap (λ (b : Bool). list_any f earlier || b) (or_false (f p))
-
-pub marked_relocated : (p : Patch) (ts rs ts' rs' : List Bool) (earlier : List Patch) → is_relocated p ≡ true → length ts' ≡ length ts → length rs' ≡ length rs → ((k : ℕ) → get_or ts' k false ≡ (get_or ts k false || touches k p)) → ((k : ℕ) → get_or rs' k false ≡ (get_or rs k false || touches k p)) → IsMarked ts rs earlier → IsMarked ts' rs' (earlier ++ p ∷ [])
-marked_relocated p ts rs ts' rs' earlier t n n' a b m = record {
-  touches_told = λ k h. a k ∙ ap (λ (b : Bool). b || touches k p) (m.touches_told k (omega arith)) ∙ sym (any_more (touches k) earlier p);
-  relocated_told = λ k h. b k ∙ ap (λ (b : Bool). b || touches k p) (m.relocated_told k (omega arith))
-      ∙ ap (λ (b : Bool). list_any (λ q. is_relocated q && touches k q) earlier || b) (ap (λ (c : Bool). c && touches k p) (sym t))
-      ∙ sym (any_more (λ q. is_relocated q && touches k q) earlier p);
-}
-
-pub marked_other : (p : Patch) (ts rs ts' : List Bool) (earlier : List Patch) → is_relocated p ≡ false → length ts' ≡ length ts → ((k : ℕ) → get_or ts' k false ≡ (get_or ts k false || touches k p)) → IsMarked ts rs earlier → IsMarked ts' rs (earlier ++ p ∷ [])
-marked_other p ts rs ts' earlier t n a m = record {
-  touches_told = λ k h. a k ∙ ap (λ (b : Bool). b || touches k p) (m.touches_told k (omega arith)) ∙ sym (any_more (touches k) earlier p);
-  relocated_told = λ k h. m.relocated_told k h ∙ sym (or_false (list_any (λ q. is_relocated q && touches k q) earlier))
-      ∙ ap (λ (b : Bool). list_any (λ q. is_relocated q && touches k q) earlier || b) (ap (λ (c : Bool). c && touches k p) (sym t))
-      ∙ sym (any_more (λ q. is_relocated q && touches k q) earlier p);
-}
 
 -- one hit more
 pub flat_more : {X : Type 0} (f : ℕ → List X) (is : List ℕ) (k : ℕ) → k < length is → flat_map f (take (k + 1) is) ≡ flat_map f (take k is) ++ f (get_or is k 0)

@@ -1,9 +1,9 @@
 -- What is added once to stored bytes stands for what is added at each hit of repeated data.
-use Rattle.std.proofs.Common.{◌≡◌, ℕ, ◌+◌, ◌-◌, ◌<◌, ◌≤◌, Bool, true, false, not, ◌||◌, ◌&&◌, leb, ltb, List, [], ◌∷◌, ◌++◌, flat_map, length, get_or, Option, inl, inr, arith, refl, ap, ◌∙◌, sym, subst}
+use Rattle.std.proofs.Common.{◌≡◌, ℕ, ◌+◌, ◌-◌, ◌<◌, ◌≤◌, Bool, true, false, not, ◌||◌, ◌&&◌, leb, ltb, List, [], ◌∷◌, ◌++◌, flat_map, length, get_or, inl, inr, arith, refl, ap, ◌∙◌, sym, subst}
 use Rattle.std.specs.List.{list_all, list_any}
 use Rattle.std.proofs.lemmas.List.{append-nil}
 use Rattle.std.proofs.lemmas.List.Folds.{list_any-append}
-use Rattle.std.proofs.lemmas.Bool.{or_cases, or_left, or_right, and_parts, leb-true, ltb-true, eqb-true}
+use Rattle.std.proofs.lemmas.Bool.{or_cases, and_parts, leb-true, ltb-true, eqb-true}
 use Rattle.std.proofs.lemmas.Bool.Decides.{nat_tests}
 use Rattle.omf_record.specs.declared.fields.Location.{Location}
 use Rattle.omf_record.specs.declared.fields.Location.TheVariants.{LowByte, Offset, Base, Pointer, LoaderOffset}
@@ -12,27 +12,25 @@ use Rattle.omf_record.specs.Numbers.{location_width}
 use Rattle.omf_module.specs.declared.ResolvedFixup.{ResolvedFixup}
 use Rattle.omf_place.specs.declared.layout.Base.{Base as Frame}
 use Rattle.omf_place.specs.declared.layout.Base.TheVariants.{Relocatable as Moving, Absolute as Fixed}
-use Rattle.omf_image.specs.declared.faults.FixKind.{FixKind}
 use Rattle.omf_image.specs.declared.faults.FixKind.TheVariants.{Mixed, OutOfFrame, ShortTooFar, OverlapRelocated}
 use Rattle.omf_image.specs.declared.patch.Patch.{Patch}
 use Rattle.omf_image.specs.declared.patch.Patch.TheVariants.{Byte, Word, Relocated}
 use Rattle.omf_image.specs.declared.reference.Resolved.{Resolved}
 use Rattle.omf_image.specs.Patch.{patched_all, patch_start, patch_end, is_relocated, all_clear}
-use Rattle.omf_image.specs.Marks.{touches, touches_relocated}
+use Rattle.omf_image.specs.inside.Marks.{touches, touches_relocated}
 use Rattle.omf_image.specs.Reference.{frame'}
 use Rattle.omf_image.specs.Value.{modulo, from_frame, base_patch, patches_at}
-use Rattle.omf_image.specs.Faults.{first_kind, is_mixed, out_of_frame, too_far}
-use Rattle.omf_image.specs.Working.{State, at_start, Holds}
-use Rattle.omf_image.specs.Records.{hits}
-use Rattle.omf_image.specs.Fixing.{patches_on, first_test}
-use Rattle.omf_image.specs.Stored.{Copied, begins, Agree, Twins, IsStored, once_at}
+use Rattle.omf_image.specs.Faults.{first_kind, first_test, is_mixed, out_of_frame}
+use Rattle.omf_image.specs.inside.States.{State, at_start, Holds}
+use Rattle.omf_image.specs.Records.{hits, patches_on}
+use Rattle.omf_image.specs.inside.Stored.{Copied, begins, Agree, Twins, IsStored, once_at}
 use Rattle.omf_image.proofs.Law.{AllInside, length-patched_all}
-use Rattle.omf_image.proofs.Moved.{In}
-use Rattle.omf_image.proofs.Covering.{any_in, any_from}
 use Rattle.omf_image.proofs.Holding.{patched_all-append}
 use Rattle.omf_image.proofs.Hits.{in_hits, spaced_hits}
 use Rattle.omf_image.proofs.Touched.{relocated_clear, word_clear, byte_clear, clear_nothing, clear_parts, clear_flat}
 use Rattle.omf_image.proofs.Copies.{at_hit, copied_still, hits_have}
+use Rattle.omf_image.proofs.Records.{width_some}
+use Rattle.omf_image.proofs.Members.{any_from, any_in, In}
 
 plus_zero : (i : ℕ) → i + 0 ≡ i
 plus_zero i = omega arith
@@ -266,13 +264,6 @@ inside_location r LoaderOffset = (omega arith, tt)
 inside_location r Base = base_inside 2 0 (frame' r) (omega arith)
 inside_location r Pointer = (omega arith, base_inside 4 2 (frame' r) (omega arith))
 
-pub some_width : (l : Location) → 0 < location_width l
-some_width LowByte = omega arith
-some_width Offset = omega arith
-some_width LoaderOffset = omega arith
-some_width Base = omega arith
-some_width Pointer = omega arith
-
 at_place : (r : Resolved) (l : Location) (i a : ℕ) → patches_at 0 r false l i a ≡ at_hit (patches_at 0 r false l 0 0) i
 at_place r LowByte i a = ap (λ (j : ℕ). Byte j (modulo 256 (from_frame 0 r)) ∷ []) (sym (plus_zero i))
 at_place r Offset i a = ap (λ (j : ℕ). Word j (modulo 65536 (from_frame 0 r)) ∷ []) (sym (plus_zero i))
@@ -293,58 +284,50 @@ out_same r LoaderOffset is is' start start' = refl
 out_same r Base is is' start start' = refl
 out_same r Pointer is is' start start' = refl
 
--- what a fix-up adds at each hit, and the first test that fails
-abbrev pub added : Resolved → Bool → Location → (start : ℕ) → List ℕ → List Patch
-added r s l start is = flat_map (λ i. patches_at 0 r s l i (start + i)) is
-
-abbrev pub tested : Resolved → Bool → Location → (start : ℕ) → List ℕ → (earlier : List Patch) → Option FixKind
-tested r s l start is earlier =
-    first_kind ((is_mixed s l r, Mixed) ∷ (out_of_frame s l r is start, OutOfFrame) ∷ (too_far s l r is start, ShortTooFar) ∷ (not (all_clear earlier (added r s l start is)), OverlapRelocated) ∷ [])
-
-added_at : (r : Resolved) (l : Location) (start : ℕ) (is : List ℕ) → added r false l start is ≡ flat_map (at_hit (patches_at 0 r false l 0 0)) is
+added_at : (r : Resolved) (l : Location) (start : ℕ) (is : List ℕ) → patches_on 0 r false l start is ≡ flat_map (at_hit (patches_at 0 r false l 0 0)) is
 added_at r l start is = flat_same _ _ (λ i. at_place r l i (start + i)) is
 
 module _ (r : Resolved) (l : Location) (start o : ℕ) (places bytes contents : List ℕ) (earlier once : List Patch) (sized : length bytes ≡ length places) (ends : (k : ℕ) → k < length places → get_or places k 0 < length contents)
     (together : StandTogether o (location_width l) places) (whole : StandWhole o (location_width l) places) (twins : Twins places bytes contents earlier once) where
-  same_tests : (is : List ℕ) → is ≡ hits o places → tested r false l start is earlier ≡ tested r false l 0 (once_at o is) once
+  same_tests : (is : List ℕ) → is ≡ hits o places → first_test r false l start is earlier ≡ first_test r false l 0 (once_at o is) once
   same_tests is e =
       let ps = patches_at 0 r false l 0 0 in
-      ap (λ (b : Bool). first_kind ((is_mixed false l r, Mixed) ∷ (b, OutOfFrame) ∷ (false, ShortTooFar) ∷ (not (all_clear earlier (added r false l start is)), OverlapRelocated) ∷ [])) (out_same r l is (once_at o is) start 0)
+      ap (λ (b : Bool). first_kind ((is_mixed false l r, Mixed) ∷ (b, OutOfFrame) ∷ (false, ShortTooFar) ∷ (not (all_clear earlier (patches_on 0 r false l start is)), OverlapRelocated) ∷ [])) (out_same r l is (once_at o is) start 0)
       ∙ ap (λ (b : Bool). first_kind ((is_mixed false l r, Mixed) ∷ (out_of_frame false l r (once_at o is) 0, OutOfFrame) ∷ (false, ShortTooFar) ∷ (not b, OverlapRelocated) ∷ []))
       (ap (all_clear earlier) (added_at r l start is)
-      ∙ clear_more places bytes contents earlier once o (location_width l) ps sized ends (inside_location r l) (some_width l) together whole twins is e
+      ∙ clear_more places bytes contents earlier once o (location_width l) ps sized ends (inside_location r l) (width_some l) together whole twins is e
       ∙ ap (all_clear once) (sym (added_at r l 0 (once_at o is))))
 
-  same_patches : (is : List ℕ) → is ≡ hits o places → Twins places bytes contents (earlier ++ added r false l start is) (once ++ added r false l 0 (once_at o is))
+  same_patches : (is : List ℕ) → is ≡ hits o places → Twins places bytes contents (earlier ++ patches_on 0 r false l start is) (once ++ patches_on 0 r false l 0 (once_at o is))
   same_patches is e =
       let ps = patches_at 0 r false l 0 0 in
-      subst (λ (x : List Patch). Twins places bytes contents (earlier ++ x) (once ++ added r false l 0 (once_at o is))) (sym (added_at r l start is))
+      subst (λ (x : List Patch). Twins places bytes contents (earlier ++ x) (once ++ patches_on 0 r false l 0 (once_at o is))) (sym (added_at r l start is))
       (subst (λ (x : List Patch). Twins places bytes contents (earlier ++ flat_map (at_hit ps) is) (once ++ x)) (sym (added_at r l 0 (once_at o is)))
-      (twins_more places bytes contents earlier once o (location_width l) ps sized ends (inside_location r l) (some_width l) together whole twins is e))
+      (twins_more places bytes contents earlier once o (location_width l) ps sized ends (inside_location r l) (width_some l) together whole twins is e))
 
 -- ---- the state of the stored bytes
 module _ (x : ResolvedFixup) (r : Resolved) (start : ℕ) (places bytes is : List ℕ) (now : State) (earlier : List Patch) (plain : x.self_relative ≡ false) (at : is ≡ hits x.offset places)
     (together : StandTogether x.offset (location_width x.location) places) (whole : StandWhole x.offset (location_width x.location) places) (s : IsStored places bytes now earlier) where
-  pub stored_test : first_test r x start is earlier ≡ first_test r x 0 (once_at x.offset is) s.once
+  pub stored_test : first_test r x.self_relative x.location start is earlier ≡ first_test r x.self_relative x.location 0 (once_at x.offset is) s.once
   stored_test =
       let l = x.location in
-      ap (λ (b : Bool). tested r b l start is earlier) plain
+      ap (λ (b : Bool). first_test r b l start is earlier) plain
       ∙ same_tests r l start x.offset places bytes s.contents earlier s.once s.sized s.ends together whole s.twins is at
-      ∙ ap (λ (b : Bool). tested r b l 0 (once_at x.offset is) s.once) (sym plain)
+      ∙ ap (λ (b : Bool). first_test r b l 0 (once_at x.offset is) s.once) (sym plain)
 
-  pub stored_more : (new : State) → Holds 0 s.contents s.base new (s.once ++ patches_on r x 0 (once_at x.offset is)) → IsStored places bytes new (earlier ++ patches_on r x start is)
+  pub stored_more : (new : State) → Holds 0 s.contents s.base new (s.once ++ patches_on 0 r x.self_relative x.location 0 (once_at x.offset is)) → IsStored places bytes new (earlier ++ patches_on 0 r x.self_relative x.location start is)
   stored_more new h =
       let l = x.location in
       record {
         contents = s.contents;
         base = s.base;
-        once = s.once ++ patches_on r x 0 (once_at x.offset is);
+        once = s.once ++ patches_on 0 r x.self_relative x.location 0 (once_at x.offset is);
         sized = s.sized;
         ends = s.ends;
         blank = s.blank;
         holds = h;
         twins =
-            subst (λ (b : Bool). Twins places bytes s.contents (earlier ++ added r b l start is) (s.once ++ added r b l 0 (once_at x.offset is))) (sym plain)
+            subst (λ (b : Bool). Twins places bytes s.contents (earlier ++ patches_on 0 r b l start is) (s.once ++ patches_on 0 r b l 0 (once_at x.offset is))) (sym plain)
             (same_patches r l start x.offset places bytes s.contents earlier s.once s.sized s.ends together whole s.twins is at);
       }
 

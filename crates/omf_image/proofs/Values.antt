@@ -14,7 +14,7 @@ use Rattle.omf_image.specs.Value.{modulo, from_frame, from_address, base_patch, 
 use Rattle.omf_image.specs.Faults.{is_mixed}
 use Rattle.omf_image.proofs.Law.{at_paragraph}
 
-frame_step : (f P : ℕ) → (f + P) % 65536 ≡ ((f + 0) % 65536 + P) % 65536
+pub frame_step : (f P : ℕ) → (f + P) % 65536 ≡ ((f + 0) % 65536 + P) % 65536
 frame_step f P = omega arith
 
 base_moves : (P i : ℕ) (f : Frame) → base_patch P i f ≡ at_paragraph P (base_patch 0 i f)

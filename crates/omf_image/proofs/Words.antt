@@ -1,10 +1,7 @@
 -- Additions to words: two at one place are one, and two at places that share no byte commute.
-use Rattle.std.proofs.Common.{◌≡◌, ◌≢◌, ◌⊎◌, ℕ, ◌+◌, ◌*◌, ◌/◌, ◌%◌, ◌<◌, List, length, get_or, set, inl, inr, arith, ap, ◌∙◌, sym}
+use Rattle.std.proofs.Common.{◌≡◌, ◌≢◌, ◌⊎◌, ℕ, ◌+◌, ◌/◌, ◌%◌, ◌<◌, List, length, get_or, set, inl, inr, arith, ap, ◌∙◌, sym}
 use Rattle.std.proofs.lemmas.List.{length-set, get_or-set_same, get_or-set_other, set-set, set_comm}
 use Rattle.omf_image.specs.Words.{word_at, put_word, add_byte, add_word}
-
-pub split_word : (w : ℕ) → w % 256 + 256 * (w / 256) ≡ w
-split_word w = omega arith
 
 pub length-put_word : (xs : List ℕ) (i w : ℕ) → length (put_word xs i w) ≡ length xs
 unfolding put_word

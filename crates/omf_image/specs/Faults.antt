@@ -1,5 +1,6 @@
 -- The faults of data and fix-ups, the first in order.
-use Rattle.std.specs.Prelude.{ℕ, ◌+◌, ◌*◌, ℤ, pos, ◌-ℤ◌, ◌+ℤ◌, int_le, Bool, true, false, not, ◌&&◌, ◌||◌, cond, nat_le, nat_lt, List, [], ◌∷◌, ◌++◌, Option, Some, None}
+use Rattle.std.specs.Prelude.{ℕ, ◌+◌, ◌*◌, ℤ, pos, ◌-ℤ◌, ◌+ℤ◌, int_le, Bool, true, false, not, ◌&&◌, ◌||◌, cond}
+use Rattle.std.specs.Prelude.{nat_le, nat_lt, List, [], ◌∷◌, ◌++◌, Option, Some, None}
 use Rattle.std.specs.Int.{cast_signed, w16}
 use Rattle.std.specs.List.{list_all}
 use Rattle.omf_record.specs.declared.fields.Location.{Location}
@@ -10,7 +11,8 @@ use Rattle.omf_place.specs.declared.layout.Base.{Base as Frame}
 use Rattle.omf_place.specs.declared.layout.Base.TheVariants.{Relocatable as Moving, Absolute as Fixed}
 use Rattle.omf_place.specs.Layout.{Layout}
 use Rattle.omf_image.specs.declared.faults.FixKind.{FixKind}
-use Rattle.omf_image.specs.declared.faults.FixKind.TheVariants.{CoversRelocated, Unresolved, EmptyGroup, Mixed, OutOfFrame, ShortTooFar, OverlapRelocated}
+use Rattle.omf_image.specs.declared.faults.FixKind.TheVariants.{CoversRelocated, Unresolved, EmptyGroup, Mixed}
+use Rattle.omf_image.specs.declared.faults.FixKind.TheVariants.{OutOfFrame, ShortTooFar, OverlapRelocated}
 use Rattle.omf_image.specs.declared.faults.FixFault.{FixFault}
 use Rattle.omf_image.specs.declared.faults.FixFault.TheVariants.{At}
 use Rattle.omf_image.specs.declared.patch.Patch.{Patch}
@@ -21,87 +23,120 @@ use Rattle.omf_image.specs.Patch.{all_clear}
 use Rattle.omf_image.specs.Reference.{Found, Missing, Empty, Is, frame'}
 use Rattle.omf_image.specs.Value.{real_address, real_frame}
 use Rattle.omf_image.specs.Located.{covers_word}
-use Rattle.omf_image.specs.Records.{hits, stored_of, Entry, entries, entry_start, meaning, fixup_patches, record_relocations, datum}
+use Rattle.omf_image.specs.Records.{hits, stored_of, Entry, entries, entry_start, meaning, patches_on, fixup_patches}
+use Rattle.omf_image.specs.Records.{record_relocations, datum}
 
+-- a relocatable thing moves with the program
 abbrev pub target_moves : Position → Bool
-target_moves (Relocatable a f) = true
-target_moves (Absolute a f) = false
+target_moves (Relocatable address frame) = true
+target_moves (Absolute address frame) = false
 
 abbrev pub frame_moves : Frame → Bool
-frame_moves (Moving f) = true
-frame_moves (Fixed f) = false
+frame_moves (Moving frame) = true
+frame_moves (Fixed frame) = false
 
--- a distance that depends on the load paragraph; a base alone has none
+-- the target and the frame that is used both move with the program
+abbrev pub both_move : Resolved → Bool
+both_move reference = target_moves reference.target && frame_moves (frame' reference)
+
+-- A distance that depends on the load paragraph; a base alone has none. A self-relative one counts from the program,
+-- another one from the frame.
 abbrev pub is_mixed : (self_relative : Bool) → Location → Resolved → Bool
-is_mixed true location r = not (target_moves r.target && frame_moves (frame' r))
-is_mixed false Base r = false
-is_mixed false _ r = target_moves r.target && not (frame_moves (frame' r))
+is_mixed true location reference = not (both_move reference)
+is_mixed false Base reference = false
+is_mixed false _ reference = target_moves reference.target && not (frame_moves (frame' reference))
 
-abbrev pub in_frame : Resolved → ℕ → Bool
-in_frame r a = nat_le (16 * real_frame 0 (frame' r)) a && nat_lt a (16 * real_frame 0 (frame' r) + 65536)
+-- the address lies in the 65,536 bytes from the frame's start on
+abbrev pub in_frame : Resolved → (address : ℕ) → Bool
+in_frame reference address =
+    nat_le (16 * real_frame 0 (frame' reference)) address
+    && nat_lt address (16 * real_frame 0 (frame' reference) + 65536)
 
--- is are the addresses of the locations
-abbrev pub out_of_frame : (self_relative : Bool) → Location → Resolved → (is : List ℕ) → (start : ℕ) → Bool
-out_of_frame true location r is start = not (in_frame r (real_address 0 r.target)) || not (list_all (λ i. in_frame r (start + i)) is)
-out_of_frame false Base r is start = false
-out_of_frame false _ r is start = not (in_frame r (real_address 0 r.target))
+-- the target lies in the frame
+abbrev pub target_in_frame : Resolved → Bool
+target_in_frame reference = in_frame reference (real_address 0 reference.target)
 
--- the distance from the end of a byte, with a signed displacement
-abbrev pub short_distance : Resolved → ℕ → ℤ
-short_distance r a = (pos (real_address 0 r.target) -ℤ pos (a + 1)) +ℤ cast_signed w16 r.displacement
+-- The target lies outside of the frame, or, of a self-relative distance, a location does; the locations stand at these
+-- positions of data that begins at the address start.
+abbrev pub out_of_frame : (self_relative : Bool) → Location → Resolved → (positions : List ℕ) → (start : ℕ) → Bool
+out_of_frame true location reference positions start =
+    not (target_in_frame reference) || not (list_all (λ i. in_frame reference (start + i)) positions)
+out_of_frame false Base reference positions start = false
+out_of_frame false _ reference positions start = not (target_in_frame reference)
 
+-- the distance from the end of a byte at an address, with a signed displacement
+abbrev pub short_distance : Resolved → (address : ℕ) → ℤ
+short_distance reference address =
+    (pos (real_address 0 reference.target) -ℤ pos (address + 1)) +ℤ cast_signed w16 reference.displacement
+
+-- from -128 to 127
 abbrev pub fits_short : ℤ → Bool
-fits_short z = int_le (pos 0) (z +ℤ pos 128) && int_le (z +ℤ pos 128) (pos 255)
+fits_short distance = int_le (pos 0) (distance +ℤ pos 128) && int_le (distance +ℤ pos 128) (pos 255)
 
-abbrev pub too_far : (self_relative : Bool) → Location → Resolved → (is : List ℕ) → (start : ℕ) → Bool
-too_far true LowByte r is start = not (list_all (λ i. fits_short (short_distance r (start + i))) is)
-too_far true _ r is start = false
-too_far false location r is start = false
+-- a self-relative distance that is to be put into a byte and doesn't fit a signed one
+abbrev pub too_far : (self_relative : Bool) → Location → Resolved → (positions : List ℕ) → (start : ℕ) → Bool
+too_far true LowByte reference positions start =
+    not (list_all (λ i. fits_short (short_distance reference (start + i))) positions)
+too_far true _ reference positions start = false
+too_far false location reference positions start = false
 
 -- the kind of the first test that is true
-abbrev pub first_kind : List (Bool × FixKind) → Option FixKind
+abbrev pub first_kind : (tests : List (Bool × FixKind)) → Option FixKind
 first_kind [] = None
 first_kind (t ∷ ts) = cond t.0 (Some t.1) (first_kind ts)
 
-abbrev pub resolved_fault : Found Resolved → Layout → Entry → (earlier : List Patch) → ResolvedFixup → Option FixKind
-resolved_fault Missing layout e earlier x = Some Unresolved
-resolved_fault Empty layout e earlier x = Some EmptyGroup
-resolved_fault (Is r) layout e earlier x =
-    let is = hits x.offset (stored_of e.data_record) in
-    let start = entry_start layout e in
-    first_kind ((is_mixed x.self_relative x.location r, Mixed)
-    ∷ (out_of_frame x.self_relative x.location r is start, OutOfFrame)
-    ∷ (too_far x.self_relative x.location r is start, ShortTooFar)
-    ∷ (not (all_clear earlier (fixup_patches 0 layout e x)), OverlapRelocated) ∷ [])
+-- The first test that is true of a fix-up whose frame and target are known: of its range, at the positions of its
+-- location, and of what it adds there after earlier patches of its data record.
+abbrev pub first_test : Resolved → (self_relative : Bool) → Location → (start : ℕ) → (positions : List ℕ)
+    → (earlier : List Patch) → Option FixKind
+first_test reference self_relative location start positions earlier =
+    first_kind ((is_mixed self_relative location reference, Mixed)
+    ∷ (out_of_frame self_relative location reference positions start, OutOfFrame)
+    ∷ (too_far self_relative location reference positions start, ShortTooFar)
+    ∷ (not (all_clear earlier (patches_on 0 reference self_relative location start positions)), OverlapRelocated) ∷ [])
+
+-- the fault of a reference: that nothing was found for it, or that of what was found
+abbrev pub resolved_fault : Found Resolved → (Resolved → Option FixKind) → Option FixKind
+resolved_fault Missing fault = Some Unresolved
+resolved_fault Empty fault = Some EmptyGroup
+resolved_fault (Is reference) fault = fault reference
 
 -- the fault of a fix-up after earlier patches of its data record
 abbrev pub fixup_fault : Layout → Entry → (earlier : List Patch) → ResolvedFixup → Option FixKind
-fixup_fault layout e earlier x = resolved_fault (meaning layout e x) layout e earlier x
+fixup_fault layout entry earlier fixup =
+    resolved_fault (meaning layout entry fixup) (λ reference. first_test reference fixup.self_relative fixup.location
+    (entry_start layout entry) (hits fixup.offset (stored_of entry.data_record)) earlier)
 
-abbrev pub or_else : Option FixKind → (ℕ × ℕ) → Option FixFault → Option FixFault
+-- a fault of this kind at an input and a place in it; the rest where there is none
+abbrev pub or_else : Option FixKind → (at : ℕ × ℕ) → (rest : Option FixFault) → Option FixFault
 or_else None at rest = rest
-or_else (Some k) at rest = Some (At k at.0 at.1)
+or_else (Some kind) at rest = Some (At kind at.0 at.1)
 
+-- the first fault of the fix-ups of a data record, after earlier patches of it
 abbrev pub fixups_fault : Layout → Entry → (earlier : List Patch) → List ResolvedFixup → Option FixFault
-fixups_fault layout e earlier [] = None
-fixups_fault layout e earlier (x ∷ xs) =
-    or_else (fixup_fault layout e earlier x) (e.number, x.place) (fixups_fault layout e (earlier ++ fixup_patches 0 layout e x) xs)
+fixups_fault layout entry earlier [] = None
+fixups_fault layout entry earlier (fixup ∷ fixups) =
+    or_else (fixup_fault layout entry earlier fixup) (entry.input, fixup.place)
+    (fixups_fault layout entry (earlier ++ fixup_patches 0 layout entry fixup) fixups)
 
+-- the first fault of a data record, after earlier relocated words
 abbrev pub record_fault : Layout → (words : List ℕ) → Entry → Option FixFault
-record_fault layout words e =
-    cond (covers_word (datum 0 layout e) words)
-    (Some (At CoversRelocated e.number e.data_record.place))
-    (fixups_fault layout e [] e.data_record.fixups)
+record_fault layout words entry =
+    cond (covers_word (datum 0 layout entry) words)
+    (Some (At CoversRelocated entry.input entry.data_record.place))
+    (fixups_fault layout entry [] entry.data_record.fixups)
 
+-- the first of two faults
 abbrev pub first_of : Option FixFault → Option FixFault → Option FixFault
 first_of None rest = rest
-first_of (Some f) rest = Some f
+first_of (Some fault) rest = Some fault
 
 -- the first fault of the data records, after earlier relocated words
 abbrev pub records_fault : Layout → (words : List ℕ) → List Entry → Option FixFault
 records_fault layout words [] = None
-records_fault layout words (e ∷ es) =
-    first_of (record_fault layout words e) (records_fault layout (words ++ record_relocations layout e) es)
+records_fault layout words (entry ∷ later) =
+    first_of (record_fault layout words entry) (records_fault layout (words ++ record_relocations layout entry) later)
 
+-- the first fault of all data records
 abbrev pub data_fault : Layout → List Module → Option FixFault
 data_fault layout modules = records_fault layout [] (entries modules)

@@ -6,42 +6,48 @@ use Rattle.omf_image.specs.declared.patch.Patch.{Patch}
 use Rattle.omf_image.specs.declared.patch.Patch.TheVariants.{Byte, Word, Relocated}
 use Rattle.omf_image.specs.Words.{add_byte, add_word}
 
-abbrev pub patched : Patch → List ℕ → List ℕ
-patched (Byte i v) xs = add_byte v i xs
-patched (Word i v) xs = add_word v i xs
-patched (Relocated i v) xs = add_word v i xs
+-- data with a patch added
+abbrev pub patched : Patch → (data' : List ℕ) → List ℕ
+patched (Byte place value) data' = add_byte value place data'
+patched (Word place value) data' = add_word value place data'
+patched (Relocated place value) data' = add_word value place data'
 
--- one after the other
-abbrev pub patched_all : List Patch → List ℕ → List ℕ
-patched_all [] xs = xs
-patched_all (p ∷ ps) xs = patched_all ps (patched p xs)
+-- with patches added one after the other
+abbrev pub patched_all : List Patch → (data' : List ℕ) → List ℕ
+patched_all [] data' = data'
+patched_all (patch ∷ patches) data' = patched_all patches (patched patch data')
 
 -- the places of the relocated words
 abbrev pub relocated_places : List Patch → List ℕ
 relocated_places [] = []
-relocated_places (Byte i v ∷ ps) = relocated_places ps
-relocated_places (Word i v ∷ ps) = relocated_places ps
-relocated_places (Relocated i v ∷ ps) = i ∷ relocated_places ps
+relocated_places (Byte place value ∷ patches) = relocated_places patches
+relocated_places (Word place value ∷ patches) = relocated_places patches
+relocated_places (Relocated place value ∷ patches) = place ∷ relocated_places patches
 
+-- whether a patch is a relocated word
 abbrev pub is_relocated : Patch → Bool
-is_relocated (Relocated i v) = true
-is_relocated (Byte i v) = false
-is_relocated (Word i v) = false
+is_relocated (Relocated place value) = true
+is_relocated (Byte place value) = false
+is_relocated (Word place value) = false
 
+-- the place of its first byte
 abbrev pub patch_start : Patch → ℕ
-patch_start (Byte i v) = i
-patch_start (Word i v) = i
-patch_start (Relocated i v) = i
+patch_start (Byte place value) = place
+patch_start (Word place value) = place
+patch_start (Relocated place value) = place
 
+-- the place behind its last byte
 abbrev pub patch_end : Patch → ℕ
-patch_end (Byte i v) = i + 1
-patch_end (Word i v) = i + 2
-patch_end (Relocated i v) = i + 2
+patch_end (Byte place value) = place + 1
+patch_end (Word place value) = place + 2
+patch_end (Relocated place value) = place + 2
 
 -- they share no byte of a relocated word of either
 abbrev pub clear : Patch → Patch → Bool
-clear p q = not (is_relocated p || is_relocated q) || (nat_le (patch_end p) (patch_start q) || nat_le (patch_end q) (patch_start p))
+clear first second =
+    not (is_relocated first || is_relocated second)
+    || (nat_le (patch_end first) (patch_start second) || nat_le (patch_end second) (patch_start first))
 
 -- each of the first is clear of each of the second
 abbrev pub all_clear : List Patch → List Patch → Bool
-all_clear ps qs = list_all (λ p. list_all (clear p) qs) ps
+all_clear firsts seconds = list_all (λ p. list_all (clear p) seconds) firsts

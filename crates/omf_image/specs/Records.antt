@@ -1,8 +1,9 @@
 -- The program that modules stand for at a load paragraph (TIS OMF 1.1, LEDATA, LIDATA and FIXUPP).
-use Rattle.std.specs.Prelude.{◌≡◌, ℕ, Bool, ◌+◌, ◌<◌, ◌≤◌, ◌==◌, if◌then◌else◌, max, fold, All, List, [], ◌∷◌, ◌++◌, map, filter, flat_map, length, get_or}
+use Rattle.std.specs.Prelude.{◌≡◌, ℕ, Bool, ◌+◌, ◌<◌, ◌==◌, if◌then◌else◌, max, fold, List, [], ◌∷◌, ◌++◌}
+use Rattle.std.specs.Prelude.{map, filter, flat_map, length, get_or}
 use Rattle.std.specs.List.{range_with_len, list_any}
-use Rattle.omf_record.specs.Expansion.{bytes, places, StandTogether}
-use Rattle.omf_record.specs.Numbers.{location_width}
+use Rattle.omf_record.specs.Expansion.{bytes, places}
+use Rattle.omf_record.specs.declared.fields.Location.{Location}
 use Rattle.omf_module.specs.declared.ResolvedFixup.{ResolvedFixup}
 use Rattle.omf_module.specs.Module.{DataRecord, Module}
 use Rattle.omf_place.specs.Layout.{Layout}
@@ -15,29 +16,33 @@ use Rattle.omf_image.specs.Reference.{Found, Missing, Empty, Is, resolved}
 use Rattle.omf_image.specs.Value.{real_address, patches_at}
 use Rattle.omf_image.specs.Located.{Datum, located, in_page}
 
--- the expanded bytes of a data record, and the place at which each was stored
+-- the expanded bytes of a data record
 abbrev pub bytes_of : DataRecord → List ℕ
-bytes_of d = bytes d.pairs
+bytes_of data_record = bytes data_record.pairs
 
+-- the place at which each of them was stored
 abbrev pub stored_of : DataRecord → List ℕ
-stored_of d = places d.pairs
+stored_of data_record = places data_record.pairs
 
 -- the positions whose byte was stored at the place offset
-abbrev pub hits : ℕ → List ℕ → List ℕ
+abbrev pub hits : (offset : ℕ) → (stored : List ℕ) → List ℕ
 hits offset stored = filter (λ i. get_or stored i 0 == offset) (range_with_len 0 (length stored))
 
--- a data record, with its module and the module's number
+-- a data record, with its module and the module's input
 pub record Entry : Type 0 where
-  pub number : ℕ
+  pub input : ℕ
   pub module' : Module
   pub data_record : DataRecord
 
-abbrev pub module_entries : ℕ → Module → List Entry
-module_entries number m = map (λ d. record { number = number; module' = m; data_record = d }) m.data_records
+-- the data records of a module
+abbrev pub module_entries : (input : ℕ) → Module → List Entry
+module_entries input module' =
+    map (λ d. record { input = input; module' = module'; data_record = d }) module'.data_records
 
-abbrev pub entries_from : ℕ → List Module → List Entry
-entries_from number [] = []
-entries_from number (m ∷ ms) = module_entries number m ++ entries_from (number + 1) ms
+-- those of modules whose inputs count up from a first one
+abbrev pub entries_from : (input : ℕ) → List Module → List Entry
+entries_from input [] = []
+entries_from input (module' ∷ modules) = module_entries input module' ++ entries_from (input + 1) modules
 
 -- all data records, in order of modules and records
 abbrev pub entries : List Module → List Entry
@@ -45,47 +50,71 @@ entries modules = entries_from 0 modules
 
 -- the address of its first byte
 abbrev pub entry_start : Layout → Entry → ℕ
-entry_start layout e = real_address 0 (segment_position layout e.number e.data_record.segment) + e.data_record.offset
+entry_start layout entry =
+    real_address 0 (segment_position layout entry.input entry.data_record.segment) + entry.data_record.offset
 
+-- what the frame and the target of a fix-up stand for
 abbrev pub meaning : Layout → Entry → ResolvedFixup → Found Resolved
-meaning layout e x = resolved layout e.number e.module' e.data_record.segment x.frame x.target x.displacement
+meaning layout entry fixup =
+    resolved layout entry.input entry.module' entry.data_record.segment fixup.frame fixup.target fixup.displacement
 
-abbrev pub patches_of : ℕ → Found Resolved → ResolvedFixup → (start : ℕ) → List ℕ → List Patch
-patches_of P Missing x start is = []
-patches_of P Empty x start is = []
-patches_of P (Is r) x start is = flat_map (λ i. patches_at P r x.self_relative x.location i (start + i)) is
+-- what a fix-up whose frame and target are known adds where its location stands at these positions of data that begins
+-- at the address start
+abbrev pub patches_on : (P : ℕ) → Resolved → (self_relative : Bool) → Location → (start : ℕ) → (positions : List ℕ)
+    → List Patch
+patches_on P reference self_relative location start positions =
+    flat_map (λ i. patches_at P reference self_relative location i (start + i)) positions
+
+-- what a fix-up adds for what was found
+abbrev pub patches_of : (P : ℕ) → Found Resolved → ResolvedFixup → (start : ℕ) → (positions : List ℕ) → List Patch
+patches_of P Missing fixup start positions = []
+patches_of P Empty fixup start positions = []
+patches_of P (Is reference) fixup start positions =
+    patches_on P reference fixup.self_relative fixup.location start positions
 
 -- what a fix-up adds, at each of its hits
-abbrev pub fixup_patches : ℕ → Layout → Entry → ResolvedFixup → List Patch
-fixup_patches P layout e x = patches_of P (meaning layout e x) x (entry_start layout e) (hits x.offset (stored_of e.data_record))
+abbrev pub fixup_patches : (P : ℕ) → Layout → Entry → ResolvedFixup → List Patch
+fixup_patches P layout entry fixup =
+    patches_of P (meaning layout entry fixup) fixup (entry_start layout entry)
+    (hits fixup.offset (stored_of entry.data_record))
 
-abbrev pub patches : ℕ → Layout → Entry → List Patch
-patches P layout e = flat_map (fixup_patches P layout e) e.data_record.fixups
+-- what all fix-ups of a data record add, in order
+abbrev pub patches : (P : ℕ) → Layout → Entry → List Patch
+patches P layout entry = flat_map (fixup_patches P layout entry) entry.data_record.fixups
 
 -- the data after each of its fix-ups in order
-abbrev pub datum : ℕ → Layout → Entry → Datum
-datum P layout e = record { start = entry_start layout e; bytes = patched_all (patches P layout e) (bytes_of e.data_record) }
+abbrev pub datum : (P : ℕ) → Layout → Entry → Datum
+datum P layout entry = record {
+  start = entry_start layout entry;
+  bytes = patched_all (patches P layout entry) (bytes_of entry.data_record);
+}
 
--- the byte of the program at address a, loaded at paragraph P. It stands at 16 P + a
-abbrev pub program_byte : ℕ → Layout → List Module → ℕ → ℕ
+-- the byte of the program at an address, loaded at paragraph P. It stands at 16 P + address
+abbrev pub program_byte : (P : ℕ) → Layout → List Module → (address : ℕ) → ℕ
 program_byte P layout modules = located (map (datum P layout) (entries modules))
 
--- the addresses of the relocated words of a data record, and of all
+-- the addresses of the relocated words of a data record
 abbrev pub record_relocations : Layout → Entry → List ℕ
-record_relocations layout e = map (λ i. entry_start layout e + i) (relocated_places (patches 0 layout e))
+record_relocations layout entry =
+    map (λ i. entry_start layout entry + i) (relocated_places (patches 0 layout entry))
 
+-- and of all
 abbrev pub relocated_words : Layout → List Module → List ℕ
 relocated_words layout modules = flat_map (record_relocations layout) (entries modules)
 
 -- the addresses at which a relocated word begins, rising
 abbrev pub relocations : Layout → List Module → List ℕ
-relocations layout modules = filter (λ a. list_any (λ w. a == w) (relocated_words layout modules)) (range_with_len 0 layout.size)
+relocations layout modules =
+    filter (λ a. list_any (λ w. a == w) (relocated_words layout modules)) (range_with_len 0 layout.size)
 
 -- one more than the greatest address that a data record covers, or 0 where it has no byte
 abbrev pub entry_end : Layout → Entry → ℕ
-entry_end layout e = if length (bytes_of e.data_record) == 0 then 0 else entry_start layout e + length (bytes_of e.data_record)
+entry_end layout entry =
+    if length (bytes_of entry.data_record) == 0 then 0
+    else entry_start layout entry + length (bytes_of entry.data_record)
 
--- The written part of the program: one more than the greatest address that a data record covers, or 0. Bytes 00 of data are data.
+-- The written part of the program: one more than the greatest address that a data record covers, or 0. Bytes 00 of data
+-- are data.
 abbrev pub written : Layout → List Module → ℕ
 written layout modules = fold max 0 (map (entry_end layout) (entries modules))
 
@@ -93,27 +122,8 @@ written layout modules = fold max 0 (map (entry_end layout) (entries modules))
 abbrev pub page_covered : Layout → List Module → (page : ℕ) → Bool
 page_covered layout modules page = list_any (in_page page) (map (datum 0 layout) (entries modules))
 
--- The location lies wholly in the data, or wholly in one content of repeated data: from each hit on, its bytes were stored one after the other.
-abbrev pub LiesInContent : DataRecord → ResolvedFixup → Type 0
-LiesInContent d x = StandTogether x.offset (location_width x.location) (stored_of d)
-
-abbrev pub WellPlaced : DataRecord → Type 0
-WellPlaced d = All (LiesInContent d) d.fixups
-
--- what modules promise of their fix-ups
-abbrev pub AllWellPlaced : List Module → Type 0
-AllWellPlaced modules = All (λ e. WellPlaced e.data_record) (entries modules)
-
--- what the layout promises of the data: each lies inside the program
-abbrev pub AllInside : Layout → List Module → Type 0
-AllInside layout modules = All (λ e. entry_start layout e + length (bytes_of e.data_record) ≤ layout.size) (entries modules)
-
 -- at each paragraph P the image with P added to the listed words is the program
 abbrev pub HoldsEverywhere : Layout → List Module → (image relocations : List ℕ) → Type 0
 HoldsEverywhere layout modules image relocations =
-    (P a : ℕ) → a < layout.size → get_or (add_words P relocations image) a 0 ≡ program_byte P layout modules a
-
--- an image of the program at paragraph 0
-pub record IsImage (layout : Layout) (modules : List Module) (image : List ℕ) : Type 0 where
-  pub sized : length image ≡ layout.size
-  pub bytes : (a : ℕ) → a < layout.size → get_or image a 0 ≡ program_byte 0 layout modules a
+    (P a : ℕ) → a < layout.size
+    → get_or (add_words P relocations image) a 0 ≡ program_byte P layout modules a

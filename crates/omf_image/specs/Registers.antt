@@ -1,5 +1,6 @@
 -- The registers at the start (TIS OMF 1.1, MODEND, and SEGDEF of a stack), and the faults of the start.
-use Rattle.std.specs.Prelude.{ℕ, ◌+◌, ◌-◌, ◌*◌, ◌/◌, ◌%◌, Bool, true, false, not, ◌&&◌, nat_lt, cond, List, [], ◌∷◌, ◌++◌, find, length, slice_get, Option, Some, None}
+use Rattle.std.specs.Prelude.{ℕ, ◌+◌, ◌-◌, ◌*◌, ◌/◌, ◌%◌, Bool, true, false, not, nat_lt, cond, List, [], ◌∷◌}
+use Rattle.std.specs.Prelude.{◌++◌, find, length, slice_get, Option, Some, None}
 use Rattle.std.specs.Option.{option_map_or, option_and_then}
 use Rattle.omf_module.specs.declared.Kind.TheVariants.{Stack}
 use Rattle.omf_module.specs.declared.Standing.{Standing}
@@ -9,48 +10,53 @@ use Rattle.omf_module.specs.Module.{Module}
 use Rattle.omf_place.specs.declared.layout.Combined.{Combined}
 use Rattle.omf_place.specs.Layout.{Layout}
 use Rattle.omf_image.specs.declared.faults.FixKind.{FixKind}
-use Rattle.omf_image.specs.declared.faults.FixKind.TheVariants.{Unresolved, EmptyGroup, Mixed, OutOfFrame, TwoStarts}
+use Rattle.omf_image.specs.declared.faults.FixKind.TheVariants.{Mixed, OutOfFrame, TwoStarts}
 use Rattle.omf_image.specs.declared.faults.FixFault.{FixFault}
 use Rattle.omf_image.specs.declared.faults.FixFault.TheVariants.{At, TooManyRelocations}
 use Rattle.omf_image.specs.declared.reference.Resolved.{Resolved}
+use Rattle.omf_image.specs.declared.start.Registers.{Registers}
 use Rattle.omf_image.specs.Reference.{Found, Missing, Empty, Is, frame', resolved}
-use Rattle.omf_image.specs.Value.{modulo, real_address, real_frame, from_frame}
+use Rattle.omf_image.specs.Value.{modulo, real_frame, from_frame}
 use Rattle.omf_image.specs.Records.{relocations}
-use Rattle.omf_image.specs.Faults.{target_moves, frame_moves, in_frame, or_else, first_of, data_fault}
+use Rattle.omf_image.specs.Faults.{both_move, target_in_frame, first_kind, resolved_fault, or_else, first_of}
+use Rattle.omf_image.specs.Faults.{data_fault}
 
--- a start with its module and the module's number
+-- a start with its module and the module's input
 pub record StartEntry : Type 0 where
-  pub number : ℕ
-  pub of_module : Module
+  pub input : ℕ
+  pub module' : Module
   pub start : Start
 
-abbrev pub module_start : Option Start → ℕ → Module → List StartEntry
-module_start None k m = []
-module_start (Some s) k m = record { number = k; of_module = m; start = s } ∷ []
+-- the start of a module, if it has one
+abbrev pub module_start : Option Start → (input : ℕ) → Module → List StartEntry
+module_start None input module' = []
+module_start (Some start) input module' = record { input = input; module' = module'; start = start } ∷ []
 
-abbrev pub starts_from : ℕ → List Module → List StartEntry
-starts_from k [] = []
-starts_from k (m ∷ ms) = module_start m.start k m ++ starts_from (k + 1) ms
+-- the starts of modules whose inputs count up from a first one
+abbrev pub starts_from : (input : ℕ) → List Module → List StartEntry
+starts_from input [] = []
+starts_from input (module' ∷ modules) = module_start module'.start input module' ++ starts_from (input + 1) modules
 
+-- all starts, in order of modules
 abbrev pub starts : List Module → List StartEntry
 starts modules = starts_from 0 modules
 
 -- a start's frame is never that of a location, so no segment is looked up for it
 abbrev pub start_meaning : Layout → StartEntry → Found Resolved
-start_meaning layout e = resolved layout e.number e.of_module 0 e.start.frame e.start.target e.start.displacement
+start_meaning layout entry =
+    resolved layout entry.input entry.module' 0 entry.start.frame entry.start.target entry.start.displacement
 
+-- the fault of a start: frame and target have to move with the program, and the target to lie in the frame
 abbrev pub start_kind : Found Resolved → Option FixKind
-start_kind Missing = Some Unresolved
-start_kind Empty = Some EmptyGroup
-start_kind (Is r) =
-    cond (not (target_moves r.target && frame_moves (frame' r))) (Some Mixed)
-    (cond (not (in_frame r (real_address 0 r.target))) (Some OutOfFrame) None)
+start_kind found = resolved_fault found (λ reference.
+    first_kind ((not (both_move reference), Mixed) ∷ (not (target_in_frame reference), OutOfFrame) ∷ []))
 
 -- a second start, else the fault of the only one
 abbrev pub starts_fault : Layout → List StartEntry → Option FixFault
 starts_fault layout [] = None
-starts_fault layout (e ∷ []) = or_else (start_kind (start_meaning layout e)) (e.number, e.start.place) None
-starts_fault layout (e ∷ (f ∷ es)) = Some (At TwoStarts f.number f.start.place)
+starts_fault layout (entry ∷ []) =
+    or_else (start_kind (start_meaning layout entry)) (entry.input, entry.start.place) None
+starts_fault layout (entry ∷ (second ∷ later)) = Some (At TwoStarts second.input second.start.place)
 
 -- more relocated words than the format holds
 abbrev pub count_fault : Layout → List Module → Option FixFault
@@ -61,21 +67,18 @@ unfoldable pub program_fault : Layout → List Module → Option FixFault
 program_fault layout modules =
     first_of (data_fault layout modules) (first_of (starts_fault layout (starts modules)) (count_fault layout modules))
 
-pub record Registers : Type 0 where
-  pub cs : ℕ
-  pub ip : ℕ
-  pub ss : ℕ
-  pub sp : ℕ
-
-abbrev pub entry_of : ℕ → Found Resolved → ℕ × ℕ
+-- CS and IP at a start
+abbrev pub entry_of : (P : ℕ) → Found Resolved → ℕ × ℕ
 entry_of P Missing = (P % 65536, 0)
 entry_of P Empty = (P % 65536, 0)
-entry_of P (Is r) = (real_frame P (frame' r) % 65536, modulo 65536 (from_frame P r))
+entry_of P (Is reference) = (real_frame P (frame' reference) % 65536, modulo 65536 (from_frame P reference))
 
-abbrev pub entry_at : ℕ → Layout → List StartEntry → ℕ × ℕ
+-- CS and IP at the first start, and without one the program's first byte
+abbrev pub entry_at : (P : ℕ) → Layout → List StartEntry → ℕ × ℕ
 entry_at P layout [] = (P % 65536, 0)
-entry_at P layout (e ∷ es) = entry_of P (start_meaning layout e)
+entry_at P layout (entry ∷ later) = entry_of P (start_meaning layout entry)
 
+-- a relocatable segment of the kind stack
 abbrev pub is_stack : Standing → Bool
 is_stack (standing.Absolute frame offset) = false
 is_stack (standing.Relocatable alignment Stack) = true
@@ -83,25 +86,32 @@ is_stack (standing.Relocatable alignment _) = false
 
 -- a combined segment has the kind of its first part
 abbrev pub is_stack_segment : List Module → Combined → Bool
-is_stack_segment modules c =
-    option_map_or (λ s. is_stack s.standing) (option_and_then (λ m. slice_get m.segments c.segment) (slice_get modules c.input)) false
+is_stack_segment modules combined =
+    option_map_or (λ s. is_stack s.standing)
+    (option_and_then (λ m. slice_get m.segments combined.segment) (slice_get modules combined.input)) false
 
 -- the first stack segment in the order of placement
 abbrev pub stack : Layout → List Module → Option Combined
 stack layout modules = find (is_stack_segment modules) layout.combined
 
--- its frame, and its end counted from there
-abbrev pub stack_of : ℕ → Option Combined → ℕ × ℕ
+-- SS and SP: its frame, and its end counted from there
+abbrev pub stack_of : (P : ℕ) → Option Combined → ℕ × ℕ
 stack_of P None = (P % 65536, 0)
-stack_of P (Some c) = ((c.start / 16 + P) % 65536, (c.end - 16 * (c.start / 16)) % 65536)
+stack_of P (Some combined) =
+    ((combined.start / 16 + P) % 65536, (combined.end - 16 * (combined.start / 16)) % 65536)
 
 -- the registers, loaded at paragraph P
-unfoldable pub registers : ℕ → Layout → List Module → Registers
+unfoldable pub registers : (P : ℕ) → Layout → List Module → Registers
 registers P layout modules =
-    let e = entry_at P layout (starts modules) in
-    let s = stack_of P (stack layout modules) in
-    record { cs = e.0; ip = e.1; ss = s.0; sp = s.1 }
+    let entry = entry_at P layout (starts modules) in
+    let stack' = stack_of P (stack layout modules) in
+    record { cs = entry.0; ip = entry.1; ss = stack'.0; sp = stack'.1 }
 
 -- with P added to the frames
-abbrev pub moved : ℕ → Registers → Registers
-moved P r = record { cs = (r.cs + P) % 65536; ip = r.ip; ss = (r.ss + P) % 65536; sp = r.sp }
+abbrev pub moved : (P : ℕ) → Registers → Registers
+moved P registers' = record {
+  cs = (registers'.cs + P) % 65536;
+  ip = registers'.ip;
+  ss = (registers'.ss + P) % 65536;
+  sp = registers'.sp;
+}

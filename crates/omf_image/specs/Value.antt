@@ -12,37 +12,44 @@ use Rattle.omf_place.specs.declared.layout.Base.TheVariants.{Relocatable as Movi
 use Rattle.omf_image.specs.declared.reference.Resolved.{Resolved}
 use Rattle.omf_image.specs.Reference.{frame'}
 
--- the number from 0 to n - 1 that agrees with z modulo n
-abbrev pub modulo : ℕ → ℤ → ℕ
-modulo n z = unsigned_abs (int_rem_euclid z (pos n))
+-- the number from 0 to n - 1 that agrees with an integer modulo n
+abbrev pub modulo : (n : ℕ) → ℤ → ℕ
+modulo n number = unsigned_abs (int_rem_euclid number (pos n))
 
-abbrev pub real_address : ℕ → Position → ℕ
-real_address P (Relocatable a f) = a + 16 * P
-real_address P (Absolute a f) = a
+-- the real address of something, loaded at paragraph P
+abbrev pub real_address : (P : ℕ) → Position → ℕ
+real_address P (Relocatable address frame) = address + 16 * P
+real_address P (Absolute address frame) = address
 
-abbrev pub real_frame : ℕ → Frame → ℕ
-real_frame P (Moving f) = f + P
-real_frame P (Fixed f) = f
+-- the number of a frame, loaded at paragraph P
+abbrev pub real_frame : (P : ℕ) → Frame → ℕ
+real_frame P (Moving number) = number + P
+real_frame P (Fixed number) = number
 
 -- the target's distance from the start of the frame
-abbrev pub from_frame : ℕ → Resolved → ℤ
-from_frame P r = pos (real_address P r.target + r.displacement) -ℤ pos (16 * real_frame P (frame' r))
+abbrev pub from_frame : (P : ℕ) → Resolved → ℤ
+from_frame P reference =
+    pos (real_address P reference.target + reference.displacement) -ℤ pos (16 * real_frame P (frame' reference))
 
--- the target's distance from an address
-abbrev pub from_address : ℕ → Resolved → ℕ → ℤ
-from_address P r a = pos (real_address P r.target + r.displacement) -ℤ pos (16 * P + a)
+-- the target's distance from an address of the program
+abbrev pub from_address : (P : ℕ) → Resolved → (address : ℕ) → ℤ
+from_address P reference address =
+    pos (real_address P reference.target + reference.displacement) -ℤ pos (16 * P + address)
 
--- the frame; a relocatable one is a relocated word
-abbrev pub base_patch : ℕ → ℕ → Frame → Patch
-base_patch P i (Moving f) = Relocated i (real_frame P (Moving f) % 65536)
-base_patch P i (Fixed f) = Word i (real_frame P (Fixed f) % 65536)
+-- the frame, put at a place; a relocatable one is a relocated word
+abbrev pub base_patch : (P place : ℕ) → Frame → Patch
+base_patch P place (Moving number) = Relocated place (real_frame P (Moving number) % 65536)
+base_patch P place (Fixed number) = Word place (real_frame P (Fixed number) % 65536)
 
--- what is added where the location begins at place i of the data, at address a of the program. A self-relative distance counts from the location's end
-abbrev pub patches_at : ℕ → Resolved → (self_relative : Bool) → Location → (i a : ℕ) → List Patch
-patches_at P r false LowByte i a = Byte i (modulo 256 (from_frame P r)) ∷ []
-patches_at P r false Offset i a = Word i (modulo 65536 (from_frame P r)) ∷ []
-patches_at P r false LoaderOffset i a = Word i (modulo 65536 (from_frame P r)) ∷ []
-patches_at P r false Base i a = base_patch P i (frame' r) ∷ []
-patches_at P r false Pointer i a = Word i (modulo 65536 (from_frame P r)) ∷ base_patch P (i + 2) (frame' r) ∷ []
-patches_at P r true LowByte i a = Byte i (modulo 256 (from_address P r (a + 1))) ∷ []
-patches_at P r true _ i a = Word i (modulo 65536 (from_address P r (a + 2))) ∷ []
+-- What is added where the location begins at a place of the data, at an address of the program. A self-relative
+-- distance counts from the location's end.
+abbrev pub patches_at : (P : ℕ) → Resolved → (self_relative : Bool) → Location → (place address : ℕ) → List Patch
+patches_at P reference false LowByte place address = Byte place (modulo 256 (from_frame P reference)) ∷ []
+patches_at P reference false Offset place address = Word place (modulo 65536 (from_frame P reference)) ∷ []
+patches_at P reference false LoaderOffset place address = Word place (modulo 65536 (from_frame P reference)) ∷ []
+patches_at P reference false Base place address = base_patch P place (frame' reference) ∷ []
+patches_at P reference false Pointer place address =
+    Word place (modulo 65536 (from_frame P reference)) ∷ base_patch P (place + 2) (frame' reference) ∷ []
+patches_at P reference true LowByte place address =
+    Byte place (modulo 256 (from_address P reference (address + 1))) ∷ []
+patches_at P reference true _ place address = Word place (modulo 65536 (from_address P reference (address + 2))) ∷ []

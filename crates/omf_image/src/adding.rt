@@ -1,28 +1,30 @@
 //! A data record laid over the image, and its fix-ups added.
 
-ghost use Rattle.std.specs.Prelude.{◌≡◌, ◌<◌, ◌≤◌, ◌+◌, ◌++◌, ◌∷◌, [], ℕ, List, All, None, false, flat_map, length, ◌^◌, IfOk, OnOk};
+ghost use Rattle.std.specs.Prelude.{◌≡◌, ◌<◌, ◌≤◌, ◌+◌, ◌++◌, ◌∷◌, ℕ, List, All, None, false, flat_map, length, ◌^◌};
+ghost use Rattle.std.specs.Prelude.{IfOk, OnOk};
 ghost use Rattle.omf_module.specs.Module.{Module as PlainModule};
 ghost use Rattle.omf_module.specs.Seen.{data_seen};
 ghost use Rattle.omf_place.specs.Layout.{places_of};
 ghost use Rattle.omf_image.specs.Position.{segment_position};
 ghost use Rattle.omf_image.specs.Value.{real_address};
 ghost use Rattle.omf_image.specs.declared.patch.Patch.{Patch};
-ghost use Rattle.omf_image.specs.Located.{Datum, covers_word};
-ghost use Rattle.omf_image.specs.Records.{Entry, entry_start, fixup_patches};
+ghost use Rattle.omf_image.specs.Located.{covers_word};
+ghost use Rattle.omf_image.specs.Records.{Entry, fixup_patches};
 ghost use Rattle.omf_image.specs.Faults.{fixups_fault, data_fault};
-ghost use Rattle.omf_image.specs.Ready.{IsEntryReady, IsFixupReady};
-ghost use Rattle.omf_image.specs.Working.{State, state, IsRoom, Holds};
-ghost use Rattle.omf_image.specs.Fixing.{IsSite, entry_seen};
-ghost use Rattle.omf_image.specs.Index.{IsIndex};
-ghost use Rattle.omf_image.specs.Leading.{IsListed, IsWhole, Leads, Answers};
+ghost use Rattle.omf_image.specs.inside.Ready.{IsEntryReady, IsFixupReady};
+ghost use Rattle.omf_image.specs.inside.States.{State, state, IsRoom, Holds};
+ghost use Rattle.omf_image.specs.inside.PlacedData.{IsPlacedData, entry_seen};
+ghost use Rattle.omf_image.specs.inside.Index.{IsIndex};
+ghost use Rattle.omf_image.specs.Building.{Answers};
+ghost use Rattle.omf_image.specs.inside.Leading.{IsListed, IsWhole, Leads};
 
 use crate::faults::{FixFault, FixKind};
 use crate::finding::is_plain;
 use crate::fixing::add_fixup;
 use crate::index::Index;
+use crate::placed_data::PlacedData;
 use crate::reference::{Position, segment_position};
 use crate::repeated::lay_data;
-use crate::site::Site;
 use crate::work::Work;
 use omf_module::{DataRecord, Module, ResolvedFixup};
 use omf_place::Layout;
@@ -49,17 +51,17 @@ fn covers_relocated(words: &[bool], start: u32, len: usize) -> bool
 /// The address of a data record's first byte.
 pub fn data_address<A: Allocator + Copy>(
     layout: &Layout<A>,
-    number: usize,
+    input: usize,
     segment: u16,
     offset: u16,
 ) -> u32
-    requires input { number < length layout.now.modules }
-    requires segment { segment < length (places_of layout.now number).segments }
+    requires input { input < length layout.now.modules }
+    requires segment { segment < length (places_of layout.now input).segments }
     requires small { layout.now.size ≤ 1048560 }
-    requires inside { real_address 0 (segment_position layout.now number segment) + offset ≤ layout.now.size }
-    ensures { result ≡ real_address 0 (segment_position layout.now number segment) + offset }
+    requires inside { real_address 0 (segment_position layout.now input segment) + offset ≤ layout.now.size }
+    ensures { result ≡ real_address 0 (segment_position layout.now input segment) + offset }
 {
-    let start = match segment_position(layout, number, segment) {
+    let start = match segment_position(layout, input, segment) {
         Position::Relocatable(address, _) => address,
         Position::Absolute(address, _) => address,
     };
@@ -86,24 +88,26 @@ fn record_index<A: Allocator + Copy>(
 fn add_fixups<A: Allocator + Copy>(
     work: &mut Work<A>,
     hits: &mut Vec<u32, A>,
-    site: &Site<'_, A>,
+    placed: &PlacedData<'_, A>,
     fixups: &[ResolvedFixup],
 ) -> Result<(), FixFault>
-    requires site { IsSite site.now }
-    requires fixups { All (IsFixupReady site.now.layout.now (entry_seen site.now)) fixups.now }
-    requires room { IsRoom site.now.start (state work.old) }
-    requires sized { length work.old.touched.items ≡ length site.now.data_record.bytes.now }
-    ensures room { IsRoom site.now.start (state work.new) }
-    ensures sized { length work.new.touched.items ≡ length site.now.data_record.bytes.now }
-    ensures gives { (bytes : List ℕ) → (base : State) → (earlier : List Patch) → Holds site.now.start bytes base (state work.old) earlier
-        → Answers result (fixups_fault site.now.layout.now (entry_seen site.now) earlier fixups.now)
-        (λ _. (fixups_fault site.now.layout.now (entry_seen site.now) earlier fixups.now ≡ None)
-        × Holds site.now.start bytes base (state work.new) (earlier ++ flat_map (fixup_patches 0 site.now.layout.now (entry_seen site.now)) fixups.now)) }
+    requires placed { IsPlacedData placed.now }
+    requires fixups { All (IsFixupReady placed.now.layout.now (entry_seen placed.now)) fixups.now }
+    requires room { IsRoom placed.now.start (state work.old) }
+    requires sized { length work.old.touched.items ≡ length placed.now.data_record.bytes.now }
+    ensures room { IsRoom placed.now.start (state work.new) }
+    ensures sized { length work.new.touched.items ≡ length placed.now.data_record.bytes.now }
+    ensures gives { (bytes : List ℕ) → (base : State) → (earlier : List Patch)
+        → Holds placed.now.start bytes base (state work.old) earlier
+        → Answers result (fixups_fault placed.now.layout.now (entry_seen placed.now) earlier fixups.now)
+        (λ _. (fixups_fault placed.now.layout.now (entry_seen placed.now) earlier fixups.now ≡ None)
+        × Holds placed.now.start bytes base (state work.new)
+        (earlier ++ flat_map (fixup_patches 0 placed.now.layout.now (entry_seen placed.now)) fixups.now)) }
 {
     for fixup in fixups {
-        match add_fixup(work, hits, site, fixup) {
+        match add_fixup(work, hits, placed, fixup) {
             Ok(()) => {}
-            Err(stop) => return Err(stop.at(site.number, fixup.place)),
+            Err(stop) => return Err(stop.at(placed.input, fixup.place)),
         }
     }
     Ok(())
@@ -114,23 +118,25 @@ pub fn add_record<'a, A: Allocator + Copy>(
     work: &mut Work<A>,
     hits: &mut Vec<u32, A>,
     layout: &'a Layout<A>,
-    number: usize,
-    in_module: &'a Module<A>,
+    input: usize,
+    module: &'a Module<A>,
     data_record: DataRecord<'a>,
 ) -> Result<(), FixFault>
-    requires ready { IsEntryReady layout.now (record { number = number; module' = in_module.now; data_record = data_seen data_record }) }
+    requires ready { IsEntryReady layout.now
+        (record { input = input; module' = «module».now; data_record = data_seen data_record }) }
     requires lengths { length data_record.bytes.now ≡ length data_record.places.now }
     requires whole { IsWhole layout.now (state work.old) }
     ensures whole { OnOk result (IsWhole layout.now (state work.new)) }
     ensures gives { (modules : List PlainModule) → (rest : List Entry)
-        → Leads layout.now modules (state work.old) (record { number = number; module' = in_module.now; data_record = data_seen data_record.entry } ∷ rest)
+        → Leads layout.now modules (state work.old)
+        (record { input = input; module' = «module».now; data_record = data_seen data_record.entry } ∷ rest)
         → Answers result (data_fault layout.now modules) (λ _. Leads layout.now modules (state work.new) rest) }
 {
-    let start = data_address(layout, number, data_record.segment, data_record.offset);
+    let start = data_address(layout, input, data_record.segment, data_record.offset);
     if covers_relocated(&work.words, start, data_record.bytes.len()) {
         return Err(FixFault::At {
             kind: FixKind::CoversRelocated,
-            input: number,
+            input,
             place: data_record.place,
         });
     }
@@ -140,18 +146,15 @@ pub fn add_record<'a, A: Allocator + Copy>(
     }
     let plain = is_plain(data_record.places);
     let index = record_index(*hits.allocator(), data_record.places, plain)?;
-    let site = Site {
+    let placed = PlacedData {
         layout,
-        number,
-        module_of: in_module,
+        input,
+        module,
         data_record,
         start,
         plain,
         index: &index,
     };
-    let laid = match lay_data(work, hits, &site) {
-        Ok(laid) => laid,
-        Err(fault) => return Err(fault),
-    };
-    add_fixups(work, hits, &site, &data_record.fixups[laid..])
+    let laid = lay_data(work, hits, &placed)?;
+    add_fixups(work, hits, &placed, &data_record.fixups[laid..])
 }

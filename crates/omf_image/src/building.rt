@@ -1,14 +1,16 @@
 //! All data records of a program.
 
-ghost use Rattle.std.specs.Prelude.{◌≡◌, ◌<◌, ◌≤◌, ◌^◌, ◌++◌, [], ℕ, List, All, false, filter, length, slice_index_or, replicate, OnOk, IfOk};
+ghost use Rattle.std.specs.Prelude.{◌≡◌, ◌<◌, ◌≤◌, ◌^◌, ◌++◌, [], List, All, false, filter, length, slice_index_or};
+ghost use Rattle.std.specs.Prelude.{replicate, OnOk, IfOk};
 ghost use Rattle.std.specs.List.{range_with_len};
 ghost use Rattle.omf_module.specs.Module.{Module as PlainModule};
 ghost use Rattle.omf_image.specs.Records.{Entry, entries, module_entries};
 ghost use Rattle.omf_image.specs.Faults.{data_fault};
-ghost use Rattle.omf_image.specs.Pages.{IsBlank};
-ghost use Rattle.omf_image.specs.Ready.{IsEntryReady};
-ghost use Rattle.omf_image.specs.Working.{State, state};
-ghost use Rattle.omf_image.specs.Leading.{IsWhole, Leads, Answers};
+ghost use Rattle.omf_image.specs.inside.Pages.{IsBlank};
+ghost use Rattle.omf_image.specs.inside.Ready.{IsEntryReady};
+ghost use Rattle.omf_image.specs.inside.States.{state};
+ghost use Rattle.omf_image.specs.Building.{Answers};
+ghost use Rattle.omf_image.specs.inside.Leading.{IsWhole, Leads};
 
 use crate::adding::add_record;
 use crate::faults::FixFault;
@@ -41,22 +43,19 @@ fn add_module<A: Allocator + Copy>(
     work: &mut Work<A>,
     hits: &mut Vec<u32, A>,
     layout: &Layout<A>,
-    number: usize,
-    in_module: &Module<A>,
+    input: usize,
+    module: &Module<A>,
 ) -> Result<(), FixFault>
-    requires ready { All (IsEntryReady layout.now) (module_entries number in_module.now) }
+    requires ready { All (IsEntryReady layout.now) (module_entries input «module».now) }
     requires whole { IsWhole layout.now (state work.old) }
     ensures whole { OnOk result (IsWhole layout.now (state work.new)) }
     ensures gives { (modules : List PlainModule) → (rest : List Entry)
-        → Leads layout.now modules (state work.old) (module_entries number in_module.now ++ rest)
+        → Leads layout.now modules (state work.old) (module_entries input «module».now ++ rest)
         → Answers result (data_fault layout.now modules) (λ _. Leads layout.now modules (state work.new) rest) }
 {
-    for index in 0..in_module.data_record_count() {
-        let data_record = in_module.data_record(index);
-        match add_record(work, hits, &*layout, number, &*in_module, data_record) {
-            Ok(()) => {}
-            Err(fault) => return Err(fault),
-        }
+    for index in 0..module.data_record_count() {
+        let data_record = module.data_record(index);
+        add_record(work, hits, &*layout, input, &*module, data_record)?;
     }
     Ok(())
 }
@@ -74,11 +73,8 @@ pub fn add_modules<A: Allocator + Copy>(
     ensures gives { Leads layout.now modules.now (state work.old) (entries modules.now)
         → Answers result (data_fault layout.now modules.now) (λ _. Leads layout.now modules.now (state work.new) []) }
 {
-    for (number, module) in modules.iter().enumerate() {
-        match add_module(work, hits, layout, number, module) {
-            Ok(()) => {}
-            Err(fault) => return Err(fault),
-        }
+    for (input, module) in modules.iter().enumerate() {
+        add_module(work, hits, layout, input, module)?;
     }
     Ok(())
 }
@@ -86,7 +82,8 @@ pub fn add_modules<A: Allocator + Copy>(
 /// The addresses at which a flag stands, rising.
 pub fn flagged<A: Allocator + Copy>(alloc: A, flags: &[bool]) -> Result<Vec<u32, A>, AllocError>
     requires { length flags.now < 2 ^ 32 }
-    ensures { IfOk result (λ v. v.items ≡ filter (λ a. slice_index_or flags.now a false) (range_with_len 0 (length flags.now))) }
+    ensures { IfOk result (λ v. v.items ≡ filter (λ a. slice_index_or flags.now a false)
+        (range_with_len 0 (length flags.now))) }
 {
     let mut addresses = Vec::new(alloc);
     for (address, flag) in flags.iter().enumerate() {

@@ -2,11 +2,12 @@
 
 ghost use Rattle.std.specs.Prelude.{◌≡◌, ◌+◌, ◌<◌, ◌≤◌, ◌^◌};
 ghost use Rattle.omf_image.specs.Reference.{frame'};
-ghost use Rattle.omf_image.specs.Value.{modulo, real_address, real_frame, from_frame, from_address, base_patch, patches_at};
-ghost use Rattle.omf_image.specs.Faults.{is_mixed, in_frame, fits_short, short_distance};
+ghost use Rattle.omf_image.specs.Value.{modulo, real_address, real_frame, from_frame, from_address, base_patch};
+ghost use Rattle.omf_image.specs.Value.{patches_at};
+ghost use Rattle.omf_image.specs.Faults.{is_mixed, in_frame, target_in_frame, fits_short, short_distance};
 ghost use Rattle.omf_record.specs.Numbers.{location_width};
 ghost use Rattle.omf_image.specs.Patch.{patch_end};
-ghost use Rattle.omf_image.specs.Looking.{listed, EndsBy};
+ghost use Rattle.omf_image.specs.inside.Lookups.{listed, EndsBy};
 
 use crate::patch::Patch;
 use crate::reference::{Position, Resolved};
@@ -85,7 +86,7 @@ impl Resolved {
 
     /// Whether the target lies in the frame.
     pub fn is_framed(&self) -> bool
-        ensures { result ≡ in_frame self.now (real_address 0 self.now.target) }
+        ensures { result ≡ target_in_frame self.now }
     {
         self.in_frame(u64::from(self.address()))
     }

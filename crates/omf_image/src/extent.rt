@@ -2,7 +2,7 @@
 
 ghost use Rattle.std.specs.Prelude.{◌≡◌, ◌≤◌, All, fold, map, max};
 ghost use Rattle.omf_image.specs.Records.{entries, module_entries, entry_end, written};
-ghost use Rattle.omf_image.specs.Ready.{IsEntryReady};
+ghost use Rattle.omf_image.specs.inside.Ready.{IsEntryReady};
 
 use crate::adding::data_address;
 use omf_module::Module;
@@ -13,18 +13,18 @@ use std::alloc::Allocator;
 fn end_with<A: Allocator + Copy>(
     end: u32,
     layout: &Layout<A>,
-    number: usize,
-    in_module: &Module<A>,
+    input: usize,
+    module: &Module<A>,
 ) -> u32
     requires small { layout.now.size ≤ 1048560 }
-    requires ready { All (IsEntryReady layout.now) (module_entries number in_module.now) }
-    ensures { result ≡ fold max end (map (entry_end layout.now) (module_entries number in_module.now)) }
+    requires ready { All (IsEntryReady layout.now) (module_entries input «module».now) }
+    ensures { result ≡ fold max end (map (entry_end layout.now) (module_entries input «module».now)) }
 {
     let mut end = end;
-    for index in 0..in_module.data_record_count() {
-        let data_record = in_module.data_record(index);
+    for index in 0..module.data_record_count() {
+        let data_record = module.data_record(index);
         if !data_record.bytes.is_empty() {
-            let start = data_address(layout, number, data_record.segment, data_record.offset);
+            let start = data_address(layout, input, data_record.segment, data_record.offset);
             end = end.max(start + data_record.bytes.len() as u32);
         }
     }
@@ -38,8 +38,8 @@ pub fn written<A: Allocator + Copy>(layout: &Layout<A>, modules: &[Module<A>]) -
     ensures { result ≡ written layout.now modules.now }
 {
     let mut end = 0;
-    for (number, module) in modules.iter().enumerate() {
-        end = end_with(end, layout, number, module);
+    for (input, module) in modules.iter().enumerate() {
+        end = end_with(end, layout, input, module);
     }
     end
 }

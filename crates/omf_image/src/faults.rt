@@ -3,8 +3,10 @@
 ghost use Rattle.std.specs.Prelude.{◌≡◌};
 ghost use Rattle.omf_image.specs.declared.faults.FixFault.TheVariants.{Memory};
 ghost use Rattle.omf_image.specs.declared.faults.Stop.TheVariants as stop;
-ghost use Rattle.omf_image.specs.Stopping.{stopped};
+ghost use Rattle.omf_image.specs.inside.Lacks.{missing_fault};
+ghost use Rattle.omf_image.specs.inside.Stops.{stopped};
 
+use crate::reference::Missing;
 use std::alloc::AllocError;
 use thiserror::Error;
 
@@ -19,20 +21,32 @@ pub enum FixKind {
     EmptyGroup,
     #[error("a distance between relocatable and absolute")]
     Mixed,
-    #[error("outside of the frame")]
+    #[error("a distance leaves its frame")]
     OutOfFrame,
-    #[error("too far for a byte")]
+    #[error("a distance doesn't fit a byte")]
     ShortTooFar,
-    #[error("a fix-up overlaps a relocated word")]
+    #[error("fix-ups share a relocated word")]
     OverlapRelocated,
     #[error("a second start")]
     TwoStarts,
 }
 
+impl From<Missing> for FixKind {
+    ghost from_gives = { λ lacks kind. kind ≡ missing_fault lacks };
+
+    // What the look-up of a reference lacks is the fault of its fix-up or start.
+    fn from(lacks: Missing) -> FixKind {
+        match lacks {
+            Missing::Public => FixKind::Unresolved,
+            Missing::Members => FixKind::EmptyGroup,
+        }
+    }
+}
+
 /// Why no program was made.
 #[derive(Clone, Copy, Debug, PartialEq, Eq, Error)]
 pub enum FixFault {
-    /// A fault, with the number of its input, counted from 0, and the place of its record there.
+    /// A fault, with its input, counted from 0, and the place of its record there.
     #[error("{kind} at record {place} of input {input}")]
     At {
         kind: FixKind,
@@ -49,6 +63,7 @@ pub enum FixFault {
 impl From<AllocError> for FixFault {
     ghost from_gives = { λ _ e. e ≡ Memory };
 
+    // Only memory runs out so.
     fn from(_error: AllocError) -> FixFault {
         FixFault::Memory
     }
@@ -64,8 +79,18 @@ pub enum Stop {
 impl From<AllocError> for Stop {
     ghost from_gives = { λ _ e. e ≡ stop.Memory };
 
+    // Only memory runs out so.
     fn from(_error: AllocError) -> Stop {
         Stop::Memory
+    }
+}
+
+impl From<FixKind> for Stop {
+    ghost from_gives = { λ kind e. e ≡ stop.Kind kind };
+
+    // A fault stops the fix-up that has it.
+    fn from(kind: FixKind) -> Stop {
+        Stop::Kind(kind)
     }
 }
 

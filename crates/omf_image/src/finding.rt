@@ -2,9 +2,9 @@
 
 ghost use Rattle.std.specs.Prelude.{◌≡◌, ℕ, List, true, false, length, OnOk};
 ghost use Rattle.omf_image.specs.Records.{hits};
-ghost use Rattle.omf_image.specs.Marks.{IsPlain};
-ghost use Rattle.omf_image.specs.Index.{IsIndex};
-ghost use Rattle.omf_image.specs.Stored.{once_at};
+ghost use Rattle.omf_image.specs.inside.Marks.{IsPlain};
+ghost use Rattle.omf_image.specs.inside.Index.{IsIndex};
+ghost use Rattle.omf_image.specs.inside.Stored.{once_at};
 
 use crate::index::Index;
 use std::alloc::{AllocError, Allocator};
@@ -28,7 +28,8 @@ fn find_one<A: Allocator + Copy>(
     offset: u16,
     found: &mut Vec<u32, A>,
 ) -> Result<(), AllocError>
-    ensures { (stored : List ℕ) → length stored ≡ len → IsPlain stored → OnOk result (found.new.items ≡ hits offset stored) }
+    ensures { (stored : List ℕ) → length stored ≡ len → IsPlain stored
+        → OnOk result (found.new.items ≡ hits offset stored) }
 {
     found.clear();
     if usize::from(offset) < len {
@@ -77,7 +78,8 @@ pub fn find_once<A: Allocator + Copy>(
     offset: u16,
     found: &mut Vec<u32, A>,
 ) -> Result<(), AllocError>
-    ensures { (places : List ℕ) → IsIndex places index.now → OnOk result (found.new.items ≡ once_at offset (hits offset places)) }
+    ensures { (places : List ℕ) → IsIndex places index.now
+        → OnOk result (found.new.items ≡ once_at offset (hits offset places)) }
 {
     found.clear();
     if !index.hits(offset).is_empty() {

@@ -1,8 +1,8 @@
 //! The positions of repeated data, by the place at which each was stored.
 
-ghost use Rattle.std.specs.Prelude.{◌≡◌, ◌<◌, ◌≤◌, ◌+◌, ◌++◌, ◌^◌, All, ℕ, List, length, slice_index, IfOk, OnOk};
+ghost use Rattle.std.specs.Prelude.{◌≡◌, ◌<◌, ◌≤◌, ◌+◌, ◌++◌, ◌^◌, All, ℕ, List, length, IfOk, OnOk};
 ghost use Rattle.omf_image.specs.Records.{hits};
-ghost use Rattle.omf_image.specs.Index.{Chain, Rises, IsLinked, IsIndex};
+ghost use Rattle.omf_image.specs.inside.Index.{Chain, Rises, IsLinked, IsIndex};
 
 use std::alloc::{AllocError, Allocator};
 

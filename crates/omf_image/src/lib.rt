@@ -12,16 +12,16 @@ mod index;
 mod marks;
 mod pages;
 mod patch;
+mod placed_data;
 mod program;
+mod range;
 mod reference;
 mod repeated;
-mod site;
 mod start;
-mod testing;
 mod work;
 
 ghost use Rattle.omf_place.specs.Bounded.{IsBounded};
-ghost use Rattle.omf_image.specs.Ready.{IsReady};
+ghost use Rattle.omf_image.specs.inside.Ready.{IsReady};
 ghost use Rattle.omf_image.specs.Building.{Builds};
 
 use building::{add_modules, flagged};
@@ -30,7 +30,8 @@ pub use faults::{FixFault, FixKind};
 use omf_module::{Module, all_promise};
 use omf_place::Layout;
 pub use program::Program;
-use start::{entry, stack};
+pub use start::Registers;
+use start::start_registers;
 use std::alloc::Allocator;
 use work::Work;
 
@@ -48,15 +49,8 @@ fn build_program<A: Allocator + Copy>(
 {
     let mut work = Work::new(alloc, layout.size())?;
     let mut hits = Vec::new(alloc);
-    match add_modules(&mut work, &mut hits, layout, modules) {
-        Ok(()) => {}
-        Err(fault) => return Err(fault),
-    }
-    let entry = match entry(layout, modules) {
-        Ok(entry) => entry,
-        Err(fault) => return Err(fault),
-    };
-    let stack = stack(layout, modules);
+    add_modules(&mut work, &mut hits, layout, modules)?;
+    let registers = start_registers(layout, modules)?;
     let written = written(layout, modules);
     let relocations = flagged(alloc, &work.words)?;
     if relocations.len() > MOST_RELOCATIONS {
@@ -68,7 +62,7 @@ fn build_program<A: Allocator + Copy>(
         touched: _,
         relocated: _,
     } = work;
-    Ok(Program::new(pages, written, relocations, entry, stack))
+    Ok(Program::new(pages, written, relocations, registers))
 }
 
 /// Links modules by their layout. The faults are 26 to 34, in order of data records and fix-ups, then that of the

@@ -1,9 +1,10 @@
 //! Marks on the bytes of a data record that fix-ups touch.
 
-ghost use Rattle.std.specs.Prelude.{◌≡◌, ◌<◌, ◌≤◌, ◌+◌, ◌++◌, ◌∷◌, [], ◌&&◌, ◌||◌, ℕ, List, nat_le, nat_lt, false, length, slice_index_or};
+ghost use Rattle.std.specs.Prelude.{◌≡◌, ◌<◌, ◌≤◌, ◌+◌, ◌++◌, ◌∷◌, [], ◌&&◌, ◌||◌, ℕ, List, nat_le, nat_lt, false};
+ghost use Rattle.std.specs.Prelude.{length, slice_index_or};
 ghost use Rattle.omf_image.specs.declared.patch.Patch.{Patch as PlainPatch};
 ghost use Rattle.omf_image.specs.Patch.{all_clear, patch_start, patch_end, is_relocated};
-ghost use Rattle.omf_image.specs.Marks.{IsMarked};
+ghost use Rattle.omf_image.specs.inside.Marks.{IsMarked};
 
 use crate::patch::Patch;
 
@@ -32,6 +33,7 @@ impl Patch {
         }
     }
 
+    /// Whether it is a relocated word.
     pub fn is_relocated(&self) -> bool
         ensures { result ≡ is_relocated self.now }
     {
@@ -43,7 +45,8 @@ impl Patch {
 fn mark(marks: &mut [bool], start: usize, end: usize)
     requires order { start ≤ end }
     requires room { end ≤ length marks.old }
-    ensures { (k : ℕ) → slice_index_or marks.new k false ≡ (slice_index_or marks.old k false || (nat_le start k && nat_lt k end)) }
+    ensures { (k : ℕ) → slice_index_or marks.new k false
+        ≡ (slice_index_or marks.old k false || (nat_le start k && nat_lt k end)) }
 {
     for k in start..end {
         marks[k] = true;
@@ -54,7 +57,8 @@ fn mark(marks: &mut [bool], start: usize, end: usize)
 pub fn is_clear(touched: &[bool], relocated: &[bool], patch: Patch) -> bool
     requires touched { patch_end patch ≤ length touched.now }
     requires relocated { patch_end patch ≤ length relocated.now }
-    ensures { (earlier : List PlainPatch) → IsMarked touched.now relocated.now earlier → result ≡ all_clear earlier (patch ∷ []) }
+    ensures { (earlier : List PlainPatch) → IsMarked touched.now relocated.now earlier
+        → result ≡ all_clear earlier (patch ∷ []) }
 {
     let start = patch.start();
     let last = start + patch.width() - 1;
@@ -69,7 +73,8 @@ pub fn is_clear(touched: &[bool], relocated: &[bool], patch: Patch) -> bool
 pub fn mark_patch(touched: &mut [bool], relocated: &mut [bool], patch: Patch)
     requires touched { patch_end patch ≤ length touched.old }
     requires relocated { patch_end patch ≤ length relocated.old }
-    ensures { (earlier : List PlainPatch) → IsMarked touched.old relocated.old earlier → IsMarked touched.new relocated.new (earlier ++ patch ∷ []) }
+    ensures { (earlier : List PlainPatch) → IsMarked touched.old relocated.old earlier
+        → IsMarked touched.new relocated.new (earlier ++ patch ∷ []) }
 {
     let start = patch.start();
     let end = start + patch.width();

@@ -1,7 +1,8 @@
 //! An image in pages, each made when the first data byte falls into it.
 
-ghost use Rattle.std.specs.Prelude.{◌≡◌, All, ℕ, ◌+◌, ◌*◌, ◌/◌, ◌%◌, ◌<◌, ◌≤◌, ◌==◌, true, false, cond, List, length, take, drop, replicate, count_by, slice_index, slice_index_or, slice_set, OnOk, OnErr, IfOk};
-ghost use Rattle.omf_image.specs.Pages.{Paged, page_bytes, IsLaid, MakesPages, IsBlank};
+ghost use Rattle.std.specs.Prelude.{◌≡◌, All, ℕ, ◌+◌, ◌*◌, ◌/◌, ◌%◌, ◌<◌, ◌≤◌, true, false, length, take, drop};
+ghost use Rattle.std.specs.Prelude.{replicate, count_by, slice_index, slice_index_or, slice_set, OnOk, OnErr, IfOk};
+ghost use Rattle.omf_image.specs.inside.Pages.{Paged, page_bytes, IsLaid, MakesPages, IsBlank};
 ghost use Rattle.omf_image.specs.Words.{add_byte, add_word};
 
 use std::alloc::{AllocError, Allocator};
@@ -22,7 +23,7 @@ pub struct Pages<A: Allocator + Copy> {
 
 impl<A: Allocator + Copy> Model for Pages<A> {
     ghost use Rattle.std.specs.Prelude.{◌≡◌, ◌<◌, All, map, replicate};
-    ghost use Rattle.omf_image.specs.Pages.{Paged, joined, made_pages, IsPaged};
+    ghost use Rattle.omf_image.specs.inside.Pages.{Paged, joined, made_pages, IsPaged};
 
     ghost Value = { Paged };
 
@@ -31,7 +32,8 @@ impl<A: Allocator + Copy> Model for Pages<A> {
       made = made_pages (map (λ p. p.items) i.pages.items);
     } };
 
-    ghost invariant = { λ i. IsPaged i.size (map (λ p. p.items) i.pages.items) × (i.zeros.items ≡ replicate 4096 0) × All (λ p. All (λ b. b < 256) p.items) i.pages.items };
+    ghost invariant = { λ i. IsPaged i.size (map (λ p. p.items) i.pages.items) × (i.zeros.items ≡ replicate 4096 0)
+        × All (λ p. All (λ b. b < 256) p.items) i.pages.items };
 }
 
 /// Makes a page where it isn't made.
@@ -94,8 +96,10 @@ impl<A: Allocator + Copy> Pages<A> {
         requires inside { address + length bytes.now ≤ length self.old.bytes }
         requires one_page { address % 4096 + length bytes.now ≤ 4096 }
         requires some { 0 < length bytes.now }
-        ensures bytes { OnOk result (IsLaid (record { start = address; bytes = bytes.now }) self.old.bytes self.new.bytes) }
-        ensures made { OnOk result (MakesPages (record { start = address; bytes = bytes.now }) self.old.made self.new.made) }
+        ensures bytes { OnOk result
+            (IsLaid (record { start = address; bytes = bytes.now }) self.old.bytes self.new.bytes) }
+        ensures made { OnOk result
+            (MakesPages (record { start = address; bytes = bytes.now }) self.old.made self.new.made) }
     {
         let alloc = self.alloc;
         let page = &mut self.pages[address / PAGE];
@@ -107,9 +111,12 @@ impl<A: Allocator + Copy> Pages<A> {
     /// Lays data over it, page by page.
     pub fn lay(&mut self, start: usize, bytes: &[u8]) -> Result<(), AllocError>
         requires { start + length bytes.now ≤ length self.old.bytes }
-        ensures bytes { OnOk result (IsLaid (record { start = start; bytes = bytes.now }) self.old.bytes self.new.bytes) }
-        ensures made { OnOk result (MakesPages (record { start = start; bytes = bytes.now }) self.old.made self.new.made) }
+        ensures bytes { OnOk result
+            (IsLaid (record { start = start; bytes = bytes.now }) self.old.bytes self.new.bytes) }
+        ensures made { OnOk result
+            (MakesPages (record { start = start; bytes = bytes.now }) self.old.made self.new.made) }
     {
+        // its contract says that an image has at most 1,048,560 bytes
         let _size = self.size();
         let mut laid = 0;
         while laid < bytes.len() {
@@ -142,6 +149,7 @@ impl<A: Allocator + Copy> Pages<A> {
         ensures bytes { self.new.bytes ≡ add_word value address self.old.bytes }
         ensures made { (k : ℕ) → slice_index_or self.new.made k false ≡ slice_index_or self.old.made k false }
     {
+        // its contract says that an image has at most 1,048,560 bytes
         let _size = self.size();
         let word = u16::from(self.byte(address)) + 256 * u16::from(self.byte(address + 1));
         let sum = word.wrapping_add(value);

@@ -1,25 +1,22 @@
 //! A linked program.
 
 ghost use Rattle.std.specs.Prelude.{All, AllPairs, ◌≡◌, ◌+◌, ◌<◌, ◌≤◌, length, take, drop, count_by, slice_index};
-ghost use Rattle.omf_image.specs.Pages.{Paged};
-ghost use Rattle.omf_image.specs.Program.{Program as PlainProgram, IsProgram};
+ghost use Rattle.omf_image.specs.Program.{IsProgram};
 
 use crate::pages::Pages;
+use crate::start::Registers;
 use std::alloc::{Allocator, Global};
 use std::marker::Model;
 
 /// A linked program: its image, the rising addresses of its relocated words, and its registers at the start. The image
-/// stands in pages of 4,096 bytes, each made when the first data byte fell into it. Its written part ends behind the last
-/// byte that data covers; the bytes behind that are 00, and no file holds them.
+/// stands in pages of 4,096 bytes, each made when the first data byte fell into it. Its written part ends behind the
+/// last byte that data covers; the bytes behind that are 00, and no file holds them.
 #[derive(Drop)]
 pub struct Program<A: Allocator + Copy = Global> {
     pages: Pages<A>,
     written: u32,
     relocations: Vec<u32, A>,
-    cs: u16,
-    ip: u16,
-    ss: u16,
-    sp: u16,
+    registers: Registers,
 }
 
 impl<A: Allocator + Copy> Model for Program<A> {
@@ -27,9 +24,21 @@ impl<A: Allocator + Copy> Model for Program<A> {
 
     ghost Value = { Program };
 
-    ghost view = { λ p. record { image = p.pages.bytes; written = p.written; relocations = p.relocations.items; cs = p.cs; ip = p.ip; ss = p.ss; sp = p.sp; made = p.pages.made } };
+    ghost view = { λ p. record {
+      image = p.pages.bytes;
+      written = p.written;
+      relocations = p.relocations.items;
+      registers = p.registers;
+      made = p.pages.made;
+    } };
 
-    ghost invariant = { λ p. IsProgram (record { image = p.pages.bytes; written = p.written; relocations = p.relocations.items; cs = p.cs; ip = p.ip; ss = p.ss; sp = p.sp; made = p.pages.made }) };
+    ghost invariant = { λ p. IsProgram (record {
+      image = p.pages.bytes;
+      written = p.written;
+      relocations = p.relocations.items;
+      registers = p.registers;
+      made = p.pages.made;
+    }) };
 }
 
 impl<A: Allocator + Copy> Program<A> {
@@ -38,24 +47,27 @@ impl<A: Allocator + Copy> Program<A> {
         pages: Pages<A>,
         written: u32,
         relocations: Vec<u32, A>,
-        entry: (u16, u16),
-        stack: (u16, u16),
+        registers: Registers,
     ) -> Program<A>
         requires apart { AllPairs (λ r s. r + 2 ≤ s) relocations.items }
         requires inside { All (λ r. r + 2 ≤ written) relocations.items }
         requires written { written ≤ length pages.bytes }
         requires few { length relocations.items ≤ 65535 }
-        ensures { result ≡ record { image = pages.bytes; written = written; relocations = relocations.items; cs = entry.0; ip = entry.1; ss = stack.0; sp = stack.1; made = pages.made } }
+        ensures { result ≡ record {
+          image = pages.bytes;
+          written = written;
+          relocations = relocations.items;
+          registers = registers;
+          made = pages.made;
+        } }
     {
+        // its contract says that an image has at most 1,048,560 bytes, each below 256
         let _size = pages.size();
         Program {
             pages,
             written,
             relocations,
-            cs: entry.0,
-            ip: entry.1,
-            ss: stack.0,
-            sp: stack.1,
+            registers,
         }
     }
 
@@ -106,31 +118,10 @@ impl<A: Allocator + Copy> Program<A> {
         &self.relocations
     }
 
-    /// The code segment's frame at the start.
-    pub fn cs(&self) -> u16
-        ensures { result ≡ self.now.cs }
+    /// The registers at the start, at load paragraph 0.
+    pub fn registers(&self) -> Registers
+        ensures { result ≡ self.now.registers }
     {
-        self.cs
-    }
-
-    /// The offset of the start in the code segment.
-    pub fn ip(&self) -> u16
-        ensures { result ≡ self.now.ip }
-    {
-        self.ip
-    }
-
-    /// The stack segment's frame at the start.
-    pub fn ss(&self) -> u16
-        ensures { result ≡ self.now.ss }
-    {
-        self.ss
-    }
-
-    /// The stack's end in the stack segment.
-    pub fn sp(&self) -> u16
-        ensures { result ≡ self.now.sp }
-    {
-        self.sp
+        self.registers
     }
 }

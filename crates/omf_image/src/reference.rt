@@ -5,10 +5,10 @@ ghost use Rattle.omf_place.specs.Layout.{places_of};
 ghost use Rattle.omf_module.specs.Seen.{external_seen};
 ghost use Rattle.omf_image.specs.Position.{position, segment_position, external_position};
 ghost use Rattle.omf_image.specs.Reference.{resolved, target_of, frame_of, own_frame, found_public};
-ghost use Rattle.omf_image.specs.Looking.{found};
-ghost use Rattle.omf_image.specs.Ready.{IsTargetThere, IsFrameThere};
+ghost use Rattle.omf_image.specs.inside.Lookups.{found};
+ghost use Rattle.omf_image.specs.inside.Ready.{IsTargetThere, IsFrameThere};
 
-use omf_module::{External, FixupFrame, FixupTarget, Module};
+use omf_module::{ExternalSymbol, FixupFrame, FixupTarget, Module};
 use omf_place::{Address, Base, Layout};
 use std::alloc::Allocator;
 
@@ -51,28 +51,28 @@ fn positioned(address: Address, frame: Option<Base>) -> Position
 /// Where a segment of a module stands.
 pub fn segment_position<A: Allocator + Copy>(
     layout: &Layout<A>,
-    number: usize,
+    input: usize,
     segment: u16,
 ) -> Position
-    requires number { number < length layout.now.modules }
-    requires segment { segment < length (places_of layout.now number).segments }
-    ensures { result ≡ segment_position layout.now number segment }
+    requires input { input < length layout.now.modules }
+    requires segment { segment < length (places_of layout.now input).segments }
+    ensures { result ≡ segment_position layout.now input segment }
 {
-    let start = layout.part_start(number, usize::from(segment));
-    let frame = layout.segment_frame(number, usize::from(segment));
+    let start = layout.part_start(input, usize::from(segment));
+    let frame = layout.segment_frame(input, usize::from(segment));
     positioned(start, Some(frame))
 }
 
-/// Where the public stands that an external of the module with a number means: a local one is found in that module alone.
+/// Where the public stands that an external of an input's module means: a local one is found in that module alone.
 fn external_position<A: Allocator + Copy>(
     layout: &Layout<A>,
-    number: usize,
-    external: External<'_>,
+    input: usize,
+    external: ExternalSymbol<'_>,
 ) -> Result<Position, Missing>
-    ensures { found result ≡ found_public (external_position layout.now number (external_seen external.entry)) }
+    ensures { found result ≡ found_public (external_position layout.now input (external_seen external.entry)) }
 {
     let meant = if external.local {
-        layout.local_public(number, external.name)
+        layout.local_public(input, external.name)
     } else {
         layout.public(external.name)
     };
@@ -93,27 +93,27 @@ fn own_frame(position: Position) -> Result<Base, Missing>
     }
 }
 
-/// Where a target stands, in the module with a number.
+/// Where a target stands, in the module of an input.
 fn target<A: Allocator + Copy>(
     layout: &Layout<A>,
-    number: usize,
-    in_module: &Module<A>,
+    input: usize,
+    module: &Module<A>,
     target: FixupTarget,
 ) -> Result<Position, Missing>
-    requires number { number < length layout.now.modules }
-    requires there { IsTargetThere layout.now number in_module.now target }
-    ensures { found result ≡ target_of layout.now number in_module.now target }
+    requires input { input < length layout.now.modules }
+    requires there { IsTargetThere layout.now input «module».now target }
+    ensures { found result ≡ target_of layout.now input «module».now target }
 {
     match target {
-        FixupTarget::Segment(segment) => Ok(segment_position(layout, number, segment)),
-        FixupTarget::Group(group) => match layout.group_frame(number, usize::from(group)) {
+        FixupTarget::Segment(segment) => Ok(segment_position(layout, input, segment)),
+        FixupTarget::Group(group) => match layout.group_frame(input, usize::from(group)) {
             Some(frame) => Ok(Position::Relocatable(16 * u32::from(frame), Some(frame))),
             None => Err(Missing::Members),
         },
         FixupTarget::External(external) => external_position(
             layout,
-            number,
-            in_module.external(usize::from(external)),
+            input,
+            module.external(usize::from(external)),
         ),
     }
 }
@@ -121,53 +121,53 @@ fn target<A: Allocator + Copy>(
 /// The frame that a method names; `here` is the segment of the data record.
 fn frame<A: Allocator + Copy>(
     layout: &Layout<A>,
-    number: usize,
-    in_module: &Module<A>,
+    input: usize,
+    module: &Module<A>,
     here: u16,
     of: FixupTarget,
     method: FixupFrame,
 ) -> Result<Base, Missing>
-    requires number { number < length layout.now.modules }
-    requires target { IsTargetThere layout.now number in_module.now of }
-    requires frame { IsFrameThere layout.now number in_module.now here method }
-    ensures { found result ≡ frame_of layout.now number in_module.now here of method }
+    requires input { input < length layout.now.modules }
+    requires target { IsTargetThere layout.now input «module».now of }
+    requires frame { IsFrameThere layout.now input «module».now here method }
+    ensures { found result ≡ frame_of layout.now input «module».now here of method }
 {
     match method {
-        FixupFrame::OfSegment(segment) => own_frame(segment_position(layout, number, segment)),
+        FixupFrame::OfSegment(segment) => own_frame(segment_position(layout, input, segment)),
         FixupFrame::OfGroup(group) => own_frame(target(
             layout,
-            number,
-            in_module,
+            input,
+            module,
             FixupTarget::Group(group),
         )?),
         FixupFrame::OfExternal(external) => own_frame(target(
             layout,
-            number,
-            in_module,
+            input,
+            module,
             FixupTarget::External(external),
         )?),
-        FixupFrame::OfLocation => own_frame(segment_position(layout, number, here)),
-        FixupFrame::OfTarget => own_frame(target(layout, number, in_module, of)?),
+        FixupFrame::OfLocation => own_frame(segment_position(layout, input, here)),
+        FixupFrame::OfTarget => own_frame(target(layout, input, module, of)?),
     }
 }
 
 /// What a reference stands for. An external that means no public is named before a group without members.
 pub fn resolve<A: Allocator + Copy>(
     layout: &Layout<A>,
-    number: usize,
-    in_module: &Module<A>,
+    input: usize,
+    module: &Module<A>,
     here: u16,
     method: FixupFrame,
     of: FixupTarget,
     displacement: u16,
 ) -> Result<Resolved, Missing>
-    requires number { number < length layout.now.modules }
-    requires target { IsTargetThere layout.now number in_module.now of }
-    requires frame { IsFrameThere layout.now number in_module.now here method }
-    ensures { found result ≡ resolved layout.now number in_module.now here method of displacement }
+    requires input { input < length layout.now.modules }
+    requires target { IsTargetThere layout.now input «module».now of }
+    requires frame { IsFrameThere layout.now input «module».now here method }
+    ensures { found result ≡ resolved layout.now input «module».now here method of displacement }
 {
-    let target = target(layout, number, in_module, of);
-    let frame = frame(layout, number, in_module, here, of, method);
+    let target = target(layout, input, module, of);
+    let frame = frame(layout, input, module, here, of, method);
     match (target, frame) {
         (Ok(target), Ok(named_frame)) => Ok(Resolved {
             target,

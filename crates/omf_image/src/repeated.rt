@@ -1,23 +1,24 @@
 //! Repeated data whose leading fix-ups are added once, to its bytes as they were stored.
 
-ghost use Rattle.std.specs.Prelude.{◌≡◌, ◌<◌, ◌≤◌, ◌+◌, ◌++◌, ◌||◌, ◌⊎◌, [], All, ℕ, List, None, false, length, take, drop, map, flat_map, slice_index, slice_index_or, IfOk, OnOk};
+ghost use Rattle.std.specs.Prelude.{◌≡◌, ◌<◌, ◌≤◌, ◌+◌, ◌++◌, ◌||◌, ◌⊎◌, [], All, ℕ, List, None, false, length, take};
+ghost use Rattle.std.specs.Prelude.{drop, map, flat_map, slice_index, slice_index_or, IfOk, OnOk};
 ghost use Rattle.std.specs.List.{zip};
 ghost use Rattle.omf_image.specs.declared.patch.Patch.{Patch as PlainPatch};
 ghost use Rattle.omf_image.specs.Records.{fixup_patches};
 ghost use Rattle.omf_image.specs.Faults.{fixups_fault};
 ghost use Rattle.omf_record.specs.Expansion.{AreCopies};
-ghost use Rattle.omf_image.specs.Ready.{IsFixupReady};
-ghost use Rattle.omf_image.specs.Working.{State, state, IsRoom, Holds};
-ghost use Rattle.omf_image.specs.Fixing.{IsSite, entry_seen, FixupGives};
-ghost use Rattle.omf_image.specs.Stored.{Copied, IsStored};
-ghost use Rattle.omf_image.specs.Leading.{Answers};
+ghost use Rattle.omf_image.specs.inside.Ready.{IsFixupReady};
+ghost use Rattle.omf_image.specs.inside.States.{state, IsRoom, Holds};
+ghost use Rattle.omf_image.specs.inside.PlacedData.{IsPlacedData, entry_seen, FixupGives};
+ghost use Rattle.omf_image.specs.inside.Stored.{Copied, IsStored};
+ghost use Rattle.omf_image.specs.Building.{Answers};
 
 use crate::faults::{FixFault, Stop};
 use crate::finding::find_once;
 use crate::fixing::{fix, resolve_fixup};
 use crate::index::end_of;
 use crate::pages::Pages;
-use crate::site::Site;
+use crate::placed_data::PlacedData;
 use crate::work::Work;
 use omf_module::ResolvedFixup;
 use std::alloc::{AllocError, Allocator};
@@ -77,58 +78,55 @@ fn stored_work<A: Allocator + Copy>(
 fn add_once<A: Allocator + Copy>(
     stored: &mut Work<A>,
     hits: &mut Vec<u32, A>,
-    site: &Site<'_, A>,
+    placed: &PlacedData<'_, A>,
     fixup: &ResolvedFixup,
 ) -> Result<(), Stop>
-    requires site { IsSite site.now }
-    requires repeated { site.now.plain ≡ false }
-    requires fixup { IsFixupReady site.now.layout.now (entry_seen site.now) fixup.now }
+    requires placed { IsPlacedData placed.now }
+    requires repeated { placed.now.plain ≡ false }
+    requires fixup { IsFixupReady placed.now.layout.now (entry_seen placed.now) fixup.now }
     requires leading { fixup.now.self_relative ≡ false }
     requires room { IsRoom 0 (state stored.old) }
-    requires ends { All (λ p. p < length stored.old.touched.items) site.now.data_record.places.now }
+    requires ends { All (λ p. p < length stored.old.touched.items) placed.now.data_record.places.now }
     ensures room { IsRoom 0 (state stored.new) }
     ensures same { length stored.new.touched.items ≡ length stored.old.touched.items }
-    ensures gives { (earlier : List PlainPatch) → IsStored site.now.data_record.places.now site.now.data_record.bytes.now (state stored.old) earlier
-        → FixupGives site.now.layout.now (entry_seen site.now) earlier fixup.now result
-        (IsStored site.now.data_record.places.now site.now.data_record.bytes.now (state stored.new)
-        (earlier ++ fixup_patches 0 site.now.layout.now (entry_seen site.now) fixup.now)) }
+    ensures gives { (earlier : List PlainPatch)
+        → IsStored placed.now.data_record.places.now placed.now.data_record.bytes.now (state stored.old) earlier
+        → FixupGives placed.now.layout.now (entry_seen placed.now) earlier fixup.now result
+        (IsStored placed.now.data_record.places.now placed.now.data_record.bytes.now (state stored.new)
+        (earlier ++ fixup_patches 0 placed.now.layout.now (entry_seen placed.now) fixup.now)) }
 {
-    let resolved = match resolve_fixup(site, fixup) {
-        Ok(resolved) => resolved,
-        Err(kind) => return Err(Stop::Kind(kind)),
-    };
-    find_once(site.index, fixup.offset, hits)?;
-    match fix(stored, &resolved, fixup, 0, hits) {
-        Ok(()) => Ok(()),
-        Err(kind) => Err(Stop::Kind(kind)),
-    }
+    let resolved = resolve_fixup(placed, fixup)?;
+    find_once(placed.index, fixup.offset, hits)?;
+    fix(stored, &resolved, fixup, 0, hits)?;
+    Ok(())
 }
 
 /// Adds fix-ups that aren't self-relative once each, in order.
 fn add_each_once<A: Allocator + Copy>(
     stored: &mut Work<A>,
     hits: &mut Vec<u32, A>,
-    site: &Site<'_, A>,
+    placed: &PlacedData<'_, A>,
     fixups: &[ResolvedFixup],
 ) -> Result<(), FixFault>
-    requires site { IsSite site.now }
-    requires repeated { site.now.plain ≡ false }
-    requires fixups { All (IsFixupReady site.now.layout.now (entry_seen site.now)) fixups.now }
+    requires placed { IsPlacedData placed.now }
+    requires repeated { placed.now.plain ≡ false }
+    requires fixups { All (IsFixupReady placed.now.layout.now (entry_seen placed.now)) fixups.now }
     requires leading { All (λ x. x.self_relative ≡ false) fixups.now }
     requires room { IsRoom 0 (state stored.old) }
-    requires ends { All (λ p. p < length stored.old.touched.items) site.now.data_record.places.now }
+    requires ends { All (λ p. p < length stored.old.touched.items) placed.now.data_record.places.now }
     ensures room { IsRoom 0 (state stored.new) }
     ensures same { length stored.new.touched.items ≡ length stored.old.touched.items }
-    ensures gives { (earlier : List PlainPatch) → IsStored site.now.data_record.places.now site.now.data_record.bytes.now (state stored.old) earlier
-        → Answers result (fixups_fault site.now.layout.now (entry_seen site.now) earlier fixups.now)
-        (λ _. (fixups_fault site.now.layout.now (entry_seen site.now) earlier fixups.now ≡ None)
-        × IsStored site.now.data_record.places.now site.now.data_record.bytes.now (state stored.new)
-        (earlier ++ flat_map (fixup_patches 0 site.now.layout.now (entry_seen site.now)) fixups.now)) }
+    ensures gives { (earlier : List PlainPatch)
+        → IsStored placed.now.data_record.places.now placed.now.data_record.bytes.now (state stored.old) earlier
+        → Answers result (fixups_fault placed.now.layout.now (entry_seen placed.now) earlier fixups.now)
+        (λ _. (fixups_fault placed.now.layout.now (entry_seen placed.now) earlier fixups.now ≡ None)
+        × IsStored placed.now.data_record.places.now placed.now.data_record.bytes.now (state stored.new)
+        (earlier ++ flat_map (fixup_patches 0 placed.now.layout.now (entry_seen placed.now)) fixups.now)) }
 {
     for fixup in fixups {
-        match add_once(stored, hits, site, fixup) {
+        match add_once(stored, hits, placed, fixup) {
             Ok(()) => {}
-            Err(stop) => return Err(stop.at(site.number, fixup.place)),
+            Err(stop) => return Err(stop.at(placed.input, fixup.place)),
         }
     }
     Ok(())
@@ -172,7 +170,8 @@ fn copy_flags(stored: &[bool], places: &[u16], flags: &mut [bool], start: usize)
     requires inside { start + length places.now ≤ length flags.old }
     ensures copied { (k : ℕ) → k < length places.now → slice_index_or flags.new (start + k) false
         ≡ (slice_index_or flags.old (start + k) false || slice_index_or stored.now (slice_index places.now k) false) }
-    ensures rest { (a : ℕ) → (a < start) ⊎ (start + length places.now ≤ a) → slice_index_or flags.new a false ≡ slice_index_or flags.old a false }
+    ensures rest { (a : ℕ) → (a < start) ⊎ (start + length places.now ≤ a)
+        → slice_index_or flags.new a false ≡ slice_index_or flags.old a false }
 {
     for (i, place) in places.iter().enumerate() {
         if stored[usize::from(*place)] {
@@ -190,9 +189,11 @@ impl<A: Allocator + Copy> Work<A> {
         requires ends { All (λ p. p < length stored.now.touched.items) places.now }
         ensures room { OnOk result (IsRoom start (state self.new)) }
         ensures sized { OnOk result (length self.new.touched.items ≡ length places.now) }
-        ensures holds { (bytes : List ℕ) → (earlier : List PlainPatch) → IsStored places.now bytes (state stored.now) earlier
+        ensures holds { (bytes : List ℕ) → (earlier : List PlainPatch)
+            → IsStored places.now bytes (state stored.now) earlier
             → OnOk result (Holds start bytes (state self.old) (state self.new) earlier) }
     {
+        // its contract says that an image has at most 1,048,560 bytes
         let _size = self.pages.size();
         let bytes = copied_bytes(*self.words.allocator(), &stored.pages, places)?;
         copy_marks(&stored.touched, places, &mut self.touched)?;
@@ -208,39 +209,40 @@ impl<A: Allocator + Copy> Work<A> {
 pub fn lay_data<A: Allocator + Copy>(
     work: &mut Work<A>,
     hits: &mut Vec<u32, A>,
-    site: &Site<'_, A>,
+    placed: &PlacedData<'_, A>,
 ) -> Result<usize, FixFault>
-    requires site { IsSite site.now }
-    requires fixups { All (IsFixupReady site.now.layout.now (entry_seen site.now)) site.now.data_record.fixups.now }
-    requires copies { AreCopies (zip site.now.data_record.places.now site.now.data_record.bytes.now) }
-    requires inside { site.now.start + length site.now.data_record.bytes.now ≤ length work.old.pages.bytes }
+    requires placed { IsPlacedData placed.now }
+    requires fixups { All (IsFixupReady placed.now.layout.now (entry_seen placed.now))
+        placed.now.data_record.fixups.now }
+    requires copies { AreCopies (zip placed.now.data_record.places.now placed.now.data_record.bytes.now) }
+    requires inside { placed.now.start + length placed.now.data_record.bytes.now ≤ length work.old.pages.bytes }
     requires words { length work.old.words.items ≡ length work.old.pages.bytes }
-    ensures count { IfOk result (λ n. n ≤ length site.now.data_record.fixups.now) }
-    ensures room { OnOk result (IsRoom site.now.start (state work.new)) }
-    ensures sized { OnOk result (length work.new.touched.items ≡ length site.now.data_record.bytes.now) }
-    ensures gives { Answers result (fixups_fault site.now.layout.now (entry_seen site.now) [] site.now.data_record.fixups.now)
-        (λ n. Holds site.now.start site.now.data_record.bytes.now (state work.old) (state work.new)
-        (flat_map (fixup_patches 0 site.now.layout.now (entry_seen site.now)) (take n site.now.data_record.fixups.now))
-        × (fixups_fault site.now.layout.now (entry_seen site.now)
-        (flat_map (fixup_patches 0 site.now.layout.now (entry_seen site.now)) (take n site.now.data_record.fixups.now))
-        (drop n site.now.data_record.fixups.now)
-        ≡ fixups_fault site.now.layout.now (entry_seen site.now) [] site.now.data_record.fixups.now)) }
+    ensures count { IfOk result (λ n. n ≤ length placed.now.data_record.fixups.now) }
+    ensures room { OnOk result (IsRoom placed.now.start (state work.new)) }
+    ensures sized { OnOk result (length work.new.touched.items ≡ length placed.now.data_record.bytes.now) }
+    ensures gives { Answers result
+        (fixups_fault placed.now.layout.now (entry_seen placed.now) [] placed.now.data_record.fixups.now)
+        (λ n. Holds placed.now.start placed.now.data_record.bytes.now (state work.old) (state work.new)
+        (flat_map (fixup_patches 0 placed.now.layout.now (entry_seen placed.now))
+        (take n placed.now.data_record.fixups.now))
+        × (fixups_fault placed.now.layout.now (entry_seen placed.now)
+        (flat_map (fixup_patches 0 placed.now.layout.now (entry_seen placed.now))
+        (take n placed.now.data_record.fixups.now))
+        (drop n placed.now.data_record.fixups.now)
+        ≡ fixups_fault placed.now.layout.now (entry_seen placed.now) [] placed.now.data_record.fixups.now)) }
 {
-    let record = site.data_record;
-    let count = if site.plain {
+    let record = placed.data_record;
+    let count = if placed.plain {
         0
     } else {
         leading(record.fixups)
     };
     if count == 0 {
-        work.lay(site.start, record.bytes)?;
+        work.lay(placed.start, record.bytes)?;
         return Ok(0);
     }
     let mut stored = stored_work(*hits.allocator(), record.places, record.bytes)?;
-    match add_each_once(&mut stored, hits, site, &record.fixups[..count]) {
-        Ok(()) => {}
-        Err(fault) => return Err(fault),
-    }
-    work.lay_copies(&stored, record.places, site.start)?;
+    add_each_once(&mut stored, hits, placed, &record.fixups[..count])?;
+    work.lay_copies(&stored, record.places, placed.start)?;
     Ok(count)
 }

@@ -1,43 +1,53 @@
 //! The registers at the start.
 
 ghost use Rattle.std.specs.Prelude.{◌≡◌, ◌<◌, ◌≤◌, All, Some, None, length};
-ghost use Rattle.omf_module.specs.Module.{Module as PlainModule};
-ghost use Rattle.omf_image.specs.Ready.{IsStartReady};
-ghost use Rattle.omf_image.specs.Registers.{StartEntry, starts, start_meaning, start_kind, starts_fault, entry_of, entry_at, is_stack, is_stack_segment, stack, stack_of};
-ghost use Rattle.omf_image.specs.Faults.{or_else};
-ghost use Rattle.omf_image.specs.Leading.{Answers};
-ghost use Rattle.omf_image.specs.Starting.{GivesEntry, FindsStart};
+ghost use Rattle.omf_image.specs.inside.Ready.{IsStartReady};
+ghost use Rattle.omf_image.specs.Registers.{starts, start_meaning, starts_fault, entry_of, entry_at, is_stack};
+ghost use Rattle.omf_image.specs.Registers.{is_stack_segment, stack, stack_of, registers};
+ghost use Rattle.omf_image.specs.Building.{Answers};
+ghost use Rattle.omf_image.specs.inside.Starts.{GivesEntry, FindsStart};
 
 use crate::faults::{FixFault, FixKind};
-use crate::reference::{Missing, resolve};
+use crate::reference::resolve;
 use omf_module::{Kind, Module, Standing, Start};
 use omf_place::{Combined, Layout};
 use omf_record::Location;
 use std::alloc::Allocator;
 
+/// The registers at the start of a program: of a `Program` those at load paragraph 0, of a loaded file those at the
+/// paragraph at which it was loaded. The two differ by the paragraph, which is added to both frames, modulo 65,536.
+#[derive(Clone, Copy, Debug, PartialEq, Eq)]
+pub struct Registers {
+    /// The code segment's frame.
+    pub cs: u16,
+    /// The offset of the start in the code segment.
+    pub ip: u16,
+    /// The stack segment's frame.
+    pub ss: u16,
+    /// The offset of the stack's end in the stack segment.
+    pub sp: u16,
+}
+
 /// CS and IP at a start.
 fn entry_of<A: Allocator + Copy>(
     layout: &Layout<A>,
-    number: usize,
-    in_module: &Module<A>,
+    input: usize,
+    module: &Module<A>,
     start: Start,
 ) -> Result<(u16, u16), FixKind>
-    requires { IsStartReady layout.now (record { number = number; of_module = in_module.now; start = start }) }
-    ensures { GivesEntry (start_meaning layout.now (record { number = number; of_module = in_module.now; start = start })) result }
+    requires { IsStartReady layout.now (record { input = input; module' = «module».now; start = start }) }
+    ensures { GivesEntry
+        (start_meaning layout.now (record { input = input; module' = «module».now; start = start })) result }
 {
-    let resolved = match resolve(
+    let resolved = resolve(
         layout,
-        number,
-        in_module,
+        input,
+        module,
         0,
         start.frame,
         start.target,
         start.displacement,
-    ) {
-        Ok(resolved) => resolved,
-        Err(Missing::Public) => return Err(FixKind::Unresolved),
-        Err(Missing::Members) => return Err(FixKind::EmptyGroup),
-    };
+    )?;
     if resolved.is_mixed(true, Location::Offset) {
         return Err(FixKind::Mixed);
     }
@@ -75,7 +85,7 @@ fn is_stack_segment<A: Allocator + Copy>(modules: &[Module<A>], combined: Combin
 }
 
 /// SS and SP: the frame of the first stack segment and its end counted from there.
-pub fn stack<A: Allocator + Copy>(layout: &Layout<A>, modules: &[Module<A>]) -> (u16, u16)
+fn stack<A: Allocator + Copy>(layout: &Layout<A>, modules: &[Module<A>]) -> (u16, u16)
     ensures { result ≡ stack_of 0 (stack layout.now modules.now) }
 {
     for index in 0..layout.combined_len() {
@@ -89,46 +99,62 @@ pub fn stack<A: Allocator + Copy>(layout: &Layout<A>, modules: &[Module<A>]) -> 
     (0, 0)
 }
 
-/// The first start of the modules from a number on, with its module's number.
+/// The first start of the modules from an input on, with its input.
 fn next_start<A: Allocator + Copy>(modules: &[Module<A>], from: usize) -> Option<(usize, Start)>
     requires { from ≤ length modules.now }
     ensures { FindsStart modules.now from result }
 {
-    for number in from..modules.len() {
-        let module = &modules[number];
+    for input in from..modules.len() {
+        let module = &modules[input];
         if let Some(start) = module.start() {
-            return Some((number, start));
+            return Some((input, start));
         }
     }
     None
 }
 
 /// CS and IP: those of the only start, and 0 without one.
-pub fn entry<A: Allocator + Copy>(
+fn entry<A: Allocator + Copy>(
     layout: &Layout<A>,
     modules: &[Module<A>],
 ) -> Result<(u16, u16), FixFault>
     requires { All (IsStartReady layout.now) (starts modules.now) }
     ensures { Answers result (starts_fault layout.now (starts modules.now))
-        (λ entry. (starts_fault layout.now (starts modules.now) ≡ None) × (entry ≡ entry_at 0 layout.now (starts modules.now))) }
+        (λ entry. (starts_fault layout.now (starts modules.now) ≡ None)
+        × (entry ≡ entry_at 0 layout.now (starts modules.now))) }
 {
-    let Some((number, start)) = next_start(modules, 0) else {
+    let Some((input, start)) = next_start(modules, 0) else {
         return Ok((0, 0));
     };
-    if let Some((second, other)) = next_start(modules, number + 1) {
+    if let Some((second, other)) = next_start(modules, input + 1) {
         return Err(FixFault::At {
             kind: FixKind::TwoStarts,
             input: second,
             place: other.place,
         });
     }
-    let module = &modules[number];
-    match entry_of(layout, number, module, start) {
+    let module = &modules[input];
+    match entry_of(layout, input, module, start) {
         Ok(entry) => Ok(entry),
         Err(kind) => Err(FixFault::At {
             kind,
-            input: number,
+            input,
             place: start.place,
         }),
     }
+}
+
+/// The registers at the start, at load paragraph 0.
+#[tactic(auto, unfolding(crate::specs::Registers::registers))]
+pub fn start_registers<A: Allocator + Copy>(
+    layout: &Layout<A>,
+    modules: &[Module<A>],
+) -> Result<Registers, FixFault>
+    requires { All (IsStartReady layout.now) (starts modules.now) }
+    ensures { Answers result (starts_fault layout.now (starts modules.now))
+        (λ made. (starts_fault layout.now (starts modules.now) ≡ None) × (made ≡ registers 0 layout.now modules.now)) }
+{
+    let (cs, ip) = entry(layout, modules)?;
+    let (ss, sp) = stack(layout, modules);
+    Ok(Registers { cs, ip, ss, sp })
 }

@@ -588,7 +588,8 @@ fn registers_of(
     }
     put(&mut bytes, MODEND, end)?;
     let program = linked(alloc, &[&bytes]).expect(rt, "a program");
-    Ok([program.cs(), program.ip(), program.ss(), program.sp()])
+    let Registers { cs, ip, ss, sp } = program.registers();
+    Ok([cs, ip, ss, sp])
 }
 
 #[test]

@@ -1,13 +1,14 @@
 //! What is kept while data records are laid over an image.
 
-ghost use Rattle.std.specs.Prelude.{◌≡◌, ◌<◌, ◌≤◌, ◌+◌, ◌/◌, ◌++◌, ◌∷◌, [], ℕ, List, map, flat_map, true, false, length, slice_index, slice_index_or, OnOk};
+ghost use Rattle.std.specs.Prelude.{◌≡◌, ◌<◌, ◌≤◌, ◌+◌, ◌/◌, ◌++◌, ◌∷◌, [], ℕ, List, map, true, false, length};
+ghost use Rattle.std.specs.Prelude.{slice_index, slice_index_or, OnOk};
 ghost use Rattle.omf_record.specs.Numbers.{location_width};
 ghost use Rattle.omf_image.specs.declared.patch.Patch.{Patch as PlainPatch};
 ghost use Rattle.omf_image.specs.Patch.{patched, patch_start, patch_end, relocated_places, all_clear};
-ghost use Rattle.omf_image.specs.Value.{patches_at};
-ghost use Rattle.omf_image.specs.Marks.{IsMarked};
-ghost use Rattle.omf_image.specs.Looking.{listed, EndsBy};
-ghost use Rattle.omf_image.specs.Working.{State, state, at_start, begun, IsRoom, Holds};
+ghost use Rattle.omf_image.specs.Records.{patches_on};
+ghost use Rattle.omf_image.specs.inside.Marks.{IsMarked};
+ghost use Rattle.omf_image.specs.inside.Lookups.{listed, EndsBy};
+ghost use Rattle.omf_image.specs.inside.States.{State, state, at_start, begun, IsRoom, Holds};
 
 use crate::marks::{is_clear, mark_patch};
 use crate::pages::Pages;
@@ -29,10 +30,12 @@ pub struct Work<A: Allocator + Copy> {
 /// Adds a patch of data that stands at `start`.
 fn patch_image<A: Allocator + Copy>(pages: &mut Pages<A>, start: u32, patch: Patch)
     requires inside { start + patch_end patch ≤ length pages.old.bytes }
-    requires made { (a : ℕ) → start + patch_start patch ≤ a → a < start + patch_end patch → slice_index_or pages.old.made (a / 4096) false ≡ true }
+    requires made { (a : ℕ) → start + patch_start patch ≤ a → a < start + patch_end patch
+        → slice_index_or pages.old.made (a / 4096) false ≡ true }
     ensures bytes { pages.new.bytes ≡ patched (at_start start patch) pages.old.bytes }
     ensures made { (k : ℕ) → slice_index_or pages.new.made k false ≡ slice_index_or pages.old.made k false }
 {
+    // its contract says that an image has at most 1,048,560 bytes
     let _size = pages.size();
     match patch {
         Patch::Byte(at, value) => pages.add_byte(start as usize + at, value),
@@ -60,6 +63,7 @@ impl<A: Allocator + Copy> Work<A> {
         ensures sized { OnOk result (length self.new.touched.items ≡ length bytes.now) }
         ensures holds { OnOk result (Holds start bytes.now (state self.old) (state self.new) []) }
     {
+        // its contract says that an image has at most 1,048,560 bytes
         let _size = self.pages.size();
         self.touched.clear();
         self.touched.resize(bytes.len(), false)?;
@@ -91,7 +95,8 @@ impl<A: Allocator + Copy> Work<A> {
         ensures room { IsRoom start (state self.new) }
         ensures same { length self.new.touched.items ≡ length self.old.touched.items }
         ensures holds { (bytes : List ℕ) → (base : State) → (ps : List PlainPatch)
-            → Holds start bytes base (state self.old) ps → Holds start bytes base (state self.new) (ps ++ listed first second) }
+            → Holds start bytes base (state self.old) ps
+            → Holds start bytes base (state self.new) (ps ++ listed first second) }
     {
         self.add_patch(start, first);
         if let Some(second) = second {
@@ -109,9 +114,10 @@ impl<A: Allocator + Copy> Work<A> {
         hits: &[u32],
     ) -> bool
         requires room { IsRoom start (state self.now) }
-        requires hits { (k : ℕ) → k < length hits.now → slice_index hits.now k + location_width location ≤ length self.now.touched.items }
+        requires hits { (k : ℕ) → k < length hits.now
+            → slice_index hits.now k + location_width location ≤ length self.now.touched.items }
         ensures { (earlier : List PlainPatch) → IsMarked self.now.touched.items self.now.relocated.items earlier
-            → result ≡ all_clear earlier (flat_map (λ i. patches_at 0 resolved.now self_relative location i (start + i)) hits.now) }
+            → result ≡ all_clear earlier (patches_on 0 resolved.now self_relative location start hits.now) }
     {
         for at in hits {
             let (first, second) = resolved.patches(
@@ -152,12 +158,14 @@ impl<A: Allocator + Copy> Work<A> {
         hits: &[u32],
     )
         requires room { IsRoom start (state self.old) }
-        requires hits { (k : ℕ) → k < length hits.now → slice_index hits.now k + location_width location ≤ length self.old.touched.items }
+        requires hits { (k : ℕ) → k < length hits.now
+            → slice_index hits.now k + location_width location ≤ length self.old.touched.items }
         ensures room { IsRoom start (state self.new) }
         ensures same { length self.new.touched.items ≡ length self.old.touched.items }
         ensures holds { (bytes : List ℕ) → (base : State) → (ps : List PlainPatch)
             → Holds start bytes base (state self.old) ps
-            → Holds start bytes base (state self.new) (ps ++ flat_map (λ i. patches_at 0 resolved.now self_relative location i (start + i)) hits.now) }
+            → Holds start bytes base (state self.new)
+            (ps ++ patches_on 0 resolved.now self_relative location start hits.now) }
     {
         for at in hits {
             let (first, second) = resolved.patches(

@@ -3,29 +3,29 @@ use Rattle.std.specs.List.{range_with_len}
 use Rattle.omf_image.specs.Faults.{data_fault}
 use Rattle.omf_image.specs.Program.{Program}
 use Rattle.omf_image.specs.Registers.{starts, starts_fault, program_fault}
-use Rattle.omf_image.specs.Working.{state}
+use Rattle.omf_image.specs.inside.States.{state}
 use Rattle.omf_image.specs.Building.{IsProgramOf}
 use Rattle.omf_image.proofs.Finishing.{leads_first, no_fault, flags_are, program_limits, program_is, data_first, start_second, count_last}
-use Rattle.omf_image.proofs.Leading.{refused_on}
+use Rattle.omf_image.proofs.Leading.{refused_by}
 use Rattle.omf_image.proofs.build_program.Goals as goal
 
-pub returns-in-Err : goal.returns-in-Err
-returns-in-Err g c =
+pub returns-in_err-add_modules : goal.returns-in_err-add_modules
+returns-in_err-add_modules g c =
     let layout = c.args.layout.now in
     let modules = c.args.modules.now in
     let work = c.in_ok-work.work in
     let first = leads_first layout modules (state work) work.pages c.size.result refl refl c.in_ok-work.ensures.words c.in_ok-work.ensures.pages in
-    refused_on c.in-Err.fault (data_fault layout modules) (program_fault layout modules) _ _ (data_first layout modules) (c.in-Err.ensures.gives first)
+    refused_by _ _ (data_fault layout modules) (program_fault layout modules) _ _ c.from_residual-in_err-add_modules.ensures.1 (data_first layout modules) (c.in_err-add_modules.ensures.gives first)
 
-pub returns-in-Err-entry : goal.returns-in-Err-entry
-returns-in-Err-entry g c =
+pub returns-in_err-registers : goal.returns-in_err-registers
+returns-in_err-registers g c =
     let layout = c.args.layout.now in
     let modules = c.args.modules.now in
     let work = c.in_ok-work.work in
     let first = leads_first layout modules (state work) work.pages c.size.result refl refl c.in_ok-work.ensures.words c.in_ok-work.ensures.pages in
     let s = state c.add_modules.new.work in
-    let last = c.in-Ok.ensures.gives first in
-    refused_on c.in-Err-entry.fault (starts_fault layout (starts modules)) (program_fault layout modules) _ _ (λ f. start_second layout modules f (no_fault layout modules s last)) c.in-Err-entry.ensures
+    let last = c.in_ok-add_modules.ensures.gives first in
+    refused_by _ _ (starts_fault layout (starts modules)) (program_fault layout modules) _ _ c.from_residual-in_err-registers.ensures.1 (λ f. start_second layout modules f (no_fault layout modules s last)) c.in_err-registers.ensures
 
 pub returns-then-len-gt-MOST_RELOCATIONS : goal.returns-then-len-gt-MOST_RELOCATIONS
 returns-then-len-gt-MOST_RELOCATIONS g c =
@@ -34,12 +34,12 @@ returns-then-len-gt-MOST_RELOCATIONS g c =
     let work = c.in_ok-work.work in
     let first = leads_first layout modules (state work) work.pages c.size.result refl refl c.in_ok-work.ensures.words c.in_ok-work.ensures.pages in
     let s = state c.add_modules.new.work in
-    let last = c.in-Ok.ensures.gives first in
+    let last = c.in_ok-add_modules.ensures.gives first in
     let items = c.in_ok-relocations.relocations.items in
     let is : items ≡ filter (λ a. get_or s.words a false) (range_with_len 0 (length s.words)) =
     c.in_ok-relocations.ensures ∙ ap (λ (l : List Bool). filter (λ a. get_or l a false) (range_with_len 0 (length l))) c.deref.ensures.value in
-    let e = flags_are layout modules s items c.in-Ok.ensures.whole last is in
-    count_last layout modules (no_fault layout modules s last) c.in-Ok-entry.ensures.0 (omega (arith, c.len.ensures, c.if-len-gt-MOST_RELOCATIONS.true, c.in_ok-relocations.relocations.ok.0, ap length e))
+    let e = flags_are layout modules s items c.in_ok-add_modules.ensures.whole last is in
+    count_last layout modules (no_fault layout modules s last) c.in_ok-registers.ensures.0 (omega (arith, c.len.ensures, c.if-len-gt-MOST_RELOCATIONS.true, c.in_ok-relocations.relocations.ok.0, ap length e))
 
 pub new-requires-2-clause-apart : goal.new-requires-2-clause-apart
 new-requires-2-clause-apart g c =
@@ -48,11 +48,11 @@ new-requires-2-clause-apart g c =
     let work = c.in_ok-work.work in
     let first = leads_first layout modules (state work) work.pages c.size.result refl refl c.in_ok-work.ensures.words c.in_ok-work.ensures.pages in
     let s = state c.add_modules.new.work in
-    let last = c.in-Ok.ensures.gives first in
+    let last = c.in_ok-add_modules.ensures.gives first in
     let items = c.in_ok-relocations.relocations.items in
     let is : items ≡ filter (λ a. get_or s.words a false) (range_with_len 0 (length s.words)) =
     c.in_ok-relocations.ensures ∙ ap (λ (l : List Bool). filter (λ a. get_or l a false) (range_with_len 0 (length l))) c.deref.ensures.value in
-    (program_limits layout modules s c.written-written.result items c.requires c.in-Ok.ensures.whole last c.written-written.ensures is (omega (arith, c.len.ensures, c.if-len-gt-MOST_RELOCATIONS.false, c.in_ok-relocations.relocations.ok.0))).apart
+    (program_limits layout modules s c.written-written.result items c.requires c.in_ok-add_modules.ensures.whole last c.written-written.ensures is (omega (arith, c.len.ensures, c.if-len-gt-MOST_RELOCATIONS.false, c.in_ok-relocations.relocations.ok.0))).apart
 
 pub new-requires-2-clause-inside : goal.new-requires-2-clause-inside
 new-requires-2-clause-inside g c =
@@ -61,11 +61,11 @@ new-requires-2-clause-inside g c =
     let work = c.in_ok-work.work in
     let first = leads_first layout modules (state work) work.pages c.size.result refl refl c.in_ok-work.ensures.words c.in_ok-work.ensures.pages in
     let s = state c.add_modules.new.work in
-    let last = c.in-Ok.ensures.gives first in
+    let last = c.in_ok-add_modules.ensures.gives first in
     let items = c.in_ok-relocations.relocations.items in
     let is : items ≡ filter (λ a. get_or s.words a false) (range_with_len 0 (length s.words)) =
     c.in_ok-relocations.ensures ∙ ap (λ (l : List Bool). filter (λ a. get_or l a false) (range_with_len 0 (length l))) c.deref.ensures.value in
-    (program_limits layout modules s c.written-written.result items c.requires c.in-Ok.ensures.whole last c.written-written.ensures is (omega (arith, c.len.ensures, c.if-len-gt-MOST_RELOCATIONS.false, c.in_ok-relocations.relocations.ok.0))).inside
+    (program_limits layout modules s c.written-written.result items c.requires c.in_ok-add_modules.ensures.whole last c.written-written.ensures is (omega (arith, c.len.ensures, c.if-len-gt-MOST_RELOCATIONS.false, c.in_ok-relocations.relocations.ok.0))).inside
 
 pub new-requires-2-clause-written : goal.new-requires-2-clause-written
 new-requires-2-clause-written g c =
@@ -74,11 +74,11 @@ new-requires-2-clause-written g c =
     let work = c.in_ok-work.work in
     let first = leads_first layout modules (state work) work.pages c.size.result refl refl c.in_ok-work.ensures.words c.in_ok-work.ensures.pages in
     let s = state c.add_modules.new.work in
-    let last = c.in-Ok.ensures.gives first in
+    let last = c.in_ok-add_modules.ensures.gives first in
     let items = c.in_ok-relocations.relocations.items in
     let is : items ≡ filter (λ a. get_or s.words a false) (range_with_len 0 (length s.words)) =
     c.in_ok-relocations.ensures ∙ ap (λ (l : List Bool). filter (λ a. get_or l a false) (range_with_len 0 (length l))) c.deref.ensures.value in
-    (program_limits layout modules s c.written-written.result items c.requires c.in-Ok.ensures.whole last c.written-written.ensures is (omega (arith, c.len.ensures, c.if-len-gt-MOST_RELOCATIONS.false, c.in_ok-relocations.relocations.ok.0))).written
+    (program_limits layout modules s c.written-written.result items c.requires c.in_ok-add_modules.ensures.whole last c.written-written.ensures is (omega (arith, c.len.ensures, c.if-len-gt-MOST_RELOCATIONS.false, c.in_ok-relocations.relocations.ok.0))).written
 
 pub new-requires-2-clause-few : goal.new-requires-2-clause-few
 new-requires-2-clause-few g c =
@@ -87,11 +87,11 @@ new-requires-2-clause-few g c =
     let work = c.in_ok-work.work in
     let first = leads_first layout modules (state work) work.pages c.size.result refl refl c.in_ok-work.ensures.words c.in_ok-work.ensures.pages in
     let s = state c.add_modules.new.work in
-    let last = c.in-Ok.ensures.gives first in
+    let last = c.in_ok-add_modules.ensures.gives first in
     let items = c.in_ok-relocations.relocations.items in
     let is : items ≡ filter (λ a. get_or s.words a false) (range_with_len 0 (length s.words)) =
     c.in_ok-relocations.ensures ∙ ap (λ (l : List Bool). filter (λ a. get_or l a false) (range_with_len 0 (length l))) c.deref.ensures.value in
-    (program_limits layout modules s c.written-written.result items c.requires c.in-Ok.ensures.whole last c.written-written.ensures is (omega (arith, c.len.ensures, c.if-len-gt-MOST_RELOCATIONS.false, c.in_ok-relocations.relocations.ok.0))).few
+    (program_limits layout modules s c.written-written.result items c.requires c.in_ok-add_modules.ensures.whole last c.written-written.ensures is (omega (arith, c.len.ensures, c.if-len-gt-MOST_RELOCATIONS.false, c.in_ok-relocations.relocations.ok.0))).few
 
 pub returns : goal.returns
 returns g c =
@@ -100,9 +100,9 @@ returns g c =
     let work = c.in_ok-work.work in
     let first = leads_first layout modules (state work) work.pages c.size.result refl refl c.in_ok-work.ensures.words c.in_ok-work.ensures.pages in
     let s = state c.add_modules.new.work in
-    let last = c.in-Ok.ensures.gives first in
+    let last = c.in_ok-add_modules.ensures.gives first in
     let items = c.in_ok-relocations.relocations.items in
     let is : items ≡ filter (λ a. get_or s.words a false) (range_with_len 0 (length s.words)) =
     c.in_ok-relocations.ensures ∙ ap (λ (l : List Bool). filter (λ a. get_or l a false) (range_with_len 0 (length l))) c.deref.ensures.value in
     subst (λ (p : Program). (program_fault layout modules ≡ None) × IsProgramOf layout modules p) (sym c.new-2.ensures)
-    (program_is layout modules s c.written-written.result items c.in-Ok-entry.entry c.stack-stack.result c.requires c.in-Ok.ensures.whole last c.written-written.ensures c.in-Ok-entry.ensures.0 c.in-Ok-entry.ensures.1 c.stack-stack.ensures is (omega (arith, c.len.ensures, c.if-len-gt-MOST_RELOCATIONS.false, c.in_ok-relocations.relocations.ok.0)))
+    (program_is layout modules s c.written-written.result items c.in_ok-registers.registers c.requires c.in_ok-add_modules.ensures.whole last c.written-written.ensures c.in_ok-registers.ensures.0 c.in_ok-registers.ensures.1 is (omega (arith, c.len.ensures, c.if-len-gt-MOST_RELOCATIONS.false, c.in_ok-relocations.relocations.ok.0)))

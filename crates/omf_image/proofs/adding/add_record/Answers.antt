@@ -4,28 +4,29 @@ use Rattle.std.proofs.lemmas.List.Elements.{All-weaker}
 use Rattle.omf_module.specs.Seen.{data_seen}
 use Rattle.omf_image.specs.declared.patch.Patch.{Patch}
 use Rattle.omf_image.specs.Located.{covers_word}
-use Rattle.omf_image.specs.Records.{Entry, bytes_of, datum, patches, fixup_patches, LiesInContent, WellPlaced}
+use Rattle.omf_image.specs.Records.{Entry, bytes_of, datum, patches, fixup_patches}
+use Rattle.omf_image.specs.inside.WellPlaced.{LiesInContent, WellPlaced}
 use Rattle.omf_image.specs.Faults.{fixups_fault, data_fault}
-use Rattle.omf_image.specs.Ready.{IsFixupReady}
-use Rattle.omf_image.specs.Leading.{Answers}
-use Rattle.omf_image.specs.Working.{state, Holds}
+use Rattle.omf_image.specs.inside.Ready.{IsFixupReady}
+use Rattle.omf_image.specs.Building.{Answers}
+use Rattle.omf_image.specs.inside.States.{state, Holds}
 use Rattle.omf_module.specs.declared.ResolvedFixup.{ResolvedFixup}
 use Rattle.omf_image.proofs.Law.{length-patched_all}
 use Rattle.omf_image.proofs.Meaning.{second_of_zip, patches_left}
-use Rattle.omf_image.proofs.Leading.{leads_on, leads_to_fault, covers_fault, fixups_are_fault, answers_on, refused_on, on_ok, holds_same, listed_same}
+use Rattle.omf_image.proofs.Leading.{leads_on, leads_to_fault, covers_fault, fixups_are_fault, answers_on, refused_by, on_ok, holds_same, listed_same}
 use Rattle.omf_image.proofs.adding.add_record.Goals as goal
 
 pub covers_relocated-requires : goal.covers_relocated-requires
 covers_relocated-requires g c =
     let d = c.args.data_record in
-    let e : Entry = record { number = c.args.number; module' = c.args.in_module.now; data_record = data_seen d } in
+    let e : Entry = record { input = c.args.input; module' = c.args.module.now; data_record = data_seen d } in
     let z : bytes_of e.data_record ≡ d.bytes.now = second_of_zip d.places.now d.bytes.now (sym c.requires.lengths) in
     omega (arith, c.data_address-start.ensures, c.requires.ready.inside, ap length z, c.requires.whole.sized, c.requires.whole.words, ap length c.deref.ensures.value)
 
 pub lay-requires-clause-inside : goal.lay-requires-clause-inside
 lay-requires-clause-inside g c =
     let d = c.args.data_record in
-    let e : Entry = record { number = c.args.number; module' = c.args.in_module.now; data_record = data_seen d } in
+    let e : Entry = record { input = c.args.input; module' = c.args.module.now; data_record = data_seen d } in
     let z : bytes_of e.data_record ≡ d.bytes.now = second_of_zip d.places.now d.bytes.now (sym c.requires.lengths) in
     omega (arith, c.data_address-start.ensures, c.requires.ready.inside, ap length z, c.requires.whole.sized)
 
@@ -33,7 +34,7 @@ pub returns-then-covers_relocated-clause-gives : goal.returns-then-covers_reloca
 returns-then-covers_relocated-clause-gives g c modules rest l =
     let d = c.args.data_record in
     let layout = c.args.layout.now in
-    let e : Entry = record { number = c.args.number; module' = c.args.in_module.now; data_record = data_seen d } in
+    let e : Entry = record { input = c.args.input; module' = c.args.module.now; data_record = data_seen d } in
     let z : bytes_of e.data_record ≡ d.bytes.now = second_of_zip d.places.now d.bytes.now (sym c.requires.lengths) in
     let bytes : List ℕ = (datum 0 layout e).bytes in
     let n : length bytes ≡ length d.bytes.now = length-patched_all (patches 0 layout e) (bytes_of e.data_record) ∙ ap length z in
@@ -44,14 +45,14 @@ returns-then-covers_relocated-clause-gives g c modules rest l =
 pub record_index-requires : goal.record_index-requires
 record_index-requires g c =
     let d = c.args.data_record in
-    let e : Entry = record { number = c.args.number; module' = c.args.in_module.now; data_record = data_seen d } in
+    let e : Entry = record { input = c.args.input; module' = c.args.module.now; data_record = data_seen d } in
     let z : bytes_of e.data_record ≡ d.bytes.now = second_of_zip d.places.now d.bytes.now (sym c.requires.lengths) in
     omega (arith, c.requires.lengths, c.requires.ready.inside, ap length z, c.requires.whole.small)
 
 pub lay_data-requires-clause-inside : goal.lay_data-requires-clause-inside
 lay_data-requires-clause-inside g c =
     let d = c.args.data_record in
-    let e : Entry = record { number = c.args.number; module' = c.args.in_module.now; data_record = data_seen d } in
+    let e : Entry = record { input = c.args.input; module' = c.args.module.now; data_record = data_seen d } in
     let z : bytes_of e.data_record ≡ d.bytes.now = second_of_zip d.places.now d.bytes.now (sym c.requires.lengths) in
     omega (arith, c.data_address-start.ensures, c.requires.ready.inside, ap length z, c.requires.whole.sized)
 
@@ -62,26 +63,26 @@ returns-clause-whole g c =
       words = c.add_fixups.ensures.room.words;
       small = c.requires.whole.small;
     })
-    (c.add_fixups.ensures.gives c.args.data_record.bytes.now (state c.args.work.now) _ c.in-Ok.ensures.gives.0)
+    (c.add_fixups.ensures.gives c.args.data_record.bytes.now (state c.args.work.now) _ c.in_ok-laid.ensures.gives.0)
 
-pub returns-in-Err-clause-gives : goal.returns-in-Err-clause-gives
-returns-in-Err-clause-gives g c modules rest l =
+pub returns-in_err-laid-clause-gives : goal.returns-in_err-laid-clause-gives
+returns-in_err-laid-clause-gives g c modules rest l =
     let d = c.args.data_record in
     let layout = c.args.layout.now in
-    let e : Entry = record { number = c.args.number; module' = c.args.in_module.now; data_record = data_seen d } in
+    let e : Entry = record { input = c.args.input; module' = c.args.module.now; data_record = data_seen d } in
     let z : bytes_of e.data_record ≡ d.bytes.now = second_of_zip d.places.now d.bytes.now (sym c.requires.lengths) in
     let bytes : List ℕ = (datum 0 layout e).bytes in
     let n : length bytes ≡ length d.bytes.now = length-patched_all (patches 0 layout e) (bytes_of e.data_record) ∙ ap length z in
     let told = c.covers_relocated.ensures bytes l.so_far n (listed_same _ _ l.so_far c.deref.ensures.value l.listed) in
     let clean : covers_word (datum 0 layout e) l.so_far ≡ false = ap (λ (s : ℕ). covers_word (record { start = s; bytes = bytes }) l.so_far) (sym c.data_address-start.ensures) ∙ sym told ∙ c.if-covers_relocated.false in
-    refused_on c.in-Err.fault (fixups_fault layout e [] d.fixups.now) (data_fault layout modules) _ _
-    (λ f h. leads_to_fault layout modules (state c.args.work.now) e rest f l (fixups_are_fault layout e l.so_far f clean h)) c.in-Err.ensures.gives
+    refused_by _ _ (fixups_fault layout e [] d.fixups.now) (data_fault layout modules) _ _ c.from_residual-in_err-laid.ensures.1
+    (λ f h. leads_to_fault layout modules (state c.args.work.now) e rest f l (fixups_are_fault layout e l.so_far f clean h)) c.in_err-laid.ensures.gives
 
 pub returns-clause-gives : goal.returns-clause-gives
 returns-clause-gives g c modules rest l =
     let d = c.args.data_record in
     let layout = c.args.layout.now in
-    let e : Entry = record { number = c.args.number; module' = c.args.in_module.now; data_record = data_seen d } in
+    let e : Entry = record { input = c.args.input; module' = c.args.module.now; data_record = data_seen d } in
     let z : bytes_of e.data_record ≡ d.bytes.now = second_of_zip d.places.now d.bytes.now (sym c.requires.lengths) in
     let bytes : List ℕ = (datum 0 layout e).bytes in
     let n : length bytes ≡ length d.bytes.now = length-patched_all (patches 0 layout e) (bytes_of e.data_record) ∙ ap length z in
@@ -90,9 +91,9 @@ returns-clause-gives g c modules rest l =
     let well : WellPlaced e.data_record = All-weaker (IsFixupReady layout e) (LiesInContent e.data_record) (λ x h. h.lies) d.fixups.now c.requires.ready.fixups in
     let f = fixup_patches 0 layout e in
     let xs = d.fixups.now in
-    let laid = c.in-Ok.laid in
+    let laid = c.in_ok-laid.laid in
     let earlier : List Patch = flat_map f (take laid xs) in
-    let left = c.in-Ok.ensures.gives.1 in
+    let left = c.in_ok-laid.ensures.gives.1 in
     let to_end : take (length xs - laid) (drop laid xs) ≡ drop laid xs = take_all (length xs - laid) (drop laid xs) (omega (arith, length-drop laid xs)) in
     answers_on c.add_fixups.result (fixups_fault layout e earlier (drop laid xs)) (data_fault layout modules) _ _
     (λ k h. leads_to_fault layout modules (state c.args.work.now) e rest k l (fixups_are_fault layout e l.so_far k clean (sym left ∙ h)))
@@ -102,7 +103,7 @@ returns-clause-gives g c modules rest l =
     (subst (λ (ps : List Patch). Holds c.data_address-start.result d.bytes.now (state c.args.work.now) (state c.add_fixups.new.work) ps) (patches_left f xs laid) p.1)))
     (subst (λ (ys : List ResolvedFixup). Answers c.add_fixups.result (fixups_fault layout e earlier ys) (λ _. (fixups_fault layout e earlier ys ≡ None)
     × Holds c.data_address-start.result d.bytes.now (state c.args.work.now) (state c.add_fixups.new.work) (earlier ++ flat_map f ys))) to_end
-    (c.add_fixups.ensures.gives d.bytes.now (state c.args.work.now) earlier c.in-Ok.ensures.gives.0))
+    (c.add_fixups.ensures.gives d.bytes.now (state c.args.work.now) earlier c.in_ok-laid.ensures.gives.0))
 
 no_fixups : {X : Type 0} (xs : List X) → length xs ≡ 0 → xs ≡ []
 no_fixups [] e = refl
@@ -119,7 +120,7 @@ pub returns-then-is_empty-clause-gives : goal.returns-then-is_empty-clause-gives
 returns-then-is_empty-clause-gives g c modules rest l =
     let d = c.args.data_record in
     let layout = c.args.layout.now in
-    let e : Entry = record { number = c.args.number; module' = c.args.in_module.now; data_record = data_seen d } in
+    let e : Entry = record { input = c.args.input; module' = c.args.module.now; data_record = data_seen d } in
     let z : bytes_of e.data_record ≡ d.bytes.now = second_of_zip d.places.now d.bytes.now (sym c.requires.lengths) in
     let bytes : List ℕ = (datum 0 layout e).bytes in
     let n : length bytes ≡ length d.bytes.now = length-patched_all (patches 0 layout e) (bytes_of e.data_record) ∙ ap length z in

@@ -4,7 +4,7 @@ use Rattle.omf_module.specs.Module.{DataRecord, Module}
 use Rattle.omf_module.specs.Seen.{data_seen}
 use Rattle.omf_place.specs.Layout.{Layout}
 use Rattle.omf_image.specs.Records.{Entry, module_entries, entry_start, entry_end, bytes_of}
-use Rattle.omf_image.specs.Ready.{IsEntryReady}
+use Rattle.omf_image.specs.inside.Ready.{IsEntryReady}
 use Rattle.omf_image.proofs.Meaning.{second_of_zip}
 use Rattle.omf_image.proofs.Listing.{entry_of, all_at, entry_next}
 use Rattle.omf_image.proofs.Everywhere.{end_none, end_some}
@@ -21,31 +21,31 @@ step layout n m i d end l e = ap (λ (es : List Entry). fold max end (map (entry
 
 pub data_address-start-requires-clause-input : goal.data_address-start-requires-clause-input
 data_address-start-requires-clause-input g c =
-    (ready_at c.args.layout.now c.args.number c.args.in_module.now c.loop-index.index (data_seen c.data_record-data_record.result) c.requires.ready
+    (ready_at c.args.layout.now c.args.input c.args.module.now c.loop-index.index (data_seen c.data_record-data_record.result) c.requires.ready
     (omega (arith, c.loop-index-test.true, c.data_record_count-index-end.ensures)) c.data_record-data_record.ensures.seen).input
 
 pub data_address-start-requires-clause-segment : goal.data_address-start-requires-clause-segment
 data_address-start-requires-clause-segment g c =
-    (ready_at c.args.layout.now c.args.number c.args.in_module.now c.loop-index.index (data_seen c.data_record-data_record.result) c.requires.ready
+    (ready_at c.args.layout.now c.args.input c.args.module.now c.loop-index.index (data_seen c.data_record-data_record.result) c.requires.ready
     (omega (arith, c.loop-index-test.true, c.data_record_count-index-end.ensures)) c.data_record-data_record.ensures.seen).segment
 
 pub data_address-start-requires-clause-inside : goal.data_address-start-requires-clause-inside
 data_address-start-requires-clause-inside g c =
-    let r = ready_at c.args.layout.now c.args.number c.args.in_module.now c.loop-index.index (data_seen c.data_record-data_record.result) c.requires.ready
+    let r = ready_at c.args.layout.now c.args.input c.args.module.now c.loop-index.index (data_seen c.data_record-data_record.result) c.requires.ready
     (omega (arith, c.loop-index-test.true, c.data_record_count-index-end.ensures)) c.data_record-data_record.ensures.seen in
     omega (arith, r.inside)
 
 pub overflow_cast-data_record : goal.overflow_cast-data_record
 overflow_cast-data_record g c =
     let d = c.data_record-data_record.result in
-    let r = ready_at c.args.layout.now c.args.number c.args.in_module.now c.loop-index.index (data_seen d) c.requires.ready
+    let r = ready_at c.args.layout.now c.args.input c.args.module.now c.loop-index.index (data_seen d) c.requires.ready
     (omega (arith, c.loop-index-test.true, c.data_record_count-index-end.ensures)) c.data_record-data_record.ensures.seen in
     omega (arith, r.inside, ap length (second_of_zip d.places.now d.bytes.now (sym c.data_record-data_record.ensures.lengths)), c.requires.small)
 
 pub overflow_add-start : goal.overflow_add-start
 overflow_add-start g c =
     let d = c.data_record-data_record.result in
-    let r = ready_at c.args.layout.now c.args.number c.args.in_module.now c.loop-index.index (data_seen d) c.requires.ready
+    let r = ready_at c.args.layout.now c.args.input c.args.module.now c.loop-index.index (data_seen d) c.requires.ready
     (omega (arith, c.loop-index-test.true, c.data_record_count-index-end.ensures)) c.data_record-data_record.ensures.seen in
     omega (arith, r.inside, c.data_address-start.ensures, ap length (second_of_zip d.places.now d.bytes.now (sym c.data_record-data_record.ensures.lengths)), c.requires.small)
 
@@ -53,12 +53,12 @@ pub loop-index-preserved : goal.loop-index-preserved
 loop-index-preserved g c =
     let d = c.data_record-data_record.result in
     let layout = c.args.layout.now in
-    let m = c.args.in_module.now in
-    let e : Entry = entry_of c.args.number m (data_seen d) in
+    let m = c.args.module.now in
+    let e : Entry = entry_of c.args.input m (data_seen d) in
     let i = c.loop-index.index in
-    let rest = map (entry_end layout) (drop (i + 1) (module_entries c.args.number m)) in
+    let rest = map (entry_end layout) (drop (i + 1) (module_entries c.args.input m)) in
     let bytes : length (bytes_of e.data_record) ≡ length d.bytes.now = ap length (second_of_zip d.places.now d.bytes.now (sym c.data_record-data_record.ensures.lengths)) in
-    let next = step layout c.args.number m i (data_seen d) c.loop-index.end (omega (arith, c.loop-index-test.true, c.data_record_count-index-end.ensures)) c.data_record-data_record.ensures.seen in
+    let next = step layout c.args.input m i (data_seen d) c.loop-index.end (omega (arith, c.loop-index-test.true, c.data_record_count-index-end.ensures)) c.data_record-data_record.ensures.seen in
     elim c.if-not-is_empty.branch [
       | then-not-is_empty w ↦
           let some : entry_end layout e ≡ entry_start layout e + length (bytes_of e.data_record) =

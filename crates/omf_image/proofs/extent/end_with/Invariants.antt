@@ -4,5 +4,5 @@ use Rattle.omf_image.proofs.extent.end_with.Given as goal
 
 abbrev pub invariant-loop-index : goal.invariant-loop-index
 invariant-loop-index g l =
-    fold max l.end (map (entry_end l.layout) (drop l.index (module_entries l.number l.in_module)))
-    ≡ fold max l.fn.end (map (entry_end l.layout) (module_entries l.number l.in_module))
+    fold max l.end (map (entry_end l.layout) (drop l.index (module_entries l.input l.module)))
+    ≡ fold max l.fn.end (map (entry_end l.layout) (module_entries l.input l.module))

@@ -1,7 +1,7 @@
 use Rattle.std.proofs.Common.{◌≡◌, ◌∙◌, ◌+◌, ◌-◌, ◌<◌, ℕ, length, get_or, set, sym, ap, arith, subst, inl, inr}
 use Rattle.std.proofs.lemmas.Bool.{cases_eq}
 use Rattle.std.proofs.lemmas.List.{length-set, get_or-set_same, get_or-set_other}
-use Rattle.omf_image.specs.Index.{Chain}
+use Rattle.omf_image.specs.inside.Index.{Chain}
 use Rattle.omf_image.proofs.Chains.{from, chain_more, rises_set, read}
 use Rattle.omf_image.proofs.index.linked.Goals as goal
 

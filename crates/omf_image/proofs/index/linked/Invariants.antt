@@ -1,5 +1,5 @@
 use Rattle.std.proofs.Common.{◌≡◌, ℕ, ◌<◌, ◌≤◌, length, get_or}
-use Rattle.omf_image.specs.Index.{Chain, Rises}
+use Rattle.omf_image.specs.inside.Index.{Chain, Rises}
 use Rattle.omf_image.proofs.Chains.{from}
 use Rattle.omf_image.proofs.index.linked.Given as goal
 

@@ -1,5 +1,5 @@
 use Rattle.std.proofs.Common.{◌≡◌, ◌++◌, ◌-◌, ℕ, List, length}
-use Rattle.omf_image.specs.Index.{Chain}
+use Rattle.omf_image.specs.inside.Index.{Chain}
 use Rattle.omf_image.proofs.index.push_chain.Given as goal
 
 abbrev pub invariant-loop-at : goal.invariant-loop-at

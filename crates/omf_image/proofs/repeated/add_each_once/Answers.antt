@@ -4,15 +4,15 @@ use Rattle.omf_module.specs.declared.ResolvedFixup.{ResolvedFixup}
 use Rattle.omf_image.specs.declared.patch.Patch.{Patch}
 use Rattle.omf_image.specs.Records.{Entry, fixup_patches}
 use Rattle.omf_image.specs.Faults.{fixups_fault}
-use Rattle.omf_image.specs.Working.{state}
-use Rattle.omf_image.specs.Fixing.{entry_seen}
-use Rattle.omf_image.specs.Stored.{IsStored}
+use Rattle.omf_image.specs.inside.States.{state}
+use Rattle.omf_image.specs.inside.PlacedData.{entry_seen}
+use Rattle.omf_image.specs.inside.Stored.{IsStored}
 use Rattle.omf_image.proofs.Meaning.{fixups_more, fixups_stop, patches_more, answers_at}
 use Rattle.omf_image.proofs.repeated.add_each_once.Goals as goal
 
 pub returns-in-Err-clause-gives : goal.returns-in-Err-clause-gives
 returns-in-Err-clause-gives g c earlier h =
-    let s = c.args.site.now in
+    let s = c.args.placed.now in
     let e : Entry = entry_seen s in
     let old = c.loop-fixup.invariant.gives earlier h in
     let xs = c.args.fixups.now in
@@ -23,7 +23,7 @@ returns-in-Err-clause-gives g c earlier h =
 
 pub loop-fixup-preserved : goal.loop-fixup-preserved
 loop-fixup-preserved g c =
-    let s = c.args.site.now in
+    let s = c.args.placed.now in
     let e : Entry = entry_seen s in
     let xs = c.args.fixups.now in
     let i = c.loop-fixup.fixup-index in
@@ -41,7 +41,7 @@ loop-fixup-preserved g c =
 
 pub returns-clause-gives : goal.returns-clause-gives
 returns-clause-gives g c earlier h =
-    let s = c.args.site.now in
+    let s = c.args.placed.now in
     let e : Entry = entry_seen s in
     let f = fixup_patches 0 s.layout.now e in
     let xs = c.args.fixups.now in

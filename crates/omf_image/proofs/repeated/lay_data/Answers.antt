@@ -1,25 +1,25 @@
 use Rattle.std.proofs.Common.{List, [], take, flat_map}
 use Rattle.omf_image.specs.declared.patch.Patch.{Patch}
 use Rattle.omf_image.specs.Records.{Entry, fixup_patches}
-use Rattle.omf_image.specs.Fixing.{entry_seen}
+use Rattle.omf_image.specs.inside.PlacedData.{entry_seen}
 use Rattle.omf_image.proofs.Meaning.{fixups_left, fixups_first}
-use Rattle.omf_image.proofs.Leading.{refused_on}
+use Rattle.omf_image.proofs.Leading.{refused_by}
 use Rattle.omf_image.proofs.repeated.lay_data.Goals as goal
 
-pub returns-in-Err-clause-gives : goal.returns-in-Err-clause-gives
-returns-in-Err-clause-gives g c =
-    let s = c.args.site.now in
-    refused_on c.in-Err.fault _ _ _ _ (fixups_first s.layout.now (entry_seen s) s.data_record.fixups.now c.if-site.count)
-    (c.in-Err.ensures.gives [] c.in_ok-stored.ensures.stored)
+pub returns-in_err-add_each_once-clause-gives : goal.returns-in_err-add_each_once-clause-gives
+returns-in_err-add_each_once-clause-gives g c =
+    let s = c.args.placed.now in
+    refused_by _ _ _ _ _ _ c.from_residual-in_err-add_each_once.ensures.1 (fixups_first s.layout.now (entry_seen s) s.data_record.fixups.now c.if-placed.count)
+    (c.in_err-add_each_once.ensures.gives [] c.in_ok-stored.ensures.stored)
 
 pub returns-clause-gives : goal.returns-clause-gives
 returns-clause-gives g c =
-    let s = c.args.site.now in
+    let s = c.args.placed.now in
     let e : Entry = entry_seen s in
     let xs = s.data_record.fixups.now in
-    let n = c.if-site.count in
+    let n = c.if-placed.count in
     let earlier : List Patch = flat_map (fixup_patches 0 s.layout.now e) (take n xs) in
-    let once = c.in-Ok.ensures.gives [] c.in_ok-stored.ensures.stored in (
+    let once = c.in_ok-add_each_once.ensures.gives [] c.in_ok-stored.ensures.stored in (
       c.in_ok-lay_copies.ensures.holds s.data_record.bytes.now earlier once.1,
       fixups_left s.layout.now e xs n once.0,
     )

@@ -1,5 +1,5 @@
 use Rattle.std.proofs.Common.{◌≡◌, ◌∙◌, ◌+◌, ◌-◌, ◌<◌, ℕ, List, length, get_or, take, drop, sym, ap, arith}
-use Rattle.omf_image.specs.Index.{hits_before}
+use Rattle.omf_image.specs.inside.Index.{hits_before}
 use Rattle.omf_image.proofs.Chains.{part, fits, read}
 use Rattle.omf_image.proofs.index.Index.hits.Goals as goal
 use Rattle.omf_image.proofs.index.Index.hits.Goals.{then-place-len+else-start-end, else-start-end-via-then-start-end+else-end-len, else-start-end-via-else-start-end, else-place-len}

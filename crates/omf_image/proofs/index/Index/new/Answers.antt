@@ -1,6 +1,6 @@
 use Rattle.std.proofs.Common.{◌≡◌, ◌∙◌, ◌+◌, ◌++◌, ◌<◌, ◌≤◌, ℕ, List, length, get_or, sym, ap, arith, subst}
 use Rattle.omf_image.specs.Records.{hits}
-use Rattle.omf_image.specs.Index.{Chain, hits_before}
+use Rattle.omf_image.specs.inside.Index.{Chain, hits_before}
 use Rattle.omf_image.proofs.Chains.{before_more, none_past, read, starts_more}
 use Rattle.omf_image.proofs.index.Index.new.Goals as goal
 

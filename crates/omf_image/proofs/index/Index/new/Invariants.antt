@@ -1,5 +1,5 @@
 use Rattle.std.proofs.Common.{◌≡◌, ℕ, ◌<◌, length, get_or}
-use Rattle.omf_image.specs.Index.{hits_before}
+use Rattle.omf_image.specs.inside.Index.{hits_before}
 use Rattle.omf_image.proofs.index.Index.new.Given as goal
 
 abbrev pub invariant-loop-place : goal.invariant-loop-place

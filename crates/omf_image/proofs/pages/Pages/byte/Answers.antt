@@ -1,7 +1,7 @@
 use Rattle.std.proofs.Common.{◌≡◌, ◌∙◌, ◌/◌, ◌%◌, ◌⊎◌, sym, ap, length, get_or, arith, vec_len}
 use Rattle.std.proofs.lemmas.Bool.{eqb-true, eqb-false}
 use Rattle.std.proofs.lemmas.List.{get_or_read}
-use Rattle.omf_image.specs.Pages.{Paged}
+use Rattle.omf_image.specs.inside.Pages.{Paged}
 use Rattle.omf_image.proofs.Paging.{length-joined, page_inside, page_is, byte_is, absent, page_bytes-present}
 use Rattle.omf_image.proofs.pages.Pages.byte.Goals as goal
 

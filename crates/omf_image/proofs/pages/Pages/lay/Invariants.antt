@@ -1,5 +1,5 @@
 use Rattle.std.proofs.Common.{◌-◌, ◌≤◌, length}
-use Rattle.omf_image.specs.Pages.{IsLaid, MakesPages}
+use Rattle.omf_image.specs.inside.Pages.{IsLaid, MakesPages}
 use Rattle.omf_image.proofs.Laying.{front}
 use Rattle.omf_image.proofs.pages.Pages.lay.Given as goal
 

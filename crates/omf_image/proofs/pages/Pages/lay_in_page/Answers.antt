@@ -2,7 +2,7 @@ use Rattle.std.proofs.Common.{◌≡◌, ◌∙◌, ℕ, ◌/◌, ◌%◌, sym, 
 use Rattle.std.proofs.lemmas.List.{with_items_is}
 use Rattle.std.proofs.lemmas.List.Elements.{All-set}
 use Rattle.std.specs.Vec.{with_items}
-use Rattle.omf_image.specs.Pages.{Paged, IsPage, IsLaid, joined, page_bytes}
+use Rattle.omf_image.specs.inside.Pages.{Paged, IsPage, IsLaid, joined, page_bytes}
 use Rattle.omf_image.proofs.Paging.{length-joined, page_inside, page_is, full, paged-replaced, made-replaced, AllBytes, bytes_page, bytes_at}
 use Rattle.omf_image.proofs.Laying.{laid-replaced, page_made}
 use Rattle.omf_image.proofs.pages.Pages.lay_in_page.Goals as goal

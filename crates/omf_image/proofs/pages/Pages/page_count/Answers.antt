@@ -1,7 +1,7 @@
 use Rattle.std.proofs.Common.{◌≡◌, ◌∙◌, sym, ap, arith, map, not, true, false, Bool, ℕ, List, count_by, get_or, Vec}
 use Rattle.std.proofs.lemmas.List.{take_all}
 use Rattle.std.proofs.lemmas.List.Sums.{count_by_more_yes, count_by_more_no}
-use Rattle.omf_image.specs.Pages.{Paged, made_pages}
+use Rattle.omf_image.specs.inside.Pages.{Paged, made_pages}
 use Rattle.omf_image.proofs.Paging.{made_at, length-made}
 use Rattle.omf_image.proofs.pages.Pages.page_count.Goals as goal
 use Rattle.omf_image.proofs.pages.Pages.page_count.Goals.{then-not-is_empty, else-not-is_empty}

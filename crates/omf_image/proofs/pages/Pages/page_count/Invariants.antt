@@ -1,5 +1,5 @@
 use Rattle.std.proofs.Common.{◌≡◌, count_by, take, map}
-use Rattle.omf_image.specs.Pages.{made_pages}
+use Rattle.omf_image.specs.inside.Pages.{made_pages}
 use Rattle.omf_image.proofs.pages.Pages.page_count.Given as goal
 
 abbrev pub invariant-loop-page : goal.invariant-loop-page

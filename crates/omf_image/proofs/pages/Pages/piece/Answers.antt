@@ -1,7 +1,7 @@
 use Rattle.std.proofs.Common.{◌≡◌, ◌∙◌, ℕ, ◌-◌, ◌/◌, ◌%◌, ◌⊎◌, sym, ap, length, take, drop, arith, vec_len}
 use Rattle.std.proofs.lemmas.Bool.{eqb-true, eqb-false}
 use Rattle.std.proofs.lemmas.List.{length-take, length-drop, length-replicate}
-use Rattle.omf_image.specs.Pages.{Paged}
+use Rattle.omf_image.specs.inside.Pages.{Paged}
 use Rattle.omf_image.proofs.Paging.{length-joined, page_inside, page_is, page_bytes-present, page_bytes-absent, piece_is}
 use Rattle.omf_image.proofs.pages.Pages.piece.Goals as goal
 

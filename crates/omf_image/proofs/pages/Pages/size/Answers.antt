@@ -1,5 +1,5 @@
 use Rattle.std.proofs.Common.{◌∙◌, sym, ap, subst, length}
-use Rattle.omf_image.specs.Pages.{Paged}
+use Rattle.omf_image.specs.inside.Pages.{Paged}
 use Rattle.omf_image.proofs.Paging.{length-joined, AllBytes, bytes_joined}
 use Rattle.omf_image.proofs.pages.Pages.size.Goals as goal
 

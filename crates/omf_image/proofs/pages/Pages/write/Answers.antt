@@ -1,7 +1,7 @@
 use Rattle.std.proofs.Common.{◌≡◌, ◌∙◌, ℕ, ◌/◌, ◌%◌, sym, ap, length, get_or, set, arith, inr, List, true, false, cond, eqb, Vec, ◌<◌, subst}
 use Rattle.std.proofs.lemmas.List.{length-set, with_items_is}
 use Rattle.std.proofs.lemmas.List.Elements.{All-set}
-use Rattle.omf_image.specs.Pages.{Paged}
+use Rattle.omf_image.specs.inside.Pages.{Paged}
 use Rattle.omf_image.proofs.Paging.{length-joined, page_inside, present, page_bytes-present, paged-replaced, joined-replaced, made-replaced, made_kept, AllBytes, bytes_at}
 use Rattle.omf_image.proofs.pages.Pages.write.Goals as goal
 

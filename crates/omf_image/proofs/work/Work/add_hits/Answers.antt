@@ -2,7 +2,7 @@ use Rattle.std.proofs.Common.{◌∙◌, ◌+◌, ◌++◌, ℕ, List, sym, ap, 
 use Rattle.std.proofs.lemmas.List.{append_assoc, take_all}
 use Rattle.omf_image.specs.declared.patch.Patch.{Patch}
 use Rattle.omf_image.specs.Value.{patches_at}
-use Rattle.omf_image.specs.Working.{state, Holds}
+use Rattle.omf_image.specs.inside.States.{state, Holds}
 use Rattle.omf_image.proofs.Touched.{flat_more}
 use Rattle.omf_image.proofs.work.Work.add_hits.Goals as goal
 

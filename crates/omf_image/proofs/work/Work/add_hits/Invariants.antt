@@ -1,7 +1,7 @@
 use Rattle.std.proofs.Common.{◌≡◌, ◌+◌, ◌++◌, ℕ, List, take, flat_map, length}
 use Rattle.omf_image.specs.declared.patch.Patch.{Patch}
 use Rattle.omf_image.specs.Value.{patches_at}
-use Rattle.omf_image.specs.Working.{State, state, IsRoom, Holds}
+use Rattle.omf_image.specs.inside.States.{State, state, IsRoom, Holds}
 use Rattle.omf_image.proofs.work.Work.add_hits.Given as goal
 
 abbrev pub invariant-loop-at : goal.invariant-loop-at

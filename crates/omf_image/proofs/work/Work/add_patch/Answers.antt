@@ -1,6 +1,6 @@
 use Rattle.std.proofs.Common.{◌≡◌, ◌∙◌, ◌++◌, ◌∷◌, [], ap, arith, length}
 use Rattle.std.proofs.lemmas.List.{with_items_is}
-use Rattle.omf_image.specs.Working.{state, begun}
+use Rattle.omf_image.specs.inside.States.{state, begun}
 use Rattle.omf_image.proofs.Holding.{holds_more, room_more, words_at, marked_same}
 use Rattle.omf_image.proofs.work.Work.add_patch.Goals as goal
 

@@ -1,8 +1,8 @@
 use Rattle.std.proofs.Common.{◌∙◌, ◌++◌, ◌∷◌, [], List, sym, ap, subst}
 use Rattle.std.proofs.lemmas.List.{append_assoc}
 use Rattle.omf_image.specs.declared.patch.Patch.{Patch}
-use Rattle.omf_image.specs.Looking.{listed}
-use Rattle.omf_image.specs.Working.{state, Holds}
+use Rattle.omf_image.specs.inside.Lookups.{listed}
+use Rattle.omf_image.specs.inside.States.{state, Holds}
 use Rattle.omf_image.proofs.work.Work.add_patches.Goals as goal
 
 pub returns-in-Some-clause-holds : goal.returns-in-Some-clause-holds

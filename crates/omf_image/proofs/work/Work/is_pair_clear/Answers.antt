@@ -1,6 +1,6 @@
 use Rattle.std.proofs.Common.{◌∙◌, ◌&&◌, ◌∷◌, [], Bool, sym, ap}
 use Rattle.omf_image.specs.Patch.{all_clear}
-use Rattle.omf_image.specs.Looking.{listed}
+use Rattle.omf_image.specs.inside.Lookups.{listed}
 use Rattle.omf_image.proofs.Touched.{pointer_clear}
 use Rattle.omf_image.proofs.Holding.{marked_same}
 use Rattle.omf_image.proofs.work.Work.is_pair_clear.Goals as goal

@@ -1,6 +1,6 @@
 use Rattle.std.proofs.Common.{◌∙◌, ◌+◌, ◌||◌, List, Bool, ap, arith, length, map, get_or, false}
 use Rattle.std.proofs.lemmas.List.{with_items_is}
-use Rattle.omf_image.specs.Working.{state}
+use Rattle.omf_image.specs.inside.States.{state}
 use Rattle.omf_image.proofs.Copying.{copies_hold}
 use Rattle.omf_image.proofs.work.Work.lay_copies.Goals as goal
 

@@ -1,0 +1,57 @@
+-- What holds of sound modules and their layout: what fix-ups and starts name is there, and data lies inside the
+-- program.
+use Rattle.std.specs.Prelude.{ℕ, ◌+◌, ◌<◌, ◌≤◌, All, List, length}
+use Rattle.omf_module.specs.declared.FixupFrame.{FixupFrame}
+use Rattle.omf_module.specs.declared.FixupFrame.TheVariants.{OfSegment, OfGroup, OfExternal, OfLocation, OfTarget}
+use Rattle.omf_module.specs.declared.FixupTarget.{FixupTarget}
+use Rattle.omf_module.specs.declared.FixupTarget.TheVariants as fixup_target
+use Rattle.omf_module.specs.declared.ResolvedFixup.{ResolvedFixup}
+use Rattle.omf_module.specs.Module.{Module}
+use Rattle.omf_place.specs.Layout.{Layout, places_of}
+use Rattle.omf_record.specs.Numbers.{location_width}
+use Rattle.omf_image.specs.Records.{Entry, entries, entry_start, bytes_of, stored_of}
+use Rattle.omf_image.specs.inside.WellPlaced.{LiesInContent}
+use Rattle.omf_record.specs.Expansion.{StandWhole, AreCopies}
+use Rattle.omf_image.specs.Registers.{StartEntry, starts}
+
+-- segments, groups and externals that a reference names are there
+abbrev pub IsTargetThere : Layout → (input : ℕ) → Module → FixupTarget → Type 0
+IsTargetThere layout input module' (fixup_target.Segment segment) = segment < length (places_of layout input).segments
+IsTargetThere layout input module' (fixup_target.Group group) = group < length (places_of layout input).groups
+IsTargetThere layout input module' (fixup_target.External external) = external < length module'.externals
+
+-- and so are those that its frame names
+abbrev pub IsFrameThere : Layout → (input : ℕ) → Module → (here : ℕ) → FixupFrame → Type 0
+IsFrameThere layout input module' here (OfSegment segment) = segment < length (places_of layout input).segments
+IsFrameThere layout input module' here (OfGroup group) = group < length (places_of layout input).groups
+IsFrameThere layout input module' here (OfExternal external) = external < length module'.externals
+IsFrameThere layout input module' here OfLocation = here < length (places_of layout input).segments
+IsFrameThere layout input module' here OfTarget = Unit {0}
+
+-- what a fix-up names is there, and its location lies in the contents of its data
+pub record IsFixupReady (layout : Layout) (entry : Entry) (fixup : ResolvedFixup) : Type 0 where
+  pub target : IsTargetThere layout entry.input entry.module' fixup.target
+  pub frame : IsFrameThere layout entry.input entry.module' entry.data_record.segment fixup.frame
+  pub lies : LiesInContent entry.data_record fixup
+  pub whole : StandWhole fixup.offset (location_width fixup.location) (stored_of entry.data_record)
+
+-- a data record has a part, lies inside the program, its fix-ups lie in its contents, and its bytes of one stored place
+-- are one byte
+pub record IsEntryReady (layout : Layout) (entry : Entry) : Type 0 where
+  pub input : entry.input < length layout.modules
+  pub segment : entry.data_record.segment < length (places_of layout entry.input).segments
+  pub inside : entry_start layout entry + length (bytes_of entry.data_record) ≤ layout.size
+  pub fixups : All (IsFixupReady layout entry) entry.data_record.fixups
+  pub copies : AreCopies entry.data_record.pairs
+
+-- a start's frame is never that of a location
+pub record IsStartReady (layout : Layout) (entry : StartEntry) : Type 0 where
+  pub input : entry.input < length layout.modules
+  pub target : IsTargetThere layout entry.input entry.module' entry.start.target
+  pub frame : IsFrameThere layout entry.input entry.module' 0 entry.start.frame
+
+-- all of them, and the program fits the format
+pub record IsReady (layout : Layout) (modules : List Module) : Type 0 where
+  pub small : layout.size ≤ 1048560
+  pub records : All (IsEntryReady layout) (entries modules)
+  pub starts : All (IsStartReady layout) (starts modules)
