@@ -11,7 +11,7 @@ use Rattle.mz.specs.declared.fault.MzFault.TheVariants.{Magic, Header, Truncated
 use Rattle.mz.specs.Header.{header_at, told_len, is_accepted}
 use Rattle.mz.specs.File.{MzFile}
 use Rattle.mz.specs.Reading.{TakesUpTo, reading, Gives, failures_in, reach, Takes}
-use Rattle.mz.specs.Steps.{ReadsOn, Stops, header_in, file_in}
+use Rattle.mz.specs.inside.Steps.{ReadsOn, Stops, header_in, file_in}
 use Rattle.mz.proofs.Taken.{Enough, header_at-append, header_fault, header_errors, file_in_errors, header_stands, behind_header, reads_truncated, is_cut, whole_behind, reach_behind, reach_least, nothing_more}
 use Rattle.mz.proofs.Accepting.{header_within, words_within}
 use Rattle.omf_frame.proofs.Told.{Consumes-trans, TakesAtMost-then}

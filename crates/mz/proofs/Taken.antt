@@ -12,7 +12,7 @@ use Rattle.mz.specs.declared.fault.MzFault.TheVariants.{Magic, Header, Truncated
 use Rattle.mz.specs.Header.{magic, header_at, header_len, told_len, is_accepted, is_inside}
 use Rattle.mz.specs.File.{MzFile}
 use Rattle.mz.specs.Reading.{entries_at, file_of, stands, reading, reach}
-use Rattle.mz.specs.Steps.{header_in, file_in}
+use Rattle.mz.specs.inside.Steps.{header_in, file_in}
 use Rattle.mz.proofs.Accepting.{header_within, words_within, table_within}
 
 pub word_at-append : (xs rest : List ℕ) (i : ℕ) → i + 2 ≤ length xs → word_at (xs ++ rest) i ≡ word_at xs i

@@ -5,6 +5,7 @@ use Rattle.std.specs.List.{list_all, AllByRecursion}
 use Rattle.std.proofs.lemmas.List.{append_assoc, length-append, length-replicate, length-take-le, get_or-take, drop_at, get_or-append-add}
 use Rattle.std.proofs.lemmas.List.Elements.{recursion_from_All}
 use Rattle.std.proofs.lemmas.Bool.{cases_Bool, eqb-true, eqb-false, cond-true, cond-false, and_from, or_right, le-leb, ne_eqb, not_from_false}
+use Rattle.omf_image.specs.Registers.{moved as registers_moved}
 use Rattle.omf_image.specs.Words.{word_at, put_word, add_word, add_words}
 use Rattle.omf_image.specs.Program.{Program, IsProgram}
 use Rattle.mz.specs.declared.format.Header.{Header}
@@ -14,7 +15,7 @@ use Rattle.mz.specs.declared.fault.MzFault.TheVariants.{RelocationOutside}
 use Rattle.mz.specs.Header.{magic, header_bytes, header_at, header_len, told_len, has_table_inside, is_accepted, entry_bytes, entry_address, is_inside}
 use Rattle.mz.specs.File.{paragraphs, file_image, file_len, header_of, entry_of, table, padding, written, MzFile}
 use Rattle.mz.specs.Reading.{entries_at, file_of, reading}
-use Rattle.mz.specs.Steps.{file_in}
+use Rattle.mz.specs.inside.Steps.{file_in}
 use Rattle.mz.specs.declared.fault.LoadFault.{LoadFault}
 use Rattle.mz.specs.declared.fault.LoadFault.TheVariants.{DoesNotFit}
 use Rattle.mz.specs.Loading.{Loaded, loaded, memory_len, needed_len, loading}
@@ -258,7 +259,7 @@ module _ (p : Program) (w : IsProgram p) where
   loaded_back : (P : ℕ) → loaded P (as_file p) ≡ moved P p
   unfolding loaded
   loaded_back P =
-      let made : List ℕ → Loaded = λ bs. record { bytes = bs; cs = (p.cs + P) % 65536; ip = p.ip; ss = (p.ss + P) % 65536; sp = p.sp } in
+      let made : List ℕ → Loaded = λ bs. record { bytes = bs; registers = registers_moved P p.registers } in
       ap (λ (rs : List ℕ). made (add_words P rs (file_image p))) (addresses_back p.relocations)
       ∙ ap made (add_words_front P p.written p.relocations p.image below)
 

@@ -1,5 +1,5 @@
--- The file of a program, as Microsoft published the EXE file: the header, the relocation table, bytes 00 to a whole paragraph, the image.
--- The file's image is the written part of the program's, up to the last byte that data covers.
+-- The file of a program, as Microsoft published the EXE file: the header, the relocation table, bytes 00 to a whole
+-- paragraph, the image. The file's image is the written part of the program's, up to the last byte that data covers.
 use Rattle.std.specs.Prelude.{◌≡◌, ℕ, ◌+◌, ◌-◌, ◌*◌, ◌/◌, ◌%◌, List, ◌++◌, flat_map, take, replicate, length}
 use Rattle.omf_image.specs.Program.{Program, IsProgram}
 use Rattle.mz.specs.declared.format.Header.{Header}
@@ -8,32 +8,35 @@ use Rattle.mz.specs.Header.{header_bytes, entry_bytes}
 
 -- the first bytes of the program's image, as many as are written
 abbrev pub file_image : Program → List ℕ
-file_image p = take p.written p.image
+file_image program = take program.written program.image
 
--- the paragraphs of a header with a table of n entries
+-- the paragraphs of a header with a table of so many entries
 abbrev pub paragraphs : ℕ → ℕ
-paragraphs n = (28 + 4 * n + 15) / 16
+paragraphs count = (28 + 4 * count + 15) / 16
 
+-- how many bytes the file has
 abbrev pub file_len : Program → ℕ
-file_len p = 16 * paragraphs (length p.relocations) + p.written
+file_len program = 16 * paragraphs (length program.relocations) + program.written
 
 -- e_minalloc: the paragraphs behind the whole ones of the file's image, up to the end of the program
 abbrev pub extra_paragraphs : Program → ℕ
-extra_paragraphs p = (length p.image + 15) / 16 - p.written / 16
+extra_paragraphs program = (length program.image + 15) / 16 - program.written / 16
 
+-- the header of the file: it asks for all memory behind the program (e_maxalloc), and CS, IP, SS and SP are the
+-- program's
 abbrev pub header_of : Program → Header
-header_of p = record {
-  last_page_bytes = file_len p % 512;
-  pages = (file_len p + 511) / 512;
-  relocation_count = length p.relocations;
-  header_paragraphs = paragraphs (length p.relocations);
-  least_extra_paragraphs = extra_paragraphs p;
+header_of program = record {
+  last_page_bytes = file_len program % 512;
+  pages = (file_len program + 511) / 512;
+  relocation_count = length program.relocations;
+  header_paragraphs = paragraphs (length program.relocations);
+  least_extra_paragraphs = extra_paragraphs program;
   greatest_extra_paragraphs = 65535;
-  ss = p.ss;
-  sp = p.sp;
+  ss = program.registers.ss;
+  sp = program.registers.sp;
   checksum = 0;
-  ip = p.ip;
-  cs = p.cs;
+  ip = program.registers.ip;
+  cs = program.registers.cs;
   relocation_table = 28;
   overlay = 0;
 }
@@ -46,15 +49,17 @@ entry_of address = record { offset = address % 16; segment = address / 16 }
 abbrev pub table : (addresses : List ℕ) → List ℕ
 table addresses = flat_map (λ address. entry_bytes (entry_of address)) addresses
 
+-- bytes 00 from the end of the table to the end of the header's last paragraph
 abbrev pub padding : Program → List ℕ
-padding p = replicate (16 * paragraphs (length p.relocations) - (28 + 4 * length p.relocations)) 0
+padding program = replicate (16 * paragraphs (length program.relocations) - (28 + 4 * length program.relocations)) 0
 
+-- the bytes of the file
 unfoldable pub written : Program → List ℕ
-written p = header_bytes (header_of p) ++ table p.relocations ++ padding p ++ file_image p
+written program = header_bytes (header_of program) ++ table program.relocations ++ padding program ++ file_image program
 
 -- these bytes are the file of a program
 abbrev pub Mz : Program → List ℕ → Type 0
-Mz p b = IsProgram p × (b ≡ written p)
+Mz program bytes = IsProgram program × (bytes ≡ written program)
 
 -- what a file holds: the words of its header, its relocation table and its image
 pub record MzFile : Type 0 where

@@ -1,6 +1,6 @@
 pub mod Header
 pub mod File
 pub mod Reading
-pub mod Steps
 pub mod Loading
 pub mod Laws
+pub mod inside

@@ -1,7 +1,10 @@
 -- The memory after a file was loaded at a paragraph P, and the registers, as Microsoft published the EXE file.
-use Rattle.std.specs.Prelude.{◌≡◌, ℕ, ◌+◌, ◌*◌, ◌/◌, ◌%◌, max, nat_le, if◌then◌else◌, List, map, length, Ok, Err}
+use Rattle.std.specs.Prelude.{◌≡◌, ℕ, ◌+◌, ◌*◌, ◌/◌, max, nat_le, if◌then◌else◌, List, map, length, Ok, Err}
 use Rattle.std.specs.declared.result.Result.{Result}
 use Rattle.omf_image.specs.Words.{add_words}
+use Rattle.omf_image.specs.declared.start.Registers.{Registers}
+use Rattle.omf_image.specs.Registers.{moved}
+use Rattle.mz.specs.declared.format.Header.{Header}
 use Rattle.mz.specs.declared.fault.LoadFault.{LoadFault}
 use Rattle.mz.specs.declared.fault.LoadFault.TheVariants.{DoesNotFit, Memory}
 use Rattle.mz.specs.Header.{entry_address}
@@ -10,38 +13,37 @@ use Rattle.mz.specs.File.{MzFile}
 -- the bytes of the image, the first of which stands at address 16 P, and the registers at the start
 pub record Loaded : Type 0 where
   pub bytes : List ℕ
-  pub cs : ℕ
-  pub ip : ℕ
-  pub ss : ℕ
-  pub sp : ℕ
+  pub registers : Registers
+
+-- the registers that a header holds
+abbrev pub header_registers : Header → Registers
+header_registers header = record { cs = header.cs; ip = header.ip; ss = header.ss; sp = header.sp }
 
 -- P is added to the word of each entry, in the order of the table, and to CS and SS, modulo 65,536.
 -- An entry's word stands at address 16 * (P + segment) + offset, and its place in the image is 16 P below that.
-unfoldable pub loaded : (P : ℕ) → MzFile → Loaded
-loaded P f = record {
-  bytes = add_words P (map entry_address f.entries) f.image;
-  cs = (f.header.cs + P) % 65536;
-  ip = f.header.ip;
-  ss = (f.header.ss + P) % 65536;
-  sp = f.header.sp;
+unfoldable pub loaded : (paragraph : ℕ) → MzFile → Loaded
+loaded paragraph file = record {
+  bytes = add_words paragraph (map entry_address file.entries) file.image;
+  registers = moved paragraph (header_registers file.header);
 }
 
 -- the end of the memory that a real-mode address reaches
 abbrev pub memory_len : ℕ
 memory_len = 1048576
 
--- how many bytes the program needs from the first of its image on: the image, and the extra paragraphs that the header asks
--- for at least, counted from the end of the image's whole paragraphs
+-- how many bytes the program needs from the first of its image on: the image, and the extra paragraphs that the header
+-- asks for at least, counted from the end of the image's whole paragraphs
 abbrev pub needed_len : MzFile → ℕ
-needed_len f = max (length f.image) (16 * (length f.image / 16 + f.header.least_extra_paragraphs))
+needed_len file = max (length file.image) (16 * (length file.image / 16 + file.header.least_extra_paragraphs))
 
 -- what loading a file at paragraph P answers
-unfoldable pub loading : (P : ℕ) → MzFile → Result Loaded LoadFault
-loading P f = if nat_le (16 * P + needed_len f) memory_len then Ok (loaded P f) else Err DoesNotFit
+unfoldable pub loading : (paragraph : ℕ) → MzFile → Result Loaded LoadFault
+loading paragraph file =
+    if nat_le (16 * paragraph + needed_len file) memory_len then Ok (loaded paragraph file) else Err DoesNotFit
 
 -- the answer is that one, unless there was no memory for a program that fits
 abbrev pub Loads : Result Loaded LoadFault → Result Loaded LoadFault → Type 0
-Loads (Ok l) expected = expected ≡ Ok l
+Loads (Ok answer) expected = expected ≡ Ok answer
 Loads (Err DoesNotFit) expected = expected ≡ Err DoesNotFit
-Loads (Err Memory) (Ok l) = Unit {0}
+Loads (Err Memory) (Ok answer) = Unit {0}
 Loads (Err Memory) (Err fault) = ⊥

@@ -1,5 +1,6 @@
 -- What reading a file answers, and where the source then stands.
-use Rattle.std.specs.Prelude.{◌≡◌, ℕ, zero, suc, ◌+◌, ◌≤◌, ◌==◌, Bool, false, not, ◌&&◌, ◌||◌, nat_le, nat_lt, if◌then◌else◌, List, [], ◌∷◌, length, take, drop, Ok, Err, IfSome}
+use Rattle.std.specs.Prelude.{◌≡◌, ℕ, zero, suc, ◌+◌, ◌≤◌, ◌==◌, Bool, false, not, ◌&&◌, ◌||◌, nat_le, nat_lt}
+use Rattle.std.specs.Prelude.{if◌then◌else◌, List, [], ◌∷◌, length, take, drop, Ok, Err, IfSome}
 use Rattle.std.specs.List.{list_all}
 use Rattle.std.specs.declared.option.Option.{Option}
 use Rattle.std.specs.declared.result.Result.{Result}
@@ -12,34 +13,39 @@ use Rattle.mz.specs.declared.fault.MzFault.TheVariants.{Magic, Header, Truncated
 use Rattle.mz.specs.Header.{magic, header_at, header_len, told_len, is_accepted, entry_at, is_inside}
 use Rattle.mz.specs.File.{MzFile}
 
--- n entries, one after the other from a place on
-abbrev pub entries_at : (n place : ℕ) → List ℕ → List Entry
-entries_at zero place b = []
-entries_at (suc n) place b = entry_at place b ∷ entries_at n (place + 4) b
+-- so many entries, one after the other from a place on
+abbrev pub entries_at : (count place : ℕ) → List ℕ → List Entry
+entries_at zero place bytes = []
+entries_at (suc count) place bytes = entry_at place bytes ∷ entries_at count (place + 4) bytes
 
 -- what a file holds, by its header. The image goes from the header's end to the file's.
 unfoldable pub file_of : List ℕ → MzFile
-file_of b =
-    let h = header_at b in
-    record { header = h; entries = entries_at h.relocation_count h.relocation_table b; image = drop (header_len h) (take (told_len h) b) }
+file_of bytes =
+    let header = header_at bytes in
+    record {
+      header = header;
+      entries = entries_at header.relocation_count header.relocation_table bytes;
+      image = drop (header_len header)
+          (take (told_len header) bytes);
+    }
 
 -- whether a fault stands in a file
 unfoldable pub stands : MzFault → List ℕ → Bool
-stands Magic b = nat_le 2 (length b) && not (word_at b 0 == magic)
-stands Header b = nat_le 28 (length b) && not (is_accepted (header_at b))
-stands Truncated b = nat_lt (length b) 28 || nat_lt (length b) (told_len (header_at b))
-stands RelocationOutside b = not (list_all (is_inside (length (file_of b).image)) (file_of b).entries)
-stands Device b = false
-stands Memory b = false
+stands Magic bytes = nat_le 2 (length bytes) && not (word_at bytes 0 == magic)
+stands Header bytes = nat_le 28 (length bytes) && not (is_accepted (header_at bytes))
+stands Truncated bytes = nat_lt (length bytes) 28 || nat_lt (length bytes) (told_len (header_at bytes))
+stands RelocationOutside bytes = not (list_all (is_inside (length (file_of bytes).image)) (file_of bytes).entries)
+stands Device bytes = false
+stands Memory bytes = false
 
 -- the first fault that stands in a file, or what it holds
 unfoldable pub reading : List ℕ → Result MzFile MzFault
-reading b =
-    if stands Magic b then Err Magic
-    else if stands Header b then Err Header
-    else if stands Truncated b then Err Truncated
-    else if stands RelocationOutside b then Err RelocationOutside
-    else Ok (file_of b)
+reading bytes =
+    if stands Magic bytes then Err Magic
+    else if stands Header bytes then Err Header
+    else if stands Truncated bytes then Err Truncated
+    else if stands RelocationOutside bytes then Err RelocationOutside
+    else Ok (file_of bytes)
 
 -- the answer is that one, unless the source failed or there was no memory
 abbrev pub Gives : Result MzFile MzFault → Result MzFile MzFault → Type 0
@@ -63,26 +69,26 @@ failures_in (Err Memory) = 0
 
 -- how many bytes reading may take before it answers
 abbrev pub reach : Result MzFile MzFault → List ℕ → ℕ
-reach (Ok file) b = told_len (header_at b)
-reach (Err Magic) b = 28
-reach (Err Header) b = 28
-reach (Err Truncated) b = length b
-reach (Err RelocationOutside) b = told_len (header_at b)
-reach (Err Device) b = 0
-reach (Err Memory) b = 0
+reach (Ok file) bytes = told_len (header_at bytes)
+reach (Err Magic) bytes = 28
+reach (Err Header) bytes = 28
+reach (Err Truncated) bytes = length bytes
+reach (Err RelocationOutside) bytes = told_len (header_at bytes)
+reach (Err Device) bytes = 0
+reach (Err Memory) bytes = 0
 
--- a front of at most n bytes was taken
+-- a front of at most so many bytes was taken
 abbrev pub TakesUpTo : Option (List ℕ) → Option (List ℕ) → ℕ → Type 0
-TakesUpTo old new n = (front : List ℕ) × Consumes old new front × (length front ≤ n)
+TakesUpTo old new count = (front : List ℕ) × Consumes old new front × (length front ≤ count)
 
 -- The bytes that the header tells were taken and no more; of a file that is cut off all; after a fault in the header at
 -- most its words. Where the source failed or there was no memory, no byte was taken that reading it whole would leave;
 -- only a source that failed may tell nothing afterwards.
 abbrev pub Takes : Option (List ℕ) → Option (List ℕ) → Result MzFile MzFault → Type 0
-Takes old new (Ok file) = IfSome old (λ b. Consumes old new (take (told_len (header_at b)) b))
+Takes old new (Ok file) = IfSome old (λ bytes. Consumes old new (take (told_len (header_at bytes)) bytes))
 Takes old new (Err Magic) = TakesUpTo old new 28
 Takes old new (Err Header) = TakesUpTo old new 28
 Takes old new (Err Truncated) = IfSome old (Consumes old new)
-Takes old new (Err RelocationOutside) = IfSome old (λ b. Consumes old new (take (told_len (header_at b)) b))
-Takes old new (Err Device) = IfSome old (λ b. TakesAtMost old new (reach (reading b) b))
-Takes old new (Err Memory) = IfSome old (λ b. TakesUpTo old new (reach (reading b) b))
+Takes old new (Err RelocationOutside) = IfSome old (λ bytes. Consumes old new (take (told_len (header_at bytes)) bytes))
+Takes old new (Err Device) = IfSome old (λ bytes. TakesAtMost old new (reach (reading bytes) bytes))
+Takes old new (Err Memory) = IfSome old (λ bytes. TakesUpTo old new (reach (reading bytes) bytes))

@@ -31,6 +31,7 @@ impl From<AllocError> for MzFault {
 
     ghost from_gives = { λ _ e. e ≡ Memory };
 
+    // Only memory runs out so.
     fn from(_error: AllocError) -> MzFault {
         MzFault::Memory
     }
@@ -53,6 +54,7 @@ impl From<AllocError> for LoadFault {
 
     ghost from_gives = { λ _ e. e ≡ Memory };
 
+    // Only memory runs out so.
     fn from(_error: AllocError) -> LoadFault {
         LoadFault::Memory
     }

@@ -1,7 +1,8 @@
 //! The header of the file, and the entries of its relocation table.
 ghost use Rattle.std.specs.Prelude.{◌≡◌, ◌+◌, ◌*◌, ◌≤◌, length};
 ghost use Rattle.omf_image.specs.Words.{word_at};
-ghost use Rattle.mz.specs.Header.{header_at, header_bytes, entry_at, entry_bytes, entry_address, header_len, told_len, has_table_inside, is_accepted, is_inside};
+ghost use Rattle.mz.specs.Header.{header_at, header_bytes, entry_at, entry_bytes, entry_address, header_len};
+ghost use Rattle.mz.specs.Header.{told_len, has_table_inside, is_accepted, is_inside};
 
 use byteorder::{ByteOrder, LittleEndian};
 

@@ -3,11 +3,12 @@ ghost use Rattle.std.specs.Prelude.{◌≡◌, ◌+◌, ◌≤◌, length, map, 
 ghost use Rattle.std.specs.List.{list_all};
 ghost use Rattle.omf_image.specs.Words.{add_word, add_words};
 ghost use Rattle.mz.specs.Header.{entry_address, is_inside};
-ghost use Rattle.mz.specs.Loading.{Loaded as PlainLoaded, needed_len, loading, Loads};
+ghost use Rattle.mz.specs.Loading.{needed_len, loading, Loads};
 
 use crate::fault::LoadFault;
 use crate::format::{Entry, PARAGRAPH_LEN, word};
 use crate::reading::MzFile;
+use omf_image::Registers;
 use std::alloc::{Allocator, Global};
 use std::marker::Model;
 
@@ -19,10 +20,7 @@ const MEMORY_LEN: usize = 1_048_576;
 #[derive(Drop)]
 pub struct Loaded<A: Allocator + Copy = Global> {
     bytes: Vec<u8, A>,
-    cs: u16,
-    ip: u16,
-    ss: u16,
-    sp: u16,
+    registers: Registers,
 }
 
 impl<A: Allocator + Copy> Model for Loaded<A> {
@@ -30,7 +28,7 @@ impl<A: Allocator + Copy> Model for Loaded<A> {
 
     ghost Value = { Loaded };
 
-    ghost view = { λ l. record { bytes = l.bytes.items; cs = l.cs; ip = l.ip; ss = l.ss; sp = l.sp } };
+    ghost view = { λ l. record { bytes = l.bytes.items; registers = l.registers } };
 }
 
 impl<A: Allocator + Copy> Loaded<A> {
@@ -41,32 +39,11 @@ impl<A: Allocator + Copy> Loaded<A> {
         &self.bytes
     }
 
-    /// The code segment's frame at the start.
-    pub fn cs(&self) -> u16
-        ensures { result ≡ self.now.cs }
+    /// The registers at the start, at the paragraph at which the file was loaded.
+    pub fn registers(&self) -> Registers
+        ensures { result ≡ self.now.registers }
     {
-        self.cs
-    }
-
-    /// The offset of the start in the code segment.
-    pub fn ip(&self) -> u16
-        ensures { result ≡ self.now.ip }
-    {
-        self.ip
-    }
-
-    /// The stack segment's frame at the start.
-    pub fn ss(&self) -> u16
-        ensures { result ≡ self.now.ss }
-    {
-        self.ss
-    }
-
-    /// The stack pointer at the start.
-    pub fn sp(&self) -> u16
-        ensures { result ≡ self.now.sp }
-    {
-        self.sp
+        self.registers
     }
 }
 
@@ -90,8 +67,8 @@ fn relocate(bytes: &mut [u8], entries: &[Entry], paragraph: u16)
     }
 }
 
-/// How many bytes the program needs from the first of its image on: the image, and the extra paragraphs that the header asks
-/// for at least, counted from the end of the image's whole paragraphs.
+/// How many bytes the program needs from the first of its image on: the image, and the extra paragraphs that the header
+/// asks for at least, counted from the end of the image's whole paragraphs.
 fn needed_len<A: Allocator + Copy>(file: &MzFile<A>) -> usize
     ensures { result ≡ needed_len file.now }
 {
@@ -119,9 +96,11 @@ pub fn load<A: Allocator + Copy, B: Allocator + Copy>(
     let header = file.header();
     Ok(Loaded {
         bytes,
-        cs: header.cs.wrapping_add(paragraph),
-        ip: header.ip,
-        ss: header.ss.wrapping_add(paragraph),
-        sp: header.sp,
+        registers: Registers {
+            cs: header.cs.wrapping_add(paragraph),
+            ip: header.ip,
+            ss: header.ss.wrapping_add(paragraph),
+            sp: header.sp,
+        },
     })
 }

@@ -1,12 +1,13 @@
 //! Reading a file.
-ghost use Rattle.std.specs.Prelude.{◌≡◌, ℕ, List, ◌+◌, ◌-◌, ◌*◌, ◌^◌, ◌<◌, ◌≤◌, length, vec_len, IfOk, IfErr, OnOk, OnErr, IfSome, IsTrue};
+ghost use Rattle.std.specs.Prelude.{◌≡◌, ℕ, List, ◌+◌, ◌-◌, ◌*◌, ◌^◌, ◌<◌, ◌≤◌, length, vec_len, IfOk, IfErr, OnOk};
+ghost use Rattle.std.specs.Prelude.{OnErr, IfSome, IsTrue};
 ghost use Rattle.std.specs.List.{list_all};
 ghost use Rattle.std.specs.Io.KnownBytes.{Consumes};
 ghost use Rattle.omf_frame.specs.Device.{TakesAtMost};
 ghost use Rattle.mz.specs.declared.fault.MzFault.TheVariants.{Memory};
 ghost use Rattle.mz.specs.Header.{header_len, told_len, is_accepted, is_inside};
 ghost use Rattle.mz.specs.Reading.{entries_at, reading, Gives, failures_in, Takes};
-ghost use Rattle.mz.specs.Steps.{ReadsOn, Stops, header_in, file_in};
+ghost use Rattle.mz.specs.inside.Steps.{ReadsOn, Stops, header_in, file_in};
 
 use crate::fault::MzFault;
 use crate::format::{ENTRY_LEN, Entry, HEADER_LEN, Header, MAGIC, word};
@@ -35,9 +36,15 @@ impl<A: Allocator + Copy> Model for MzFile<A> {
 
     ghost use Rattle.mz.specs.Header.{header_len, is_inside};
 
-    ghost view = { λ f. record { header = f.header; entries = f.entries.items; image = drop (header_len f.header) f.bytes.items } };
+    ghost view = { λ f. record {
+      header = f.header;
+      entries = f.entries.items;
+      image = drop
+          (header_len f.header) f.bytes.items;
+    } };
 
-    ghost invariant = { λ f. (header_len f.header ≤ length f.bytes.items) × IsTrue (list_all (is_inside (length f.bytes.items - header_len f.header)) f.entries.items) };
+    ghost invariant = { λ f. (header_len f.header ≤ length f.bytes.items)
+        × IsTrue (list_all (is_inside (length f.bytes.items - header_len f.header)) f.entries.items) };
 }
 
 impl<A: Allocator + Copy> MzFile<A> {
@@ -74,9 +81,12 @@ fn read_up_to<A: Allocator + Copy, S: Source>(
     requires short { vec_len bytes.old ≤ len }
     ensures device { S.failures source.new ≡ S.failures source.old + failures_in result }
     ensures stops { IfErr result Stops }
-    ensures read { OnOk result (ReadsOn len (S.remaining source.old) (S.remaining source.new) bytes.old.items bytes.new.items) }
-    ensures failed { OnErr result (TakesAtMost (S.remaining source.old) (S.remaining source.new) (len - vec_len bytes.old)) }
-    ensures memory { IfErr result (λ e. e ≡ Memory → (more : List ℕ) × Consumes (S.remaining source.old) (S.remaining source.new) more) }
+    ensures read { OnOk result (ReadsOn len (S.remaining source.old)
+        (S.remaining source.new) bytes.old.items bytes.new.items) }
+    ensures failed { OnErr result (TakesAtMost (S.remaining source.old) (S.remaining source.new)
+        (len - vec_len bytes.old)) }
+    ensures memory { IfErr result (λ e. e ≡ Memory → (more : List ℕ)
+        × Consumes (S.remaining source.old) (S.remaining source.new) more) }
 {
     let mut piece = [0; PIECE_LEN];
     while bytes.len() < len {
@@ -116,7 +126,8 @@ fn read_entries<A: Allocator + Copy>(
     bytes: &[u8],
 ) -> Result<Vec<Entry, A>, AllocError>
     requires { 0 < header.relocation_count → header.relocation_table + 4 * header.relocation_count ≤ length bytes.now }
-    ensures { IfOk result (λ entries. entries.items ≡ entries_at header.relocation_count header.relocation_table bytes.now) }
+    ensures { IfOk result
+        (λ entries. entries.items ≡ entries_at header.relocation_count header.relocation_table bytes.now) }
 {
     let mut entries = Vec::new(alloc);
     let start = usize::from(header.relocation_table);
@@ -159,9 +170,9 @@ fn file_of<A: Allocator + Copy>(
 /// Reads a file, no byte more than its header tells, and keeps its header words, its relocation table and its image.
 /// Memory is taken as the bytes come, whatever the header promises.
 ///
-/// The fault is the first of `Magic`, `Header`, `Truncated` and `RelocationOutside` that stands; `Device` where the source
-/// failed, and then once; or `Memory`. After `Magic` and `Header` at most the 28 bytes of the header's words were taken,
-/// after `Truncated` the source is at its end, after `RelocationOutside` just past the file.
+/// The fault is the first of `Magic`, `Header`, `Truncated` and `RelocationOutside` that stands; `Device` where the
+/// source failed, and then once; or `Memory`. After `Magic` and `Header` at most the 28 bytes of the header's words
+/// were taken, after `Truncated` the source is at its end, after `RelocationOutside` just past the file.
 pub fn read_mz<A: Allocator + Copy, S: Source>(
     alloc: A,
     source: &mut S,

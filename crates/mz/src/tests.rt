@@ -1,6 +1,7 @@
 //! Files as bytes: what is read of them and what is loaded.
 use super::*;
 use omf_frame::{MemSource, Source};
+use omf_image::Registers;
 use std::alloc::Global;
 use std::test::Fail;
 
@@ -52,8 +53,15 @@ fn a_file_is_read_and_loaded(rt: HostRuntime) {
     assert_eq!(rt; file.image(), [0xB8, 0, 0, 0x8E, 0xD8].as_slice());
     let loaded = load(rt.alloc(), &file, 0x1234).expect(&rt, "memory");
     assert_eq!(rt; loaded.bytes(), [0xB8, 0x34, 0x12, 0x8E, 0xD8].as_slice());
-    assert_eq!(rt; (loaded.cs(), loaded.ip()), (0x1234, 0));
-    assert_eq!(rt; (loaded.ss(), loaded.sp()), (0x1234, 0));
+    assert_eq!(rt;
+        loaded.registers(),
+        Registers {
+            cs: 0x1234,
+            ip: 0,
+            ss: 0x1234,
+            sp: 0
+        }
+    );
 }
 
 #[test]
@@ -129,7 +137,8 @@ fn a_header_without_relocations(rt: HostRuntime) -> Result<(), Fail> {
     Ok(())
 }
 
-/// A file with a table of three entries at 30 in a header of 48 bytes, and an image of 24 bytes that begins with a word.
+/// A file with a table of three entries at 30 in a header of 48 bytes, and an image of 24 bytes that begins with a
+/// word.
 const TWICE: [u8; 72] = [
     0x4D, 0x5A, 0x48, 0x00, 0x01, 0x00, 0x03, 0x00, 0x03, 0x00, 0x00, 0x00, 0xFF, 0xFF, 0x01, 0x00,
     0x10, 0x00, 0x00, 0x00, 0x02, 0x00, 0xFE, 0xFF, 0x1E, 0x00, 0x00, 0x00, 0x00, 0x00, 0x00, 0x00,
@@ -149,8 +158,15 @@ fn entries_that_overlap_and_repeat(rt: HostRuntime) -> Result<(), Fail> {
         loaded.bytes().get(..4),
         Some([0x03, 0x04, 0x01, 0x00].as_slice())
     );
-    assert_eq!(rt; (loaded.cs(), loaded.ip()), (0x0100, 2));
-    assert_eq!(rt; (loaded.ss(), loaded.sp()), (0x0103, 16));
+    assert_eq!(rt;
+        loaded.registers(),
+        Registers {
+            cs: 0x0100,
+            ip: 2,
+            ss: 0x0103,
+            sp: 16
+        }
+    );
     // the image of 24 bytes ends with the memory at FFFEH, and above it at FFFFH
     assert!(rt; load(rt.alloc(), &file, 0xFFFE).is_ok());
     assert_eq!(rt;

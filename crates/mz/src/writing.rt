@@ -1,10 +1,8 @@
 //! Writing the file of a program.
-ghost use Rattle.std.specs.Prelude.{◌≡◌, ◌+◌, ◌-◌, ◌*◌, ◌^◌, ◌<◌, ◌≤◌, All, length, drop, flat_map, OnOk, OnErr, is_ok, if◌then◌else◌, IsOkUnless};
-ghost use Rattle.std.specs.Io.KnownBytes.{Appends};
-ghost use Rattle.omf_frame.specs.Device.{AppendsFront};
+ghost use Rattle.std.specs.Prelude.{◌≡◌, ◌-◌, ◌*◌, ◌^◌, ◌<◌, All, length, IsOkUnless};
+ghost use Rattle.omf_frame.specs.Device.{Writes};
 ghost use Rattle.omf_image.specs.Program.{IsProgram};
-ghost use Rattle.mz.specs.Header.{entry_bytes};
-ghost use Rattle.mz.specs.File.{table, Mz, written, file_image, header_of, entry_of, paragraphs, padding};
+ghost use Rattle.mz.specs.File.{table, Mz, written, file_image, header_of, paragraphs, padding};
 ghost use Rattle.mz.specs.declared.fault.MzFault.TheVariants.{Device};
 
 use crate::fault::MzFault;
@@ -29,6 +27,7 @@ fn header_of<A: Allocator + Copy>(program: &Program<A>) -> Header
     let size = program.size() as usize;
     let written = program.written() as usize;
     let len = PARAGRAPH_LEN * paragraphs + written;
+    let registers = program.registers();
     Header {
         last_page_bytes: (len % PAGE_LEN) as u16,
         pages: len.div_ceil(PAGE_LEN) as u16,
@@ -36,11 +35,11 @@ fn header_of<A: Allocator + Copy>(program: &Program<A>) -> Header
         header_paragraphs: paragraphs as u16,
         least_extra_paragraphs: (size.div_ceil(PARAGRAPH_LEN) - written / PARAGRAPH_LEN) as u16,
         greatest_extra_paragraphs: u16::MAX,
-        ss: program.ss(),
-        sp: program.sp(),
+        ss: registers.ss,
+        sp: registers.sp,
         checksum: 0,
-        ip: program.ip(),
-        cs: program.cs(),
+        ip: registers.ip,
+        cs: registers.cs,
         relocation_table: HEADER_LEN as u16,
         overlay: 0,
     }
@@ -66,9 +65,7 @@ fn put_entries(addresses: &[u32], bytes: &mut [u8])
 fn put_table<K: Sink>(addresses: &[u32], sink: &mut K) -> Result<(), IoFault>
     requires low { All (λ address. address < 1048576) addresses.now }
     requires working { K.failures sink.old < 2 ^ 64 - 1 }
-    ensures count { K.failures sink.new ≡ K.failures sink.old + (if is_ok result then 0 else 1) }
-    ensures appended { OnOk result (Appends (K.written sink.old) (K.written sink.new) (table addresses.now)) }
-    ensures failed { OnErr result (AppendsFront (K.written sink.old) (K.written sink.new) (table addresses.now)) }
+    ensures { Writes K.written K.failures sink.old sink.new (table addresses.now) result }
 {
     let mut bytes = [0; ENTRIES_AT_ONCE * ENTRY_LEN];
     let mut at = 0;
@@ -88,9 +85,7 @@ fn put_image<A: Allocator + Copy, K: Sink>(
     sink: &mut K,
 ) -> Result<(), IoFault>
     requires { K.failures sink.old < 2 ^ 64 - 1 }
-    ensures count { K.failures sink.new ≡ K.failures sink.old + (if is_ok result then 0 else 1) }
-    ensures appended { OnOk result (Appends (K.written sink.old) (K.written sink.new) (file_image program.now)) }
-    ensures failed { OnErr result (AppendsFront (K.written sink.old) (K.written sink.new) (file_image program.now)) }
+    ensures { Writes K.written K.failures sink.old sink.new (file_image program.now) result }
 {
     let mut at = 0;
     let end = program.written();
@@ -107,9 +102,7 @@ fn put_image<A: Allocator + Copy, K: Sink>(
 fn put_file<A: Allocator + Copy, K: Sink>(program: &Program<A>, sink: &mut K) -> Result<(), IoFault>
     requires { K.failures sink.old < 2 ^ 64 - 1 }
     ensures limits { IsProgram program.now }
-    ensures count { K.failures sink.new ≡ K.failures sink.old + (if is_ok result then 0 else 1) }
-    ensures appended { OnOk result (Appends (K.written sink.old) (K.written sink.new) (written program.now)) }
-    ensures failed { OnErr result (AppendsFront (K.written sink.old) (K.written sink.new) (written program.now)) }
+    ensures written { Writes K.written K.failures sink.old sink.new (written program.now) result }
 {
     let header = header_of(program);
     let filled = HEADER_LEN + ENTRY_LEN * usize::from(header.relocation_count);
@@ -120,9 +113,9 @@ fn put_file<A: Allocator + Copy, K: Sink>(program: &Program<A>, sink: &mut K) ->
     put_image(program, sink)
 }
 
-/// Writes the file of a program: the header, the relocation table and the written part of the image, which goes out piece
-/// by piece. The header asks for the memory behind it, which the loader doesn't clear.
-/// The only fault is `Device`, where the sink failed; it then holds a front of the file. No memory is taken.
+/// Writes the file of a program: the header, the relocation table and the written part of the image, which goes out
+/// piece by piece. The header asks for the memory behind it, which the loader doesn't clear. The only fault is
+/// `Device`, where the sink failed; it then holds a front of the file. No memory is taken.
 pub fn write_mz<A: Allocator + Copy, K: Sink>(
     program: &Program<A>,
     sink: &mut K,
@@ -130,11 +123,10 @@ pub fn write_mz<A: Allocator + Copy, K: Sink>(
     requires { K.failures sink.old < 2 ^ 64 - 1 }
     // What is written is a file of the format.
     ensures format { Mz program.now (written program.now) }
-    // The sink failed exactly where the answer is `Device`, and then once.
+    // The only fault is `Device`.
     ensures device { IsOkUnless result Device }
-    ensures count { K.failures sink.new ≡ K.failures sink.old + (if is_ok result then 0 else 1) }
-    ensures appended { OnOk result (Appends (K.written sink.old) (K.written sink.new) (written program.now)) }
-    ensures failed { OnErr result (AppendsFront (K.written sink.old) (K.written sink.new) (written program.now)) }
+    // All of the file was written and the sink never failed; or a front of it was, and the sink failed once.
+    ensures written { Writes K.written K.failures sink.old sink.new (written program.now) result }
 {
     match put_file(program, sink) {
         Ok(()) => Ok(()),

@@ -7,7 +7,7 @@ use Rattle.mz.specs.declared.fault.MzFault.{MzFault}
 use Rattle.mz.specs.Header.{header_len, is_inside}
 use Rattle.mz.specs.File.{MzFile}
 use Rattle.mz.specs.Reading.{entries_at}
-use Rattle.mz.specs.Steps.{file_in}
+use Rattle.mz.specs.inside.Steps.{file_in}
 use Rattle.mz.proofs.Accepting.{header_within}
 use Rattle.mz.proofs.reading.file_of.Goals as goal
 

@@ -2,7 +2,7 @@ use Rattle.std.proofs.Common.{arith, ◌≡◌, ◌∙◌, ap, sym, subst, Err, 
 use Rattle.std.proofs.lemmas.Result.{err_from_is_err_and}
 use Rattle.omf_frame.proofs.Told.{TakesAtMost-more}
 use Rattle.mz.specs.Reading.{Takes}
-use Rattle.mz.specs.Steps.{ReadsOn, header_in}
+use Rattle.mz.specs.inside.Steps.{ReadsOn, header_in}
 use Rattle.mz.proofs.Source.{first_stops, header_exact, header_takes, accepts, second_stops, cut_exact, cut_takes, whole_exact, whole_takes, gives_fault}
 use Rattle.mz.proofs.reading.read_mz.Goals as goal
 
