@@ -6,7 +6,7 @@ use Rattle.std.specs.Io.KnownBytes.{Appends}
 use Rattle.std.proofs.lemmas.Option.{slice_get_within, get_or_from_slice_get}
 use Rattle.omf_frame.specs.Device.{AppendsFront}
 use Rattle.omf_frame.proofs.Told.{Appends-trans}
-use Rattle.omf_text.proofs.PrintLemmas.{flat_map-take_more, item_cut}
+use Rattle.omf_text.proofs.PrintLemmas.{flat_map-take_more, items_cut}
 
 -- the text of one more item was written
 pub item_more : {X : Type 0} (f : X → List ℕ) (xs : List X) (i : ℕ) (d : X) (a b c : Option (List ℕ)) → i < length xs
@@ -19,8 +19,9 @@ pub read_more : {X : Type 0} (f : X → List ℕ) (xs : List X) (i : ℕ) (x : X
 read_more f xs i x a b c e p q =
     item_more f xs i x a b c (slice_get_within xs i x e) p (subst (λ y. Appends b c (f y)) (sym (get_or_from_slice_get xs i x x e)) q)
 
--- a front of one more item was written
-pub read_cut : {X : Type 0} (f : X → List ℕ) (xs : List X) (i : ℕ) (x : X) (a b c : Option (List ℕ)) → slice_get xs i ≡ Some x
-    → Appends a b (flat_map f (take i xs)) → AppendsFront b c (f x) → AppendsFront a c (flat_map f xs)
-read_cut f xs i x a b c e p q =
-    item_cut f xs i x a b c (slice_get_within xs i x e) p (subst (λ y. AppendsFront b c (f y)) (sym (get_or_from_slice_get xs i x x e)) q)
+-- a writer failed at an item that is read by a look-up
+pub reads_cut : {X : Type 0} (f : X → List ℕ) (xs : List X) (i : ℕ) (x : X) (a b c : Option (List ℕ)) (l m n : ℕ) → slice_get xs i ≡ Some x
+    → Appends a b (flat_map f (take i xs)) → m ≡ l → AppendsFront b c (f x) × (n ≡ m + 1) → AppendsFront a c (flat_map f xs) × (n ≡ l + 1)
+reads_cut f xs i x a b c l m n e p none q =
+    items_cut f xs i x a b c l m n (slice_get_within xs i x e) p none
+    (subst (λ y. AppendsFront b c (f y) × (n ≡ m + 1)) (sym (get_or_from_slice_get xs i x x e)) q)

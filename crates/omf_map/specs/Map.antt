@@ -1,6 +1,7 @@
--- The map of a linked program: its segments, groups and publics, where it starts, and its size. What is out of range in a
--- table has no line.
-use Rattle.std.specs.Prelude.{ℕ, if◌then◌else◌, ◌+◌, ◌-◌, ◌*◌, List, [], ◌∷◌, ◌++◌, length, slice_get, Some, None, codes, decimal}
+-- The map of a linked program: its segments, groups and publics, where it starts, and its size. What is out of range in
+-- a table has no line.
+use Rattle.std.specs.Prelude.{ℕ, if◌then◌else◌, ◌+◌, ◌-◌, ◌*◌, List, [], ◌∷◌, ◌++◌, length, slice_get, Some, None}
+use Rattle.std.specs.Prelude.{codes, decimal}
 use Rattle.std.specs.declared.option.Option.{Option}
 use Rattle.std.specs.List.{concat, flat_map}
 use Rattle.std.specs.Option.{option_and_then, option_map_or}
@@ -19,6 +20,7 @@ use Rattle.omf_text.specs.Printing.{hexadecimal, left, printed_name}
 
 -- ---- segments
 
+-- the word for the kind of a segment
 abbrev pub kind_name : Standing → List ℕ
 kind_name (Absolute frame offset) = codes "absolute"
 kind_name (Relocatable alignment kinds.Private) = codes "private"
@@ -26,53 +28,64 @@ kind_name (Relocatable alignment kinds.Public) = codes "public"
 kind_name (Relocatable alignment kinds.Stack) = codes "stack"
 kind_name (Relocatable alignment kinds.Common) = codes "common"
 
+-- the address, the length, the kind, the name and the class of a segment
 abbrev pub segment_line : (start size : ℕ) → Segment → List ℕ
-segment_line start size s = concat (hexadecimal 6 start ∷ codes " " ∷ hexadecimal 6 size ∷ codes " " ∷ left 8 (kind_name s.standing)
-    ∷ codes " " ∷ printed_name s.name ∷ codes " " ∷ printed_name s.class ∷ codes "\n" ∷ [])
+segment_line start size segment =
+    concat (hexadecimal 6 start ∷ codes " " ∷ hexadecimal 6 size ∷ codes " " ∷ left 8 (kind_name segment.standing)
+    ∷ codes " " ∷ printed_name segment.name ∷ codes " " ∷ printed_name segment.class ∷ codes "\n" ∷ [])
 
 -- a combined segment has the name, the class and the kind of its first part
 unfoldable pub combined_line : List Module → Combined → List ℕ
-combined_line modules c = option_map_or (segment_line c.start (c.end - c.start)) (option_and_then (λ m. slice_get m.segments c.segment) (slice_get modules c.input)) []
+combined_line modules combined = option_map_or (segment_line combined.start (combined.end - combined.start))
+    (option_and_then (λ m. slice_get m.segments combined.segment) (slice_get modules combined.input)) []
 
+-- the line of an absolute segment, nothing of another
 abbrev pub line_at : Standing → Segment → List ℕ
-line_at (Absolute frame offset) s = segment_line (16 * frame + offset) s.length s
-line_at (Relocatable alignment kind) s = []
+line_at (Absolute frame offset) segment = segment_line (16 * frame + offset) segment.length segment
+line_at (Relocatable alignment kind) segment = []
 
 -- a segment that no linker places
 unfoldable pub absolute_line : Segment → List ℕ
-absolute_line s = line_at s.standing s
+absolute_line segment = line_at segment.standing segment
 
 -- ---- groups
 
+-- the paragraph of a group's frame, where it has members
 abbrev pub frame_text : Option ℕ → List ℕ
 frame_text None = codes "----"
 frame_text (Some frame) = hexadecimal 4 frame
 
+-- the frame and the name of a group
 abbrev pub named_group : Option ℕ → Group → List ℕ
-named_group frame g = concat (frame_text frame ∷ codes " " ∷ printed_name g.name ∷ codes "\n" ∷ [])
+named_group frame group = concat (frame_text frame ∷ codes " " ∷ printed_name group.name ∷ codes "\n" ∷ [])
 
 -- a group has the name of its first GRPDEF
 unfoldable pub group_line : List Module → GroupPlace → List ℕ
-group_line modules g = option_map_or (named_group g.frame) (option_and_then (λ m. slice_get m.groups g.group) (slice_get modules g.input)) []
+group_line modules group = option_map_or (named_group group.frame)
+    (option_and_then (λ m. slice_get m.groups group.group) (slice_get modules group.input)) []
 
 -- ---- publics
 
+-- where a public stands: R where it moves with the program, A where it doesn't
 abbrev pub address_text : Address → List ℕ
-address_text (address.Relocatable a) = concat (hexadecimal 6 a ∷ codes " R" ∷ [])
-address_text (address.Absolute a) = concat (hexadecimal 6 a ∷ codes " A" ∷ [])
+address_text (address.Relocatable bytes) = concat (hexadecimal 6 bytes ∷ codes " R" ∷ [])
+address_text (address.Absolute bytes) = concat (hexadecimal 6 bytes ∷ codes " A" ∷ [])
 
+-- the place and the name of a public
 abbrev pub placed_public : List ℕ → PublicPlace → List ℕ
-placed_public name p = concat (address_text p.address ∷ codes " " ∷ printed_name name ∷ codes "\n" ∷ [])
+placed_public name place = concat (address_text place.address ∷ codes " " ∷ printed_name name ∷ codes "\n" ∷ [])
 
 -- a public stands where its name does; a local one isn't listed
 unfoldable pub public_line : Layout → PublicSymbol → List ℕ
-public_line layout p = if p.local then [] else option_map_or (placed_public p.name) (public layout p.name) []
+public_line layout symbol =
+    if symbol.local then [] else option_map_or (placed_public symbol.name) (public layout symbol.name) []
 
 -- ---- the map
 
 -- the combined segments in the order of placement, then the absolute segments in order of inputs and records
 unfoldable pub segment_lines : List Module → Layout → List ℕ
-segment_lines modules layout = codes "segments\n" ++ (flat_map (combined_line modules) layout.combined ++ flat_map (λ (m : Module). flat_map absolute_line m.segments) modules)
+segment_lines modules layout = codes "segments\n" ++ (flat_map (combined_line modules) layout.combined
+    ++ flat_map (λ (m : Module). flat_map absolute_line m.segments) modules)
 
 -- in order of first meeting
 unfoldable pub group_lines : List Module → Layout → List ℕ
@@ -80,13 +93,18 @@ group_lines modules layout = codes "groups\n" ++ flat_map (group_line modules) l
 
 -- in order of inputs and records
 unfoldable pub public_lines : List Module → Layout → List ℕ
-public_lines modules layout = codes "publics\n" ++ flat_map (λ (m : Module). flat_map (public_line layout) m.publics) modules
+public_lines modules layout =
+    codes "publics\n" ++ flat_map (λ (m : Module). flat_map (public_line layout) m.publics) modules
 
 -- the registers at the start, the size in bytes, and how many words are relocated
 unfoldable pub program_lines : Program → List ℕ
-program_lines p = concat (codes "entry " ∷ hexadecimal 4 p.cs ∷ codes ":" ∷ hexadecimal 4 p.ip
-    ∷ codes "\nstack " ∷ hexadecimal 4 p.ss ∷ codes ":" ∷ hexadecimal 4 p.sp
-    ∷ codes "\nsize " ∷ hexadecimal 6 (length p.image) ∷ codes "\nrelocations " ∷ decimal (length p.relocations) ∷ codes "\n" ∷ [])
+program_lines program =
+    concat (codes "entry " ∷ hexadecimal 4 program.registers.cs ∷ codes ":" ∷ hexadecimal 4 program.registers.ip
+    ∷ codes "\nstack " ∷ hexadecimal 4 program.registers.ss ∷ codes ":" ∷ hexadecimal 4 program.registers.sp
+    ∷ codes "\nsize " ∷ hexadecimal 6 (length program.image)
+    ∷ codes "\nrelocations " ∷ decimal (length program.relocations) ∷ codes "\n" ∷ [])
 
+-- the whole map
 abbrev pub map_text : List Module → Layout → Program → List ℕ
-map_text modules layout program = segment_lines modules layout ++ (group_lines modules layout ++ (public_lines modules layout ++ program_lines program))
+map_text modules layout program = segment_lines modules layout
+    ++ (group_lines modules layout ++ (public_lines modules layout ++ program_lines program))

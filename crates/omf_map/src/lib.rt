@@ -2,7 +2,6 @@
 #![tactic(auto)]
 
 mod map;
-mod pieces;
 
 pub use map::put_map;
 

@@ -1,15 +1,17 @@
 -- Texts written one after the other, and the digits of a number.
-use Rattle.std.proofs.Common.{◌≡◌, ℕ, ◌+◌, ◌-◌, ◌/◌, ◌%◌, ◌<◌, ◌≤◌, List, [], ◌∷◌, ◌++◌, length, get_or, take, drop, map, replicate, min, set, refl, sym, ap, ap₂, subst, ◌∙◌, append_assoc, append-nil, arith, take-append-drop, Ok, Err, OnOk, OnErr, Result, Bor}
+use Rattle.std.proofs.Common.{◌≡◌, ℕ, ◌+◌, ◌-◌, ◌/◌, ◌%◌, ◌<◌, ◌≤◌, List, [], ◌∷◌, ◌++◌, length, get_or, take, drop, map, replicate, min, set, refl, sym, ap, ap₂, subst, ◌∙◌, append_assoc, append-nil, arith, take-append-drop, Ok, Err, Result, Bor}
 use Rattle.std.specs.declared.option.Option.{Option}
+use Rattle.std.specs.Result.{IsErrAnd}
 use Rattle.std.specs.List.{concat, flat_map}
 use Rattle.std.specs.Io.KnownBytes.{Appends}
 use Rattle.std.specs.Int.Digits.{digits_of}
 use Rattle.std.proofs.lemmas.List.{take_more, take-set-le, drop-set, drop-replicate, take-replicate, length-replicate, length-drop, drop-append-le, map-append, nil_from_length, take-take, take_all}
 use Rattle.std.proofs.lemmas.Grind.{flat_map-append}
 use Rattle.std.proofs.lemmas.Int.Digits.{digits_of_step, length-digits_of-le}
-use Rattle.omf_frame.specs.Device.{AppendsFront}
-use Rattle.omf_frame.proofs.Told.{Appends-trans, AppendsFront-more, AppendsFront-then}
-use Rattle.omf_text.specs.Printing.{AppendsBut, digit, hexadecimal}
+use Rattle.omf_frame.specs.Device.{AppendsFront, Wrote}
+use Rattle.omf_frame.proofs.Told.{Appends-trans, AppendsFront-more, AppendsFront-then, Wrote-then}
+use Rattle.omf_text.specs.Printing.{digit, hexadecimal}
+use Rattle.omf_text.specs.inside.Printing.{AppendsBut, WroteBut}
 
 -- ---- texts one after the other
 
@@ -46,23 +48,32 @@ item_cut f xs i d a b c h p q =
 pub all_items : {X : Type 0} (f : X → List ℕ) (xs : List X) (i : ℕ) (a b : Option (List ℕ)) → length xs ≤ i → Appends a b (flat_map f (take i xs)) → Appends a b (flat_map f xs)
 all_items f xs i a b h p = subst (λ l. Appends a b (flat_map f l)) (take_all i xs h) p
 
-pub ok_weaker : {T E P Q : Type 0} (r : Result T E) → (P → Q) → OnOk r P → OnOk r Q
-ok_weaker (Ok x) f p = f p
-ok_weaker (Err e) f p = p
-
-pub err_weaker : {T E P Q : Type 0} (r : Result T E) → (P → Q) → OnErr r P → OnErr r Q
-err_weaker (Ok x) f p = p
-err_weaker (Err e) f p = f p
+-- a writer failed at one of the items
+pub items_cut : {X : Type 0} (f : X → List ℕ) (xs : List X) (i : ℕ) (d : X) (a b c : Option (List ℕ)) (l m n : ℕ) → i < length xs
+    → Appends a b (flat_map f (take i xs)) → m ≡ l → AppendsFront b c (f (get_or xs i d)) × (n ≡ m + 1)
+    → AppendsFront a c (flat_map f xs) × (n ≡ l + 1)
+items_cut f xs i d a b c l m n h p none q = (item_cut f xs i d a b c h p q.0, q.1 ∙ ap (λ k. k + 1) none)
 
 -- ---- an end that is held back
 
-held_cut : (held text : List ℕ) (a b c : Option (List ℕ)) → AppendsBut held a b text → AppendsFront b c held → AppendsFront a c text
-held_cut held text a b c (front, split, done) p = subst (AppendsFront a c) (sym split) (AppendsFront-then a b c front held done p)
+-- what was held back is written
+pub Wrote-held : {X Y E : Type 0} (f : X → List ℕ) (xs : List X) (i : ℕ) (held : List ℕ) (a b c : Option (List ℕ)) (l m n : ℕ) (r : Result Y E)
+    → length xs ≤ i → AppendsBut held a b (flat_map f (take i xs)) → m ≡ l → Wrote b c m n held r → Wrote a c l n (flat_map f xs) r
+Wrote-held f xs i held a b c l m n r h (front, split, done) none p =
+    subst (λ text. Wrote a c l n text r) (sym split ∙ ap (flat_map f) (take_all i xs h)) (Wrote-then a b c l m n front held r (done, none) p)
 
--- a front of the end was written
-pub end_cut : {X : Type 0} (f : X → List ℕ) (xs : List X) (i : ℕ) (held : List ℕ) (a b c : Option (List ℕ)) → length xs ≤ i
-    → AppendsBut held a b (flat_map f (take i xs)) → AppendsFront b c held → AppendsFront a c (flat_map f xs)
-end_cut f xs i held a b c h kept p = subst (λ l. AppendsFront a c (flat_map f l)) (take_all i xs h) (held_cut held _ a b c kept p)
+-- what was held back couldn't be written
+pub WroteBut-cut : {X E : Type 0} (Q : E → Type 0) (held : List ℕ) (a b : Option (List ℕ)) (m n : ℕ) (bs more : List ℕ) (r : Result X E)
+    → AppendsFront a b bs × (n ≡ m + 1) → IsErrAnd r Q → WroteBut held a b m n (bs ++ more) r
+WroteBut-cut Q held a b m n bs more (Ok x) p is = absurd is
+WroteBut-cut Q held a b m n bs more (Err e) p is = (AppendsFront-more a b bs more _ p.0 refl, p.1)
+
+-- what was held back is written, and more is, so that nothing is held back
+pub WroteBut-then : {X E : Type 0} (held : List ℕ) (a b c : Option (List ℕ)) (l m n : ℕ) (bs cs : List ℕ) (r : Result X E)
+    → held ≡ [] → Appends a b bs → m ≡ l → Wrote b c m n cs r → WroteBut held a c l n (bs ++ cs) r
+WroteBut-then held a b c l m n bs cs (Ok x) empty p none q =
+    ((bs ++ cs, sym (ap (λ end. (bs ++ cs) ++ end) empty ∙ append-nil (bs ++ cs)), Appends-trans a b c bs cs p q.0), q.1 ∙ none)
+WroteBut-then held a b c l m n bs cs (Err e) empty p none q = (AppendsFront-then a b c bs cs p q.0, q.1 ∙ ap (λ k. k + 1) none)
 
 -- one more piece is written or held back
 pub piece_held : {X : Type 0} (f : X → List ℕ) (xs : List X) (i : ℕ) (d : X) (held after : List ℕ) (a b c : Option (List ℕ)) → i < length xs

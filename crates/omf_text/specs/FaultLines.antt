@@ -1,11 +1,11 @@
--- How a fault is printed, and the exit status that it gives.
+-- How a fault is printed, and the exit status that it gives. A label is the number and the name of a fault.
 use Rattle.std.specs.Prelude.{ℕ, ◌==◌, ◌||◌, if◌then◌else◌, List, [], ◌∷◌, ◌++◌, codes, decimal, Some, None}
 use Rattle.std.specs.declared.option.Option.{Option}
 use Rattle.std.specs.List.{concat}
 use Rattle.std.specs.Option.{option_map}
 use Rattle.std.specs.Borrow.{Bor}
-use Rattle.omf_text.specs.declared.fault.RecordFault.{RecordFault}
-use Rattle.omf_text.specs.declared.fault.RecordFault.TheVariants as fault
+use Rattle.omf_text.specs.declared.fault.InputFault.{InputFault}
+use Rattle.omf_text.specs.declared.fault.InputFault.TheVariants as fault
 use Rattle.omf_text.specs.declared.fault.ProgramFault.{ProgramFault}
 use Rattle.omf_text.specs.declared.fault.ProgramFault.TheVariants as program
 use Rattle.omf_text.specs.declared.fault.FileFault.{FileFault}
@@ -15,7 +15,7 @@ use Rattle.omf_text.specs.declared.fault.LinkFault.TheVariants as link
 use Rattle.omf_text.specs.Printing.{printed_name}
 
 -- the number and the name of a record's fault
-abbrev pub label : RecordFault → ℕ × List ℕ
+abbrev pub label : InputFault → ℕ × List ℕ
 label fault.ZeroLength = (2, codes "ZeroLength")
 label fault.Truncated = (3, codes "Truncated")
 label fault.Closing = (4, codes "Closing")
@@ -45,7 +45,8 @@ label fault.OverlapRelocated = (32, codes "OverlapRelocated")
 label fault.TwoStarts = (33, codes "TwoStarts")
 label fault.InputTooLong = (41, codes "InputTooLong")
 
-abbrev pub place_in_body : RecordFault → Option ℕ
+-- where in the body the fault is, where the body is at fault
+abbrev pub place_in_body : InputFault → Option ℕ
 place_in_body (fault.Body at) = Some at
 place_in_body _ = None
 
@@ -79,34 +80,36 @@ abbrev pub number : {A : Type 0} → LinkFault A → Option ℕ
 number link.Memory = None
 number link.Output = Some 40
 number (link.Device input place) = Some 1
-number (link.Record input place f) = Some (label f).0
-number (link.Program f) = Some (program_label f).0
-number (link.File f) = Some (file_label f).0
+number (link.Record input place fault') = Some (label fault').0
+number (link.Program fault') = Some (program_label fault').0
+number (link.File fault') = Some (file_label fault').0
 
+-- a fault's name
 abbrev pub name : {A : Type 0} → LinkFault A → List ℕ
 name link.Memory = codes "memory"
 name link.Output = codes "Device"
 name (link.Device input place) = codes "Device"
-name (link.Record input place f) = (label f).1
-name (link.Program f) = (program_label f).1
-name (link.File f) = (file_label f).1
+name (link.Record input place fault') = (label fault').1
+name (link.Program fault') = (program_label fault').1
+name (link.File fault') = (file_label fault').1
 
 -- the input at fault; the file that is loaded is the only one
 abbrev pub input : {A : Type 0} → LinkFault A → Option ℕ
 input link.Memory = None
 input link.Output = None
-input (link.Device n place) = Some n
-input (link.Record n place f) = Some n
-input (link.Program f) = None
-input (link.File f) = Some 0
+input (link.Device input' place) = Some input'
+input (link.Record input' place fault') = Some input'
+input (link.Program fault') = None
+input (link.File fault') = Some 0
 
 -- 3 for want of memory and where a device failed, faults 1 and 40, and 1 for any other fault
 abbrev pub status_of : Option ℕ → ℕ
 status_of None = 3
-status_of (Some n) = if n == 1 || n == 40 then 3 else 1
+status_of (Some number') = if number' == 1 || number' == 40 then 3 else 1
 
+-- the exit status of a command that stopped for this fault
 abbrev pub status : {A : Type 0} → LinkFault A → ℕ
-status f = status_of (number f)
+status fault = status_of (number fault)
 
 -- the place in the body, where the body is at fault, and the line end
 unfoldable pub line_end : Option ℕ → List ℕ
@@ -120,8 +123,10 @@ line_start word label = concat (codes "omf: " ∷ word ∷ codes ": " ∷ decima
 -- the line of a fault of a record up to its place, `file` being its input
 unfoldable pub line_front : (file : List ℕ) (number : ℕ) (name : List ℕ) (place : ℕ) → List ℕ
 line_front file number name place =
-    concat (codes "omf: " ∷ file ∷ codes ": " ∷ decimal number ∷ codes " " ∷ name ∷ codes " at record " ∷ decimal place ∷ [])
+    concat (codes "omf: " ∷ file ∷ codes ": " ∷ decimal number ∷ codes " " ∷ name
+    ∷ codes " at record " ∷ decimal place ∷ [])
 
+-- the line of a fault of a record
 abbrev pub record_line : (file : List ℕ) (label : ℕ × List ℕ) (place : ℕ) (place_in_body : Option ℕ) → List ℕ
 record_line file label place place_in_body = line_front file label.0 label.1 place ++ line_end place_in_body
 
@@ -147,6 +152,6 @@ abbrev pub fault_line : {A : Type 0} → LinkFault A → List ℕ → List ℕ
 fault_line link.Memory file = codes "omf: memory\n"
 fault_line link.Output file = concat (codes "omf: " ∷ file ∷ codes ": 40 Device\n" ∷ [])
 fault_line (link.Device input place) file = record_line file (1, codes "Device") place None
-fault_line (link.Record input place f) file = record_line file (label f) place (place_in_body f)
-fault_line (link.Program f) file = program_line (program_label f) (name_at_fault f)
-fault_line (link.File f) file = file_line file (file_label f)
+fault_line (link.Record input place fault') file = record_line file (label fault') place (place_in_body fault')
+fault_line (link.Program fault') file = program_line (program_label fault') (name_at_fault fault')
+fault_line (link.File fault') file = file_line file (file_label fault')

@@ -1,5 +1,6 @@
 pub mod Printing
 pub mod FaultLines
 pub mod Listing
-pub mod Pieces
 pub mod Details
+pub mod Pieces
+pub mod inside

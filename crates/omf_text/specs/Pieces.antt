@@ -1,11 +1,14 @@
 -- How each piece of a line is printed.
 use Rattle.std.specs.Prelude.{List, ℕ, decimal}
-use Rattle.omf_record.specs.Numbers.{bit, thread_number, location_number, alignment_number, combination_number, segment_len}
+use Rattle.omf_record.specs.Numbers.{bit, thread_number, location_number, alignment_number, combination_number}
+use Rattle.omf_record.specs.Numbers.{segment_len}
 use Rattle.omf_text.specs.declared.pieces.Piece.{Piece}
 use Rattle.omf_text.specs.declared.pieces.Piece.TheVariants as piece
 use Rattle.omf_text.specs.Printing.{hexadecimal, printed_name}
-use Rattle.omf_text.specs.Details.{comment_bytes, expanded, absolute, mode, frame_method, target_method, frame_of, target_of, displacement}
+use Rattle.omf_text.specs.Details.{comment_bytes, expanded, absolute, mode, frame_method, target_method, frame_of}
+use Rattle.omf_text.specs.Details.{target_of, displacement}
 
+-- the text of a piece
 abbrev pub printed : Piece → List ℕ
 printed (piece.Text text) = text.now
 printed (piece.Index n) = decimal n
@@ -13,6 +16,7 @@ printed (piece.Count n) = decimal n
 printed (piece.Byte n) = hexadecimal 2 n
 printed (piece.Place n) = hexadecimal 3 n
 printed (piece.Word n) = hexadecimal 4 n
+printed (piece.Address n) = hexadecimal 6 n
 printed (piece.Name name) = printed_name name.now
 printed (piece.Bit b) = decimal (bit b)
 printed (piece.CommentBytes bytes) = comment_bytes bytes.now

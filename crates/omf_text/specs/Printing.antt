@@ -1,17 +1,18 @@
 -- Printed text: lists of ASCII bytes.
-use Rattle.std.specs.declared.option.Option.{Option}
-use Rattle.std.specs.Io.KnownBytes.{Appends}
-use Rattle.std.specs.Prelude.{◌≡◌, ℕ, ◌+◌, ◌-◌, ◌/◌, ◌%◌, ◌==◌, ◌&&◌, not, Bool, nat_le, nat_lt, if◌then◌else◌, List, [], ◌∷◌, ◌++◌, length, map, replicate}
+use Rattle.std.specs.Prelude.{ℕ, ◌+◌, ◌-◌, ◌/◌, ◌%◌, ◌==◌, ◌&&◌, not, Bool, nat_le, nat_lt, if◌then◌else◌, List, []}
+use Rattle.std.specs.Prelude.{◌∷◌, ◌++◌, length, map, replicate}
 use Rattle.std.specs.List.{flat_map}
 use Rattle.std.specs.Int.Digits.{digits_of}
 
 -- the digit of a value below 16: 0 to 9, A to F
 abbrev pub digit : ℕ → ℕ
-digit n = if nat_lt n 10 then 48 + n else 55 + n
+digit value = if nat_lt value 10 then 48 + value else 55 + value
 
--- at least so many hexadecimal digits, with leading zeros; `digits_of` gives a number's digits, the highest first, and none of 0
+-- at least so many hexadecimal digits, with leading zeros; `digits_of` gives a number's digits, the highest first, and
+-- none of 0
 unfoldable pub hexadecimal : ℕ → ℕ → List ℕ
-hexadecimal width n = let digits = map digit (digits_of 16 n) in replicate (width - length digits) 48 ++ digits
+hexadecimal width number =
+    let digits = map digit (digits_of 16 number) in replicate (width - length digits) 48 ++ digits
 
 -- a text with spaces behind it, up to the width
 abbrev pub left : ℕ → List ℕ → List ℕ
@@ -23,16 +24,12 @@ right width text = replicate (width - length text) 32 ++ text
 
 -- whether a byte of a printed name stands as it is: 20H to 7EH other than the quote and the backslash
 unfoldable pub is_plain : ℕ → Bool
-is_plain b = nat_le 32 b && nat_le b 126 && not (b == 34) && not (b == 92)
+is_plain byte = nat_le 32 byte && nat_le byte 126 && not (byte == 34) && not (byte == 92)
 
 -- any other byte is printed by its two digits
 abbrev pub name_byte : ℕ → List ℕ
-name_byte b = if is_plain b then b ∷ [] else 92 ∷ 120 ∷ digit (b / 16) ∷ digit (b % 16) ∷ []
+name_byte byte = if is_plain byte then byte ∷ [] else 92 ∷ 120 ∷ digit (byte / 16) ∷ digit (byte % 16) ∷ []
 
 -- a name between two quotes
 unfoldable pub printed_name : List ℕ → List ℕ
 printed_name name = 34 ∷ [] ++ flat_map name_byte name ++ 34 ∷ []
-
--- the text was appended, but for an end of it that is held back
-abbrev pub AppendsBut : (held : List ℕ) (old new : Option (List ℕ)) → List ℕ → Type 0
-AppendsBut held old new text = (front : List ℕ) × (text ≡ front ++ held) × Appends old new front

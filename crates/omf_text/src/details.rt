@@ -1,8 +1,7 @@
 //! The lines of a record: what it says. Nothing here takes memory.
-ghost use Rattle.std.specs.Prelude.{◌≡◌, ◌+◌, ◌-◌, ◌^◌, ◌<◌, ◌++◌, [], None, Some, OnErr, OnOk, is_ok, length, map, if◌then◌else◌};
+ghost use Rattle.std.specs.Prelude.{◌≡◌, ◌+◌, ◌-◌, ◌^◌, ◌<◌, ◌++◌, [], None, Some, length, map};
 ghost use Rattle.std.specs.List.{flat_map};
-ghost use Rattle.std.specs.Io.KnownBytes.{Appends};
-ghost use Rattle.omf_frame.specs.Device.{AppendsFront};
+ghost use Rattle.omf_frame.specs.Device.{Writes};
 ghost use Rattle.omf_record.specs.Record as says;
 ghost use Rattle.omf_record.specs.View.{block_view, external_view, public_view, view};
 ghost use Rattle.omf_text.specs.Details as spec;
@@ -18,32 +17,29 @@ use omf_record::{
 };
 use std::alloc::Allocator;
 
+// Writes the line of a name.
 fn put_name_line<K: Sink>(sink: &mut K, name: &[u8]) -> Result<(), IoFault>
     requires { K.failures sink.old < 2 ^ 64 - 1 }
-    ensures count { K.failures sink.new ≡ K.failures sink.old + (if is_ok result then 0 else 1) }
-    ensures appended { OnOk result (Appends (K.written sink.old) (K.written sink.new) (spec.name_line name.now)) }
-    ensures failed { OnErr result (AppendsFront (K.written sink.old) (K.written sink.new) (spec.name_line name.now)) }
+    ensures { Writes K.written K.failures sink.old sink.new (spec.name_line name.now) result }
 {
     let pieces = [Piece::Text("  name "), Piece::Name(name), Piece::Text("\n")];
     put_each(sink, pieces.as_slice())
 }
 
+// Writes the line of a THEADR.
 #[tactic(auto, unfolding(crate::specs::Details::details))]
 fn put_header<K: Sink>(sink: &mut K, name: &[u8]) -> Result<(), IoFault>
     requires { K.failures sink.old < 2 ^ 64 - 1 }
-    ensures count { K.failures sink.new ≡ K.failures sink.old + (if is_ok result then 0 else 1) }
-    ensures appended { OnOk result (Appends (K.written sink.old) (K.written sink.new) (details (says.Theadr name.now))) }
-    ensures failed { OnErr result (AppendsFront (K.written sink.old) (K.written sink.new) (details (says.Theadr name.now))) }
+    ensures { Writes K.written K.failures sink.old sink.new (details (says.Theadr name.now)) result }
 {
     put_name_line(sink, name)
 }
 
+// Writes the line of a COMENT.
 #[tactic(auto, unfolding(crate::specs::Details::details))]
 fn put_comment<K: Sink>(sink: &mut K, kind: u8, class: u8, bytes: &[u8]) -> Result<(), IoFault>
     requires { K.failures sink.old < 2 ^ 64 - 1 }
-    ensures count { K.failures sink.new ≡ K.failures sink.old + (if is_ok result then 0 else 1) }
-    ensures appended { OnOk result (Appends (K.written sink.old) (K.written sink.new) (details (says.Coment kind class bytes.now))) }
-    ensures failed { OnErr result (AppendsFront (K.written sink.old) (K.written sink.new) (details (says.Coment kind class bytes.now))) }
+    ensures { Writes K.written K.failures sink.old sink.new (details (says.Coment kind class bytes.now)) result }
 {
     let pieces = [
         Piece::Text("  comment "),
@@ -61,9 +57,7 @@ fn put_comment<K: Sink>(sink: &mut K, kind: u8, class: u8, bytes: &[u8]) -> Resu
 #[tactic(auto, unfolding(crate::specs::Details::details))]
 fn put_plain_end<K: Sink>(sink: &mut K, main: bool) -> Result<(), IoFault>
     requires { K.failures sink.old < 2 ^ 64 - 1 }
-    ensures count { K.failures sink.new ≡ K.failures sink.old + (if is_ok result then 0 else 1) }
-    ensures appended { OnOk result (Appends (K.written sink.old) (K.written sink.new) (details (says.Modend main None))) }
-    ensures failed { OnErr result (AppendsFront (K.written sink.old) (K.written sink.new) (details (says.Modend main None))) }
+    ensures { Writes K.written K.failures sink.old sink.new (details (says.Modend main None)) result }
 {
     let pieces = [
         Piece::Text("  main "),
@@ -77,9 +71,7 @@ fn put_plain_end<K: Sink>(sink: &mut K, main: bool) -> Result<(), IoFault>
 #[tactic(auto, unfolding(crate::specs::Details::details))]
 fn put_start<K: Sink>(sink: &mut K, main: bool, start: Reference) -> Result<(), IoFault>
     requires { K.failures sink.old < 2 ^ 64 - 1 }
-    ensures count { K.failures sink.new ≡ K.failures sink.old + (if is_ok result then 0 else 1) }
-    ensures appended { OnOk result (Appends (K.written sink.old) (K.written sink.new) (details (says.Modend main (Some start)))) }
-    ensures failed { OnErr result (AppendsFront (K.written sink.old) (K.written sink.new) (details (says.Modend main (Some start)))) }
+    ensures { Writes K.written K.failures sink.old sink.new (details (says.Modend main (Some start))) result }
 {
     let pieces = [
         Piece::Text("  main "),
@@ -94,12 +86,22 @@ fn put_start<K: Sink>(sink: &mut K, main: bool, start: Reference) -> Result<(), 
     put_each(sink, pieces.as_slice())
 }
 
+// Writes the line of the end of a module.
+fn put_end<K: Sink>(sink: &mut K, main: bool, start: Option<Reference>) -> Result<(), IoFault>
+    requires { K.failures sink.old < 2 ^ 64 - 1 }
+    ensures { Writes K.written K.failures sink.old sink.new (details (says.Modend main start)) result }
+{
+    match start {
+        None => put_plain_end(sink, main),
+        Some(start) => put_start(sink, main, start),
+    }
+}
+
+// Writes the line of a SEGDEF.
 #[tactic(auto, unfolding(crate::specs::Details::details))]
 fn put_segment<K: Sink>(sink: &mut K, segment: &SegmentDefinition) -> Result<(), IoFault>
     requires { K.failures sink.old < 2 ^ 64 - 1 }
-    ensures count { K.failures sink.new ≡ K.failures sink.old + (if is_ok result then 0 else 1) }
-    ensures appended { OnOk result (Appends (K.written sink.old) (K.written sink.new) (details (says.Segdef segment.now))) }
-    ensures failed { OnErr result (AppendsFront (K.written sink.old) (K.written sink.new) (details (says.Segdef segment.now))) }
+    ensures { Writes K.written K.failures sink.old sink.new (details (says.Segdef segment.now)) result }
 {
     let pieces = [
         Piece::Text("  align "),
@@ -120,11 +122,10 @@ fn put_segment<K: Sink>(sink: &mut K, segment: &SegmentDefinition) -> Result<(),
     put_each(sink, pieces.as_slice())
 }
 
+// Writes the line of the name of a GRPDEF.
 fn put_group_line<K: Sink>(sink: &mut K, name: u16) -> Result<(), IoFault>
     requires { K.failures sink.old < 2 ^ 64 - 1 }
-    ensures count { K.failures sink.new ≡ K.failures sink.old + (if is_ok result then 0 else 1) }
-    ensures appended { OnOk result (Appends (K.written sink.old) (K.written sink.new) (spec.group_line name)) }
-    ensures failed { OnErr result (AppendsFront (K.written sink.old) (K.written sink.new) (spec.group_line name)) }
+    ensures { Writes K.written K.failures sink.old sink.new (spec.group_line name) result }
 {
     let pieces = [
         Piece::Text("  group "),
@@ -134,11 +135,10 @@ fn put_group_line<K: Sink>(sink: &mut K, name: u16) -> Result<(), IoFault>
     put_each(sink, pieces.as_slice())
 }
 
+// Writes the line of a base that is no paragraph.
 fn put_base_line<K: Sink>(sink: &mut K, group: u16, segment: u16) -> Result<(), IoFault>
     requires { K.failures sink.old < 2 ^ 64 - 1 }
-    ensures count { K.failures sink.new ≡ K.failures sink.old + (if is_ok result then 0 else 1) }
-    ensures appended { OnOk result (Appends (K.written sink.old) (K.written sink.new) (spec.base_line group segment [])) }
-    ensures failed { OnErr result (AppendsFront (K.written sink.old) (K.written sink.new) (spec.base_line group segment [])) }
+    ensures { Writes K.written K.failures sink.old sink.new (spec.base_line group segment []) result }
 {
     let pieces = [
         Piece::Text("  base group "),
@@ -150,11 +150,10 @@ fn put_base_line<K: Sink>(sink: &mut K, group: u16, segment: u16) -> Result<(), 
     put_each(sink, pieces.as_slice())
 }
 
+// Writes the line of the base of publics.
 fn put_base<K: Sink>(sink: &mut K, base: PublicBase) -> Result<(), IoFault>
     requires { K.failures sink.old < 2 ^ 64 - 1 }
-    ensures count { K.failures sink.new ≡ K.failures sink.old + (if is_ok result then 0 else 1) }
-    ensures appended { OnOk result (Appends (K.written sink.old) (K.written sink.new) (spec.public_base base)) }
-    ensures failed { OnErr result (AppendsFront (K.written sink.old) (K.written sink.new) (spec.public_base base)) }
+    ensures { Writes K.written K.failures sink.old sink.new (spec.public_base base) result }
 {
     match base {
         PublicBase::AtFrame { group, frame } => {
@@ -173,12 +172,11 @@ fn put_base<K: Sink>(sink: &mut K, base: PublicBase) -> Result<(), IoFault>
     }
 }
 
+// Writes the line of an LEDATA.
 #[tactic(auto, unfolding(crate::specs::Details::details))]
 fn put_data<K: Sink>(sink: &mut K, segment: u16, offset: u16, bytes: &[u8]) -> Result<(), IoFault>
     requires { K.failures sink.old < 2 ^ 64 - 1 }
-    ensures count { K.failures sink.new ≡ K.failures sink.old + (if is_ok result then 0 else 1) }
-    ensures appended { OnOk result (Appends (K.written sink.old) (K.written sink.new) (details (says.Ledata segment offset bytes.now))) }
-    ensures failed { OnErr result (AppendsFront (K.written sink.old) (K.written sink.new) (details (says.Ledata segment offset bytes.now))) }
+    ensures { Writes K.written K.failures sink.old sink.new (details (says.Ledata segment offset bytes.now)) result }
 {
     let pieces = [
         Piece::Text("  data segment "),
@@ -192,6 +190,7 @@ fn put_data<K: Sink>(sink: &mut K, segment: u16, offset: u16, bytes: &[u8]) -> R
     put_each(sink, pieces.as_slice())
 }
 
+// Writes the line of an LIDATA.
 #[tactic(auto, unfolding(crate::specs::Details::details))]
 fn put_repeated<K: Sink, A: Allocator + Copy>(
     sink: &mut K,
@@ -200,9 +199,8 @@ fn put_repeated<K: Sink, A: Allocator + Copy>(
     blocks: &[Block<'_, A>],
 ) -> Result<(), IoFault>
     requires { K.failures sink.old < 2 ^ 64 - 1 }
-    ensures count { K.failures sink.new ≡ K.failures sink.old + (if is_ok result then 0 else 1) }
-    ensures appended { OnOk result (Appends (K.written sink.old) (K.written sink.new) (details (says.Lidata segment offset (map block_view blocks.now)))) }
-    ensures failed { OnErr result (AppendsFront (K.written sink.old) (K.written sink.new) (details (says.Lidata segment offset (map block_view blocks.now)))) }
+    ensures { Writes K.written K.failures sink.old sink.new
+        (details (says.Lidata segment offset (map block_view blocks.now))) result }
 {
     let pieces = [
         Piece::Text("  data segment "),
@@ -218,15 +216,15 @@ fn put_repeated<K: Sink, A: Allocator + Copy>(
     put_each(sink, pieces.as_slice())
 }
 
+// Writes the line of a frame thread that is set.
 fn put_frame_thread<K: Sink>(
     sink: &mut K,
     thread: ThreadNumber,
     method: FrameMethod,
 ) -> Result<(), IoFault>
     requires { K.failures sink.old < 2 ^ 64 - 1 }
-    ensures count { K.failures sink.new ≡ K.failures sink.old + (if is_ok result then 0 else 1) }
-    ensures appended { OnOk result (Appends (K.written sink.old) (K.written sink.new) (spec.subrecord_line (Subrecord.SetFrame thread method))) }
-    ensures failed { OnErr result (AppendsFront (K.written sink.old) (K.written sink.new) (spec.subrecord_line (Subrecord.SetFrame thread method))) }
+    ensures { Writes K.written K.failures sink.old sink.new
+        (spec.subrecord_line (Subrecord.SetFrame thread method)) result }
 {
     let pieces = [
         Piece::Text("  thread frame "),
@@ -238,15 +236,15 @@ fn put_frame_thread<K: Sink>(
     put_each(sink, pieces.as_slice())
 }
 
+// Writes the line of a target thread that is set.
 fn put_target_thread<K: Sink>(
     sink: &mut K,
     thread: ThreadNumber,
     method: TargetMethod,
 ) -> Result<(), IoFault>
     requires { K.failures sink.old < 2 ^ 64 - 1 }
-    ensures count { K.failures sink.new ≡ K.failures sink.old + (if is_ok result then 0 else 1) }
-    ensures appended { OnOk result (Appends (K.written sink.old) (K.written sink.new) (spec.subrecord_line (Subrecord.SetTarget thread method))) }
-    ensures failed { OnErr result (AppendsFront (K.written sink.old) (K.written sink.new) (spec.subrecord_line (Subrecord.SetTarget thread method))) }
+    ensures { Writes K.written K.failures sink.old sink.new
+        (spec.subrecord_line (Subrecord.SetTarget thread method)) result }
 {
     let pieces = [
         Piece::Text("  thread target "),
@@ -258,11 +256,10 @@ fn put_target_thread<K: Sink>(
     put_each(sink, pieces.as_slice())
 }
 
+// Writes the line of a fix-up.
 fn put_fixup<K: Sink>(sink: &mut K, fixup: Fixup) -> Result<(), IoFault>
     requires { K.failures sink.old < 2 ^ 64 - 1 }
-    ensures count { K.failures sink.new ≡ K.failures sink.old + (if is_ok result then 0 else 1) }
-    ensures appended { OnOk result (Appends (K.written sink.old) (K.written sink.new) (spec.subrecord_line (Subrecord.Fixup fixup))) }
-    ensures failed { OnErr result (AppendsFront (K.written sink.old) (K.written sink.new) (spec.subrecord_line (Subrecord.Fixup fixup))) }
+    ensures { Writes K.written K.failures sink.old sink.new (spec.subrecord_line (Subrecord.Fixup fixup)) result }
 {
     let pieces = [
         Piece::Text("  fixup at "),
@@ -330,12 +327,12 @@ impl<K: Sink> Printed<K> for Subrecord {
     }
 }
 
+// Writes the lines of an LNAMES.
 #[tactic(auto, unfolding(crate::specs::Details::details))]
 fn put_names<K: Sink>(sink: &mut K, names: &[&[u8]]) -> Result<(), IoFault>
     requires { K.failures sink.old < 2 ^ 64 - 1 }
-    ensures count { K.failures sink.new ≡ K.failures sink.old + (if is_ok result then 0 else 1) }
-    ensures appended { OnOk result (Appends (K.written sink.old) (K.written sink.new) (details (says.Lnames (map (λ n. n.now) names.now)))) }
-    ensures failed { OnErr result (AppendsFront (K.written sink.old) (K.written sink.new) (details (says.Lnames (map (λ n. n.now) names.now)))) }
+    ensures { Writes K.written K.failures sink.old sink.new
+        (details (says.Lnames (map (λ n. n.now) names.now))) result }
 {
     put_each(sink, names)
 }
@@ -347,11 +344,11 @@ fn scope(local: bool) -> &'static str
     if local { "local " } else { "" }
 }
 
+// Writes the line of an external.
 fn put_external<K: Sink>(sink: &mut K, local: bool, external: &External<'_>) -> Result<(), IoFault>
     requires { K.failures sink.old < 2 ^ 64 - 1 }
-    ensures count { K.failures sink.new ≡ K.failures sink.old + (if is_ok result then 0 else 1) }
-    ensures appended { OnOk result (Appends (K.written sink.old) (K.written sink.new) (spec.external_line local (external_view external.now))) }
-    ensures failed { OnErr result (AppendsFront (K.written sink.old) (K.written sink.new) (spec.external_line local (external_view external.now))) }
+    ensures { Writes K.written K.failures sink.old sink.new
+        (spec.external_line local (external_view external.now)) result }
 {
     let pieces = [
         Piece::Text("  "),
@@ -365,11 +362,11 @@ fn put_external<K: Sink>(sink: &mut K, local: bool, external: &External<'_>) -> 
     put_each(sink, pieces.as_slice())
 }
 
+// Writes the lines of an EXTDEF.
 fn put_externals<K: Sink>(sink: &mut K, local: bool, names: &[External<'_>]) -> Result<(), IoFault>
     requires { K.failures sink.old < 2 ^ 64 - 1 }
-    ensures count { K.failures sink.new ≡ K.failures sink.old + (if is_ok result then 0 else 1) }
-    ensures appended { OnOk result (Appends (K.written sink.old) (K.written sink.new) (flat_map (spec.external_line local) (map external_view names.now))) }
-    ensures failed { OnErr result (AppendsFront (K.written sink.old) (K.written sink.new) (flat_map (spec.external_line local) (map external_view names.now))) }
+    ensures { Writes K.written K.failures sink.old sink.new
+        (flat_map (spec.external_line local) (map external_view names.now)) result }
 {
     for external in names {
         put_external(sink, local, external)?;
@@ -377,32 +374,29 @@ fn put_externals<K: Sink>(sink: &mut K, local: bool, names: &[External<'_>]) -> 
     Ok(())
 }
 
+// Writes the lines of a FIXUPP.
 #[tactic(auto, unfolding(crate::specs::Details::details))]
 fn put_subrecords<K: Sink>(sink: &mut K, subrecords: &[Subrecord]) -> Result<(), IoFault>
     requires { K.failures sink.old < 2 ^ 64 - 1 }
-    ensures count { K.failures sink.new ≡ K.failures sink.old + (if is_ok result then 0 else 1) }
-    ensures appended { OnOk result (Appends (K.written sink.old) (K.written sink.new) (details (says.Fixupp subrecords.now))) }
-    ensures failed { OnErr result (AppendsFront (K.written sink.old) (K.written sink.new) (details (says.Fixupp subrecords.now))) }
+    ensures { Writes K.written K.failures sink.old sink.new (details (says.Fixupp subrecords.now)) result }
 {
     put_each(sink, subrecords)
 }
 
+// Writes the lines of a GRPDEF.
 #[tactic(auto, unfolding(crate::specs::Details::details))]
 fn put_group<K: Sink>(sink: &mut K, name: u16, segments: &[u16]) -> Result<(), IoFault>
     requires { K.failures sink.old < 2 ^ 64 - 1 }
-    ensures count { K.failures sink.new ≡ K.failures sink.old + (if is_ok result then 0 else 1) }
-    ensures appended { OnOk result (Appends (K.written sink.old) (K.written sink.new) (details (says.Grpdef name segments.now))) }
-    ensures failed { OnErr result (AppendsFront (K.written sink.old) (K.written sink.new) (details (says.Grpdef name segments.now))) }
+    ensures { Writes K.written K.failures sink.old sink.new (details (says.Grpdef name segments.now)) result }
 {
     put_group_line(sink, name)?;
     put_each(sink, segments)
 }
 
+// Writes the line of a public.
 fn put_public<K: Sink>(sink: &mut K, local: bool, public: &Public<'_>) -> Result<(), IoFault>
     requires { K.failures sink.old < 2 ^ 64 - 1 }
-    ensures count { K.failures sink.new ≡ K.failures sink.old + (if is_ok result then 0 else 1) }
-    ensures appended { OnOk result (Appends (K.written sink.old) (K.written sink.new) (spec.public_line local (public_view public.now))) }
-    ensures failed { OnErr result (AppendsFront (K.written sink.old) (K.written sink.new) (spec.public_line local (public_view public.now))) }
+    ensures { Writes K.written K.failures sink.old sink.new (spec.public_line local (public_view public.now)) result }
 {
     let pieces = [
         Piece::Text("  "),
@@ -418,15 +412,15 @@ fn put_public<K: Sink>(sink: &mut K, local: bool, public: &Public<'_>) -> Result
     put_each(sink, pieces.as_slice())
 }
 
+// Writes the lines of publics, without that of their base.
 fn put_public_lines<K: Sink>(
     sink: &mut K,
     local: bool,
     publics: &[Public<'_>],
 ) -> Result<(), IoFault>
     requires { K.failures sink.old < 2 ^ 64 - 1 }
-    ensures count { K.failures sink.new ≡ K.failures sink.old + (if is_ok result then 0 else 1) }
-    ensures appended { OnOk result (Appends (K.written sink.old) (K.written sink.new) (flat_map (spec.public_line local) (map public_view publics.now))) }
-    ensures failed { OnErr result (AppendsFront (K.written sink.old) (K.written sink.new) (flat_map (spec.public_line local) (map public_view publics.now))) }
+    ensures { Writes K.written K.failures sink.old sink.new
+        (flat_map (spec.public_line local) (map public_view publics.now)) result }
 {
     for public in publics {
         put_public(sink, local, public)?;
@@ -434,6 +428,7 @@ fn put_public_lines<K: Sink>(
     Ok(())
 }
 
+// Writes the lines of a PUBDEF.
 fn put_publics<K: Sink>(
     sink: &mut K,
     local: bool,
@@ -441,20 +436,18 @@ fn put_publics<K: Sink>(
     publics: &[Public<'_>],
 ) -> Result<(), IoFault>
     requires { K.failures sink.old < 2 ^ 64 - 1 }
-    ensures count { K.failures sink.new ≡ K.failures sink.old + (if is_ok result then 0 else 1) }
-    ensures appended { OnOk result (Appends (K.written sink.old) (K.written sink.new) (spec.public_base base ++ flat_map (spec.public_line local) (map public_view publics.now))) }
-    ensures failed { OnErr result (AppendsFront (K.written sink.old) (K.written sink.new) (spec.public_base base ++ flat_map (spec.public_line local) (map public_view publics.now))) }
+    ensures { Writes K.written K.failures sink.old sink.new
+        (spec.public_base base ++ flat_map (spec.public_line local) (map public_view publics.now)) result }
 {
     put_base(sink, base)?;
     put_public_lines(sink, local, publics)
 }
 
+// Writes the lines of a LINNUM.
 #[tactic(auto, unfolding(crate::specs::Details::details))]
 fn put_lines<K: Sink>(sink: &mut K, group: u16, segment: u16, lines: &[Line]) -> Result<(), IoFault>
     requires { K.failures sink.old < 2 ^ 64 - 1 }
-    ensures count { K.failures sink.new ≡ K.failures sink.old + (if is_ok result then 0 else 1) }
-    ensures appended { OnOk result (Appends (K.written sink.old) (K.written sink.new) (details (says.Linnum group segment lines.now))) }
-    ensures failed { OnErr result (AppendsFront (K.written sink.old) (K.written sink.new) (details (says.Linnum group segment lines.now))) }
+    ensures { Writes K.written K.failures sink.old sink.new (details (says.Linnum group segment lines.now)) result }
 {
     put_base_line(sink, group, segment)?;
     put_each(sink, lines)
@@ -467,18 +460,12 @@ pub fn put_details<K: Sink, A: Allocator + Copy>(
     record: &Record<'_, A>,
 ) -> Result<(), IoFault>
     requires { K.failures sink.old < 2 ^ 64 - 1 }
-    ensures count { K.failures sink.new ≡ K.failures sink.old + (if is_ok result then 0 else 1) }
-    ensures appended { OnOk result (Appends (K.written sink.old) (K.written sink.new) (details (view «record».now))) }
-    ensures failed { OnErr result (AppendsFront (K.written sink.old) (K.written sink.new) (details (view «record».now))) }
+    ensures { Writes K.written K.failures sink.old sink.new (details (view «record».now)) result }
 {
     match record {
         Record::Theadr { name } => put_header(sink, name),
         Record::Coment { kind, class, bytes } => put_comment(sink, *kind, *class, bytes),
-        Record::Modend { main, start: None } => put_plain_end(sink, *main),
-        Record::Modend {
-            main,
-            start: Some(start),
-        } => put_start(sink, *main, *start),
+        Record::Modend { main, start } => put_end(sink, *main, *start),
         Record::Extdef { local, names } => put_externals(sink, *local, names),
         Record::Pubdef {
             local,
@@ -517,9 +504,8 @@ pub fn put_listing<K: Sink, A: Allocator + Copy>(
     record: &Record<'_, A>,
 ) -> Result<(), IoFault>
     requires { K.failures sink.old < 2 ^ 64 - 1 }
-    ensures count { K.failures sink.new ≡ K.failures sink.old + (if is_ok result then 0 else 1) }
-    ensures appended { OnOk result (Appends (K.written sink.old) (K.written sink.new) (head_line place kind length ++ details (view «record».now))) }
-    ensures failed { OnErr result (AppendsFront (K.written sink.old) (K.written sink.new) (head_line place kind length ++ details (view «record».now))) }
+    ensures { Writes K.written K.failures sink.old sink.new
+        (head_line place kind length ++ details (view «record».now)) result }
 {
     put_head_line(sink, place, kind, length)?;
     put_details(sink, record)

@@ -1,10 +1,10 @@
 //! Why a command stopped, and the line and the exit status that say so. Nothing here takes memory.
-ghost use Rattle.std.specs.Prelude.{◌≡◌, ◌+◌, ◌-◌, ◌^◌, ◌<◌, OnErr, OnOk, is_ok, if◌then◌else◌};
-ghost use Rattle.std.specs.Io.KnownBytes.{Appends};
-ghost use Rattle.omf_frame.specs.Device.{AppendsFront};
+ghost use Rattle.std.specs.Prelude.{◌≡◌, ◌+◌, ◌-◌, ◌^◌, ◌<◌};
+ghost use Rattle.omf_frame.specs.Device.{Writes};
 ghost use Rattle.omf_text.specs.declared.fault.LinkFault.TheVariants.{Memory};
 ghost use Rattle.omf_text.specs.FaultLines as spec;
-ghost use Rattle.omf_text.specs.FaultLines.{file_line, line_end, line_front, line_start, name_end, program_line, record_line, text_of};
+ghost use Rattle.omf_text.specs.FaultLines.{file_line, line_end, line_front, line_start, name_end, program_line};
+ghost use Rattle.omf_text.specs.FaultLines.{record_line, text_of};
 
 use crate::print::{put_name, put_pieces};
 use itoa::Buffer;
@@ -14,7 +14,7 @@ use thiserror::Error;
 
 /// What is wrong with a record of an object module.
 #[derive(Clone, Copy, Debug, PartialEq, Eq, Error)]
-pub enum RecordFault {
+pub enum InputFault {
     /// The length word is 0.
     #[error("its length word is 0")]
     ZeroLength,
@@ -183,7 +183,7 @@ pub enum LinkFault<A: Allocator + Copy = Global> {
         /// How many bytes of the input stand before the record.
         place: u64,
         /// What is wrong with it.
-        fault: RecordFault,
+        fault: InputFault,
     },
     /// The modules are at fault together.
     #[error("{0}")]
@@ -201,41 +201,41 @@ impl<A: Allocator + Copy> From<AllocError> for LinkFault<A> {
     }
 }
 
-impl RecordFault {
+impl InputFault {
     /// The number and the name that the fault is printed with.
     fn label(self) -> (u8, &'static str)
         ensures number { result.0 ≡ (spec.label self).0 }
         ensures name { result.1.now ≡ (spec.label self).1 }
     {
         match self {
-            RecordFault::ZeroLength => (2, "ZeroLength"),
-            RecordFault::Truncated => (3, "Truncated"),
-            RecordFault::Closing => (4, "Closing"),
-            RecordFault::Type => (5, "Type"),
-            RecordFault::Body { .. } => (6, "Body"),
-            RecordFault::NotHeader => (7, "NotHeader"),
-            RecordFault::NoEnd => (8, "NoEnd"),
-            RecordFault::NameIndex => (10, "NameIndex"),
-            RecordFault::SegmentIndex => (11, "SegmentIndex"),
-            RecordFault::GroupIndex => (12, "GroupIndex"),
-            RecordFault::ExternalIndex => (13, "ExternalIndex"),
-            RecordFault::ThreadNotSet => (14, "ThreadNotSet"),
-            RecordFault::FixupBeforeData => (15, "FixupBeforeData"),
-            RecordFault::FixupPlace => (16, "FixupPlace"),
-            RecordFault::DataOutside => (17, "DataOutside"),
-            RecordFault::DataInAbsolute => (18, "DataInAbsolute"),
-            RecordFault::SelfRelativeBase => (19, "SelfRelativeBase"),
-            RecordFault::FrameOfLocation => (20, "FrameOfLocation"),
-            RecordFault::GroupOfAbsolute => (21, "GroupOfAbsolute"),
-            RecordFault::CoversRelocated => (26, "CoversRelocated"),
-            RecordFault::Unresolved => (27, "Unresolved"),
-            RecordFault::EmptyGroup => (28, "EmptyGroup"),
-            RecordFault::Mixed => (29, "Mixed"),
-            RecordFault::OutOfFrame => (30, "OutOfFrame"),
-            RecordFault::ShortTooFar => (31, "ShortTooFar"),
-            RecordFault::OverlapRelocated => (32, "OverlapRelocated"),
-            RecordFault::TwoStarts => (33, "TwoStarts"),
-            RecordFault::InputTooLong => (41, "InputTooLong"),
+            InputFault::ZeroLength => (2, "ZeroLength"),
+            InputFault::Truncated => (3, "Truncated"),
+            InputFault::Closing => (4, "Closing"),
+            InputFault::Type => (5, "Type"),
+            InputFault::Body { .. } => (6, "Body"),
+            InputFault::NotHeader => (7, "NotHeader"),
+            InputFault::NoEnd => (8, "NoEnd"),
+            InputFault::NameIndex => (10, "NameIndex"),
+            InputFault::SegmentIndex => (11, "SegmentIndex"),
+            InputFault::GroupIndex => (12, "GroupIndex"),
+            InputFault::ExternalIndex => (13, "ExternalIndex"),
+            InputFault::ThreadNotSet => (14, "ThreadNotSet"),
+            InputFault::FixupBeforeData => (15, "FixupBeforeData"),
+            InputFault::FixupPlace => (16, "FixupPlace"),
+            InputFault::DataOutside => (17, "DataOutside"),
+            InputFault::DataInAbsolute => (18, "DataInAbsolute"),
+            InputFault::SelfRelativeBase => (19, "SelfRelativeBase"),
+            InputFault::FrameOfLocation => (20, "FrameOfLocation"),
+            InputFault::GroupOfAbsolute => (21, "GroupOfAbsolute"),
+            InputFault::CoversRelocated => (26, "CoversRelocated"),
+            InputFault::Unresolved => (27, "Unresolved"),
+            InputFault::EmptyGroup => (28, "EmptyGroup"),
+            InputFault::Mixed => (29, "Mixed"),
+            InputFault::OutOfFrame => (30, "OutOfFrame"),
+            InputFault::ShortTooFar => (31, "ShortTooFar"),
+            InputFault::OverlapRelocated => (32, "OverlapRelocated"),
+            InputFault::TwoStarts => (33, "TwoStarts"),
+            InputFault::InputTooLong => (41, "InputTooLong"),
         }
     }
 
@@ -258,7 +258,7 @@ impl RecordFault {
         ensures { result ≡ spec.place_in_body self }
     {
         match self {
-            RecordFault::Body { at } => Some(at),
+            InputFault::Body { at } => Some(at),
             _ => None,
         }
     }
@@ -362,9 +362,7 @@ pub fn status<A: Allocator + Copy>(fault: &LinkFault<A>) -> u8
 // Writes the place in the body, where the body is at fault, and the line end.
 fn put_line_end<K: Sink>(sink: &mut K, place_in_body: Option<usize>) -> Result<(), IoFault>
     requires { K.failures sink.old < 2 ^ 64 - 1 }
-    ensures count { K.failures sink.new ≡ K.failures sink.old + (if is_ok result then 0 else 1) }
-    ensures appended { OnOk result (Appends (K.written sink.old) (K.written sink.new) (line_end place_in_body)) }
-    ensures failed { OnErr result (AppendsFront (K.written sink.old) (K.written sink.new) (line_end place_in_body)) }
+    ensures { Writes K.written K.failures sink.old sink.new (line_end place_in_body) result }
 {
     let Some(at) = place_in_body else {
         return put_all(sink, b"\n");
@@ -387,9 +385,7 @@ fn put_line_front<K: Sink>(
     place: u64,
 ) -> Result<(), IoFault>
     requires { K.failures sink.old < 2 ^ 64 - 1 }
-    ensures count { K.failures sink.new ≡ K.failures sink.old + (if is_ok result then 0 else 1) }
-    ensures appended { OnOk result (Appends (K.written sink.old) (K.written sink.new) (line_front file.now number name.now place)) }
-    ensures failed { OnErr result (AppendsFront (K.written sink.old) (K.written sink.new) (line_front file.now number name.now place)) }
+    ensures { Writes K.written K.failures sink.old sink.new (line_front file.now number name.now place) result }
 {
     let mut number_digits = Buffer::new();
     let mut place_digits = Buffer::new();
@@ -408,6 +404,7 @@ fn put_line_front<K: Sink>(
     put_pieces(sink, pieces.as_slice())
 }
 
+// Writes the line of a fault of a record.
 fn put_record_line<K: Sink>(
     sink: &mut K,
     file: &str,
@@ -417,9 +414,8 @@ fn put_record_line<K: Sink>(
     place_in_body: Option<usize>,
 ) -> Result<(), IoFault>
     requires { K.failures sink.old < 2 ^ 64 - 1 }
-    ensures count { K.failures sink.new ≡ K.failures sink.old + (if is_ok result then 0 else 1) }
-    ensures appended { OnOk result (Appends (K.written sink.old) (K.written sink.new) (record_line file.now (number, name.now) place place_in_body)) }
-    ensures failed { OnErr result (AppendsFront (K.written sink.old) (K.written sink.new) (record_line file.now (number, name.now) place place_in_body)) }
+    ensures { Writes K.written K.failures sink.old sink.new
+        (record_line file.now (number, name.now) place place_in_body) result }
 {
     put_line_front(sink, file, number, name, place)?;
     put_line_end(sink, place_in_body)
@@ -428,9 +424,7 @@ fn put_record_line<K: Sink>(
 // Writes the front of a line, up to the fault's name. `word` stands before the number.
 fn put_line_start<K: Sink>(sink: &mut K, word: &str, number: u8, name: &str) -> Result<(), IoFault>
     requires { K.failures sink.old < 2 ^ 64 - 1 }
-    ensures count { K.failures sink.new ≡ K.failures sink.old + (if is_ok result then 0 else 1) }
-    ensures appended { OnOk result (Appends (K.written sink.old) (K.written sink.new) (line_start word.now (number, name.now))) }
-    ensures failed { OnErr result (AppendsFront (K.written sink.old) (K.written sink.new) (line_start word.now (number, name.now))) }
+    ensures { Writes K.written K.failures sink.old sink.new (line_start word.now (number, name.now)) result }
 {
     let mut digits = Buffer::new();
     let number = digits.format(number);
@@ -448,9 +442,7 @@ fn put_line_start<K: Sink>(sink: &mut K, word: &str, number: u8, name: &str) -> 
 // Writes the printed name at fault, where there is one, and the line end.
 fn put_name_end<K: Sink>(sink: &mut K, name: Option<&[u8]>) -> Result<(), IoFault>
     requires { K.failures sink.old < 2 ^ 64 - 1 }
-    ensures count { K.failures sink.new ≡ K.failures sink.old + (if is_ok result then 0 else 1) }
-    ensures appended { OnOk result (Appends (K.written sink.old) (K.written sink.new) (name_end (text_of name.entry))) }
-    ensures failed { OnErr result (AppendsFront (K.written sink.old) (K.written sink.new) (name_end (text_of name.entry))) }
+    ensures { Writes K.written K.failures sink.old sink.new (name_end (text_of name.entry)) result }
 {
     let Some(name) = name else {
         return put_all(sink, "\n".as_bytes());
@@ -460,6 +452,7 @@ fn put_name_end<K: Sink>(sink: &mut K, name: Option<&[u8]>) -> Result<(), IoFaul
     put_all(sink, b"\n")
 }
 
+// Writes the line of a fault of the modules together.
 fn put_program_line<K: Sink>(
     sink: &mut K,
     number: u8,
@@ -467,19 +460,17 @@ fn put_program_line<K: Sink>(
     at_fault: Option<&[u8]>,
 ) -> Result<(), IoFault>
     requires { K.failures sink.old < 2 ^ 64 - 1 }
-    ensures count { K.failures sink.new ≡ K.failures sink.old + (if is_ok result then 0 else 1) }
-    ensures appended { OnOk result (Appends (K.written sink.old) (K.written sink.new) (program_line (number, name.now) (text_of at_fault.entry))) }
-    ensures failed { OnErr result (AppendsFront (K.written sink.old) (K.written sink.new) (program_line (number, name.now) (text_of at_fault.entry))) }
+    ensures { Writes K.written K.failures sink.old sink.new
+        (program_line (number, name.now) (text_of at_fault.entry)) result }
 {
     put_line_start(sink, "link", number, name)?;
     put_name_end(sink, at_fault)
 }
 
+// Writes the line of a fault of a program's file.
 fn put_file_line<K: Sink>(sink: &mut K, file: &str, number: u8, name: &str) -> Result<(), IoFault>
     requires { K.failures sink.old < 2 ^ 64 - 1 }
-    ensures count { K.failures sink.new ≡ K.failures sink.old + (if is_ok result then 0 else 1) }
-    ensures appended { OnOk result (Appends (K.written sink.old) (K.written sink.new) (file_line file.now (number, name.now))) }
-    ensures failed { OnErr result (AppendsFront (K.written sink.old) (K.written sink.new) (file_line file.now (number, name.now))) }
+    ensures { Writes K.written K.failures sink.old sink.new (file_line file.now (number, name.now)) result }
 {
     put_line_start(sink, file, number, name)?;
     put_all(sink, b"\n")
@@ -493,9 +484,7 @@ pub fn fault_line<K: Sink, A: Allocator + Copy>(
     sink: &mut K,
 ) -> Result<(), IoFault>
     requires { K.failures sink.old < 2 ^ 64 - 1 }
-    ensures count { K.failures sink.new ≡ K.failures sink.old + (if is_ok result then 0 else 1) }
-    ensures appended { OnOk result (Appends (K.written sink.old) (K.written sink.new) (spec.fault_line fault.now file.now)) }
-    ensures failed { OnErr result (AppendsFront (K.written sink.old) (K.written sink.new) (spec.fault_line fault.now file.now)) }
+    ensures { Writes K.written K.failures sink.old sink.new (spec.fault_line fault.now file.now) result }
 {
     match fault {
         LinkFault::Memory => put_all(sink, b"omf: memory\n"),

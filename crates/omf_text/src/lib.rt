@@ -9,7 +9,9 @@ mod pieces;
 mod print;
 
 pub use details::{put_details, put_listing};
-pub use fault::{FileFault, LinkFault, ProgramFault, RecordFault, fault_line, status};
+pub use fault::{FileFault, InputFault, LinkFault, ProgramFault, fault_line, status};
 pub use listing::{put_head_line, record_name};
-pub use pieces::{Printed, put_each};
-pub use print::{Hexadecimal, put_count, put_hexadecimal, put_name, put_pieces};
+pub use pieces::{Piece, Printed, put_each};
+pub use print::{
+    Hexadecimal, put_count, put_hexadecimal, put_hexadecimal_bytes, put_name, put_pieces,
+};

@@ -1,7 +1,6 @@
 //! The listing of records. Nothing here takes memory.
-ghost use Rattle.std.specs.Prelude.{◌≡◌, ◌+◌, ◌-◌, ◌^◌, ◌<◌, ◌≤◌, OnErr, OnOk, is_ok, replicate, if◌then◌else◌};
-ghost use Rattle.std.specs.Io.KnownBytes.{Appends};
-ghost use Rattle.omf_frame.specs.Device.{AppendsFront};
+ghost use Rattle.std.specs.Prelude.{◌≡◌, ◌-◌, ◌^◌, ◌<◌, ◌≤◌, replicate};
+ghost use Rattle.omf_frame.specs.Device.{Writes};
 ghost use Rattle.omf_text.specs.Listing as spec;
 ghost use Rattle.omf_text.specs.Listing.{head_line};
 
@@ -56,9 +55,7 @@ pub fn put_head_line<K: Sink>(
     length: usize,
 ) -> Result<(), IoFault>
     requires { K.failures sink.old < 2 ^ 64 - 1 }
-    ensures count { K.failures sink.new ≡ K.failures sink.old + (if is_ok result then 0 else 1) }
-    ensures appended { OnOk result (Appends (K.written sink.old) (K.written sink.new) (head_line place kind length)) }
-    ensures failed { OnErr result (AppendsFront (K.written sink.old) (K.written sink.new) (head_line place kind length)) }
+    ensures { Writes K.written K.failures sink.old sink.new (head_line place kind length) result }
 {
     let place = Hexadecimal::new(place, 8);
     let type_byte = Hexadecimal::new(u64::from(kind), 2);

@@ -1,12 +1,13 @@
-//! The pieces that the lines of a listing are made of, written to a sink. Nothing here takes memory.
-ghost use Rattle.std.specs.Prelude.{◌≡◌, ℕ, List, [], ◌∷◌, ◌+◌, ◌-◌, ◌^◌, ◌<◌, ◌≤◌, OnErr, OnOk, is_ok, decimal, if◌then◌else◌};
+//! The pieces that lines are made of, written to a sink. Nothing here takes memory.
+ghost use Rattle.std.specs.Prelude.{ℕ, List, [], ◌∷◌, ◌-◌, ◌^◌, ◌<◌, decimal};
 ghost use Rattle.std.specs.List.{flat_map, concat};
-ghost use Rattle.std.specs.Io.KnownBytes.{Appends};
-ghost use Rattle.omf_frame.specs.Device.{AppendsFront};
+ghost use Rattle.omf_frame.specs.Device.{Writes};
 ghost use Rattle.omf_text.specs.Details as spec;
 ghost use Rattle.omf_text.specs.Pieces.{printed};
 
-use crate::print::{Hexadecimal, put_count, put_hexadecimal, put_name, put_pieces};
+use crate::print::{
+    Hexadecimal, put_count, put_hexadecimal, put_hexadecimal_bytes, put_name, put_pieces,
+};
 use itoa::Buffer;
 use omf_frame::{IoFault, Sink, put_all};
 use omf_record::{
@@ -23,17 +24,13 @@ pub trait Printed<K: Sink> {
     /// Writes it.
     fn put(&self, sink: &mut K) -> Result<(), IoFault>
         requires { K.failures sink.old < 2 ^ 64 - 1 }
-        ensures count { K.failures sink.new ≡ K.failures sink.old + (if is_ok result then 0 else 1) }
-        ensures appended { OnOk result (Appends (K.written sink.old) (K.written sink.new) (text self.now)) }
-        ensures failed { OnErr result (AppendsFront (K.written sink.old) (K.written sink.new) (text self.now)) };
+        ensures { Writes K.written K.failures sink.old sink.new (text self.now) result };
 }
 
 /// Writes the items one after the other.
 pub fn put_each<T: Printed<K>, K: Sink>(sink: &mut K, items: &[T]) -> Result<(), IoFault>
     requires { K.failures sink.old < 2 ^ 64 - 1 }
-    ensures count { K.failures sink.new ≡ K.failures sink.old + (if is_ok result then 0 else 1) }
-    ensures appended { OnOk result (Appends (K.written sink.old) (K.written sink.new) (flat_map T.text items.now)) }
-    ensures failed { OnErr result (AppendsFront (K.written sink.old) (K.written sink.new) (flat_map T.text items.now)) }
+    ensures { Writes K.written K.failures sink.old sink.new (flat_map T.text items.now) result }
 {
     for item in items {
         item.put(sink)?;
@@ -56,6 +53,8 @@ pub enum Piece<'a> {
     Place(u16),
     /// Four hexadecimal digits.
     Word(u16),
+    /// An address or a length: at least six hexadecimal digits.
+    Address(u32),
     /// Between two quotes.
     Name(&'a [u8]),
     /// 1 for true, 0 for false.
@@ -74,7 +73,9 @@ pub enum Piece<'a> {
     Length(SegmentLength),
     /// Whether a fix-up is self-relative.
     Mode(bool),
+    /// The field that says what kind of location a fix-up changes.
     Location(Location),
+    /// The number of a thread.
     Thread(ThreadNumber),
     /// What a frame thread is set to.
     FrameMethod(FrameMethod),
@@ -88,26 +89,21 @@ pub enum Piece<'a> {
     Displacement(Option<u16>),
 }
 
+// Writes two digits a byte, or a dash where there are none.
 fn put_comment_bytes<K: Sink>(sink: &mut K, bytes: &[u8]) -> Result<(), IoFault>
     requires { K.failures sink.old < 2 ^ 64 - 1 }
-    ensures count { K.failures sink.new ≡ K.failures sink.old + (if is_ok result then 0 else 1) }
-    ensures appended { OnOk result (Appends (K.written sink.old) (K.written sink.new) (spec.comment_bytes bytes.now)) }
-    ensures failed { OnErr result (AppendsFront (K.written sink.old) (K.written sink.new) (spec.comment_bytes bytes.now)) }
+    ensures { Writes K.written K.failures sink.old sink.new (spec.comment_bytes bytes.now) result }
 {
     if bytes.is_empty() {
         return put_all(sink, b"-");
     }
-    for byte in bytes {
-        put_hexadecimal(sink, u64::from(*byte), 2)?;
-    }
-    Ok(())
+    put_hexadecimal_bytes(sink, bytes)
 }
 
+// Writes a length up to 65,536, or that it is more.
 fn put_expanded<K: Sink>(sink: &mut K, length: u32) -> Result<(), IoFault>
     requires { K.failures sink.old < 2 ^ 64 - 1 }
-    ensures count { K.failures sink.new ≡ K.failures sink.old + (if is_ok result then 0 else 1) }
-    ensures appended { OnOk result (Appends (K.written sink.old) (K.written sink.new) (spec.expanded length)) }
-    ensures failed { OnErr result (AppendsFront (K.written sink.old) (K.written sink.new) (spec.expanded length)) }
+    ensures { Writes K.written K.failures sink.old sink.new (spec.expanded length) result }
 {
     if length > 65536 {
         put_all(sink, b">65536")
@@ -116,11 +112,10 @@ fn put_expanded<K: Sink>(sink: &mut K, length: u32) -> Result<(), IoFault>
     }
 }
 
+// Writes the frame and the offset of an absolute segment, and nothing of another.
 fn put_absolute<K: Sink>(sink: &mut K, alignment: Alignment) -> Result<(), IoFault>
     requires { K.failures sink.old < 2 ^ 64 - 1 }
-    ensures count { K.failures sink.new ≡ K.failures sink.old + (if is_ok result then 0 else 1) }
-    ensures appended { OnOk result (Appends (K.written sink.old) (K.written sink.new) (spec.absolute alignment)) }
-    ensures failed { OnErr result (AppendsFront (K.written sink.old) (K.written sink.new) (spec.absolute alignment)) }
+    ensures { Writes K.written K.failures sink.old sink.new (spec.absolute alignment) result }
 {
     match alignment {
         Alignment::Absolute { frame, offset } => {
@@ -141,20 +136,17 @@ fn put_absolute<K: Sink>(sink: &mut K, alignment: Alignment) -> Result<(), IoFau
 // Writes a text, and a number behind it.
 fn put_numbered<K: Sink>(sink: &mut K, text: &str, number: u16) -> Result<(), IoFault>
     requires { K.failures sink.old < 2 ^ 64 - 1 }
-    ensures count { K.failures sink.new ≡ K.failures sink.old + (if is_ok result then 0 else 1) }
-    ensures appended { OnOk result (Appends (K.written sink.old) (K.written sink.new) (concat (text.now ∷ decimal number ∷ []))) }
-    ensures failed { OnErr result (AppendsFront (K.written sink.old) (K.written sink.new) (concat (text.now ∷ decimal number ∷ []))) }
+    ensures { Writes K.written K.failures sink.old sink.new (concat (text.now ∷ decimal number ∷ [])) result }
 {
     let mut digits = Buffer::new();
     let pieces = [text.as_bytes(), digits.format(number).as_bytes()];
     put_pieces(sink, pieces.as_slice())
 }
 
+// Writes what a frame thread is set to.
 fn put_frame_method<K: Sink>(sink: &mut K, method: FrameMethod) -> Result<(), IoFault>
     requires { K.failures sink.old < 2 ^ 64 - 1 }
-    ensures count { K.failures sink.new ≡ K.failures sink.old + (if is_ok result then 0 else 1) }
-    ensures appended { OnOk result (Appends (K.written sink.old) (K.written sink.new) (spec.frame_method method)) }
-    ensures failed { OnErr result (AppendsFront (K.written sink.old) (K.written sink.new) (spec.frame_method method)) }
+    ensures { Writes K.written K.failures sink.old sink.new (spec.frame_method method) result }
 {
     match method {
         FrameMethod::Segment(index) => put_numbered(sink, "method 0 index ", index),
@@ -165,11 +157,10 @@ fn put_frame_method<K: Sink>(sink: &mut K, method: FrameMethod) -> Result<(), Io
     }
 }
 
+// Writes what a target thread is set to.
 fn put_target_method<K: Sink>(sink: &mut K, method: TargetMethod) -> Result<(), IoFault>
     requires { K.failures sink.old < 2 ^ 64 - 1 }
-    ensures count { K.failures sink.new ≡ K.failures sink.old + (if is_ok result then 0 else 1) }
-    ensures appended { OnOk result (Appends (K.written sink.old) (K.written sink.new) (spec.target_method method)) }
-    ensures failed { OnErr result (AppendsFront (K.written sink.old) (K.written sink.new) (spec.target_method method)) }
+    ensures { Writes K.written K.failures sink.old sink.new (spec.target_method method) result }
 {
     match method {
         TargetMethod::Segment(index) => put_numbered(sink, "method 0 index ", index),
@@ -178,11 +169,10 @@ fn put_target_method<K: Sink>(sink: &mut K, method: TargetMethod) -> Result<(), 
     }
 }
 
+// Writes the frame of a reference.
 fn put_frame<K: Sink>(sink: &mut K, frame: FrameDatum) -> Result<(), IoFault>
     requires { K.failures sink.old < 2 ^ 64 - 1 }
-    ensures count { K.failures sink.new ≡ K.failures sink.old + (if is_ok result then 0 else 1) }
-    ensures appended { OnOk result (Appends (K.written sink.old) (K.written sink.new) (spec.frame_of frame)) }
-    ensures failed { OnErr result (AppendsFront (K.written sink.old) (K.written sink.new) (spec.frame_of frame)) }
+    ensures { Writes K.written K.failures sink.old sink.new (spec.frame_of frame) result }
 {
     match frame {
         FrameDatum::Thread(thread) => put_numbered(
@@ -194,11 +184,10 @@ fn put_frame<K: Sink>(sink: &mut K, frame: FrameDatum) -> Result<(), IoFault>
     }
 }
 
+// Writes the target of a reference.
 fn put_target<K: Sink>(sink: &mut K, target: TargetDatum) -> Result<(), IoFault>
     requires { K.failures sink.old < 2 ^ 64 - 1 }
-    ensures count { K.failures sink.new ≡ K.failures sink.old + (if is_ok result then 0 else 1) }
-    ensures appended { OnOk result (Appends (K.written sink.old) (K.written sink.new) (spec.target_of target)) }
-    ensures failed { OnErr result (AppendsFront (K.written sink.old) (K.written sink.new) (spec.target_of target)) }
+    ensures { Writes K.written K.failures sink.old sink.new (spec.target_of target) result }
 {
     match target {
         TargetDatum::Thread(thread) => put_numbered(
@@ -210,11 +199,10 @@ fn put_target<K: Sink>(sink: &mut K, target: TargetDatum) -> Result<(), IoFault>
     }
 }
 
+// Writes what is added to a target's address, and nothing where it is absent.
 fn put_displacement<K: Sink>(sink: &mut K, displacement: Option<u16>) -> Result<(), IoFault>
     requires { K.failures sink.old < 2 ^ 64 - 1 }
-    ensures count { K.failures sink.new ≡ K.failures sink.old + (if is_ok result then 0 else 1) }
-    ensures appended { OnOk result (Appends (K.written sink.old) (K.written sink.new) (spec.displacement displacement)) }
-    ensures failed { OnErr result (AppendsFront (K.written sink.old) (K.written sink.new) (spec.displacement displacement)) }
+    ensures { Writes K.written K.failures sink.old sink.new (spec.displacement displacement) result }
 {
     let Some(displacement) = displacement else {
         return Ok(());
@@ -235,6 +223,7 @@ impl<'a, K: Sink> Printed<K> for Piece<'a> {
             Piece::Byte(byte) => put_hexadecimal(sink, u64::from(byte), 2),
             Piece::Place(place) => put_hexadecimal(sink, u64::from(place), 3),
             Piece::Word(word) => put_hexadecimal(sink, u64::from(word), 4),
+            Piece::Address(address) => put_hexadecimal(sink, u64::from(address), 6),
             Piece::Name(name) => put_name(sink, name),
             Piece::Bit(bit) => put_count(sink, usize::from(bit)),
             Piece::CommentBytes(bytes) => put_comment_bytes(sink, bytes),

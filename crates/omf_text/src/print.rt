@@ -1,10 +1,10 @@
 //! Printed text, written to a sink. Nothing here takes memory.
-ghost use Rattle.std.specs.Prelude.{◌≡◌, ℕ, ◌+◌, ◌-◌, ◌^◌, ◌<◌, ◌≤◌, [], ◌++◌, IsTrue, OnErr, OnOk, false, is_ok, decimal, if◌then◌else◌};
+ghost use Rattle.std.specs.Prelude.{◌≡◌, ℕ, ◌+◌, ◌-◌, ◌^◌, ◌<◌, ◌≤◌, [], ◌++◌, IsTrue, OnOk, false, decimal};
 ghost use Rattle.std.specs.List.{flat_map};
-ghost use Rattle.std.specs.Io.KnownBytes.{Appends};
-ghost use Rattle.omf_frame.specs.Device.{AppendsFront};
+ghost use Rattle.omf_frame.specs.Device.{Writes};
 ghost use Rattle.omf_text.specs.Printing as spec;
-ghost use Rattle.omf_text.specs.Printing.{AppendsBut, hexadecimal, name_byte, printed_name};
+ghost use Rattle.omf_text.specs.Printing.{hexadecimal, name_byte, printed_name};
+ghost use Rattle.omf_text.specs.inside.Printing.{WroteBut};
 
 use itoa::Buffer;
 use omf_frame::{IoFault, Sink, put_all};
@@ -35,6 +35,7 @@ impl Model for Line {
 }
 
 impl Line {
+    // Nothing is held back.
     fn new() -> Line
         ensures { result ≡ [] }
     {
@@ -47,9 +48,8 @@ impl Line {
     // Writes what is held back.
     fn put_held<K: Sink>(&mut self, sink: &mut K) -> Result<(), IoFault>
         requires { K.failures sink.old < 2 ^ 64 - 1 }
-        ensures count { K.failures sink.new ≡ K.failures sink.old + (if is_ok result then 0 else 1) }
-        ensures appended { OnOk result (Appends (K.written sink.old) (K.written sink.new) self.old × (self.new ≡ [])) }
-        ensures failed { OnErr result (AppendsFront (K.written sink.old) (K.written sink.new) self.old) }
+        ensures written { Writes K.written K.failures sink.old sink.new self.old result }
+        ensures emptied { OnOk result (self.new ≡ []) }
     {
         put_all(sink, &self.bytes[..self.len])?;
         self.len = 0;
@@ -73,9 +73,8 @@ impl Line {
     // Writes what is held back and the piece, but for what is held back then.
     fn put<K: Sink>(&mut self, sink: &mut K, piece: &[u8]) -> Result<(), IoFault>
         requires { K.failures sink.old < 2 ^ 64 - 1 }
-        ensures count { K.failures sink.new ≡ K.failures sink.old + (if is_ok result then 0 else 1) }
-        ensures appended { OnOk result (AppendsBut self.new (K.written sink.old) (K.written sink.new) (self.old ++ piece.now)) }
-        ensures failed { OnErr result (AppendsFront (K.written sink.old) (K.written sink.new) (self.old ++ piece.now)) }
+        ensures { WroteBut self.new (K.written sink.old) (K.written sink.new)
+            (K.failures sink.old) (K.failures sink.new) (self.old ++ piece.now) result }
     {
         if self.hold(piece) {
             return Ok(());
@@ -91,9 +90,7 @@ impl Line {
 /// Writes the pieces one after the other, a short line at once.
 pub fn put_pieces<K: Sink>(sink: &mut K, pieces: &[&[u8]]) -> Result<(), IoFault>
     requires { K.failures sink.old < 2 ^ 64 - 1 }
-    ensures count { K.failures sink.new ≡ K.failures sink.old + (if is_ok result then 0 else 1) }
-    ensures appended { OnOk result (Appends (K.written sink.old) (K.written sink.new) (flat_map (λ piece. piece.now) pieces.now)) }
-    ensures failed { OnErr result (AppendsFront (K.written sink.old) (K.written sink.new) (flat_map (λ piece. piece.now) pieces.now)) }
+    ensures { Writes K.written K.failures sink.old sink.new (flat_map (λ piece. piece.now) pieces.now) result }
 {
     let mut line = Line::new();
     for piece in pieces {
@@ -122,11 +119,10 @@ fn is_plain(byte: u8) -> bool
     byte >= b' ' && byte <= b'~' && byte != b'"' && byte != b'\\'
 }
 
+// Writes a byte of a name, by its two digits where it cannot stand as it is.
 fn put_name_byte<K: Sink>(sink: &mut K, byte: u8) -> Result<(), IoFault>
     requires { K.failures sink.old < 2 ^ 64 - 1 }
-    ensures count { K.failures sink.new ≡ K.failures sink.old + (if is_ok result then 0 else 1) }
-    ensures appended { OnOk result (Appends (K.written sink.old) (K.written sink.new) (name_byte byte)) }
-    ensures failed { OnErr result (AppendsFront (K.written sink.old) (K.written sink.new) (name_byte byte)) }
+    ensures { Writes K.written K.failures sink.old sink.new (name_byte byte) result }
 {
     if is_plain(byte) {
         put_all(sink, &[byte])
@@ -139,9 +135,7 @@ fn put_name_byte<K: Sink>(sink: &mut K, byte: u8) -> Result<(), IoFault>
 /// as they are, any other byte as `\x` and two hexadecimal digits.
 pub fn put_name<K: Sink>(sink: &mut K, name: &[u8]) -> Result<(), IoFault>
     requires { K.failures sink.old < 2 ^ 64 - 1 }
-    ensures count { K.failures sink.new ≡ K.failures sink.old + (if is_ok result then 0 else 1) }
-    ensures appended { OnOk result (Appends (K.written sink.old) (K.written sink.new) (printed_name name.now)) }
-    ensures failed { OnErr result (AppendsFront (K.written sink.old) (K.written sink.new) (printed_name name.now)) }
+    ensures { Writes K.written K.failures sink.old sink.new (printed_name name.now) result }
 {
     put_all(sink, b"\"")?;
     for byte in name {
@@ -203,11 +197,23 @@ impl Hexadecimal {
 pub fn put_hexadecimal<K: Sink>(sink: &mut K, number: u64, width: usize) -> Result<(), IoFault>
     requires working { K.failures sink.old < 2 ^ 64 - 1 }
     requires narrow { width ≤ 16 }
-    ensures count { K.failures sink.new ≡ K.failures sink.old + (if is_ok result then 0 else 1) }
-    ensures appended { OnOk result (Appends (K.written sink.old) (K.written sink.new) (hexadecimal width number)) }
-    ensures failed { OnErr result (AppendsFront (K.written sink.old) (K.written sink.new) (hexadecimal width number)) }
+    ensures { Writes K.written K.failures sink.old sink.new (hexadecimal width number) result }
 {
     put_all(sink, Hexadecimal::new(number, width).as_bytes())
+}
+
+/// Writes the bytes in hexadecimal, each with two capital digits.
+///
+/// # Errors
+/// The sink failed.
+pub fn put_hexadecimal_bytes<K: Sink>(sink: &mut K, bytes: &[u8]) -> Result<(), IoFault>
+    requires { K.failures sink.old < 2 ^ 64 - 1 }
+    ensures { Writes K.written K.failures sink.old sink.new (flat_map (hexadecimal 2) bytes.now) result }
+{
+    for byte in bytes {
+        put_hexadecimal(sink, u64::from(*byte), 2)?;
+    }
+    Ok(())
 }
 
 /// Writes the number in decimal.
@@ -216,9 +222,7 @@ pub fn put_hexadecimal<K: Sink>(sink: &mut K, number: u64, width: usize) -> Resu
 /// The sink failed.
 pub fn put_count<K: Sink>(sink: &mut K, count: usize) -> Result<(), IoFault>
     requires { K.failures sink.old < 2 ^ 64 - 1 }
-    ensures count { K.failures sink.new ≡ K.failures sink.old + (if is_ok result then 0 else 1) }
-    ensures appended { OnOk result (Appends (K.written sink.old) (K.written sink.new) (decimal count)) }
-    ensures failed { OnErr result (AppendsFront (K.written sink.old) (K.written sink.new) (decimal count)) }
+    ensures { Writes K.written K.failures sink.old sink.new (decimal count) result }
 {
     put_all(sink, Buffer::new().format(count).as_bytes())
 }

@@ -2,7 +2,7 @@ use super::*;
 use omf_frame::MemSink;
 use std::test::*;
 
-fn at_record(fault: RecordFault) -> LinkFault {
+fn at_record(fault: InputFault) -> LinkFault {
     LinkFault::Record {
         input: 2,
         place: 4_294_901_759,
@@ -14,90 +14,82 @@ fn at_record(fault: RecordFault) -> LinkFault {
 fn each_fault_has_its_line_and_status(rt: HostRuntime) -> Result<(), Fail> {
     let rows = [
         (
-            RecordFault::ZeroLength,
+            InputFault::ZeroLength,
             "2 ZeroLength at record 4294901759",
             1u8,
         ),
+        (InputFault::Truncated, "3 Truncated at record 4294901759", 1),
+        (InputFault::Closing, "4 Closing at record 4294901759", 1),
+        (InputFault::Type, "5 Type at record 4294901759", 1),
         (
-            RecordFault::Truncated,
-            "3 Truncated at record 4294901759",
-            1,
-        ),
-        (RecordFault::Closing, "4 Closing at record 4294901759", 1),
-        (RecordFault::Type, "5 Type at record 4294901759", 1),
-        (
-            RecordFault::Body { at: 65_533 },
+            InputFault::Body { at: 65_533 },
             "6 Body at record 4294901759 byte 65533",
             1,
         ),
+        (InputFault::NotHeader, "7 NotHeader at record 4294901759", 1),
+        (InputFault::NoEnd, "8 NoEnd at record 4294901759", 1),
         (
-            RecordFault::NotHeader,
-            "7 NotHeader at record 4294901759",
-            1,
-        ),
-        (RecordFault::NoEnd, "8 NoEnd at record 4294901759", 1),
-        (
-            RecordFault::NameIndex,
+            InputFault::NameIndex,
             "10 NameIndex at record 4294901759",
             1,
         ),
         (
-            RecordFault::SegmentIndex,
+            InputFault::SegmentIndex,
             "11 SegmentIndex at record 4294901759",
             1,
         ),
         (
-            RecordFault::GroupIndex,
+            InputFault::GroupIndex,
             "12 GroupIndex at record 4294901759",
             1,
         ),
         (
-            RecordFault::ExternalIndex,
+            InputFault::ExternalIndex,
             "13 ExternalIndex at record 4294901759",
             1,
         ),
         (
-            RecordFault::ThreadNotSet,
+            InputFault::ThreadNotSet,
             "14 ThreadNotSet at record 4294901759",
             1,
         ),
         (
-            RecordFault::FixupBeforeData,
+            InputFault::FixupBeforeData,
             "15 FixupBeforeData at record 4294901759",
             1,
         ),
         (
-            RecordFault::FixupPlace,
+            InputFault::FixupPlace,
             "16 FixupPlace at record 4294901759",
             1,
         ),
         (
-            RecordFault::DataOutside,
+            InputFault::DataOutside,
             "17 DataOutside at record 4294901759",
             1,
         ),
         (
-            RecordFault::DataInAbsolute,
+            InputFault::DataInAbsolute,
             "18 DataInAbsolute at record 4294901759",
             1,
         ),
         (
-            RecordFault::SelfRelativeBase,
+            InputFault::SelfRelativeBase,
             "19 SelfRelativeBase at record 4294901759",
             1,
         ),
         (
-            RecordFault::FrameOfLocation,
+            InputFault::FrameOfLocation,
             "20 FrameOfLocation at record 4294901759",
             1,
         ),
         (
-            RecordFault::GroupOfAbsolute,
+            InputFault::GroupOfAbsolute,
             "21 GroupOfAbsolute at record 4294901759",
             1,
         ),
         (
-            RecordFault::InputTooLong,
+            InputFault::InputTooLong,
             "41 InputTooLong at record 4294901759",
             1,
         ),
@@ -135,7 +127,7 @@ fn memory_and_outputs_have_lines(rt: HostRuntime) -> Result<(), Fail> {
             LinkFault::Record {
                 input: 0,
                 place: 16,
-                fault: RecordFault::Body { at: 6 },
+                fault: InputFault::Body { at: 6 },
             },
             "A.OBJ",
             "omf: A.OBJ: 6 Body at record 16 byte 6\n",

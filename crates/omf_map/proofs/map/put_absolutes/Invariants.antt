@@ -4,8 +4,8 @@ use Rattle.std.specs.Io.KnownBytes.{Appends}
 use Rattle.omf_map.specs.Map.{absolute_line}
 use Rattle.omf_map.proofs.map.put_absolutes.Given as goal
 
-abbrev pub invariant-loop-number : goal.invariant-loop-number
-invariant-loop-number g l = record {
+abbrev pub invariant-loop-segment : goal.invariant-loop-segment
+invariant-loop-segment g l = record {
   count : g.K.Sink.failures l.sink ≡ g.K.Sink.failures l.initial.sink;
-  appended : Appends (g.K.Sink.written l.initial.sink) (g.K.Sink.written l.sink) (flat_map absolute_line (take l.number l.from.segments));
+  appended : Appends (g.K.Sink.written l.initial.sink) (g.K.Sink.written l.sink) (flat_map absolute_line (take l.segment l.«module».segments));
 }

@@ -1,24 +1,23 @@
-use Rattle.std.proofs.Common.{arith}
-use Rattle.std.proofs.lemmas.Result.{err_from_is_err_and}
+use Rattle.std.proofs.Common.{◌∙◌}
 use Rattle.std.specs.List.{flat_map}
-use Rattle.omf_frame.proofs.Told.{on_err}
+use Rattle.omf_frame.proofs.Told.{Wrote-failed}
 use Rattle.omf_module.specs.Module.{Module}
 use Rattle.omf_map.specs.Map.{public_line}
-use Rattle.omf_text.proofs.PrintLemmas.{item_cut}
+use Rattle.omf_text.proofs.PrintLemmas.{items_cut}
 use Rattle.omf_map.proofs.MapLemmas.{item_more}
 use Rattle.omf_map.proofs.map.put_all_publics.Goals as goal
 
-pub returns-in_err-put_publics-clause-failed : goal.returns-in_err-put_publics-clause-failed
-returns-in_err-put_publics-clause-failed g c =
-    on_err _ (item_cut (λ (m : Module). flat_map (public_line c.args.layout.now) m.publics) c.args.modules.now c.loop-from.from-index c.from-item.result _ _ _ c.loop-from-test.true c.loop-from.invariant.appended (rw (← c.from-item.is) c.in_err-put_publics.ensures.failed))
+pub returns-in_err-put_publics : goal.returns-in_err-put_publics
+returns-in_err-put_publics g c =
+    let loop = c.loop-module in
+    Wrote-failed _ _ _ _ _ _ _ (items_cut (λ (m : Module). flat_map (public_line c.args.layout.now) m.publics) c.args.modules.now loop.module-index c.module-item.result _ _ _ _ _ _ c.loop-module-test.true
+    loop.invariant.appended loop.invariant.count (rw (← c.module-item.is) c.in_err-put_publics.ensures)) c.from_residual.ensures.1
 
-pub returns-in_err-put_publics-clause-count : goal.returns-in_err-put_publics-clause-count
-returns-in_err-put_publics-clause-count g c =
-    let p = err_from_is_err_and c.from_residual.result c.from_residual.ensures.1 in
-    rw p.1 (omega (arith, c.in_err-put_publics.ensures.count, c.loop-from.invariant.count))
-
-pub loop-from-preserved : goal.loop-from-preserved
-loop-from-preserved g c = record {
-  count = omega (arith, c.in_ok-put_publics.ensures.count, c.loop-from.invariant.count);
-  appended = item_more (λ (m : Module). flat_map (public_line c.args.layout.now) m.publics) c.args.modules.now c.loop-from.from-index c.from-item.result _ _ _ c.loop-from-test.true c.loop-from.invariant.appended (rw (← c.from-item.is) c.in_ok-put_publics.ensures.appended);
-}
+pub loop-module-preserved : goal.loop-module-preserved
+loop-module-preserved g c =
+    let loop = c.loop-module in
+    record {
+      count = c.in_ok-put_publics.ensures.1 ∙ loop.invariant.count;
+      appended = item_more (λ (m : Module). flat_map (public_line c.args.layout.now) m.publics) c.args.modules.now loop.module-index c.module-item.result _ _ _ c.loop-module-test.true
+          loop.invariant.appended (rw (← c.module-item.is) c.in_ok-put_publics.ensures.0);
+    }

@@ -1,13 +1,12 @@
 use Rattle.std.proofs.Common.{refl}
-use Rattle.omf_frame.proofs.Told.{AppendsFront-more, AppendsFront-then, on_err}
 use Rattle.omf_map.specs.Map.{group_lines}
-use Rattle.omf_text.proofs.PrintLemmas.{err_weaker}
+use Rattle.omf_frame.proofs.Told.{Wrote-cut, Wrote-then}
 use Rattle.omf_map.proofs.map.put_group_lines.Goals as goal
 
-pub returns-in_err-put_all-clause-failed : goal.returns-in_err-put_all-clause-failed
+pub returns-in_err-put_all : goal.returns-in_err-put_all
 unfolding group_lines
-returns-in_err-put_all-clause-failed g c = on_err _ (AppendsFront-more _ _ _ _ _ c.in_err-put_all.ensures.failed refl)
+returns-in_err-put_all g c = Wrote-cut _ _ _ _ _ _ _ _ _ c.in_err-put_all.ensures refl c.from_residual.ensures.1
 
-pub returns-clause-failed : goal.returns-clause-failed
+pub returns : goal.returns
 unfolding group_lines
-returns-clause-failed g c = err_weaker c.put_all_groups.result (λ p. AppendsFront-then _ _ _ _ _ c.in_ok-put_all.ensures.appended p) c.put_all_groups.ensures.failed
+returns g c = Wrote-then _ _ _ _ _ _ _ _ _ c.in_ok-put_all.ensures c.put_all_groups.ensures

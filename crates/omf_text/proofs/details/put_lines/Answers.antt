@@ -1,13 +1,12 @@
 use Rattle.std.proofs.Common.{refl}
-use Rattle.omf_frame.proofs.Told.{AppendsFront-more, AppendsFront-then, on_err}
 use Rattle.omf_text.specs.Details.{details}
-use Rattle.omf_text.proofs.PrintLemmas.{err_weaker}
+use Rattle.omf_frame.proofs.Told.{Wrote-cut, Wrote-then}
 use Rattle.omf_text.proofs.details.put_lines.Goals as goal
 
-pub returns-in_err-put_base_line-clause-failed : goal.returns-in_err-put_base_line-clause-failed
+pub returns-in_err-put_base_line : goal.returns-in_err-put_base_line
 unfolding details
-returns-in_err-put_base_line-clause-failed g c = on_err _ (AppendsFront-more _ _ _ _ _ c.in_err-put_base_line.ensures.failed refl)
+returns-in_err-put_base_line g c = Wrote-cut _ _ _ _ _ _ _ _ _ c.in_err-put_base_line.ensures refl c.from_residual.ensures.1
 
-pub returns-clause-failed : goal.returns-clause-failed
+pub returns : goal.returns
 unfolding details
-returns-clause-failed g c = err_weaker c.put_each.result (λ p. AppendsFront-then _ _ _ _ _ c.in_ok-put_base_line.ensures.appended p) c.put_each.ensures.failed
+returns g c = Wrote-then _ _ _ _ _ _ _ _ _ c.in_ok-put_base_line.ensures c.put_each.ensures

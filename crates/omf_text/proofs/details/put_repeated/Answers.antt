@@ -8,8 +8,8 @@ use Rattle.omf_text.proofs.details.put_repeated.Goals as goal
 expanded_capped : (n : ℕ) → expanded (capped n) ≡ expanded n
 expanded_capped n = grind arith
 
-pub returns-clause-appended : goal.returns-clause-appended
+pub returns : goal.returns
 unfolding details
-returns-clause-appended g c =
+returns g c =
     let len = length (expansion (map block_view c.args.blocks.now)) in
-    rw (length-map c.args.blocks.now block_view) (rw (c.as_slice.ensures, c.expanded_len.ensures, expanded_capped len) at c.put_each.ensures.appended)
+    rw (length-map c.args.blocks.now block_view) (rw (c.as_slice.ensures, c.expanded_len.ensures, expanded_capped len) at c.put_each.ensures)

@@ -1,32 +1,31 @@
 use Rattle.std.proofs.Common.{[], ◌∷◌, ◌++◌, refl}
 use Rattle.std.specs.List.{flat_map}
-use Rattle.omf_frame.proofs.Told.{Appends-trans, AppendsFront-more, AppendsFront-then, on_err}
+use Rattle.omf_frame.proofs.Told.{Wrote-cut, Wrote-then}
 use Rattle.omf_text.specs.Printing.{name_byte, printed_name}
-use Rattle.omf_text.proofs.PrintLemmas.{item_cut, all_items, ok_weaker, err_weaker}
+use Rattle.omf_text.proofs.PrintLemmas.{all_items, items_cut}
 use Rattle.omf_text.proofs.print.put_name.Goals as goal
 
-pub returns-in_err-put_all-clause-failed : goal.returns-in_err-put_all-clause-failed
+pub returns-in_err-put_all : goal.returns-in_err-put_all
 unfolding printed_name
-returns-in_err-put_all-clause-failed g c =
-    on_err _ (AppendsFront-more _ _ (34 ∷ []) (flat_map name_byte c.args.name.now ++ 34 ∷ []) _ c.in_err-put_all.ensures.failed refl)
+returns-in_err-put_all g c =
+    let name = flat_map name_byte c.args.name.now in
+    Wrote-cut _ _ _ _ _ (34 ∷ []) (name ++ 34 ∷ []) _ _ c.in_err-put_all.ensures refl c.from_residual.ensures.1
 
-pub returns-in_err-put_name_byte-clause-failed : goal.returns-in_err-put_name_byte-clause-failed
+pub returns-in_err-put_name_byte : goal.returns-in_err-put_name_byte
 unfolding printed_name
-returns-in_err-put_name_byte-clause-failed g c =
-    let names = item_cut name_byte c.args.name.now c.loop-byte.byte-index _ _ _ _ c.loop-byte-test.true c.loop-byte.invariant.appended c.in_err-put_name_byte.ensures.failed in
-    on_err _ (AppendsFront-then _ _ _ (34 ∷ []) (flat_map name_byte c.args.name.now ++ 34 ∷ []) c.in_ok-put_all.ensures.appended
-    (AppendsFront-more _ _ (flat_map name_byte c.args.name.now) (34 ∷ []) _ names refl))
+returns-in_err-put_name_byte g c =
+    let loop = c.loop-byte in
+    let name = flat_map name_byte c.args.name.now in
+    let failed = c.from_residual-in_err-put_name_byte.ensures.1 in
+    let cut = items_cut name_byte c.args.name.now loop.byte-index _ _ _ _ _ _ _ c.loop-byte-test.true loop.invariant.appended loop.invariant.count
+    c.in_err-put_name_byte.ensures in
+    Wrote-then _ _ _ _ _ _ (34 ∷ []) (name ++ 34 ∷ []) _ c.in_ok-put_all.ensures (Wrote-cut _ _ _ _ _ name (34 ∷ []) _ _ cut refl failed)
 
-pub returns-clause-appended : goal.returns-clause-appended
+pub returns : goal.returns
 unfolding printed_name
-returns-clause-appended g c =
-    let names = all_items name_byte c.args.name.now c.loop-byte.byte-index _ _ c.loop-byte-test.false c.loop-byte.invariant.appended in
-    ok_weaker c.put_all-2.result (λ p. Appends-trans _ _ _ (34 ∷ []) (flat_map name_byte c.args.name.now ++ 34 ∷ []) c.in_ok-put_all.ensures.appended
-    (Appends-trans _ _ _ (flat_map name_byte c.args.name.now) (34 ∷ []) names p)) c.put_all-2.ensures.appended
-
-pub returns-clause-failed : goal.returns-clause-failed
-unfolding printed_name
-returns-clause-failed g c =
-    let names = all_items name_byte c.args.name.now c.loop-byte.byte-index _ _ c.loop-byte-test.false c.loop-byte.invariant.appended in
-    err_weaker c.put_all-2.result (λ p. AppendsFront-then _ _ _ (34 ∷ []) (flat_map name_byte c.args.name.now ++ 34 ∷ []) c.in_ok-put_all.ensures.appended
-    (AppendsFront-then _ _ _ (flat_map name_byte c.args.name.now) (34 ∷ []) names p)) c.put_all-2.ensures.failed
+returns g c =
+    let loop = c.loop-byte in
+    let name = flat_map name_byte c.args.name.now in
+    let all = all_items name_byte c.args.name.now loop.byte-index _ _ c.loop-byte-test.false loop.invariant.appended in
+    Wrote-then _ _ _ _ _ _ (34 ∷ []) (name ++ 34 ∷ []) _ c.in_ok-put_all.ensures
+    (Wrote-then _ _ _ _ _ _ name (34 ∷ []) _ (all, loop.invariant.count) c.put_all-2.ensures)

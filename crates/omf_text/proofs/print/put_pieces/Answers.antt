@@ -1,18 +1,25 @@
-use Rattle.std.proofs.Common.{rules}
-use Rattle.omf_frame.proofs.Told.{on_err}
-use Rattle.omf_text.proofs.PrintLemmas.{end_cut, err_weaker, piece_cut, piece_held}
+use Rattle.std.proofs.Common.{◌∙◌, ◌+◌, ap}
+use Rattle.omf_frame.proofs.Told.{Wrote-failed}
+use Rattle.omf_text.proofs.PrintLemmas.{Wrote-held, piece_cut, piece_held}
 use Rattle.omf_text.proofs.print.put_pieces.Goals as goal
 
-pub returns-in_err-put-clause-failed : goal.returns-in_err-put-clause-failed
-returns-in_err-put-clause-failed g c =
-    on_err _ (piece_cut (λ piece. piece.now) c.args.pieces.now c.loop-piece.piece-index _ c.loop-piece.line _ _ _ c.loop-piece-test.true c.loop-piece.invariant.appended c.in_err-put.ensures.failed)
+pub returns-in_err-put : goal.returns-in_err-put
+returns-in_err-put g c =
+    let loop = c.loop-piece in
+    let cut = piece_cut (λ piece. piece.now) c.args.pieces.now loop.piece-index _ loop.line _ _ _ c.loop-piece-test.true loop.invariant.appended c.in_err-put.ensures.0 in
+    Wrote-failed _ _ _ _ _ _ _ (cut, c.in_err-put.ensures.1 ∙ ap (λ k. k + 1) loop.invariant.count) c.from_residual.ensures.1
 
 pub loop-piece-preserved : goal.loop-piece-preserved
-loop-piece-preserved g c = record {
-  count = search rules;
-  appended = piece_held (λ piece. piece.now) c.args.pieces.now c.loop-piece.piece-index _ c.loop-piece.line c.put.new.self _ _ _ c.loop-piece-test.true c.loop-piece.invariant.appended c.in_ok-put.ensures.appended;
-}
+loop-piece-preserved g c =
+    let loop = c.loop-piece in
+    record {
+      count = c.in_ok-put.ensures.1 ∙ loop.invariant.count;
+      appended = piece_held (λ piece. piece.now) c.args.pieces.now loop.piece-index _ loop.line c.put.new.self _ _ _ c.loop-piece-test.true
+          loop.invariant.appended c.in_ok-put.ensures.0;
+    }
 
-pub returns-clause-failed : goal.returns-clause-failed
-returns-clause-failed g c =
-    err_weaker c.put_held.result (λ p. end_cut (λ piece. piece.now) c.args.pieces.now c.loop-piece.piece-index c.loop-piece.line _ _ _ c.loop-piece-test.false c.loop-piece.invariant.appended p) c.put_held.ensures.failed
+pub returns : goal.returns
+returns g c =
+    let loop = c.loop-piece in
+    Wrote-held (λ piece. piece.now) c.args.pieces.now loop.piece-index loop.line _ _ _ _ _ _ _ c.loop-piece-test.false
+    loop.invariant.appended loop.invariant.count c.put_held.ensures.written

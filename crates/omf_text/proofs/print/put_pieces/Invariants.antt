@@ -1,6 +1,6 @@
 use Rattle.std.proofs.Common.{◌≡◌, take}
 use Rattle.std.specs.List.{flat_map}
-use Rattle.omf_text.specs.Printing.{AppendsBut}
+use Rattle.omf_text.specs.inside.Printing.{AppendsBut}
 use Rattle.omf_text.proofs.print.put_pieces.Given as goal
 
 abbrev pub invariant-loop-piece : goal.invariant-loop-piece

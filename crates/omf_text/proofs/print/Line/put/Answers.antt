@@ -1,19 +1,18 @@
-use Rattle.std.proofs.Common.{◌≡◌, ◌∙◌, ◌++◌, [], ap, append-nil, subst, sym}
+use Rattle.std.proofs.Common.{◌≡◌, [], ◌∙◌, subst}
 use Rattle.std.specs.Io.KnownBytes.{Appends}
-use Rattle.omf_frame.proofs.Told.{Appends-trans, AppendsFront-then}
-use Rattle.omf_text.proofs.PrintLemmas.{err_weaker, ok_weaker}
+use Rattle.omf_frame.specs.Device.{AppendsFront}
+use Rattle.omf_text.proofs.PrintLemmas.{WroteBut-cut, WroteBut-then}
 use Rattle.omf_text.proofs.print.Line.put.Goals as goal
 
-pub returns-clause-appended : goal.returns-clause-appended
-returns-clause-appended g c =
-    let text = c.args.self.now ++ c.args.piece.now in
+pub returns-in_err-put_held : goal.returns-in_err-put_held
+returns-in_err-put_held g c =
     let kept : c.hold.new.self ≡ c.args.self.now = c.hold.ensures.full c.if-hold.false in
-    let none : c.hold-2.new.self ≡ [] = c.hold-2.ensures.full c.if-hold-2.false ∙ c.in_ok-put_held.ensures.appended.1 in
-    let held = subst (Appends _ _) kept c.in_ok-put_held.ensures.appended.0 in
-    ok_weaker c.put_all.result (λ p. (text, sym (ap (λ l. text ++ l) none ∙ append-nil text), Appends-trans _ _ _ c.args.self.now c.args.piece.now held p)) c.put_all.ensures.appended
+    let written = c.in_err-put_held.ensures.written in
+    WroteBut-cut _ _ _ _ _ _ c.args.self.now c.args.piece.now _ (subst (AppendsFront _ _) kept written.0, written.1) c.from_residual.ensures.1
 
-pub returns-clause-failed : goal.returns-clause-failed
-returns-clause-failed g c =
+pub returns : goal.returns
+returns g c =
     let kept : c.hold.new.self ≡ c.args.self.now = c.hold.ensures.full c.if-hold.false in
-    let held = subst (Appends _ _) kept c.in_ok-put_held.ensures.appended.0 in
-    err_weaker c.put_all.result (λ p. AppendsFront-then _ _ _ c.args.self.now c.args.piece.now held p) c.put_all.ensures.failed
+    let none : c.hold-2.new.self ≡ [] = c.hold-2.ensures.full c.if-hold-2.false ∙ c.in_ok-put_held.ensures.emptied in
+    let written = c.in_ok-put_held.ensures.written in
+    WroteBut-then _ _ _ _ _ _ _ c.args.self.now c.args.piece.now _ none (subst (Appends _ _) kept written.0) written.1 c.put_all.ensures
