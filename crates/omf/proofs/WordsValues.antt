@@ -25,7 +25,8 @@ use Rattle.clap.proofs.WalkLemmas.{first_value-rows, one_text-rows, raw_values-r
 use Rattle.omf.specs.declared.words.Job.{Job}
 use Rattle.omf.specs.declared.words.WordsFault.{WordsFault}
 use Rattle.omf.specs.declared.words.WordsFault.TheVariants.{Help, Wrong, Memory}
-use Rattle.omf.specs.Words.{HasTooManyFiles, HasWrongParagraph, IsEntered, IsFlag, IsFourDigits, IsJobFor, IsJobOf, IsRefusalFor, IsRefusalOf, IsWrong, omf_command, texts}
+use Rattle.omf.specs.Words.{HasTooManyFiles, HasWrongParagraph, IsFlag, IsFourDigits, IsJobFor, IsJobOf, IsRefusalFor, omf_command, texts}
+use Rattle.omf.specs.inside.Words.{IsEntered, IsRefusalOf, IsWrong}
 use Rattle.omf.proofs.WordsTaken.{is_settled_app, takes_where_no_fault}
 use Rattle.omf.proofs.WordsRequired.{enters_one, is_entered, required_given, wants_values}
 

@@ -1,5 +1,5 @@
 -- Files that are read, and a sink in front of a writer that is written in large pieces.
-use Rattle.std.specs.Prelude.{◌≡◌, ℕ, List, Bool, true, false, None}
+use Rattle.std.specs.Prelude.{ℕ, List, Bool, true, false, None}
 use Rattle.std.specs.declared.option.Option.{Option}
 use Rattle.std.specs.Io.Buffered.{reader_remaining, writer_buffer, writer_contents}
 use Rattle.omf.specs.declared.files.BufferedSink.{BufferedSink}
@@ -14,30 +14,24 @@ stage_bytes remaining unopened Failed = None
 stage_bytes remaining unopened NoMemory = None
 stage_bytes remaining unopened (Finished last) = reader_remaining remaining last.value
 
--- a file with these bytes was opened and no byte of it read, or it couldn't be opened
-abbrev pub IsOpenedAt : {F A : Type 0} → (F → Option (List ℕ)) → Option (List ℕ) → Stage F A → Type 0
-IsOpenedAt remaining bytes Waiting = ⊥
-IsOpenedAt remaining bytes (Open reader) = reader_remaining remaining reader ≡ bytes
-IsOpenedAt remaining bytes Failed = Unit {0}
-IsOpenedAt remaining bytes NoMemory = Unit {0}
-IsOpenedAt remaining bytes (Finished last) = ⊥
-
 -- no file is open, and there is no buffer
 abbrev pub HoldsNothing : {F A : Type 0} → Stage F A → Type 0
 HoldsNothing (Open reader) = ⊥
 HoldsNothing _ = Unit {0}
 
+-- whether a read failed for want of memory
 abbrev pub is_out_of_memory : {F A : Type 0} → Stage F A → Bool
 is_out_of_memory NoMemory = true
 is_out_of_memory _ = false
 
 -- the bytes that the writer holds, and then those that are held back
 abbrev pub sink_bytes : {W A : Type 0} → (W → Option (List ℕ)) → BufferedSink W A → Option (List ℕ)
-sink_bytes contents s = writer_contents contents s.writer
+sink_bytes contents sink = writer_contents contents sink.writer
 
 -- the bytes that are held back
 abbrev pub held_back : {W A : Type 0} → BufferedSink W A → List ℕ
-held_back s = writer_buffer s.writer
+held_back sink = writer_buffer sink.writer
 
+-- how many calls of the sink failed
 abbrev pub sink_failures : {W A : Type 0} → BufferedSink W A → ℕ
-sink_failures s = s.failures
+sink_failures sink = sink.failures

@@ -1,3 +1,3 @@
 pub mod Files
 pub mod Words
-pub mod Status
+pub mod inside

@@ -1,8 +1,10 @@
 //! Files that a program reads and writes, as devices.
-ghost use Rattle.std.specs.Prelude.{All, ◌≡◌, ◌+◌, ◌-◌, ◌^◌, ◌<◌, ◌≤◌, [], IfOk, None, OnErr, OnOk, is_ok, length, map, take, if◌then◌else◌};
+ghost use Rattle.std.specs.Prelude.{All, ◌≡◌, ◌+◌, ◌-◌, ◌^◌, ◌<◌, ◌≤◌, [], IfOk, None, OnErr, OnOk, is_ok, length, map};
+ghost use Rattle.std.specs.Prelude.{take, if◌then◌else◌};
 ghost use Rattle.std.specs.Io.KnownBytes.{Consumes, IsAtEnd, Keeps};
 ghost use Rattle.omf_frame.specs.Device.{SameWhereTold};
-ghost use Rattle.omf.specs.Files.{HoldsNothing, IsOpenedAt, held_back, is_out_of_memory, sink_bytes, sink_failures, stage_bytes};
+ghost use Rattle.omf.specs.Files.{HoldsNothing, held_back, is_out_of_memory, sink_bytes, sink_failures, stage_bytes};
+ghost use Rattle.omf.specs.inside.Files.{IsOpenedAt};
 
 use crate::world::World;
 use omf_frame::{IoFault, Sink, Source};

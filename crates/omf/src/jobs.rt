@@ -1,7 +1,7 @@
 //! What each subcommand does in a world, and the status that it ends with.
 ghost use Rattle.std.specs.Prelude.{All, ◌≡◌, ◌<◌, ◌^◌, ◌-◌, [], true, false, Err, IfSome, OnOk, if◌then◌else◌};
 ghost use Rattle.omf.specs.Files.{held_back, sink_failures};
-ghost use Rattle.omf.specs.Status.{exit_status, words_status};
+ghost use Rattle.omf.specs.inside.Status.{exit_status, words_status};
 ghost use Rattle.omf_place.specs.declared.names.Names.TheVariants.{AsciiFolded, Exact};
 
 use crate::files::{BufferedSink, CreatedFile, open_source, open_sources};
@@ -78,6 +78,7 @@ fn run_job<W: World + Copy, A: Allocator + Copy>(alloc: A, world: W, job: &Job<'
     }
 }
 
+// Writes the listing of a file to standard output.
 #[tactic(auto, using(crate::proofs::Failures::at_most_one))]
 fn show_file<W: World + Copy, A: Allocator + Copy>(
     alloc: A,
@@ -90,6 +91,7 @@ fn show_file<W: World + Copy, A: Allocator + Copy>(
     flushed(&mut sink, by_memory(source.lacks_memory(), result))
 }
 
+// Writes to standard output whether a file is a sound module.
 #[tactic(auto, using(crate::proofs::Failures::at_most_one))]
 fn check_file<W: World + Copy, A: Allocator + Copy>(
     alloc: A,
@@ -102,6 +104,7 @@ fn check_file<W: World + Copy, A: Allocator + Copy>(
     flushed(&mut sink, by_memory(source.lacks_memory(), result))
 }
 
+// Writes the records of a file to another one, in their canonical form.
 #[tactic(auto, using(crate::proofs::Failures::at_most_one))]
 fn rewrite_file<W: World + Copy, A: Allocator + Copy>(
     alloc: A,
@@ -182,6 +185,7 @@ fn link_with_map<S: Source, W: Write + Drop, A: Allocator + Copy>(
     }
 }
 
+// Links the inputs into the program, all of which is handed on to the writer.
 #[tactic(auto, using(crate::proofs::Failures::at_most_one))]
 fn link_to<S: Source, W: Write + Drop, A: Allocator + Copy>(
     alloc: A,
@@ -196,6 +200,7 @@ fn link_to<S: Source, W: Write + Drop, A: Allocator + Copy>(
     flushed(&mut sink, result)
 }
 
+// Writes the map of what was linked, all of which is handed on to the writer.
 #[tactic(auto, using(crate::proofs::Failures::at_most_one))]
 fn map_to<W: Write + Drop, A: Allocator + Copy>(
     alloc: A,
@@ -222,6 +227,7 @@ fn input_at_fault<'a, A: Allocator + Copy>(
     }
 }
 
+// Writes the listing of a loaded program to standard output.
 #[tactic(auto, using(crate::proofs::Failures::at_most_one))]
 fn load_path<W: World + Copy, A: Allocator + Copy>(
     alloc: A,
@@ -287,6 +293,7 @@ pub(crate) fn out_of_memory<W: World + Copy>(world: W) -> u8
 pub(crate) fn wrong_words<W: World + Copy>(world: W, text: &str) -> u8
     ensures { result ≡ 2 }
 {
+    // where standard error fails, the status alone tells it
     let _ = put_all(&mut WriteSink::new(world.errors()), text.as_bytes());
     WRONG_WORDS
 }
@@ -308,6 +315,7 @@ fn finish<W: World + Copy, A: Allocator + Copy>(
     } else {
         output
     };
+    // where standard error fails, the status alone tells it
     let _ = fault_line(&fault, file, &mut WriteSink::new(world.errors()));
     status(&fault)
 }

@@ -1,11 +1,14 @@
 //! The words of the command line.
 ghost use Rattle.std.specs.Prelude.{◌≡◌, ◌⊎◌, IfErr, IfOk, IsSome, Some, codes, false, true};
-ghost use Rattle.clap.specs.Words.{app_of, first_of, found_of, is_simple, kind_of, rows_of, rule_of, takes, with_rule, with_subcommand};
+ghost use Rattle.clap.specs.Words.{app_of, first_of, found_of, is_simple, kind_of, rows_of, rule_of, takes, with_rule};
+ghost use Rattle.clap.specs.Words.{with_subcommand};
 ghost use Rattle.clap.specs.declared.Command.{out-Command as fields_of};
 ghost use Rattle.clap.specs.declared.error.ErrorKind.TheVariants.{OutOfMemory};
 ghost use Rattle.omf.specs.declared.words.WordsFault.TheVariants.{Memory};
 ghost use Rattle.omf.specs.Words as spec;
-ghost use Rattle.omf.specs.Words.{IsEntered, IsJobFor, IsJobOf, IsRefusalFor, IsRefusalOf, texts};
+ghost use Rattle.omf.specs.inside.Words as inside;
+ghost use Rattle.omf.specs.Words.{IsJobFor, IsJobOf, IsRefusalFor, texts};
+ghost use Rattle.omf.specs.inside.Words.{IsEntered, IsRefusalOf};
 
 use clap::builder::ValueRange;
 use clap::error::ErrorKind;
@@ -95,6 +98,7 @@ fn needed<'a>(alloc: Global, id: &'a str) -> Arg<'a>
     Arg::new(alloc, id).required(true)
 }
 
+// The program that is written.
 fn out_option<'a>(alloc: Global) -> Arg<'a>
     ensures rule { rule_of result ≡ spec.out_rule }
     ensures local { result.global ≡ false }
@@ -104,6 +108,7 @@ fn out_option<'a>(alloc: Global) -> Arg<'a>
         .help("The program to write, none of FILES")
 }
 
+// The map that is written, where one is asked for.
 fn map_option<'a>(alloc: Global) -> Arg<'a>
     ensures rule { rule_of result ≡ spec.map_rule }
     ensures local { result.global ≡ false }
@@ -113,6 +118,7 @@ fn map_option<'a>(alloc: Global) -> Arg<'a>
         .help("The map to write after it, another file than OUT")
 }
 
+// Whether names agree without regard to case.
 fn case_flag<'a>(alloc: Global) -> Arg<'a>
     ensures rule { rule_of result ≡ spec.case_rule }
     ensures local { result.global ≡ false }
@@ -123,6 +129,7 @@ fn case_flag<'a>(alloc: Global) -> Arg<'a>
         .help("Names agree without regard to case: for Pascal, and assemblers that write capitals")
 }
 
+// The files that are linked, one or more.
 fn files<'a>(alloc: Global) -> Arg<'a>
     ensures rule { rule_of result ≡ spec.files_rule }
     ensures local { result.global ≡ false }
@@ -132,6 +139,7 @@ fn files<'a>(alloc: Global) -> Arg<'a>
     )
 }
 
+// The command with one argument more.
 fn with_arg<'a>(command: Command<'a>, arg: Arg<'a>) -> Result<Command<'a>, AllocError>
     requires local { arg.global ≡ false }
     requires above { (fields_of command).has_globals ≡ false }
@@ -141,6 +149,7 @@ fn with_arg<'a>(command: Command<'a>, arg: Arg<'a>) -> Result<Command<'a>, Alloc
     command.arg(arg)
 }
 
+// The subcommand `show`.
 fn show_command<'a>(alloc: Global) -> Result<Command<'a>, AllocError>
     ensures app { IfOk result (λ c. app_of c ≡ spec.show_command) }
     ensures local { IfOk result (λ c. (fields_of c).has_globals ≡ false) }
@@ -151,6 +160,7 @@ fn show_command<'a>(alloc: Global) -> Result<Command<'a>, AllocError>
     with_arg(command, needed(alloc, "FILE").help("The object module"))
 }
 
+// The subcommand `check`.
 fn check_command<'a>(alloc: Global) -> Result<Command<'a>, AllocError>
     ensures app { IfOk result (λ c. app_of c ≡ spec.check_command) }
     ensures local { IfOk result (λ c. (fields_of c).has_globals ≡ false) }
@@ -161,6 +171,7 @@ fn check_command<'a>(alloc: Global) -> Result<Command<'a>, AllocError>
     with_arg(command, needed(alloc, "FILE").help("The object module"))
 }
 
+// The subcommand `rewrite`.
 fn rewrite_command<'a>(alloc: Global) -> Result<Command<'a>, AllocError>
     ensures app { IfOk result (λ c. app_of c ≡ spec.rewrite_command) }
     ensures local { IfOk result (λ c. (fields_of c).has_globals ≡ false) }
@@ -175,6 +186,7 @@ fn rewrite_command<'a>(alloc: Global) -> Result<Command<'a>, AllocError>
     )
 }
 
+// The subcommand `link`.
 fn link_command<'a>(alloc: Global) -> Result<Command<'a>, AllocError>
     ensures app { IfOk result (λ c. app_of c ≡ spec.link_command) }
     ensures local { IfOk result (λ c. (fields_of c).has_globals ≡ false) }
@@ -188,6 +200,7 @@ fn link_command<'a>(alloc: Global) -> Result<Command<'a>, AllocError>
     with_arg(command, files(alloc))
 }
 
+// The subcommand `load`.
 fn load_command<'a>(alloc: Global) -> Result<Command<'a>, AllocError>
     ensures app { IfOk result (λ c. app_of c ≡ spec.load_command) }
     ensures local { IfOk result (λ c. (fields_of c).has_globals ≡ false) }
@@ -204,6 +217,7 @@ fn load_command<'a>(alloc: Global) -> Result<Command<'a>, AllocError>
     )
 }
 
+// The command with one subcommand more.
 fn with_command<'a>(above: Command<'a>, command: Command<'a>) -> Result<Command<'a>, AllocError>
     requires local { (fields_of command).has_globals ≡ false }
     requires above { (fields_of above).has_globals ≡ false }
@@ -213,6 +227,7 @@ fn with_command<'a>(above: Command<'a>, command: Command<'a>) -> Result<Command<
     above.subcommand(command)
 }
 
+// The command `omf` before it has its subcommands.
 fn bare_command<'a>(alloc: Global) -> Result<Command<'a>, AllocError>
     ensures app { IfOk result (λ c. app_of c ≡ spec.bare_command) }
     ensures local { IfOk result (λ c. (fields_of c).has_globals ≡ false) }
@@ -226,6 +241,7 @@ fn bare_command<'a>(alloc: Global) -> Result<Command<'a>, AllocError>
         .bin_name("omf")
 }
 
+// The command `omf`.
 fn omf_command<'a>(alloc: Global) -> Result<Command<'a>, AllocError>
     ensures { IfOk result (λ c. app_of c ≡ spec.omf_command) }
 {
@@ -250,8 +266,9 @@ fn refusal(alloc: Global, error: &clap::Error) -> WordsFault
     }
 }
 
+// A refusal for which the parser has no text.
 fn wrong_words(alloc: Global) -> WordsFault
-    ensures { (result ≡ WordsFault.Memory) ⊎ spec.IsWrong result }
+    ensures { (result ≡ WordsFault.Memory) ⊎ inside.IsWrong result }
 {
     match String::from_str(alloc, "omf: wrong words\n") {
         Ok(text) => WordsFault::Wrong(text),
@@ -267,6 +284,7 @@ fn value<'a>(values: &ArgMatches<'a>, id: &str) -> &'a str
     values.get_str(id).unwrap()
 }
 
+// The job of `link`, by its values.
 fn link_job<'a>(alloc: Global, values: &ArgMatches<'a>) -> Result<Job<'a>, WordsFault>
     requires out { IsSome (first_of (codes "OUT") (rows_of (found_of values.now))) }
     requires files { IsSome (first_of (codes "FILES") (rows_of (found_of values.now))) }
@@ -288,6 +306,7 @@ fn link_job<'a>(alloc: Global, values: &ArgMatches<'a>) -> Result<Job<'a>, Words
     })
 }
 
+// The job of `load`, by its values.
 fn load_job<'a>(alloc: Global, values: &ArgMatches<'a>) -> Result<Job<'a>, WordsFault>
     requires file { IsSome (first_of (codes "FILE") (rows_of (found_of values.now))) }
     requires paragraph { IsSome (first_of (codes "PARAGRAPH") (rows_of (found_of values.now))) }

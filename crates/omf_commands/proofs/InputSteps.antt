@@ -12,8 +12,9 @@ use Rattle.omf_module.specs.Module.{Module}
 use Rattle.omf_record.specs.Records.{Placed}
 use Rattle.omf_module.specs.Tables.{module_of}
 use Rattle.omf_module.specs.Reading.{Reads, failures_in}
-use Rattle.omf_commands.specs.Inputs.{modules_of, IsInput, AreInputs, IsInputFault, ReadsFront, StopsReading}
-use Rattle.omf_commands.specs.Checking.{fault_at, module_fault}
+use Rattle.omf_commands.specs.Inputs.{modules_of, IsInput, AreInputs, ReadsFront, StopsReading}
+use Rattle.omf_commands.specs.inside.Inputs.{IsInputFault}
+use Rattle.omf_commands.specs.Faults.{fault_at, module_fault}
 
 module _ {S : Type 0} (told : S → Option (List ℕ)) (failures : S → ℕ) where
   -- the inputs before this one are modules of these records, and the others are as they were
@@ -88,7 +89,7 @@ module _ {S : Type 0} (told : S → Option (List ℕ)) (failures : S → ℕ) wh
         rest = drop (i + 1) olds;
         olds_are = sym (take-append-drop i olds) ∙ ap (λ l. take i olds ++ l) (drop-cons olds i d h ∙ ap (λ k. get_or olds i d ∷ drop k olds) next);
         news_are = set_split mids i new within ∙ ap (λ l. take i mids ++ new ∷ l) (ap (λ k. drop k mids) next ∙ rest_after i olds mids so.rest);
-        number = sym (length-take-le i olds (omega (arith, h)));
+        index = sym (length-take-le i olds (omega (arith, h)));
         inputs = so.inputs;
         refused = subst (λ x. Reads (λ (m : Module). m) (told x) (told new) (Err e)) same reads;
         failed = subst (λ x. failures new ≡ failures x + failures_in {A = Module} (Err e)) same failed;

@@ -23,9 +23,12 @@ use Rattle.mz.specs.Loading.{Loaded}
 use Rattle.mz.specs.Reading.{reading}
 use Rattle.omf_text.specs.declared.fault.LinkFault.{LinkFault}
 use Rattle.omf_text.specs.declared.fault.LinkFault.TheVariants as link
-use Rattle.omf_commands.specs.Inputs.{modules_of, AreInputs, ReadsFront, IsInputFault}
+use Rattle.omf_commands.specs.Inputs.{modules_of, AreInputs, ReadsFront}
+use Rattle.omf_commands.specs.inside.Inputs.{IsInputFault}
 use Rattle.omf_commands.specs.Reading.{sink_failures}
-use Rattle.omf_commands.specs.Linking.{IsLinked, IsLoadedFrom, IsModulesFault, LinksModules, Links, HoldsProgram, FitsAt, HoldsAtEachParagraph, place_fault, build_fault}
+use Rattle.omf_commands.specs.Linking.{IsLinked, IsLoadedFrom, IsModulesFault, Links, HoldsProgram, FitsAt, HoldsAtEachParagraph}
+use Rattle.omf_commands.specs.inside.Linking.{LinksModules}
+use Rattle.omf_commands.specs.inside.Faults.{place_fault, fix_fault}
 
 -- ---- the modules
 
@@ -36,7 +39,7 @@ place_refused names modules place.ProgramTooLarge h = h
 place_refused names modules (place.GroupTooLong name) h = h
 place_refused names modules (place.DuplicatePublic name) h = h
 
-pub build_refused : (A : Type 0) (names : Names) (modules : List Module) (layout : Layout) (e : FixFault) → IsOnlyLayout names modules layout → Builds layout modules (Err e) → LinksModules {A = A} names modules (Err (build_fault e))
+pub build_refused : (A : Type 0) (names : Names) (modules : List Module) (layout : Layout) (e : FixFault) → IsOnlyLayout names modules layout → Builds layout modules (Err e) → LinksModules {A = A} names modules (Err (fix_fault e))
 build_refused A names modules layout (build.At k input place) only h = (k, refl, (layout, only, h))
 build_refused A names modules layout build.TooManyRelocations only h = (layout, only, h)
 build_refused A names modules layout build.Memory only h = tt

@@ -8,7 +8,7 @@ use Rattle.std.proofs.lemmas.List.FromFn.{get_or-range_with_len, length-range_wi
 use Rattle.omf_frame.specs.Device.{AppendsFront}
 use Rattle.omf_frame.proofs.Told.{Appends-trans}
 use Rattle.omf_commands.specs.Loading.{bytes_line, bytes_line_at, bytes_lines}
-use Rattle.omf_text.proofs.PrintLemmas.{flat_map-take_more, item_cut, all_items}
+use Rattle.omf_text.proofs.PrintLemmas.{flat_map-take_more, items_cut, all_items}
 
 module _ (address : ℕ) (bytes : List ℕ) where
   abbrev count : ℕ
@@ -34,11 +34,12 @@ module _ (address : ℕ) (bytes : List ℕ) where
       let long : i < length numbers = omega (arith, length-range_with_len 0 count) in
       subst (Appends a c) (sym (flat_map-take_more (bytes_line_at address bytes) numbers i 0 long)) (Appends-trans a b c _ _ p (subst (Appends b c) is q))
 
-  pub line_cut : (i : ℕ) (line : List ℕ) (a b c : Option (List ℕ)) → i < count → line ≡ bytes_line_at address bytes (get_or numbers i 0)
-      → Appends a b (flat_map (bytes_line_at address bytes) (take i numbers)) → AppendsFront b c line → AppendsFront a c (bytes_lines address bytes)
-  line_cut i line a b c h is p q =
+  pub line_cut : (i : ℕ) (line : List ℕ) (a b c : Option (List ℕ)) (l m n : ℕ) → i < count → line ≡ bytes_line_at address bytes (get_or numbers i 0)
+      → Appends a b (flat_map (bytes_line_at address bytes) (take i numbers)) → m ≡ l → AppendsFront b c line × (n ≡ m + 1)
+      → AppendsFront a c (bytes_lines address bytes) × (n ≡ l + 1)
+  line_cut i line a b c l m n h is p none q =
       let long : i < length numbers = omega (arith, length-range_with_len 0 count) in
-      item_cut (bytes_line_at address bytes) numbers i 0 a b c long p (subst (AppendsFront b c) is q)
+      items_cut (bytes_line_at address bytes) numbers i 0 a b c l m n long p none (subst (AppendsFront b c) is q.0, q.1)
 
   pub all_lines : (i : ℕ) (a b : Option (List ℕ)) → count ≤ i → Appends a b (flat_map (bytes_line_at address bytes) (take i numbers)) → Appends a b (bytes_lines address bytes)
   all_lines i a b h p = all_items (bytes_line_at address bytes) numbers i a b (omega (arith, h, length-range_with_len 0 count)) p

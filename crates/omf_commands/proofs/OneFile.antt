@@ -6,10 +6,9 @@ use Rattle.std.proofs.lemmas.List.Elements.{recursion_from_All}
 use Rattle.omf_module.specs.Module.{Module}
 use Rattle.omf_place.specs.Layout.{Layout}
 use Rattle.omf_place.specs.declared.names.Names.{Names}
-use Rattle.omf_image.specs.Building.{registers_of}
 use Rattle.omf_image.specs.Program.{Program, IsProgram}
 use Rattle.omf_image.specs.Records.{program_byte}
-use Rattle.omf_image.specs.Registers.{Registers}
+use Rattle.omf_image.specs.declared.start.Registers.{Registers}
 use Rattle.omf_image.specs.Words.{put_word, add_word, add_words}
 use Rattle.mz.specs.File.{written}
 use Rattle.omf_commands.specs.Linking.{IsLinked, IsFileOf}
@@ -40,9 +39,9 @@ zero_words (i ∷ is) bytes small = ap (add_words 0 is) (zero_word i bytes small
 
 -- a file doesn't tell which pages of the image were made
 abbrev parts : List ℕ → ℕ → List ℕ → Registers → Program
-parts image end relocations r = record { image = image; written = end; relocations = relocations; cs = r.cs; ip = r.ip; ss = r.ss; sp = r.sp; made = [] }
+parts image end relocations r = record { image = image; written = end; relocations = relocations; registers = r; made = [] }
 
-written_parts : (p : Program) → written p ≡ written (parts p.image p.written p.relocations (registers_of p))
+written_parts : (p : Program) → written p ≡ written (parts p.image p.written p.relocations p.registers)
 unfolding written
 written_parts p = refl
 
@@ -57,10 +56,10 @@ same_written names modules layout p q a b m n =
     let below : i < layout.size = subst (λ k. i < k) a.program.sized h in
     image_byte names modules layout p a m i below ∙ sym (image_byte names modules layout q b n i below)) in
     let relocations : p.relocations ≡ q.relocations = a.program.listed ∙ sym b.program.listed in
-    let registers : registers_of p ≡ registers_of q = sym a.program.at_zero ∙ b.program.at_zero in
+    let registers : p.registers ≡ q.registers = sym a.program.at_zero ∙ b.program.at_zero in
     let ends : p.written ≡ q.written = a.program.written ∙ sym b.program.written in
     written_parts p
-    ∙ (ap₂ (λ x y. written (parts x p.written y (registers_of p))) image relocations
+    ∙ (ap₂ (λ x y. written (parts x p.written y p.registers)) image relocations
     ∙ (ap₂ (λ n r. written (parts q.image n q.relocations r)) ends registers ∙ sym (written_parts q)))
 
 pub same_file : (names : Names) (modules : List Module) (file other : List ℕ) → IsFileOf names modules file → IsFileOf names modules other → file ≡ other

@@ -18,16 +18,17 @@ use Rattle.omf_image.specs.declared.faults.FixFault.{FixFault}
 use Rattle.omf_image.specs.declared.faults.FixFault.TheVariants as build
 use Rattle.omf_image.specs.Registers.{program_fault}
 use Rattle.omf_text.specs.FaultLines.{program_line}
-use Rattle.omf_text.specs.declared.fault.RecordFault.{RecordFault}
+use Rattle.omf_text.specs.declared.fault.InputFault.{InputFault}
 use Rattle.omf_text.specs.declared.fault.ProgramFault.TheVariants as program
 use Rattle.omf_text.specs.declared.fault.LinkFault.{LinkFault}
 use Rattle.omf_text.specs.declared.fault.LinkFault.TheVariants as link
 use Rattle.omf_commands.specs.declared.linking.Report.{Report}
-use Rattle.omf_commands.specs.Checking.{fault_at}
 use Rattle.omf_commands.specs.Inputs.{modules_of, IsInput, AreInputs, StopsAtRecord}
-use Rattle.omf_commands.specs.Linking.{IsBuildFault, IsFileOf, IsModulesFault, Links, build_fault}
+use Rattle.omf_commands.specs.Linking.{IsBuildFault, IsFileOf, IsModulesFault, Links}
 use Rattle.omf_commands.specs.Outcome.{telling, BeginsWith, StandsBehind, IsOnlyFault, Outcome, AreTold}
 use Rattle.omf_commands.proofs.Exclusive.{exclusive, placed_sound}
+use Rattle.omf_commands.specs.inside.Faults.{fix_fault}
+use Rattle.omf_commands.specs.Faults.{fault_at}
 
 -- ---- two faults of the same modules are the same
 
@@ -45,7 +46,7 @@ told_of A (Placing (SegmentTooLong name)) = (Some 22, None, λ file. program_lin
 told_of A (Placing ProgramTooLarge) = (Some 23, None, λ file. program_line (23, codes "ProgramTooLarge") None)
 told_of A (Placing (GroupTooLong name)) = (Some 24, None, λ file. program_line (24, codes "GroupTooLong") (Some name))
 told_of A (Placing (DuplicatePublic name)) = (Some 25, None, λ file. program_line (25, codes "DuplicatePublic") (Some name))
-told_of A (Building f) = telling {A = A} (build_fault f)
+told_of A (Building f) = telling {A = A} (fix_fault f)
 
 record Reason {A : Type 0} (names : Names) (modules : List Module) (fault : LinkFault A) : Type 0 where
   why : Why
@@ -174,7 +175,7 @@ module _ {S : Type 0} (told : S → Option (List ℕ)) (failures : S → ℕ) wh
       inr (rs, begins rs x y bytes h.0 is.0, stopped_stands names (before ++ rs ∷ []) lists xs ys rest old inputs fault n place k h.1 is.1 reads next same)
 
   -- a record's fault is none of the source's own
-  fault_reads : {A : Type 0} (n p : ℕ) (f : RecordFault) (input place : ℕ) (k : FaultKind) (bytes : List ℕ) → link.Record n p f ≡ fault_at {A = A} input place k → IsFaultOf bytes place k → ReadingFault bytes place k
+  fault_reads : {A : Type 0} (n p : ℕ) (f : InputFault) (input place : ℕ) (k : FaultKind) (bytes : List ℕ) → link.Record n p f ≡ fault_at {A = A} input place k → IsFaultOf bytes place k → ReadingFault bytes place k
   fault_reads {A} n p f input place kind.Device bytes e h = absurd (true≢false (ap (is_record {A = A}) e))
   fault_reads n p f input place kind.ZeroLength bytes e h = h
   fault_reads n p f input place kind.Truncated bytes e h = h
@@ -189,10 +190,10 @@ module _ {S : Type 0} (told : S → Option (List ℕ)) (failures : S → ℕ) wh
   unfolding Reads
   reading_told bytes old new place k is h = subst (λ o. IfSome o (λ b. IsFaultOf b place k)) is h.6
 
-  record_stands : {A : Type 0} (names : Names) (olds news : List S) (inputs : List (List ℕ)) (n p : ℕ) (f : RecordFault) → AreTold told olds inputs → StopsAtRecord told failures {A = A} olds news (link.Record n p f)
+  record_stands : {A : Type 0} (names : Names) (olds news : List S) (inputs : List (List ℕ)) (n p : ℕ) (f : InputFault) → AreTold told olds inputs → StopsAtRecord told failures {A = A} olds news (link.Record n p f)
       → StandsBehind {A = A} names [] inputs (link.Record n p f)
   record_stands {A} names olds news inputs n p f is (input, place, k, same, s) =
-      let count : input ≡ length s.old_front = s.number in
+      let count : input ≡ length s.old_front = s.index in
       stopped_stands {A = A} names [] s.lists s.old_front s.new_front s.rest s.old inputs (link.Record n p f) input place k s.inputs (subst (λ l. AreTold told l inputs) s.olds_are is)
       (λ bytes e. fault_reads {A = A} n p f input place k bytes same (reading_told bytes (told s.old) (told s.new) place k e s.refused)) (omega (arith, count)) same
 

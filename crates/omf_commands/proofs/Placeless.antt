@@ -17,7 +17,7 @@ use Rattle.omf_module.specs.declared.ResolvedFixup.{ResolvedFixup}
 use Rattle.omf_module.specs.declared.Start.{Start}
 use Rattle.omf_module.specs.Module.{DataRecord, Module}
 use Rattle.omf_module.specs.Before.{along_from, along, last}
-use Rattle.omf_module.specs.Running.{later}
+use Rattle.omf_module.specs.inside.Running.{later}
 use Rattle.omf_module.specs.Tables.{Stretch, names, names_in, segments, segments_in, groups, groups_in, externals, externals_in, publics, publics_in, stretches, stretches_in, subrecords, subrecords_in, fixup_of, fixup_in, fixups_in, fixups, fixups_on, data_records, start_of, start_in, start, frame_thread, target_thread, frame_used, target_used, module_of}
 use Rattle.omf_module.proofs.Lists.{last_append}
 

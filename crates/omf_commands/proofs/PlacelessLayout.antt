@@ -4,8 +4,8 @@ use Rattle.std.proofs.Math.Path.{fun_ext}
 use Rattle.std.proofs.lemmas.List.{length-map}
 use Rattle.std.proofs.lemmas.List.Folds.{flat_map-map}
 use Rattle.std.proofs.lemmas.Simd.{map-map}
-use Rattle.omf_module.specs.declared.Base.{Base}
-use Rattle.omf_module.specs.declared.Base.TheVariants.{AtFrame, InSegment}
+use Rattle.omf_module.specs.declared.SymbolBase.{SymbolBase}
+use Rattle.omf_module.specs.declared.SymbolBase.TheVariants.{AtFrame, InSegment}
 use Rattle.omf_module.specs.declared.Standing.{Standing}
 use Rattle.omf_module.specs.declared.Standing.TheVariants.{Absolute, Relocatable}
 use Rattle.omf_module.specs.Module.{Module}
@@ -48,7 +48,7 @@ in_segment_same modules addresses m group offset a (Absolute frame at) = refl
 in_segment_same modules addresses m group offset a (Relocatable alignment kind) =
     ap (λ frame. record { address = address.Relocatable (address_of addresses a + offset); frame = frame }) (public_frame_same modules addresses m a group)
 
-placed_public_same : (modules : List Module) (addresses : List ℕ) (n : Input) (offset : ℕ) (b : Base) →
+placed_public_same : (modules : List Module) (addresses : List ℕ) (n : Input) (offset : ℕ) (b : SymbolBase) →
     placed_public (map placeless modules) addresses (placeless_input n) offset b ≡ placed_public modules addresses n offset b
 placed_public_same modules addresses n offset (AtFrame frame) = refl
 placed_public_same modules addresses n offset (InSegment number group) =

@@ -17,7 +17,7 @@ use Rattle.omf_image.specs.declared.faults.FixFault.{FixFault}
 use Rattle.omf_image.specs.declared.faults.FixFault.TheVariants.{At, TooManyRelocations, Memory}
 use Rattle.omf_image.specs.declared.faults.FixKind.{FixKind}
 use Rattle.omf_image.specs.declared.faults.FixKind.TheVariants.{CoversRelocated}
-use Rattle.omf_image.specs.Faults.{resolved_fault, fixup_fault, fixups_fault, record_fault, records_fault, data_fault, or_else, first_of}
+use Rattle.omf_image.specs.Faults.{fixup_fault, fixups_fault, record_fault, records_fault, data_fault, or_else, first_of}
 use Rattle.omf_image.specs.Located.{covers_word}
 use Rattle.omf_image.specs.Reference.{Found, Missing, Empty, Is}
 use Rattle.omf_image.specs.Records.{hits, stored_of, entry_start, meaning, patches_of, Entry, entries_from, entries, module_entries, fixup_patches, datum, record_relocations, relocations, program_byte, page_covered, written}
@@ -27,13 +27,13 @@ use Rattle.omf_commands.proofs.Placeless.{placeless, placeless_fixup, placeless_
 -- ---- data
 
 abbrev placeless_entry : Entry → Entry
-placeless_entry e = record { number = e.number; module' = placeless e.module'; data_record = placeless_data e.data_record }
+placeless_entry e = record { input = e.input; module' = placeless e.module'; data_record = placeless_data e.data_record }
 
-entries_same : (number : ℕ) (modules : List Module) → entries_from number (map placeless modules) ≡ map placeless_entry (entries_from number modules)
-entries_same number [] = refl
-entries_same number (m ∷ ms) = ap₂ (λ xs ys. xs ++ ys) own (entries_same (number + 1) ms) ∙ sym (map-append placeless_entry (module_entries number m) (entries_from (number + 1) ms))
+entries_same : (input : ℕ) (modules : List Module) → entries_from input (map placeless modules) ≡ map placeless_entry (entries_from input modules)
+entries_same input [] = refl
+entries_same input (m ∷ ms) = ap₂ (λ xs ys. xs ++ ys) own (entries_same (input + 1) ms) ∙ sym (map-append placeless_entry (module_entries input m) (entries_from (input + 1) ms))
   where
-    own : module_entries number (placeless m) ≡ map placeless_entry (module_entries number m)
+    own : module_entries input (placeless m) ≡ map placeless_entry (module_entries input m)
     own = simp map-map
 
 patches_same : (P : ℕ) (layout : Layout) (e : Entry) (x : ResolvedFixup) → fixup_patches P layout (placeless_entry e) (placeless_fixup x) ≡ fixup_patches P layout e x
@@ -78,19 +78,14 @@ first_fault None rest = refl
 first_fault (Some f) rest = refl
 
 fixup_same : (layout : Layout) (e : Entry) (earlier : List Patch) (x : ResolvedFixup) → fixup_fault layout (placeless_entry e) earlier (placeless_fixup x) ≡ fixup_fault layout e earlier x
-fixup_same layout e earlier x = fault_for (meaning layout e x)
-  where
-    fault_for : (f : Found Resolved) → resolved_fault f layout (placeless_entry e) earlier (placeless_fixup x) ≡ resolved_fault f layout e earlier x
-    fault_for Missing = refl
-    fault_for Empty = refl
-    fault_for (Is r) = rw (patches_same 0 layout e x)
+fixup_same layout e earlier x = refl
 
 fixups_same : (layout : Layout) (e : Entry) (earlier : List Patch) (xs : List ResolvedFixup) →
     fixups_fault layout (placeless_entry e) earlier (map placeless_fixup xs) ≡ option_map placeless_fault (fixups_fault layout e earlier xs)
 fixups_same layout e earlier [] = refl
 fixups_same layout e earlier (x ∷ xs) =
     let later = earlier ++ fixup_patches 0 layout e x in
-    rw (fixup_same layout e earlier x, patches_same 0 layout e x, fixups_same layout e later xs) (fault_or (fixup_fault layout e earlier x) e.number x.place (fixups_fault layout e later xs))
+    rw (fixup_same layout e earlier x, patches_same 0 layout e x, fixups_same layout e later xs) (fault_or (fixup_fault layout e earlier x) e.input x.place (fixups_fault layout e later xs))
 
 fault_if : (b : Bool) (kind : FixKind) (input place : ℕ) (rest : Option FixFault) → cond b (Some (At kind input 0)) (option_map placeless_fault rest) ≡ option_map placeless_fault (cond b (Some (At kind input place)) rest)
 fault_if true kind input place rest = refl
@@ -98,8 +93,8 @@ fault_if false kind input place rest = refl
 
 record_same : (layout : Layout) (words : List ℕ) (e : Entry) → record_fault layout words (placeless_entry e) ≡ option_map placeless_fault (record_fault layout words e)
 record_same layout words e =
-    ap₂ (λ d rest. cond (covers_word d words) (Some (At CoversRelocated e.number 0)) rest) (datum_same 0 layout e) (fixups_same layout e [] e.data_record.fixups)
-    ∙ fault_if (covers_word (datum 0 layout e) words) CoversRelocated e.number e.data_record.place (fixups_fault layout e [] e.data_record.fixups)
+    ap₂ (λ d rest. cond (covers_word d words) (Some (At CoversRelocated e.input 0)) rest) (datum_same 0 layout e) (fixups_same layout e [] e.data_record.fixups)
+    ∙ fault_if (covers_word (datum 0 layout e) words) CoversRelocated e.input e.data_record.place (fixups_fault layout e [] e.data_record.fixups)
 
 records_same : (layout : Layout) (words : List ℕ) (es : List Entry) → records_fault layout words (map placeless_entry es) ≡ option_map placeless_fault (records_fault layout words es)
 records_same layout words [] = refl
@@ -110,19 +105,19 @@ records_same layout words (e ∷ es) =
 -- ---- the start
 
 abbrev placeless_start_entry : StartEntry → StartEntry
-placeless_start_entry e = record { number = e.number; of_module = placeless e.of_module; start = placeless_start e.start }
+placeless_start_entry e = record { input = e.input; module' = placeless e.module'; start = placeless_start e.start }
 
-starts_same : (number : ℕ) (modules : List Module) → starts_from number (map placeless modules) ≡ map placeless_start_entry (starts_from number modules)
-starts_same number [] = refl
-starts_same number (m ∷ ms) = ap₂ (λ xs ys. xs ++ ys) (own m.start) (starts_same (number + 1) ms) ∙ sym (map-append placeless_start_entry (module_start m.start number m) (starts_from (number + 1) ms))
+starts_same : (input : ℕ) (modules : List Module) → starts_from input (map placeless modules) ≡ map placeless_start_entry (starts_from input modules)
+starts_same input [] = refl
+starts_same input (m ∷ ms) = ap₂ (λ xs ys. xs ++ ys) (own m.start) (starts_same (input + 1) ms) ∙ sym (map-append placeless_start_entry (module_start m.start input m) (starts_from (input + 1) ms))
   where
-    own : (s : Option Start) → module_start (option_map placeless_start s) number (placeless m) ≡ map placeless_start_entry (module_start s number m)
+    own : (s : Option Start) → module_start (option_map placeless_start s) input (placeless m) ≡ map placeless_start_entry (module_start s input m)
     own None = refl
     own (Some s) = refl
 
 starts_fault_same : (layout : Layout) (es : List StartEntry) → starts_fault layout (map placeless_start_entry es) ≡ option_map placeless_fault (starts_fault layout es)
 starts_fault_same layout [] = refl
-starts_fault_same layout (e ∷ []) = fault_or _ e.number e.start.place None
+starts_fault_same layout (e ∷ []) = fault_or _ e.input e.start.place None
 starts_fault_same layout (e ∷ (f ∷ es)) = refl
 
 count_same : (layout : Layout) (modules : List Module) → count_fault layout (map placeless modules) ≡ option_map placeless_fault (count_fault layout modules)
@@ -148,12 +143,12 @@ entry_same P layout [] = refl
 entry_same P layout (e ∷ es) = refl
 
 is_stack_same : (modules : List Module) (c : Combined) → is_stack_segment (map placeless modules) c ≡ is_stack_segment modules c
-is_stack_same modules c = rw (slice_get-map placeless modules c.input) (of_module (slice_get modules c.input))
+is_stack_same modules c = rw (slice_get-map placeless modules c.input) (of_input (slice_get modules c.input))
   where
-    of_module : (o : Option Module) → option_map_or (λ s. is_stack s.standing) (option_and_then (λ m. slice_get m.segments c.segment) (option_map placeless o)) false
+    of_input : (o : Option Module) → option_map_or (λ s. is_stack s.standing) (option_and_then (λ m. slice_get m.segments c.segment) (option_map placeless o)) false
         ≡ option_map_or (λ s. is_stack s.standing) (option_and_then (λ m. slice_get m.segments c.segment) o) false
-    of_module None = refl
-    of_module (Some m) = refl
+    of_input None = refl
+    of_input (Some m) = refl
 
 pub registers_same : (P : ℕ) (layout : Layout) (modules : List Module) → registers P layout (map placeless modules) ≡ registers P layout modules
 unfolding registers

@@ -23,13 +23,15 @@ use Rattle.omf_record.specs.Records.{Placed, AreRecords, AreBeforeEnd, AreToEnd,
 use Rattle.omf_record.proofs.BodyBytes.{body_bytes}
 use Rattle.omf_record.proofs.CanonicalLaws.{canonical_shortest}
 use Rattle.omf_record.proofs.Records.{AreRecords-push, framed_len, placed, only_way, no_fault}
-use Rattle.omf_text.specs.declared.fault.RecordFault.{RecordFault}
+use Rattle.omf_text.specs.declared.fault.InputFault.{InputFault}
 use Rattle.omf_text.specs.declared.fault.LinkFault.{LinkFault}
 use Rattle.omf_text.specs.declared.fault.LinkFault.TheVariants as link
 use Rattle.omf_commands.specs.declared.records.Form.TheVariants.{Rewriting}
-use Rattle.omf_commands.specs.Faults.{record_fault, link_fault}
 use Rattle.omf_commands.specs.Records.{FaultAt, says_of, output as written_as}
-use Rattle.omf_commands.specs.Reading.{TakesFaulty, WentThrough, GoesThrough, Handles, Writes, WritesAll, AppendsRewritten}
+use Rattle.omf_commands.specs.Reading.{sink_failures, TakesFaulty, WentThrough, GoesThrough, WritesWhole, AppendsRewritten}
+use Rattle.omf_commands.specs.inside.Reading.{Handles, WritesAll}
+use Rattle.omf_commands.specs.inside.Faults.{frame_fault}
+use Rattle.omf_commands.specs.Faults.{framing_fault}
 
 pub begun : (output : Placed → List ℕ) (a w : Option (List ℕ)) → (t : WentThrough output [] a a w w) × (0 ≡ length t.bytes)
 begun output a w = (record { bytes = []; are_records = (refl, tt); taken = Consumes-nil a; written = Appends-nil w }, refl)
@@ -50,7 +52,7 @@ one_more output rs a b c w v u r front t at below framed body taken written = (
   omega (arith, length-append t.bytes front, framed_len (kind_of r.says) r.body front framed, at),
 )
 
-faulty_taken : (b c : Option (List ℕ)) (p : ℕ) (e : FramingFault) → TakesRecord {A = Option LentFrame} b c (Err (frame_fault.Framing p e)) → TakesFaulty b c (record_fault e)
+faulty_taken : (b c : Option (List ℕ)) (p : ℕ) (e : FramingFault) → TakesRecord {A = Option LentFrame} b c (Err (frame_fault.Framing p e)) → TakesFaulty b c (framing_fault e)
 faulty_taken b c p framing.ZeroLength s = s
 faulty_taken b c p framing.Truncated s = s
 faulty_taken b c p framing.Closing s = s
@@ -59,22 +61,35 @@ faulty_taken b c p framing.InputTooLong s = s
 -- reading the next record failed
 pub stopped : (T A : Type 0) (output : Placed → List ℕ) (rs : List Placed) (a b c w v : Option (List ℕ)) (place : ℕ) (e : FrameFault) (t : WentThrough output rs a b w v)
     → AreBeforeEnd rs → place ≡ length t.bytes → IsAt {A = Option LentFrame} place (Err e) → IfSome b (λ bytes. Gives plain_frame (Err e) (frame_at place bytes)) → TakesRecord {A = Option LentFrame} b c (Err e)
-    → GoesThrough output a c w v {T = T} {A = A} (Err (link_fault e))
+    → GoesThrough output a c w v {T = T} {A = A} (Err (frame_fault e))
 stopped T A output rs a b c w v place (frame_fault.Device p) t before at h g s = (rs, b, before, t, refl, h.0 ∙ at, s)
 stopped T A output rs a b c w v place (frame_fault.Framing p e) t before at h g s =
-    (rs, b, before, t, refl, h.0 ∙ at, IfSome_then b {Q = (λ bytes. FaultAt p bytes (record_fault e))} g (λ x k. (Framing e, ap (λ n. frame_at n x) h.0 ∙ k, refl)), faulty_taken b c p e s)
+    (rs, b, before, t, refl, h.0 ∙ at, IfSome_then b {Q = (λ bytes. FaultAt p bytes (framing_fault e))} g (λ x k. (Framing e, ap (λ n. frame_at n x) h.0 ∙ k, refl)), faulty_taken b c p e s)
 stopped T A output rs a b c w v place frame_fault.Memory t before at h g s = absurd h
 stopped T A output rs a b c w v place frame_fault.Failed t before at h g s = absurd h
 
--- the canonical record was written
-pub handled : {A : Type 0} (place kind : ℕ) (body : List ℕ) (r : says.Record) (w v : Option (List ℕ)) (result : Result (Unit {0}) (LinkFault A)) → BodyOf kind r body → WritesAll (frame kind (canonical r)) w v result → Handles (written_as Rewriting) place kind body w v result
-handled place kind body r w v (Ok x) b h = (r, b, subst (λ k. Appends w v (frame k (canonical r))) (sym b.0) h)
-handled place kind body r w v (Err link.Output) b h = (r, b, subst (λ k. AppendsFront w v (frame k (canonical r))) (sym b.0) h)
-handled place kind body r w v (Err link.Memory) b h = h
-handled place kind body r w v (Err (link.Record input at f)) b h = absurd h
-handled place kind body r w v (Err (link.Device input at)) b h = absurd h
-handled place kind body r w v (Err (link.Program f)) b h = absurd h
-handled place kind body r w v (Err (link.File f)) b h = absurd h
+module _ {K : Type 0} (written : K → Option (List ℕ)) (failures : K → ℕ) (w v : K) where
+  -- the canonical record was written
+  pub handled : {A : Type 0} (place kind : ℕ) (body : List ℕ) (r : says.Record) (result : Result (Unit {0}) (LinkFault A)) → BodyOf kind r body
+      → WritesAll written failures w v (frame kind (canonical r)) result → Handles (written_as Rewriting) place kind body (written w) (written v) result
+  handled place kind body r (Ok x) b h = (r, b, subst (λ k. Appends (written w) (written v) (frame k (canonical r))) (sym b.0) h.0)
+  handled place kind body r (Err link.Output) b h = (r, b, subst (λ k. AppendsFront (written w) (written v) (frame k (canonical r))) (sym b.0) h.0)
+  handled place kind body r (Err link.Memory) b h = h.0
+  handled place kind body r (Err (link.Record input at f)) b h = absurd h
+  handled place kind body r (Err (link.Device input at)) b h = absurd h
+  handled place kind body r (Err (link.Program f)) b h = absurd h
+  handled place kind body r (Err (link.File f)) b h = absurd h
+
+  -- and the sink failed exactly where the answer says so
+  pub written_count : {A : Type 0} (out : List ℕ) (result : Result (Unit {0}) (LinkFault A)) → WritesAll written failures w v out result
+      → failures v ≡ failures w + sink_failures result
+  written_count out (Ok x) h = omega (arith, h.1)
+  written_count out (Err link.Output) h = omega (arith, h.1)
+  written_count out (Err link.Memory) h = omega (arith, h.1)
+  written_count out (Err (link.Record input at f)) h = absurd h
+  written_count out (Err (link.Device input at)) h = absurd h
+  written_count out (Err (link.Program f)) h = absurd h
+  written_count out (Err (link.File f)) h = absurd h
 
 kept_through : (output : Placed → List ℕ) (rs : List Placed) (a b w v u : Option (List ℕ)) (t : WentThrough output rs a b w v) → Keeps v u → WentThrough output rs a b w u
 kept_through output rs a b w v u t k = record { bytes = t.bytes; are_records = t.are_records; taken = t.taken; written = Appends-kept w v u (flat_map output rs) t.written k }
@@ -110,7 +125,7 @@ abbrev some_list : List ℕ → Option (List ℕ)
 some_list l = Some l
 
 -- what an answer other than a device's says, where the input has a module's records
-told_fault : (rs gs : List Placed) (bytes rest : List ℕ) (mid : Option (List ℕ)) (place : ℕ) (g : RecordFault) (output : Placed → List ℕ) (w v : Option (List ℕ)) → AreToEnd rs → AreBeforeEnd gs
+told_fault : (rs gs : List Placed) (bytes rest : List ℕ) (mid : Option (List ℕ)) (place : ℕ) (g : InputFault) (output : Placed → List ℕ) (w v : Option (List ℕ)) → AreToEnd rs → AreBeforeEnd gs
     → AreRecords 0 rs bytes → (t : WentThrough output gs (Some (bytes ++ rest)) mid w v) → place ≡ length t.bytes → IfSome mid (λ l. FaultAt place l g) → ⊥
 told_fault rs gs bytes rest None place g output w v re bg h t at e = t.taken
 told_fault rs gs bytes rest (Some l) place g output w v re bg h t at e =
@@ -118,7 +133,7 @@ told_fault rs gs bytes rest (Some l) place g output w v re bg h t at e =
     no_fault 0 rs gs bytes t.bytes rest l e.0 re bg h t.are_records t.taken (subst (λ n. NoRecordAt n l e.0) here e.1)
 
 only_told : (T A : Type 0) (output : Placed → List ℕ) (rs : List Placed) (bytes rest : List ℕ) (new w v : Option (List ℕ)) (r : Result T (LinkFault A)) → AreToEnd rs → AreRecords 0 rs bytes → GoesThrough output (Some (bytes ++ rest)) new w v r
-    → Writes (flat_map output rs) rest new w v r
+    → WritesWhole (flat_map output rs) rest new w v r
 only_told T A output rs bytes rest None w v (Ok x) re h k = absurd k.2.taken
 only_told T A output rs bytes rest (Some l) w v (Ok x) re h k =
     let one = only_way 0 rs k.0 bytes k.2.bytes rest l re k.1 h k.2.are_records k.2.taken in
@@ -131,7 +146,7 @@ only_told T A output rs bytes rest new w v (Err (link.File f)) re h k = absurd k
 only_told T A output rs bytes rest new w v (Err (link.Record input place g)) re h k = told_fault rs k.0 bytes rest k.1 place g output w v re k.2 h k.3 k.5 k.6
 
 pub only_answer : (T A : Type 0) (output : Placed → List ℕ) (rs : List Placed) (bytes rest : List ℕ) (old new w v : Option (List ℕ)) (r : Result T (LinkFault A)) → AreToEnd rs → AreRecords 0 rs bytes → old ≡ Some (bytes ++ rest)
-    → GoesThrough output old new w v r → Writes (flat_map output rs) rest new w v r
+    → GoesThrough output old new w v r → WritesWhole (flat_map output rs) rest new w v r
 only_answer T A output rs bytes rest old new w v r re h e k = only_told T A output rs bytes rest new w v r re h (subst (λ o. GoesThrough output o new w v r) e k)
 
 -- ---- what was rewritten is records again

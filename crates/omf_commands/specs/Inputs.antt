@@ -1,7 +1,6 @@
 -- Reading the inputs of a link, one after the other.
-use Rattle.std.specs.Prelude.{◌≡◌, ℕ, ◌+◌, List, [], ◌∷◌, ◌++◌, ◌⊎◌, length, map, Ok, Err}
+use Rattle.std.specs.Prelude.{◌≡◌, ℕ, ◌+◌, List, [], ◌∷◌, ◌++◌, ◌⊎◌, length, map, Err}
 use Rattle.std.specs.declared.option.Option.{Option}
-use Rattle.std.specs.declared.result.Result.{Result}
 use Rattle.std.specs.Io.KnownBytes.{Consumes}
 use Rattle.omf_module.specs.declared.fault.FaultKind.{FaultKind}
 use Rattle.omf_module.specs.declared.fault.ModuleFault.{ModuleFault}
@@ -12,8 +11,7 @@ use Rattle.omf_module.specs.Tables.{module_of}
 use Rattle.omf_module.specs.Bytes.{ModuleBytes}
 use Rattle.omf_module.specs.Reading.{Reads, failures_in}
 use Rattle.omf_text.specs.declared.fault.LinkFault.{LinkFault}
-use Rattle.omf_text.specs.declared.fault.LinkFault.TheVariants as link
-use Rattle.omf_commands.specs.Checking.{fault_at}
+use Rattle.omf_commands.specs.Faults.{fault_at}
 
 -- the modules of record lists
 abbrev pub modules_of : List (List Placed) → List Module
@@ -22,22 +20,22 @@ modules_of lists = map module_of lists
 -- each input is, as bytes, a whole sound module of its records
 abbrev pub AreModules : List (List Placed) → (inputs : List (List ℕ)) → Type 0
 AreModules [] [] = Unit {0}
-AreModules (rs ∷ lists) (bytes ∷ inputs) = ModuleBytes rs bytes × AreModules lists inputs
+AreModules (records ∷ lists) (bytes ∷ inputs) = ModuleBytes records bytes × AreModules lists inputs
 AreModules _ _ = ⊥
 
 -- over sources that tell their bytes to come, and how many of their calls failed
 module _ {S : Type 0} (told : S → Option (List ℕ)) (failures : S → ℕ) where
   -- an input begins with a whole sound module of these records, and exactly its bytes were taken
-  pub record IsInput (rs : List Placed) (old new : S) : Type 0 where
+  pub record IsInput (records : List Placed) (old new : S) : Type 0 where
     pub bytes : List ℕ
-    pub whole : ModuleBytes rs bytes
+    pub whole : ModuleBytes records bytes
     pub taken : Consumes (told old) (told new) bytes
     pub works : failures new ≡ failures old
 
   -- each input is the module of its records
   abbrev pub AreInputs : List (List Placed) → (olds news : List S) → Type 0
   AreInputs [] [] [] = Unit {0}
-  AreInputs (rs ∷ lists) (old ∷ olds) (new ∷ news) = IsInput rs old new × AreInputs lists olds news
+  AreInputs (records ∷ lists) (old ∷ olds) (new ∷ news) = IsInput records old new × AreInputs lists olds news
   AreInputs _ _ _ = ⊥
 
   -- the first inputs are modules of these records, and those behind them are as they were
@@ -59,29 +57,19 @@ module _ {S : Type 0} (told : S → Option (List ℕ)) (failures : S → ℕ) wh
     pub rest : List S
     pub olds_are : olds ≡ old_front ++ old ∷ rest
     pub news_are : news ≡ new_front ++ new ∷ rest
-    pub number : input ≡ length old_front
+    pub index : input ≡ length old_front
     pub inputs : AreInputs lists old_front new_front
     pub refused : Reads (λ (m : Module). m) (told old) (told new) (Err fault)
     pub failed : failures new ≡ failures old + failures_in {A = Module} (Err fault)
 
   -- there was no memory for a module, or for one more
   abbrev pub StopsForMemory : (olds news : List S) → Type 0
-  StopsForMemory olds news = ((input : ℕ) × StopsReading olds news input reading.Memory) ⊎ ((lists : List (List Placed)) × ReadsFront lists olds news)
+  StopsForMemory olds news =
+      ((input : ℕ) × StopsReading olds news input reading.Memory)
+      ⊎ ((lists : List (List Placed)) × ReadsFront lists olds news)
 
   -- a record of an input has a reading fault
   abbrev pub StopsAtRecord : {A : Type 0} → (olds news : List S) → LinkFault A → Type 0
-  StopsAtRecord olds news fault = (input place : ℕ) × (k : FaultKind) × (fault ≡ fault_at input place k) × StopsReading olds news input (reading.Record place k)
-
-  -- why not all inputs were read: the first reading fault, or want of memory
-  abbrev pub IsInputFault : {A : Type 0} → (olds news : List S) → LinkFault A → Type 0
-  IsInputFault olds news link.Memory = StopsForMemory olds news
-  IsInputFault {A = A} olds news (link.Device input place) = StopsAtRecord {A = A} olds news (link.Device input place)
-  IsInputFault {A = A} olds news (link.Record input place f) = StopsAtRecord {A = A} olds news (link.Record input place f)
-  IsInputFault olds news link.Output = ⊥
-  IsInputFault olds news (link.Program f) = ⊥
-  IsInputFault olds news (link.File f) = ⊥
-
-  -- what reading all inputs answers: their modules, or why not
-  abbrev pub ReadsInputs : {M A : Type 0} → (M → List Module) → (olds news : List S) → Result M (LinkFault A) → Type 0
-  ReadsInputs view olds news (Ok ms) = (lists : List (List Placed)) × AreInputs lists olds news × (view ms ≡ modules_of lists)
-  ReadsInputs view olds news (Err fault) = IsInputFault olds news fault
+  StopsAtRecord olds news fault =
+      (input place : ℕ) × (kind : FaultKind) × (fault ≡ fault_at input place kind)
+      × StopsReading olds news input (reading.Record place kind)

@@ -7,3 +7,4 @@ pub mod Inputs
 pub mod Linking
 pub mod Outcome
 pub mod Mapping
+pub mod inside

@@ -6,28 +6,28 @@ use Rattle.omf_record.specs.Record.{Record}
 use Rattle.omf_record.specs.Body.{kind_of}
 use Rattle.omf_record.specs.Canonical.{canonical}
 use Rattle.omf_record.specs.Records.{Placed, AreRecords, AreToEnd, NoRecord, NoRecordAt}
-use Rattle.omf_text.specs.declared.fault.RecordFault.{RecordFault}
+use Rattle.omf_text.specs.declared.fault.InputFault.{InputFault}
 use Rattle.omf_commands.specs.declared.records.Form.{Form}
 use Rattle.omf_commands.specs.declared.records.Form.TheVariants.{Listing, Rewriting}
 use Rattle.omf_text.specs.Details.{listing}
-use Rattle.omf_commands.specs.Faults.{reading_fault}
+use Rattle.omf_commands.specs.Faults.{no_record_fault}
 
 -- what is written of a record: its listing, or its canonical body in a frame whose sum is 0
 abbrev pub output : Form → Placed → List ℕ
-output Listing r = listing r
-output Rewriting r = frame (kind_of r.says) (canonical r.says)
+output Listing placed = listing placed
+output Rewriting placed = frame (kind_of placed.says) (canonical placed.says)
 
 -- the records of a module, rewritten
 abbrev pub rewritten : List Placed → List ℕ
-rewritten rs = flat_map (output Rewriting) rs
+rewritten records = flat_map (output Rewriting) records
 
 -- the fault where no record begins and one had to, the bytes from there on being these
-abbrev pub FaultAt : ℕ → List ℕ → RecordFault → Type 0
-FaultAt place bytes fault = (why : NoRecord) × NoRecordAt place bytes why × (fault ≡ reading_fault why)
+abbrev pub FaultAt : ℕ → List ℕ → InputFault → Type 0
+FaultAt place bytes fault = (why : NoRecord) × NoRecordAt place bytes why × (fault ≡ no_record_fault why)
 
 -- what records say, without the places where they stand and how their bodies spell it
 abbrev pub says_of : List Placed → List Record
-says_of rs = map (λ (r : Placed). r.says) rs
+says_of records = map (λ (placed : Placed). placed.says) records
 
 -- the records of one module that say this, and are rewritten as they stand
 pub record IsRewritten (said : List Record) (bytes : List ℕ) : Type 0 where

@@ -1,12 +1,12 @@
 //! The inputs of a link.
 ghost use Rattle.std.specs.Prelude.{All, ◌-◌, ◌^◌, ◌<◌};
-ghost use Rattle.omf_commands.specs.Inputs.{ReadsInputs};
+ghost use Rattle.omf_commands.specs.inside.Inputs.{ReadsInputs};
 
-use crate::checking::module_fault;
+use crate::faults::module_fault;
 use omf_frame::Source;
 use omf_module::{Module, read_module};
 use omf_text::LinkFault;
-use std::alloc::Allocator;
+use std::alloc::{AllocError, Allocator};
 
 /// The modules of all inputs, in order, or the first fault of reading. Each input is finished once its module is
 /// read. Inputs behind the one whose reading stopped aren't touched.
@@ -20,14 +20,12 @@ pub(crate) fn read_inputs<S: Source, A: Allocator + Copy>(
     let mut modules = Vec::new(alloc);
     for input in 0..sources.len() {
         let source = &mut sources[input];
-        let says = match read_module(alloc, source) {
-            Ok(says) => says,
+        let module = match read_module(alloc, source) {
+            Ok(module) => module,
             Err(fault) => return Err(module_fault(input, fault)),
         };
         source.finish();
-        if modules.push(says).is_err() {
-            return Err(LinkFault::Memory);
-        }
+        modules.push(module).map_err(AllocError::from)?;
     }
     Ok(modules)
 }

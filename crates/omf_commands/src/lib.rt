@@ -3,13 +3,15 @@
 #![tactic(auto)]
 
 mod checking;
+mod faults;
 mod inputs;
 mod linking;
 mod loading;
 mod mapping;
 mod records;
 
-pub use checking::{check, module_fault};
+pub use checking::check;
+pub use faults::module_fault;
 pub use linking::{Options, Report, file_or_fault, link, one_file};
 pub use loading::load_file;
 pub use mapping::write_map;

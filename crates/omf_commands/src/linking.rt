@@ -7,17 +7,19 @@ ghost use Rattle.omf_record.specs.Records.{Placed};
 ghost use Rattle.omf_text.specs.declared.fault.LinkFault.{LinkFault as Fault};
 ghost use Rattle.omf_commands.specs.Inputs.{AreModules, modules_of};
 ghost use Rattle.omf_commands.specs.Records.{rewritten, says_of};
-ghost use Rattle.omf_commands.specs.Linking.{IsFileOf, IsModulesFault, Links, LinksModules, WritesProgram, build_fault, fix_fault, place_fault};
+ghost use Rattle.omf_commands.specs.Linking.{IsFileOf, IsModulesFault, Links, WritesProgram};
+ghost use Rattle.omf_commands.specs.inside.Linking.{LinksModules};
 ghost use Rattle.omf_commands.specs.Outcome.{AreTold, Outcome, telling};
 ghost use Rattle.omf_commands.specs.Reading.{sink_failures};
 
+use crate::faults::{fix_fault, place_fault};
 use crate::inputs::read_inputs;
 use mz::{loads_as_written, write_mz};
 use omf_frame::{Sink, Source};
-use omf_image::{FixFault, FixKind, Program, build};
+use omf_image::{Program, build};
 use omf_module::Module;
-use omf_place::{Layout, Names, PlaceFault, place};
-use omf_text::{LinkFault, ProgramFault, RecordFault};
+use omf_place::{Layout, Names, place};
+use omf_text::LinkFault;
 use std::alloc::{Allocator, Global};
 
 /// How modules are linked.
@@ -58,51 +60,6 @@ pub struct Report<A: Allocator + Copy = Global> {
     pub program: Program<A>,
 }
 
-/// A fault of placing the modules.
-fn place_fault<A: Allocator + Copy>(fault: PlaceFault<A>) -> LinkFault<A>
-    ensures { result ≡ place_fault fault }
-{
-    let fault = match fault {
-        PlaceFault::Memory => return LinkFault::Memory,
-        PlaceFault::SegmentTooLong { name } => ProgramFault::SegmentTooLong { name },
-        PlaceFault::ProgramTooLarge => ProgramFault::ProgramTooLarge,
-        PlaceFault::GroupTooLong { name } => ProgramFault::GroupTooLong { name },
-        PlaceFault::DuplicatePublic { name } => ProgramFault::DuplicatePublic { name },
-    };
-    LinkFault::Program(fault)
-}
-
-/// A fault of data, of a fix-up or of the start.
-fn fix_fault(kind: FixKind) -> RecordFault
-    ensures { result ≡ fix_fault kind }
-{
-    match kind {
-        FixKind::CoversRelocated => RecordFault::CoversRelocated,
-        FixKind::Unresolved => RecordFault::Unresolved,
-        FixKind::EmptyGroup => RecordFault::EmptyGroup,
-        FixKind::Mixed => RecordFault::Mixed,
-        FixKind::OutOfFrame => RecordFault::OutOfFrame,
-        FixKind::ShortTooFar => RecordFault::ShortTooFar,
-        FixKind::OverlapRelocated => RecordFault::OverlapRelocated,
-        FixKind::TwoStarts => RecordFault::TwoStarts,
-    }
-}
-
-/// A fault of building the program.
-fn build_fault<A: Allocator + Copy>(fault: FixFault) -> LinkFault<A>
-    ensures { result ≡ build_fault fault }
-{
-    match fault {
-        FixFault::At { kind, input, place } => LinkFault::Record {
-            input,
-            place,
-            fault: fix_fault(kind),
-        },
-        FixFault::TooManyRelocations => LinkFault::Program(ProgramFault::TooManyRelocations),
-        FixFault::Memory => LinkFault::Memory,
-    }
-}
-
 /// Places the modules and builds their program.
 fn link_modules<A: Allocator + Copy>(
     alloc: A,
@@ -111,14 +68,14 @@ fn link_modules<A: Allocator + Copy>(
 ) -> Result<Report<A>, LinkFault<A>>
     ensures { LinksModules names modules.items result }
 {
-    let says = modules.as_slice();
-    let layout = match place(alloc, says, names) {
+    let all = modules.as_slice();
+    let layout = match place(alloc, all, names) {
         Ok(layout) => layout,
         Err(fault) => return Err(place_fault(fault)),
     };
-    let program = match build(alloc, says, &layout) {
+    let program = match build(alloc, all, &layout) {
         Ok(program) => program,
-        Err(fault) => return Err(build_fault(fault)),
+        Err(fault) => return Err(fix_fault(fault)),
     };
     Ok(Report {
         modules,
@@ -143,21 +100,20 @@ pub fn link<S: Source, K: Sink, A: Allocator + Copy>(
     // The sink failed exactly where the answer says so, and then once.
     ensures sink { K.failures sink.new ≡ K.failures sink.old + sink_failures result }
     // What was read and written, and the fault where one stands. A source failed exactly where the answer names it.
-    ensures links { Links S.remaining S.failures options.now.names sources.old sources.new (K.written sink.old) (K.written sink.new) result }
-    // Where the sources tell their bytes, a program is answered exactly where no fault stands in them, else the only one.
-    ensures outcome { (inputs : List (List ℕ)) → AreTold S.remaining sources.old inputs → Outcome options.now.names inputs result }
-    // Loading the file at any paragraph where the program fits gives, at each address of its written part, the byte that the
-    // records stand for.
-    ensures headline { OnOk result (WritesProgram S.remaining S.failures options.now.names sources.old sources.new (K.written sink.old) (K.written sink.new)) }
+    ensures links { Links S.remaining S.failures options.now.names sources.old sources.new (K.written sink.old)
+        (K.written sink.new) result }
+    // Where the sources tell their bytes, a program is answered exactly where no fault stands in them, else the only
+    // one.
+    ensures outcome { (inputs : List (List ℕ)) → AreTold S.remaining sources.old inputs
+        → Outcome options.now.names inputs result }
+    // Loading the file at any paragraph where the program fits gives, at each address of its written part, the byte
+    // that the records stand for.
+    ensures headline { OnOk result
+        (WritesProgram S.remaining S.failures options.now.names sources.old sources.new (K.written sink.old)
+        (K.written sink.new)) }
 {
-    let modules = match read_inputs(alloc, sources) {
-        Ok(modules) => modules,
-        Err(fault) => return Err(fault),
-    };
-    let report = match link_modules(alloc, modules, options.names) {
-        Ok(report) => report,
-        Err(fault) => return Err(fault),
-    };
+    let modules = read_inputs(alloc, sources)?;
+    let report = link_modules(alloc, modules, options.names)?;
     loads_as_written();
     match write_mz(&report.program, sink) {
         Ok(()) => Ok(report),
@@ -167,21 +123,30 @@ pub fn link<S: Source, K: Sink, A: Allocator + Copy>(
 
 /// Modules that have a file have no fault, and others one, so that an answer is the only one.
 pub fn file_or_fault<A: Allocator + Copy>()
-    ensures exclusive { (names : Choice) (modules : List Says) (file : List ℕ) (fault : Fault A) → IsFileOf names modules file → IsModulesFault names modules fault → ⊥ }
-    ensures one_fault { (names : Choice) (modules : List Says) (fault other : Fault A) → IsModulesFault names modules fault → IsModulesFault names modules other → telling fault ≡ telling other }
+    ensures exclusive { (names : Choice) (modules : List Says) (file : List ℕ) (fault : Fault A)
+        → IsFileOf names modules file → IsModulesFault names modules fault → ⊥ }
+    ensures one_fault { (names : Choice) (modules : List Says) (fault other : Fault A)
+        → IsModulesFault names modules fault → IsModulesFault names modules other → telling fault ≡ telling other }
 {}
 
-/// Modules have one file under each choice of which names agree, whatever their bytes were: it hangs on what the records
-/// say alone and on that choice, and neither on where they stand nor on how their bodies spell it.
+/// Modules have one file under each choice of which names agree, whatever their bytes were: it hangs on what the
+/// records say alone and on that choice, and neither on where they stand nor on how their bodies spell it.
 pub fn one_file()
-    ensures of_modules { (names : Choice) (modules : List Says) (file other : List ℕ) → IsFileOf names modules file → IsFileOf names modules other → file ≡ other }
+    ensures of_modules { (names : Choice) (modules : List Says) (file other : List ℕ) → IsFileOf names modules file
+        → IsFileOf names modules other → file ≡ other }
     // Records that say the same have the same file.
-    ensures of_records { (names : Choice) (lists others : List (List Placed)) (file other : List ℕ) → map says_of lists ≡ map says_of others → IsFileOf names (modules_of lists) file → IsFileOf names (modules_of others) other → file ≡ other }
+    ensures of_records { (names : Choice) (lists others : List (List Placed)) (file other : List ℕ)
+        → map says_of lists ≡ map says_of others → IsFileOf names (modules_of lists) file
+        → IsFileOf names (modules_of others) other → file ≡ other }
     // Where the ones have a file, so have the others.
-    ensures shared { (names : Choice) (lists others : List (List Placed)) (file : List ℕ) → map says_of lists ≡ map says_of others → IsFileOf names (modules_of lists) file → IsFileOf names (modules_of others) file }
+    ensures shared { (names : Choice) (lists others : List (List Placed)) (file : List ℕ)
+        → map says_of lists ≡ map says_of others → IsFileOf names (modules_of lists) file
+        → IsFileOf names (modules_of others) file }
     // Modules that are rewritten are modules that say the same, and have the file that they had.
-    ensures rewritten { (names : Choice) (lists : List (List Placed)) (inputs : List (List ℕ)) (file : List ℕ) → AreModules lists inputs → IsFileOf names (modules_of lists) file
-        → (others : List (List Placed)) × AreModules others (map rewritten lists) × (map says_of others ≡ map says_of lists) × IsFileOf names (modules_of others) file }
+    ensures rewritten { (names : Choice) (lists : List (List Placed)) (inputs : List (List ℕ)) (file : List ℕ)
+        → AreModules lists inputs → IsFileOf names (modules_of lists) file
+        → (others : List (List Placed)) × AreModules others (map rewritten lists)
+        × (map says_of others ≡ map says_of lists) × IsFileOf names (modules_of others) file }
 {}
 
 #[cfg(test)]

@@ -1,14 +1,13 @@
 //! A program's file as it is loaded at a paragraph.
-ghost use Rattle.std.specs.Prelude.{◌≡◌, ◌+◌, ◌-◌, ◌^◌, ◌<◌, ◌≤◌, OnErr, OnOk, is_ok, if◌then◌else◌};
-ghost use Rattle.std.specs.Io.KnownBytes.{Appends};
-ghost use Rattle.omf_frame.specs.Device.{AppendsFront};
-ghost use Rattle.omf_commands.specs.Loading.{LoadsFile, bytes_line, bytes_lines, hexadecimals, listing, load_fault, read_fault, registers_line};
-ghost use Rattle.omf_text.specs.Printing.{hexadecimal};
+ghost use Rattle.std.specs.Prelude.{◌≡◌, ◌+◌, ◌-◌, ◌^◌, ◌<◌, ◌≤◌};
+ghost use Rattle.omf_frame.specs.Device.{Writes};
+ghost use Rattle.omf_commands.specs.Loading.{LoadsFile, bytes_line, bytes_lines, listing, registers_line};
 ghost use Rattle.omf_commands.specs.Reading.{sink_failures, source_failures};
 
-use mz::{LoadFault, Loaded, MzFault, load, read_mz};
+use crate::faults::{load_fault, mz_fault};
+use mz::{Loaded, load, read_mz};
 use omf_frame::{IoFault, Sink, Source, put_all};
-use omf_text::{FileFault, Hexadecimal, LinkFault, put_hexadecimal, put_pieces};
+use omf_text::{Hexadecimal, LinkFault, put_hexadecimal, put_hexadecimal_bytes, put_pieces};
 use std::alloc::Allocator;
 
 /// How many bytes a line lists.
@@ -17,43 +16,19 @@ const BYTES_IN_LINE: usize = 16;
 /// The bytes of a paragraph.
 const PARAGRAPH_LEN: u64 = 16;
 
-/// A fault of reading the file.
-fn read_fault<A: Allocator + Copy>(fault: MzFault) -> LinkFault<A>
-    ensures { result ≡ read_fault fault }
-{
-    match fault {
-        MzFault::Magic => LinkFault::File(FileFault::Magic),
-        MzFault::Header => LinkFault::File(FileFault::Header),
-        MzFault::Truncated => LinkFault::File(FileFault::Truncated),
-        MzFault::RelocationOutside => LinkFault::File(FileFault::RelocationOutside),
-        MzFault::Device => LinkFault::File(FileFault::Device),
-        MzFault::Memory => LinkFault::Memory,
-    }
-}
-
-/// A fault of loading the file.
-fn load_fault<A: Allocator + Copy>(fault: LoadFault) -> LinkFault<A>
-    ensures { result ≡ load_fault fault }
-{
-    match fault {
-        LoadFault::DoesNotFit => LinkFault::File(FileFault::DoesNotFit),
-        LoadFault::Memory => LinkFault::Memory,
-    }
-}
-
+/// Writes the line of the registers.
 fn put_registers<K: Sink, A: Allocator + Copy>(
     sink: &mut K,
     loaded: &Loaded<A>,
 ) -> Result<(), IoFault>
     requires { K.failures sink.old < 2 ^ 64 - 1 }
-    ensures count { K.failures sink.new ≡ K.failures sink.old + (if is_ok result then 0 else 1) }
-    ensures appended { OnOk result (Appends (K.written sink.old) (K.written sink.new) (registers_line loaded.now)) }
-    ensures failed { OnErr result (AppendsFront (K.written sink.old) (K.written sink.new) (registers_line loaded.now)) }
+    ensures { Writes K.written K.failures sink.old sink.new (registers_line loaded.now) result }
 {
-    let cs = Hexadecimal::new(u64::from(loaded.cs()), 4);
-    let ip = Hexadecimal::new(u64::from(loaded.ip()), 4);
-    let ss = Hexadecimal::new(u64::from(loaded.ss()), 4);
-    let sp = Hexadecimal::new(u64::from(loaded.sp()), 4);
+    let registers = loaded.registers();
+    let cs = Hexadecimal::new(u64::from(registers.cs), 4);
+    let ip = Hexadecimal::new(u64::from(registers.ip), 4);
+    let ss = Hexadecimal::new(u64::from(registers.ss), 4);
+    let sp = Hexadecimal::new(u64::from(registers.sp), 4);
     let pieces = [
         b"CS:IP ".as_slice(),
         cs.as_bytes(),
@@ -68,48 +43,22 @@ fn put_registers<K: Sink, A: Allocator + Copy>(
     put_pieces(sink, pieces.as_slice())
 }
 
-fn put_byte<K: Sink>(sink: &mut K, byte: u8) -> Result<(), IoFault>
-    requires { K.failures sink.old < 2 ^ 64 - 1 }
-    ensures count { K.failures sink.new ≡ K.failures sink.old + (if is_ok result then 0 else 1) }
-    ensures appended { OnOk result (Appends (K.written sink.old) (K.written sink.new) (hexadecimal 2 byte)) }
-    ensures failed { OnErr result (AppendsFront (K.written sink.old) (K.written sink.new) (hexadecimal 2 byte)) }
-{
-    put_hexadecimal(sink, u64::from(byte), 2)
-}
-
-// Writes the two digits of each byte.
-fn put_hexadecimals<K: Sink>(sink: &mut K, bytes: &[u8]) -> Result<(), IoFault>
-    requires { K.failures sink.old < 2 ^ 64 - 1 }
-    ensures count { K.failures sink.new ≡ K.failures sink.old + (if is_ok result then 0 else 1) }
-    ensures appended { OnOk result (Appends (K.written sink.old) (K.written sink.new) (hexadecimals bytes.now)) }
-    ensures failed { OnErr result (AppendsFront (K.written sink.old) (K.written sink.new) (hexadecimals bytes.now)) }
-{
-    for byte in bytes {
-        put_byte(sink, *byte)?;
-    }
-    Ok(())
-}
-
-// Writes the line of bytes, the first of which stands at this address.
+/// Writes the line of bytes, the first of which stands at this address.
 fn put_bytes_line<K: Sink>(sink: &mut K, address: u64, bytes: &[u8]) -> Result<(), IoFault>
     requires { K.failures sink.old < 2 ^ 64 - 1 }
-    ensures count { K.failures sink.new ≡ K.failures sink.old + (if is_ok result then 0 else 1) }
-    ensures appended { OnOk result (Appends (K.written sink.old) (K.written sink.new) (bytes_line address bytes.now)) }
-    ensures failed { OnErr result (AppendsFront (K.written sink.old) (K.written sink.new) (bytes_line address bytes.now)) }
+    ensures { Writes K.written K.failures sink.old sink.new (bytes_line address bytes.now) result }
 {
     put_hexadecimal(sink, address, 5)?;
     put_all(sink, b" ")?;
-    put_hexadecimals(sink, bytes)?;
+    put_hexadecimal_bytes(sink, bytes)?;
     put_all(sink, b"\n")
 }
 
-// Writes the bytes that stand from this address on, 16 in a line.
+/// Writes the bytes that stand from this address on, 16 in a line.
 fn put_bytes<K: Sink>(sink: &mut K, address: u64, bytes: &[u8]) -> Result<(), IoFault>
     requires working { K.failures sink.old < 2 ^ 64 - 1 }
     requires low { address ≤ 2 ^ 32 }
-    ensures count { K.failures sink.new ≡ K.failures sink.old + (if is_ok result then 0 else 1) }
-    ensures appended { OnOk result (Appends (K.written sink.old) (K.written sink.new) (bytes_lines address bytes.now)) }
-    ensures failed { OnErr result (AppendsFront (K.written sink.old) (K.written sink.new) (bytes_lines address bytes.now)) }
+    ensures { Writes K.written K.failures sink.old sink.new (bytes_lines address bytes.now) result }
 {
     for line in 0..bytes.len().div_ceil(BYTES_IN_LINE) {
         let start = BYTES_IN_LINE * line;
@@ -120,16 +69,14 @@ fn put_bytes<K: Sink>(sink: &mut K, address: u64, bytes: &[u8]) -> Result<(), Io
     Ok(())
 }
 
-// Writes the registers, and the bytes that stand from the paragraph on.
+/// Writes the registers, and the bytes that stand from the paragraph on.
 fn put_loaded<K: Sink, A: Allocator + Copy>(
     sink: &mut K,
     paragraph: u16,
     loaded: &Loaded<A>,
 ) -> Result<(), IoFault>
     requires { K.failures sink.old < 2 ^ 64 - 1 }
-    ensures count { K.failures sink.new ≡ K.failures sink.old + (if is_ok result then 0 else 1) }
-    ensures appended { OnOk result (Appends (K.written sink.old) (K.written sink.new) (listing paragraph loaded.now)) }
-    ensures failed { OnErr result (AppendsFront (K.written sink.old) (K.written sink.new) (listing paragraph loaded.now)) }
+    ensures { Writes K.written K.failures sink.old sink.new (listing paragraph loaded.now) result }
 {
     put_registers(sink, loaded)?;
     put_bytes(sink, PARAGRAPH_LEN * u64::from(paragraph), loaded.bytes())
@@ -149,11 +96,12 @@ pub fn load_file<S: Source, K: Sink, A: Allocator + Copy>(
     ensures source { S.failures source.new ≡ S.failures source.old + source_failures result }
     ensures sink { K.failures sink.new ≡ K.failures sink.old + sink_failures result }
     // What was read and written, and the fault where one stands.
-    ensures loads { LoadsFile paragraph (S.remaining source.old) (S.remaining source.new) (K.written sink.old) (K.written sink.new) result }
+    ensures loads { LoadsFile paragraph (S.remaining source.old) (S.remaining source.new) (K.written sink.old)
+        (K.written sink.new) result }
 {
     let file = match read_mz(alloc, source) {
         Ok(file) => file,
-        Err(fault) => return Err(read_fault(fault)),
+        Err(fault) => return Err(mz_fault(fault)),
     };
     let loaded = match load(alloc, &file, paragraph) {
         Ok(loaded) => loaded,

@@ -1,7 +1,7 @@
 //! The map of what was linked.
-ghost use Rattle.std.specs.Prelude.{◌≡◌, ◌+◌, ◌-◌, ◌^◌, ◌<◌};
-ghost use Rattle.omf_commands.specs.Mapping.{WritesMap};
-ghost use Rattle.omf_commands.specs.Reading.{sink_failures};
+ghost use Rattle.std.specs.Prelude.{IsOkUnless, ◌-◌, ◌^◌, ◌<◌};
+ghost use Rattle.omf_frame.specs.Device.{Writes};
+ghost use Rattle.omf_commands.specs.Mapping.{report_map};
 
 use crate::linking::Report;
 use omf_frame::{IoFault, Sink};
@@ -19,10 +19,10 @@ pub fn write_map<K: Sink, A: Allocator + Copy>(
     sink: &mut K,
 ) -> Result<(), LinkFault<A>>
     requires { K.failures sink.old < 2 ^ 64 - 1 }
-    // The sink failed exactly where the answer says so, and then once.
-    ensures sink { K.failures sink.new ≡ K.failures sink.old + sink_failures result }
-    // What was written. There is no fault but the sink's.
-    ensures writes { WritesMap report.now (K.written sink.old) (K.written sink.new) result }
+    // The map was appended, or a front of it where the sink failed.
+    ensures writes { Writes K.written K.failures sink.old sink.new (report_map report.now) result }
+    // There is no other fault.
+    ensures output { IsOkUnless result LinkFault.Output }
 {
     match put_map(sink, &report.modules, &report.layout, &report.program) {
         Ok(()) => Ok(()),

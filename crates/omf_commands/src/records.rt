@@ -5,14 +5,16 @@ ghost use Rattle.omf_frame.specs.Frame.{frame};
 ghost use Rattle.omf_record.specs.View.{view};
 ghost use Rattle.omf_record.specs.Canonical.{canonical, FitsFrame};
 ghost use Rattle.omf_record.specs.Records.{Placed, AreRecords, AreToEnd};
-ghost use Rattle.omf_commands.specs.Faults.{record_fault, link_fault};
 ghost use Rattle.omf_commands.specs.Records.{output};
-ghost use Rattle.omf_commands.specs.Reading.{sink_failures, source_failures, AppendsRewritten, GoesThrough, Handles, Parses, Writes, WritesAll};
+ghost use Rattle.omf_commands.specs.Reading.{sink_failures, source_failures, AppendsRewritten, GoesThrough};
+ghost use Rattle.omf_commands.specs.Reading.{WritesWhole};
+ghost use Rattle.omf_commands.specs.inside.Reading.{Handles, Parses, WritesAll};
 ghost use Rattle.omf_commands.specs.declared.records.Form.TheVariants.{Listing, Rewriting};
 
-use omf_frame::{Frame, FrameBuf, FrameFault, FramingFault, IoFault, Sink, Source, put_frame};
-use omf_record::{Record, RecordFault as BodyFault, encode_record, parse_record};
-use omf_text::{LinkFault, RecordFault, put_listing};
+use crate::faults::{frame_fault, record_fault};
+use omf_frame::{Frame, FrameBuf, IoFault, Sink, Source, put_frame};
+use omf_record::{Record, encode_record, parse_record};
+use omf_text::{InputFault, LinkFault, put_listing};
 use std::alloc::Allocator;
 
 /// The type of the record that ends a module.
@@ -27,33 +29,6 @@ enum Form {
     Rewriting,
 }
 
-/// A framing fault as a fault of the record.
-fn record_fault(fault: FramingFault) -> RecordFault
-    ensures { result ≡ record_fault fault }
-{
-    match fault {
-        FramingFault::ZeroLength => RecordFault::ZeroLength,
-        FramingFault::Truncated => RecordFault::Truncated,
-        FramingFault::Closing => RecordFault::Closing,
-        FramingFault::InputTooLong => RecordFault::InputTooLong,
-    }
-}
-
-/// A fault of reading the only input.
-fn link_fault<A: Allocator + Copy>(fault: FrameFault) -> LinkFault<A>
-    ensures { result ≡ link_fault fault }
-{
-    match fault {
-        FrameFault::Device { place } => LinkFault::Device { input: 0, place },
-        FrameFault::Framing { place, fault } => LinkFault::Record {
-            input: 0,
-            place,
-            fault: record_fault(fault),
-        },
-        FrameFault::Memory | FrameFault::Failed => LinkFault::Memory,
-    }
-}
-
 /// What the frame's body says, or the fault of its type or body.
 fn parse<'a, A: Allocator + Copy + 'a>(
     alloc: A,
@@ -61,17 +36,10 @@ fn parse<'a, A: Allocator + Copy + 'a>(
 ) -> Result<Record<'a, A>, LinkFault<A>>
     ensures { Parses frame.now.place frame.now.kind frame.now.body.now result }
 {
-    let fault = match parse_record(alloc, frame) {
-        Ok(record) => return Ok(record),
-        Err(BodyFault::Memory) => return Err(LinkFault::Memory),
-        Err(BodyFault::OtherType) => RecordFault::Type,
-        Err(BodyFault::Body { at }) => RecordFault::Body { at },
-    };
-    Err(LinkFault::Record {
-        input: 0,
-        place: frame.place,
-        fault,
-    })
+    match parse_record(alloc, frame) {
+        Ok(record) => Ok(record),
+        Err(fault) => Err(record_fault(frame.place, fault)),
+    }
 }
 
 /// Writes the record with its canonical body.
@@ -83,8 +51,7 @@ fn put_canonical<K: Sink, A: Allocator + Copy>(
 ) -> Result<(), LinkFault<A>>
     requires fits { FitsFrame (view «record».now) }
     requires working { K.failures sink.old < 2 ^ 64 - 1 }
-    ensures count { K.failures sink.new ≡ K.failures sink.old + sink_failures result }
-    ensures written { WritesAll (frame kind (canonical (view «record».now))) (K.written sink.old) (K.written sink.new) result }
+    ensures { WritesAll K.written K.failures sink.old sink.new (frame kind (canonical (view «record».now))) result }
 {
     let mut body = Vec::new(alloc);
     encode_record(record, &mut body)?;
@@ -103,7 +70,8 @@ fn put_record<'a, K: Sink, A: Allocator + Copy + 'a>(
 ) -> Result<(), LinkFault<A>>
     requires { K.failures sink.old < 2 ^ 64 - 1 }
     ensures count { K.failures sink.new ≡ K.failures sink.old + sink_failures result }
-    ensures handles { Handles (output form) frame.now.place frame.now.kind frame.now.body.now (K.written sink.old) (K.written sink.new) result }
+    ensures handles { Handles (output form) frame.now.place frame.now.kind frame.now.body.now (K.written sink.old)
+        (K.written sink.new) result }
 {
     let record = parse(alloc, frame)?;
     match form {
@@ -121,6 +89,7 @@ fn put_record<'a, K: Sink, A: Allocator + Copy + 'a>(
     }
 }
 
+/// Reads record by record, and writes each, up to the one that ends the first module.
 fn go_through<S: Source, K: Sink, A: Allocator + Copy>(
     alloc: A,
     source: &mut S,
@@ -131,7 +100,8 @@ fn go_through<S: Source, K: Sink, A: Allocator + Copy>(
     requires sink { K.failures sink.old < 2 ^ 64 - 1 }
     ensures source { S.failures source.new ≡ S.failures source.old + source_failures result }
     ensures sink { K.failures sink.new ≡ K.failures sink.old + sink_failures result }
-    ensures output { GoesThrough (output form) (S.remaining source.old) (S.remaining source.new) (K.written sink.old) (K.written sink.new) result }
+    ensures output { GoesThrough (output form) (S.remaining source.old) (S.remaining source.new) (K.written sink.old)
+        (K.written sink.new) result }
 {
     let mut buf = FrameBuf::new(alloc)?;
     let mut place = 0u64;
@@ -141,14 +111,11 @@ fn go_through<S: Source, K: Sink, A: Allocator + Copy>(
             Ok(None) => return Err(LinkFault::Record {
                 input: 0,
                 place,
-                fault: RecordFault::NoEnd,
+                fault: InputFault::NoEnd,
             }),
-            Err(fault) => return Err(link_fault(fault)),
+            Err(fault) => return Err(frame_fault(fault)),
         };
-        match put_record(alloc, sink, form, &frame) {
-            Ok(()) => {}
-            Err(fault) => return Err(fault),
-        }
+        put_record(alloc, sink, form, &frame)?;
         if frame.kind == MODEND {
             return Ok(());
         }
@@ -169,10 +136,13 @@ pub fn show<S: Source, K: Sink, A: Allocator + Copy>(
     ensures source { S.failures source.new ≡ S.failures source.old + source_failures result }
     ensures sink { K.failures sink.new ≡ K.failures sink.old + sink_failures result }
     // What was read and written, and the fault where one stands.
-    ensures output { GoesThrough (output Listing) (S.remaining source.old) (S.remaining source.new) (K.written sink.old) (K.written sink.new) result }
+    ensures output { GoesThrough (output Listing) (S.remaining source.old) (S.remaining source.new)
+        (K.written sink.old) (K.written sink.new) result }
     // Where the input has a module's records, their listings are written, and no byte more is read.
-    ensures only { (rs : List Placed) (bytes rest : List ℕ) → AreToEnd rs → AreRecords 0 rs bytes → S.remaining source.old ≡ Some (bytes ++ rest)
-        → Writes (flat_map (output Listing) rs) rest (S.remaining source.new) (K.written sink.old) (K.written sink.new) result }
+    ensures only { (rs : List Placed) (bytes rest : List ℕ) → AreToEnd rs → AreRecords 0 rs bytes
+        → S.remaining source.old ≡ Some (bytes ++ rest)
+        → WritesWhole (flat_map (output Listing) rs) rest (S.remaining source.new) (K.written sink.old)
+        (K.written sink.new) result }
 {
     go_through(alloc, source, sink, Form::Listing)
 }
@@ -190,12 +160,16 @@ pub fn rewrite<S: Source, K: Sink, A: Allocator + Copy>(
     ensures source { S.failures source.new ≡ S.failures source.old + source_failures result }
     ensures sink { K.failures sink.new ≡ K.failures sink.old + sink_failures result }
     // What was read and written, and the fault where one stands.
-    ensures output { GoesThrough (output Rewriting) (S.remaining source.old) (S.remaining source.new) (K.written sink.old) (K.written sink.new) result }
+    ensures output { GoesThrough (output Rewriting) (S.remaining source.old) (S.remaining source.new)
+        (K.written sink.old) (K.written sink.new) result }
     // Where the input has a module's records, they are written, and no byte more is read.
-    ensures only { (rs : List Placed) (bytes rest : List ℕ) → AreToEnd rs → AreRecords 0 rs bytes → S.remaining source.old ≡ Some (bytes ++ rest)
-        → Writes (flat_map (output Rewriting) rs) rest (S.remaining source.new) (K.written sink.old) (K.written sink.new) result }
+    ensures only { (rs : List Placed) (bytes rest : List ℕ) → AreToEnd rs → AreRecords 0 rs bytes
+        → S.remaining source.old ≡ Some (bytes ++ rest)
+        → WritesWhole (flat_map (output Rewriting) rs) rest (S.remaining source.new) (K.written sink.old)
+        (K.written sink.new) result }
     // What was written is records that say the same again, and are rewritten as they are.
-    ensures again { OnOk result (AppendsRewritten (S.remaining source.old) (S.remaining source.new) (K.written sink.old) (K.written sink.new)) }
+    ensures again { OnOk result
+        (AppendsRewritten (S.remaining source.old) (S.remaining source.new) (K.written sink.old) (K.written sink.new)) }
 {
     go_through(alloc, source, sink, Form::Rewriting)
 }

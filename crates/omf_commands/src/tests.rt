@@ -8,7 +8,7 @@ pub mod objects;
 use super::*;
 use crate::tests::modules::{append, with_segment};
 use omf_frame::{MemSink, MemSource, put_index};
-use omf_text::{LinkFault, RecordFault};
+use omf_text::{InputFault, LinkFault};
 use std::alloc::Global;
 use std::process::Abort;
 use std::test::*;
@@ -129,7 +129,7 @@ fn rewrites<R: Abort>(
     Ok(())
 }
 
-fn record_fault(place: u64, fault: RecordFault) -> Result<(), LinkFault> {
+fn record_fault(place: u64, fault: InputFault) -> Result<(), LinkFault> {
     Err(LinkFault::Record {
         input: 0,
         place,
@@ -154,13 +154,13 @@ fn modules_are_rewritten(rt: HostRuntime) -> Result<(), Fail> {
 fn faults_have_places(rt: HostRuntime) -> Result<(), Fail> {
     let mut wrong = SMALL;
     wrong[5] = 0x3C;
-    let rows: [(&[u8], u64, RecordFault, usize); 6] = [
-        (&wrong, 0, RecordFault::Closing, 0),
-        (&[0x80, 0x03], 0, RecordFault::Truncated, 0),
-        (&SMALL[..6], 6, RecordFault::NoEnd, 6),
-        (&[], 0, RecordFault::NoEnd, 0),
-        (&[0x70, 0x02, 0x00, 0x00, 0x8E], 0, RecordFault::Type, 0),
-        (&BYTE_TOO_MANY, 16, RecordFault::Body { at: 6 }, 16),
+    let rows: [(&[u8], u64, InputFault, usize); 6] = [
+        (&wrong, 0, InputFault::Closing, 0),
+        (&[0x80, 0x03], 0, InputFault::Truncated, 0),
+        (&SMALL[..6], 6, InputFault::NoEnd, 6),
+        (&[], 0, InputFault::NoEnd, 0),
+        (&[0x70, 0x02, 0x00, 0x00, 0x8E], 0, InputFault::Type, 0),
+        (&BYTE_TOO_MANY, 16, InputFault::Body { at: 6 }, 16),
     ];
     for (input, place, fault, written) in rows {
         rewrites(
@@ -412,7 +412,7 @@ fn bodies_are_rewritten_or_refused(rt: HostRuntime) -> Result<(), Fail> {
                 )?;
             }
             Err(at) => {
-                let fault = record_fault(0, RecordFault::Body { at });
+                let fault = record_fault(0, InputFault::Body { at });
                 rewrites(&rt, rt.alloc(), input.as_slice(), &fault, &[])?;
             }
         }

@@ -38,6 +38,7 @@ impl<'a> Page<'a> {
         }
     }
 
+    /// Puts bytes at its end, as many as there is room for.
     fn append(&self, bytes: &[u8]) -> io::Result<usize>
         ensures { IfOk result (λ n. n ≤ length bytes.now) }
     {
@@ -56,6 +57,7 @@ impl<'a> Page<'a> {
         }
     }
 
+    /// Takes its bytes away.
     fn empty(&self) {
         if let Ok(mut page) = self.bytes.try_borrow_mut() {
             page.clear();
@@ -129,7 +131,8 @@ impl Count {
     }
 }
 
-/// Files that can be read by their paths, pages that can be written, the streams, and a page that lists what was opened.
+/// Files that can be read by their paths, pages that can be written, the streams, and a page that lists what was
+/// opened.
 #[derive(Clone, Copy)]
 pub(crate) struct Desk<'f, 'p> {
     /// The files that can be read.
@@ -159,6 +162,7 @@ impl<'f, 'p> World for Desk<'f, 'p> {
 
     fn open(&self, path: &str) -> io::Result<Scroll<'f, 'p>> {
         for text in [path, " "] {
+            // a full page lists no more
             let _ = self.opened.append(text.as_bytes());
         }
         for (name, bytes) in self.files {

@@ -3,6 +3,7 @@ use crate::tests::modules::append;
 use crate::tests::objects::{BIOS, GREET, GROUPS, LINES, MAIN, NEAR, TINY};
 use crate::tests::{HELLO, SMALL};
 use omf_frame::{MemSink, MemSource};
+use omf_text::InputFault;
 use std::alloc::Global;
 use std::process::Abort;
 use std::test::*;
@@ -11,7 +12,7 @@ use std::test::*;
 type Entry<'a> = (u8, &'a [u8]);
 
 /// A module with one segment of this length and these records.
-fn module_of(alloc: Global, length: u16, records: &[Entry<'_>]) -> Result<Vec<u8>, Fail> {
+fn module_with(alloc: Global, length: u16, records: &[Entry<'_>]) -> Result<Vec<u8>, Fail> {
     let [low, high] = length.to_le_bytes();
     let mut module = Vec::new(alloc);
     append(&mut module, 0x80, &[0x01, 0x41])?;
@@ -29,7 +30,7 @@ fn answers<R: Abort>(
     rt: &R,
     alloc: Global,
     input: &[u8],
-    answer: Result<(), (u64, RecordFault)>,
+    answer: Result<(), (u64, InputFault)>,
 ) -> Result<(), Fail> {
     for piece in [1usize, 2, 3] {
         let mut source = MemSource::over(input, piece, None);
@@ -59,32 +60,32 @@ fn answers<R: Abort>(
 
 #[test]
 fn records_are_checked_in_order(rt: HostRuntime) -> Result<(), Fail> {
-    let rows: [(u16, &[Entry<'_>], Result<(), (u64, RecordFault)>); 21] = [
+    let rows: [(u16, &[Entry<'_>], Result<(), (u64, InputFault)>); 21] = [
         (1, &[(0x80, &[0x01, 0x42])], Ok(())),
         (
             1,
             &[(0x98, &[0x28, 0x01, 0x00, 0x03, 0x01, 0x01])],
-            Err((26, RecordFault::NameIndex)),
+            Err((26, InputFault::NameIndex)),
         ),
         (
             2,
             &[(0xA0, &[0x02, 0x00, 0x00, 0x00])],
-            Err((26, RecordFault::SegmentIndex)),
+            Err((26, InputFault::SegmentIndex)),
         ),
         (
             2,
             &[(0x90, &[0x05, 0x01, 0x01, 0x78, 0x00, 0x00, 0x00])],
-            Err((26, RecordFault::GroupIndex)),
+            Err((26, InputFault::GroupIndex)),
         ),
         (
             2,
             &[(0xB6, &[0x00, 0x02, 0x01, 0x78, 0x00, 0x00, 0x00])],
-            Err((26, RecordFault::SegmentIndex)),
+            Err((26, InputFault::SegmentIndex)),
         ),
         (
             2,
             &[(0xB6, &[0x05, 0x01, 0x01, 0x78, 0x00, 0x00, 0x00])],
-            Err((26, RecordFault::GroupIndex)),
+            Err((26, InputFault::GroupIndex)),
         ),
         // local externals and others are counted together
         (
@@ -106,7 +107,7 @@ fn records_are_checked_in_order(rt: HostRuntime) -> Result<(), Fail> {
                 (0xA0, &[0x01, 0x00, 0x00, 0x00, 0x00]),
                 (0x9C, &[0xC4, 0x00, 0x56, 0x03]),
             ],
-            Err((49, RecordFault::ExternalIndex)),
+            Err((49, InputFault::ExternalIndex)),
         ),
         (
             2,
@@ -114,7 +115,7 @@ fn records_are_checked_in_order(rt: HostRuntime) -> Result<(), Fail> {
                 (0xA0, &[0x01, 0x00, 0x00, 0x00, 0x00]),
                 (0x9C, &[0xC4, 0x00, 0x56, 0x01]),
             ],
-            Err((35, RecordFault::ExternalIndex)),
+            Err((35, InputFault::ExternalIndex)),
         ),
         (
             2,
@@ -122,17 +123,17 @@ fn records_are_checked_in_order(rt: HostRuntime) -> Result<(), Fail> {
                 (0xA0, &[0x01, 0x00, 0x00, 0x00, 0x00]),
                 (0x9C, &[0xC4, 0x00, 0x8C]),
             ],
-            Err((35, RecordFault::ThreadNotSet)),
+            Err((35, InputFault::ThreadNotSet)),
         ),
         (
             1,
             &[(0x9C, &[0xC4, 0x00, 0x04, 0x01, 0x01])],
-            Err((26, RecordFault::FixupBeforeData)),
+            Err((26, InputFault::FixupBeforeData)),
         ),
         (
             2,
             &[(0xA0, &[0x01, 0x01, 0x00, 0x00, 0x00])],
-            Err((26, RecordFault::DataOutside)),
+            Err((26, InputFault::DataOutside)),
         ),
         (
             2,
@@ -143,7 +144,7 @@ fn records_are_checked_in_order(rt: HostRuntime) -> Result<(), Fail> {
                 ),
                 (0xA0, &[0x02, 0x00, 0x00, 0x00]),
             ],
-            Err((39, RecordFault::DataInAbsolute)),
+            Err((39, InputFault::DataInAbsolute)),
         ),
         (
             2,
@@ -151,7 +152,7 @@ fn records_are_checked_in_order(rt: HostRuntime) -> Result<(), Fail> {
                 (0xA0, &[0x01, 0x00, 0x00, 0x00, 0x00]),
                 (0x9C, &[0x88, 0x00, 0x04, 0x01, 0x01]),
             ],
-            Err((35, RecordFault::SelfRelativeBase)),
+            Err((35, InputFault::SelfRelativeBase)),
         ),
         (
             2,
@@ -162,7 +163,7 @@ fn records_are_checked_in_order(rt: HostRuntime) -> Result<(), Fail> {
                 ),
                 (0x9A, &[0x02, 0xFF, 0x02]),
             ],
-            Err((39, RecordFault::GroupOfAbsolute)),
+            Err((39, InputFault::GroupOfAbsolute)),
         ),
         (
             2,
@@ -192,7 +193,7 @@ fn records_are_checked_in_order(rt: HostRuntime) -> Result<(), Fail> {
                     0x00, 0x00, 0x01, 0x41,
                 ],
             )],
-            Err((26, RecordFault::DataOutside)),
+            Err((26, InputFault::DataOutside)),
         ),
         (
             6,
@@ -214,7 +215,7 @@ fn records_are_checked_in_order(rt: HostRuntime) -> Result<(), Fail> {
                 ),
                 (0x9C, &[0xC8, 0x04, 0x04, 0x01, 0x01]),
             ],
-            Err((40, RecordFault::FixupPlace)),
+            Err((40, InputFault::FixupPlace)),
         ),
         (
             1,
@@ -229,7 +230,7 @@ fn records_are_checked_in_order(rt: HostRuntime) -> Result<(), Fail> {
         ),
     ];
     for (length, records, answer) in rows {
-        let input = module_of(rt.alloc(), length, records)?;
+        let input = module_with(rt.alloc(), length, records)?;
         answers(&rt, rt.alloc(), input.as_slice(), answer)?;
     }
     Ok(())
@@ -242,7 +243,7 @@ fn whole_inputs_are_checked(rt: HostRuntime) -> Result<(), Fail> {
     append(&mut own_frame, 0x8A, &[0xC1, 0x44, 0x01])?;
     let mut names = Vec::new(rt.alloc());
     append(&mut names, 0x96, &[0x00])?;
-    let rows: [(&[u8], Result<(), (u64, RecordFault)>); 15] = [
+    let rows: [(&[u8], Result<(), (u64, InputFault)>); 15] = [
         (&SMALL, Ok(())),
         (&HELLO, Ok(())),
         (&BIOS, Ok(())),
@@ -252,15 +253,12 @@ fn whole_inputs_are_checked(rt: HostRuntime) -> Result<(), Fail> {
         (&LINES, Ok(())),
         (&NEAR, Ok(())),
         (&TINY, Ok(())),
-        (
-            own_frame.as_slice(),
-            Err((47, RecordFault::FrameOfLocation)),
-        ),
-        (names.as_slice(), Err((0, RecordFault::NotHeader))),
-        (&[0x80, 0x03], Err((0, RecordFault::Truncated))),
-        (&SMALL[..6], Err((6, RecordFault::NoEnd))),
-        (&SMALL[..8], Err((6, RecordFault::Truncated))),
-        (&[], Err((0, RecordFault::NoEnd))),
+        (own_frame.as_slice(), Err((47, InputFault::FrameOfLocation))),
+        (names.as_slice(), Err((0, InputFault::NotHeader))),
+        (&[0x80, 0x03], Err((0, InputFault::Truncated))),
+        (&SMALL[..6], Err((6, InputFault::NoEnd))),
+        (&SMALL[..8], Err((6, InputFault::Truncated))),
+        (&[], Err((0, InputFault::NoEnd))),
     ];
     for (input, answer) in rows {
         answers(&rt, rt.alloc(), input, answer)?;

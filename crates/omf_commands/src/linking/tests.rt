@@ -3,7 +3,7 @@ ghost use Rattle.std.specs.Prelude.{◌≡◌};
 mod local_names;
 
 use super::*;
-use crate::tests::modules::{append, append_digits, module_of, two_modules, with_segment};
+use crate::tests::modules::{append, append_digits, module_bytes, two_modules, with_segment};
 use crate::tests::{BYTE_TOO_MANY, LONG_INDEX, SMALL, record_place};
 use crate::{check, load_file};
 use mz::{Loaded, load, read_mz};
@@ -113,7 +113,7 @@ fn modules_give_files(rt: HostRuntime) -> Result<(), Fail> {
         assert_eq!(rt; fault, None);
         assert_eq!(rt; file.as_slice(), SMALL_FILE.as_slice());
     }
-    let nothing = module_of(rt.alloc(), &["800141", "8A00"])?;
+    let nothing = module_bytes(rt.alloc(), &["800141", "8A00"])?;
     let empty = hex::decode(
         rt.alloc(),
         "4D5A20000100000002000000FFFF000000000000000000001C00000000000000",
@@ -225,7 +225,7 @@ fn loaded(alloc: Global, file: &[u8], paragraph: u16) -> Result<Option<Loaded>, 
 fn files_are_loaded(rt: HostRuntime) -> Result<(), Fail> {
     let small = loaded(rt.alloc(), &SMALL_FILE, 0x1234)?.ok_or("no room")?;
     assert_eq!(rt; small.bytes(), [0xB8, 0x34, 0x12, 0x8E, 0xD8].as_slice());
-    assert_eq!(rt; (small.cs(), small.ip()), (0x1234, 0));
+    assert_eq!(rt; (small.registers().cs, small.registers().ip), (0x1234, 0));
     let repeated = with_segment(
         rt.alloc(),
         "0600",
@@ -284,7 +284,7 @@ fn modules_are_linked_together(rt: HostRuntime) -> Result<(), Fail> {
     let fault = load_file(rt.alloc(), &mut source, 0xFFFF, &mut sink).err();
     assert_eq!(rt; fault.and_then(|fault| fault.number()), Some(39));
     let names = "960004434F4445";
-    let first = module_of(
+    let first = module_bytes(
         rt.alloc(),
         &[
             "800141",
@@ -294,7 +294,7 @@ fn modules_are_linked_together(rt: HostRuntime) -> Result<(), Fail> {
             "8A00",
         ],
     )?;
-    let second = module_of(
+    let second = module_bytes(
         rt.alloc(),
         &["800141", names, "98380200020101", "A0010000AABB", "8A00"],
     )?;
@@ -375,7 +375,7 @@ fn stacks_sizes_and_pages(rt: HostRuntime) -> Result<(), Fail> {
     let (file, _) = linked(rt.alloc(), &[stack.as_slice()])?;
     let last = loaded(rt.alloc(), &file, 0xFFEF)?.ok_or("no room")?;
     assert_eq!(rt;
-        (last.bytes().len(), last.ss(), last.sp()),
+        (last.bytes().len(), last.registers().ss, last.registers().sp),
         (0, 0xFFF0, 0x100)
     );
     assert!(rt; loaded(rt.alloc(), &file, 0xFFF0)?.is_none());
@@ -546,7 +546,7 @@ fn faults_of_modules_are_named(rt: HostRuntime) -> Result<(), Fail> {
 
 /// Sixteen segments, the last of this length.
 fn large(alloc: Global, length: &str) -> Result<Vec<u8>, Fail> {
-    let mut bytes = module_of(alloc, &["800141", "9600"])?;
+    let mut bytes = module_bytes(alloc, &["800141", "9600"])?;
     for _ in 0..15usize {
         append_digits(alloc, &mut bytes, "98220000010101")?;
     }

@@ -2,7 +2,7 @@ use super::*;
 use crate::linking::tests::SMALL_FILE;
 use crate::tests::LISTING;
 use omf_frame::{MemSink, MemSource};
-use omf_text::fault_line;
+use omf_text::{FileFault, fault_line};
 use std::alloc::Global;
 use std::process::Abort;
 use std::test::*;

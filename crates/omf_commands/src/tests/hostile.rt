@@ -6,7 +6,7 @@ use crate::tests::modules::{nested, two_modules, with_segment};
 use crate::tests::{LISTING, SMALL, SMALL_LINES, record_place};
 use crate::{check, load_file, rewrite, show};
 use omf_frame::{MemSink, MemSource};
-use omf_text::{LinkFault, RecordFault, status};
+use omf_text::{InputFault, LinkFault, status};
 use refusing::Refusing;
 use std::alloc::{Allocator, Global};
 use std::process::Abort;
@@ -34,7 +34,7 @@ fn fault_of<R: Abort>(
 }
 
 /// The file of an input, or the place of the record at fault and what is wrong with it.
-type Answer<'a> = Result<&'a [u8], (u64, RecordFault)>;
+type Answer<'a> = Result<&'a [u8], (u64, InputFault)>;
 
 /// Checks and links the input in pieces of 1, 2 and 3 bytes.
 fn answers<R: Abort>(rt: &R, alloc: Global, input: &[u8], answer: Answer<'_>) -> Result<(), Fail> {
@@ -68,9 +68,9 @@ fn each_front_is_refused(rt: HostRuntime) -> Result<(), Fail> {
     for n in 0..57u64 {
         let place = record_place(n);
         let fault = if place == n {
-            RecordFault::NoEnd
+            InputFault::NoEnd
         } else {
-            RecordFault::Truncated
+            InputFault::Truncated
         };
         let front = &SMALL[..(n as usize).min(57)];
         answers(&rt, rt.alloc(), front, Err((place, fault)))?;
@@ -116,7 +116,7 @@ fn each_changed_byte_is_told(rt: HostRuntime) -> Result<(), Fail> {
             } else if is_closing(at) && value == 0 {
                 answers(&rt, rt.alloc(), &input, Ok(&SMALL_FILE))?;
             } else {
-                let closing = Err((record_place(at), RecordFault::Closing));
+                let closing = Err((record_place(at), InputFault::Closing));
                 answers(&rt, rt.alloc(), &input, closing)?;
             }
         }
@@ -135,8 +135,8 @@ const BYTE_FILE: [u8; 33] = [
 fn data_is_nested_as_deep_as_may_be(rt: HostRuntime) -> Result<(), Fail> {
     let rows: [(&str, u16, usize, Answer<'_>); 3] = [
         ("0100", 1, 63, Ok(&BYTE_FILE)),
-        ("0100", 1, 64, Err((26, RecordFault::Body { at: 257 }))),
-        ("FFFF", 65_535, 16, Err((26, RecordFault::DataOutside))),
+        ("0100", 1, 64, Err((26, InputFault::Body { at: 257 }))),
+        ("FFFF", 65_535, 16, Err((26, InputFault::DataOutside))),
     ];
     for (length, repeat, levels, answer) in rows {
         let input = nested(rt.alloc(), length, repeat, levels)?;

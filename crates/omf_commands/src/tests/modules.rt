@@ -25,7 +25,7 @@ pub fn append_digits(alloc: Global, module: &mut Vec<u8>, record: &str) -> Resul
 }
 
 /// The module of these records, in hexadecimal digits.
-pub fn module_of(alloc: Global, records: &[&str]) -> Result<Vec<u8>, Fail> {
+pub fn module_bytes(alloc: Global, records: &[&str]) -> Result<Vec<u8>, Fail> {
     let mut module = Vec::new(alloc);
     for record in records {
         append_digits(alloc, &mut module, record)?;
@@ -36,7 +36,7 @@ pub fn module_of(alloc: Global, records: &[&str]) -> Result<Vec<u8>, Fail> {
 /// A module with a segment of this length, four hexadecimal digits with the low byte first, and these records.
 pub fn with_segment(alloc: Global, length: &str, records: &[&str]) -> Result<Vec<u8>, Fail> {
     let segment = format!(in alloc; "9828{length}020101")?;
-    let mut module = module_of(alloc, &["800141", "960004434F4445", segment.as_str()])?;
+    let mut module = module_bytes(alloc, &["800141", "960004434F4445", segment.as_str()])?;
     for record in records {
         append_digits(alloc, &mut module, record)?;
     }
@@ -62,7 +62,7 @@ pub fn nested(alloc: Global, length: &str, repeat: u16, levels: usize) -> Result
 
 /// Two modules with a group over both.
 pub fn two_modules(alloc: Global) -> Result<(Vec<u8>, Vec<u8>), Fail> {
-    let one = module_of(
+    let one = module_bytes(
         alloc,
         &[
             "800141",
@@ -77,7 +77,7 @@ pub fn two_modules(alloc: Global) -> Result<(Vec<u8>, Vec<u8>), Fail> {
             "8AC10001010000",
         ],
     )?;
-    let two = module_of(
+    let two = module_bytes(
         alloc,
         &[
             "800142",

@@ -12,13 +12,13 @@ unfolding Reads
 read_is_sound old new m h = (h.0, h.1, h.2, h.3)
 
 pub returns-in-Ok-put_all-clause-checks : goal.returns-in-Ok-put_all-clause-checks
-returns-in-Ok-put_all-clause-checks g c = (read_is_sound _ _ _ c.in-Ok.ensures.reads, c.in-Ok-put_all.ensures.appended)
+returns-in-Ok-put_all-clause-checks g c = (read_is_sound _ _ _ c.in-Ok.ensures.reads, c.in-Ok-put_all.ensures.0)
 
 pub returns-in-Ok-clause-checks : goal.returns-in-Ok-clause-checks
-returns-in-Ok-clause-checks g c = (read_is_sound _ _ _ c.in-Ok.ensures.reads, c.in-Err-put_all.ensures.failed)
+returns-in-Ok-clause-checks g c = (read_is_sound _ _ _ c.in-Ok.ensures.reads, c.in-Err-put_all.ensures.0)
 
 pub returns-in-Ok-put_all-clause-whole : goal.returns-in-Ok-put_all-clause-whole
-returns-in-Ok-put_all-clause-whole g c = λ rs bytes rest whole told. ((c.in-Ok.ensures.whole rs bytes rest whole told).1, c.in-Ok-put_all.ensures.appended)
+returns-in-Ok-put_all-clause-whole g c = λ rs bytes rest whole told. ((c.in-Ok.ensures.whole rs bytes rest whole told).1, c.in-Ok-put_all.ensures.0)
 
 pub returns-in-Ok-clause-whole : goal.returns-in-Ok-clause-whole
-returns-in-Ok-clause-whole g c = λ rs bytes rest whole told. ((c.in-Ok.ensures.whole rs bytes rest whole told).1, c.in-Err-put_all.ensures.failed)
+returns-in-Ok-clause-whole g c = λ rs bytes rest whole told. ((c.in-Ok.ensures.whole rs bytes rest whole told).1, c.in-Err-put_all.ensures.0)

@@ -1,42 +1,33 @@
 use Rattle.std.proofs.Common.{refl, codes, ◌++◌}
-use Rattle.omf_frame.proofs.Told.{Appends-trans, AppendsFront-more, AppendsFront-then, on_err}
-use Rattle.omf_commands.specs.Loading.{bytes_line, hexadecimals}
+use Rattle.std.specs.List.{flat_map}
+use Rattle.omf_frame.proofs.Told.{Wrote-cut, Wrote-then}
 use Rattle.omf_text.specs.Printing.{hexadecimal}
-use Rattle.omf_text.proofs.PrintLemmas.{err_weaker, ok_weaker}
+use Rattle.omf_commands.specs.Loading.{bytes_line}
 use Rattle.omf_commands.proofs.loading.put_bytes_line.Goals as goal
 
-pub returns-in_err-put_hexadecimal-clause-failed : goal.returns-in_err-put_hexadecimal-clause-failed
+pub returns-in_err-put_hexadecimal : goal.returns-in_err-put_hexadecimal
 unfolding bytes_line
-returns-in_err-put_hexadecimal-clause-failed g c =
-    on_err _ (AppendsFront-more _ _ (hexadecimal 5 c.args.address) (codes " " ++ (hexadecimals c.args.bytes.now ++ codes "\n")) _ c.in_err-put_hexadecimal.ensures.failed refl)
+returns-in_err-put_hexadecimal g c =
+    let behind = codes " " ++ (flat_map (hexadecimal 2) c.args.bytes.now ++ codes "\n") in
+    Wrote-cut _ _ _ _ _ (hexadecimal 5 c.args.address) behind _ _ c.in_err-put_hexadecimal.ensures refl c.from_residual.ensures.1
 
-pub returns-in_err-put_all-clause-failed : goal.returns-in_err-put_all-clause-failed
+pub returns-in_err-put_all : goal.returns-in_err-put_all
 unfolding bytes_line
-returns-in_err-put_all-clause-failed g c =
-    let behind = hexadecimals c.args.bytes.now ++ codes "\n" in
-    on_err _ (AppendsFront-then _ _ _ (hexadecimal 5 c.args.address) (codes " " ++ behind) c.in_ok-put_hexadecimal.ensures.appended
-    (AppendsFront-more _ _ (codes " ") behind _ c.in_err-put_all.ensures.failed refl))
+returns-in_err-put_all g c =
+    let behind = flat_map (hexadecimal 2) c.args.bytes.now ++ codes "\n" in
+    Wrote-then _ _ _ _ _ _ (hexadecimal 5 c.args.address) _ _ c.in_ok-put_hexadecimal.ensures
+    (Wrote-cut _ _ _ _ _ (codes " ") behind _ _ c.in_err-put_all.ensures refl c.from_residual-in_err-put_all.ensures.1)
 
-pub returns-in_err-put_hexadecimals-clause-failed : goal.returns-in_err-put_hexadecimals-clause-failed
+pub returns-in_err-put_hexadecimal_bytes : goal.returns-in_err-put_hexadecimal_bytes
 unfolding bytes_line
-returns-in_err-put_hexadecimals-clause-failed g c =
-    let behind = hexadecimals c.args.bytes.now ++ codes "\n" in
-    on_err _ (AppendsFront-then _ _ _ (hexadecimal 5 c.args.address) (codes " " ++ behind) c.in_ok-put_hexadecimal.ensures.appended
-    (AppendsFront-then _ _ _ (codes " ") behind c.in_ok-put_all.ensures.appended
-    (AppendsFront-more _ _ (hexadecimals c.args.bytes.now) (codes "\n") _ c.in_err-put_hexadecimals.ensures.failed refl)))
+returns-in_err-put_hexadecimal_bytes g c =
+    Wrote-then _ _ _ _ _ _ (hexadecimal 5 c.args.address) _ _ c.in_ok-put_hexadecimal.ensures
+    (Wrote-then _ _ _ _ _ _ (codes " ") _ _ c.in_ok-put_all.ensures
+    (Wrote-cut _ _ _ _ _ (flat_map (hexadecimal 2) c.args.bytes.now) (codes "\n") _ _ c.in_err-put_hexadecimal_bytes.ensures refl c.from_residual-in_err-put_hexadecimal_bytes.ensures.1))
 
-pub returns-clause-appended : goal.returns-clause-appended
+pub returns : goal.returns
 unfolding bytes_line
-returns-clause-appended g c =
-    let behind = hexadecimals c.args.bytes.now ++ codes "\n" in
-    ok_weaker c.put_all-2.result (λ p. Appends-trans _ _ _ (hexadecimal 5 c.args.address) (codes " " ++ behind) c.in_ok-put_hexadecimal.ensures.appended
-    (Appends-trans _ _ _ (codes " ") behind c.in_ok-put_all.ensures.appended
-    (Appends-trans _ _ _ (hexadecimals c.args.bytes.now) (codes "\n") c.in_ok-put_hexadecimals.ensures.appended p))) c.put_all-2.ensures.appended
-
-pub returns-clause-failed : goal.returns-clause-failed
-unfolding bytes_line
-returns-clause-failed g c =
-    let behind = hexadecimals c.args.bytes.now ++ codes "\n" in
-    err_weaker c.put_all-2.result (λ p. AppendsFront-then _ _ _ (hexadecimal 5 c.args.address) (codes " " ++ behind) c.in_ok-put_hexadecimal.ensures.appended
-    (AppendsFront-then _ _ _ (codes " ") behind c.in_ok-put_all.ensures.appended
-    (AppendsFront-then _ _ _ (hexadecimals c.args.bytes.now) (codes "\n") c.in_ok-put_hexadecimals.ensures.appended p))) c.put_all-2.ensures.failed
+returns g c =
+    Wrote-then _ _ _ _ _ _ (hexadecimal 5 c.args.address) _ _ c.in_ok-put_hexadecimal.ensures
+    (Wrote-then _ _ _ _ _ _ (codes " ") _ _ c.in_ok-put_all.ensures
+    (Wrote-then _ _ _ _ _ _ (flat_map (hexadecimal 2) c.args.bytes.now) _ _ c.in_ok-put_hexadecimal_bytes.ensures c.put_all-2.ensures))

@@ -12,7 +12,7 @@ use Rattle.omf_frame.proofs.Told.{Keeps-refl, at_some}
 use Rattle.omf_frame.specs.declared.reading.FrameFault.{FrameFault}
 use Rattle.omf_record.specs.Records.{Placed, NoEnd}
 use Rattle.omf_record.proofs.Records.{AreBeforeEnd-push, AreToEnd-push, kind_end, not_end}
-use Rattle.omf_text.specs.declared.fault.RecordFault.TheVariants as fault
+use Rattle.omf_text.specs.declared.fault.InputFault.TheVariants as fault
 use Rattle.omf_commands.specs.Records.{output, FaultAt}
 use Rattle.omf_commands.proofs.Through.{begun, one_more, stopped, refused}
 use Rattle.omf_commands.proofs.records.go_through.Goals as goal
@@ -46,10 +46,10 @@ returns-in-Err-clause-output g c =
     let e = c.in-Err.fault in
     let here = at_some _ place (λ p. IsAt {A = Option Frame} p (Err e) × IfFrame (Err e) (λ f. f.place ≡ p)) held c.in-Err.ensures.at in
     let exact = at_some _ place (λ p. IfSome told (λ bytes. Gives plain_frame (Err e) (frame_at p bytes))) held c.in-Err.ensures.exact in
-    rw c.link_fault.ensures (stopped (Unit {0}) _ (output c.args.form) rs _ told _ _ _ place e through before at here.0 exact c.in-Err.ensures.stands)
+    rw c.frame_fault.ensures (stopped (Unit {0}) _ (output c.args.form) rs _ told _ _ _ place e through before at here.0 exact c.in-Err.ensures.stands)
 
-pub returns-in-Err-put_record-clause-output : goal.returns-in-Err-put_record-clause-output
-returns-in-Err-put_record-clause-output g c =
+pub returns-in_err-put_record-clause-output : goal.returns-in_err-put_record-clause-output
+returns-in_err-put_record-clause-output g c =
     let (rs, before, through, at, held, _, _) = c.loop-frame.invariant in
     let place = c.loop-frame.place in
     let told = g.S.Source.remaining c.loop-frame.source in
@@ -60,7 +60,8 @@ returns-in-Err-put_record-clause-output g c =
     let below : f.place < place_limit = omega (arith, here.0, here.1) in
     let exact = at_some _ place (λ p. IfSome told (λ bytes. frame_at p bytes ≡ Ok (Some (plain_frame f)))) held (rw c.in-Ok-Some.field-0-is at c.in-Ok-Some.ensures.exact) in
     let stands = IfSome_then told {Q = (λ bytes. frame_at f.place bytes ≡ Ok (Some (plain_frame f)))} exact (λ bytes e. ap (λ n. frame_at n bytes) here.1 ∙ e) in
-    refused (output c.args.form) rs _ told _ _ _ _ (plain_frame f) framed.0 c.in-Err-put_record.fault through before (here.1 ∙ at) below framed.1 framed.2 c.in-Ok-Some.ensures.stands stands c.in-Err-put_record.ensures.handles
+    let p = err_from_is_err_and c.from_residual-in_err-put_record.result c.from_residual-in_err-put_record.ensures.1 in
+    rw (p.1, p.2) (refused (output c.args.form) rs _ told _ _ _ _ (plain_frame f) framed.0 c.in_err-put_record.field-0.0 through before (here.1 ∙ at) below framed.1 framed.2 c.in-Ok-Some.ensures.stands stands c.in_err-put_record.ensures.handles)
 
 pub returns-then-frame-clause-output : goal.returns-then-frame-clause-output
 returns-then-frame-clause-output g c =
@@ -71,7 +72,7 @@ returns-then-frame-clause-output g c =
     let here = at_some _ place (λ p. (p < place_limit) × (f.place ≡ p)) held ensured in
     let framed = rw c.in-Ok-Some.field-0-is at c.in-Ok-Some.ensures.frame in
     let below : f.place < place_limit = omega (arith, here.0, here.1) in
-    let (r, body, wrote) = c.in-Ok.ensures.handles in
+    let (r, body, wrote) = c.in_ok-put_record.ensures.handles in
     let record_is : Placed = record { place = f.place; body = f.body.now; says = r } in
     let more = one_more (output c.args.form) rs _ _ _ _ _ _ record_is framed.0 through (here.1 ∙ at) below (subst (λ k. Framed k f.body.now framed.0) (sym body.0) framed.1) body.1 framed.2 wrote in
     (rs ++ record_is ∷ [], AreToEnd-push rs record_is before (kind_end r (body.0 ∙ c.if-frame.true)), more.0)
@@ -85,7 +86,7 @@ loop-frame-preserved g c =
     let here = at_some _ place (λ p. (p < place_limit) × (f.place ≡ p)) held ensured in
     let framed = rw c.in-Ok-Some.field-0-is at c.in-Ok-Some.ensures.frame in
     let below : f.place < place_limit = omega (arith, here.0, here.1) in
-    let (r, body, wrote) = c.in-Ok.ensures.handles in
+    let (r, body, wrote) = c.in_ok-put_record.ensures.handles in
     let record_is : Placed = record { place = f.place; body = f.body.now; says = r } in
     let more = one_more (output c.args.form) rs _ _ _ _ _ _ record_is framed.0 through (here.1 ∙ at) below (subst (λ k. Framed k f.body.now framed.0) (sym body.0) framed.1) body.1 framed.2 wrote in
     let next = c.next_record.follows.holds-at-none in (
@@ -95,5 +96,5 @@ loop-frame-preserved g c =
       more.1,
       next ∙ ap (next_place c.loop-frame.buf) (c.in-Ok-Some.is ∙ ap (λ (o : Option Frame). let r : Result (Option Frame) FrameFault = Ok o in r) c.in-Ok-Some.field-0-is),
       omega (arith, c.in-Ok-Some.ensures.device, same_source),
-      omega (arith, c.in-Ok.ensures.count, same_sink),
+      omega (arith, c.in_ok-put_record.ensures.count, same_sink),
     )

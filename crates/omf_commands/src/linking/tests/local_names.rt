@@ -1,7 +1,7 @@
 //! Names that are local to their module, in modules with a segment of the name CODE.
 
 use super::{gives, has, linked, refuses};
-use crate::tests::modules::{module_of, with_segment};
+use crate::tests::modules::{module_bytes, with_segment};
 use std::alloc::Global;
 use std::process::Abort;
 use std::test::*;
@@ -253,7 +253,7 @@ fn starting<'a>(alloc: Global, records: &[&'a str], start: &'a str) -> Result<Ve
     all.extend_from_slice(&["800141", "960004434F4445", "98281100020101", "B4017800"])?;
     all.extend_from_slice(records)?;
     all.push(start)?;
-    module_of(alloc, &all)
+    module_bytes(alloc, &all)
 }
 
 #[test]

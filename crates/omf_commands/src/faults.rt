@@ -1,0 +1,180 @@
+//! The faults of what a command calls, as faults of the command. Each function here is called as the type that it
+//! takes; `fault_at` takes what is wrong at a place.
+ghost use Rattle.std.specs.Prelude.{◌≡◌};
+ghost use Rattle.omf_commands.specs.Faults.{check_fault, fault_at, fix_kind_fault, framing_fault, module_fault};
+ghost use Rattle.omf_commands.specs.inside.Faults.{fix_fault, frame_fault, load_fault, mz_fault, place_fault};
+ghost use Rattle.omf_commands.specs.inside.Faults.{record_fault};
+
+use mz::{LoadFault, MzFault};
+use omf_frame::{FrameFault, FramingFault};
+use omf_image::{FixFault, FixKind};
+use omf_module::{CheckFault, FaultKind, ModuleFault};
+use omf_place::PlaceFault;
+use omf_record::RecordFault;
+use omf_text::{FileFault, InputFault, LinkFault, ProgramFault};
+use std::alloc::Allocator;
+
+/// A framing fault as a fault of the record.
+fn framing_fault(fault: FramingFault) -> InputFault
+    ensures { result ≡ framing_fault fault }
+{
+    match fault {
+        FramingFault::ZeroLength => InputFault::ZeroLength,
+        FramingFault::Truncated => InputFault::Truncated,
+        FramingFault::Closing => InputFault::Closing,
+        FramingFault::InputTooLong => InputFault::InputTooLong,
+    }
+}
+
+/// A fault of reading a record of the only input.
+pub(crate) fn frame_fault<A: Allocator + Copy>(fault: FrameFault) -> LinkFault<A>
+    ensures { result ≡ frame_fault fault }
+{
+    match fault {
+        FrameFault::Device { place } => LinkFault::Device { input: 0, place },
+        FrameFault::Framing { place, fault } => LinkFault::Record {
+            input: 0,
+            place,
+            fault: framing_fault(fault),
+        },
+        FrameFault::Memory | FrameFault::Failed => LinkFault::Memory,
+    }
+}
+
+/// A fault of the body at this place in the only input.
+pub(crate) fn record_fault<A: Allocator + Copy>(place: u64, fault: RecordFault) -> LinkFault<A>
+    ensures { result ≡ record_fault place fault }
+{
+    let fault = match fault {
+        RecordFault::Memory => return LinkFault::Memory,
+        RecordFault::OtherType => InputFault::Type,
+        RecordFault::Body { at } => InputFault::Body { at },
+    };
+    LinkFault::Record {
+        input: 0,
+        place,
+        fault,
+    }
+}
+
+/// A refusal of the checks as a fault of the record.
+fn check_fault(fault: CheckFault) -> InputFault
+    ensures { result ≡ check_fault fault }
+{
+    match fault {
+        CheckFault::NotHeader => InputFault::NotHeader,
+        CheckFault::NameIndex => InputFault::NameIndex,
+        CheckFault::SegmentIndex => InputFault::SegmentIndex,
+        CheckFault::GroupIndex => InputFault::GroupIndex,
+        CheckFault::ExternalIndex => InputFault::ExternalIndex,
+        CheckFault::ThreadNotSet => InputFault::ThreadNotSet,
+        CheckFault::FixupBeforeData => InputFault::FixupBeforeData,
+        CheckFault::FixupPlace => InputFault::FixupPlace,
+        CheckFault::DataOutside => InputFault::DataOutside,
+        CheckFault::DataInAbsolute => InputFault::DataInAbsolute,
+        CheckFault::SelfRelativeBase => InputFault::SelfRelativeBase,
+        CheckFault::FrameOfLocation => InputFault::FrameOfLocation,
+        CheckFault::GroupOfAbsolute => InputFault::GroupOfAbsolute,
+    }
+}
+
+/// A fault at the place of a record of the input with this index.
+fn fault_at<A: Allocator + Copy>(input: usize, place: u64, kind: FaultKind) -> LinkFault<A>
+    ensures { result ≡ fault_at input place kind }
+{
+    let fault = match kind {
+        FaultKind::Device => return LinkFault::Device { input, place },
+        FaultKind::ZeroLength => InputFault::ZeroLength,
+        FaultKind::Truncated => InputFault::Truncated,
+        FaultKind::Closing => InputFault::Closing,
+        FaultKind::Type => InputFault::Type,
+        FaultKind::Body { at } => InputFault::Body { at },
+        FaultKind::Check(fault) => check_fault(fault),
+        FaultKind::NoEnd => InputFault::NoEnd,
+        FaultKind::InputTooLong => InputFault::InputTooLong,
+    };
+    LinkFault::Record {
+        input,
+        place,
+        fault,
+    }
+}
+
+/// A fault of reading the input with this index as a module.
+pub fn module_fault<A: Allocator + Copy>(input: usize, fault: ModuleFault) -> LinkFault<A>
+    ensures { result ≡ module_fault input fault }
+{
+    match fault {
+        ModuleFault::Memory => LinkFault::Memory,
+        ModuleFault::Record { place, kind } => fault_at(input, place, kind),
+    }
+}
+
+/// A fault of placing the modules.
+pub(crate) fn place_fault<A: Allocator + Copy>(fault: PlaceFault<A>) -> LinkFault<A>
+    ensures { result ≡ place_fault fault }
+{
+    let fault = match fault {
+        PlaceFault::Memory => return LinkFault::Memory,
+        PlaceFault::SegmentTooLong { name } => ProgramFault::SegmentTooLong { name },
+        PlaceFault::ProgramTooLarge => ProgramFault::ProgramTooLarge,
+        PlaceFault::GroupTooLong { name } => ProgramFault::GroupTooLong { name },
+        PlaceFault::DuplicatePublic { name } => ProgramFault::DuplicatePublic { name },
+    };
+    LinkFault::Program(fault)
+}
+
+/// A fault of data, of a fix-up or of the start.
+fn fix_kind_fault(kind: FixKind) -> InputFault
+    ensures { result ≡ fix_kind_fault kind }
+{
+    match kind {
+        FixKind::CoversRelocated => InputFault::CoversRelocated,
+        FixKind::Unresolved => InputFault::Unresolved,
+        FixKind::EmptyGroup => InputFault::EmptyGroup,
+        FixKind::Mixed => InputFault::Mixed,
+        FixKind::OutOfFrame => InputFault::OutOfFrame,
+        FixKind::ShortTooFar => InputFault::ShortTooFar,
+        FixKind::OverlapRelocated => InputFault::OverlapRelocated,
+        FixKind::TwoStarts => InputFault::TwoStarts,
+    }
+}
+
+/// A fault of building the program.
+pub(crate) fn fix_fault<A: Allocator + Copy>(fault: FixFault) -> LinkFault<A>
+    ensures { result ≡ fix_fault fault }
+{
+    match fault {
+        FixFault::At { kind, input, place } => LinkFault::Record {
+            input,
+            place,
+            fault: fix_kind_fault(kind),
+        },
+        FixFault::TooManyRelocations => LinkFault::Program(ProgramFault::TooManyRelocations),
+        FixFault::Memory => LinkFault::Memory,
+    }
+}
+
+/// A fault of reading a program's file, which is the only input.
+pub(crate) fn mz_fault<A: Allocator + Copy>(fault: MzFault) -> LinkFault<A>
+    ensures { result ≡ mz_fault fault }
+{
+    match fault {
+        MzFault::Magic => LinkFault::File(FileFault::Magic),
+        MzFault::Header => LinkFault::File(FileFault::Header),
+        MzFault::Truncated => LinkFault::File(FileFault::Truncated),
+        MzFault::RelocationOutside => LinkFault::File(FileFault::RelocationOutside),
+        MzFault::Device => LinkFault::File(FileFault::Device),
+        MzFault::Memory => LinkFault::Memory,
+    }
+}
+
+/// A fault of loading a program's file, which is the only input.
+pub(crate) fn load_fault<A: Allocator + Copy>(fault: LoadFault) -> LinkFault<A>
+    ensures { result ≡ load_fault fault }
+{
+    match fault {
+        LoadFault::DoesNotFit => LinkFault::File(FileFault::DoesNotFit),
+        LoadFault::Memory => LinkFault::Memory,
+    }
+}
