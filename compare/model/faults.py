@@ -1,0 +1,62 @@
+"""The faults, and the lines that tell them."""
+
+NAMES = {
+    1: "Device", 2: "ZeroLength", 3: "Truncated", 4: "Closing", 5: "Type", 6: "Body",
+    7: "NotHeader", 8: "NoEnd",
+    10: "NameIndex", 11: "SegmentIndex", 12: "GroupIndex", 13: "ExternalIndex",
+    14: "ThreadNotSet", 15: "FixupBeforeData", 16: "FixupPlace", 17: "DataOutside",
+    18: "DataInAbsolute", 19: "SelfRelativeBase", 20: "FrameOfLocation", 21: "GroupOfAbsolute",
+    22: "SegmentTooLong", 23: "ProgramTooLarge", 24: "GroupTooLong", 25: "DuplicatePublic",
+    26: "CoversRelocated", 27: "Unresolved", 28: "EmptyGroup", 29: "Mixed", 30: "OutOfFrame",
+    31: "ShortTooFar", 32: "OverlapRelocated", 33: "TwoStarts", 34: "TooManyRelocations",
+    35: "Magic", 36: "Header", 37: "Truncated", 38: "RelocationOutside", 39: "DoesNotFit",
+    40: "Device", 41: "InputTooLong",
+}
+# the faults of devices, which have a status of their own
+DEVICE_FAULTS = (1, 40)
+
+PRINTABLE = frozenset(range(0x20, 0x7F)) - frozenset(b'"\\')
+
+
+def printed_name(name):
+    """A name between quotes, with `\\x` and two digits for a byte that isn't printed as it is."""
+    return '"' + "".join(chr(b) if b in PRINTABLE else f"\\x{b:02X}" for b in name) + '"'
+
+
+class Fault(Exception):
+    """A fault: its number and, where it has them, what it is at.
+
+    `owner` is an input's number, `place` that of a record, `byte` where in the body fault 6 stands,
+    and `name` that of a segment, a group or a public.
+    """
+
+    def __init__(self, number, owner=None, place=None, byte=None, name=None):
+        super().__init__(number, owner, place, byte, name)
+        self.number = number
+        self.owner = owner
+        self.place = place
+        self.byte = byte
+        self.name = name
+
+    @property
+    def status(self):
+        """The exit status that it makes."""
+        return 3 if self.number in DEVICE_FAULTS else 1
+
+    def line(self, files):
+        """The line on standard error; `files` are the names of the inputs."""
+        whose = "link" if self.owner is None else files[self.owner]
+        line = f"omf: {whose}: {self.number} {NAMES[self.number]}"
+        if self.place is not None:
+            line += f" at record {self.place}"
+        if self.byte is not None:
+            line += f" byte {self.byte}"
+        if self.name is not None:
+            line += f" {printed_name(self.name)}"
+        return line + "\n"
+
+
+def refuse_smallest(numbers, owner, place):
+    """Raises the smallest of the faults of one item of a record, where it has any."""
+    if numbers:
+        raise Fault(min(numbers), owner, place)
