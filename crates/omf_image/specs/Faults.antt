@@ -31,6 +31,7 @@ abbrev pub target_moves : Position → Bool
 target_moves (Relocatable address frame) = true
 target_moves (Absolute address frame) = false
 
+-- a relocatable frame moves with the program
 abbrev pub frame_moves : Frame → Bool
 frame_moves (Moving frame) = true
 frame_moves (Fixed frame) = false

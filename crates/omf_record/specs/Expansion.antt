@@ -9,6 +9,7 @@ abbrev pub stored_from : ℕ → List ℕ → List (ℕ × ℕ)
 stored_from place [] = []
 stored_from place (b ∷ bytes) = (place, b) ∷ stored_from (place + 1) bytes
 
+-- a list so many times, one copy behind the other
 abbrev pub copies : {A : Type 0} → ℕ → List A → List A
 copies zero xs = []
 copies (suc n) xs = xs ++ copies n xs
@@ -19,6 +20,7 @@ abbrev mutual
   stored_len (Content repeat bytes) = 5 + length bytes
   stored_len (Nested repeat blocks) = 4 + all_stored_len blocks
 
+  -- the bytes that blocks take in their body
   pub all_stored_len : Blocks → ℕ
   all_stored_len End = 0
   all_stored_len (More b bs) = stored_len b + all_stored_len bs
@@ -29,6 +31,7 @@ abbrev mutual
   expansion_at place (Content repeat bytes) = copies repeat (stored_from (place + 5) bytes)
   expansion_at place (Nested repeat blocks) = copies repeat (expansions_at (place + 4) blocks)
 
+  -- the expansions of blocks, the first of which is stored at a place
   pub expansions_at : ℕ → Blocks → List (ℕ × ℕ)
   expansions_at place End = []
   expansions_at place (More b bs) = expansion_at place b ++ expansions_at (place + stored_len b) bs
@@ -38,10 +41,11 @@ abbrev mutual
 unfoldable pub expansion : List Block → List (ℕ × ℕ)
 expansion blocks = expansions_at 0 (blocks_of blocks)
 
--- the stored places, and the bytes, of an expansion
+-- the stored places of an expansion
 abbrev pub places : List (ℕ × ℕ) → List ℕ
 places pairs = map (λ p. p.0) pairs
 
+-- the bytes of an expansion
 abbrev pub bytes : List (ℕ × ℕ) → List ℕ
 bytes pairs = map (λ p. p.1) pairs
 
@@ -74,10 +78,12 @@ capped n = min n 65537
 
 -- a content: the place of its first byte, and its length
 abbrev mutual
+  -- the contents of a block that is stored at a place
   pub contents_at : ℕ → Block → List (ℕ × ℕ)
   contents_at place (Content repeat bytes) = (place + 5, length bytes) ∷ []
   contents_at place (Nested repeat blocks) = all_contents_at (place + 4) blocks
 
+  -- the contents of blocks, the first of which is stored at a place
   pub all_contents_at : ℕ → Blocks → List (ℕ × ℕ)
   all_contents_at place End = []
   all_contents_at place (More b bs) = contents_at place b ++ all_contents_at (place + stored_len b) bs
