@@ -7,12 +7,12 @@ use Rattle.std.proofs.lemmas.Simd.{map-map}
 use Rattle.std.specs.List.{enumerate_from, cons_option}
 use Rattle.omf_record.specs.Record.{Record, Modend, Ledata, Lidata}
 use Rattle.omf_record.specs.Records.{Placed}
-use Rattle.omf_record.specs.declared.fields.Fixup.{Fixup}
-use Rattle.omf_record.specs.declared.fields.FrameMethod.{FrameMethod}
-use Rattle.omf_record.specs.declared.fields.TargetMethod.{TargetMethod}
-use Rattle.omf_record.specs.declared.fields.Reference.{Reference}
-use Rattle.omf_record.specs.declared.fields.Subrecord.{Subrecord}
-use Rattle.omf_record.specs.declared.fields.Subrecord.TheVariants as sub
+use Rattle.omf_record.specs.declared.fixups.Fixup.{Fixup}
+use Rattle.omf_record.specs.declared.fixups.FrameMethod.{FrameMethod}
+use Rattle.omf_record.specs.declared.fixups.TargetMethod.{TargetMethod}
+use Rattle.omf_record.specs.declared.fixups.Reference.{Reference}
+use Rattle.omf_record.specs.declared.fixups.Subrecord.{Subrecord}
+use Rattle.omf_record.specs.declared.fixups.Subrecord.TheVariants as sub
 use Rattle.omf_module.specs.declared.ResolvedFixup.{ResolvedFixup}
 use Rattle.omf_module.specs.declared.Start.{Start}
 use Rattle.omf_module.specs.Module.{DataRecord, Module}

@@ -20,8 +20,8 @@ use Rattle.omf_record.specs.Record as says
 use Rattle.omf_record.specs.Body.{kind_of, Body, BodyOf}
 use Rattle.omf_record.specs.Canonical.{canonical}
 use Rattle.omf_record.specs.Records.{Placed, AreRecords, AreBeforeEnd, AreToEnd, Framing, OtherType, WrongBody, NoRecordAt}
-use Rattle.omf_record.proofs.BodyBytes.{body_bytes}
-use Rattle.omf_record.proofs.CanonicalLaws.{canonical_shortest}
+use Rattle.omf_record.proofs.RecordLaws.{body_bytes}
+use Rattle.omf_record.proofs.RecordLaws.{canonical_shortest}
 use Rattle.omf_record.proofs.Records.{AreRecords-push, framed_len, placed, only_way, no_fault}
 use Rattle.omf_text.specs.declared.fault.InputFault.{InputFault}
 use Rattle.omf_text.specs.declared.fault.LinkFault.{LinkFault}

@@ -5,8 +5,8 @@ use Rattle.std.proofs.lemmas.List.Folds.{list_all-append}
 use Rattle.std.specs.List.{list_all, range_with_len}
 use Rattle.omf_module.specs.declared.ResolvedFixup.{ResolvedFixup}
 use Rattle.omf_module.specs.Module.{DataRecord}
-use Rattle.omf_record.specs.declared.fields.Location.{Location}
-use Rattle.omf_record.specs.declared.fields.Location.TheVariants.{LowByte, Offset, Base, Pointer, LoaderOffset}
+use Rattle.omf_record.specs.declared.fixups.Location.{Location}
+use Rattle.omf_record.specs.declared.fixups.Location.TheVariants.{LowByte, Offset, Base, Pointer, LoaderOffset}
 use Rattle.omf_image.specs.declared.patch.Patch.{Patch}
 use Rattle.omf_image.specs.declared.patch.Patch.TheVariants.{Word}
 use Rattle.omf_image.specs.Patch.{patch_start, patch_end, is_relocated, clear, all_clear}

@@ -5,8 +5,8 @@ use Rattle.std.proofs.lemmas.List.{append-nil}
 use Rattle.std.proofs.lemmas.List.Folds.{list_any-append}
 use Rattle.std.proofs.lemmas.Bool.{or_cases, and_parts, leb-true, ltb-true, eqb-true}
 use Rattle.std.proofs.lemmas.Bool.Decides.{nat_tests}
-use Rattle.omf_record.specs.declared.fields.Location.{Location}
-use Rattle.omf_record.specs.declared.fields.Location.TheVariants.{LowByte, Offset, Base, Pointer, LoaderOffset}
+use Rattle.omf_record.specs.declared.fixups.Location.{Location}
+use Rattle.omf_record.specs.declared.fixups.Location.TheVariants.{LowByte, Offset, Base, Pointer, LoaderOffset}
 use Rattle.omf_record.specs.Expansion.{StandTogether, StandWhole}
 use Rattle.omf_record.specs.Numbers.{location_width}
 use Rattle.omf_module.specs.declared.ResolvedFixup.{ResolvedFixup}

@@ -1,8 +1,8 @@
 -- Where frame and target move alike, what a fix-up adds at paragraph P is what it adds at 0, with P added to relocatable frames.
 use Rattle.std.proofs.Common.{◌≡◌, ℕ, ◌+◌, ◌*◌, ◌%◌, pos, ◌-ℤ◌, Bool, true, false, [], ◌∷◌, map, refl, ap, ◌∙◌, arith}
 use Rattle.std.proofs.lemmas.Int.{ints}
-use Rattle.omf_record.specs.declared.fields.Location.{Location}
-use Rattle.omf_record.specs.declared.fields.Location.TheVariants.{LowByte, Offset, Base, Pointer, LoaderOffset}
+use Rattle.omf_record.specs.declared.fixups.Location.{Location}
+use Rattle.omf_record.specs.declared.fixups.Location.TheVariants.{LowByte, Offset, Base, Pointer, LoaderOffset}
 use Rattle.omf_image.specs.declared.reference.Position.{Position}
 use Rattle.omf_image.specs.declared.reference.Position.TheVariants.{Relocatable, Absolute}
 use Rattle.omf_image.specs.declared.patch.Patch.TheVariants.{Byte, Word, Relocated}

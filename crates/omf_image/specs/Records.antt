@@ -3,7 +3,7 @@ use Rattle.std.specs.Prelude.{◌≡◌, ℕ, Bool, ◌+◌, ◌<◌, ◌==◌, 
 use Rattle.std.specs.Prelude.{map, filter, flat_map, length, get_or}
 use Rattle.std.specs.List.{range_with_len, list_any}
 use Rattle.omf_record.specs.Expansion.{bytes, places}
-use Rattle.omf_record.specs.declared.fields.Location.{Location}
+use Rattle.omf_record.specs.declared.fixups.Location.{Location}
 use Rattle.omf_module.specs.declared.ResolvedFixup.{ResolvedFixup}
 use Rattle.omf_module.specs.Module.{DataRecord, Module}
 use Rattle.omf_place.specs.Layout.{Layout}

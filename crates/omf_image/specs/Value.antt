@@ -1,8 +1,8 @@
 -- What a fix-up adds at a place, loaded at paragraph P, with the real addresses there (TIS OMF 1.1, FIXUPP).
 use Rattle.std.specs.Prelude.{ℕ, ◌+◌, ◌*◌, ◌%◌, ℤ, pos, ◌-ℤ◌, unsigned_abs, Bool, true, false, List, [], ◌∷◌}
 use Rattle.std.specs.Int.{int_rem_euclid}
-use Rattle.omf_record.specs.declared.fields.Location.{Location}
-use Rattle.omf_record.specs.declared.fields.Location.TheVariants.{LowByte, Offset, Base, Pointer, LoaderOffset}
+use Rattle.omf_record.specs.declared.fixups.Location.{Location}
+use Rattle.omf_record.specs.declared.fixups.Location.TheVariants.{LowByte, Offset, Base, Pointer, LoaderOffset}
 use Rattle.omf_image.specs.declared.reference.Position.{Position}
 use Rattle.omf_image.specs.declared.reference.Position.TheVariants.{Relocatable, Absolute}
 use Rattle.omf_image.specs.declared.patch.Patch.{Patch}

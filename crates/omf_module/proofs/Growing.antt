@@ -4,23 +4,23 @@ use Rattle.std.proofs.lemmas.List.{append-nil}
 use Rattle.std.specs.Option.{option_to_list, option_map}
 use Rattle.std.specs.List.{filter_map, enumerate_from}
 use Rattle.omf_record.specs.Record.{Record, Theadr, Coment, Modend, Extdef, Pubdef, Linnum, Lnames, Segdef, Grpdef, Ledata, Lidata, External as ExternalName, Public, Block}
-use Rattle.omf_record.specs.declared.fields.PublicBase.{PublicBase}
-use Rattle.omf_record.specs.declared.fields.SegmentDefinition.{SegmentDefinition}
-use Rattle.omf_record.specs.declared.fields.Reference.{Reference}
-use Rattle.omf_record.specs.declared.fields.Line.{Line}
+use Rattle.omf_record.specs.declared.externals.PublicBase.{PublicBase}
+use Rattle.omf_record.specs.declared.segments.SegmentDefinition.{SegmentDefinition}
+use Rattle.omf_record.specs.declared.fixups.Reference.{Reference}
+use Rattle.omf_record.specs.declared.externals.Line.{Line}
 use Rattle.omf_record.specs.Records.{Placed}
 use Rattle.omf_module.specs.Before.{first, last}
 use Rattle.omf_module.specs.Tables.{names, segments, groups, externals, publics, stretches, subrecords, fixups, start, Stretch, frame_thread, target_thread, names_in, segments_in, groups_in, externals_in, publics_in, subrecords_in, stretches_in, frame_set, target_set, data_record, fixups_in, start_in, frame_used, target_used}
 use Rattle.omf_module.specs.Faults.{begun, items}
 use Rattle.omf_module.specs.inside.Running.{State, state_of, checked, step_record, thread_numbers, slot, later}
 use Rattle.omf_module.proofs.FixupsOn.{new_data}
-use Rattle.omf_record.specs.declared.fields.ThreadNumber.TheVariants.{Zero, One, Two, Three}
-use Rattle.omf_record.specs.declared.fields.FrameMethod.{FrameMethod}
-use Rattle.omf_record.specs.declared.fields.TargetMethod.{TargetMethod}
-use Rattle.omf_record.specs.declared.fields.FrameDatum.{FrameDatum}
-use Rattle.omf_record.specs.declared.fields.FrameDatum.TheVariants as frame_datum
-use Rattle.omf_record.specs.declared.fields.TargetDatum.{TargetDatum}
-use Rattle.omf_record.specs.declared.fields.TargetDatum.TheVariants as target_datum
+use Rattle.omf_record.specs.declared.fixups.ThreadNumber.TheVariants.{Zero, One, Two, Three}
+use Rattle.omf_record.specs.declared.fixups.FrameMethod.{FrameMethod}
+use Rattle.omf_record.specs.declared.fixups.TargetMethod.{TargetMethod}
+use Rattle.omf_record.specs.declared.fixups.FrameDatum.{FrameDatum}
+use Rattle.omf_record.specs.declared.fixups.FrameDatum.TheVariants as frame_datum
+use Rattle.omf_record.specs.declared.fixups.TargetDatum.{TargetDatum}
+use Rattle.omf_record.specs.declared.fixups.TargetDatum.TheVariants as target_datum
 use Rattle.std.proofs.lemmas.List.Elements.{filter_map-append}
 use Rattle.omf_module.proofs.Lists.{flat_map_push, along_push, last_append}
 

@@ -10,22 +10,22 @@ use Rattle.omf_record.specs.Language.{each}
 use Rattle.omf_record.specs.Body.{Body, PublicText, BaseText, LengthText, AbsoluteText}
 use Rattle.omf_record.specs.Numbers.{location_width, segment_len}
 use Rattle.omf_record.specs.Expansion.{stored_from, expansion, contents, AreCopies}
-use Rattle.omf_record.specs.declared.fields.SegmentDefinition.{SegmentDefinition}
-use Rattle.omf_record.specs.declared.fields.SegmentLength.{SegmentLength}
-use Rattle.omf_record.specs.declared.fields.SegmentLength.TheVariants as lengths
-use Rattle.omf_record.specs.declared.fields.Alignment.{Alignment}
-use Rattle.omf_record.specs.declared.fields.Alignment.TheVariants as align
-use Rattle.omf_record.specs.declared.fields.Combination.{Combination}
-use Rattle.omf_record.specs.declared.fields.PublicBase.{PublicBase}
-use Rattle.omf_record.specs.declared.fields.PublicBase.TheVariants as public_base
-use Rattle.omf_record.specs.declared.fields.FrameMethod.{FrameMethod}
-use Rattle.omf_record.specs.declared.fields.FrameMethod.TheVariants as by
-use Rattle.omf_record.specs.declared.fields.TargetMethod.{TargetMethod}
-use Rattle.omf_record.specs.declared.fields.TargetMethod.TheVariants as to
-use Rattle.omf_record.specs.declared.fields.Fixup.{Fixup}
-use Rattle.omf_record.specs.declared.fields.Subrecord.{Subrecord}
-use Rattle.omf_record.specs.declared.fields.Subrecord.TheVariants as sub
-use Rattle.omf_record.specs.declared.fields.Reference.{Reference}
+use Rattle.omf_record.specs.declared.segments.SegmentDefinition.{SegmentDefinition}
+use Rattle.omf_record.specs.declared.segments.SegmentLength.{SegmentLength}
+use Rattle.omf_record.specs.declared.segments.SegmentLength.TheVariants as lengths
+use Rattle.omf_record.specs.declared.segments.Alignment.{Alignment}
+use Rattle.omf_record.specs.declared.segments.Alignment.TheVariants as align
+use Rattle.omf_record.specs.declared.segments.Combination.{Combination}
+use Rattle.omf_record.specs.declared.externals.PublicBase.{PublicBase}
+use Rattle.omf_record.specs.declared.externals.PublicBase.TheVariants as public_base
+use Rattle.omf_record.specs.declared.fixups.FrameMethod.{FrameMethod}
+use Rattle.omf_record.specs.declared.fixups.FrameMethod.TheVariants as by
+use Rattle.omf_record.specs.declared.fixups.TargetMethod.{TargetMethod}
+use Rattle.omf_record.specs.declared.fixups.TargetMethod.TheVariants as to
+use Rattle.omf_record.specs.declared.fixups.Fixup.{Fixup}
+use Rattle.omf_record.specs.declared.fixups.Subrecord.{Subrecord}
+use Rattle.omf_record.specs.declared.fixups.Subrecord.TheVariants as sub
+use Rattle.omf_record.specs.declared.fixups.Reference.{Reference}
 use Rattle.omf_module.specs.declared.fault.CheckFault.{CheckFault}
 use Rattle.omf_module.specs.declared.fault.CheckFault.TheVariants.{NameIndex, SegmentIndex, GroupIndex, ExternalIndex, FixupPlace, DataOutside, DataInAbsolute, SelfRelativeBase, GroupOfAbsolute}
 use Rattle.omf_module.specs.declared.SymbolBase.{SymbolBase}

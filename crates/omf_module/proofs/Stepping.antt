@@ -1,7 +1,7 @@
 -- Subrecords one after the other, as a loop takes them.
 use Rattle.std.proofs.Common.{◌≡◌, ℕ, ◌+◌, ◌<◌, ◌≤◌, List, length, get_or, drop, Result, Ok, sym, ap, ◌∙◌}
 use Rattle.std.proofs.lemmas.List.{drop_more, drop_all}
-use Rattle.omf_record.specs.declared.fields.Subrecord.{Subrecord}
+use Rattle.omf_record.specs.declared.fixups.Subrecord.{Subrecord}
 use Rattle.omf_module.specs.declared.fault.CheckFault.{CheckFault}
 use Rattle.omf_module.specs.declared.builder.AddFault.{AddFault}
 use Rattle.omf_module.specs.declared.builder.AddFault.TheVariants as adds

@@ -4,12 +4,12 @@ use Rattle.std.proofs.lemmas.List.{append-nil, map-append}
 use Rattle.std.specs.Option.{option_to_list}
 use Rattle.std.specs.List.{enumerate_from}
 use Rattle.omf_record.specs.Record.{Fixupp}
-use Rattle.omf_record.specs.declared.fields.ThreadNumber.{ThreadNumber}
-use Rattle.omf_record.specs.declared.fields.ThreadNumber.TheVariants.{Zero, One, Two, Three}
-use Rattle.omf_record.specs.declared.fields.FrameMethod.{FrameMethod}
-use Rattle.omf_record.specs.declared.fields.TargetMethod.{TargetMethod}
-use Rattle.omf_record.specs.declared.fields.Subrecord.{Subrecord}
-use Rattle.omf_record.specs.declared.fields.Subrecord.TheVariants as sub
+use Rattle.omf_record.specs.declared.fixups.ThreadNumber.{ThreadNumber}
+use Rattle.omf_record.specs.declared.fixups.ThreadNumber.TheVariants.{Zero, One, Two, Three}
+use Rattle.omf_record.specs.declared.fixups.FrameMethod.{FrameMethod}
+use Rattle.omf_record.specs.declared.fixups.TargetMethod.{TargetMethod}
+use Rattle.omf_record.specs.declared.fixups.Subrecord.{Subrecord}
+use Rattle.omf_record.specs.declared.fixups.Subrecord.TheVariants as sub
 use Rattle.omf_module.specs.declared.fault.CheckFault.{CheckFault}
 use Rattle.omf_module.specs.declared.ResolvedFixup.{ResolvedFixup}
 use Rattle.omf_module.specs.Before.{along, along_from, first}

@@ -7,18 +7,18 @@ use Rattle.omf_record.specs.Record.{Fixupp, Ledata, Lidata}
 use Rattle.omf_record.specs.Expansion.{expansion}
 use Rattle.omf_record.specs.Numbers.{location_width}
 use Rattle.omf_record.specs.Records.{Placed}
-use Rattle.omf_record.specs.declared.fields.FrameMethod.{FrameMethod}
-use Rattle.omf_record.specs.declared.fields.FrameMethod.TheVariants as by
-use Rattle.omf_record.specs.declared.fields.TargetMethod.{TargetMethod}
-use Rattle.omf_record.specs.declared.fields.TargetMethod.TheVariants as to
-use Rattle.omf_record.specs.declared.fields.SegmentDefinition.{SegmentDefinition}
-use Rattle.omf_record.specs.declared.fields.PublicBase.{PublicBase}
-use Rattle.omf_record.specs.declared.fields.PublicBase.TheVariants.{AtFrame, InSegment}
-use Rattle.omf_record.specs.declared.fields.Location.{Location}
-use Rattle.omf_record.specs.declared.fields.Location.TheVariants.{LowByte, Offset, Base, Pointer, LoaderOffset}
-use Rattle.omf_record.specs.declared.fields.Fixup.{Fixup}
-use Rattle.omf_record.specs.declared.fields.Subrecord.{Subrecord}
-use Rattle.omf_record.specs.declared.fields.Subrecord.TheVariants as sub
+use Rattle.omf_record.specs.declared.fixups.FrameMethod.{FrameMethod}
+use Rattle.omf_record.specs.declared.fixups.FrameMethod.TheVariants as by
+use Rattle.omf_record.specs.declared.fixups.TargetMethod.{TargetMethod}
+use Rattle.omf_record.specs.declared.fixups.TargetMethod.TheVariants as to
+use Rattle.omf_record.specs.declared.segments.SegmentDefinition.{SegmentDefinition}
+use Rattle.omf_record.specs.declared.externals.PublicBase.{PublicBase}
+use Rattle.omf_record.specs.declared.externals.PublicBase.TheVariants.{AtFrame, InSegment}
+use Rattle.omf_record.specs.declared.fixups.Location.{Location}
+use Rattle.omf_record.specs.declared.fixups.Location.TheVariants.{LowByte, Offset, Base, Pointer, LoaderOffset}
+use Rattle.omf_record.specs.declared.fixups.Fixup.{Fixup}
+use Rattle.omf_record.specs.declared.fixups.Subrecord.{Subrecord}
+use Rattle.omf_record.specs.declared.fixups.Subrecord.TheVariants as sub
 use Rattle.omf_module.specs.declared.fault.CheckFault.{CheckFault}
 use Rattle.omf_module.specs.declared.fault.CheckFault.TheVariants.{NotHeader, NameIndex, SegmentIndex, GroupIndex}
 use Rattle.omf_module.specs.declared.fault.CheckFault.TheVariants.{ExternalIndex, ThreadNotSet, FixupBeforeData}

@@ -8,25 +8,25 @@ use Rattle.omf_record.specs.Record.{Grpdef, Fixupp, Ledata, Lidata}
 use Rattle.omf_record.specs.Expansion.{stored_from, expansion, contents}
 use Rattle.omf_record.specs.Numbers.{thread_number, segment_len}
 use Rattle.omf_record.specs.Records.{Placed}
-use Rattle.omf_record.specs.declared.fields.SegmentDefinition.{SegmentDefinition}
-use Rattle.omf_record.specs.declared.fields.PublicBase.{PublicBase}
-use Rattle.omf_record.specs.declared.fields.PublicBase.TheVariants as public_base
-use Rattle.omf_record.specs.declared.fields.Alignment.{Alignment}
-use Rattle.omf_record.specs.declared.fields.Alignment.TheVariants as align
-use Rattle.omf_record.specs.declared.fields.Combination.{Combination}
-use Rattle.omf_record.specs.declared.fields.Combination.TheVariants as combine
-use Rattle.omf_record.specs.declared.fields.FrameMethod.{FrameMethod}
-use Rattle.omf_record.specs.declared.fields.FrameMethod.TheVariants as by
-use Rattle.omf_record.specs.declared.fields.TargetMethod.{TargetMethod}
-use Rattle.omf_record.specs.declared.fields.TargetMethod.TheVariants as to
-use Rattle.omf_record.specs.declared.fields.FrameDatum.{FrameDatum}
-use Rattle.omf_record.specs.declared.fields.FrameDatum.TheVariants as frame_datum
-use Rattle.omf_record.specs.declared.fields.TargetDatum.{TargetDatum}
-use Rattle.omf_record.specs.declared.fields.TargetDatum.TheVariants as target_datum
-use Rattle.omf_record.specs.declared.fields.Reference.{Reference}
-use Rattle.omf_record.specs.declared.fields.Fixup.{Fixup}
-use Rattle.omf_record.specs.declared.fields.Subrecord.{Subrecord}
-use Rattle.omf_record.specs.declared.fields.Subrecord.TheVariants as sub
+use Rattle.omf_record.specs.declared.segments.SegmentDefinition.{SegmentDefinition}
+use Rattle.omf_record.specs.declared.externals.PublicBase.{PublicBase}
+use Rattle.omf_record.specs.declared.externals.PublicBase.TheVariants as public_base
+use Rattle.omf_record.specs.declared.segments.Alignment.{Alignment}
+use Rattle.omf_record.specs.declared.segments.Alignment.TheVariants as align
+use Rattle.omf_record.specs.declared.segments.Combination.{Combination}
+use Rattle.omf_record.specs.declared.segments.Combination.TheVariants as combine
+use Rattle.omf_record.specs.declared.fixups.FrameMethod.{FrameMethod}
+use Rattle.omf_record.specs.declared.fixups.FrameMethod.TheVariants as by
+use Rattle.omf_record.specs.declared.fixups.TargetMethod.{TargetMethod}
+use Rattle.omf_record.specs.declared.fixups.TargetMethod.TheVariants as to
+use Rattle.omf_record.specs.declared.fixups.FrameDatum.{FrameDatum}
+use Rattle.omf_record.specs.declared.fixups.FrameDatum.TheVariants as frame_datum
+use Rattle.omf_record.specs.declared.fixups.TargetDatum.{TargetDatum}
+use Rattle.omf_record.specs.declared.fixups.TargetDatum.TheVariants as target_datum
+use Rattle.omf_record.specs.declared.fixups.Reference.{Reference}
+use Rattle.omf_record.specs.declared.fixups.Fixup.{Fixup}
+use Rattle.omf_record.specs.declared.fixups.Subrecord.{Subrecord}
+use Rattle.omf_record.specs.declared.fixups.Subrecord.TheVariants as sub
 use Rattle.omf_module.specs.declared.Kind.{Kind}
 use Rattle.omf_module.specs.declared.Kind.TheVariants as kinds
 use Rattle.omf_module.specs.declared.Standing.{Standing}

@@ -23,7 +23,7 @@ ghost use Rattle.std.specs.Option.{option_to_list};
 ghost use Rattle.omf_record.specs.Record as says;
 ghost use Rattle.omf_record.specs.View.{external_view, public_view, block_view, view};
 ghost use Rattle.omf_record.specs.Expansion.{expansion, blocks_len, data_len};
-ghost use Rattle.omf_record.specs.declared.fields.Subrecord.TheVariants as sub;
+ghost use Rattle.omf_record.specs.declared.fixups.Subrecord.TheVariants as sub;
 ghost use Rattle.omf_module.specs.Before.{first, entry};
 ghost use Rattle.omf_module.specs.Tables as tables;
 ghost use Rattle.omf_module.specs.Faults as faults;

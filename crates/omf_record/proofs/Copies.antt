@@ -1,46 +1,14 @@
 -- Each byte of an expansion is the byte that stands at its place, so that bytes of one place are one byte.
-use Rattle.std.proofs.Common.{◌≡◌, ℕ, zero, suc, ◌+◌, ◌<◌, List, [], ◌∷◌, ◌++◌, length, get_or, sym, ap, subst, ◌∙◌, arith}
+use Rattle.std.proofs.Common.{◌≡◌, ℕ, zero, suc, ◌+◌, ◌<◌, List, [], ◌∷◌, length, get_or, sym, ap, ◌∙◌, arith}
 use Rattle.std.specs.List.{AllByRecursion}
-use Rattle.omf_record.specs.Record.{Block, Content, Nested, Blocks, End, More, blocks_of}
+use Rattle.omf_record.specs.Record.{Block, blocks_of}
 use Rattle.omf_record.specs.Canonical as canon
-use Rattle.omf_record.specs.Expansion.{stored_from, stored_len, expansion_at, expansions_at, expansion, places, bytes, AreCopies}
-use Rattle.omf_record.proofs.Stored.{length-block}
-use Rattle.omf_record.proofs.Places.{all-append, all_copies}
+use Rattle.omf_record.specs.Expansion.{stored_from, expansions_at, expansion, places, bytes, AreCopies}
+use Rattle.omf_record.proofs.Places.{all_of_blocks}
 
 -- each byte stands at its place of the text
 abbrev Stand : List ℕ → List (ℕ × ℕ) → Type 0
 Stand text = AllByRecursion (λ (q : ℕ × ℕ). get_or text q.0 0 ≡ q.1)
-
-stand-joined : (text : List ℕ) (xs ys : List (ℕ × ℕ)) → Stand text xs → Stand text ys → Stand text (xs ++ ys)
-stand-joined text xs ys f g = all-append _ xs ys f g
-
--- the bytes behind the first ones, which end at a place
-stand-rest : (text : List ℕ) (place after : ℕ) (front rest : List ℕ) → place + length front ≡ after → Stand text (stored_from place (front ++ rest)) → Stand text (stored_from after rest)
-stand-rest text place after [] rest is f = subst (λ p. Stand text (stored_from p rest)) is' f
-  where
-    is' : place ≡ after
-    is' = omega arith
-stand-rest text place after (b ∷ front) rest is f = stand-rest text (place + 1) after front rest (omega arith) f.1
-
-stand-front : (text : List ℕ) (place : ℕ) (front rest : List ℕ) → Stand text (stored_from place (front ++ rest)) → Stand text (stored_from place front)
-stand-front text place [] rest f = tt
-stand-front text place (b ∷ front) rest f = (f.0, stand-front text (place + 1) front rest f.1)
-
-module _ (text : List ℕ) where
-  mutual
-    stand-block : (place : ℕ) (b : Block) → Stand text (stored_from place (canon.block b)) → Stand text (expansion_at place b)
-    stand-block place (Content repeat bytes) f = all_copies (Stand text) tt (stand-joined text) repeat (stored_from (place + 5) bytes)
-        (stand-rest text (place + 1 + 1 + 1 + 1 + 1) (place + 5) [] bytes (omega arith) f.1.1.1.1.1)
-    stand-block place (Nested repeat blocks) f = all_copies (Stand text) tt (stand-joined text) repeat (expansions_at (place + 4) blocks)
-        (stand-blocks (place + 4) blocks (stand-rest text (place + 1 + 1 + 1 + 1) (place + 4) [] (canon.blocks_text blocks) (omega arith) f.1.1.1.1))
-
-    stand-blocks : (place : ℕ) (bs : Blocks) → Stand text (stored_from place (canon.blocks_text bs)) → Stand text (expansions_at place bs)
-    stand-blocks place End f = tt
-    stand-blocks place (More b bs) f =
-        let after = place + stored_len b in
-        stand-joined text (expansion_at place b) (expansions_at after bs)
-        (stand-block place b (stand-front text place (canon.block b) (canon.blocks_text bs) f))
-        (stand-blocks after bs (stand-rest text place after (canon.block b) (canon.blocks_text bs) (omega (arith, length-block b)) f))
 
 -- a text stands in itself
 stand-stored : (text : List ℕ) (place : ℕ) (bytes : List ℕ) → ((k : ℕ) → k < length bytes → get_or text (place + k) 0 ≡ get_or bytes k 0) → Stand text (stored_from place bytes)
@@ -71,4 +39,4 @@ pub are_copies : (bs : List Block) → AreCopies (expansion bs)
 unfolding expansion
 are_copies bs =
     let text = canon.blocks_text (blocks_of bs) in
-    copies_of text (expansions_at 0 (blocks_of bs)) (stand-blocks text 0 (blocks_of bs) (stand-all text))
+    copies_of text (expansions_at 0 (blocks_of bs)) (all_of_blocks _ 0 (blocks_of bs) (stand-all text))

@@ -10,41 +10,19 @@ use Rattle.omf_record.specs.Record as says
 use Rattle.omf_record.specs.Record.{Theadr, Coment, Modend, Extdef, Pubdef, Linnum, Lnames, Segdef, Grpdef, Fixupp, Ledata, Lidata}
 use Rattle.omf_record.specs.Body.{kind_of, Body, BodyFault, IsRecordType}
 use Rattle.omf_record.specs.Records.{Placed, frame_of_record, is_end, AreRecords, AreBeforeEnd, AreToEnd, NoRecord, Framing, NoEnd, OtherType, WrongBody, NoRecordAt}
-use Rattle.omf_record.proofs.Faults.{one_of}
+use Rattle.omf_record.proofs.RecordLaws.{one_of}
 
 -- ---- MODEND is the type 8AH
 
 pub end_kind : (r : says.Record) → is_end r ≡ true → kind_of r ≡ 0x8A
 end_kind (Modend main start) e = refl
-end_kind (Theadr s) e = absurd cc
-end_kind (Coment k c b) e = absurd cc
-end_kind (Extdef false ns) e = absurd cc
-end_kind (Extdef true ns) e = absurd cc
-end_kind (Pubdef false b ps) e = absurd cc
-end_kind (Pubdef true b ps) e = absurd cc
-end_kind (Linnum g s ls) e = absurd cc
-end_kind (Lnames ns) e = absurd cc
-end_kind (Segdef s) e = absurd cc
-end_kind (Grpdef n ss) e = absurd cc
-end_kind (Fixupp ss) e = absurd cc
-end_kind (Ledata s o b) e = absurd cc
-end_kind (Lidata s o b) e = absurd cc
+end_kind _ e = absurd cc
 
 pub kind_end : (r : says.Record) → kind_of r ≡ 0x8A → is_end r ≡ true
 kind_end (Modend main start) e = refl
-kind_end (Theadr s) e = absurd (omega (arith, e))
-kind_end (Coment k c b) e = absurd (omega (arith, e))
-kind_end (Extdef false ns) e = absurd (omega (arith, e))
-kind_end (Extdef true ns) e = absurd (omega (arith, e))
-kind_end (Pubdef false b ps) e = absurd (omega (arith, e))
-kind_end (Pubdef true b ps) e = absurd (omega (arith, e))
-kind_end (Linnum g s ls) e = absurd (omega (arith, e))
-kind_end (Lnames ns) e = absurd (omega (arith, e))
-kind_end (Segdef s) e = absurd (omega (arith, e))
-kind_end (Grpdef n ss) e = absurd (omega (arith, e))
-kind_end (Fixupp ss) e = absurd (omega (arith, e))
-kind_end (Ledata s o b) e = absurd (omega (arith, e))
-kind_end (Lidata s o b) e = absurd (omega (arith, e))
+kind_end (Extdef true _) e = absurd (omega (arith, e))
+kind_end (Pubdef true _ _) e = absurd (omega (arith, e))
+kind_end _ e = absurd (omega (arith, e))
 
 pub not_end : (r : says.Record) → (kind_of r ≡ 0x8A → ⊥) → is_end r ≡ false
 not_end r h = of (is_end r) refl

@@ -1,8 +1,15 @@
 -- How the code sees what it works on: no public contract cites any of it.
+pub mod Format
+pub mod FormatLaws
+pub mod OutputLaws
+pub mod PrimitiveLaws
+pub mod Shapes
+pub mod Heads
+pub mod References
+pub mod Subrecords
+pub mod Segments
+pub mod Ends
+pub mod Blocks
+pub mod Kinds
 pub mod Expansion
-pub mod Reading
-pub mod Fields
-pub mod Fits
-pub mod Keeping
-pub mod Room
 pub mod Searching

@@ -1,30 +1,32 @@
 //! Repeated data: its expansion.
 
-ghost use Rattle.std.specs.Prelude.{◌≡◌, ◌≤◌, ◌<◌, ◌+◌, ◌*◌, ◌-◌, ℕ, length, map, take, slice_index, slice_index_or};
-ghost use Rattle.omf_record.specs.Expansion.{stored_from, copies, all_stored_len, expansions_at, expansion, places};
-ghost use Rattle.omf_record.specs.Expansion.{bytes as byte_values, blocks_len};
-ghost use Rattle.omf_record.specs.inside.Expansion.{all_expanded_len};
+ghost use Rattle.std.specs.Prelude.{◌≡◌, ◌≤◌, ◌<◌, ◌+◌, ◌*◌, ℕ, length, map, take, slice_index};
+ghost use Rattle.omf_record.specs.Expansion.{stored_from, copies, stored_len, all_stored_len, expansion_at};
+ghost use Rattle.omf_record.specs.Expansion.{expansions_at, expansion, bytes as byte_values, places, blocks_len};
+ghost use Rattle.omf_record.specs.inside.Expansion.{repeat_of, once_at};
 ghost use Rattle.omf_record.specs.Record.{blocks_of};
 ghost use Rattle.omf_record.specs.View.{block_view};
 
-use crate::record::Block;
+use crate::blocks::Block;
 use std::alloc::Allocator;
 
-/// Gives each item from `len` on the value of the one that stands `len` before it.
+/// Lays copies of the first `once` items behind them, until there are `repeat` of them.
 ///
 /// What is laid doubles in each turn.
-fn repeat_front<T: Copy>(items: &mut [T], len: usize)
-    ensures front { (k : ℕ) (d : T) → k < len → slice_index_or items.new k d ≡ slice_index_or items.old k d }
-    ensures period { (k : ℕ) (d : T) → len ≤ k → k < length items.new → slice_index_or items.new k d
-        ≡ slice_index_or items.new (k - len) d }
+#[tactic(auto, using(crate::proofs::Repetition::none))]
+fn repeat_front<T: Copy>(items: &mut [T], once: usize, repeat: usize)
+    requires some { 0 < repeat }
+    requires room { repeat * once ≤ length items.old }
+    ensures { take (repeat * once) items.new ≡ copies repeat (take once items.old) }
 {
-    if len == 0 {
+    if once == 0 {
         return;
     }
-    let mut laid = len;
-    while laid < items.len() {
+    let len = repeat * once;
+    let mut laid = once;
+    while laid < len {
+        let count = laid.min(len - laid);
         let (front, rest) = items.split_at_mut(laid);
-        let count = front.len().min(rest.len());
         rest[..count].copy_from_slice(&front[..count]);
         laid += count;
     }
@@ -40,108 +42,142 @@ fn number(items: &mut [u16], place: u16)
     }
 }
 
-/// Lays copies of a content, the first byte of which is stored at the place, into the fronts of the slices, and
-/// tells their length.
-fn expand_content(
-    repeat: u16,
-    content: &[u8],
-    place: u16,
-    bytes: &mut [u8],
-    stored: &mut [u16],
-) -> usize
+/// Lays a content, the first byte of which is stored at the place, into the fronts of the slices, and tells its
+/// length.
+#[inline]
+fn lay_content(content: &[u8], place: u16, bytes: &mut [u8], stored: &mut [u16]) -> usize
     requires short { place + length content.now ≤ 65536 }
-    requires room { repeat * length content.now ≤ length bytes.old }
+    requires room { length content.now ≤ length bytes.old }
     requires same { length bytes.old ≡ length stored.old }
-    ensures len { result ≡ repeat * length content.now }
-    ensures bytes { take result bytes.new ≡ byte_values (copies repeat (stored_from place content.now)) }
-    ensures stored { take result stored.new ≡ places (copies repeat (stored_from place content.now)) }
+    ensures len { result ≡ length content.now }
+    ensures bytes { take result bytes.new ≡ byte_values (stored_from place content.now) }
+    ensures stored { take result stored.new ≡ places (stored_from place content.now) }
 {
-    if repeat == 0 {
-        return 0;
-    }
-    let once = content.len();
-    let len = usize::from(repeat) * once;
-    bytes[..once].copy_from_slice(content);
-    number(&mut stored[..once], place);
-    repeat_front(&mut bytes[..len], once);
-    repeat_front(&mut stored[..len], once);
+    let len = content.len();
+    bytes[..len].copy_from_slice(content);
+    number(&mut stored[..len], place);
     len
 }
 
-/// How many bytes the blocks take in their record.
-fn stored_len<A: Allocator + Copy>(blocks: &[Block<'_, A>]) -> u16
+/// How often a block repeats its content or its blocks.
+#[inline]
+fn repeat<A: Allocator + Copy>(block: &Block<'_, A>) -> usize
+    ensures { result ≡ repeat_of (block_view block.now) }
+{
+    match block {
+        Block::Content { repeat, bytes: _ } => usize::from(*repeat),
+        Block::Nested { repeat, blocks: _ } => usize::from(*repeat),
+    }
+}
+
+/// How many bytes a block takes in its record.
+#[inline]
+#[cycle(stored_len)]
+fn block_len<A: Allocator + Copy>(block: &Block<'_, A>) -> u16
+    requires { stored_len (block_view block.now) ≤ 65535 }
+    ensures { result ≡ stored_len (block_view block.now) }
+{
+    match block {
+        Block::Content { repeat: _, bytes } => 5 + bytes.len() as u16,
+        Block::Nested { repeat: _, blocks } => 4 + blocks_stored_len(blocks),
+    }
+}
+
+/// How many bytes blocks take in their record.
+#[cycle(stored_len)]
+fn blocks_stored_len<A: Allocator + Copy>(blocks: &[Block<'_, A>]) -> u16
     requires { all_stored_len (blocks_of (map block_view blocks.now)) ≤ 65535 }
     ensures { result ≡ all_stored_len (blocks_of (map block_view blocks.now)) }
 {
     let mut len = 0;
     for block in blocks {
-        len += match block {
-            Block::Content { repeat: _, bytes } => 5 + bytes.len() as u16,
-            Block::Nested { repeat: _, blocks } => 4 + stored_len(blocks),
-        };
+        len += block_len(block);
     }
     len
 }
 
-/// Lays copies of the blocks' expansions, the first block of which is stored at the place, into the fronts of the
-/// slices, and tells their length.
-fn expand<A: Allocator + Copy>(
-    repeat: u16,
+/// Lays one copy of what a block repeats, where the block is stored at the place, into the fronts of the slices, and
+/// tells its length.
+#[inline]
+#[cycle(expand)]
+fn expand_once<A: Allocator + Copy>(
+    block: &Block<'_, A>,
+    place: u16,
+    bytes: &mut [u8],
+    stored: &mut [u16],
+) -> usize
+    requires short { place + stored_len (block_view block.now) ≤ 65535 }
+    requires room { length (once_at place (block_view block.now)) ≤ length bytes.old }
+    requires same { length bytes.old ≡ length stored.old }
+    ensures len { result ≡ length (once_at place (block_view block.now)) }
+    ensures bytes { take result bytes.new ≡ byte_values (once_at place (block_view block.now)) }
+    ensures stored { take result stored.new ≡ places (once_at place (block_view block.now)) }
+{
+    match block {
+        Block::Content {
+            repeat: _,
+            bytes: content,
+        } => lay_content(content, place + 5, bytes, stored),
+        Block::Nested { repeat: _, blocks } => expand_all(blocks, place + 4, bytes, stored),
+    }
+}
+
+/// Lays the expansion of a block that is stored at the place into the fronts of the slices, and tells its length.
+#[inline]
+#[cycle(expand)]
+#[tactic(auto, using(crate::proofs::Expanded::expanded, crate::proofs::Expanded::once_fits))]
+fn expand_block<A: Allocator + Copy>(
+    block: &Block<'_, A>,
+    place: u16,
+    bytes: &mut [u8],
+    stored: &mut [u16],
+) -> usize
+    requires short { place + stored_len (block_view block.now) ≤ 65535 }
+    requires room { length (expansion_at place (block_view block.now)) ≤ length bytes.old }
+    requires same { length bytes.old ≡ length stored.old }
+    ensures len { result ≡ length (expansion_at place (block_view block.now)) }
+    ensures bytes { take result bytes.new ≡ byte_values (expansion_at place (block_view block.now)) }
+    ensures stored { take result stored.new ≡ places (expansion_at place (block_view block.now)) }
+{
+    let repeat = repeat(block);
+    if repeat == 0 {
+        return 0;
+    }
+    let once = expand_once(block, place, bytes, stored);
+    repeat_front(bytes, once, repeat);
+    repeat_front(stored, once, repeat);
+    repeat * once
+}
+
+/// Lays the blocks' expansions, the first block of which is stored at the place, into the fronts of the slices, and
+/// tells their length.
+#[cycle(expand)]
+fn expand_all<A: Allocator + Copy>(
     blocks: &[Block<'_, A>],
     place: u16,
     bytes: &mut [u8],
     stored: &mut [u16],
 ) -> usize
     requires short { place + all_stored_len (blocks_of (map block_view blocks.now)) ≤ 65535 }
-    requires room { repeat * all_expanded_len (blocks_of (map block_view blocks.now)) ≤ length bytes.old }
+    requires room { length (expansions_at place (blocks_of (map block_view blocks.now))) ≤ length bytes.old }
     requires same { length bytes.old ≡ length stored.old }
-    ensures len { result ≡ repeat * all_expanded_len (blocks_of (map block_view blocks.now)) }
-    ensures bytes { take result bytes.new
-        ≡ byte_values (copies repeat (expansions_at place (blocks_of (map block_view blocks.now)))) }
-    ensures stored { take result stored.new
-        ≡ places (copies repeat (expansions_at place (blocks_of (map block_view blocks.now)))) }
+    ensures len { result ≡ length (expansions_at place (blocks_of (map block_view blocks.now))) }
+    ensures bytes { take result bytes.new ≡ byte_values (expansions_at place (blocks_of (map block_view blocks.now))) }
+    ensures stored { take result stored.new ≡ places (expansions_at place (blocks_of (map block_view blocks.now))) }
 {
-    if repeat == 0 {
-        return 0;
-    }
     let mut at = 0;
     let mut inner = place;
     for block in blocks {
-        match block {
-            Block::Content {
-                repeat,
-                bytes: content,
-            } => {
-                at += expand_content(
-                    *repeat,
-                    content,
-                    inner + 5,
-                    &mut bytes[at..],
-                    &mut stored[at..],
-                );
-                inner += 5 + content.len() as u16;
-            }
-            Block::Nested { repeat, blocks } => {
-                at += expand(
-                    *repeat,
-                    blocks,
-                    inner + 4,
-                    &mut bytes[at..],
-                    &mut stored[at..],
-                );
-                inner += 4 + stored_len(blocks);
-            }
-        }
+        at += expand_block(block, inner, &mut bytes[at..], &mut stored[at..]);
+        inner += block_len(block);
     }
-    let len = usize::from(repeat) * at;
-    repeat_front(&mut bytes[..len], at);
-    repeat_front(&mut stored[..len], at);
-    len
+    at
 }
 
 /// Lays the blocks' expansion, of at most 65,536 bytes, into `bytes`, and the place at which each byte is stored
-/// into `stored`. Both have its length,
-/// which `expanded_len` tells; the blocks take at most 65,534 bytes in their record.
+/// into `stored`. Both have its length, which `expanded_len` tells; the blocks take at most 65,534 bytes in their
+/// record.
+#[tactic(auto, unfolding(crate::specs::Expansion::expansion, crate::specs::Expansion::blocks_len))]
 pub fn expand_into<A: Allocator + Copy>(
     blocks: &[Block<'_, A>],
     bytes: &mut [u8],
@@ -154,5 +190,5 @@ pub fn expand_into<A: Allocator + Copy>(
     ensures bytes { bytes.new ≡ byte_values (expansion (map block_view blocks.now)) }
     ensures stored { stored.new ≡ places (expansion (map block_view blocks.now)) }
 {
-    let _len = expand(1, blocks, 0, bytes, stored);
+    let _len = expand_all(blocks, 0, bytes, stored);
 }

@@ -1,30 +1,37 @@
 //! The bodies of object module records (TIS OMF 1.1): what each says, its canonical body, and repeated data.
 #![tactic(auto)]
 
+mod blocks;
+mod bodies;
+mod choice;
+mod codec;
 mod content;
 mod encode;
 mod expand;
-mod fields;
+mod externals;
+mod fixups;
 mod grammar;
-mod numbers;
+mod output;
 mod parse;
-mod parsing;
-mod reading;
+mod primitives;
 mod record;
 mod repeated;
-mod room;
-mod writing;
+mod segments;
+mod whole;
 
+pub use blocks::Block;
 pub use content::place_in_content;
-pub use encode::encode_record;
+pub use encode::{encode_record, fits_frame};
 pub use expand::expand_into;
-pub use fields::{
-    Alignment, Combination, Fixup, FrameDatum, FrameMethod, Line, Location, PublicBase, Reference,
-    SegmentDefinition, SegmentLength, Subrecord, TargetDatum, TargetMethod, ThreadNumber,
+pub use externals::{External, Line, Public, PublicBase};
+pub use fixups::{
+    Fixup, FrameDatum, FrameMethod, Location, Reference, Subrecord, TargetDatum, TargetMethod,
+    ThreadNumber, location_number, thread_number,
 };
 pub use grammar::{canonical_shortest, encoded_is_read, one_value};
-pub use numbers::{alignment_number, combination_number, location_number, thread_number};
 pub use parse::{RecordFault, parse_record};
-pub use record::{Block, External, Public, Record};
+pub use record::Record;
 pub use repeated::expanded_len;
-pub use room::fits_frame;
+pub use segments::{
+    Alignment, Combination, SegmentDefinition, SegmentLength, alignment_number, combination_number,
+};

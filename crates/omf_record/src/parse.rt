@@ -1,14 +1,16 @@
 //! A record from its frame.
 
-ghost use Rattle.std.specs.Prelude.{◌≡◌, ◌≤◌, ℕ, true, length, IfOk};
-ghost use Rattle.omf_record.specs.inside.Fields.{is_record_kind};
+ghost use Rattle.std.specs.Prelude.{◌≡◌, ◌≤◌, length, IfOk};
 ghost use Rattle.omf_record.specs.Answer.{Answers};
 ghost use Rattle.omf_record.specs.Canonical.{FitsFrame};
 ghost use Rattle.omf_record.specs.Expansion.{data_len};
 ghost use Rattle.omf_record.specs.View.{view};
+ghost use Rattle.omf_record.specs.inside.Kinds.{IsBody, ReadsParts};
 
-use crate::parsing::record_of;
-use crate::reading::ReadError;
+use crate::bodies::{
+    Coment, Extdef, Fixupp, Grpdef, Ledata, Lidata, Linnum, Lnames, Modend, Pubdef, Segdef, Theadr,
+};
+use crate::codec::{Blank, Field, ReadError};
 use crate::record::Record;
 use omf_frame::Frame;
 use std::alloc::{AllocError, Allocator};
@@ -37,38 +39,20 @@ impl From<AllocError> for RecordFault {
     }
 }
 
-fn is_record_kind(kind: u8) -> bool
-    ensures { result ≡ is_record_kind kind }
-{
-    kind == 0x80
-        || kind == 0x88
-        || kind == 0x8A
-        || kind == 0x8C
-        || kind == 0x90
-        || kind == 0x94
-        || kind == 0x96
-        || kind == 0x98
-        || kind == 0x9A
-        || kind == 0x9C
-        || kind == 0xA0
-        || kind == 0xA2
-        || kind == 0xB4
-        || kind == 0xB6
-}
-
-fn record_in<'a, A: Allocator + Copy + 'a>(
+/// The parts of a body.
+fn parts<'a, A: Allocator + Copy, P: Field<'a, A> + Blank>(
     alloc: A,
     kind: u8,
     bytes: &'a [u8],
-) -> Result<Record<'a, A>, RecordFault>
-    requires known { is_record_kind kind ≡ true }
-    requires short { length bytes.now ≤ 65534 }
-    ensures answer { Answers kind bytes.now result }
-    ensures fits { IfOk result (λ r. FitsFrame (view r)) }
-    ensures stored { IfOk result (λ r. data_len (view r) ≤ 65534) }
+) -> Result<P::Item, RecordFault>
+    requires { IsBody (P.format 0) kind }
+    ensures { ReadsParts (P.format 0) kind bytes.now result }
 {
-    match record_of(alloc, kind, bytes) {
-        Ok(record) => Ok(record),
+    match P::read(alloc, 0, bytes) {
+        Ok((parts, [])) => Ok(parts),
+        Ok((_, rest)) => Err(RecordFault::Body {
+            at: bytes.len() - rest.len(),
+        }),
         Err(ReadError::Memory) => Err(RecordFault::Memory),
         Err(ReadError::Refused(rest)) => Err(RecordFault::Body {
             at: bytes.len() - rest.len(),
@@ -76,9 +60,89 @@ fn record_in<'a, A: Allocator + Copy + 'a>(
     }
 }
 
+/// The record that the body of a type says.
+#[tactic(auto, unfolding(crate::specs::Body::Body, crate::specs::View::view))]
+fn record_of<'a, A: Allocator + Copy + 'a>(
+    alloc: A,
+    kind: u8,
+    bytes: &'a [u8],
+) -> Result<Record<'a, A>, RecordFault>
+    ensures { Answers kind bytes.now result }
+{
+    match kind {
+        0x80 => {
+            let name = parts::<A, Theadr>(alloc, kind, bytes)?;
+            Ok(Record::Theadr { name })
+        }
+        0x88 => {
+            let (kind, (class, bytes)) = parts::<A, Coment>(alloc, kind, bytes)?;
+            Ok(Record::Coment { kind, class, bytes })
+        }
+        0x8A => {
+            let (main, start) = parts::<A, Modend>(alloc, kind, bytes)?;
+            Ok(Record::Modend { main, start })
+        }
+        0x8C | 0xB4 => {
+            let names = parts::<A, Extdef<A>>(alloc, kind, bytes)?;
+            Ok(Record::Extdef {
+                local: kind == 0xB4,
+                names,
+            })
+        }
+        0x90 | 0xB6 => {
+            let (base, publics) = parts::<A, Pubdef<A>>(alloc, kind, bytes)?;
+            Ok(Record::Pubdef {
+                local: kind == 0xB6,
+                base,
+                publics,
+            })
+        }
+        0x94 => {
+            let (group, (segment, lines)) = parts::<A, Linnum<A>>(alloc, kind, bytes)?;
+            Ok(Record::Linnum {
+                group,
+                segment,
+                lines,
+            })
+        }
+        0x96 => {
+            let names = parts::<A, Lnames<A>>(alloc, kind, bytes)?;
+            Ok(Record::Lnames { names })
+        }
+        0x98 => {
+            let segment = parts::<A, Segdef>(alloc, kind, bytes)?;
+            Ok(Record::Segdef { segment })
+        }
+        0x9A => {
+            let (name, segments) = parts::<A, Grpdef<A>>(alloc, kind, bytes)?;
+            Ok(Record::Grpdef { name, segments })
+        }
+        0x9C => {
+            let subrecords = parts::<A, Fixupp<A>>(alloc, kind, bytes)?;
+            Ok(Record::Fixupp { subrecords })
+        }
+        0xA0 => {
+            let (segment, (offset, bytes)) = parts::<A, Ledata>(alloc, kind, bytes)?;
+            Ok(Record::Ledata {
+                segment,
+                offset,
+                bytes,
+            })
+        }
+        0xA2 => {
+            let (segment, (offset, blocks)) = parts::<A, Lidata<A>>(alloc, kind, bytes)?;
+            Ok(Record::Lidata {
+                segment,
+                offset,
+                blocks,
+            })
+        }
+        _ => Err(RecordFault::OtherType),
+    }
+}
+
 /// The record that the frame holds, or the one fault that stands: `OtherType`, or `Body` with its exact place.
-/// `Memory` where the lists of the record
-/// find none.
+/// `Memory` where the lists of the record find none.
 pub fn parse_record<'a, A: Allocator + Copy + 'a>(
     alloc: A,
     frame: &Frame<'a>,
@@ -89,8 +153,5 @@ pub fn parse_record<'a, A: Allocator + Copy + 'a>(
     // Stored places fit 16 bits.
     ensures stored { IfOk result (λ r. data_len (view r) ≤ 65534) }
 {
-    if !is_record_kind(frame.kind) {
-        return Err(RecordFault::OtherType);
-    }
-    record_in(alloc, frame.kind, frame.body)
+    record_of(alloc, frame.kind, frame.body)
 }

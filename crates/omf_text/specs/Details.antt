@@ -3,23 +3,23 @@ use Rattle.std.specs.Prelude.{ℕ, Bool, true, false, ◌==◌, nat_lt, if◌the
 use Rattle.std.specs.Prelude.{None, codes, decimal}
 use Rattle.std.specs.declared.option.Option.{Option}
 use Rattle.std.specs.List.{concat, flat_map}
-use Rattle.omf_record.specs.declared.fields.FrameMethod.{FrameMethod}
-use Rattle.omf_record.specs.declared.fields.FrameMethod.TheVariants as frame
-use Rattle.omf_record.specs.declared.fields.TargetMethod.{TargetMethod}
-use Rattle.omf_record.specs.declared.fields.TargetMethod.TheVariants as target
-use Rattle.omf_record.specs.declared.fields.FrameDatum.{FrameDatum}
-use Rattle.omf_record.specs.declared.fields.FrameDatum.TheVariants as frame_datum
-use Rattle.omf_record.specs.declared.fields.TargetDatum.{TargetDatum}
-use Rattle.omf_record.specs.declared.fields.TargetDatum.TheVariants as target_datum
-use Rattle.omf_record.specs.declared.fields.Reference.{Reference}
-use Rattle.omf_record.specs.declared.fields.Subrecord.{Subrecord}
-use Rattle.omf_record.specs.declared.fields.Subrecord.TheVariants.{SetFrame, SetTarget, Fixup}
-use Rattle.omf_record.specs.declared.fields.PublicBase.{PublicBase}
-use Rattle.omf_record.specs.declared.fields.PublicBase.TheVariants.{AtFrame, InSegment}
-use Rattle.omf_record.specs.declared.fields.Alignment.{Alignment}
-use Rattle.omf_record.specs.declared.fields.Alignment.TheVariants as align
-use Rattle.omf_record.specs.declared.fields.SegmentDefinition.{SegmentDefinition}
-use Rattle.omf_record.specs.declared.fields.Line.{Line}
+use Rattle.omf_record.specs.declared.fixups.FrameMethod.{FrameMethod}
+use Rattle.omf_record.specs.declared.fixups.FrameMethod.TheVariants as frame
+use Rattle.omf_record.specs.declared.fixups.TargetMethod.{TargetMethod}
+use Rattle.omf_record.specs.declared.fixups.TargetMethod.TheVariants as target
+use Rattle.omf_record.specs.declared.fixups.FrameDatum.{FrameDatum}
+use Rattle.omf_record.specs.declared.fixups.FrameDatum.TheVariants as frame_datum
+use Rattle.omf_record.specs.declared.fixups.TargetDatum.{TargetDatum}
+use Rattle.omf_record.specs.declared.fixups.TargetDatum.TheVariants as target_datum
+use Rattle.omf_record.specs.declared.fixups.Reference.{Reference}
+use Rattle.omf_record.specs.declared.fixups.Subrecord.{Subrecord}
+use Rattle.omf_record.specs.declared.fixups.Subrecord.TheVariants.{SetFrame, SetTarget, Fixup}
+use Rattle.omf_record.specs.declared.externals.PublicBase.{PublicBase}
+use Rattle.omf_record.specs.declared.externals.PublicBase.TheVariants.{AtFrame, InSegment}
+use Rattle.omf_record.specs.declared.segments.Alignment.{Alignment}
+use Rattle.omf_record.specs.declared.segments.Alignment.TheVariants as align
+use Rattle.omf_record.specs.declared.segments.SegmentDefinition.{SegmentDefinition}
+use Rattle.omf_record.specs.declared.externals.Line.{Line}
 use Rattle.omf_record.specs.Numbers.{bit, thread_number, location_number, alignment_number, combination_number}
 use Rattle.omf_record.specs.Numbers.{segment_len}
 use Rattle.omf_record.specs.Body.{kind_of}

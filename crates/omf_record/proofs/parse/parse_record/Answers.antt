@@ -1,6 +1,11 @@
-use Rattle.std.proofs.Common.{sym, ◌∙◌}
-use Rattle.omf_record.proofs.BodyLaws.{no_type}
+use Rattle.std.proofs.Common.{◌≤◌, length, rules}
+use Rattle.omf_record.proofs.RecordLaws.{read_fits, read_stored}
 use Rattle.omf_record.proofs.parse.parse_record.Goals as goal
 
-pub returns-then-not-is_record_kind-clause-answer : goal.returns-then-not-is_record_kind-clause-answer
-returns-then-not-is_record_kind-clause-answer g c = no_type c.args.frame.now.kind (sym c.is_record_kind.ensures ∙ c.if-not-is_record_kind.true)
+pub returns-clause-fits : goal.returns-clause-fits
+returns-clause-fits g c =
+    let short : length c.args.frame.now.body.now ≤ 65534 = search rules in
+    read_fits c.args.frame.now.kind c.args.frame.now.body.now c.record_of.result c.record_of.ensures short
+
+pub returns-clause-stored : goal.returns-clause-stored
+returns-clause-stored g c = read_stored c.record_of.result (returns-clause-fits g c)

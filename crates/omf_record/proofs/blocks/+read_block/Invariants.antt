@@ -1,0 +1,11 @@
+use Rattle.std.proofs.Common.{◌≡◌, ◌-◌, length, map}
+use Rattle.omf_record.specs.View.{block_view}
+use Rattle.omf_record.specs.inside.Blocks.{block}
+use Rattle.omf_record.proofs.Lists.{SoFar}
+use Rattle.omf_record.proofs.blocks.+read_block.Given as goal
+
+abbrev pub decreases-read_block : goal.decreases-read_block
+decreases-read_block g l = l.below
+
+abbrev pub invariant-loop : goal.invariant-loop
+invariant-loop g l = (length l.blocks.items ≡ l.counter) × SoFar (block {A = g.row.A.Denot} (l.below - 1)) l.initial.rest (map block_view l.blocks.items) l.rest

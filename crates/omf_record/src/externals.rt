@@ -1,0 +1,186 @@
+//! Names between modules, and lines: EXTDEF, PUBDEF and LINNUM.
+
+ghost use Rattle.std.specs.Prelude.{◌≡◌, ◌≤◌, ℕ, List};
+ghost use Rattle.omf_record.specs.Record as says;
+ghost use Rattle.omf_record.specs.declared.externals.Line.{Line};
+ghost use Rattle.omf_record.specs.declared.externals.PublicBase.{PublicBase};
+ghost use Rattle.omf_record.specs.inside.Shapes as shapes;
+
+use crate::choice::{Then, When};
+use crate::codec::{Codec, Field, Filled, Free, Made, Read, put_made, read_made};
+use crate::output::Output;
+use crate::primitives::{Index, Name, Word};
+use std::alloc::Allocator;
+use std::marker::PhantomData;
+
+/// What the offsets of public names count from (TIS OMF 1.1, PUBDEF). A group index of 0 means no group.
+#[derive(Clone, Copy, Debug, PartialEq, Eq)]
+pub enum PublicBase {
+    /// A paragraph number; written with the segment index 0.
+    AtFrame { group: u16, frame: u16 },
+    /// A segment, whose index isn't 0.
+    InSegment { group: u16, segment: u16 },
+}
+
+/// A line number of a source text, and the offset of its first byte of code.
+#[derive(Clone, Copy, Debug, PartialEq, Eq)]
+pub struct Line {
+    pub number: u16,
+    pub offset: u16,
+}
+
+/// A name that a module uses and doesn't define.
+#[derive(Clone, Copy, Debug)]
+pub struct External<'a> {
+    pub name: &'a [u8],
+    pub type_index: u16,
+}
+
+/// A name that a module defines for others.
+#[derive(Clone, Copy, Debug)]
+pub struct Public<'a> {
+    pub name: &'a [u8],
+    pub offset: u16,
+    pub type_index: u16,
+}
+
+impl<'a> Made<(Name<'a>, Index)> for External<'a> {
+    ghost Value = { says.External };
+
+    ghost format = { λ _. shapes.external };
+
+    ghost is_made = { λ _. shapes.external_made };
+
+    fn make(_number: u32, (name, type_index): (&'a [u8], u16)) -> External<'a> {
+        External { name, type_index }
+    }
+
+    fn parts(&self) -> (&'a [u8], u16) {
+        (self.name, self.type_index)
+    }
+}
+
+impl<'a> Made<(Name<'a>, (Word, Index))> for Public<'a> {
+    ghost Value = { says.Public };
+
+    ghost format = { λ _. shapes.public };
+
+    ghost is_made = { λ _. shapes.public_made };
+
+    fn make(_number: u32, (name, (offset, type_index)): (&'a [u8], (u16, u16))) -> Public<'a> {
+        Public {
+            name,
+            offset,
+            type_index,
+        }
+    }
+
+    fn parts(&self) -> (&'a [u8], (u16, u16)) {
+        (self.name, (self.offset, self.type_index))
+    }
+}
+
+impl Made<(Word, Word)> for Line {
+    ghost Value = { Line };
+
+    ghost format = { λ _. shapes.line };
+
+    ghost is_made = { λ _. shapes.line_made };
+
+    fn make(_number: u32, (number, offset): (u16, u16)) -> Line {
+        Line { number, offset }
+    }
+
+    fn parts(&self) -> (u16, u16) {
+        (self.number, self.offset)
+    }
+}
+
+/// A group, a segment, and a frame behind the segment 0.
+pub type BaseParts = (Index, Then<Index, When<1, 65_536, 0, Word>>);
+
+impl Made<BaseParts> for PublicBase {
+    ghost Value = { PublicBase };
+
+    ghost format = { λ _. shapes.base };
+
+    ghost is_made = { λ _. shapes.base_made };
+
+    #[tactic(auto, using(crate::specs::inside::Shapes::base_to))]
+    fn make(_number: u32, (group, (segment, frame)): (u16, (u16, Option<u16>))) -> PublicBase {
+        match frame {
+            Some(frame) => PublicBase::AtFrame { group, frame },
+            None => PublicBase::InSegment { group, segment },
+        }
+    }
+
+    #[tactic(auto, using(crate::specs::inside::Shapes::base_splits))]
+    fn parts(&self) -> (u16, (u16, Option<u16>)) {
+        match *self {
+            PublicBase::AtFrame { group, frame } => (group, (0, Some(frame))),
+            PublicBase::InSegment { group, segment } => (group, (segment, None)),
+        }
+    }
+}
+
+/// External names as items of a list.
+pub struct ExternalField<'a>(PhantomData<&'a [u8]>);
+
+impl<'a> Codec for ExternalField<'a> {
+    type Item = External<'a>;
+
+    ghost Value = { says.External };
+
+    ghost format = { λ _. shapes.external };
+
+    ghost lawful = { λ _. shapes.external_lawful };
+
+    fn put<O: Output>(item: &External<'a>, number: u32, out: &mut O) -> Result<(), O::Error> {
+        put_made::<(Name<'a>, Index), External<'a>, O>(item, number, out)
+    }
+}
+
+impl<'a, A: Allocator + Copy> Field<'a, A> for ExternalField<'a> {
+    fn read(alloc: A, number: u32, bytes: &'a [u8]) -> Read<'a, External<'a>> {
+        read_made::<A, (Name<'a>, Index), External<'a>>(alloc, number, bytes)
+    }
+}
+
+impl<'a> Free for ExternalField<'a> {
+    ghost free = { λ _ _. tt };
+}
+
+impl<'a> Filled for ExternalField<'a> {
+    ghost filled = { λ _. shapes.external_filled };
+}
+
+/// Public names as items of a list.
+pub struct PublicField<'a>(PhantomData<&'a [u8]>);
+
+impl<'a> Codec for PublicField<'a> {
+    type Item = Public<'a>;
+
+    ghost Value = { says.Public };
+
+    ghost format = { λ _. shapes.public };
+
+    ghost lawful = { λ _. shapes.public_lawful };
+
+    fn put<O: Output>(item: &Public<'a>, number: u32, out: &mut O) -> Result<(), O::Error> {
+        put_made::<(Name<'a>, (Word, Index)), Public<'a>, O>(item, number, out)
+    }
+}
+
+impl<'a, A: Allocator + Copy> Field<'a, A> for PublicField<'a> {
+    fn read(alloc: A, number: u32, bytes: &'a [u8]) -> Read<'a, Public<'a>> {
+        read_made::<A, (Name<'a>, (Word, Index)), Public<'a>>(alloc, number, bytes)
+    }
+}
+
+impl<'a> Free for PublicField<'a> {
+    ghost free = { λ _ _. tt };
+}
+
+impl<'a> Filled for PublicField<'a> {
+    ghost filled = { λ _. shapes.public_filled };
+}

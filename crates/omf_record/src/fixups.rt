@@ -1,0 +1,613 @@
+//! Threads, references and fix-ups: FIXUPP, and the end of a module, MODEND.
+
+ghost use Rattle.std.specs.Prelude.{◌≡◌, ◌≢◌, ◌<◌, ◌≤◌, ◌↔◌, ◌/◌, ◌%◌, Bool, ℕ, List, IsTrue, Option};
+ghost use Rattle.omf_record.specs.Canonical as canon;
+ghost use Rattle.omf_record.specs.Numbers.{location_width, thread_number, frame_number, target_number, absent};
+ghost use Rattle.omf_record.specs.Numbers.{location_number};
+ghost use Rattle.omf_record.specs.declared.fixups.Reference.{Reference};
+ghost use Rattle.omf_record.specs.declared.fixups.Subrecord.{Subrecord};
+ghost use Rattle.omf_record.specs.inside.Ends as ends;
+ghost use Rattle.omf_record.specs.inside.References.{thread_of};
+ghost use Rattle.omf_record.specs.inside.References as refs;
+ghost use Rattle.omf_record.specs.inside.Subrecords.{location_of};
+ghost use Rattle.omf_record.specs.inside.Subrecords as subs;
+
+use crate::choice::{Then, When};
+use crate::codec::{Blank, Codec, Field, Filled, Free, Made, Of, Read};
+use crate::output::Output;
+use crate::primitives::{Byte, First, Head, Index, Word};
+use std::alloc::Allocator;
+
+/// The number of one of four frame threads, or of one of four target threads.
+#[derive(Clone, Copy, Debug, PartialEq, Eq)]
+pub enum ThreadNumber {
+    Zero,
+    One,
+    Two,
+    Three,
+}
+
+/// How a frame is found: frame methods F0, F1, F2, F4 and F5 (TIS OMF 1.1, FIXUPP).
+#[derive(Clone, Copy, Debug, PartialEq, Eq)]
+pub enum FrameMethod {
+    /// F0: the segment with this index.
+    Segment(u16),
+    /// F1: the group with this index.
+    Group(u16),
+    /// F2: what the external name with this index stands for.
+    External(u16),
+    /// F4: the segment of the data record that holds the location.
+    Location,
+    /// F5: the target's own frame.
+    Target,
+}
+
+/// How a target is found: target methods T0, T1 and T2, and without a displacement T4, T5 and T6 (TIS OMF 1.1, FIXUPP).
+#[derive(Clone, Copy, Debug, PartialEq, Eq)]
+pub enum TargetMethod {
+    /// T0 and T4: the segment with this index.
+    Segment(u16),
+    /// T1 and T5: the group with this index.
+    Group(u16),
+    /// T2 and T6: what the external name with this index stands for.
+    External(u16),
+}
+
+/// The frame of a reference.
+#[derive(Clone, Copy, Debug, PartialEq, Eq)]
+pub enum FrameDatum {
+    /// The method that this frame thread was last set to.
+    Thread(ThreadNumber),
+    By(FrameMethod),
+}
+
+/// The target of a reference.
+#[derive(Clone, Copy, Debug, PartialEq, Eq)]
+pub enum TargetDatum {
+    /// The method that this target thread was last set to.
+    Thread(ThreadNumber),
+    By(TargetMethod),
+}
+
+/// What a fix-up, or the start of a program, refers to.
+#[derive(Clone, Copy, Debug, PartialEq, Eq)]
+pub struct Reference {
+    pub frame: FrameDatum,
+    pub target: TargetDatum,
+    /// What is added to the target's address, in bytes. An absent one counts as 0 and stays absent when written.
+    pub displacement: Option<u16>,
+}
+
+/// What a fix-up fixes: locations 0, 1, 2, 3 and 5 (TIS OMF 1.1, FIXUPP).
+#[derive(Clone, Copy, Debug, PartialEq, Eq)]
+pub enum Location {
+    /// One byte: the low byte of an offset.
+    LowByte,
+    /// A word.
+    Offset,
+    /// A word: a paragraph number.
+    Base,
+    /// Two words: an offset and, behind it, a base.
+    Pointer,
+    /// A word, as `Offset`.
+    LoaderOffset,
+}
+
+impl Location {
+    /// How many bytes the location has.
+    pub fn width(self) -> u16
+        ensures { result ≡ location_width self }
+    {
+        match self {
+            Location::LowByte => 1,
+            Location::Offset | Location::Base | Location::LoaderOffset => 2,
+            Location::Pointer => 4,
+        }
+    }
+}
+
+/// A fix-up of a place in the last data record before it.
+#[derive(Clone, Copy, Debug, PartialEq, Eq)]
+pub struct Fixup {
+    /// Whether the location holds a distance from itself, and not an offset in the frame.
+    pub self_relative: bool,
+    pub location: Location,
+    /// The place of the location's first byte, counted from the first data byte, at most 1,023.
+    pub offset: u16,
+    pub reference: Reference,
+}
+
+/// A part of a FIXUPP record.
+#[derive(Clone, Copy, Debug, PartialEq, Eq)]
+pub enum Subrecord {
+    /// Sets a frame thread.
+    SetFrame(ThreadNumber, FrameMethod),
+    /// Sets a target thread.
+    SetTarget(ThreadNumber, TargetMethod),
+    Fixup(Fixup),
+}
+
+/// The thread of this number.
+fn thread_of(number: u8) -> ThreadNumber
+    ensures { result ≡ thread_of number }
+{
+    match number {
+        0 => ThreadNumber::Zero,
+        1 => ThreadNumber::One,
+        2 => ThreadNumber::Two,
+        _ => ThreadNumber::Three,
+    }
+}
+
+/// The location of this number, where one has it.
+fn location_of(number: u8) -> Location
+    ensures { result ≡ location_of number }
+{
+    match number {
+        0 => Location::LowByte,
+        1 => Location::Offset,
+        2 => Location::Base,
+        3 => Location::Pointer,
+        _ => Location::LoaderOffset,
+    }
+}
+
+/// The number of a thread, 0 to 3.
+pub fn thread_number(thread: ThreadNumber) -> u8
+    ensures number { result ≡ thread_number thread }
+    ensures small { result < 4 }
+{
+    match thread {
+        ThreadNumber::Zero => 0,
+        ThreadNumber::One => 1,
+        ThreadNumber::Two => 2,
+        ThreadNumber::Three => 3,
+    }
+}
+
+/// The number of a frame's method, F0 to F5.
+fn frame_number(method: FrameMethod) -> u8
+    ensures number { result ≡ frame_number method }
+    ensures small { result < 6 }
+{
+    match method {
+        FrameMethod::Segment(_) => 0,
+        FrameMethod::Group(_) => 1,
+        FrameMethod::External(_) => 2,
+        FrameMethod::Location => 4,
+        FrameMethod::Target => 5,
+    }
+}
+
+/// The number of a target's method, T0 to T2.
+fn target_number(method: TargetMethod) -> u8
+    ensures number { result ≡ target_number method }
+    ensures small { result < 3 }
+{
+    match method {
+        TargetMethod::Segment(_) => 0,
+        TargetMethod::Group(_) => 1,
+        TargetMethod::External(_) => 2,
+    }
+}
+
+/// The bit P: 1 where there is no displacement.
+fn absent(displacement: Option<u16>) -> u8
+    ensures bit { result ≡ absent displacement }
+    ensures small { result < 2 }
+{
+    match displacement {
+        None => 1,
+        Some(_) => 0,
+    }
+}
+
+/// The number by which a fix-up's location is written: 0, 1, 2, 3 or 5.
+pub fn location_number(location: Location) -> u8
+    ensures number { result ≡ location_number location }
+    ensures small { result < 6 }
+{
+    match location {
+        Location::LowByte => 0,
+        Location::Offset => 1,
+        Location::Base => 2,
+        Location::Pointer => 3,
+        Location::LoaderOffset => 5,
+    }
+}
+
+/// The frame's method of this number, with the index behind it.
+fn frame_method_of(number: u8, index: Option<u16>) -> FrameMethod
+    ensures { result ≡ refs.frame_method_of number index }
+{
+    match index {
+        Some(index) => match number {
+            0 => FrameMethod::Segment(index),
+            1 => FrameMethod::Group(index),
+            _ => FrameMethod::External(index),
+        },
+        None => match number {
+            4 => FrameMethod::Location,
+            _ => FrameMethod::Target,
+        },
+    }
+}
+
+/// The index behind a frame's method, where one stands there.
+fn frame_method_index(method: FrameMethod) -> Option<u16>
+    ensures { result ≡ refs.frame_method_index method }
+{
+    match method {
+        FrameMethod::Segment(index) | FrameMethod::Group(index) | FrameMethod::External(index) =>
+            Some(index),
+        FrameMethod::Location | FrameMethod::Target => None,
+    }
+}
+
+/// The target's method of this number, with the index behind it.
+fn target_method_of(number: u8, index: u16) -> TargetMethod
+    ensures { result ≡ refs.target_method_of number index }
+{
+    match number {
+        0 => TargetMethod::Segment(index),
+        1 => TargetMethod::Group(index),
+        _ => TargetMethod::External(index),
+    }
+}
+
+/// The index behind a target's method.
+fn target_method_index(method: TargetMethod) -> u16
+    ensures { result ≡ refs.target_method_index method }
+{
+    match method {
+        TargetMethod::Segment(index) | TargetMethod::Group(index) | TargetMethod::External(index) =>
+            index,
+    }
+}
+
+/// The frame that a fix data byte says, with the index behind it.
+fn frame_datum_of(byte: u8, index: Option<u16>) -> FrameDatum
+    ensures { result ≡ refs.frame_datum_of byte index }
+{
+    if byte / 128 == 1 {
+        FrameDatum::Thread(thread_of(byte / 16 % 4))
+    } else {
+        FrameDatum::By(frame_method_of(byte / 16 % 8, index))
+    }
+}
+
+/// The target that a fix data byte says, with the index behind it.
+fn target_datum_of(byte: u8, index: Option<u16>) -> TargetDatum
+    ensures { result ≡ refs.target_datum_of byte index }
+{
+    match index {
+        Some(index) => TargetDatum::By(target_method_of(byte % 4, index)),
+        None => TargetDatum::Thread(thread_of(byte % 4)),
+    }
+}
+
+/// The bits of a frame in the fix data byte, and the index behind it.
+fn frame_bits(frame: FrameDatum) -> (u8, Option<u16>)
+    ensures bits { result.0 ≡ canon.frame_bits frame }
+    ensures small { result.0 < 192 }
+    ensures index { result.1 ≡ refs.frame_datum_index frame }
+{
+    match frame {
+        FrameDatum::Thread(thread) => (128 + 16 * thread_number(thread), None),
+        FrameDatum::By(method) => (16 * frame_number(method), frame_method_index(method)),
+    }
+}
+
+/// The bits of a target in the fix data byte, and the index behind it.
+fn target_bits(target: TargetDatum) -> (u8, Option<u16>)
+    ensures bits { result.0 ≡ canon.target_bits target }
+    ensures small { result.0 < 12 }
+    ensures index { result.1 ≡ refs.target_datum_index target }
+{
+    match target {
+        TargetDatum::Thread(thread) => (8 + thread_number(thread), None),
+        TargetDatum::By(method) => (target_number(method), Some(target_method_index(method))),
+    }
+}
+
+/// The fix data byte, and behind it the indexes and the displacement that it says stand there.
+pub type ReferenceParts = Then<
+    First<Reference>,
+    (
+        When<64, 4, 0, Index>,
+        (When<8, 2, 0, Index>, When<4, 2, 0, Word>),
+    ),
+>;
+
+/// The indexes and the displacement behind it.
+type ReferenceTail = (Option<u16>, (Option<u16>, Option<u16>));
+
+impl Head for Reference {
+    ghost Begins = { refs.IsFixData };
+
+    fn begins(byte: u8) -> bool {
+        let (frame, target) = (byte / 16, byte % 16);
+        frame != 3 && frame != 6 && frame != 7 && target != 3 && target != 7
+    }
+}
+
+impl Made<ReferenceParts> for Reference {
+    ghost Value = { Reference };
+
+    ghost format = { λ _. refs.reference };
+
+    ghost is_made = { λ _. refs.reference_made };
+
+    fn make(_number: u32, parts: (u8, ReferenceTail)) -> Reference {
+        reference_of(parts.0, parts.1)
+    }
+
+    fn parts(&self) -> (u8, ReferenceTail) {
+        reference_parts(*self)
+    }
+}
+
+/// The reference that a fix data byte and what stands behind it say.
+fn reference_of(byte: u8, tail: ReferenceTail) -> Reference
+    ensures { result ≡ refs.reference_of byte tail }
+{
+    Reference {
+        frame: frame_datum_of(byte, tail.0),
+        target: target_datum_of(byte, tail.1.0),
+        displacement: tail.1.1,
+    }
+}
+
+/// The fix data byte of a reference, and what stands behind it.
+fn reference_parts(reference: Reference) -> (u8, ReferenceTail)
+    ensures { result ≡ (canon.fix_data reference, refs.reference_tail reference) }
+{
+    let (frame, frame_index) = frame_bits(reference.frame);
+    let (target, target_index) = target_bits(reference.target);
+    let byte = frame + 4 * absent(reference.displacement) + target;
+    (byte, (frame_index, (target_index, reference.displacement)))
+}
+
+/// A reference as a field of others.
+pub struct ReferenceField;
+
+impl Codec for ReferenceField {
+    type Item = Reference;
+
+    ghost Value = { Reference };
+
+    ghost format = { λ _. refs.reference };
+
+    ghost lawful = { λ _. refs.reference_lawful };
+
+    fn put<O: Output>(item: &Reference, number: u32, out: &mut O) -> Result<(), O::Error> {
+        <Of<ReferenceParts, Reference> as Codec>::put(item, number, out)
+    }
+}
+
+impl<'a, A: Allocator + Copy> Field<'a, A> for ReferenceField {
+    fn read(alloc: A, number: u32, bytes: &'a [u8]) -> Read<'a, Reference> {
+        <Of<ReferenceParts, Reference> as Field<'a, A>>::read(alloc, number, bytes)
+    }
+}
+
+impl Free for ReferenceField {
+    ghost free = { λ _ _. tt };
+}
+
+impl Blank for ReferenceField {
+    ghost blank = { λ _. refs.reference_blank };
+}
+
+/// The first byte; behind it the index of a target or of a frame, or the low byte of a place and a reference.
+pub type SubrecordParts = Then<
+    First<Subrecord>,
+    (
+        When<64, 4, 0, Index>,
+        (
+            When<64, 4, 1, When<16, 2, 0, Index>>,
+            When<128, 2, 1, (Byte, ReferenceField)>,
+        ),
+    ),
+>;
+
+/// The two indexes and the fix-up behind it.
+type SubrecordTail = (Option<u16>, (Option<Option<u16>>, Option<(u8, Reference)>));
+
+impl Head for Subrecord {
+    ghost Begins = { subs.IsFirst };
+
+    fn begins(byte: u8) -> bool {
+        let number = byte / 4;
+        match byte / 64 {
+            0 => number % 4 < 3,
+            1 => number % 8 != 3 && number % 8 < 6,
+            _ => location_number(location_of(number % 16)) == number % 16,
+        }
+    }
+}
+
+impl Made<SubrecordParts> for Subrecord {
+    ghost Value = { Subrecord };
+
+    ghost format = { λ _. subs.subrecord };
+
+    ghost is_made = { λ _. subs.subrecord_made };
+
+    fn make(_number: u32, parts: (u8, SubrecordTail)) -> Subrecord {
+        subrecord_of(parts.0, parts.1)
+    }
+
+    fn parts(&self) -> (u8, SubrecordTail) {
+        subrecord_parts(*self)
+    }
+}
+
+/// The subrecord that its first byte and what stands behind it say.
+fn subrecord_of(byte: u8, tail: SubrecordTail) -> Subrecord
+    ensures { result ≡ subs.subrecord_of byte tail }
+{
+    let thread = thread_of(byte % 4);
+    let (target, (frame, fixup)) = tail;
+    match (fixup, frame, target) {
+        (Some((low, reference)), _, _) => Subrecord::Fixup(Fixup {
+            self_relative: byte / 64 % 2 == 0,
+            location: location_of(byte / 4 % 16),
+            offset: 256 * u16::from(byte % 4) + u16::from(low),
+            reference,
+        }),
+        (None, Some(index), _) => Subrecord::SetFrame(thread, frame_method_of(byte / 4 % 8, index)),
+        (None, None, Some(index)) => Subrecord::SetTarget(
+            thread,
+            target_method_of(byte / 4 % 4, index),
+        ),
+        (None, None, None) => Subrecord::SetTarget(thread, target_method_of(byte / 4 % 4, 0)),
+    }
+}
+
+/// The first byte of a subrecord, and what stands behind it.
+fn subrecord_parts(subrecord: Subrecord) -> (u8, SubrecordTail)
+    ensures { result ≡ (subs.first_byte subrecord, subs.behind_first subrecord) }
+{
+    match subrecord {
+        Subrecord::SetFrame(thread, method) => {
+            let byte = 64 + 4 * frame_number(method) + thread_number(thread);
+            (byte, (None, (Some(frame_method_index(method)), None)))
+        }
+        Subrecord::SetTarget(thread, method) => {
+            let byte = 4 * target_number(method) + thread_number(thread);
+            (byte, (Some(target_method_index(method)), (None, None)))
+        }
+        Subrecord::Fixup(fixup) => {
+            let place = (fixup.offset % 256) as u8;
+            (
+                fixup_byte(&fixup),
+                (None, (None, Some((place, fixup.reference)))),
+            )
+        }
+    }
+}
+
+/// The first byte of a fix-up; one that begins nothing, where its place is too far.
+fn fixup_byte(fixup: &Fixup) -> u8
+    ensures { result ≡ subs.fixup_byte fixup.now }
+{
+    if fixup.offset > 1023 {
+        return 144;
+    }
+    let mode = if fixup.self_relative { 0 } else { 64 };
+    128 + mode + 4 * location_number(fixup.location) + (fixup.offset / 256) as u8
+}
+
+/// A subrecord as an item of a list.
+pub struct SubrecordField;
+
+impl Codec for SubrecordField {
+    type Item = Subrecord;
+
+    ghost Value = { Subrecord };
+
+    ghost format = { λ _. subs.subrecord };
+
+    ghost lawful = { λ _. subs.subrecord_lawful };
+
+    fn put<O: Output>(item: &Subrecord, number: u32, out: &mut O) -> Result<(), O::Error> {
+        <Of<SubrecordParts, Subrecord> as Codec>::put(item, number, out)
+    }
+}
+
+impl<'a, A: Allocator + Copy> Field<'a, A> for SubrecordField {
+    fn read(alloc: A, number: u32, bytes: &'a [u8]) -> Read<'a, Subrecord> {
+        <Of<SubrecordParts, Subrecord> as Field<'a, A>>::read(alloc, number, bytes)
+    }
+}
+
+impl Free for SubrecordField {
+    ghost free = { λ _ _. tt };
+}
+
+impl Filled for SubrecordField {
+    ghost filled = { λ _. subs.subrecord_filled };
+}
+
+/// The attribute byte of a MODEND.
+pub struct Attribute;
+
+impl Head for Attribute {
+    ghost Begins = { ends.IsAttribute };
+
+    fn begins(byte: u8) -> bool {
+        byte / 64 % 2 == 0 || byte % 2 == 1
+    }
+}
+
+/// The attribute byte, and a start where that says so.
+type EndParts = Then<First<Attribute>, When<64, 2, 1, ReferenceField>>;
+
+/// Whether the module is the main one, and its start.
+type End = (bool, Option<Reference>);
+
+impl Made<EndParts> for End {
+    ghost Value = { Bool × Option Reference };
+
+    ghost format = { λ _. ends.module_end };
+
+    ghost is_made = { λ _. ends.end_made };
+
+    fn make(_number: u32, parts: (u8, Option<Reference>)) -> End {
+        end_of(parts.0, parts.1)
+    }
+
+    fn parts(&self) -> (u8, Option<Reference>) {
+        (end_byte(*self), self.1)
+    }
+}
+
+/// The end of a module that its attribute byte and its start say.
+fn end_of(byte: u8, start: Option<Reference>) -> End
+    ensures { result ≡ ends.end_of byte start }
+{
+    (byte / 128 == 1, start)
+}
+
+/// The attribute byte: bit 7 of the main module, bits 6 and 0 where a start stands behind it.
+fn end_byte(end: End) -> u8
+    ensures { result ≡ ends.end_byte end }
+{
+    let main = if end.0 { 128 } else { 0 };
+    match end.1 {
+        Some(_) => main + 65,
+        None => main,
+    }
+}
+
+/// The end of a module as a field.
+pub struct EndField;
+
+impl Codec for EndField {
+    type Item = End;
+
+    ghost Value = { Bool × Option Reference };
+
+    ghost format = { λ _. ends.module_end };
+
+    ghost lawful = { λ _. ends.end_lawful };
+
+    fn put<O: Output>(item: &End, number: u32, out: &mut O) -> Result<(), O::Error> {
+        <Of<EndParts, End> as Codec>::put(item, number, out)
+    }
+}
+
+impl<'a, A: Allocator + Copy> Field<'a, A> for EndField {
+    fn read(alloc: A, number: u32, bytes: &'a [u8]) -> Read<'a, End> {
+        <Of<EndParts, End> as Field<'a, A>>::read(alloc, number, bytes)
+    }
+}
+
+impl Free for EndField {
+    ghost free = { λ _ _. tt };
+}
+
+impl Blank for EndField {
+    ghost blank = { λ _. ends.end_blank };
+}

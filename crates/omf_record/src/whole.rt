@@ -1,0 +1,60 @@
+//! Fields of one kind to the end, and fields that are written one behind the other.
+
+ghost use Rattle.std.specs.Prelude.{[], List, refl};
+ghost use Rattle.omf_record.specs.inside.Format.{WritesItem};
+ghost use Rattle.omf_record.specs.inside.FormatLaws.{both, to_end, each_lawful};
+
+use crate::codec::{Blank, Codec, Field, Filled, Free, Read, ReadError};
+use crate::output::Output;
+use std::alloc::Allocator;
+use std::marker::PhantomData;
+
+/// Fields of one kind, to the end.
+pub struct ToEnd<A, F>(PhantomData<A>, PhantomData<F>);
+
+impl<A: Allocator + Copy, F: Free + Filled> Codec for ToEnd<A, F> {
+    type Item = Vec<F::Item, A>;
+
+    ghost Value = { List F.Value };
+
+    ghost format = { λ n. to_end (F.format n) (λ v. v.items) };
+
+    ghost lawful = { λ n. each_lawful (F.format n) (λ v. v.items) (F.lawful n) (F.free n) (F.filled n) };
+
+    fn put<O: Output>(items: &Vec<F::Item, A>, number: u32, out: &mut O) -> Result<(), O::Error> {
+        for item in items {
+            F::put(item, number, out)?;
+        }
+        Ok(())
+    }
+}
+
+impl<'a, A: Allocator + Copy, F: Free + Filled + Field<'a, A>> Field<'a, A> for ToEnd<A, F> {
+    fn read(alloc: A, number: u32, bytes: &'a [u8]) -> Read<'a, Vec<F::Item, A>> {
+        let mut items = Vec::new(alloc);
+        let mut rest = bytes;
+        while !rest.is_empty() {
+            let (item, after) = F::read(alloc, number, rest)?;
+            items.push(item)?;
+            rest = after;
+        }
+        Ok((items, rest))
+    }
+}
+
+impl<A: Allocator + Copy, F: Free + Filled> Blank for ToEnd<A, F> {
+    ghost blank = { λ n. (0, [], refl) };
+}
+
+/// Writes a field, and another one behind it.
+pub fn put_both<F: Free, G: Codec, O: Output>(
+    first: &F::Item,
+    second: &G::Item,
+    out: &mut O,
+) -> Result<(), O::Error>
+    ensures { WritesItem O.Takes O.Refuses (both (F.format 0) (G.format 0)) (first.now, second.now)
+        out.old out.new result }
+{
+    F::put(first, 0, out)?;
+    G::put(second, 0, out)
+}
