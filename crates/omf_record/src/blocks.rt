@@ -99,7 +99,7 @@ impl<'a, A: Allocator + Copy> Codec for BlockField<'a, A> {
 
     ghost lawful = { λ _. blocks.block_lawful 63 };
 
-    fn put<O: Output>(item: &Block<'a, A>, _number: u32, out: &mut O) -> Result<(), O::Error> {
+    fn put<O: Output>(item: &Block<'a, A>, _number: u64, out: &mut O) -> Result<(), O::Error> {
         put_block(item, 63, out)
     }
 }
@@ -107,7 +107,7 @@ impl<'a, A: Allocator + Copy> Codec for BlockField<'a, A> {
 impl<'a, A: Allocator + Copy> Field<'a, A> for BlockField<'a, A> {
     fn read(
         alloc: A,
-        _number: u32,
+        _number: u64,
         bytes: &'a [u8],
     ) -> Result<(Block<'a, A>, &'a [u8]), ReadError<'a>> {
         read_block(alloc, 63, bytes)

@@ -12,25 +12,25 @@ use std::marker::PhantomData;
 
 /// A field whose value is a number.
 pub trait Number: Codec {
-    fn number(item: &Self::Item) -> u32
+    fn number(item: &Self::Item) -> u64
         ensures { (n : ℕ) → result ≡ (Self.format n).number ((Self.format n).view item.now) };
 }
 
 impl<H: Head> Number for First<H> {
-    fn number(item: &u8) -> u32 {
-        u32::from(*item)
+    fn number(item: &u64) -> u64 {
+        *item
     }
 }
 
 impl Number for Word {
-    fn number(item: &u16) -> u32 {
-        u32::from(*item)
+    fn number(item: &u16) -> u64 {
+        u64::from(*item)
     }
 }
 
 impl Number for Index {
-    fn number(item: &u16) -> u32 {
-        u32::from(*item)
+    fn number(item: &u16) -> u64 {
+        u64::from(*item)
     }
 }
 
@@ -48,7 +48,7 @@ impl<N: Number + Free, F: Free> Codec for Then<N, F> {
         (N.lawful n) (N.free n) (λ x. F.lawful ((N.format n).number x))
         (λ x rest e. F.free ((N.format n).number x) rest) };
 
-    fn put<O: Output>(item: &(N::Item, F::Item), number: u32, out: &mut O) -> Result<(), O::Error> {
+    fn put<O: Output>(item: &(N::Item, F::Item), number: u64, out: &mut O) -> Result<(), O::Error> {
         N::put(&item.0, number, out)?;
         F::put(&item.1, N::number(&item.0), out)
     }
@@ -60,7 +60,7 @@ impl<
     N: Number + Free + Field<'a, A>,
     F: Free + Blank + Field<'a, A>,
 > Field<'a, A> for Then<N, F> {
-    fn read(alloc: A, number: u32, bytes: &'a [u8]) -> Read<'a, (N::Item, F::Item)> {
+    fn read(alloc: A, number: u64, bytes: &'a [u8]) -> Read<'a, (N::Item, F::Item)> {
         let (first, rest) = N::read(alloc, number, bytes)?;
         let (second, rest) = F::read(alloc, N::number(&first), rest)?;
         Ok(((first, second), rest))
@@ -82,7 +82,7 @@ impl<N: Number + Free + Filled, F: Free> Filled for Then<N, F> {
 }
 
 /// Some bits of a number: divided by the unit, modulo the count.
-fn bits_at(unit: u32, count: u32, number: u32) -> u32
+fn bits_at(unit: u64, count: u64, number: u64) -> u64
     ensures { result ≡ bits_at unit count number }
 {
     if unit == 0 || count == 0 {
@@ -92,9 +92,9 @@ fn bits_at(unit: u32, count: u32, number: u32) -> u32
 }
 
 /// A field that stands only where these bits of the number are these.
-pub struct When<const UNIT: u32, const COUNT: u32, const BITS: u32, F>(PhantomData<F>);
+pub struct When<const UNIT: u64, const COUNT: u64, const BITS: u64, F>(PhantomData<F>);
 
-impl<const UNIT: u32, const COUNT: u32, const BITS: u32, F: Free> Codec
+impl<const UNIT: u64, const COUNT: u64, const BITS: u64, F: Free> Codec
     for When<UNIT, COUNT, BITS, F> {
     type Item = Option<F::Item>;
 
@@ -104,7 +104,7 @@ impl<const UNIT: u32, const COUNT: u32, const BITS: u32, F: Free> Codec
 
     ghost lawful = { λ n. when_lawful (bits_at UNIT COUNT n ≡ BITS) (F.format n) (F.lawful n) (F.free n) };
 
-    fn put<O: Output>(item: &Option<F::Item>, number: u32, out: &mut O) -> Result<(), O::Error> {
+    fn put<O: Output>(item: &Option<F::Item>, number: u64, out: &mut O) -> Result<(), O::Error> {
         let stands = bits_at(UNIT, COUNT, number) == BITS;
         match item {
             Some(item) if stands => F::put(item, number, out),
@@ -117,12 +117,12 @@ impl<const UNIT: u32, const COUNT: u32, const BITS: u32, F: Free> Codec
 impl<
     'a,
     A: Allocator + Copy,
-    const UNIT: u32,
-    const COUNT: u32,
-    const BITS: u32,
+    const UNIT: u64,
+    const COUNT: u64,
+    const BITS: u64,
     F: Free + Field<'a, A>,
 > Field<'a, A> for When<UNIT, COUNT, BITS, F> {
-    fn read(alloc: A, number: u32, bytes: &'a [u8]) -> Read<'a, Option<F::Item>> {
+    fn read(alloc: A, number: u64, bytes: &'a [u8]) -> Read<'a, Option<F::Item>> {
         if bits_at(UNIT, COUNT, number) != BITS {
             return Ok((None, bytes));
         }
@@ -131,12 +131,12 @@ impl<
     }
 }
 
-impl<const UNIT: u32, const COUNT: u32, const BITS: u32, F: Free> Free
+impl<const UNIT: u64, const COUNT: u64, const BITS: u64, F: Free> Free
     for When<UNIT, COUNT, BITS, F> {
     ghost free = { λ _ _. tt };
 }
 
-impl<const UNIT: u32, const COUNT: u32, const BITS: u32, F: Free + Blank> Blank
+impl<const UNIT: u64, const COUNT: u64, const BITS: u64, F: Free + Blank> Blank
     for When<UNIT, COUNT, BITS, F> {
     ghost blank = { λ n. when_blank (bits_at UNIT COUNT n) BITS (F.format n) (F.blank n) };
 }

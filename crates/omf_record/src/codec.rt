@@ -39,7 +39,7 @@ pub trait Codec {
 
     ghost format: { ℕ → Format Self.Item Value };
 
-    fn put<O: Output>(item: &Self::Item, number: u32, out: &mut O) -> Result<(), O::Error>
+    fn put<O: Output>(item: &Self::Item, number: u64, out: &mut O) -> Result<(), O::Error>
         ensures { WritesItem O.Takes O.Refuses (format number) item.now out.old out.new result };
 
     ghost lawful: { (number : ℕ) → Lawful (format number) };
@@ -47,7 +47,7 @@ pub trait Codec {
 
 /// A field that is read at the front of bytes.
 pub trait Field<'a, A: Allocator + Copy>: Codec {
-    fn read(alloc: A, number: u32, bytes: &'a [u8]) -> Read<'a, Self::Item>
+    fn read(alloc: A, number: u64, bytes: &'a [u8]) -> Read<'a, Self::Item>
         ensures { Reads (Self.format number) (λ x. (x.0, x.1.now)) bytes.now result };
 }
 
@@ -76,7 +76,7 @@ impl<F: Free, G: Codec> Codec for (F, G) {
 
     ghost lawful = { λ n. both_lawful (F.format n) (F.lawful n) (F.free n) (G.format n) (G.lawful n) };
 
-    fn put<O: Output>(item: &(F::Item, G::Item), number: u32, out: &mut O) -> Result<(), O::Error> {
+    fn put<O: Output>(item: &(F::Item, G::Item), number: u64, out: &mut O) -> Result<(), O::Error> {
         F::put(&item.0, number, out)?;
         G::put(&item.1, number, out)
     }
@@ -84,7 +84,7 @@ impl<F: Free, G: Codec> Codec for (F, G) {
 
 impl<'a, A: Allocator + Copy, F: Field<'a, A> + Free, G: Field<'a, A> + Blank> Field<'a, A>
     for (F, G) {
-    fn read(alloc: A, number: u32, bytes: &'a [u8]) -> Read<'a, (F::Item, G::Item)> {
+    fn read(alloc: A, number: u64, bytes: &'a [u8]) -> Read<'a, (F::Item, G::Item)> {
         let (first, rest) = F::read(alloc, number, bytes)?;
         let (second, rest) = G::read(alloc, number, rest)?;
         Ok(((first, second), rest))
@@ -109,7 +109,7 @@ pub trait Made<P: Codec>: Sized + Drop {
 
     ghost format: { ℕ → Format Self Value };
 
-    fn make(number: u32, parts: P::Item) -> Self
+    fn make(number: u64, parts: P::Item) -> Self
         ensures { Makes (P.format number) (format number) parts result };
 
     fn parts(&self) -> P::Item
@@ -130,13 +130,13 @@ impl<P: Free, T: Made<P>> Codec for Of<P, T> {
 
     ghost lawful = { λ n. made_lawful (P.format n) (T.format n) (T.is_made n) (P.lawful n) (P.free n) };
 
-    fn put<O: Output>(item: &T, number: u32, out: &mut O) -> Result<(), O::Error> {
+    fn put<O: Output>(item: &T, number: u64, out: &mut O) -> Result<(), O::Error> {
         P::put(&item.parts(), number, out)
     }
 }
 
 impl<'a, A: Allocator + Copy, P: Field<'a, A> + Free, T: Made<P>> Field<'a, A> for Of<P, T> {
-    fn read(alloc: A, number: u32, bytes: &'a [u8]) -> Read<'a, T> {
+    fn read(alloc: A, number: u64, bytes: &'a [u8]) -> Read<'a, T> {
         let (parts, rest) = P::read(alloc, number, bytes)?;
         Ok((T::make(number, parts), rest))
     }
@@ -157,7 +157,7 @@ impl<P: Free + Filled, T: Made<P>> Filled for Of<P, T> {
 /// Writes a value as its parts.
 pub fn put_made<P: Free, T: Made<P>, O: Output>(
     item: &T,
-    number: u32,
+    number: u64,
     out: &mut O,
 ) -> Result<(), O::Error>
     ensures { WritesItem O.Takes O.Refuses (T.format number) item.now out.old out.new result }
@@ -168,7 +168,7 @@ pub fn put_made<P: Free, T: Made<P>, O: Output>(
 /// A value read by its parts.
 pub fn read_made<'a, A: Allocator + Copy, P: Field<'a, A> + Free, T: Made<P>>(
     alloc: A,
-    number: u32,
+    number: u64,
     bytes: &'a [u8],
 ) -> Read<'a, T>
     ensures { Reads (T.format number) (λ x. (x.0, x.1.now)) bytes.now result }

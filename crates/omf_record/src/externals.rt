@@ -51,7 +51,7 @@ impl<'a> Made<(Name<'a>, Index)> for External<'a> {
 
     ghost is_made = { λ _. shapes.external_made };
 
-    fn make(_number: u32, (name, type_index): (&'a [u8], u16)) -> External<'a> {
+    fn make(_number: u64, (name, type_index): (&'a [u8], u16)) -> External<'a> {
         External { name, type_index }
     }
 
@@ -67,7 +67,7 @@ impl<'a> Made<(Name<'a>, (Word, Index))> for Public<'a> {
 
     ghost is_made = { λ _. shapes.public_made };
 
-    fn make(_number: u32, (name, (offset, type_index)): (&'a [u8], (u16, u16))) -> Public<'a> {
+    fn make(_number: u64, (name, (offset, type_index)): (&'a [u8], (u16, u16))) -> Public<'a> {
         Public {
             name,
             offset,
@@ -87,7 +87,7 @@ impl Made<(Word, Word)> for Line {
 
     ghost is_made = { λ _. shapes.line_made };
 
-    fn make(_number: u32, (number, offset): (u16, u16)) -> Line {
+    fn make(_number: u64, (number, offset): (u16, u16)) -> Line {
         Line { number, offset }
     }
 
@@ -107,7 +107,7 @@ impl Made<BaseParts> for PublicBase {
     ghost is_made = { λ _. shapes.base_made };
 
     #[tactic(auto, using(crate::specs::inside::Shapes::base_to))]
-    fn make(_number: u32, (group, (segment, frame)): (u16, (u16, Option<u16>))) -> PublicBase {
+    fn make(_number: u64, (group, (segment, frame)): (u16, (u16, Option<u16>))) -> PublicBase {
         match frame {
             Some(frame) => PublicBase::AtFrame { group, frame },
             None => PublicBase::InSegment { group, segment },
@@ -135,13 +135,13 @@ impl<'a> Codec for ExternalField<'a> {
 
     ghost lawful = { λ _. shapes.external_lawful };
 
-    fn put<O: Output>(item: &External<'a>, number: u32, out: &mut O) -> Result<(), O::Error> {
+    fn put<O: Output>(item: &External<'a>, number: u64, out: &mut O) -> Result<(), O::Error> {
         put_made::<(Name<'a>, Index), External<'a>, O>(item, number, out)
     }
 }
 
 impl<'a, A: Allocator + Copy> Field<'a, A> for ExternalField<'a> {
-    fn read(alloc: A, number: u32, bytes: &'a [u8]) -> Read<'a, External<'a>> {
+    fn read(alloc: A, number: u64, bytes: &'a [u8]) -> Read<'a, External<'a>> {
         read_made::<A, (Name<'a>, Index), External<'a>>(alloc, number, bytes)
     }
 }
@@ -166,13 +166,13 @@ impl<'a> Codec for PublicField<'a> {
 
     ghost lawful = { λ _. shapes.public_lawful };
 
-    fn put<O: Output>(item: &Public<'a>, number: u32, out: &mut O) -> Result<(), O::Error> {
+    fn put<O: Output>(item: &Public<'a>, number: u64, out: &mut O) -> Result<(), O::Error> {
         put_made::<(Name<'a>, (Word, Index)), Public<'a>, O>(item, number, out)
     }
 }
 
 impl<'a, A: Allocator + Copy> Field<'a, A> for PublicField<'a> {
-    fn read(alloc: A, number: u32, bytes: &'a [u8]) -> Read<'a, Public<'a>> {
+    fn read(alloc: A, number: u64, bytes: &'a [u8]) -> Read<'a, Public<'a>> {
         read_made::<A, (Name<'a>, (Word, Index)), Public<'a>>(alloc, number, bytes)
     }
 }

@@ -15,7 +15,7 @@ ghost use Rattle.omf_record.specs.inside.Subrecords as subs;
 use crate::choice::{Then, When};
 use crate::codec::{Blank, Codec, Field, Filled, Free, Made, Of, Read};
 use crate::output::Output;
-use crate::primitives::{Byte, First, Head, Index, Word};
+use crate::primitives::{Any, First, Head, Index, Word};
 use std::alloc::Allocator;
 
 /// The number of one of four frame threads, or of one of four target threads.
@@ -128,7 +128,7 @@ pub enum Subrecord {
 }
 
 /// The thread of this number.
-fn thread_of(number: u8) -> ThreadNumber
+fn thread_of(number: u64) -> ThreadNumber
     ensures { result ≡ thread_of number }
 {
     match number {
@@ -140,7 +140,7 @@ fn thread_of(number: u8) -> ThreadNumber
 }
 
 /// The location of this number, where one has it.
-fn location_of(number: u8) -> Location
+fn location_of(number: u64) -> Location
     ensures { result ≡ location_of number }
 {
     match number {
@@ -217,7 +217,7 @@ pub fn location_number(location: Location) -> u8
 }
 
 /// The frame's method of this number, with the index behind it.
-fn frame_method_of(number: u8, index: Option<u16>) -> FrameMethod
+fn frame_method_of(number: u64, index: Option<u16>) -> FrameMethod
     ensures { result ≡ refs.frame_method_of number index }
 {
     match index {
@@ -245,7 +245,7 @@ fn frame_method_index(method: FrameMethod) -> Option<u16>
 }
 
 /// The target's method of this number, with the index behind it.
-fn target_method_of(number: u8, index: u16) -> TargetMethod
+fn target_method_of(number: u64, index: u16) -> TargetMethod
     ensures { result ≡ refs.target_method_of number index }
 {
     match number {
@@ -266,7 +266,7 @@ fn target_method_index(method: TargetMethod) -> u16
 }
 
 /// The frame that a fix data byte says, with the index behind it.
-fn frame_datum_of(byte: u8, index: Option<u16>) -> FrameDatum
+fn frame_datum_of(byte: u64, index: Option<u16>) -> FrameDatum
     ensures { result ≡ refs.frame_datum_of byte index }
 {
     if byte / 128 == 1 {
@@ -277,7 +277,7 @@ fn frame_datum_of(byte: u8, index: Option<u16>) -> FrameDatum
 }
 
 /// The target that a fix data byte says, with the index behind it.
-fn target_datum_of(byte: u8, index: Option<u16>) -> TargetDatum
+fn target_datum_of(byte: u64, index: Option<u16>) -> TargetDatum
     ensures { result ≡ refs.target_datum_of byte index }
 {
     match index {
@@ -338,17 +338,17 @@ impl Made<ReferenceParts> for Reference {
 
     ghost is_made = { λ _. refs.reference_made };
 
-    fn make(_number: u32, parts: (u8, ReferenceTail)) -> Reference {
+    fn make(_number: u64, parts: (u64, ReferenceTail)) -> Reference {
         reference_of(parts.0, parts.1)
     }
 
-    fn parts(&self) -> (u8, ReferenceTail) {
+    fn parts(&self) -> (u64, ReferenceTail) {
         reference_parts(*self)
     }
 }
 
 /// The reference that a fix data byte and what stands behind it say.
-fn reference_of(byte: u8, tail: ReferenceTail) -> Reference
+fn reference_of(byte: u64, tail: ReferenceTail) -> Reference
     ensures { result ≡ refs.reference_of byte tail }
 {
     Reference {
@@ -359,12 +359,12 @@ fn reference_of(byte: u8, tail: ReferenceTail) -> Reference
 }
 
 /// The fix data byte of a reference, and what stands behind it.
-fn reference_parts(reference: Reference) -> (u8, ReferenceTail)
+fn reference_parts(reference: Reference) -> (u64, ReferenceTail)
     ensures { result ≡ (canon.fix_data reference, refs.reference_tail reference) }
 {
     let (frame, frame_index) = frame_bits(reference.frame);
     let (target, target_index) = target_bits(reference.target);
-    let byte = frame + 4 * absent(reference.displacement) + target;
+    let byte = u64::from(frame + 4 * absent(reference.displacement) + target);
     (byte, (frame_index, (target_index, reference.displacement)))
 }
 
@@ -380,13 +380,13 @@ impl Codec for ReferenceField {
 
     ghost lawful = { λ _. refs.reference_lawful };
 
-    fn put<O: Output>(item: &Reference, number: u32, out: &mut O) -> Result<(), O::Error> {
+    fn put<O: Output>(item: &Reference, number: u64, out: &mut O) -> Result<(), O::Error> {
         <Of<ReferenceParts, Reference> as Codec>::put(item, number, out)
     }
 }
 
 impl<'a, A: Allocator + Copy> Field<'a, A> for ReferenceField {
-    fn read(alloc: A, number: u32, bytes: &'a [u8]) -> Read<'a, Reference> {
+    fn read(alloc: A, number: u64, bytes: &'a [u8]) -> Read<'a, Reference> {
         <Of<ReferenceParts, Reference> as Field<'a, A>>::read(alloc, number, bytes)
     }
 }
@@ -406,13 +406,13 @@ pub type SubrecordParts = Then<
         When<64, 4, 0, Index>,
         (
             When<64, 4, 1, When<16, 2, 0, Index>>,
-            When<128, 2, 1, (Byte, ReferenceField)>,
+            When<128, 2, 1, (First<Any>, ReferenceField)>,
         ),
     ),
 >;
 
 /// The two indexes and the fix-up behind it.
-type SubrecordTail = (Option<u16>, (Option<Option<u16>>, Option<(u8, Reference)>));
+type SubrecordTail = (Option<u16>, (Option<Option<u16>>, Option<(u64, Reference)>));
 
 impl Head for Subrecord {
     ghost Begins = { subs.IsFirst };
@@ -422,7 +422,7 @@ impl Head for Subrecord {
         match byte / 64 {
             0 => number % 4 < 3,
             1 => number % 8 != 3 && number % 8 < 6,
-            _ => location_number(location_of(number % 16)) == number % 16,
+            _ => location_number(location_of(u64::from(number % 16))) == number % 16,
         }
     }
 }
@@ -434,17 +434,17 @@ impl Made<SubrecordParts> for Subrecord {
 
     ghost is_made = { λ _. subs.subrecord_made };
 
-    fn make(_number: u32, parts: (u8, SubrecordTail)) -> Subrecord {
+    fn make(_number: u64, parts: (u64, SubrecordTail)) -> Subrecord {
         subrecord_of(parts.0, parts.1)
     }
 
-    fn parts(&self) -> (u8, SubrecordTail) {
+    fn parts(&self) -> (u64, SubrecordTail) {
         subrecord_parts(*self)
     }
 }
 
 /// The subrecord that its first byte and what stands behind it say.
-fn subrecord_of(byte: u8, tail: SubrecordTail) -> Subrecord
+fn subrecord_of(byte: u64, tail: SubrecordTail) -> Subrecord
     ensures { result ≡ subs.subrecord_of byte tail }
 {
     let thread = thread_of(byte % 4);
@@ -453,7 +453,7 @@ fn subrecord_of(byte: u8, tail: SubrecordTail) -> Subrecord
         (Some((low, reference)), _, _) => Subrecord::Fixup(Fixup {
             self_relative: byte / 64 % 2 == 0,
             location: location_of(byte / 4 % 16),
-            offset: 256 * u16::from(byte % 4) + u16::from(low),
+            offset: (256 * (byte % 4) + low % 256) as u16,
             reference,
         }),
         (None, Some(index), _) => Subrecord::SetFrame(thread, frame_method_of(byte / 4 % 8, index)),
@@ -466,24 +466,21 @@ fn subrecord_of(byte: u8, tail: SubrecordTail) -> Subrecord
 }
 
 /// The first byte of a subrecord, and what stands behind it.
-fn subrecord_parts(subrecord: Subrecord) -> (u8, SubrecordTail)
+fn subrecord_parts(subrecord: Subrecord) -> (u64, SubrecordTail)
     ensures { result ≡ (subs.first_byte subrecord, subs.behind_first subrecord) }
 {
     match subrecord {
         Subrecord::SetFrame(thread, method) => {
-            let byte = 64 + 4 * frame_number(method) + thread_number(thread);
+            let byte = u64::from(64 + 4 * frame_number(method) + thread_number(thread));
             (byte, (None, (Some(frame_method_index(method)), None)))
         }
         Subrecord::SetTarget(thread, method) => {
-            let byte = 4 * target_number(method) + thread_number(thread);
+            let byte = u64::from(4 * target_number(method) + thread_number(thread));
             (byte, (Some(target_method_index(method)), (None, None)))
         }
         Subrecord::Fixup(fixup) => {
-            let place = (fixup.offset % 256) as u8;
-            (
-                fixup_byte(&fixup),
-                (None, (None, Some((place, fixup.reference)))),
-            )
+            let (byte, low) = (u64::from(fixup_byte(&fixup)), u64::from(fixup.offset % 256));
+            (byte, (None, (None, Some((low, fixup.reference)))))
         }
     }
 }
@@ -511,13 +508,13 @@ impl Codec for SubrecordField {
 
     ghost lawful = { λ _. subs.subrecord_lawful };
 
-    fn put<O: Output>(item: &Subrecord, number: u32, out: &mut O) -> Result<(), O::Error> {
+    fn put<O: Output>(item: &Subrecord, number: u64, out: &mut O) -> Result<(), O::Error> {
         <Of<SubrecordParts, Subrecord> as Codec>::put(item, number, out)
     }
 }
 
 impl<'a, A: Allocator + Copy> Field<'a, A> for SubrecordField {
-    fn read(alloc: A, number: u32, bytes: &'a [u8]) -> Read<'a, Subrecord> {
+    fn read(alloc: A, number: u64, bytes: &'a [u8]) -> Read<'a, Subrecord> {
         <Of<SubrecordParts, Subrecord> as Field<'a, A>>::read(alloc, number, bytes)
     }
 }
@@ -554,24 +551,24 @@ impl Made<EndParts> for End {
 
     ghost is_made = { λ _. ends.end_made };
 
-    fn make(_number: u32, parts: (u8, Option<Reference>)) -> End {
+    fn make(_number: u64, parts: (u64, Option<Reference>)) -> End {
         end_of(parts.0, parts.1)
     }
 
-    fn parts(&self) -> (u8, Option<Reference>) {
+    fn parts(&self) -> (u64, Option<Reference>) {
         (end_byte(*self), self.1)
     }
 }
 
 /// The end of a module that its attribute byte and its start say.
-fn end_of(byte: u8, start: Option<Reference>) -> End
+fn end_of(byte: u64, start: Option<Reference>) -> End
     ensures { result ≡ ends.end_of byte start }
 {
     (byte / 128 == 1, start)
 }
 
 /// The attribute byte: bit 7 of the main module, bits 6 and 0 where a start stands behind it.
-fn end_byte(end: End) -> u8
+fn end_byte(end: End) -> u64
     ensures { result ≡ ends.end_byte end }
 {
     let main = if end.0 { 128 } else { 0 };
@@ -593,13 +590,13 @@ impl Codec for EndField {
 
     ghost lawful = { λ _. ends.end_lawful };
 
-    fn put<O: Output>(item: &End, number: u32, out: &mut O) -> Result<(), O::Error> {
+    fn put<O: Output>(item: &End, number: u64, out: &mut O) -> Result<(), O::Error> {
         <Of<EndParts, End> as Codec>::put(item, number, out)
     }
 }
 
 impl<'a, A: Allocator + Copy> Field<'a, A> for EndField {
-    fn read(alloc: A, number: u32, bytes: &'a [u8]) -> Read<'a, End> {
+    fn read(alloc: A, number: u64, bytes: &'a [u8]) -> Read<'a, End> {
         <Of<EndParts, End> as Field<'a, A>>::read(alloc, number, bytes)
     }
 }

@@ -41,9 +41,19 @@ impl<A: Allocator + Copy> Output for Vec<u8, A> {
 
     ghost is_output = { vec_output (λ v. v.items) };
 
+    // Most fields are one byte or two, which a push each takes faster than a copy.
+    #[inline(always)]
     fn write(&mut self, bytes: &[u8]) -> Result<(), WriteError> {
-        self.extend_from_slice(bytes)
-            .map_err(|_| WriteError::Memory)
+        match bytes {
+            [byte] => self.push(*byte).map_err(|_| WriteError::Memory),
+            [first, second] => {
+                self.push(*first).map_err(|_| WriteError::Memory)?;
+                self.push(*second).map_err(|_| WriteError::Memory)
+            }
+            _ => self
+                .extend_from_slice(bytes)
+                .map_err(|_| WriteError::Memory),
+        }
     }
 
     fn no_text(&self) -> WriteError {

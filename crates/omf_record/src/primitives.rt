@@ -24,13 +24,13 @@ impl Codec for Byte {
 
     ghost lawful = { λ _. fmt.byte_lawful };
 
-    fn put<O: Output>(item: &u8, _number: u32, out: &mut O) -> Result<(), O::Error> {
+    fn put<O: Output>(item: &u8, _number: u64, out: &mut O) -> Result<(), O::Error> {
         out.write(&[*item])
     }
 }
 
 impl<'a, A: Allocator + Copy> Field<'a, A> for Byte {
-    fn read(_alloc: A, _number: u32, bytes: &'a [u8]) -> Read<'a, u8> {
+    fn read(_alloc: A, _number: u64, bytes: &'a [u8]) -> Read<'a, u8> {
         match bytes {
             [] => Err(ReadError::Refused(bytes)),
             [byte, rest @ ..] => Ok((*byte, rest)),
@@ -54,11 +54,11 @@ pub trait Head {
         ensures { IsTrue result ↔ Begins byte };
 }
 
-/// A byte that may begin something.
+/// A byte that may begin something, as a number that fields behind it may depend on.
 pub struct First<H>(PhantomData<H>);
 
 impl<H: Head> Codec for First<H> {
-    type Item = u8;
+    type Item = u64;
 
     ghost Value = { ℕ };
 
@@ -66,18 +66,18 @@ impl<H: Head> Codec for First<H> {
 
     ghost lawful = { λ _. fmt.fact_byte_lawful H.Begins };
 
-    fn put<O: Output>(item: &u8, _number: u32, out: &mut O) -> Result<(), O::Error> {
-        if !H::begins(*item) {
-            return Err(out.no_text());
+    fn put<O: Output>(item: &u64, _number: u64, out: &mut O) -> Result<(), O::Error> {
+        match u8::try_from(*item) {
+            Ok(byte) if H::begins(byte) => out.write(&[byte]),
+            _ => Err(out.no_text()),
         }
-        out.write(&[*item])
     }
 }
 
 impl<'a, A: Allocator + Copy, H: Head> Field<'a, A> for First<H> {
-    fn read(_alloc: A, _number: u32, bytes: &'a [u8]) -> Read<'a, u8> {
+    fn read(_alloc: A, _number: u64, bytes: &'a [u8]) -> Read<'a, u64> {
         match bytes {
-            [byte, rest @ ..] if H::begins(*byte) => Ok((*byte, rest)),
+            [byte, rest @ ..] if H::begins(*byte) => Ok((u64::from(*byte), rest)),
             _ => Err(ReadError::Refused(bytes)),
         }
     }
@@ -89,6 +89,21 @@ impl<H: Head> Free for First<H> {
 
 impl<H: Head> Filled for First<H> {
     ghost filled = { λ _. fmt.fact_byte_filled H.Begins };
+}
+
+/// Any byte.
+pub struct Any;
+
+impl Head for Any {
+    ghost Begins = { λ _. Unit {0} };
+
+    fn begins(_byte: u8) -> bool {
+        true
+    }
+}
+
+impl Blank for First<Any> {
+    ghost blank = { λ _. fmt.fact_byte_blank (λ x. Unit {0}) tt };
 }
 
 /// A word, the low byte first.
@@ -103,14 +118,13 @@ impl Codec for Word {
 
     ghost lawful = { λ _. fmt.word_lawful };
 
-    fn put<O: Output>(item: &u16, _number: u32, out: &mut O) -> Result<(), O::Error> {
-        let word = *item;
-        out.write(&[(word % 256) as u8, (word / 256) as u8])
+    fn put<O: Output>(item: &u16, _number: u64, out: &mut O) -> Result<(), O::Error> {
+        out.write(&[(*item % 256) as u8, (*item / 256) as u8])
     }
 }
 
 impl<'a, A: Allocator + Copy> Field<'a, A> for Word {
-    fn read(_alloc: A, _number: u32, bytes: &'a [u8]) -> Read<'a, u16> {
+    fn read(_alloc: A, _number: u64, bytes: &'a [u8]) -> Read<'a, u16> {
         if bytes.len() < 2 {
             return Err(ReadError::Refused(&bytes[bytes.len()..]));
         }
@@ -142,7 +156,7 @@ impl Codec for Index {
 
     ghost lawful = { λ _. fmt.index_lawful };
 
-    fn put<O: Output>(item: &u16, _number: u32, out: &mut O) -> Result<(), O::Error> {
+    fn put<O: Output>(item: &u16, _number: u64, out: &mut O) -> Result<(), O::Error> {
         let index = *item;
         if index < 128 {
             out.write(&[index as u8])
@@ -155,7 +169,7 @@ impl Codec for Index {
 }
 
 impl<'a, A: Allocator + Copy> Field<'a, A> for Index {
-    fn read(_alloc: A, _number: u32, bytes: &'a [u8]) -> Read<'a, u16> {
+    fn read(_alloc: A, _number: u64, bytes: &'a [u8]) -> Read<'a, u16> {
         match read_index(bytes) {
             Some((index, len)) => Ok((index, &bytes[len..])),
             None => Err(ReadError::Refused(&bytes[bytes.len()..])),
@@ -183,7 +197,7 @@ impl<'a> Codec for Name<'a> {
 
     ghost lawful = { λ _. fmt.name_lawful };
 
-    fn put<O: Output>(item: &&'a [u8], _number: u32, out: &mut O) -> Result<(), O::Error> {
+    fn put<O: Output>(item: &&'a [u8], _number: u64, out: &mut O) -> Result<(), O::Error> {
         put_name(item, out)
     }
 }
@@ -207,7 +221,7 @@ fn put_name<O: Output>(name: &[u8], out: &mut O) -> Result<(), O::Error>
 }
 
 impl<'a, A: Allocator + Copy> Field<'a, A> for Name<'a> {
-    fn read(_alloc: A, _number: u32, bytes: &'a [u8]) -> Read<'a, &'a [u8]> {
+    fn read(_alloc: A, _number: u64, bytes: &'a [u8]) -> Read<'a, &'a [u8]> {
         match read_name(bytes) {
             Some((name, len)) => Ok((name, &bytes[len..])),
             None => Err(ReadError::Refused(&bytes[bytes.len()..])),
@@ -239,13 +253,13 @@ impl<'a> Codec for Rest<'a> {
 
     ghost lawful = { λ _. fmt.rest_lawful };
 
-    fn put<O: Output>(item: &&'a [u8], _number: u32, out: &mut O) -> Result<(), O::Error> {
+    fn put<O: Output>(item: &&'a [u8], _number: u64, out: &mut O) -> Result<(), O::Error> {
         put_bytes(item, out)
     }
 }
 
 impl<'a, A: Allocator + Copy> Field<'a, A> for Rest<'a> {
-    fn read(_alloc: A, _number: u32, bytes: &'a [u8]) -> Read<'a, &'a [u8]> {
+    fn read(_alloc: A, _number: u64, bytes: &'a [u8]) -> Read<'a, &'a [u8]> {
         Ok((bytes, &bytes[bytes.len()..]))
     }
 }

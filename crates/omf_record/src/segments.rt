@@ -77,7 +77,7 @@ pub struct SegmentDefinition {
 }
 
 /// The alignment of this number, of a segment that isn't absolute.
-fn alignment_of(number: u8) -> Alignment
+fn alignment_of(number: u64) -> Alignment
     ensures { result ≡ alignment_of number }
 {
     match number {
@@ -90,7 +90,7 @@ fn alignment_of(number: u8) -> Alignment
 }
 
 /// The combination of this number, where one has it.
-fn combination_of(number: u8) -> Combination
+fn combination_of(number: u64) -> Combination
     ensures { result ≡ combination_of number }
 {
     match number {
@@ -190,7 +190,7 @@ pub type SegmentParts = Then<
 /// What stands behind the byte.
 type SegmentTail = (
     Option<(u16, u8)>,
-    ((Option<(u8, u8)>, Option<u16>), (u16, (u16, u16))),
+    ((Option<(u64, u64)>, Option<u16>), (u16, (u16, u16))),
 );
 
 impl Head for SegmentDefinition {
@@ -199,7 +199,7 @@ impl Head for SegmentDefinition {
     fn begins(byte: u8) -> bool {
         let combination = byte / 4 % 8;
         byte / 32 < 6
-            && combination_number(combination_of(combination)) == combination
+            && combination_number(combination_of(u64::from(combination))) == combination
             && byte % 2 == 0
     }
 }
@@ -211,17 +211,17 @@ impl Made<SegmentParts> for SegmentDefinition {
 
     ghost is_made = { λ _. segs.segment_made };
 
-    fn make(_number: u32, parts: (u8, SegmentTail)) -> SegmentDefinition {
+    fn make(_number: u64, parts: (u64, SegmentTail)) -> SegmentDefinition {
         segment_of(parts.0, parts.1)
     }
 
-    fn parts(&self) -> (u8, SegmentTail) {
+    fn parts(&self) -> (u64, SegmentTail) {
         segment_parts(*self)
     }
 }
 
 /// The segment that its byte A, C, B, P and what stands behind it say.
-fn segment_of(byte: u8, tail: SegmentTail) -> SegmentDefinition
+fn segment_of(byte: u64, tail: SegmentTail) -> SegmentDefinition
     ensures { result ≡ segs.segment_of byte tail }
 {
     let (absolute, ((_, length), (name, (class, overlay)))) = tail;
@@ -242,7 +242,7 @@ fn segment_of(byte: u8, tail: SegmentTail) -> SegmentDefinition
 }
 
 /// The byte A, C, B, P of a segment, and what stands behind it.
-fn segment_parts(segment: SegmentDefinition) -> (u8, SegmentTail)
+fn segment_parts(segment: SegmentDefinition) -> (u64, SegmentTail)
     ensures { result ≡ (canon.acbp segment, segs.segment_tail segment) }
 {
     let byte = 32 * alignment_number(segment.alignment)
@@ -261,7 +261,7 @@ fn segment_parts(segment: SegmentDefinition) -> (u8, SegmentTail)
         SegmentLength::Whole => (Some((0, 0)), None),
     };
     (
-        byte,
+        u64::from(byte),
         (
             absolute,
             (length, (segment.name, (segment.class, segment.overlay))),
@@ -281,13 +281,13 @@ impl Codec for SegmentField {
 
     ghost lawful = { λ _. segs.segment_lawful };
 
-    fn put<O: Output>(item: &SegmentDefinition, number: u32, out: &mut O) -> Result<(), O::Error> {
+    fn put<O: Output>(item: &SegmentDefinition, number: u64, out: &mut O) -> Result<(), O::Error> {
         <Of<SegmentParts, SegmentDefinition> as Codec>::put(item, number, out)
     }
 }
 
 impl<'a, A: Allocator + Copy> Field<'a, A> for SegmentField {
-    fn read(alloc: A, number: u32, bytes: &'a [u8]) -> Read<'a, SegmentDefinition> {
+    fn read(alloc: A, number: u64, bytes: &'a [u8]) -> Read<'a, SegmentDefinition> {
         <Of<SegmentParts, SegmentDefinition> as Field<'a, A>>::read(alloc, number, bytes)
     }
 }
@@ -320,12 +320,12 @@ impl Made<(First<Mark>, Index)> for u16 {
     ghost is_made = { λ _. shapes.component_made };
 
     #[tactic(auto, using(crate::specs::inside::Shapes::component_to))]
-    fn make(_number: u32, (_, segment): (u8, u16)) -> u16 {
+    fn make(_number: u64, (_, segment): (u64, u16)) -> u16 {
         segment
     }
 
     #[tactic(auto, using(crate::specs::inside::Shapes::component_splits))]
-    fn parts(&self) -> (u8, u16) {
+    fn parts(&self) -> (u64, u16) {
         (0xFF, *self)
     }
 }

@@ -21,7 +21,7 @@ impl<A: Allocator + Copy, F: Free + Filled> Codec for ToEnd<A, F> {
 
     ghost lawful = { λ n. each_lawful (F.format n) (λ v. v.items) (F.lawful n) (F.free n) (F.filled n) };
 
-    fn put<O: Output>(items: &Vec<F::Item, A>, number: u32, out: &mut O) -> Result<(), O::Error> {
+    fn put<O: Output>(items: &Vec<F::Item, A>, number: u64, out: &mut O) -> Result<(), O::Error> {
         for item in items {
             F::put(item, number, out)?;
         }
@@ -30,7 +30,7 @@ impl<A: Allocator + Copy, F: Free + Filled> Codec for ToEnd<A, F> {
 }
 
 impl<'a, A: Allocator + Copy, F: Free + Filled + Field<'a, A>> Field<'a, A> for ToEnd<A, F> {
-    fn read(alloc: A, number: u32, bytes: &'a [u8]) -> Read<'a, Vec<F::Item, A>> {
+    fn read(alloc: A, number: u64, bytes: &'a [u8]) -> Read<'a, Vec<F::Item, A>> {
         let mut items = Vec::new(alloc);
         let mut rest = bytes;
         while !rest.is_empty() {

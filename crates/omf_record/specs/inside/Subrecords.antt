@@ -9,7 +9,7 @@ use Rattle.omf_record.specs.Canonical as canon
 use Rattle.omf_record.specs.inside.Format.{join, Format, Lawful, IsFilled, IsMade, free}
 use Rattle.omf_record.specs.inside.FormatLaws.{both, both_lawful, behind, when_lawful, when, when_canonical, WhenText}
 use Rattle.omf_record.specs.inside.FormatLaws.{bits_at, map_option, map_same}
-use Rattle.omf_record.specs.inside.PrimitiveLaws.{byte, byte_lawful, index, index_lawful, fact_byte}
+use Rattle.omf_record.specs.inside.PrimitiveLaws.{index, index_lawful, fact_byte, fact_byte_lawful}
 use Rattle.omf_record.specs.inside.Heads.{ByHead, joined, by_head, by_head_lawful, by_head_filled}
 use Rattle.omf_record.specs.inside.References.{thread_of, frame_method_of, frame_method_index, target_method_of}
 use Rattle.omf_record.specs.inside.References.{target_method_index, reference, reference_lawful}
@@ -37,7 +37,7 @@ abbrev pub Behind : ℕ → Format (Option ℕ × (Option (Option ℕ) × Option
     × (Option (Option ℕ) × Option (ℕ × Reference)))
 Behind b = both (when (bits_at 64 4 b ≡ 0) index)
     (both (when (bits_at 64 4 b ≡ 1) (when (bits_at 16 2 b ≡ 0) index))
-    (when (bits_at 128 2 b ≡ 1) (both byte reference)))
+    (when (bits_at 128 2 b ≡ 1) (both (fact_byte (λ x. Unit {0})) reference)))
 
 abbrev Bits : Subrecord → ℕ → Type 0
 Bits (sub.SetFrame n m) b = (bits 7 6 b ≡ 1) × (bits 4 2 b ≡ frame_number m) × (bits 1 0 b ≡ thread_number n)
@@ -56,7 +56,7 @@ subrecord_of b (t, (f, Some (low, r))) =
     sub.Fixup (record {
       self_relative = eqb (b / 64 % 2) 0;
       location = location_of (b / 4 % 16);
-      offset = 256 * (b % 4) + low;
+      offset = 256 * (b % 4) + low % 256;
       reference = r;
     })
 subrecord_of b (t, (Some x, None)) = sub.SetFrame (thread_of (b % 4)) (frame_method_of (b / 4 % 8) x)
@@ -109,8 +109,8 @@ to b (None, (Some x, Some (low, r))) text lt h j = absurd (omega (arith, j.secon
 to b (None, (None, Some (low, r))) text lt h j =
     let k = j.second.second.1 in
     let is = h.2 (omega (arith, j.second.second.0, lt)) in
-    let small = k.first.0 in
-    let low-is : low ≡ (256 * (b % 4) + low) % 256 = omega (arith, small) in
+    let small = k.first.1.0 in
+    let low-is : low ≡ (256 * (b % 4) + low % 256) % 256 = omega (arith, small) in
     let rest-is : text ≡ j.second.rest = j.parts ∙ ap (λ (t : List ℕ). t ++ j.rest) j.first.1 ∙ j.second.parts
     ∙ ap (λ (t : List ℕ). t ++ j.second.rest) j.second.first.1 in (
       (
@@ -119,8 +119,8 @@ to b (None, (None, Some (low, r))) text lt h j =
         omega (arith, is),
         omega (arith, small),
       ),
-      subst (λ t. Joined (Byte ((256 * (b % 4) + low) % 256)) (ReferenceText r) t) (sym rest-is)
-          (joined k (subst (λ n. Byte n k.front) low-is k.first) k.second),
+      subst (λ t. Joined (Byte ((256 * (b % 4) + low % 256) % 256)) (ReferenceText r) t) (sym rest-is)
+          (joined k (subst (λ n. Byte n k.front) low-is k.first.1) k.second),
     )
 to b (Some i, (Some x, None)) text lt h j = absurd (omega (arith, j.first.0, j.second.first.0))
 to b (None, (Some x, None)) text lt h j =
@@ -172,7 +172,7 @@ from (sub.SetTarget n m) b text lt h l =
 from (sub.Fixup f) b text lt h l = join [] text refl (
   (λ k. omega (arith, k, h.0)),
   refl,
-) (join [] text refl ((λ k. omega (arith, k, h.0, lt)), refl) (omega (arith, h.0), l))
+) (join [] text refl ((λ k. omega (arith, k, h.0, lt)), refl) (omega (arith, h.0), joined l (tt, l.first) l.second))
 
 has_place : (f : Fixup) → IsFirst (fixup_byte f) → f.offset < 1024
 has_place f h = grind (arith, ltb-true, ltb-false, h.2)
@@ -226,7 +226,7 @@ subrecord_lawful = by_head_lawful ByFirst
     (λ b. both_lawful _ (when_lawful (bits_at 64 4 b ≡ 0) index index_lawful (λ r. tt)) (λ r. tt) _
     (both_lawful _ (when_lawful (bits_at 64 4 b ≡ 1) _ (when_lawful (bits_at 16 2 b ≡ 0) index index_lawful (λ r. tt))
     (λ r. tt)) (λ r. tt) _ (when_lawful (bits_at 128 2 b ≡ 1) _
-    (both_lawful byte byte_lawful (λ r. tt) reference reference_lawful) (λ r. tt)))) (λ b r. tt)
+    (both_lawful _ (fact_byte_lawful (λ x. Unit {0})) (λ r. tt) reference reference_lawful) (λ r. tt)))) (λ b r. tt)
 
 pub subrecord_filled : IsFilled subrecord
 subrecord_filled = by_head_filled ByFirst
