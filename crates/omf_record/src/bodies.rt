@@ -5,7 +5,7 @@ use crate::codec::Of;
 use crate::externals::{BaseParts, ExternalField, Line, PublicBase, PublicField};
 use crate::fixups::{EndField, SubrecordField};
 use crate::primitives::{Byte, First, Index, Name, Rest, Word};
-use crate::segments::{Mark, SegmentField};
+use crate::segments::{Mark, SegmentDefinition, SegmentParts};
 use crate::whole::ToEnd;
 
 /// 80H THEADR, Translator Header Record: a name.
@@ -39,7 +39,7 @@ pub type Lines<A> = ToEnd<A, Of<(Word, Word), Line>>;
 pub type Lnames<'a, A> = ToEnd<A, Name<'a>>;
 
 /// 98H SEGDEF, Segment Definition Record: a segment.
-pub type Segdef = SegmentField;
+pub type Segdef = Of<SegmentParts, SegmentDefinition>;
 
 /// 9AH GRPDEF, Group Definition Record: the index of its name, and its components.
 pub type Grpdef<A> = (Index, Components<A>);

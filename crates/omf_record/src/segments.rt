@@ -173,25 +173,60 @@ impl Blank for First<Zero> {
 }
 
 /// The byte A, C, B, P; the place of an absolute segment; its length, two bytes 00 for 65,536; its three names.
-pub type SegmentParts = Then<
-    First<SegmentDefinition>,
-    (
-        When<32, 8, 0, (Word, Byte)>,
-        (
-            (
-                When<2, 2, 1, (First<Zero>, First<Zero>)>,
-                When<2, 2, 0, Word>,
-            ),
-            (Index, (Index, Index)),
-        ),
-    ),
->;
+pub type SegmentParts = Then<First<SegmentDefinition>, SegmentTailField>;
 
 /// What stands behind the byte.
 type SegmentTail = (
     Option<(u16, u8)>,
     ((Option<(u64, u64)>, Option<u16>), (u16, (u16, u16))),
 );
+
+/// Two bytes 00, or a word.
+type Length = (
+    When<2, 2, 1, (First<Zero>, First<Zero>)>,
+    When<2, 2, 0, Word>,
+);
+
+/// The place, the length and the names behind the byte.
+type TailParts = (
+    When<32, 8, 0, (Word, Byte)>,
+    (Length, (Index, (Index, Index))),
+);
+
+/// What stands behind the byte, as a field.
+pub struct SegmentTailField;
+
+impl Codec for SegmentTailField {
+    type Item = SegmentTail;
+
+    ghost Value = { segs.Tail };
+
+    ghost format = { segs.Behind };
+
+    ghost lawful = { segs.behind_lawful };
+
+    fn put<O: Output>(item: &SegmentTail, number: u64, out: &mut O) -> Result<(), O::Error> {
+        <TailParts as Codec>::put(item, number, out)
+    }
+}
+
+impl<'a, A: Allocator + Copy> Field<'a, A> for SegmentTailField {
+    fn read(alloc: A, number: u64, bytes: &'a [u8]) -> Read<'a, SegmentTail> {
+        <TailParts as Field<'a, A>>::read(alloc, number, bytes)
+    }
+}
+
+impl Free for SegmentTailField {
+    ghost free = { λ _ _. tt };
+}
+
+impl Blank for First<SegmentDefinition> {
+    ghost blank = { λ _. segs.acbp_blank };
+}
+
+impl Blank for SegmentTailField {
+    ghost blank = { segs.behind_blank };
+}
 
 impl Head for SegmentDefinition {
     ghost Begins = { segs.IsAcbp };
@@ -250,11 +285,7 @@ fn segment_parts(segment: SegmentDefinition) -> (u64, SegmentTail)
         + 2 * big(segment.length);
     let absolute = match segment.alignment {
         Alignment::Absolute { frame, offset } => Some((frame, offset)),
-        Alignment::Byte
-        | Alignment::Word
-        | Alignment::Paragraph
-        | Alignment::Page
-        | Alignment::DoubleWord => None,
+        _ => None,
     };
     let length = match segment.length {
         SegmentLength::Word(length) => (None, Some(length)),
@@ -267,37 +298,6 @@ fn segment_parts(segment: SegmentDefinition) -> (u64, SegmentTail)
             (length, (segment.name, (segment.class, segment.overlay))),
         ),
     )
-}
-
-/// A segment as a field.
-pub struct SegmentField;
-
-impl Codec for SegmentField {
-    type Item = SegmentDefinition;
-
-    ghost Value = { SegmentDefinition };
-
-    ghost format = { λ _. segs.segment };
-
-    ghost lawful = { λ _. segs.segment_lawful };
-
-    fn put<O: Output>(item: &SegmentDefinition, number: u64, out: &mut O) -> Result<(), O::Error> {
-        <Of<SegmentParts, SegmentDefinition> as Codec>::put(item, number, out)
-    }
-}
-
-impl<'a, A: Allocator + Copy> Field<'a, A> for SegmentField {
-    fn read(alloc: A, number: u64, bytes: &'a [u8]) -> Read<'a, SegmentDefinition> {
-        <Of<SegmentParts, SegmentDefinition> as Field<'a, A>>::read(alloc, number, bytes)
-    }
-}
-
-impl Free for SegmentField {
-    ghost free = { λ _ _. tt };
-}
-
-impl Blank for SegmentField {
-    ghost blank = { λ _. segs.segment_blank };
 }
 
 /// The byte FFH.

@@ -12,7 +12,7 @@ use Rattle.omf_record.specs.inside.FormatLaws.{when_canonical, WhenText, bits_at
 use Rattle.omf_record.specs.inside.PrimitiveLaws.{byte, byte_lawful, byte_blank, word, word_lawful, word_blank, index}
 use Rattle.omf_record.specs.inside.PrimitiveLaws.{index_lawful, index_blank, fact_byte, fact_byte_lawful}
 use Rattle.omf_record.specs.inside.PrimitiveLaws.{fact_byte_blank}
-use Rattle.omf_record.specs.inside.Heads.{ByHead, joined, by_head, by_head_lawful, by_head_blank}
+use Rattle.omf_record.specs.inside.Heads.{ByHead, joined, by_head, by_head_lawful}
 use Rattle.omf_record.specs.declared.segments.Alignment.{Alignment}
 use Rattle.omf_record.specs.declared.segments.Alignment.TheVariants as align
 use Rattle.omf_record.specs.declared.segments.Combination.{Combination}
@@ -198,24 +198,22 @@ segment = free (λ x. x) SegmentText canon.segment
 pub segment_made : IsMade (behind (fact_byte IsAcbp) Behind (λ rest. Unit {0})) segment
 segment_made = by_head ByAcbp
 
-pub segment_lawful : Lawful segment
-segment_lawful = by_head_lawful ByAcbp (λ b. both_lawful _
+pub acbp_blank : Completes (fact_byte IsAcbp) []
+acbp_blank = fact_byte_blank IsAcbp (omega arith, refl, refl)
+
+pub behind_lawful : (b : ℕ) → Lawful (Behind b)
+behind_lawful b = both_lawful _
     (when_lawful (bits_at 32 8 b ≡ 0) _ (both_lawful word word_lawful (λ r. tt) byte byte_lawful) (λ r. tt)) (λ r. tt) _
-    (both_lawful (Length b) (length_lawful b) (λ r. tt) _
-    (both_lawful index index_lawful (λ r. tt) _ (both_lawful index index_lawful (λ r. tt) index index_lawful))))
-    (λ b r. tt)
+    (both_lawful (Length b) length_lawful (λ r. tt) _
+    (both_lawful index index_lawful (λ r. tt) _ (both_lawful index index_lawful (λ r. tt) index index_lawful)))
   where
-    length_lawful : (b : ℕ) → Lawful (Length b)
-    length_lawful b = both_lawful _ (when_lawful (bits_at 2 2 b ≡ 1) _
+    length_lawful : Lawful (Length b)
+    length_lawful = both_lawful _ (when_lawful (bits_at 2 2 b ≡ 1) _
         (both_lawful (fact_byte IsZero) (fact_byte_lawful IsZero) (λ r. tt) (fact_byte IsZero)
         (fact_byte_lawful IsZero)) (λ r. tt)) (λ r. tt) _ (when_lawful (bits_at 2 2 b ≡ 0) word word_lawful (λ r. tt))
 
-pub segment_blank : Completes segment []
-segment_blank = by_head_blank ByAcbp (
-  omega arith,
-  refl,
-  refl,
-) (λ b. both_blank (when (bits_at 32 8 b ≡ 0) (both word byte))
+pub behind_blank : (b : ℕ) → Completes (Behind b) []
+behind_blank b = both_blank (when (bits_at 32 8 b ≡ 0) (both word byte))
     (both (Length b) (both index (both index index)))
     (when_blank (bits_at 32 8 b) 0 (both word byte) (both_blank word byte word_blank byte_blank))
     (both_blank (Length b) (both index (both index index))
@@ -223,4 +221,7 @@ segment_blank = by_head_blank ByAcbp (
     (when (bits_at 2 2 b ≡ 0) word) (when_blank (bits_at 2 2 b) 1 (both (fact_byte IsZero) (fact_byte IsZero))
     (both_blank (fact_byte IsZero) (fact_byte IsZero) zero_blank zero_blank))
     (when_blank (bits_at 2 2 b) 0 word word_blank))
-    (both_blank index (both index index) index_blank (both_blank index index index_blank index_blank))))
+    (both_blank index (both index index) index_blank (both_blank index index index_blank index_blank)))
+
+pub segment_lawful : Lawful segment
+segment_lawful = by_head_lawful ByAcbp behind_lawful (λ b r. tt)

@@ -1,7 +1,7 @@
 use Rattle.std.proofs.Common.{refl, true, false, None, [], inl, inr}
 use Rattle.omf_record.specs.Record.{Theadr, Coment, Modend, Extdef, Pubdef, Linnum, Lnames, Segdef, Grpdef, Fixupp, Ledata, Lidata}
 use Rattle.omf_record.specs.declared.externals.PublicBase.TheVariants.{InSegment}
-use Rattle.omf_record.specs.inside.Segments.{segment_blank}
+use Rattle.omf_record.specs.inside.Segments.{segment_of}
 use Rattle.omf_record.specs.inside.Kinds.{body}
 use Rattle.omf_record.proofs.parse.record_of.Goals as goal
 
@@ -21,7 +21,7 @@ pub parts-requires-in-150 : goal.parts-requires-in-150
 parts-requires-in-150 g c κs = ((refl, tt), body g.row.A.Denot (Lnames []) c.args.kind c.in-150.is)
 
 pub parts-requires-in-152 : goal.parts-requires-in-152
-parts-requires-in-152 g c κs = ((refl, tt), body g.row.A.Denot (Segdef segment_blank.1) c.args.kind c.in-152.is)
+parts-requires-in-152 g c κs = ((refl, tt), body g.row.A.Denot (Segdef (segment_of 0 (None, ((None, None), (0, (0, 0)))))) c.args.kind c.in-152.is)
 
 pub parts-requires-in-154 : goal.parts-requires-in-154
 parts-requires-in-154 g c κs = ((refl, tt), body g.row.A.Denot (Grpdef 0 []) c.args.kind c.in-154.is)
