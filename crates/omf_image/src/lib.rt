@@ -78,6 +78,3 @@ pub fn build<A: Allocator + Copy>(
     all_promise(modules);
     build_program(alloc, modules, layout)
 }
-
-#[cfg(test)]
-mod tests;

@@ -1,5 +1,5 @@
 //! What a store keeps of each element of a module's tables: its names and data as pieces, and the rest of it.
-ghost use Rattle.std.specs.Prelude.{◌≡◌, ℕ, ◌∷◌, [], List, map, OnOk, IfOk};
+ghost use Rattle.std.specs.Prelude.{◌≡◌, ◌-◌, ℕ, ◌∷◌, [], List, length, map, slice_get, OnOk, IfOk};
 ghost use Rattle.std.specs.List.{AllByRecursion};
 ghost use Rattle.omf_module.specs.Tables as tables;
 ghost use Rattle.omf_module.specs.inside.Store as stored;
@@ -137,9 +137,10 @@ pub fn group_entry<A: Allocator + Copy>(
     Ok(GroupEntry { name, members })
 }
 
-/// The stored places of the last data record.
+/// The stored places of the last data record; none, where there is none.
 pub fn last_places<A: Allocator + Copy>(list: &[DataEntry<A>]) -> Piece
-    ensures { (bytes places : List ℕ) → AllByRecursion (stored.DataIsIn bytes places) list.now
+    ensures last { result ≡ stored.last_piece (slice_get list.now (length list.now - 1)) }
+    ensures inside { (bytes places : List ℕ) → AllByRecursion (stored.DataIsIn bytes places) list.now
         → stored.IsIn places result }
 {
     match list.last() {

@@ -93,6 +93,3 @@ pub struct Start {
     /// 0 where the record has none.
     pub displacement: u16,
 }
-
-#[cfg(test)]
-mod tests;

@@ -3,7 +3,7 @@
 use crate::blocks::BlockField;
 use crate::codec::Of;
 use crate::externals::{BaseParts, ExternalField, Line, PublicBase, PublicField};
-use crate::fixups::{EndField, SubrecordField};
+use crate::fixups::{End, EndParts, SubrecordField};
 use crate::primitives::{Byte, First, Index, Name, Rest, Word};
 use crate::segments::{Mark, SegmentDefinition, SegmentParts};
 use crate::whole::ToEnd;
@@ -15,7 +15,7 @@ pub type Theadr<'a> = Name<'a>;
 pub type Coment<'a> = (Byte, (Byte, Rest<'a>));
 
 /// 8AH MODEND, Module End Record: whether the module is the main one, and its start.
-pub type Modend = EndField;
+pub type Modend = Of<EndParts, End>;
 
 /// 8CH EXTDEF, External Names Definition Record, and B4H LEXTDEF, of names that are local: the names.
 pub type Extdef<'a, A> = ToEnd<A, ExternalField<'a>>;

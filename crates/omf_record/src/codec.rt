@@ -153,25 +153,3 @@ impl<P: Free + Blank, T: Made<P>> Blank for Of<P, T> {
 impl<P: Free + Filled, T: Made<P>> Filled for Of<P, T> {
     ghost filled = { λ n. made_filled (P.format n) (T.format n) (T.is_made n) (P.filled n) };
 }
-
-/// Writes a value as its parts.
-pub fn put_made<P: Free, T: Made<P>, O: Output>(
-    item: &T,
-    number: u64,
-    out: &mut O,
-) -> Result<(), O::Error>
-    ensures { WritesItem O.Takes O.Refuses (T.format number) item.now out.old out.new result }
-{
-    <Of<P, T> as Codec>::put(item, number, out)
-}
-
-/// A value read by its parts.
-pub fn read_made<'a, A: Allocator + Copy, P: Field<'a, A> + Free, T: Made<P>>(
-    alloc: A,
-    number: u64,
-    bytes: &'a [u8],
-) -> Read<'a, T>
-    ensures { Reads (T.format number) (λ x. (x.0, x.1.now)) bytes.now result }
-{
-    <Of<P, T> as Field<'a, A>>::read(alloc, number, bytes)
-}

@@ -1,13 +1,12 @@
 //! Names between modules, and lines: EXTDEF, PUBDEF and LINNUM.
 
-ghost use Rattle.std.specs.Prelude.{◌≡◌, ◌≤◌, ℕ, List};
 ghost use Rattle.omf_record.specs.Record as says;
 ghost use Rattle.omf_record.specs.declared.externals.Line.{Line};
 ghost use Rattle.omf_record.specs.declared.externals.PublicBase.{PublicBase};
 ghost use Rattle.omf_record.specs.inside.Shapes as shapes;
 
 use crate::choice::{Then, When};
-use crate::codec::{Codec, Field, Filled, Free, Made, Read, put_made, read_made};
+use crate::codec::{Codec, Field, Filled, Free, Made, Of, Read};
 use crate::output::Output;
 use crate::primitives::{Index, Name, Word};
 use std::alloc::Allocator;
@@ -136,13 +135,13 @@ impl<'a> Codec for ExternalField<'a> {
     ghost lawful = { λ _. shapes.external_lawful };
 
     fn put<O: Output>(item: &External<'a>, number: u64, out: &mut O) -> Result<(), O::Error> {
-        put_made::<(Name<'a>, Index), External<'a>, O>(item, number, out)
+        <Of<(Name<'a>, Index), External<'a>> as Codec>::put(item, number, out)
     }
 }
 
 impl<'a, A: Allocator + Copy> Field<'a, A> for ExternalField<'a> {
     fn read(alloc: A, number: u64, bytes: &'a [u8]) -> Read<'a, External<'a>> {
-        read_made::<A, (Name<'a>, Index), External<'a>>(alloc, number, bytes)
+        <Of<(Name<'a>, Index), External<'a>> as Field<'a, A>>::read(alloc, number, bytes)
     }
 }
 
@@ -167,13 +166,13 @@ impl<'a> Codec for PublicField<'a> {
     ghost lawful = { λ _. shapes.public_lawful };
 
     fn put<O: Output>(item: &Public<'a>, number: u64, out: &mut O) -> Result<(), O::Error> {
-        put_made::<(Name<'a>, (Word, Index)), Public<'a>, O>(item, number, out)
+        <Of<(Name<'a>, (Word, Index)), Public<'a>> as Codec>::put(item, number, out)
     }
 }
 
 impl<'a, A: Allocator + Copy> Field<'a, A> for PublicField<'a> {
     fn read(alloc: A, number: u64, bytes: &'a [u8]) -> Read<'a, Public<'a>> {
-        read_made::<A, (Name<'a>, (Word, Index)), Public<'a>>(alloc, number, bytes)
+        <Of<(Name<'a>, (Word, Index)), Public<'a>> as Field<'a, A>>::read(alloc, number, bytes)
     }
 }
 

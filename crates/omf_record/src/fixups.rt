@@ -538,11 +538,15 @@ impl Head for Attribute {
     }
 }
 
+impl Blank for First<Attribute> {
+    ghost blank = { λ _. ends.attribute_blank };
+}
+
 /// The attribute byte, and a start where that says so.
-type EndParts = Then<First<Attribute>, When<64, 2, 1, ReferenceField>>;
+pub type EndParts = Then<First<Attribute>, When<64, 2, 1, ReferenceField>>;
 
 /// Whether the module is the main one, and its start.
-type End = (bool, Option<Reference>);
+pub type End = (bool, Option<Reference>);
 
 impl Made<EndParts> for End {
     ghost Value = { Bool × Option Reference };
@@ -576,35 +580,4 @@ fn end_byte(end: End) -> u64
         Some(_) => main + 65,
         None => main,
     }
-}
-
-/// The end of a module as a field.
-pub struct EndField;
-
-impl Codec for EndField {
-    type Item = End;
-
-    ghost Value = { Bool × Option Reference };
-
-    ghost format = { λ _. ends.module_end };
-
-    ghost lawful = { λ _. ends.end_lawful };
-
-    fn put<O: Output>(item: &End, number: u64, out: &mut O) -> Result<(), O::Error> {
-        <Of<EndParts, End> as Codec>::put(item, number, out)
-    }
-}
-
-impl<'a, A: Allocator + Copy> Field<'a, A> for EndField {
-    fn read(alloc: A, number: u64, bytes: &'a [u8]) -> Read<'a, End> {
-        <Of<EndParts, End> as Field<'a, A>>::read(alloc, number, bytes)
-    }
-}
-
-impl Free for EndField {
-    ghost free = { λ _ _. tt };
-}
-
-impl Blank for EndField {
-    ghost blank = { λ _. ends.end_blank };
 }

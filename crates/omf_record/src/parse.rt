@@ -1,6 +1,7 @@
 //! A record from its frame.
+#![tactic(auto, unfolding(crate::specs::Body::Body, crate::specs::View::view), using(crate::specs::inside::Kinds::theadr_body, crate::specs::inside::Kinds::coment_body, crate::specs::inside::Kinds::modend_body, crate::specs::inside::Kinds::lnames_body, crate::specs::inside::Kinds::segdef_body, crate::specs::inside::Kinds::fixupp_body, crate::specs::inside::Kinds::ledata_body))]
 
-ghost use Rattle.std.specs.Prelude.{◌≡◌, ◌≤◌, length, IfOk};
+ghost use Rattle.std.specs.Prelude.{◌≡◌, ◌≤◌, ◌⊎◌, length, IfOk};
 ghost use Rattle.omf_record.specs.Answer.{Answers};
 ghost use Rattle.omf_record.specs.Canonical.{FitsFrame};
 ghost use Rattle.omf_record.specs.Expansion.{data_len};
@@ -13,7 +14,7 @@ use crate::bodies::{
 use crate::codec::{Blank, Field, ReadError};
 use crate::record::Record;
 use omf_frame::Frame;
-use std::alloc::{AllocError, Allocator};
+use std::alloc::Allocator;
 use thiserror::Error;
 
 /// Why a frame holds no record.
@@ -27,16 +28,6 @@ pub enum RecordFault {
     /// The body isn't one of its type: the length of its longest front that zeros complete.
     #[error("the body of the record is wrong at byte {at}")]
     Body { at: usize },
-}
-
-impl From<AllocError> for RecordFault {
-    ghost use Rattle.omf_record.specs.declared.parse.RecordFault.TheVariants.{Memory};
-
-    ghost from_gives = { λ _ e. e ≡ Memory };
-
-    fn from(_e: AllocError) -> RecordFault {
-        RecordFault::Memory
-    }
 }
 
 /// The parts of a body.
@@ -60,83 +51,142 @@ fn parts<'a, A: Allocator + Copy, P: Field<'a, A> + Blank>(
     }
 }
 
+/// What a body says.
+type Parsed<'a, A> = Result<Record<'a, A>, RecordFault>;
+
+/// A header.
+fn theadr<'a, A: Allocator + Copy + 'a>(alloc: A, bytes: &'a [u8]) -> Parsed<'a, A>
+    ensures { Answers 0x80 bytes.now result }
+{
+    let name = parts::<A, Theadr>(alloc, 0x80, bytes)?;
+    Ok(Record::Theadr { name })
+}
+
+/// A comment.
+fn coment<'a, A: Allocator + Copy + 'a>(alloc: A, bytes: &'a [u8]) -> Parsed<'a, A>
+    ensures { Answers 0x88 bytes.now result }
+{
+    let (kind, (class, bytes)) = parts::<A, Coment>(alloc, 0x88, bytes)?;
+    Ok(Record::Coment { kind, class, bytes })
+}
+
+/// The end of a module.
+fn modend<'a, A: Allocator + Copy + 'a>(alloc: A, bytes: &'a [u8]) -> Parsed<'a, A>
+    ensures { Answers 0x8A bytes.now result }
+{
+    let (main, start) = parts::<A, Modend>(alloc, 0x8A, bytes)?;
+    Ok(Record::Modend { main, start })
+}
+
+/// External names, or local ones.
+fn extdef<'a, A: Allocator + Copy + 'a>(alloc: A, kind: u8, bytes: &'a [u8]) -> Parsed<'a, A>
+    requires { (kind ≡ 0x8C) ⊎ (kind ≡ 0xB4) }
+    ensures { Answers kind bytes.now result }
+{
+    let names = parts::<A, Extdef<A>>(alloc, kind, bytes)?;
+    let local = kind == 0xB4;
+    Ok(Record::Extdef { local, names })
+}
+
+/// Public names, or local ones.
+fn pubdef<'a, A: Allocator + Copy + 'a>(alloc: A, kind: u8, bytes: &'a [u8]) -> Parsed<'a, A>
+    requires { (kind ≡ 0x90) ⊎ (kind ≡ 0xB6) }
+    ensures { Answers kind bytes.now result }
+{
+    let (base, publics) = parts::<A, Pubdef<A>>(alloc, kind, bytes)?;
+    let local = kind == 0xB6;
+    Ok(Record::Pubdef {
+        local,
+        base,
+        publics,
+    })
+}
+
+/// Line numbers.
+fn linnum<'a, A: Allocator + Copy + 'a>(alloc: A, bytes: &'a [u8]) -> Parsed<'a, A>
+    ensures { Answers 0x94 bytes.now result }
+{
+    let (group, (segment, lines)) = parts::<A, Linnum<A>>(alloc, 0x94, bytes)?;
+    Ok(Record::Linnum {
+        group,
+        segment,
+        lines,
+    })
+}
+
+/// A list of names.
+fn lnames<'a, A: Allocator + Copy + 'a>(alloc: A, bytes: &'a [u8]) -> Parsed<'a, A>
+    ensures { Answers 0x96 bytes.now result }
+{
+    let names = parts::<A, Lnames<A>>(alloc, 0x96, bytes)?;
+    Ok(Record::Lnames { names })
+}
+
+/// A segment.
+fn segdef<'a, A: Allocator + Copy + 'a>(alloc: A, bytes: &'a [u8]) -> Parsed<'a, A>
+    ensures { Answers 0x98 bytes.now result }
+{
+    let segment = parts::<A, Segdef>(alloc, 0x98, bytes)?;
+    Ok(Record::Segdef { segment })
+}
+
+/// A group.
+fn grpdef<'a, A: Allocator + Copy + 'a>(alloc: A, bytes: &'a [u8]) -> Parsed<'a, A>
+    ensures { Answers 0x9A bytes.now result }
+{
+    let (name, segments) = parts::<A, Grpdef<A>>(alloc, 0x9A, bytes)?;
+    Ok(Record::Grpdef { name, segments })
+}
+
+/// Threads and fix-ups.
+fn fixupp<'a, A: Allocator + Copy + 'a>(alloc: A, bytes: &'a [u8]) -> Parsed<'a, A>
+    ensures { Answers 0x9C bytes.now result }
+{
+    let subrecords = parts::<A, Fixupp<A>>(alloc, 0x9C, bytes)?;
+    Ok(Record::Fixupp { subrecords })
+}
+
+/// Data of a segment.
+fn ledata<'a, A: Allocator + Copy + 'a>(alloc: A, bytes: &'a [u8]) -> Parsed<'a, A>
+    ensures { Answers 0xA0 bytes.now result }
+{
+    let (segment, (offset, bytes)) = parts::<A, Ledata>(alloc, 0xA0, bytes)?;
+    Ok(Record::Ledata {
+        segment,
+        offset,
+        bytes,
+    })
+}
+
+/// Data of a segment, in blocks that are repeated.
+fn lidata<'a, A: Allocator + Copy + 'a>(alloc: A, bytes: &'a [u8]) -> Parsed<'a, A>
+    ensures { Answers 0xA2 bytes.now result }
+{
+    let (segment, (offset, blocks)) = parts::<A, Lidata<A>>(alloc, 0xA2, bytes)?;
+    Ok(Record::Lidata {
+        segment,
+        offset,
+        blocks,
+    })
+}
+
 /// The record that the body of a type says.
-#[tactic(auto, unfolding(crate::specs::Body::Body, crate::specs::View::view))]
-fn record_of<'a, A: Allocator + Copy + 'a>(
-    alloc: A,
-    kind: u8,
-    bytes: &'a [u8],
-) -> Result<Record<'a, A>, RecordFault>
+fn record_of<'a, A: Allocator + Copy + 'a>(alloc: A, kind: u8, bytes: &'a [u8]) -> Parsed<'a, A>
     ensures { Answers kind bytes.now result }
 {
     match kind {
-        0x80 => {
-            let name = parts::<A, Theadr>(alloc, kind, bytes)?;
-            Ok(Record::Theadr { name })
-        }
-        0x88 => {
-            let (kind, (class, bytes)) = parts::<A, Coment>(alloc, kind, bytes)?;
-            Ok(Record::Coment { kind, class, bytes })
-        }
-        0x8A => {
-            let (main, start) = parts::<A, Modend>(alloc, kind, bytes)?;
-            Ok(Record::Modend { main, start })
-        }
-        0x8C | 0xB4 => {
-            let names = parts::<A, Extdef<A>>(alloc, kind, bytes)?;
-            Ok(Record::Extdef {
-                local: kind == 0xB4,
-                names,
-            })
-        }
-        0x90 | 0xB6 => {
-            let (base, publics) = parts::<A, Pubdef<A>>(alloc, kind, bytes)?;
-            Ok(Record::Pubdef {
-                local: kind == 0xB6,
-                base,
-                publics,
-            })
-        }
-        0x94 => {
-            let (group, (segment, lines)) = parts::<A, Linnum<A>>(alloc, kind, bytes)?;
-            Ok(Record::Linnum {
-                group,
-                segment,
-                lines,
-            })
-        }
-        0x96 => {
-            let names = parts::<A, Lnames<A>>(alloc, kind, bytes)?;
-            Ok(Record::Lnames { names })
-        }
-        0x98 => {
-            let segment = parts::<A, Segdef>(alloc, kind, bytes)?;
-            Ok(Record::Segdef { segment })
-        }
-        0x9A => {
-            let (name, segments) = parts::<A, Grpdef<A>>(alloc, kind, bytes)?;
-            Ok(Record::Grpdef { name, segments })
-        }
-        0x9C => {
-            let subrecords = parts::<A, Fixupp<A>>(alloc, kind, bytes)?;
-            Ok(Record::Fixupp { subrecords })
-        }
-        0xA0 => {
-            let (segment, (offset, bytes)) = parts::<A, Ledata>(alloc, kind, bytes)?;
-            Ok(Record::Ledata {
-                segment,
-                offset,
-                bytes,
-            })
-        }
-        0xA2 => {
-            let (segment, (offset, blocks)) = parts::<A, Lidata<A>>(alloc, kind, bytes)?;
-            Ok(Record::Lidata {
-                segment,
-                offset,
-                blocks,
-            })
-        }
+        0x80 => theadr(alloc, bytes),
+        0x88 => coment(alloc, bytes),
+        0x8A => modend(alloc, bytes),
+        0x8C | 0xB4 => extdef(alloc, kind, bytes),
+        0x90 | 0xB6 => pubdef(alloc, kind, bytes),
+        0x94 => linnum(alloc, bytes),
+        0x96 => lnames(alloc, bytes),
+        0x98 => segdef(alloc, bytes),
+        0x9A => grpdef(alloc, bytes),
+        0x9C => fixupp(alloc, bytes),
+        0xA0 => ledata(alloc, bytes),
+        0xA2 => lidata(alloc, bytes),
         _ => Err(RecordFault::OtherType),
     }
 }

@@ -1,5 +1,5 @@
 -- What the pieces of a store say.
-use Rattle.std.specs.Prelude.{◌≡◌, ℕ, ◌+◌, ◌≤◌, List, length, map, take, drop}
+use Rattle.std.specs.Prelude.{◌≡◌, ℕ, ◌+◌, ◌≤◌, List, length, map, take, drop, Option, Some, None}
 use Rattle.std.specs.List.{AllByRecursion, zip, range_with_len}
 use Rattle.omf_module.specs.declared.pieces.Piece.{Piece}
 use Rattle.omf_module.specs.declared.entries.SegmentEntry.{SegmentEntry}
@@ -45,6 +45,11 @@ public_symbol bytes entry =
 -- as many stored places as bytes
 abbrev pub places_piece : {A : Type 0} → DataEntry A → Piece
 places_piece entry = record { from = entry.places_from; len = entry.bytes.len }
+
+-- those of an entry; none, where there is none
+abbrev pub last_piece : {A : Type 0} → Option (DataEntry A) → Piece
+last_piece (Some entry) = places_piece entry
+last_piece None = record { from = 0; len = 0 }
 
 abbrev pub data_record : {A : Type 0} (bytes places : List ℕ) → DataEntry A → DataRecord
 data_record bytes places entry =

@@ -1,5 +1,5 @@
 -- What a MODEND is made of: its attribute byte, and a reference where that says so.
-use Rattle.std.proofs.Common.{◌≡◌, ℕ, ◌+◌, ◌*◌, ◌/◌, ◌%◌, ◌<◌, Bool, false, eqb, List, [], ◌∷◌, ◌++◌, Option, Some}
+use Rattle.std.proofs.Common.{◌≡◌, ℕ, ◌+◌, ◌*◌, ◌/◌, ◌%◌, ◌<◌, Bool, eqb, List, [], ◌∷◌, ◌++◌, Option, Some}
 use Rattle.std.proofs.Common.{None, refl, sym, ap, ◌∙◌, append-nil, arith}
 use Rattle.std.proofs.lemmas.Bool.{eqb-true, eqb-false}
 use Rattle.omf_record.specs.Language.{Joined, One}
@@ -8,7 +8,7 @@ use Rattle.omf_record.specs.Numbers.{bit}
 use Rattle.omf_record.specs.Canonical as canon
 use Rattle.omf_record.specs.inside.Format.{join, Format, Lawful, Completes, IsMade, free}
 use Rattle.omf_record.specs.inside.FormatLaws.{behind, when, when_lawful, bits_at, map_same}
-use Rattle.omf_record.specs.inside.PrimitiveLaws.{fact_byte}
+use Rattle.omf_record.specs.inside.PrimitiveLaws.{fact_byte, fact_byte_blank}
 use Rattle.omf_record.specs.inside.References.{reference, reference_lawful}
 use Rattle.omf_record.specs.inside.Heads.{ByHead, by_head, by_head_lawful}
 use Rattle.omf_record.specs.declared.fixups.Reference.{Reference}
@@ -111,5 +111,5 @@ pub end_lawful : Lawful module_end
 end_lawful = by_head_lawful ByAttribute (λ b. when_lawful (bits_at 64 2 b ≡ 1) reference reference_lawful (λ r. tt))
     (λ b r. tt)
 
-pub end_blank : Completes module_end []
-end_blank = (1, (false, None), (0, omega arith, refl, refl))
+pub attribute_blank : Completes (fact_byte IsAttribute) []
+attribute_blank = fact_byte_blank IsAttribute (λ e. omega (arith, e))

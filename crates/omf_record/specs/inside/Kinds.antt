@@ -13,7 +13,7 @@ use Rattle.omf_record.specs.inside.FormatLaws.{both, to_end}
 use Rattle.omf_record.specs.inside.PrimitiveLaws.{byte, word, index, name, rest_of}
 use Rattle.omf_record.specs.inside.Shapes.{external, public, base, line, component}
 use Rattle.omf_record.specs.inside.Subrecords.{subrecord}
-use Rattle.omf_record.specs.inside.Segments.{segment}
+use Rattle.omf_record.specs.inside.Segments.{segment, segment_of}
 use Rattle.omf_record.specs.inside.Blocks.{block}
 use Rattle.omf_record.specs.inside.Ends.{module_end, EndText, end_text}
 
@@ -100,30 +100,36 @@ body A (Modend m t) kind k = record {
   ended = tt;
   goes_on = λ a b s t e. tt;
 }
-body A (Theadr n) kind k = record {
-  made = Theadr;
-  to = λ x text l. (sym k, l);
-  from = λ s text b. from A (Theadr n) s text (b.0 ∙ k) b.1;
-  same = λ x. refl;
-  ended = tt;
-  goes_on = λ a b s t e. tt;
-}
-body A (Segdef n) kind k = record {
-  made = Segdef;
-  to = λ x text l. (sym k, l);
-  from = λ s text b. from A (Segdef n) s text (b.0 ∙ k) b.1;
-  same = λ x. refl;
-  ended = tt;
-  goes_on = λ a b s t e. tt;
-}
 body A r kind k = record {
   made = (layout_of A r).made;
   to = λ x text l. (sym k, l);
   from = λ s text b. from A r s text (b.0 ∙ k) b.1;
   same = λ x. refl;
-  ended = refl;
-  goes_on = λ a b s t e. absurd cc;
+  ended = grind arith;
+  goes_on = λ a b s t e. grind (arith, e);
 }
+
+-- the body of each type whose parts name no allocator, or name it first
+pub theadr_body : IsBody name 0x80
+theadr_body = body ℕ (Theadr []) 0x80 refl
+
+pub coment_body : IsBody (both byte (both byte rest_of)) 0x88
+coment_body = body ℕ (Coment 0 0 []) 0x88 refl
+
+pub modend_body : IsBody module_end 0x8A
+modend_body = body ℕ (Modend true None) 0x8A refl
+
+pub lnames_body : {A : Type 0} → IsBody (list A name) 0x96
+lnames_body {A} = body A (Lnames []) 0x96 refl
+
+pub segdef_body : IsBody segment 0x98
+segdef_body = body ℕ (Segdef (segment_of 0 (None, ((None, None), (0, (0, 0)))))) 0x98 refl
+
+pub fixupp_body : {A : Type 0} → IsBody (list A subrecord) 0x9C
+fixupp_body {A} = body A (Fixupp []) 0x9C refl
+
+pub ledata_body : IsBody (both index (both word rest_of)) 0xA0
+ledata_body = body ℕ (Ledata 0 0 []) 0xA0 refl
 
 -- the parts of the body; or the one fault that stands
 abbrev pub ReadsParts : {I P : Type 0} → Format I P → ℕ → List ℕ → Result I RecordFault → Type 0

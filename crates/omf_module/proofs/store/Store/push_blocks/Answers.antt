@@ -28,7 +28,7 @@ keep_once-places_from-requires-clause-other g c =
     let ps = expansion (map block_view c.args.blocks.now) in
     let places_from : length c.self.inside.places.items ≡ c.len-places_from.result = omega (arith, c.len-places_from.ensures, c.self.inside.places.ok.0) in
     rw (c.in_ok-keep_expansion.ensures.ok.1, take_at c.self.inside.places.items (places ps) c.len-places_from.result places_from)
-    (c.last_places-before.ensures c.self.inside.bytes.items c.self.inside.places.items (rw c.deref.ensures.value c.self.invariant.0.data_records))
+    (c.last_places-before.ensures.inside c.self.inside.bytes.items c.self.inside.places.items (rw c.deref.ensures.value c.self.invariant.0.data_records))
 
 pub invariant_of-self-in_err-push : goal.invariant_of-self-in_err-push
 unfolding IsConsistent

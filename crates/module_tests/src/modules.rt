@@ -1,5 +1,7 @@
-use super::*;
+//! The rows of modules that are read whole, and where reading them ends.
+
 use omf_frame::{MemSource, closing};
+use omf_module::{FaultKind, ModuleFault, read_module};
 use std::alloc::{AllocError, Allocator};
 use std::test::*;
 

@@ -1,11 +1,13 @@
+//! Programs by their bytes, relocations and registers, and why none is made.
+
 mod fixups;
 
-use super::*;
 use omf_frame::{MemSource, closing};
+use omf_image::{FixFault, FixKind, Program, Registers, build};
 use omf_module::read_module;
 use omf_place::{Names, place};
 use refusing::Refusing;
-use std::alloc::{AllocError, Global};
+use std::alloc::{AllocError, Allocator, Global};
 use std::process::Abort;
 use std::test::*;
 

@@ -1,0 +1,5 @@
+//! Programs, built from object modules.
+#![tactic(auto)]
+
+#[cfg(test)]
+mod programs;

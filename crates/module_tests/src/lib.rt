@@ -1,0 +1,5 @@
+//! Object modules, read from their bytes.
+#![tactic(auto)]
+
+#[cfg(test)]
+mod modules;
