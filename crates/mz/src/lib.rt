@@ -14,6 +14,3 @@ pub use laws::loads_as_written;
 pub use loading::{Loaded, load};
 pub use reading::{MzFile, read_mz};
 pub use writing::write_mz;
-
-#[cfg(test)]
-mod tests;

@@ -38,6 +38,3 @@ pub fn check<S: Source, K: Sink, A: Allocator + Copy>(
         Err(fault) => Err(module_fault(0, fault)),
     }
 }
-
-#[cfg(test)]
-mod tests;

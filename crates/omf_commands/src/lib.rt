@@ -16,6 +16,3 @@ pub use linking::{Options, Report, file_or_fault, link, one_file};
 pub use loading::load_file;
 pub use mapping::write_map;
 pub use records::{rewrite, show};
-
-#[cfg(test)]
-mod tests;

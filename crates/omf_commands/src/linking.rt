@@ -148,6 +148,3 @@ pub fn one_file()
         → (others : List (List Placed)) × AreModules others (map rewritten lists)
         × (map says_of others ≡ map says_of lists) × IsFileOf names (modules_of others) file }
 {}
-
-#[cfg(test)]
-pub mod tests;

@@ -112,6 +112,3 @@ pub fn load_file<S: Source, K: Sink, A: Allocator + Copy>(
         Err(IoFault) => Err(LinkFault::Output),
     }
 }
-
-#[cfg(test)]
-mod tests;

@@ -29,6 +29,3 @@ pub fn write_map<K: Sink, A: Allocator + Copy>(
         Err(IoFault) => Err(LinkFault::Output),
     }
 }
-
-#[cfg(test)]
-mod tests;

@@ -4,6 +4,3 @@
 mod map;
 
 pub use map::put_map;
-
-#[cfg(test)]
-mod tests;

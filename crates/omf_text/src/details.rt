@@ -510,6 +510,3 @@ pub fn put_listing<K: Sink, A: Allocator + Copy>(
     put_head_line(sink, place, kind, length)?;
     put_details(sink, record)
 }
-
-#[cfg(test)]
-mod tests;

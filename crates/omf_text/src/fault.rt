@@ -517,6 +517,3 @@ pub fn fault_line<K: Sink, A: Allocator + Copy>(
         }
     }
 }
-
-#[cfg(test)]
-mod tests;

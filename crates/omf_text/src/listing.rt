@@ -76,6 +76,3 @@ pub fn put_head_line<K: Sink>(
     ];
     put_pieces(sink, pieces.as_slice())
 }
-
-#[cfg(test)]
-mod tests;

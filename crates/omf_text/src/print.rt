@@ -226,6 +226,3 @@ pub fn put_count<K: Sink>(sink: &mut K, count: usize) -> Result<(), IoFault>
 {
     put_all(sink, Buffer::new().format(count).as_bytes())
 }
-
-#[cfg(test)]
-mod tests;

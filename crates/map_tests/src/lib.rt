@@ -1,0 +1,5 @@
+//! The map of linked programs.
+#![tactic(auto)]
+
+#[cfg(test)]
+mod maps;

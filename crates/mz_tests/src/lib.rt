@@ -1,0 +1,5 @@
+//! MZ files, written, read and loaded.
+#![tactic(auto)]
+
+#[cfg(test)]
+mod files;

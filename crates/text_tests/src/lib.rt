@@ -1,0 +1,11 @@
+//! The printed forms.
+#![tactic(auto)]
+
+#[cfg(test)]
+mod details;
+#[cfg(test)]
+mod fault;
+#[cfg(test)]
+mod listing;
+#[cfg(test)]
+mod print;
