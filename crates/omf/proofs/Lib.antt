@@ -1,4 +1,1 @@
 pub mod Failures
-pub mod WordsRequired
-pub mod WordsTaken
-pub mod WordsValues

@@ -1,4 +1,2 @@
 -- How the code sees what it works on: no public contract cites any of it.
-pub mod Files
-pub mod Words
 pub mod Status

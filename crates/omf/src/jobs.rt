@@ -1,15 +1,14 @@
 //! What each subcommand does in a world, and the status that it ends with.
 ghost use Rattle.std.specs.Prelude.{All, ◌≡◌, ◌<◌, ◌^◌, ◌-◌, [], true, false, Err, IfSome, OnOk, if◌then◌else◌};
-ghost use Rattle.omf.specs.Files.{held_back, sink_failures};
+ghost use Rattle.omf_files.specs.Files.{held_back, sink_failures};
 ghost use Rattle.omf.specs.inside.Status.{exit_status, words_status};
 ghost use Rattle.omf_place.specs.declared.names.Names.TheVariants.{AsciiFolded, Exact};
 
-use crate::files::{BufferedSink, CreatedFile, open_source, open_sources};
-use crate::words::{Job, WordsFault, parse_words};
-use crate::world::World;
 use omf_commands::{Options, Report, check, link, load_file, rewrite, show, write_map};
+use omf_files::{BufferedSink, CreatedFile, World, open_source, open_sources};
 use omf_frame::{Source, WriteSink, put_all};
 use omf_text::{LinkFault, fault_line, status};
+use omf_words::{Job, WordsFault, parse_words};
 use std::alloc::{Allocator, Global};
 use std::io::Write;
 

@@ -1,18 +1,14 @@
-//! The program `omf`: its words, the files that they name, and the status that it ends with.
+//! The program `omf`: what its words ask for, and the status that it ends with.
 #![tactic(auto)]
 
-mod files;
 mod jobs;
-mod words;
-mod world;
+#[cfg(test)]
+mod tests;
 
-pub use files::{BufferedSink, CreatedFile, FileSource, Stage, open_source, open_sources};
 use jobs::{out_of_memory, run_words, wrong_words};
 use std::env;
 use std::io::ErrorKind;
 use std::process::ExitCode;
-pub use words::{Job, WordsFault, parse_words};
-pub use world::World;
 
 fn main(rt: HostRuntime) -> ExitCode {
     ExitCode::from(run(&rt))

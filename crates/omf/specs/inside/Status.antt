@@ -4,8 +4,8 @@ use Rattle.std.specs.declared.option.Option.{Option}
 use Rattle.std.specs.declared.result.Result.{Result}
 use Rattle.omf_text.specs.declared.fault.LinkFault.{LinkFault}
 use Rattle.omf_text.specs.FaultLines.{status}
-use Rattle.omf.specs.declared.words.WordsFault.{WordsFault}
-use Rattle.omf.specs.declared.words.WordsFault.TheVariants.{Help, Wrong, Memory}
+use Rattle.omf_words.specs.declared.words.WordsFault.{WordsFault}
+use Rattle.omf_words.specs.declared.words.WordsFault.TheVariants.{Help, Wrong, Memory}
 
 -- 0 where it is done
 abbrev pub exit_status : {A : Type 0} → Result (Unit {0}) (LinkFault A) → ℕ

@@ -1,5 +1,5 @@
 use super::*;
-use crate::world::memory::{Count, Desk, Page};
+use crate::tests::memory::{Count, Desk, Page};
 use refusing::Refusing;
 use std::alloc::AllocError;
 use std::test::*;

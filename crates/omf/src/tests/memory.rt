@@ -1,0 +1,201 @@
+//! A world in memory, for tests.
+ghost use Rattle.std.specs.Prelude.{◌≤◌, IfOk, length};
+
+use omf_files::World;
+use std::alloc::{AllocError, Global};
+use std::cell::{Cell, RefCell};
+use std::io::{self, ErrorKind, Read, Write};
+
+/// What is written to a file or a stream, which takes so many bytes and then fails.
+#[derive(Drop)]
+pub(crate) struct Page<'a> {
+    path: &'a str,
+    room: Cell<usize>,
+    bytes: RefCell<Vec<u8>>,
+}
+
+impl<'a> Page<'a> {
+    /// One that has these bytes to begin with.
+    pub(crate) fn new(
+        alloc: Global,
+        path: &'a str,
+        bytes: &[u8],
+        room: usize,
+    ) -> Result<Page<'a>, AllocError> {
+        let bytes = Vec::from_slice(alloc, bytes)?;
+        Ok(Page {
+            path,
+            room: Cell::new(room),
+            bytes: RefCell::new(bytes),
+        })
+    }
+
+    /// The bytes.
+    pub(crate) fn bytes(&self, alloc: Global) -> Result<Vec<u8>, AllocError> {
+        match self.bytes.try_borrow() {
+            Ok(bytes) => Vec::from_slice(alloc, bytes.as_slice()),
+            Err(_) => Err(AllocError),
+        }
+    }
+
+    /// Puts bytes at its end, as many as there is room for.
+    fn append(&self, bytes: &[u8]) -> io::Result<usize>
+        ensures { IfOk result (λ n. n ≤ length bytes.now) }
+    {
+        let room = self.room.get();
+        let n = bytes.len().min(room);
+        if n == 0 {
+            return Err(io::Error::from(ErrorKind::StorageFull));
+        }
+        self.room.set(room - n);
+        match self.bytes.try_borrow_mut() {
+            Ok(mut page) => {
+                page.extend_from_slice(&bytes[..n])?;
+                Ok(n)
+            }
+            Err(_) => Err(io::Error::from(ErrorKind::Other)),
+        }
+    }
+
+    /// Takes its bytes away.
+    fn empty(&self) {
+        if let Ok(mut page) = self.bytes.try_borrow_mut() {
+            page.clear();
+        }
+    }
+}
+
+/// Writes to a page.
+#[derive(Drop)]
+pub(crate) struct Pen<'a> {
+    page: &'a Page<'a>,
+}
+
+impl Write for Pen<'_> {
+    fn write(&mut self, buf: &[u8]) -> io::Result<usize> {
+        self.page.append(buf)
+    }
+
+    fn flush(&mut self) -> io::Result<()> {
+        Ok(())
+    }
+}
+
+/// How many files are open, and how many were at most.
+#[derive(Drop)]
+pub(crate) struct Count {
+    now: Cell<usize>,
+    most: Cell<usize>,
+}
+
+/// A file that is read, and counted while it is open.
+pub(crate) struct Scroll<'f, 'p> {
+    rest: &'f [u8],
+    count: &'p Count,
+}
+
+impl Drop for Scroll<'_, '_> {
+    fn drop(self) {
+        let Self { rest: _, count } = self;
+        count.now.set(count.now.get().saturating_sub(1));
+    }
+}
+
+impl Read for Scroll<'_, '_> {
+    fn read(&mut self, buf: &mut [u8]) -> io::Result<usize> {
+        let n = buf.len().min(self.rest.len());
+        let (front, rest) = self.rest.split_at(n);
+        buf[..n].copy_from_slice(front);
+        self.rest = rest;
+        Ok(n)
+    }
+}
+
+impl Count {
+    /// None is open.
+    pub(crate) fn new() -> Count {
+        Count {
+            now: Cell::new(0),
+            most: Cell::new(0),
+        }
+    }
+
+    /// How many files are open.
+    pub(crate) fn open(&self) -> usize {
+        self.now.get()
+    }
+
+    /// How many files were open at most.
+    pub(crate) fn most(&self) -> usize {
+        self.most.get()
+    }
+}
+
+/// Files that can be read by their paths, pages that can be written, the streams, and a page that lists what was
+/// opened.
+#[derive(Clone, Copy)]
+pub(crate) struct Desk<'f, 'p> {
+    /// The files that can be read.
+    pub(crate) files: &'f [(&'f str, &'f [u8])],
+    /// A file that can be written.
+    pub(crate) out: &'p Page<'p>,
+    /// Another one.
+    pub(crate) map: &'p Page<'p>,
+    /// The standard output.
+    pub(crate) output: &'p Page<'p>,
+    /// The standard error.
+    pub(crate) errors: &'p Page<'p>,
+    /// The paths that were opened or tried, each ended by a space.
+    pub(crate) opened: &'p Page<'p>,
+    /// How many files are open.
+    pub(crate) count: &'p Count,
+}
+
+impl<'f, 'p> World for Desk<'f, 'p> {
+    type Input = Scroll<'f, 'p>;
+
+    type Created = Pen<'p>;
+
+    type Output = Pen<'p>;
+
+    type Errors = Pen<'p>;
+
+    fn open(&self, path: &str) -> io::Result<Scroll<'f, 'p>> {
+        for text in [path, " "] {
+            // a full page lists no more
+            let _ = self.opened.append(text.as_bytes());
+        }
+        for (name, bytes) in self.files {
+            if *name == path {
+                let now = self.count.now.get().saturating_add(1);
+                self.count.now.set(now);
+                self.count.most.set(now.max(self.count.most.get()));
+                return Ok(Scroll {
+                    rest: bytes,
+                    count: self.count,
+                });
+            }
+        }
+        Err(io::Error::from(ErrorKind::NotFound))
+    }
+
+    fn create(&self, path: &str) -> io::Result<Pen<'p>> {
+        let page = if self.out.path == path {
+            self.out
+        } else if self.map.path == path {
+            self.map
+        } else {
+            return Err(io::Error::from(ErrorKind::NotFound));
+        };
+        page.empty();
+        Ok(Pen { page })
+    }
+
+    fn output(&self) -> Pen<'p> {
+        Pen { page: self.output }
+    }
+
+    fn errors(&self) -> Pen<'p> {
+        Pen { page: self.errors }
+    }
+}

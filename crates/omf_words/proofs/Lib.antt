@@ -1,0 +1,3 @@
+pub mod WordsRequired
+pub mod WordsTaken
+pub mod WordsValues

@@ -1,0 +1,369 @@
+//! The words of the command line.
+ghost use Rattle.std.specs.Prelude.{◌≡◌, ◌⊎◌, IfErr, IfOk, IsSome, Some, codes, false, true};
+ghost use Rattle.clap.specs.Words.{app_of, first_of, found_of, is_simple, kind_of, rows_of, rule_of, takes, with_rule};
+ghost use Rattle.clap.specs.Words.{with_subcommand};
+ghost use Rattle.clap.specs.declared.Command.{out-Command as fields_of};
+ghost use Rattle.clap.specs.declared.error.ErrorKind.TheVariants.{OutOfMemory};
+ghost use Rattle.omf_words.specs.declared.words.WordsFault.TheVariants.{Memory};
+ghost use Rattle.omf_words.specs.Words as spec;
+ghost use Rattle.omf_words.specs.inside.Words as inside;
+ghost use Rattle.omf_words.specs.Words.{IsJobFor, IsJobOf, IsRefusalFor, texts};
+ghost use Rattle.omf_words.specs.inside.Words.{IsEntered, IsRefusalOf};
+
+use clap::builder::ValueRange;
+use clap::error::ErrorKind;
+use clap::{Arg, ArgAction, ArgMatches, Command};
+use hex::FromHex;
+use std::alloc::{AllocError, Global};
+use thiserror::Error;
+
+/// A link has no more files than this.
+const MAX_FILES: usize = 65_535;
+
+/// What stands at the end of help.
+const STATUSES: &str = "\
+Exit status: 0 all is done, 1 an input is at fault, 2 wrong arguments, 3 a file or\n\
+device failed or out of memory. A fault is one line on standard error; docs/FAULTS.md\n\
+and the man page say what to do about each.";
+
+/// What the words ask for: a subcommand with its values.
+#[derive(Debug, Drop)]
+pub enum Job<'a> {
+    /// List the records of a file.
+    Show {
+        /// The path of the object module.
+        file: &'a str,
+    },
+    /// Check a file.
+    Check {
+        /// The path of the object module.
+        file: &'a str,
+    },
+    /// Write the records of a file in their canonical form.
+    Rewrite {
+        /// The path of the object module.
+        from: &'a str,
+        /// The path of the file that is written.
+        to: &'a str,
+    },
+    /// Link files.
+    Link {
+        /// The path of the program that is written.
+        out: &'a str,
+        /// The path of the map that is written after the program, where one is asked for.
+        map: Option<&'a str>,
+        /// Whether names of publics and externals agree without regard to case.
+        ignore_case: bool,
+        /// The paths of the object modules, in their order.
+        files: Vec<&'a str>,
+    },
+    /// Load a program.
+    Load {
+        /// The path of the program.
+        file: &'a str,
+        /// The paragraph as it was given.
+        digits: &'a str,
+        /// The paragraph that the program is loaded at.
+        paragraph: u16,
+    },
+}
+
+/// Why the words are no job.
+#[derive(Debug, Drop, Error)]
+pub enum WordsFault {
+    /// They ask for help, which is this text.
+    #[error("{0}")]
+    Help(String),
+    /// They are wrong, and this text says why.
+    #[error("{0}")]
+    Wrong(String),
+    /// There was no memory.
+    #[error("out of memory")]
+    Memory,
+}
+
+impl From<AllocError> for WordsFault {
+    ghost from_gives = { λ _ e. e ≡ Memory };
+
+    fn from(_error: AllocError) -> WordsFault {
+        WordsFault::Memory
+    }
+}
+
+// A value that has to be there.
+fn needed<'a>(alloc: Global, id: &'a str) -> Arg<'a>
+    ensures rule { rule_of result ≡ spec.needed id.entry.now }
+    ensures local { result.global ≡ false }
+{
+    Arg::new(alloc, id).required(true)
+}
+
+// The program that is written.
+fn out_option<'a>(alloc: Global) -> Arg<'a>
+    ensures rule { rule_of result ≡ spec.out_rule }
+    ensures local { result.global ≡ false }
+{
+    needed(alloc, "OUT")
+        .short('o')
+        .help("The program to write, none of FILES")
+}
+
+// The map that is written, where one is asked for.
+fn map_option<'a>(alloc: Global) -> Arg<'a>
+    ensures rule { rule_of result ≡ spec.map_rule }
+    ensures local { result.global ≡ false }
+{
+    Arg::new(alloc, "MAP")
+        .short('m')
+        .help("The map to write after it, another file than OUT")
+}
+
+// Whether names agree without regard to case.
+fn case_flag<'a>(alloc: Global) -> Arg<'a>
+    ensures rule { rule_of result ≡ spec.case_rule }
+    ensures local { result.global ≡ false }
+{
+    Arg::new(alloc, "ignore-case")
+        .long("ignore-case")
+        .action(ArgAction::SetTrue)
+        .help("Names agree without regard to case: for Pascal, and assemblers that write capitals")
+}
+
+// The files that are linked, one or more.
+fn files<'a>(alloc: Global) -> Arg<'a>
+    ensures rule { rule_of result ≡ spec.files_rule }
+    ensures local { result.global ≡ false }
+{
+    needed(alloc, "FILES").num_args(ValueRange::from(1..)).help(
+        "The object modules to link, one in each file, in their order",
+    )
+}
+
+// The command with one argument more.
+fn with_arg<'a>(command: Command<'a>, arg: Arg<'a>) -> Result<Command<'a>, AllocError>
+    requires local { arg.global ≡ false }
+    requires above { (fields_of command).has_globals ≡ false }
+    ensures app { IfOk result (λ c. app_of c ≡ with_rule (app_of command.entry) (rule_of arg.entry)) }
+    ensures local { IfOk result (λ c. (fields_of c).has_globals ≡ false) }
+{
+    command.arg(arg)
+}
+
+// The subcommand `show`.
+fn show_command<'a>(alloc: Global) -> Result<Command<'a>, AllocError>
+    ensures app { IfOk result (λ c. app_of c ≡ spec.show_command) }
+    ensures local { IfOk result (λ c. (fields_of c).has_globals ≡ false) }
+{
+    let command = Command::new(alloc, "show").about(
+        "Prints what each record of an object module says",
+    );
+    with_arg(command, needed(alloc, "FILE").help("The object module"))
+}
+
+// The subcommand `check`.
+fn check_command<'a>(alloc: Global) -> Result<Command<'a>, AllocError>
+    ensures app { IfOk result (λ c. app_of c ≡ spec.check_command) }
+    ensures local { IfOk result (λ c. (fields_of c).has_globals ≡ false) }
+{
+    let command = Command::new(alloc, "check").about(
+        "Says whether an object module is sound, or names its first fault",
+    );
+    with_arg(command, needed(alloc, "FILE").help("The object module"))
+}
+
+// The subcommand `rewrite`.
+fn rewrite_command<'a>(alloc: Global) -> Result<Command<'a>, AllocError>
+    ensures app { IfOk result (λ c. app_of c ≡ spec.rewrite_command) }
+    ensures local { IfOk result (λ c. (fields_of c).has_globals ≡ false) }
+{
+    let command = Command::new(alloc, "rewrite").about(
+        "Writes the records of an object module in their canonical form",
+    );
+    let command = with_arg(command, needed(alloc, "IN").help("The object module"))?;
+    with_arg(
+        command,
+        needed(alloc, "OUT").help("The file to write, another one than IN"),
+    )
+}
+
+// The subcommand `link`.
+fn link_command<'a>(alloc: Global) -> Result<Command<'a>, AllocError>
+    ensures app { IfOk result (λ c. app_of c ≡ spec.link_command) }
+    ensures local { IfOk result (λ c. (fields_of c).has_globals ≡ false) }
+{
+    let command = Command::new(alloc, "link")
+        .about("Links object modules into a program; a refused link writes nothing")
+        .after_help(STATUSES);
+    let command = with_arg(command, out_option(alloc))?;
+    let command = with_arg(command, map_option(alloc))?;
+    let command = with_arg(command, case_flag(alloc))?;
+    with_arg(command, files(alloc))
+}
+
+// The subcommand `load`.
+fn load_command<'a>(alloc: Global) -> Result<Command<'a>, AllocError>
+    ensures app { IfOk result (λ c. app_of c ≡ spec.load_command) }
+    ensures local { IfOk result (λ c. (fields_of c).has_globals ≡ false) }
+{
+    let command = Command::new(alloc, "load").about(
+        "Prints registers and memory of a program as it is loaded at a paragraph",
+    );
+    let command = with_arg(command, needed(alloc, "FILE").help("The program"))?;
+    with_arg(
+        command,
+        needed(alloc, "PARAGRAPH").help(
+            "Where it is loaded: four hexadecimal digits, such as 1000",
+        ),
+    )
+}
+
+// The command with one subcommand more.
+fn with_command<'a>(above: Command<'a>, command: Command<'a>) -> Result<Command<'a>, AllocError>
+    requires local { (fields_of command).has_globals ≡ false }
+    requires above { (fields_of above).has_globals ≡ false }
+    ensures app { IfOk result (λ c. app_of c ≡ with_subcommand (app_of above.entry) (app_of command.entry).top) }
+    ensures local { IfOk result (λ c. (fields_of c).has_globals ≡ false) }
+{
+    above.subcommand(command)
+}
+
+// The command `omf` before it has its subcommands.
+fn bare_command<'a>(alloc: Global) -> Result<Command<'a>, AllocError>
+    ensures app { IfOk result (λ c. app_of c ≡ spec.bare_command) }
+    ensures local { IfOk result (λ c. (fields_of c).has_globals ≡ false) }
+{
+    Command::new(alloc, "omf")
+        .about("Links 16-bit OMF object modules into an MS-DOS program")
+        .after_help(STATUSES)
+        .no_binary_name(true)
+        .subcommand_required(true)
+        .arg_required_else_help(true)
+        .bin_name("omf")
+}
+
+// The command `omf`.
+fn omf_command<'a>(alloc: Global) -> Result<Command<'a>, AllocError>
+    ensures { IfOk result (λ c. app_of c ≡ spec.omf_command) }
+{
+    let command = with_command(bare_command(alloc)?, show_command(alloc)?)?;
+    let command = with_command(command, check_command(alloc)?)?;
+    let command = with_command(command, rewrite_command(alloc)?)?;
+    let command = with_command(command, link_command(alloc)?)?;
+    with_command(command, load_command(alloc)?)
+}
+
+// What the parser says of the words.
+fn refusal(alloc: Global, error: &clap::Error) -> WordsFault
+    ensures { kind_of error.now ≡ OutOfMemory → result ≡ WordsFault.Memory }
+{
+    if error.kind() == ErrorKind::OutOfMemory {
+        return WordsFault::Memory;
+    }
+    match error.to_string(alloc) {
+        Err(_) => WordsFault::Memory,
+        Ok(text) if error.use_stderr() => WordsFault::Wrong(text),
+        Ok(text) => WordsFault::Help(text),
+    }
+}
+
+// A refusal for which the parser has no text.
+fn wrong_words(alloc: Global) -> WordsFault
+    ensures { (result ≡ WordsFault.Memory) ⊎ inside.IsWrong result }
+{
+    match String::from_str(alloc, "omf: wrong words\n") {
+        Ok(text) => WordsFault::Wrong(text),
+        Err(_) => WordsFault::Memory,
+    }
+}
+
+// A value that the command asks for.
+fn value<'a>(values: &ArgMatches<'a>, id: &str) -> &'a str
+    requires { IsSome (first_of id.now (rows_of (found_of values.now))) }
+    ensures { first_of id.now (rows_of (found_of values.now)) ≡ Some result.now }
+{
+    values.get_str(id).unwrap()
+}
+
+// The job of `link`, by its values.
+fn link_job<'a>(alloc: Global, values: &ArgMatches<'a>) -> Result<Job<'a>, WordsFault>
+    requires out { IsSome (first_of (codes "OUT") (rows_of (found_of values.now))) }
+    requires files { IsSome (first_of (codes "FILES") (rows_of (found_of values.now))) }
+    ensures ok { IfOk result (IsJobOf (codes "link") (rows_of (found_of values.now))) }
+    ensures err { IfErr result (IsRefusalOf (codes "link") (rows_of (found_of values.now))) }
+{
+    let files = values.get_strs("FILES").unwrap();
+    if files.len() > MAX_FILES {
+        return Err(wrong_words(alloc));
+    }
+    let Ok(files) = Vec::from_slice(alloc, files) else {
+        return Err(WordsFault::Memory);
+    };
+    Ok(Job::Link {
+        out: value(values, "OUT"),
+        map: values.get_str("MAP"),
+        ignore_case: values.get_flag("ignore-case"),
+        files,
+    })
+}
+
+// The job of `load`, by its values.
+fn load_job<'a>(alloc: Global, values: &ArgMatches<'a>) -> Result<Job<'a>, WordsFault>
+    requires file { IsSome (first_of (codes "FILE") (rows_of (found_of values.now))) }
+    requires paragraph { IsSome (first_of (codes "PARAGRAPH") (rows_of (found_of values.now))) }
+    ensures ok { IfOk result (IsJobOf (codes "load") (rows_of (found_of values.now))) }
+    ensures err { IfErr result (IsRefusalOf (codes "load") (rows_of (found_of values.now))) }
+{
+    let digits = value(values, "PARAGRAPH");
+    let Ok(bytes) = <[u8; 2] as FromHex>::from_hex(digits) else {
+        return Err(wrong_words(alloc));
+    };
+    Ok(Job::Load {
+        file: value(values, "FILE"),
+        digits,
+        paragraph: u16::from_be_bytes(bytes),
+    })
+}
+
+// The job of a subcommand that the command entered, by its values.
+fn job_of<'a>(alloc: Global, name: &str, values: &ArgMatches<'a>) -> Result<Job<'a>, WordsFault>
+    requires { IsEntered name.now (rows_of (found_of values.now)) }
+    ensures ok { IfOk result (IsJobOf name.now (rows_of (found_of values.now))) }
+    ensures err { IfErr result (IsRefusalOf name.now (rows_of (found_of values.now))) }
+{
+    match name {
+        "show" => Ok(Job::Show {
+            file: value(values, "FILE"),
+        }),
+        "check" => Ok(Job::Check {
+            file: value(values, "FILE"),
+        }),
+        "rewrite" => Ok(Job::Rewrite {
+            from: value(values, "IN"),
+            to: value(values, "OUT"),
+        }),
+        "link" => link_job(alloc, values),
+        "load" => load_job(alloc, values),
+        _ => unreachable!(),
+    }
+}
+
+/// The job that the words after the program's name ask for. Words that the command takes are refused
+/// for nothing but too many files, a paragraph that isn't exactly four hexadecimal digits, or want of
+/// memory.
+pub fn parse_words<'a>(alloc: Global, words: &'a [&'a str]) -> Result<Job<'a>, WordsFault>
+    ensures job { IfOk result (IsJobFor (texts words.entry.now)) }
+    ensures refused { takes spec.omf_command (texts words.entry.now) ≡ true
+        → IfErr result (IsRefusalFor (texts words.entry.now)) }
+    // What the command takes, and its matches, are those that the parser promises of simple commands.
+    ensures simple { is_simple spec.omf_command ≡ true }
+{
+    let Ok(command) = omf_command(alloc) else {
+        return Err(WordsFault::Memory);
+    };
+    let matches = match command.try_get_matches_from(words) {
+        Ok(matches) => matches,
+        Err(error) => return Err(refusal(alloc, &error)),
+    };
+    let (name, values) = matches.subcommand().unwrap();
+    job_of(alloc, name, values)
+}

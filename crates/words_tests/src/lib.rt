@@ -1,0 +1,5 @@
+//! The words of the command line.
+#![tactic(auto)]
+
+#[cfg(test)]
+mod words;
