@@ -3,7 +3,8 @@ ghost use Rattle.std.specs.Prelude.{All, ◌≡◌, ◌+◌, ◌-◌, ◌^◌, �
 ghost use Rattle.std.specs.Prelude.{take, if◌then◌else◌};
 ghost use Rattle.std.specs.Io.KnownBytes.{Consumes, IsAtEnd, Keeps};
 ghost use Rattle.omf_frame.specs.Device.{SameWhereTold};
-ghost use Rattle.omf_files.specs.Files.{HoldsNothing, held_back, is_out_of_memory, sink_bytes, sink_failures, stage_bytes};
+ghost use Rattle.omf_files.specs.Files.{HoldsNothing, held_back, is_out_of_memory, sink_bytes, sink_failures};
+ghost use Rattle.omf_files.specs.Files.{stage_bytes};
 ghost use Rattle.omf_files.specs.inside.Files.{IsOpenedAt};
 
 use crate::world::World;
