@@ -22,6 +22,13 @@ const SECOND: [u8; 39] = [
     0x90, 0xCA, 0x8A, 0x02, 0x00, 0x00, 0x74,
 ];
 
+/// A module whose publics `x` and `X` differ in case alone.
+const BOTH_CASES: [u8; 47] = [
+    0x80, 0x03, 0x00, 0x01, 0x41, 0x3B, 0x96, 0x07, 0x00, 0x00, 0x04, 0x43, 0x4F, 0x44, 0x45, 0x44,
+    0x98, 0x07, 0x00, 0x28, 0x02, 0x00, 0x02, 0x01, 0x01, 0x33, 0x90, 0x0D, 0x00, 0x00, 0x01, 0x01,
+    0x78, 0x00, 0x00, 0x00, 0x01, 0x58, 0x01, 0x00, 0x00, 0x8F, 0x8A, 0x02, 0x00, 0x00, 0x74,
+];
+
 /// A record whose closing byte is wrong.
 const WRONG: [u8; 6] = [0x80, 0x03, 0x00, 0x01, 0x41, 0x3C];
 
@@ -126,12 +133,18 @@ fn each_subcommand_does_its_work(rt: HostRuntime) -> Result<(), Fail> {
     let alloc = rt.alloc();
     let mut loose = Vec::from_slice(alloc, &FIRST[..47])?;
     loose.extend_from_slice(&LOOSE_END)?;
-    let files: [(&str, &[u8]); 3] = [("A", &FIRST), ("B", &SECOND), ("L", &loose)];
+    let files: [(&str, &[u8]); 4] = [
+        ("A", &FIRST),
+        ("B", &SECOND),
+        ("L", &loose),
+        ("D", &BOTH_CASES),
+    ];
     for (words, output, opened) in [
         (["show", "B"].as_slice(), SHOWN, "B "),
         (["check", "A"].as_slice(), "ok\n", "A "),
         (["rewrite", "L", "OUT"].as_slice(), "", "L "),
         (["link", "-o", "OUT", "A", "B"].as_slice(), "", "A B "),
+        (["link", "-o", "OUT", "D"].as_slice(), "", "D "),
     ] {
         let done = run_in(alloc, &files, NO_LIMITS, words)?;
         assert_eq!(rt; done.status, 0u8);
@@ -205,7 +218,13 @@ fn a_program_is_loaded_at_its_paragraph(rt: HostRuntime) -> Result<(), Fail> {
 #[test]
 fn a_fault_is_one_line_on_standard_error(rt: HostRuntime) -> Result<(), Fail> {
     let alloc = rt.alloc();
-    let files: [(&str, &[u8]); 4] = [("A", &FIRST), ("B", &SECOND), ("C", &FIRST), ("X", &WRONG)];
+    let files: [(&str, &[u8]); 5] = [
+        ("A", &FIRST),
+        ("B", &SECOND),
+        ("C", &FIRST),
+        ("D", &BOTH_CASES),
+        ("X", &WRONG),
+    ];
     let out = Limits {
         out: 10,
         ..NO_LIMITS
@@ -218,7 +237,7 @@ fn a_fault_is_one_line_on_standard_error(rt: HostRuntime) -> Result<(), Fail> {
         output: 2,
         ..NO_LIMITS
     };
-    let rows: [(&[&str], Limits, u8, &str, &str); 15] = [
+    let rows: [(&[&str], Limits, u8, &str, &str); 16] = [
         (
             &["show", "X"],
             NO_LIMITS,
@@ -267,6 +286,13 @@ fn a_fault_is_one_line_on_standard_error(rt: HostRuntime) -> Result<(), Fail> {
             3,
             "omf: NO: 1 Device at record 0\n",
             "A NO ",
+        ),
+        (
+            &["link", "--ignore-case", "-o", "OUT", "D"],
+            NO_LIMITS,
+            1,
+            "omf: link: 25 DuplicatePublic \"X\"\n",
+            "D ",
         ),
         (
             &["show", "NO"],
