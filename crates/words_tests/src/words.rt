@@ -68,12 +68,12 @@ fn reads_each_subcommand(rt: HostRuntime) {
 fn reads_the_path_of_a_map(rt: HostRuntime) {
     let linked = "Link { out: \"P\", map: Some(\"M\"), ignore_case: false, files: [\"A\", \"B\"] }";
     let taken: [(&[&str], &str); 8] = [
-        (&["link", "-m", "M", "-o", "P", "A", "B"].as_slice(), linked),
-        (&["link", "-o", "P", "-m", "M", "A", "B"].as_slice(), linked),
-        (&["link", "-o", "P", "A", "-m", "M", "B"].as_slice(), linked),
-        (&["link", "A", "B", "-m", "M", "-o", "P"].as_slice(), linked),
-        (&["link", "A", "B", "-oP", "-mM"].as_slice(), linked),
-        (&["link", "-m=M", "-o=P", "A", "B"].as_slice(), linked),
+        (&["link", "-m", "M", "-o", "P", "A", "B"], linked),
+        (&["link", "-o", "P", "-m", "M", "A", "B"], linked),
+        (&["link", "-o", "P", "A", "-m", "M", "B"], linked),
+        (&["link", "A", "B", "-m", "M", "-o", "P"], linked),
+        (&["link", "A", "B", "-oP", "-mM"], linked),
+        (&["link", "-m=M", "-o=P", "A", "B"], linked),
         (
             &["link", "-o", "P", "-m", "", "A"],
             "Link { out: \"P\", map: Some(\"\"), ignore_case: false, files: [\"A\"] }",
