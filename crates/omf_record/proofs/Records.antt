@@ -6,25 +6,24 @@ use Rattle.std.specs.declared.option.Option.{Option}
 use Rattle.omf_frame.specs.Frame.{Frame, Framed, frame_at, place_limit}
 use Rattle.omf_frame.specs.declared.reading.FramingFault.{FramingFault}
 use Rattle.omf_frame.proofs.Frames.{frame_at-framed}
-use Rattle.omf_record.specs.Record as says
-use Rattle.omf_record.specs.Record.{Theadr, Coment, Modend, Extdef, Pubdef, Linnum, Lnames, Segdef, Grpdef, Fixupp, Ledata, Lidata}
+use Rattle.omf_record.specs.Record.{Record, Modend, Extdef, Pubdef}
 use Rattle.omf_record.specs.Body.{kind_of, Body, BodyFault, IsRecordType}
 use Rattle.omf_record.specs.Records.{Placed, frame_of_record, is_end, AreRecords, AreBeforeEnd, AreToEnd, NoRecord, Framing, NoEnd, OtherType, WrongBody, NoRecordAt}
 use Rattle.omf_record.proofs.RecordLaws.{one_of}
 
 -- ---- MODEND is the type 8AH
 
-pub end_kind : (r : says.Record) → is_end r ≡ true → kind_of r ≡ 0x8A
+pub end_kind : (r : Record) → is_end r ≡ true → kind_of r ≡ 0x8A
 end_kind (Modend main start) e = refl
 end_kind _ e = absurd cc
 
-pub kind_end : (r : says.Record) → kind_of r ≡ 0x8A → is_end r ≡ true
+pub kind_end : (r : Record) → kind_of r ≡ 0x8A → is_end r ≡ true
 kind_end (Modend main start) e = refl
 kind_end (Extdef true _) e = absurd (omega (arith, e))
 kind_end (Pubdef true _ _) e = absurd (omega (arith, e))
 kind_end _ e = absurd (omega (arith, e))
 
-pub not_end : (r : says.Record) → (kind_of r ≡ 0x8A → ⊥) → is_end r ≡ false
+pub not_end : (r : Record) → (kind_of r ≡ 0x8A → ⊥) → is_end r ≡ false
 not_end r h = of (is_end r) refl
   where
     of : (b : Bool) → is_end r ≡ b → is_end r ≡ false
@@ -62,7 +61,7 @@ found f = Ok (Some f)
 found_is : (f g : Frame) → found f ≡ found g → f ≡ g
 found_is f g e = cc
 
-abbrev pub placed : ℕ → List ℕ → says.Record → Placed
+abbrev pub placed : ℕ → List ℕ → Record → Placed
 placed place body r = record { place = place; body = body; says = r }
 
 -- what stands where a record begins

@@ -3,7 +3,7 @@
 use crate::blocks::BlockField;
 use crate::codec::Of;
 use crate::externals::{BaseParts, ExternalField, Line, PublicBase, PublicField};
-use crate::fixups::{End, EndParts, SubrecordField};
+use crate::fixups::{End, EndParts, Subrecord, SubrecordParts};
 use crate::primitives::{Byte, First, Index, Name, Rest, Word};
 use crate::segments::{Mark, SegmentDefinition, SegmentParts};
 use crate::whole::ToEnd;
@@ -48,7 +48,7 @@ pub type Grpdef<A> = (Index, Components<A>);
 pub type Components<A> = ToEnd<A, Of<(First<Mark>, Index), u16>>;
 
 /// 9CH FIXUPP, Fixup Record: threads and fix-ups.
-pub type Fixupp<A> = ToEnd<A, SubrecordField>;
+pub type Fixupp<A> = ToEnd<A, Of<SubrecordParts, Subrecord>>;
 
 /// A0H LEDATA, Logical Enumerated Data Record: a segment, an offset, and the data.
 pub type Ledata<'a> = (Index, (Word, Rest<'a>));

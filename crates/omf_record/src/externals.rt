@@ -113,7 +113,6 @@ impl Made<BaseParts> for PublicBase {
         }
     }
 
-    #[tactic(auto, using(crate::specs::inside::Shapes::base_splits))]
     fn parts(&self) -> (u16, (u16, Option<u16>)) {
         match *self {
             PublicBase::AtFrame { group, frame } => (group, (0, Some(frame))),

@@ -13,7 +13,7 @@ ghost use Rattle.omf_record.specs.inside.Subrecords.{location_of};
 ghost use Rattle.omf_record.specs.inside.Subrecords as subs;
 
 use crate::choice::{Then, When};
-use crate::codec::{Blank, Codec, Field, Filled, Free, Made, Of, Read};
+use crate::codec::{Blank, Codec, Field, Free, Made, Of, Read};
 use crate::output::Output;
 use crate::primitives::{Any, First, Head, Index, Word};
 use std::alloc::Allocator;
@@ -399,20 +399,51 @@ impl Blank for ReferenceField {
     ghost blank = { λ _. refs.reference_blank };
 }
 
-/// The first byte; behind it the index of a target or of a frame, or the low byte of a place and a reference.
-pub type SubrecordParts = Then<
-    First<Subrecord>,
-    (
-        When<64, 4, 0, Index>,
-        (
-            When<64, 4, 1, When<16, 2, 0, Index>>,
-            When<128, 2, 1, (First<Any>, ReferenceField)>,
-        ),
-    ),
->;
+/// The first byte, and what stands behind it.
+pub type SubrecordParts = Then<First<Subrecord>, SubrecordTailField>;
 
-/// The two indexes and the fix-up behind it.
+/// The index of a target, that of a frame, or the low byte of a place and a reference.
 type SubrecordTail = (Option<u16>, (Option<Option<u16>>, Option<(u64, Reference)>));
+
+/// The parts of the same.
+type TailParts = (
+    When<64, 4, 0, Index>,
+    (
+        When<64, 4, 1, When<16, 2, 0, Index>>,
+        When<128, 2, 1, (First<Any>, ReferenceField)>,
+    ),
+);
+
+/// What stands behind the first byte, as a field.
+pub struct SubrecordTailField;
+
+impl Codec for SubrecordTailField {
+    type Item = SubrecordTail;
+
+    ghost Value = { subs.Parts };
+
+    ghost format = { subs.Behind };
+
+    ghost lawful = { subs.behind_lawful };
+
+    fn put<O: Output>(item: &SubrecordTail, number: u64, out: &mut O) -> Result<(), O::Error> {
+        <TailParts as Codec>::put(item, number, out)
+    }
+}
+
+impl<'a, A: Allocator + Copy> Field<'a, A> for SubrecordTailField {
+    fn read(alloc: A, number: u64, bytes: &'a [u8]) -> Read<'a, SubrecordTail> {
+        <TailParts as Field<'a, A>>::read(alloc, number, bytes)
+    }
+}
+
+impl Free for SubrecordTailField {
+    ghost free = { λ _ _. tt };
+}
+
+impl Blank for SubrecordTailField {
+    ghost blank = { subs.behind_blank };
+}
 
 impl Head for Subrecord {
     ghost Begins = { subs.IsFirst };
@@ -457,11 +488,10 @@ fn subrecord_of(byte: u64, tail: SubrecordTail) -> Subrecord
             reference,
         }),
         (None, Some(index), _) => Subrecord::SetFrame(thread, frame_method_of(byte / 4 % 8, index)),
-        (None, None, Some(index)) => Subrecord::SetTarget(
+        (None, None, index) => Subrecord::SetTarget(
             thread,
-            target_method_of(byte / 4 % 4, index),
+            target_method_of(byte / 4 % 4, index.unwrap_or(0)),
         ),
-        (None, None, None) => Subrecord::SetTarget(thread, target_method_of(byte / 4 % 4, 0)),
     }
 }
 
@@ -494,37 +524,6 @@ fn fixup_byte(fixup: &Fixup) -> u8
     }
     let mode = if fixup.self_relative { 0 } else { 64 };
     128 + mode + 4 * location_number(fixup.location) + (fixup.offset / 256) as u8
-}
-
-/// A subrecord as an item of a list.
-pub struct SubrecordField;
-
-impl Codec for SubrecordField {
-    type Item = Subrecord;
-
-    ghost Value = { Subrecord };
-
-    ghost format = { λ _. subs.subrecord };
-
-    ghost lawful = { λ _. subs.subrecord_lawful };
-
-    fn put<O: Output>(item: &Subrecord, number: u64, out: &mut O) -> Result<(), O::Error> {
-        <Of<SubrecordParts, Subrecord> as Codec>::put(item, number, out)
-    }
-}
-
-impl<'a, A: Allocator + Copy> Field<'a, A> for SubrecordField {
-    fn read(alloc: A, number: u64, bytes: &'a [u8]) -> Read<'a, Subrecord> {
-        <Of<SubrecordParts, Subrecord> as Field<'a, A>>::read(alloc, number, bytes)
-    }
-}
-
-impl Free for SubrecordField {
-    ghost free = { λ _ _. tt };
-}
-
-impl Filled for SubrecordField {
-    ghost filled = { λ _. subs.subrecord_filled };
 }
 
 /// The attribute byte of a MODEND.

@@ -1,7 +1,6 @@
 //! Segments and groups: SEGDEF and GRPDEF.
 
 ghost use Rattle.std.specs.Prelude.{◌≡◌, ◌≢◌, ◌<◌, ◌≤◌, ◌↔◌, ◌/◌, ◌%◌, ℕ, List, IsTrue, Option};
-ghost use Rattle.omf_record.specs.Canonical.{length_word};
 ghost use Rattle.omf_record.specs.Canonical as canon;
 ghost use Rattle.omf_record.specs.Numbers.{segment_len, alignment_number, combination_number, big};
 ghost use Rattle.omf_record.specs.declared.segments.SegmentDefinition.{SegmentDefinition};
@@ -144,16 +143,6 @@ fn big(length: SegmentLength) -> u8
     match length {
         SegmentLength::Word(_) => 0,
         SegmentLength::Whole => 1,
-    }
-}
-
-/// The length word of a SEGDEF: 0 where the segment has 65,536 bytes.
-fn length_word(length: SegmentLength) -> u16
-    ensures { result ≡ length_word length }
-{
-    match length {
-        SegmentLength::Word(length) => length,
-        SegmentLength::Whole => 0,
     }
 }
 
@@ -324,7 +313,6 @@ impl Made<(First<Mark>, Index)> for u16 {
         segment
     }
 
-    #[tactic(auto, using(crate::specs::inside::Shapes::component_splits))]
     fn parts(&self) -> (u64, u16) {
         (0xFF, *self)
     }

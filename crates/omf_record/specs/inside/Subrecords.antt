@@ -6,13 +6,14 @@ use Rattle.omf_record.specs.Language.{Joined, Byte, Index, One}
 use Rattle.omf_record.specs.Body.{bits, FrameIndex, TargetIndex, ReferenceText, SubrecordText}
 use Rattle.omf_record.specs.Numbers.{bit, thread_number, frame_number, target_number, location_number}
 use Rattle.omf_record.specs.Canonical as canon
-use Rattle.omf_record.specs.inside.Format.{join, Format, Lawful, IsFilled, IsMade, free}
-use Rattle.omf_record.specs.inside.FormatLaws.{both, both_lawful, behind, when_lawful, when, when_canonical, WhenText}
-use Rattle.omf_record.specs.inside.FormatLaws.{bits_at, map_option, map_same}
-use Rattle.omf_record.specs.inside.PrimitiveLaws.{index, index_lawful, fact_byte, fact_byte_lawful}
+use Rattle.omf_record.specs.inside.Format.{join, Format, Lawful, Completes, IsFilled, IsMade, free}
+use Rattle.omf_record.specs.inside.FormatLaws.{both, both_lawful, both_blank, behind, when_lawful, when_blank}
+use Rattle.omf_record.specs.inside.FormatLaws.{when, when_canonical, WhenText, bits_at, map_option, map_same}
+use Rattle.omf_record.specs.inside.PrimitiveLaws.{index, index_lawful, index_blank, fact_byte}
+use Rattle.omf_record.specs.inside.PrimitiveLaws.{fact_byte_lawful, fact_byte_blank}
 use Rattle.omf_record.specs.inside.Heads.{ByHead, joined, by_head, by_head_lawful, by_head_filled}
 use Rattle.omf_record.specs.inside.References.{thread_of, frame_method_of, frame_method_index, target_method_of}
-use Rattle.omf_record.specs.inside.References.{target_method_index, reference, reference_lawful}
+use Rattle.omf_record.specs.inside.References.{target_method_index, reference, reference_lawful, reference_blank}
 use Rattle.omf_record.specs.declared.fixups.Location.{Location}
 use Rattle.omf_record.specs.declared.fixups.Location.TheVariants.{LowByte, Offset, Base, Pointer, LoaderOffset}
 use Rattle.omf_record.specs.declared.fixups.FrameMethod.{FrameMethod}
@@ -32,9 +33,12 @@ abbrev pub IsFirst : ℕ → Type 0
 IsFirst b = (b / 64 ≡ 0 → b / 4 % 4 < 3) × (b / 64 ≡ 1 → (b / 4 % 8 ≢ 3) × (b / 4 % 8 < 6))
     × (b / 128 ≡ 1 → location_number (location_of (b / 4 % 16)) ≡ b / 4 % 16)
 
+-- the indexes and the fix-up behind the first byte, where they stand there
+abbrev pub Parts : Type 0
+Parts = Option ℕ × (Option (Option ℕ) × Option (ℕ × Reference))
+
 -- what stands behind the first byte
-abbrev pub Behind : ℕ → Format (Option ℕ × (Option (Option ℕ) × Option (ℕ × Reference))) (Option ℕ
-    × (Option (Option ℕ) × Option (ℕ × Reference)))
+abbrev pub Behind : ℕ → Format Parts Parts
 Behind b = both (when (bits_at 64 4 b ≡ 0) index)
     (both (when (bits_at 64 4 b ≡ 1) (when (bits_at 16 2 b ≡ 0) index))
     (when (bits_at 128 2 b ≡ 1) (both (fact_byte (λ x. Unit {0})) reference)))
@@ -51,7 +55,7 @@ Tail (sub.SetTarget n m) = TargetIndex m
 Tail (sub.Fixup f) = Joined (Byte (f.offset % 256)) (ReferenceText f.reference)
 
 -- the subrecord that its first byte and what stands behind it say
-abbrev pub subrecord_of : ℕ → Option ℕ × (Option (Option ℕ) × Option (ℕ × Reference)) → Subrecord
+abbrev pub subrecord_of : ℕ → Parts → Subrecord
 subrecord_of b (t, (f, Some (low, r))) =
     sub.Fixup (record {
       self_relative = eqb (b / 64 % 2) 0;
@@ -75,7 +79,7 @@ first_byte (sub.SetTarget n m) = 4 * target_number m + thread_number n
 first_byte (sub.Fixup f) = fixup_byte f
 
 -- what stands behind the first byte of a subrecord
-abbrev pub behind_first : Subrecord → Option ℕ × (Option (Option ℕ) × Option (ℕ × Reference))
+abbrev pub behind_first : Subrecord → Parts
 behind_first (sub.SetFrame n m) = (None, (Some (frame_method_index m), None))
 behind_first (sub.SetTarget n m) = (Some (target_method_index m), (None, None))
 behind_first (sub.Fixup f) = (None, (None, Some (f.offset % 256, f.reference)))
@@ -102,7 +106,7 @@ frame_same m = grind arith
 target_same : (m : TargetMethod) → canon.index (target_method_index m) ≡ canon.target_index m
 target_same m = grind arith
 
-to : (b : ℕ) (x : Option ℕ × (Option (Option ℕ) × Option (ℕ × Reference))) (text : List ℕ) → b < 256 → IsFirst b
+to : (b : ℕ) (x : Parts) (text : List ℕ) → b < 256 → IsFirst b
     → (Behind b).Text x text → Bits (subrecord_of b x) b × Tail (subrecord_of b x) text
 to b (Some i, (f, Some (low, r))) text lt h j = absurd (omega (arith, j.first.0, j.second.second.0))
 to b (None, (Some x, Some (low, r))) text lt h j = absurd (omega (arith, j.second.first.0, j.second.second.0))
@@ -148,21 +152,18 @@ begins s b lt h = grind (arith, h)
 back : (s : Subrecord) (b : ℕ) → b < 256 → Bits s b → subrecord_of b (behind_first s) ≡ s
 back s b lt h = grind (arith, h)
 
-nothing : (text : List ℕ) → text ≡ text ++ []
-nothing text = sym (append-nil text)
-
 from : (s : Subrecord) (b : ℕ) (text : List ℕ) → b < 256 → Bits s b → Tail s text
     → (Behind b).Text (behind_first s) text
 from (sub.SetFrame n m) b text lt h l =
     join [] text refl (
       (λ k. omega (arith, k, h.0)),
       refl,
-    ) (join text [] (nothing text) (
+    ) (join text [] (sym (append-nil text)) (
       omega (arith, h.0, lt),
       frame_from m b text lt h.0 h.1 l,
     ) ((λ k. omega (arith, k, h.0)), refl))
 from (sub.SetTarget n m) b text lt h l =
-    join text [] (nothing text) (
+    join text [] (sym (append-nil text)) (
       omega (arith, h.0, lt),
       target_from m text l,
     ) (join [] [] refl ((λ k. omega (arith, k, h.0)), refl) (
@@ -221,12 +222,26 @@ subrecord = free (λ x. x) SubrecordText canon.subrecord
 pub subrecord_made : IsMade (behind (fact_byte IsFirst) Behind (λ rest. Unit {0})) subrecord
 subrecord_made = by_head ByFirst
 
-pub subrecord_lawful : Lawful subrecord
-subrecord_lawful = by_head_lawful ByFirst
-    (λ b. both_lawful _ (when_lawful (bits_at 64 4 b ≡ 0) index index_lawful (λ r. tt)) (λ r. tt) _
+pub behind_lawful : (b : ℕ) → Lawful (Behind b)
+behind_lawful b = both_lawful _ (when_lawful (bits_at 64 4 b ≡ 0) index index_lawful (λ r. tt)) (λ r. tt) _
     (both_lawful _ (when_lawful (bits_at 64 4 b ≡ 1) _ (when_lawful (bits_at 16 2 b ≡ 0) index index_lawful (λ r. tt))
     (λ r. tt)) (λ r. tt) _ (when_lawful (bits_at 128 2 b ≡ 1) _
-    (both_lawful _ (fact_byte_lawful (λ x. Unit {0})) (λ r. tt) reference reference_lawful) (λ r. tt)))) (λ b r. tt)
+    (both_lawful _ (fact_byte_lawful (λ x. Unit {0})) (λ r. tt) reference reference_lawful) (λ r. tt)))
+
+pub behind_blank : (b : ℕ) → Completes (Behind b) []
+behind_blank b =
+    let frame = when (bits_at 16 2 b ≡ 0) index in
+    let fixup = both (fact_byte (λ x. Unit {0})) reference in
+    both_blank (when (bits_at 64 4 b ≡ 0) index)
+    (both (when (bits_at 64 4 b ≡ 1) frame) (when (bits_at 128 2 b ≡ 1) fixup))
+    (when_blank (bits_at 64 4 b) 0 index index_blank)
+    (both_blank (when (bits_at 64 4 b ≡ 1) frame) (when (bits_at 128 2 b ≡ 1) fixup)
+    (when_blank (bits_at 64 4 b) 1 frame (when_blank (bits_at 16 2 b) 0 index index_blank))
+    (when_blank (bits_at 128 2 b) 1 fixup
+    (both_blank (fact_byte (λ x. Unit {0})) reference (fact_byte_blank (λ x. Unit {0}) tt) reference_blank)))
+
+pub subrecord_lawful : Lawful subrecord
+subrecord_lawful = by_head_lawful ByFirst behind_lawful (λ b r. tt)
 
 pub subrecord_filled : IsFilled subrecord
 subrecord_filled = by_head_filled ByFirst
