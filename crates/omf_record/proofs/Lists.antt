@@ -49,28 +49,23 @@ module _ {I A : Type 0} (F : Format I A) where
         fewer (inl lt) = inl lt
         fewer (inr lt) = inr (omega (arith, lt))
 
-  module _ {V : Type 0} (items : V → List I) where
-    pub so_far_done : (bytes : List ℕ) (xs : List A) (rest : List ℕ) → length rest ≡ 0 → SoFar F bytes xs rest → Found (to_end F items) bytes xs rest
-    so_far_done bytes xs [] e s = record { front = s.front; parts = s.parts; spelled = s.spelled; ends = refl }
-    so_far_done bytes xs (b ∷ rest) e s = absurd (omega arith)
+  module _ {V : Type 0} (items : V → List I) (law : Lawful F) (unended : IsFree F) where
+    pub list_err : (bytes : List ℕ) (xs : List A) (rest : List ℕ) (e : ReadError) → 0 < length rest → SoFar F bytes xs rest → Fails F rest e → Fails (to_end F items) bytes e
+    list_err bytes xs rest errors.Memory some s f = tt
+    list_err bytes xs rest (errors.Refused bad) some s f = record {
+      front = s.front ++ f.front;
+      parts = s.parts ∙ ap (λ (t : List ℕ). s.front ++ t) f.parts ∙ sym (append_assoc s.front f.front bad.now);
+      none = none bytes rest s.parts some f.none;
+      completes = inr (go f.completes);
+      stops = λ b after more is. none ((s.front ++ f.front) ++ b ∷ more) (f.front ++ b ∷ more) (append_assoc s.front f.front (b ∷ more)) (omega (arith, length-append f.front (b ∷ more))) (f.stops b after more is);
+    }
+      where
+        none : (bytes rest : List ℕ) → bytes ≡ s.front ++ rest → 0 < length rest → NoneBegins F rest → NoneBegins (to_end F items) bytes
+        none bytes rest is some h ys text q l u e = none_each law unended xs ys s.front text rest q (inl (omega (arith, some, ap length u))) s.spelled l h (sym is ∙ e)
 
-    module _ (law : Lawful F) (unended : IsFree F) where
-      pub list_err : (bytes : List ℕ) (xs : List A) (rest : List ℕ) (e : ReadError) → 0 < length rest → SoFar F bytes xs rest → Fails F rest e → Fails (to_end F items) bytes e
-      list_err bytes xs rest errors.Memory some s f = tt
-      list_err bytes xs rest (errors.Refused bad) some s f = record {
-        front = s.front ++ f.front;
-        parts = s.parts ∙ ap (λ (t : List ℕ). s.front ++ t) f.parts ∙ sym (append_assoc s.front f.front bad.now);
-        none = none bytes rest s.parts some f.none;
-        completes = inr (go f.completes);
-        stops = λ b after more is. none ((s.front ++ f.front) ++ b ∷ more) (f.front ++ b ∷ more) (append_assoc s.front f.front (b ∷ more)) (omega (arith, length-append f.front (b ∷ more))) (f.stops b after more is);
-      }
-        where
-          none : (bytes rest : List ℕ) → bytes ≡ s.front ++ rest → 0 < length rest → NoneBegins F rest → NoneBegins (to_end F items) bytes
-          none bytes rest is some h ys text q l u e = none_each law unended xs ys s.front text rest q (inl (omega (arith, some, ap length u))) s.spelled l h (sym is ∙ e)
-
-          go : (f.front ≡ []) ⊎ Completes F f.front → Completes (to_end F items) (s.front ++ f.front)
-          go (inl e) = (0, xs, subst (each F.Text xs) (sym (append-nil (s.front ++ f.front) ∙ ap (λ (t : List ℕ). s.front ++ t) e ∙ append-nil s.front)) s.spelled)
-          go (inr (n, y, l)) = (n, xs ++ y ∷ [], subst (each F.Text (xs ++ y ∷ [])) (sym (append_assoc s.front f.front (replicate n 0))) (each_more xs y s.front (f.front ++ replicate n 0) s.spelled l))
+        go : (f.front ≡ []) ⊎ Completes F f.front → Completes (to_end F items) (s.front ++ f.front)
+        go (inl e) = (0, xs, subst (each F.Text xs) (sym (append-nil (s.front ++ f.front) ∙ ap (λ (t : List ℕ). s.front ++ t) e ∙ append-nil s.front)) s.spelled)
+        go (inr (n, y, l)) = (n, xs ++ y ∷ [], subst (each F.Text (xs ++ y ∷ [])) (sym (append_assoc s.front f.front (replicate n 0))) (each_more xs y s.front (f.front ++ replicate n 0) s.spelled l))
 
 -- ---- written
 

@@ -49,10 +49,6 @@ end_text (main, Some start) = (128 * bit main + 65) ∷ canon.reference start
 abbrev pub end_of : ℕ → Option Reference → Bool × Option Reference
 end_of b x = (eqb (b / 128) 1, x)
 
--- the start
-abbrev pub end_start : Bool × Option Reference → Option Reference
-end_start y = y.1
-
 to : (b : ℕ) (x : Option Reference) (text : List ℕ) → b < 256 → IsAttribute b → (Behind b).Text x text
     → Bits (end_of b x) b × Tail (end_of b x) text
 to b x text lt h l = grind (arith, eqb-true, eqb-false, h, l)
@@ -87,7 +83,7 @@ texts (main, None) text = (
   (λ l. join text [] (sym (append-nil text)) l refl),
 )
 
-pub ByAttribute : ByHead IsAttribute Behind Bits Tail EndText end_text end_of end_byte end_start
+pub ByAttribute : ByHead IsAttribute Behind Bits Tail EndText end_text end_of end_byte (λ y. y.1)
 ByAttribute = record {
   to = to;
   begins = begins;

@@ -230,13 +230,12 @@ behind_lawful b = both_lawful _ (when_lawful (bits_at 64 4 b ≡ 0) index index_
 
 pub behind_blank : (b : ℕ) → Completes (Behind b) []
 behind_blank b =
-    let frame = when (bits_at 16 2 b ≡ 0) index in
     let fixup = both (fact_byte (λ x. Unit {0})) reference in
     both_blank (when (bits_at 64 4 b ≡ 0) index)
-    (both (when (bits_at 64 4 b ≡ 1) frame) (when (bits_at 128 2 b ≡ 1) fixup))
+    (both (when (bits_at 64 4 b ≡ 1) (when (bits_at 16 2 b ≡ 0) index)) (when (bits_at 128 2 b ≡ 1) fixup))
     (when_blank (bits_at 64 4 b) 0 index index_blank)
-    (both_blank (when (bits_at 64 4 b ≡ 1) frame) (when (bits_at 128 2 b ≡ 1) fixup)
-    (when_blank (bits_at 64 4 b) 1 frame (when_blank (bits_at 16 2 b) 0 index index_blank))
+    (both_blank (when (bits_at 64 4 b ≡ 1) (when (bits_at 16 2 b ≡ 0) index)) (when (bits_at 128 2 b ≡ 1) fixup)
+    (when_blank (bits_at 64 4 b) 1 (when (bits_at 16 2 b ≡ 0) index) (when_blank (bits_at 16 2 b) 0 index index_blank))
     (when_blank (bits_at 128 2 b) 1 fixup
     (both_blank (fact_byte (λ x. Unit {0})) reference (fact_byte_blank (λ x. Unit {0}) tt) reference_blank)))
 
