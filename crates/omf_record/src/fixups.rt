@@ -405,7 +405,7 @@ pub type SubrecordParts = Then<First<Subrecord>, SubrecordTailField>;
 /// The index of a target, that of a frame, or the low byte of a place and a reference.
 type SubrecordTail = (Option<u16>, (Option<Option<u16>>, Option<(u64, Reference)>));
 
-/// The parts of the same.
+/// The same, by its fields.
 type TailParts = (
     When<64, 4, 0, Index>,
     (
