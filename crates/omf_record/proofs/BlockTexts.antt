@@ -1,6 +1,6 @@
 -- How blocks are read and written, from the answers of their heads and of the blocks in them.
 use Rattle.std.proofs.Common.{◌≡◌, ℕ, zero, suc, ◌-◌, ◌<◌, ◌⊎◌, inl, inr, List, [], ◌∷◌, ◌++◌, length, map, Option, Some, None, Bor, refl, sym, ap, subst, subst₂, ◌∙◌, append_assoc, arith}
-use Rattle.std.specs.Prelude.{replicate, Result, Ok, Err}
+use Rattle.std.specs.Prelude.{replicate, Ok, Err}
 use Rattle.std.specs.List.{flat_map}
 use Rattle.std.proofs.lemmas.List.{length-append, length-map}
 use Rattle.omf_record.specs.declared.codec.ReadError.{ReadError}
@@ -11,12 +11,12 @@ use Rattle.omf_record.specs.Record.{Block, Content, Nested, blocks_of}
 use Rattle.omf_record.specs.View.{block_view}
 use Rattle.omf_record.specs.Body.{BlockText}
 use Rattle.omf_record.specs.Canonical as canon
-use Rattle.omf_record.specs.inside.Format.{join, Format, IsFree, Lawful, NoneBegins, Completes, Found, Fails, Splits, IsOutput, Writes, WritesItem}
+use Rattle.omf_record.specs.inside.Format.{join, Format, IsFree, Lawful, NoneBegins, Completes, Found, Fails, Splits, IsOutput, Writes, Written, WritesItem}
 use Rattle.omf_record.specs.inside.FormatLaws.{both}
 use Rattle.omf_record.specs.inside.PrimitiveLaws.{fact_byte}
 use Rattle.omf_record.specs.inside.Segments.{IsZero}
 use Rattle.omf_record.specs.inside.Blocks.{times, times_begun, times_blank, head, head_lawful, leaf, list_blocks, block, inner, Parts, content_to, block_to, is_block, nested_splits, content_splits, inner_lawful, inner_is, inner_blank}
-use Rattle.omf_record.proofs.Parts.{first_err, second_err, both_found, spelled_err, made_err, made_found, second_written, made_written}
+use Rattle.omf_record.proofs.Parts.{first_err, second_err, both_found, carried, made_err, made_found, second_written, made_written}
 use Rattle.omf_record.proofs.Lists.{SoFar, each_both, none_each}
 
 -- ---- so many texts
@@ -94,12 +94,12 @@ pub leaf_found : (A : Type 0) (bytes : List ℕ) (x : ℕ × ((ℕ × ℕ) × Li
 leaf_found A bytes x rest f = record { front = f.front; parts = f.parts; spelled = leaf_to x f.front f.spelled; ends = tt }
 
 pub leaf_err : (A : Type 0) (bytes : List ℕ) (e : ReadError) → Fails leaf bytes e → Fails (block {A = A} 0) bytes e
-leaf_err A = spelled_err leaf (λ r. tt) (block {A = A} 0) (λ x. (Content x.0 x.1.1, leaf_to x)) leaf_from
+leaf_err A = carried leaf (block {A = A} 0) (λ bytes h y text rest m u e. let (x, l) = leaf_from y text m in h x text rest l tt e) (λ front (n, x, l). (n, Content x.0 x.1.1, leaf_to x (front ++ replicate n 0) l))
 
 -- ---- blocks that are written
 
 module _ {S : Type 0} (Takes : S → List ℕ → S → Type 0) (Refuses : S → ℕ → S → Type 0) (output : IsOutput Takes Refuses) (A : Type 0) (below repeat : ℕ) where
-  pub content_written : {E : Type 0} (bytes : Bor (List ℕ)) (y : code.Block A) (old new : S) (r : Result (Unit {0}) E) → block_view y ≡ Content repeat bytes.now
+  pub content_written : (bytes : Bor (List ℕ)) (y : code.Block A) (old new : S) (r : Written) → block_view y ≡ Content repeat bytes.now
       → WritesItem Takes Refuses head (repeat, (0, Some bytes)) old new r → WritesItem Takes Refuses (block {A = A} below) y old new r
   content_written bytes y old new r is w =
       made_written Takes Refuses output head (block {A = A} below) (repeat, (0, Some bytes)) y old new r (subst (Splits head (block {A = A} below) (repeat, (0, Some bytes.now))) (sym is) (content_splits below repeat bytes.now)) w
@@ -110,16 +110,16 @@ module _ {S : Type 0} (Takes : S → List ℕ → S → Type 0) (Refuses : S →
       let (short, j, le) = (nested_splits {A = A} below repeat bs).best text l in
       output.longer old new (length j.front) (length text) (omega (arith, le, ap length j.parts, length-append j.front j.rest)) (h j.front j.first)
 
-  pub nested_written : (E : Type 0) → 0 < below → (n : ℕ) (xs : List (code.Block A)) (y : code.Block A) (old mid new : S) (r : Result (Unit {0}) E) → n ≡ length xs → block_view y ≡ Nested repeat (blocks_of (map block_view xs))
+  pub nested_written : 0 < below → (n : ℕ) (xs : List (code.Block A)) (y : code.Block A) (old mid new : S) (r : Written) → n ≡ length xs → block_view y ≡ Nested repeat (blocks_of (map block_view xs))
       → head.Text (repeat, (n, None)) (head.canonical (repeat, (n, None))) × Takes old (head.canonical (repeat, (n, None))) mid
       → Writes Takes Refuses (each (BlockText (below - 1)) (map block_view xs)) (flat_map canon.block (map block_view xs)) mid new r → WritesItem Takes Refuses (block {A = A} below) y old new r
-  nested_written E some n xs y old mid new r len is f w =
+  nested_written some n xs y old mid new r len is f w =
       let ys = map block_view xs in
       let e : length ys ≡ n = omega (arith, len, length-map xs block_view) in
       made_written Takes Refuses output (Parts {A = A} below) (block {A = A} below) ((repeat, (n, None)), xs) y old new r (subst₂ (λ m b. Splits (Parts {A = A} below) (block {A = A} below) ((repeat, (m, None)), ys) b) e (sym is) (nested_splits below repeat ys))
       (second_written Takes Refuses output head head_lawful (repeat, (n, None)) ((times (inner {A = A} below) n).Text ys) (flat_map canon.block ys) old mid new r f (inner_written ys n e some r w))
     where
-      inner_written : {E : Type 0} (ys : List Block) (n : ℕ) → length ys ≡ n → 0 < below → (r : Result (Unit {0}) E) → Writes Takes Refuses (each (BlockText (below - 1)) ys) (flat_map canon.block ys) mid new r
+      inner_written : (ys : List Block) (n : ℕ) → length ys ≡ n → 0 < below → (r : Written) → Writes Takes Refuses (each (BlockText (below - 1)) ys) (flat_map canon.block ys) mid new r
           → Writes Takes Refuses ((times (inner {A = A} below) n).Text ys) (flat_map canon.block ys) mid new r
       inner_written ys n e some (Ok u) w = ((e, subst (λ F. each F.Text ys (flat_map canon.block ys)) (sym (inner_is {A = A} below some)) w.0), w.1)
       inner_written ys n e some (Err x) w = λ text l. w text (subst (λ F. each F.Text ys text) (inner_is {A = A} below some) l.1)

@@ -1,13 +1,14 @@
 -- Lists that go on to the end of a body, read and written item by item.
 use Rattle.std.proofs.Common.{◌≡◌, ℕ, ◌+◌, ◌<◌, ◌≤◌, List, [], ◌∷◌, ◌++◌, length, map, drop, get_or, inl, inr, ◌⊎◌, refl, sym, ap, subst, ◌∙◌, append_assoc, append-nil, arith}
-use Rattle.std.specs.Prelude.{replicate, Result, Ok, Err}
+use Rattle.std.specs.Prelude.{replicate, Ok, Err}
 use Rattle.std.proofs.lemmas.List.{length-append, drop_more, drop_all}
 use Rattle.std.proofs.lemmas.List.Concat.{flat_map-cons}
 use Rattle.std.specs.List.{flat_map}
 use Rattle.omf_record.specs.Language.{each}
 use Rattle.omf_record.specs.declared.codec.ReadError.{ReadError}
 use Rattle.omf_record.specs.declared.codec.ReadError.TheVariants as errors
-use Rattle.omf_record.specs.inside.Format.{join, Format, IsFree, NoneBegins, Completes, Found, Fails, Lawful, IsOutput, Writes, WritesItem}
+use Rattle.omf_record.specs.declared.output.Unwritten.{Unwritten}
+use Rattle.omf_record.specs.inside.Format.{join, Format, IsFree, NoneBegins, Completes, Found, Fails, Lawful, IsOutput, Writes, Written, WritesItem}
 use Rattle.omf_record.specs.inside.FormatLaws.{same, to_end}
 use Rattle.omf_record.proofs.Parts.{first_fails, second_written}
 
@@ -70,23 +71,23 @@ module _ {I A : Type 0} (F : Format I A) where
 -- ---- written
 
 module _ {S : Type 0} (Takes : S → List ℕ → S → Type 0) (Refuses : S → ℕ → S → Type 0) (output : IsOutput Takes Refuses) {I A : Type 0} (F : Format I A) (law : Lawful F) where
-  abbrev pub WritesEach : {E : Type 0} → List I → S → S → Result (Unit {0}) E → Type 0
+  abbrev pub WritesEach : List I → S → S → Written → Type 0
   WritesEach xs = Writes Takes Refuses (each F.Text (map F.view xs)) (flat_map F.canonical (map F.view xs))
 
   -- writing the items from here on writes all
-  abbrev pub Left : (E : Type 0) → List I → S → ℕ → S → Type 0
-  Left E xs old i now = (new : S) (r : Result (Unit {0}) E) → WritesEach (drop i xs) now new r → WritesEach xs old new r
+  abbrev pub Left : List I → S → ℕ → S → Type 0
+  Left xs old i now = (new : S) (r : Written) → WritesEach (drop i xs) now new r → WritesEach xs old new r
 
   at_item : (xs : List I) (i : ℕ) (x : I) → i < length xs → x ≡ get_or xs i x → drop i xs ≡ x ∷ drop (i + 1) xs
   at_item xs i x lt is = drop_more xs i x lt ∙ ap (λ y. y ∷ drop (i + 1) xs) (sym is)
 
-  pub left_more : (E : Type 0) (xs : List I) (old now mid : S) (i : ℕ) (x : I) → i < length xs → x ≡ get_or xs i x → Left E xs old i now → F.Text (F.view x) (F.canonical (F.view x)) × Takes now (F.canonical (F.view x)) mid → Left E xs old (i + 1) mid
-  left_more E xs old now mid i x lt is so_far w new r k = so_far new r (subst (λ ys. WritesEach ys now new r) (sym (at_item xs i x lt is))
+  pub left_more : (xs : List I) (old now mid : S) (i : ℕ) (x : I) → i < length xs → x ≡ get_or xs i x → Left xs old i now → F.Text (F.view x) (F.canonical (F.view x)) × Takes now (F.canonical (F.view x)) mid → Left xs old (i + 1) mid
+  left_more xs old now mid i x lt is so_far w new r k = so_far new r (subst (λ ys. WritesEach ys now new r) (sym (at_item xs i x lt is))
       (rw flat_map-cons (second_written Takes Refuses output F law (F.view x) (each F.Text (map F.view (drop (i + 1) xs))) (flat_map F.canonical (map F.view (drop (i + 1) xs))) now mid new r w k)))
 
-  pub left_fails : (E : Type 0) (xs : List I) (old now new : S) (i : ℕ) (x : I) (e : E) → i < length xs → x ≡ get_or xs i x → Left E xs old i now → WritesItem {E = E} Takes Refuses F x now new (Err e) → WritesEach xs old new (Err e)
-  left_fails E xs old now new i x e lt is so_far w = so_far new (Err e) (subst (λ ys. WritesEach ys now new (Err e)) (sym (at_item xs i x lt is))
+  pub left_fails : (xs : List I) (old now new : S) (i : ℕ) (x : I) (e : Unwritten) → i < length xs → x ≡ get_or xs i x → Left xs old i now → WritesItem Takes Refuses F x now new (Err e) → WritesEach xs old new (Err e)
+  left_fails xs old now new i x e lt is so_far w = so_far new (Err e) (subst (λ ys. WritesEach ys now new (Err e)) (sym (at_item xs i x lt is))
       (first_fails Takes Refuses output now new w))
 
-  pub left_done : (E : Type 0) (xs : List I) (old now : S) (i : ℕ) → length xs ≤ i → Left E xs old i now → WritesEach {E = E} xs old now (Ok tt)
-  left_done E xs old now i le so_far = so_far now (Ok tt) (subst (λ ys. WritesEach {E = E} ys now now (Ok tt)) (sym (drop_all i xs le)) (refl, output.none now))
+  pub left_done : (xs : List I) (old now : S) (i : ℕ) → length xs ≤ i → Left xs old i now → WritesEach xs old now (Ok tt)
+  left_done xs old now i le so_far = so_far now (Ok tt) (subst (λ ys. WritesEach ys now now (Ok tt)) (sym (drop_all i xs le)) (refl, output.none now))

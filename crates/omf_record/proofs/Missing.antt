@@ -1,10 +1,10 @@
 -- Indexes and names that the bytes end in.
 use Rattle.std.proofs.Common.{◌≡◌, ℕ, zero, suc, ◌+◌, ◌*◌, ◌-◌, ◌/◌, ◌%◌, ◌<◌, ◌⊎◌, inl, inr, Bool, true, false, ltb, List, [], ◌∷◌, ◌++◌, length, take, drop, get_or, refl, sym, ap, subst, ◌∙◌, arith, append-nil}
-use Rattle.std.specs.Prelude.{replicate, ◌≤◌, Result, Ok, Err, OnOk, OnErr}
+use Rattle.std.specs.Prelude.{replicate, ◌≤◌, Ok, Err, OnOk, OnErr}
 use Rattle.std.proofs.lemmas.Bool.{ltb-true, ltb-false}
 use Rattle.std.proofs.lemmas.List.{take-append-drop, length-take-le, take_all, drop_all, length-drop, take_at, length-append, length-replicate}
 use Rattle.omf_record.specs.Language.{IsBytes, Bytes, Index, Name, Word}
-use Rattle.omf_record.specs.inside.Format.{Format, NoneBegins, Completes, Refused, IsOutput, Writes}
+use Rattle.omf_record.specs.inside.Format.{Format, NoneBegins, Completes, Refused, IsOutput, Written, Writes}
 use Rattle.omf_record.specs.inside.FormatLaws.{IsBytes-append}
 use Rattle.omf_record.specs.inside.PrimitiveLaws.{index, name, word}
 
@@ -23,12 +23,9 @@ IsBytes-zeros (suc n) = (omega arith, IsBytes-zeros n)
 none_of : {I A : Type 0} (F : Format I A) (bytes : List ℕ) → ((x : A) (n : ℕ) → F.Text x (take n bytes) → ⊥) → NoneBegins F bytes
 none_of F bytes h y text rest l u e = h y (length text) (subst (F.Text y) (sym (ap (take (length text)) e ∙ take_at text rest (length text) refl)) l)
 
-nothing_left : (bytes : List ℕ) → take (length bytes - length bytes) (drop (length bytes) bytes) ≡ []
-nothing_left bytes = take_all _ _ (omega (arith, length-drop (length bytes) bytes)) ∙ drop_all (length bytes) bytes (omega arith)
-
 -- the bytes end too early
 pub missing : {I A : Type 0} (F : Format I A) (bytes : List ℕ) → ((x : A) (n : ℕ) → F.Text x (take n bytes) → ⊥) → (bytes ≡ []) ⊎ Completes F bytes → Refused F bytes (take (length bytes - length bytes) (drop (length bytes) bytes))
-missing F bytes h c = rw (nothing_left bytes) (record { front = bytes; parts = sym (append-nil bytes); none = none_of F bytes h; completes = c; stops = λ b after more is. absurd cc })
+missing F bytes h c = rw (take_all (length bytes - length bytes) (drop (length bytes) bytes) (omega (arith, length-drop (length bytes) bytes)) ∙ drop_all (length bytes) bytes (omega arith)) (record { front = bytes; parts = sym (append-nil bytes); none = none_of F bytes h; completes = c; stops = λ b after more is. absurd cc })
 
 pub index_goes_on : (bytes : List ℕ) → IsBytes bytes → ((x n : ℕ) → Index x (take n bytes) → ⊥) → (bytes ≡ []) ⊎ Completes index bytes
 index_goes_on [] fits none = inl refl
@@ -79,11 +76,11 @@ word_none bytes lt x n l = omega (arith, ap length l.1, ap length (take-append-d
 
 -- ---- writing bytes
 
-module _ {S E : Type 0} (Takes : S → List ℕ → S → Type 0) (Refuses : S → ℕ → S → Type 0) (s : List ℕ) (fits : IsBytes s) where
-  pub bytes_written : (old new : S) (r : Result (Unit {0}) E) → OnOk r (Takes old s new) → OnErr r (Refuses old (length s) new) → Writes Takes Refuses (Bytes s) s old new r
+module _ {S : Type 0} (Takes : S → List ℕ → S → Type 0) (Refuses : S → ℕ → S → Type 0) (s : List ℕ) (fits : IsBytes s) where
+  pub bytes_written : (old new : S) (r : Written) → OnOk r (Takes old s new) → OnErr r (Refuses old (length s) new) → Writes Takes Refuses (Bytes s) s old new r
   bytes_written old new (Ok u) ok err = ((fits, refl), ok)
   bytes_written old new (Err e) ok err = λ text l. rw l.1 err
 
-  pub name_written : IsOutput Takes Refuses → length s ≤ 255 → (old mid new : S) (r : Result (Unit {0}) E) → Takes old (length s ∷ []) mid → Writes Takes Refuses (Bytes s) s mid new r → Writes Takes Refuses (Name s) (length s ∷ s) old new r
+  pub name_written : IsOutput Takes Refuses → length s ≤ 255 → (old mid new : S) (r : Written) → Takes old (length s ∷ []) mid → Writes Takes Refuses (Bytes s) s mid new r → Writes Takes Refuses (Name s) (length s ∷ s) old new r
   name_written output le old mid new (Ok u) t w = ((le, fits, refl), output.more old mid new (length s ∷ []) s t w.1)
   name_written output le old mid new (Err e) t w = λ text l. output.longer old new (1 + length s) (length text) (omega (arith, ap length l.2)) (output.then_fails old mid new (length s ∷ []) (length s) t (w s (fits, refl)))

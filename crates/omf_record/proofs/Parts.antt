@@ -1,16 +1,16 @@
 -- What reading one field behind another answers, and reading a value made of parts.
 use Rattle.std.proofs.Common.{◌≡◌, ℕ, ◌+◌, List, [], ◌∷◌, ◌++◌, length, inl, inr, ◌⊎◌, refl, sym, ap, subst, ◌∙◌, append_assoc, append-nil, arith, Some, None}
-use Rattle.std.specs.Prelude.{replicate, Result, Ok, Err}
+use Rattle.std.specs.Prelude.{replicate, Ok, Err}
 use Rattle.std.proofs.lemmas.List.{length-append, replicate-append-replicate}
 use Rattle.omf_record.specs.declared.codec.ReadError.{ReadError}
 use Rattle.omf_record.specs.declared.codec.ReadError.TheVariants as errors
-use Rattle.omf_record.specs.inside.Format.{join, Format, IsFree, NoneBegins, Completes, Found, Fails, Lawful, IsMade, IsOutput, Writes, WritesItem, Splits}
+use Rattle.omf_record.specs.inside.Format.{join, Format, IsFree, NoneBegins, Completes, Found, Fails, Lawful, IsMade, IsOutput, Writes, Written, WritesItem, Splits}
 use Rattle.omf_record.specs.Language.{Joined}
 use Rattle.omf_record.specs.inside.FormatLaws.{behind, same, when}
 
 -- what fails to be one's text fails to be the other's
 module _ {I J A B : Type 0} (F : Format I A) (M : Format J B) (none : (bytes : List ℕ) → NoneBegins F bytes → NoneBegins M bytes) (completes : (front : List ℕ) → Completes F front → Completes M front) where
-  carried : (bytes : List ℕ) (e : ReadError) → Fails F bytes e → Fails M bytes e
+  pub carried : (bytes : List ℕ) (e : ReadError) → Fails F bytes e → Fails M bytes e
   carried bytes errors.Memory f = tt
   carried bytes (errors.Refused bad) f = record {
     front = f.front;
@@ -67,12 +67,6 @@ module _ {I J A B : Type 0} (F : Format I A) (law : Lawful F) (unended : IsFree 
         go (inl e) = blank_behind x (f.front ++ g.front) 0 (subst (F.Text x) (sym (append-nil (f.front ++ g.front) ∙ ap (λ (t : List ℕ). f.front ++ t) e ∙ append-nil f.front)) f.spelled) (blank x)
         go (inr (n, y, k)) = (n, (x, y), join f.front (g.front ++ replicate n 0) (append_assoc f.front g.front (replicate n 0)) f.spelled k)
 
--- a value that some parts spell, and only they
-pub spelled_err : {I P J A : Type 0} (F : Format I P) → IsFree F → (M : Format J A) → ((x : P) → (y : A) × ((text : List ℕ) → F.Text x text → M.Text y text)) → ((y : A) (text : List ℕ) → M.Text y text → (x : P) × F.Text x text)
-    → (bytes : List ℕ) (e : ReadError) → Fails F bytes e → Fails M bytes e
-spelled_err F unended M to from =
-    carried F M (λ bytes h y text rest m u e. let (x, l) = from y text m in h x text rest l (unended rest) e) (λ front (n, x, l). let (y, h) = to x in (n, y, h (front ++ replicate n 0) l))
-
 module _ {I A : Type 0} (F : Format I A) (unended : IsFree F) (P : Type 0) (yes : P) where
   pub when_err : (bytes : List ℕ) (e : ReadError) → Fails F bytes e → Fails (when P F) bytes e
   when_err = carried F (when P F) none (λ front (n, x, l). (n, Some x, (yes, l)))
@@ -94,7 +88,7 @@ module _ {S : Type 0} (Takes : S → List ℕ → S → Type 0) (Refuses : S →
   pub first_fails : {L M : List ℕ → Type 0} (old new : S) → ((text : List ℕ) → L text → Refuses old (length text) new) → (text : List ℕ) → Joined L M text → Refuses old (length text) new
   first_fails old new w text j = output.longer old new (length j.front) (length text) (omega (arith, ap length j.parts, length-append j.front j.rest)) (w j.front j.first)
 
-  pub second_written : {E I A : Type 0} (F : Format I A) (law : Lawful F) (x : A) (M : List ℕ → Type 0) (d : List ℕ) (old mid new : S) (r : Result (Unit {0}) E)
+  pub second_written : {I A : Type 0} (F : Format I A) (law : Lawful F) (x : A) (M : List ℕ → Type 0) (d : List ℕ) (old mid new : S) (r : Written)
       → F.Text x (F.canonical x) × Takes old (F.canonical x) mid → Writes Takes Refuses M d mid new r → Writes Takes Refuses (Joined (F.Text x) M) (F.canonical x ++ d) old new r
   second_written F law x M d old mid new (Ok u) f g = (join _ _ refl f.0 g.0, output.more old mid new (F.canonical x) d f.1 g.1)
   second_written F law x M d old mid new (Err e) f g = λ text j.
@@ -102,7 +96,7 @@ module _ {S : Type 0} (Takes : S → List ℕ → S → Type 0) (Refuses : S →
       output.longer old new (length (F.canonical x) + length j.rest) (length text) (omega (arith, a.1, ap length j.parts, length-append j.front j.rest))
       (output.then_fails old mid new (F.canonical x) (length j.rest) f.1 (g j.rest j.second))
 
-  pub made_written : {E I P J A : Type 0} (F : Format I P) (M : Format J A) (x : I) (y : J) (old new : S) (r : Result (Unit {0}) E)
+  pub made_written : {I P J A : Type 0} (F : Format I P) (M : Format J A) (x : I) (y : J) (old new : S) (r : Written)
       → Splits F M (F.view x) (M.view y) → WritesItem Takes Refuses F x old new r → WritesItem Takes Refuses M y old new r
   made_written F M x y old new (Ok u) p w = let k = p.to (F.canonical (F.view x)) w.0 in rw (← k.1) (k.0, w.1)
   made_written F M x y old new (Err e) p w = λ text l. let (short, k, le) = p.best text l in output.longer old new (length short) (length text) le (w short k)

@@ -1,3 +1,4 @@
+pub mod Types
 pub mod Language
 pub mod Record
 pub mod Numbers

@@ -6,8 +6,8 @@ ghost use Rattle.omf_record.specs.inside.Blocks as blocks;
 ghost use Rattle.omf_record.specs.inside.Format.{Reads, WritesItem};
 
 use crate::choice::{Then, When};
-use crate::codec::{Codec, Field, Filled, Free, ReadError};
-use crate::output::Output;
+use crate::codec::{Codec, Field, Filled, Free, Read};
+use crate::output::{Output, Unwritten, Written};
 use crate::primitives::{First, Name, Word};
 use crate::segments::Zero;
 use std::alloc::{Allocator, Global};
@@ -40,17 +40,17 @@ fn put_block<A: Allocator + Copy, O: Output>(
     block: &Block<'_, A>,
     below: u32,
     out: &mut O,
-) -> Result<(), O::Error>
+) -> Written
     ensures { WritesItem O.Takes O.Refuses (blocks.block below) block.now out.old out.new result }
 {
     match block {
         Block::Content { repeat, bytes } => { Head::put(&(*repeat, (0, Some(*bytes))), 0, out) }
         Block::Nested { repeat, blocks } => {
             if below == 0 {
-                return Err(out.no_text());
+                return Err(Unwritten);
             }
             if blocks.len() > 65_535 {
-                return Err(out.no_text());
+                return Err(Unwritten);
             }
             Head::put(&(*repeat, (blocks.len() as u16, None)), 0, out)?;
             for inner in blocks {
@@ -66,7 +66,7 @@ fn read_block<'a, A: Allocator + Copy>(
     alloc: A,
     below: u32,
     bytes: &'a [u8],
-) -> Result<(Block<'a, A>, &'a [u8]), ReadError<'a>>
+) -> Read<'a, Block<'a, A>>
     ensures { Reads (blocks.block below) (λ x. (x.0, x.1.now)) bytes.now result }
 {
     if below == 0 {
@@ -99,17 +99,13 @@ impl<'a, A: Allocator + Copy> Codec for BlockField<'a, A> {
 
     ghost lawful = { λ _. blocks.block_lawful 63 };
 
-    fn put<O: Output>(item: &Block<'a, A>, _number: u64, out: &mut O) -> Result<(), O::Error> {
+    fn put<O: Output>(item: &Block<'a, A>, _number: u64, out: &mut O) -> Written {
         put_block(item, 63, out)
     }
 }
 
 impl<'a, A: Allocator + Copy> Field<'a, A> for BlockField<'a, A> {
-    fn read(
-        alloc: A,
-        _number: u64,
-        bytes: &'a [u8],
-    ) -> Result<(Block<'a, A>, &'a [u8]), ReadError<'a>> {
+    fn read(alloc: A, _number: u64, bytes: &'a [u8]) -> Read<'a, Block<'a, A>> {
         read_block(alloc, 63, bytes)
     }
 }

@@ -5,7 +5,7 @@ ghost use Rattle.omf_record.specs.inside.FormatLaws.{behind, behind_lawful, behi
 ghost use Rattle.omf_record.specs.inside.FormatLaws.{when, when_lawful, when_blank, bits_at};
 
 use crate::codec::{Blank, Codec, Field, Filled, Free, Read};
-use crate::output::Output;
+use crate::output::{Output, Unwritten, Written};
 use crate::primitives::{First, Head, Index, Word};
 use std::alloc::Allocator;
 use std::marker::PhantomData;
@@ -48,7 +48,7 @@ impl<N: Number + Free, F: Free> Codec for Then<N, F> {
         (N.lawful n) (N.free n) (λ x. F.lawful ((N.format n).number x))
         (λ x rest e. F.free ((N.format n).number x) rest) };
 
-    fn put<O: Output>(item: &(N::Item, F::Item), number: u64, out: &mut O) -> Result<(), O::Error> {
+    fn put<O: Output>(item: &(N::Item, F::Item), number: u64, out: &mut O) -> Written {
         N::put(&item.0, number, out)?;
         F::put(&item.1, N::number(&item.0), out)
     }
@@ -104,12 +104,12 @@ impl<const UNIT: u64, const COUNT: u64, const BITS: u64, F: Free> Codec
 
     ghost lawful = { λ n. when_lawful (bits_at UNIT COUNT n ≡ BITS) (F.format n) (F.lawful n) (F.free n) };
 
-    fn put<O: Output>(item: &Option<F::Item>, number: u64, out: &mut O) -> Result<(), O::Error> {
+    fn put<O: Output>(item: &Option<F::Item>, number: u64, out: &mut O) -> Written {
         let stands = bits_at(UNIT, COUNT, number) == BITS;
         match item {
             Some(item) if stands => F::put(item, number, out),
             None if !stands => Ok(()),
-            _ => Err(out.no_text()),
+            _ => Err(Unwritten),
         }
     }
 }

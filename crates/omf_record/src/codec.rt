@@ -4,9 +4,9 @@ ghost use Rattle.std.specs.Prelude.{◌≡◌, ◌≤◌, ◌++◌, [], ℕ, Lis
 ghost use Rattle.omf_record.specs.inside.Format.{Format, Lawful, IsFree, Completes, IsFilled, Reads, WritesItem};
 ghost use Rattle.omf_record.specs.inside.Format.{IsMade, Makes, Splits};
 ghost use Rattle.omf_record.specs.inside.FormatLaws.{both, both_lawful, both_filled, both_blank};
-ghost use Rattle.omf_record.specs.inside.FormatLaws.{made_lawful, made_blank, made_filled, made_free};
+ghost use Rattle.omf_record.specs.inside.FormatLaws.{made_lawful, made_blank, made_filled};
 
-use crate::output::Output;
+use crate::output::{Output, Written};
 use std::alloc::{AllocFailed, Allocator};
 use std::marker::PhantomData;
 
@@ -39,7 +39,7 @@ pub trait Codec {
 
     ghost format: { ℕ → Format Self.Item Value };
 
-    fn put<O: Output>(item: &Self::Item, number: u64, out: &mut O) -> Result<(), O::Error>
+    fn put<O: Output>(item: &Self::Item, number: u64, out: &mut O) -> Written
         ensures { WritesItem O.Takes O.Refuses (format number) item.now out.old out.new result };
 
     ghost lawful: { (number : ℕ) → Lawful (format number) };
@@ -76,7 +76,7 @@ impl<F: Free, G: Codec> Codec for (F, G) {
 
     ghost lawful = { λ n. both_lawful (F.format n) (F.lawful n) (F.free n) (G.format n) (G.lawful n) };
 
-    fn put<O: Output>(item: &(F::Item, G::Item), number: u64, out: &mut O) -> Result<(), O::Error> {
+    fn put<O: Output>(item: &(F::Item, G::Item), number: u64, out: &mut O) -> Written {
         F::put(&item.0, number, out)?;
         G::put(&item.1, number, out)
     }
@@ -130,7 +130,7 @@ impl<P: Free, T: Made<P>> Codec for Of<P, T> {
 
     ghost lawful = { λ n. made_lawful (P.format n) (T.format n) (T.is_made n) (P.lawful n) (P.free n) };
 
-    fn put<O: Output>(item: &T, number: u64, out: &mut O) -> Result<(), O::Error> {
+    fn put<O: Output>(item: &T, number: u64, out: &mut O) -> Written {
         P::put(&item.parts(), number, out)
     }
 }
@@ -143,7 +143,7 @@ impl<'a, A: Allocator + Copy, P: Field<'a, A> + Free, T: Made<P>> Field<'a, A> f
 }
 
 impl<P: Free, T: Made<P>> Free for Of<P, T> {
-    ghost free = { λ n. made_free (P.format n) (T.format n) (T.is_made n) };
+    ghost free = { λ n. (T.is_made n).free };
 }
 
 impl<P: Free + Blank, T: Made<P>> Blank for Of<P, T> {

@@ -11,7 +11,7 @@ use crate::bodies::{
     Segdef, Theadr,
 };
 use crate::codec::Codec;
-use crate::output::{Output, Room};
+use crate::output::{Output, Room, Written};
 use crate::primitives::{Index, Word};
 use crate::record::Record;
 use crate::whole::put_both;
@@ -22,10 +22,7 @@ const BODY_LIMIT: usize = 65_534;
 
 /// Writes the canonical body of the record.
 #[tactic(auto, unfolding(crate::specs::Body::Body, crate::specs::Canonical::canonical, crate::specs::View::view))]
-fn put_record<A: Allocator + Copy, O: Output>(
-    record: &Record<'_, A>,
-    out: &mut O,
-) -> Result<(), O::Error>
+fn put_record<A: Allocator + Copy, O: Output>(record: &Record<'_, A>, out: &mut O) -> Written
     ensures { Writes O.Takes O.Refuses (Body (view «record».now)) (canonical (view «record».now))
         out.old out.new result }
 {

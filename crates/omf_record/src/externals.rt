@@ -1,13 +1,12 @@
 //! Names between modules, and lines: EXTDEF, PUBDEF and LINNUM.
 
 ghost use Rattle.omf_record.specs.Record as says;
-ghost use Rattle.omf_record.specs.declared.externals.Line.{Line};
-ghost use Rattle.omf_record.specs.declared.externals.PublicBase.{PublicBase};
+ghost use Rattle.omf_record.specs.Types.{Line, PublicBase};
 ghost use Rattle.omf_record.specs.inside.Shapes as shapes;
 
 use crate::choice::{Then, When};
 use crate::codec::{Codec, Field, Filled, Free, Made, Of, Read};
-use crate::output::Output;
+use crate::output::{Output, Written};
 use crate::primitives::{Index, Name, Word};
 use std::alloc::Allocator;
 use std::marker::PhantomData;
@@ -133,7 +132,7 @@ impl<'a> Codec for ExternalField<'a> {
 
     ghost lawful = { λ _. shapes.external_lawful };
 
-    fn put<O: Output>(item: &External<'a>, number: u64, out: &mut O) -> Result<(), O::Error> {
+    fn put<O: Output>(item: &External<'a>, number: u64, out: &mut O) -> Written {
         <Of<(Name<'a>, Index), External<'a>> as Codec>::put(item, number, out)
     }
 }
@@ -164,7 +163,7 @@ impl<'a> Codec for PublicField<'a> {
 
     ghost lawful = { λ _. shapes.public_lawful };
 
-    fn put<O: Output>(item: &Public<'a>, number: u64, out: &mut O) -> Result<(), O::Error> {
+    fn put<O: Output>(item: &Public<'a>, number: u64, out: &mut O) -> Written {
         <Of<(Name<'a>, (Word, Index)), Public<'a>> as Codec>::put(item, number, out)
     }
 }

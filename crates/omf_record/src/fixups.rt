@@ -4,18 +4,15 @@ ghost use Rattle.std.specs.Prelude.{◌≡◌, ◌≢◌, ◌<◌, ◌≤◌, �
 ghost use Rattle.omf_record.specs.Canonical as canon;
 ghost use Rattle.omf_record.specs.Numbers.{location_width, thread_number, frame_number, target_number, absent};
 ghost use Rattle.omf_record.specs.Numbers.{location_number};
-ghost use Rattle.omf_record.specs.declared.fixups.Reference.{Reference};
-ghost use Rattle.omf_record.specs.declared.fixups.Subrecord.{Subrecord};
+ghost use Rattle.omf_record.specs.Types.{Reference, Subrecord};
 ghost use Rattle.omf_record.specs.inside.Ends as ends;
-ghost use Rattle.omf_record.specs.inside.References.{thread_of};
 ghost use Rattle.omf_record.specs.inside.References as refs;
-ghost use Rattle.omf_record.specs.inside.Subrecords.{location_of};
 ghost use Rattle.omf_record.specs.inside.Subrecords as subs;
 
 use crate::choice::{Then, When};
 use crate::codec::{Blank, Codec, Field, Free, Made, Of, Read};
-use crate::output::Output;
-use crate::primitives::{Any, First, Head, Index, Word};
+use crate::output::{Output, Written};
+use crate::primitives::{Byte, First, Head, Index, Word};
 use std::alloc::Allocator;
 
 /// The number of one of four frame threads, or of one of four target threads.
@@ -129,7 +126,7 @@ pub enum Subrecord {
 
 /// The thread of this number.
 fn thread_of(number: u64) -> ThreadNumber
-    ensures { result ≡ thread_of number }
+    ensures { result ≡ refs.thread_of number }
 {
     match number {
         0 => ThreadNumber::Zero,
@@ -141,7 +138,7 @@ fn thread_of(number: u64) -> ThreadNumber
 
 /// The location of this number, where one has it.
 fn location_of(number: u64) -> Location
-    ensures { result ≡ location_of number }
+    ensures { result ≡ subs.location_of number }
 {
     match number {
         0 => Location::LowByte,
@@ -380,7 +377,7 @@ impl Codec for ReferenceField {
 
     ghost lawful = { λ _. refs.reference_lawful };
 
-    fn put<O: Output>(item: &Reference, number: u64, out: &mut O) -> Result<(), O::Error> {
+    fn put<O: Output>(item: &Reference, number: u64, out: &mut O) -> Written {
         <Of<ReferenceParts, Reference> as Codec>::put(item, number, out)
     }
 }
@@ -403,14 +400,14 @@ impl Blank for ReferenceField {
 pub type SubrecordParts = Then<First<Subrecord>, SubrecordTailField>;
 
 /// The index of a target, that of a frame, or the low byte of a place and a reference.
-type SubrecordTail = (Option<u16>, (Option<Option<u16>>, Option<(u64, Reference)>));
+type SubrecordTail = (Option<u16>, (Option<Option<u16>>, Option<(u8, Reference)>));
 
 /// The same, by its fields.
 type TailParts = (
     When<64, 4, 0, Index>,
     (
         When<64, 4, 1, When<16, 2, 0, Index>>,
-        When<128, 2, 1, (First<Any>, ReferenceField)>,
+        When<128, 2, 1, (Byte, ReferenceField)>,
     ),
 );
 
@@ -426,7 +423,7 @@ impl Codec for SubrecordTailField {
 
     ghost lawful = { subs.behind_lawful };
 
-    fn put<O: Output>(item: &SubrecordTail, number: u64, out: &mut O) -> Result<(), O::Error> {
+    fn put<O: Output>(item: &SubrecordTail, number: u64, out: &mut O) -> Written {
         <TailParts as Codec>::put(item, number, out)
     }
 }
@@ -484,7 +481,7 @@ fn subrecord_of(byte: u64, tail: SubrecordTail) -> Subrecord
         (Some((low, reference)), _, _) => Subrecord::Fixup(Fixup {
             self_relative: byte / 64 % 2 == 0,
             location: location_of(byte / 4 % 16),
-            offset: (256 * (byte % 4) + low % 256) as u16,
+            offset: (256 * (byte % 4) + u64::from(low)) as u16,
             reference,
         }),
         (None, Some(index), _) => Subrecord::SetFrame(thread, frame_method_of(byte / 4 % 8, index)),
@@ -509,7 +506,7 @@ fn subrecord_parts(subrecord: Subrecord) -> (u64, SubrecordTail)
             (byte, (Some(target_method_index(method)), (None, None)))
         }
         Subrecord::Fixup(fixup) => {
-            let (byte, low) = (u64::from(fixup_byte(&fixup)), u64::from(fixup.offset % 256));
+            let (byte, low) = (u64::from(fixup_byte(&fixup)), (fixup.offset % 256) as u8);
             (byte, (None, (None, Some((low, fixup.reference)))))
         }
     }

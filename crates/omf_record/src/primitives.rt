@@ -7,7 +7,7 @@ ghost use Rattle.omf_record.specs.inside.Format.{Writes};
 ghost use Rattle.omf_record.specs.inside.PrimitiveLaws as fmt;
 
 use crate::codec::{Blank, Codec, Field, Filled, Free, Read, ReadError};
-use crate::output::Output;
+use crate::output::{Output, Unwritten, Written};
 use omf_frame::{read_index, read_name};
 use std::alloc::Allocator;
 use std::marker::PhantomData;
@@ -24,7 +24,7 @@ impl Codec for Byte {
 
     ghost lawful = { λ _. fmt.byte_lawful };
 
-    fn put<O: Output>(item: &u8, _number: u64, out: &mut O) -> Result<(), O::Error> {
+    fn put<O: Output>(item: &u8, _number: u64, out: &mut O) -> Written {
         out.write(&[*item])
     }
 }
@@ -66,10 +66,10 @@ impl<H: Head> Codec for First<H> {
 
     ghost lawful = { λ _. fmt.fact_byte_lawful H.Begins };
 
-    fn put<O: Output>(item: &u64, _number: u64, out: &mut O) -> Result<(), O::Error> {
+    fn put<O: Output>(item: &u64, _number: u64, out: &mut O) -> Written {
         match u8::try_from(*item) {
             Ok(byte) if H::begins(byte) => out.write(&[byte]),
-            _ => Err(out.no_text()),
+            _ => Err(Unwritten),
         }
     }
 }
@@ -91,21 +91,6 @@ impl<H: Head> Filled for First<H> {
     ghost filled = { λ _. fmt.fact_byte_filled H.Begins };
 }
 
-/// Any byte.
-pub struct Any;
-
-impl Head for Any {
-    ghost Begins = { λ _. Unit {0} };
-
-    fn begins(_byte: u8) -> bool {
-        true
-    }
-}
-
-impl Blank for First<Any> {
-    ghost blank = { λ _. fmt.fact_byte_blank (λ x. Unit {0}) tt };
-}
-
 /// A word, the low byte first.
 pub struct Word;
 
@@ -118,7 +103,7 @@ impl Codec for Word {
 
     ghost lawful = { λ _. fmt.word_lawful };
 
-    fn put<O: Output>(item: &u16, _number: u64, out: &mut O) -> Result<(), O::Error> {
+    fn put<O: Output>(item: &u16, _number: u64, out: &mut O) -> Written {
         out.write(&[(*item % 256) as u8, (*item / 256) as u8])
     }
 }
@@ -156,15 +141,21 @@ impl Codec for Index {
 
     ghost lawful = { λ _. fmt.index_lawful };
 
-    fn put<O: Output>(item: &u16, _number: u64, out: &mut O) -> Result<(), O::Error> {
-        let index = *item;
-        if index < 128 {
-            out.write(&[index as u8])
-        } else if index <= 32767 {
-            out.write(&[(128 + index / 256) as u8, (index % 256) as u8])
-        } else {
-            Err(out.no_text())
-        }
+    fn put<O: Output>(item: &u16, _number: u64, out: &mut O) -> Written {
+        put_index(*item, out)
+    }
+}
+
+/// Writes an index in its shortest form.
+fn put_index<O: Output>(index: u16, out: &mut O) -> Written
+    ensures { Writes O.Takes O.Refuses (spelled.Index index) (canon.index index) out.old out.new result }
+{
+    if index < 128 {
+        out.write(&[index as u8])
+    } else if index <= 32767 {
+        out.write(&[(128 + index / 256) as u8, (index % 256) as u8])
+    } else {
+        Err(Unwritten)
     }
 }
 
@@ -197,24 +188,24 @@ impl<'a> Codec for Name<'a> {
 
     ghost lawful = { λ _. fmt.name_lawful };
 
-    fn put<O: Output>(item: &&'a [u8], _number: u64, out: &mut O) -> Result<(), O::Error> {
+    fn put<O: Output>(item: &&'a [u8], _number: u64, out: &mut O) -> Written {
         put_name(item, out)
     }
 }
 
 /// Writes these bytes.
-fn put_bytes<O: Output>(bytes: &[u8], out: &mut O) -> Result<(), O::Error>
+fn put_bytes<O: Output>(bytes: &[u8], out: &mut O) -> Written
     ensures { Writes O.Takes O.Refuses (spelled.Bytes bytes.now) bytes.now out.old out.new result }
 {
     out.write(bytes)
 }
 
 /// Writes a name behind the byte of its length.
-fn put_name<O: Output>(name: &[u8], out: &mut O) -> Result<(), O::Error>
+fn put_name<O: Output>(name: &[u8], out: &mut O) -> Written
     ensures { Writes O.Takes O.Refuses (spelled.Name name.now) (canon.name name.now) out.old out.new result }
 {
     if name.len() > 255 {
-        return Err(out.no_text());
+        return Err(Unwritten);
     }
     out.write(&[name.len() as u8])?;
     put_bytes(name, out)
@@ -253,7 +244,7 @@ impl<'a> Codec for Rest<'a> {
 
     ghost lawful = { λ _. fmt.rest_lawful };
 
-    fn put<O: Output>(item: &&'a [u8], _number: u64, out: &mut O) -> Result<(), O::Error> {
+    fn put<O: Output>(item: &&'a [u8], _number: u64, out: &mut O) -> Written {
         put_bytes(item, out)
     }
 }

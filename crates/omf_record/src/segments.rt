@@ -4,13 +4,12 @@ ghost use Rattle.std.specs.Prelude.{◌≡◌, ◌≢◌, ◌<◌, ◌≤◌, �
 ghost use Rattle.omf_record.specs.Canonical as canon;
 ghost use Rattle.omf_record.specs.Numbers.{segment_len, alignment_number, combination_number, big};
 ghost use Rattle.omf_record.specs.declared.segments.SegmentDefinition.{SegmentDefinition};
-ghost use Rattle.omf_record.specs.inside.Segments.{alignment_of, combination_of};
 ghost use Rattle.omf_record.specs.inside.Segments as segs;
 ghost use Rattle.omf_record.specs.inside.Shapes as shapes;
 
 use crate::choice::{Then, When};
 use crate::codec::{Blank, Codec, Field, Free, Made, Of, Read};
-use crate::output::Output;
+use crate::output::{Output, Written};
 use crate::primitives::{Byte, First, Head, Index, Word};
 use std::alloc::Allocator;
 
@@ -77,7 +76,7 @@ pub struct SegmentDefinition {
 
 /// The alignment of this number, of a segment that isn't absolute.
 fn alignment_of(number: u64) -> Alignment
-    ensures { result ≡ alignment_of number }
+    ensures { result ≡ segs.alignment_of number }
 {
     match number {
         1 => Alignment::Byte,
@@ -90,7 +89,7 @@ fn alignment_of(number: u64) -> Alignment
 
 /// The combination of this number, where one has it.
 fn combination_of(number: u64) -> Combination
-    ensures { result ≡ combination_of number }
+    ensures { result ≡ segs.combination_of number }
 {
     match number {
         0 => Combination::Private,
@@ -194,7 +193,7 @@ impl Codec for SegmentTailField {
 
     ghost lawful = { segs.behind_lawful };
 
-    fn put<O: Output>(item: &SegmentTail, number: u64, out: &mut O) -> Result<(), O::Error> {
+    fn put<O: Output>(item: &SegmentTail, number: u64, out: &mut O) -> Written {
         <TailParts as Codec>::put(item, number, out)
     }
 }

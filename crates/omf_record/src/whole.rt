@@ -5,7 +5,7 @@ ghost use Rattle.omf_record.specs.inside.Format.{WritesItem};
 ghost use Rattle.omf_record.specs.inside.FormatLaws.{both, to_end, each_lawful};
 
 use crate::codec::{Blank, Codec, Field, Filled, Free, Read, ReadError};
-use crate::output::Output;
+use crate::output::{Output, Written};
 use std::alloc::Allocator;
 use std::marker::PhantomData;
 
@@ -21,7 +21,7 @@ impl<A: Allocator + Copy, F: Free + Filled> Codec for ToEnd<A, F> {
 
     ghost lawful = { λ n. each_lawful (F.format n) (λ v. v.items) (F.lawful n) (F.free n) (F.filled n) };
 
-    fn put<O: Output>(items: &Vec<F::Item, A>, number: u64, out: &mut O) -> Result<(), O::Error> {
+    fn put<O: Output>(items: &Vec<F::Item, A>, number: u64, out: &mut O) -> Written {
         for item in items {
             F::put(item, number, out)?;
         }
@@ -51,7 +51,7 @@ pub fn put_both<F: Free, G: Codec, O: Output>(
     first: &F::Item,
     second: &G::Item,
     out: &mut O,
-) -> Result<(), O::Error>
+) -> Written
     ensures { WritesItem O.Takes O.Refuses (both (F.format 0) (G.format 0)) (first.now, second.now)
         out.old out.new result }
 {

@@ -4,6 +4,7 @@ use Rattle.std.specs.Prelude.{◌≡◌, ℕ, ◌+◌, ◌<◌, ◌≤◌, ◌�
 use Rattle.omf_record.specs.Language.{IsBytes, Joined}
 use Rattle.omf_record.specs.declared.codec.ReadError.{ReadError}
 use Rattle.omf_record.specs.declared.codec.ReadError.TheVariants as errors
+use Rattle.omf_record.specs.declared.output.Unwritten.{Unwritten}
 
 -- how values of V are spelled, which code holds as I
 pub record Format (I V : Type 0) : Type 1 where
@@ -88,15 +89,19 @@ pub record IsOutput {S : Type 0} (Takes : S → List ℕ → S → Type 0) (Refu
   pub then_fails : (a b c : S) (s : List ℕ) (n : ℕ) → Takes a s b → Refuses b n c → Refuses a (length s + n) c
   pub longer : (a b : S) (m n : ℕ) → m ≤ n → Refuses a m b → Refuses a n b
 
+-- whether bytes were written
+abbrev pub Written : Type 0
+Written = Result (Unit {0}) Unwritten
+
 -- The canonical text was taken; or none could be, whichever text it were.
-abbrev pub Writes : {S E : Type 0} → (S → List ℕ → S → Type 0) → (S → ℕ → S → Type 0) → (List ℕ → Type 0) → List ℕ → S
-    → S → Result (Unit {0}) E → Type 0
+abbrev pub Writes : {S : Type 0} → (S → List ℕ → S → Type 0) → (S → ℕ → S → Type 0) → (List ℕ → Type 0) → List ℕ → S → S
+    → Written → Type 0
 Writes Takes Refuses L canon old new (Ok u) = L canon × Takes old canon new
 Writes Takes Refuses L canon old new (Err e) = (text : List ℕ) → L text → Refuses old (length text) new
 
 -- the same of an item
-abbrev pub WritesItem : {I V S E : Type 0} → (S → List ℕ → S → Type 0) → (S → ℕ → S → Type 0) → Format I V → I → S → S
-    → Result (Unit {0}) E → Type 0
+abbrev pub WritesItem : {I V S : Type 0} → (S → List ℕ → S → Type 0) → (S → ℕ → S → Type 0) → Format I V → I → S → S
+    → Written → Type 0
 WritesItem Takes Refuses F item = Writes Takes Refuses (F.Text (F.view item)) (F.canonical (F.view item))
 
 -- ---- values made of parts

@@ -188,9 +188,6 @@ module _ {I P J A : Type 0} (F : Format I P) (M : Format J A) (of : IsMade F M) 
   pub made_filled : IsFilled F → IsFilled M
   made_filled h x text l = let (y, y-is, k) = of.from x text l in h y text k
 
-  pub made_free : IsFree M
-  made_free = of.free
-
 -- each value has its parts, which have its texts
 module _ {I P J A : Type 0} (F : Format I P) (M : Format J A) (made : P → A) (split : A → P) (same : (y : A)
     → F.canonical (split y) ≡ M.canonical y) (to : (x : P) (text : List ℕ) → F.Text x text → M.Text (made x) text)

@@ -12,17 +12,12 @@ use Rattle.omf_record.specs.inside.FormatLaws.{when_canonical, WhenText, bits_at
 use Rattle.omf_record.specs.inside.PrimitiveLaws.{index, index_lawful, index_blank, word, word_lawful, word_blank}
 use Rattle.omf_record.specs.inside.PrimitiveLaws.{fact_byte}
 use Rattle.omf_record.specs.inside.Heads.{ByHead, joined, by_head, by_head_lawful, by_head_blank}
-use Rattle.omf_record.specs.declared.fixups.ThreadNumber.{ThreadNumber}
+use Rattle.omf_record.specs.Types.{ThreadNumber, FrameMethod, TargetMethod, FrameDatum, TargetDatum, Reference}
 use Rattle.omf_record.specs.declared.fixups.ThreadNumber.TheVariants.{Zero, One, Two, Three}
-use Rattle.omf_record.specs.declared.fixups.FrameMethod.{FrameMethod}
 use Rattle.omf_record.specs.declared.fixups.FrameMethod.TheVariants as frame
-use Rattle.omf_record.specs.declared.fixups.TargetMethod.{TargetMethod}
 use Rattle.omf_record.specs.declared.fixups.TargetMethod.TheVariants as target
-use Rattle.omf_record.specs.declared.fixups.FrameDatum.{FrameDatum}
 use Rattle.omf_record.specs.declared.fixups.FrameDatum.TheVariants as frame_datum
-use Rattle.omf_record.specs.declared.fixups.TargetDatum.{TargetDatum}
 use Rattle.omf_record.specs.declared.fixups.TargetDatum.TheVariants as target_datum
-use Rattle.omf_record.specs.declared.fixups.Reference.{Reference}
 
 -- ---- threads and methods by their numbers
 
@@ -121,9 +116,6 @@ target_bits : (t : TargetDatum) (p q : ℕ) → p < 2 → TargetBits t (16 * q +
     × (canon.target_bits t < 12) × (canon.target_bits t % 8 < 4)
 target_bits t p q lt = grind arith
 
-absent_small : (x : Option ℕ) → absent x < 2
-absent_small x = grind arith
-
 frame_same : (f : FrameDatum) → when_canonical canon.index (frame_datum_index f) ≡ canon.frame_text f
 frame_same f = grind arith
 
@@ -135,7 +127,7 @@ displacement_same x = grind arith
 
 fits : (r : Reference) → (canon.fix_data r < 256) × FixData r (canon.fix_data r)
 fits r =
-    let p = absent_small r.displacement in
+    let p : absent r.displacement < 2 = grind arith in
     let t = target_bits r.target (absent r.displacement) (canon.frame_bits r.frame / 16) p in
     let f = frame_bits r.frame (4 * absent r.displacement + canon.target_bits r.target) (omega (arith, p, t.1)) in
     let same : 16 * (canon.frame_bits r.frame / 16) + 4 * absent r.displacement + canon.target_bits r.target ≡

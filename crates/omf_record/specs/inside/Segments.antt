@@ -13,13 +13,10 @@ use Rattle.omf_record.specs.inside.PrimitiveLaws.{byte, byte_lawful, byte_blank,
 use Rattle.omf_record.specs.inside.PrimitiveLaws.{index_lawful, index_blank, fact_byte, fact_byte_lawful}
 use Rattle.omf_record.specs.inside.PrimitiveLaws.{fact_byte_blank}
 use Rattle.omf_record.specs.inside.Heads.{ByHead, joined, by_head, by_head_lawful}
-use Rattle.omf_record.specs.declared.segments.Alignment.{Alignment}
+use Rattle.omf_record.specs.Types.{Alignment, Combination, SegmentLength, SegmentDefinition}
 use Rattle.omf_record.specs.declared.segments.Alignment.TheVariants as align
-use Rattle.omf_record.specs.declared.segments.Combination.{Combination}
 use Rattle.omf_record.specs.declared.segments.Combination.TheVariants as combine
-use Rattle.omf_record.specs.declared.segments.SegmentLength.{SegmentLength}
 use Rattle.omf_record.specs.declared.segments.SegmentLength.TheVariants as len
-use Rattle.omf_record.specs.declared.segments.SegmentDefinition.{SegmentDefinition}
 
 -- ---- alignments, combinations, lengths
 

@@ -15,8 +15,7 @@ use Rattle.omf_record.specs.inside.PrimitiveLaws.{fact_byte, index_small}
 use Rattle.omf_record.specs.inside.Heads.{joined}
 use Rattle.omf_record.specs.declared.externals.External.{External}
 use Rattle.omf_record.specs.declared.externals.Public.{Public}
-use Rattle.omf_record.specs.declared.externals.Line.{Line}
-use Rattle.omf_record.specs.declared.externals.PublicBase.{PublicBase}
+use Rattle.omf_record.specs.Types.{Line, PublicBase}
 use Rattle.omf_record.specs.declared.externals.PublicBase.TheVariants.{AtFrame, InSegment}
 
 -- externals

@@ -9,18 +9,14 @@ use Rattle.omf_record.specs.Canonical as canon
 use Rattle.omf_record.specs.inside.Format.{join, Format, Lawful, Completes, IsFilled, IsMade, free}
 use Rattle.omf_record.specs.inside.FormatLaws.{both, both_lawful, both_blank, behind, when_lawful, when_blank}
 use Rattle.omf_record.specs.inside.FormatLaws.{when, when_canonical, WhenText, bits_at, map_option, map_same}
-use Rattle.omf_record.specs.inside.PrimitiveLaws.{index, index_lawful, index_blank, fact_byte}
-use Rattle.omf_record.specs.inside.PrimitiveLaws.{fact_byte_lawful, fact_byte_blank}
+use Rattle.omf_record.specs.inside.PrimitiveLaws.{byte, byte_lawful, byte_blank, index, index_lawful, index_blank}
+use Rattle.omf_record.specs.inside.PrimitiveLaws.{fact_byte}
 use Rattle.omf_record.specs.inside.Heads.{ByHead, joined, by_head, by_head_lawful, by_head_filled}
 use Rattle.omf_record.specs.inside.References.{thread_of, frame_method_of, frame_method_index, target_method_of}
 use Rattle.omf_record.specs.inside.References.{target_method_index, reference, reference_lawful, reference_blank}
-use Rattle.omf_record.specs.declared.fixups.Location.{Location}
+use Rattle.omf_record.specs.Types.{Location, FrameMethod, TargetMethod, Reference, Subrecord}
 use Rattle.omf_record.specs.declared.fixups.Location.TheVariants.{LowByte, Offset, Base, Pointer, LoaderOffset}
-use Rattle.omf_record.specs.declared.fixups.FrameMethod.{FrameMethod}
-use Rattle.omf_record.specs.declared.fixups.TargetMethod.{TargetMethod}
-use Rattle.omf_record.specs.declared.fixups.Reference.{Reference}
 use Rattle.omf_record.specs.declared.fixups.Fixup.{Fixup}
-use Rattle.omf_record.specs.declared.fixups.Subrecord.{Subrecord}
 use Rattle.omf_record.specs.declared.fixups.Subrecord.TheVariants as sub
 
 -- the location of this number
@@ -41,7 +37,7 @@ Parts = Option ℕ × (Option (Option ℕ) × Option (ℕ × Reference))
 abbrev pub Behind : ℕ → Format Parts Parts
 Behind b = both (when (bits_at 64 4 b ≡ 0) index)
     (both (when (bits_at 64 4 b ≡ 1) (when (bits_at 16 2 b ≡ 0) index))
-    (when (bits_at 128 2 b ≡ 1) (both (fact_byte (λ x. Unit {0})) reference)))
+    (when (bits_at 128 2 b ≡ 1) (both byte reference)))
 
 abbrev Bits : Subrecord → ℕ → Type 0
 Bits (sub.SetFrame n m) b = (bits 7 6 b ≡ 1) × (bits 4 2 b ≡ frame_number m) × (bits 1 0 b ≡ thread_number n)
@@ -60,7 +56,7 @@ subrecord_of b (t, (f, Some (low, r))) =
     sub.Fixup (record {
       self_relative = eqb (b / 64 % 2) 0;
       location = location_of (b / 4 % 16);
-      offset = 256 * (b % 4) + low % 256;
+      offset = 256 * (b % 4) + low;
       reference = r;
     })
 subrecord_of b (t, (Some x, None)) = sub.SetFrame (thread_of (b % 4)) (frame_method_of (b / 4 % 8) x)
@@ -113,8 +109,8 @@ to b (None, (Some x, Some (low, r))) text lt h j = absurd (omega (arith, j.secon
 to b (None, (None, Some (low, r))) text lt h j =
     let k = j.second.second.1 in
     let is = h.2 (omega (arith, j.second.second.0, lt)) in
-    let small = k.first.1.0 in
-    let low-is : low ≡ (256 * (b % 4) + low % 256) % 256 = omega (arith, small) in
+    let small = k.first.0 in
+    let low-is : low ≡ (256 * (b % 4) + low) % 256 = omega (arith, small) in
     let rest-is : text ≡ j.second.rest = j.parts ∙ ap (λ (t : List ℕ). t ++ j.rest) j.first.1 ∙ j.second.parts
     ∙ ap (λ (t : List ℕ). t ++ j.second.rest) j.second.first.1 in (
       (
@@ -123,8 +119,8 @@ to b (None, (None, Some (low, r))) text lt h j =
         omega (arith, is),
         omega (arith, small),
       ),
-      subst (λ t. Joined (Byte ((256 * (b % 4) + low % 256) % 256)) (ReferenceText r) t) (sym rest-is)
-          (joined k (subst (λ n. Byte n k.front) low-is k.first.1) k.second),
+      subst (λ t. Joined (Byte ((256 * (b % 4) + low) % 256)) (ReferenceText r) t) (sym rest-is)
+          (joined k (subst (λ n. Byte n k.front) low-is k.first) k.second),
     )
 to b (Some i, (Some x, None)) text lt h j = absurd (omega (arith, j.first.0, j.second.first.0))
 to b (None, (Some x, None)) text lt h j =
@@ -173,7 +169,7 @@ from (sub.SetTarget n m) b text lt h l =
 from (sub.Fixup f) b text lt h l = join [] text refl (
   (λ k. omega (arith, k, h.0)),
   refl,
-) (join [] text refl ((λ k. omega (arith, k, h.0, lt)), refl) (omega (arith, h.0), joined l (tt, l.first) l.second))
+) (join [] text refl ((λ k. omega (arith, k, h.0, lt)), refl) (omega (arith, h.0), l))
 
 has_place : (f : Fixup) → IsFirst (fixup_byte f) → f.offset < 1024
 has_place f h = grind (arith, ltb-true, ltb-false, h.2)
@@ -226,18 +222,18 @@ pub behind_lawful : (b : ℕ) → Lawful (Behind b)
 behind_lawful b = both_lawful _ (when_lawful (bits_at 64 4 b ≡ 0) index index_lawful (λ r. tt)) (λ r. tt) _
     (both_lawful _ (when_lawful (bits_at 64 4 b ≡ 1) _ (when_lawful (bits_at 16 2 b ≡ 0) index index_lawful (λ r. tt))
     (λ r. tt)) (λ r. tt) _ (when_lawful (bits_at 128 2 b ≡ 1) _
-    (both_lawful _ (fact_byte_lawful (λ x. Unit {0})) (λ r. tt) reference reference_lawful) (λ r. tt)))
+    (both_lawful byte byte_lawful (λ r. tt) reference reference_lawful) (λ r. tt)))
 
 pub behind_blank : (b : ℕ) → Completes (Behind b) []
 behind_blank b =
-    let fixup = both (fact_byte (λ x. Unit {0})) reference in
+    let fixup = both byte reference in
     both_blank (when (bits_at 64 4 b ≡ 0) index)
     (both (when (bits_at 64 4 b ≡ 1) (when (bits_at 16 2 b ≡ 0) index)) (when (bits_at 128 2 b ≡ 1) fixup))
     (when_blank (bits_at 64 4 b) 0 index index_blank)
     (both_blank (when (bits_at 64 4 b ≡ 1) (when (bits_at 16 2 b ≡ 0) index)) (when (bits_at 128 2 b ≡ 1) fixup)
     (when_blank (bits_at 64 4 b) 1 (when (bits_at 16 2 b ≡ 0) index) (when_blank (bits_at 16 2 b) 0 index index_blank))
     (when_blank (bits_at 128 2 b) 1 fixup
-    (both_blank (fact_byte (λ x. Unit {0})) reference (fact_byte_blank (λ x. Unit {0}) tt) reference_blank)))
+    (both_blank byte reference byte_blank reference_blank)))
 
 pub subrecord_lawful : Lawful subrecord
 subrecord_lawful = by_head_lawful ByFirst behind_lawful (λ b r. tt)

@@ -30,20 +30,20 @@ returns-in_err-put_block-in-Nested g t c =
     let is : c.from_residual-in_err-put_block-in-Nested.result ≡ Err c.in_err-put_block-in-Nested.field-0.0 = search rules in
     let xs = c.deref-inner-items.result.now in
     let n : c.len-in-Nested.result ≡ length xs = omega (arith, c.len-in-Nested.ensures, c.deref-inner-items.ensures.len) in
-    rw is (nested_written g.O.Output.Takes g.O.Output.Refuses g.met.O.Output.is_output g.row.A.Denot c.args.below c.in-Nested.repeat g.row.O-Error.Denot (omega (arith, c.if-below-eq0.false)) c.len-in-Nested.result xs c.args.block.now c.args.out.now c.put-in-Nested.new.out c.put_block.new.out (Err c.in_err-put_block-in-Nested.field-0.0) n
+    rw is (nested_written g.O.Output.Takes g.O.Output.Refuses g.met.O.Output.is_output g.row.A.Denot c.args.below c.in-Nested.repeat (omega (arith, c.if-below-eq0.false)) c.len-in-Nested.result xs c.args.block.now c.args.out.now c.put-in-Nested.new.out c.put_block.new.out (Err c.in_err-put_block-in-Nested.field-0.0) n
     (rw (c.in-Nested.is, c.deref-inner-items.ensures.value) (view_nested c.in-Nested.repeat c.in-Nested.blocks)) c.in_ok-put-in-Nested.ensures
-    (left_fails g.O.Output.Takes g.O.Output.Refuses g.met.O.Output.is_output (block (c.args.below - 1)) (block_lawful (c.args.below - 1)) g.row.O-Error.Denot xs c.put-in-Nested.new.out c.loop-inner.out c.put_block.new.out c.loop-inner.inner-index
+    (left_fails g.O.Output.Takes g.O.Output.Refuses g.met.O.Output.is_output (block (c.args.below - 1)) (block_lawful (c.args.below - 1)) xs c.put-in-Nested.new.out c.loop-inner.out c.put_block.new.out c.loop-inner.inner-index
     c.inner-item.result c.in_err-put_block-in-Nested.field-0.0 c.loop-inner-test.true c.inner-item.is c.loop-inner.invariant c.in_err-put_block-in-Nested.ensures))
 
 pub loop-inner-preserved : goal.loop-inner-preserved
 loop-inner-preserved g t c =
-    left_more g.O.Output.Takes g.O.Output.Refuses g.met.O.Output.is_output (block (c.args.below - 1)) (block_lawful (c.args.below - 1)) g.row.O-Error.Denot c.deref-inner-items.result.now c.put-in-Nested.new.out c.loop-inner.out c.put_block.new.out c.loop-inner.inner-index
+    left_more g.O.Output.Takes g.O.Output.Refuses g.met.O.Output.is_output (block (c.args.below - 1)) (block_lawful (c.args.below - 1)) c.deref-inner-items.result.now c.put-in-Nested.new.out c.loop-inner.out c.put_block.new.out c.loop-inner.inner-index
     c.inner-item.result c.loop-inner-test.true c.inner-item.is c.loop-inner.invariant c.in_ok-put_block-in-Nested.ensures
 
 pub returns-after-loop-inner : goal.returns-after-loop-inner
 returns-after-loop-inner g t c =
     let xs = c.deref-inner-items.result.now in
     let n : c.len-in-Nested.result ≡ length xs = omega (arith, c.len-in-Nested.ensures, c.deref-inner-items.ensures.len) in
-    nested_written g.O.Output.Takes g.O.Output.Refuses g.met.O.Output.is_output g.row.A.Denot c.args.below c.in-Nested.repeat g.row.O-Error.Denot (omega (arith, c.if-below-eq0.false)) c.len-in-Nested.result xs c.args.block.now c.args.out.now c.put-in-Nested.new.out c.loop-inner.out (Ok tt) n
+    nested_written g.O.Output.Takes g.O.Output.Refuses g.met.O.Output.is_output g.row.A.Denot c.args.below c.in-Nested.repeat (omega (arith, c.if-below-eq0.false)) c.len-in-Nested.result xs c.args.block.now c.args.out.now c.put-in-Nested.new.out c.loop-inner.out (Ok tt) n
     (rw (c.in-Nested.is, c.deref-inner-items.ensures.value) (view_nested c.in-Nested.repeat c.in-Nested.blocks)) c.in_ok-put-in-Nested.ensures
-    (left_done g.O.Output.Takes g.O.Output.Refuses g.met.O.Output.is_output (block (c.args.below - 1)) (block_lawful (c.args.below - 1)) g.row.O-Error.Denot xs c.put-in-Nested.new.out c.loop-inner.out c.loop-inner.inner-index (omega (arith, c.loop-inner-test.false)) c.loop-inner.invariant)
+    (left_done g.O.Output.Takes g.O.Output.Refuses g.met.O.Output.is_output (block (c.args.below - 1)) (block_lawful (c.args.below - 1)) xs c.put-in-Nested.new.out c.loop-inner.out c.loop-inner.inner-index (omega (arith, c.loop-inner-test.false)) c.loop-inner.invariant)

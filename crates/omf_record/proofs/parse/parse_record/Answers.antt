@@ -2,6 +2,9 @@ use Rattle.std.proofs.Common.{◌≤◌, length, rules}
 use Rattle.omf_record.proofs.RecordLaws.{read_fits, read_stored}
 use Rattle.omf_record.proofs.parse.parse_record.Goals as goal
 
+pub returns-clause-answer : goal.returns-clause-answer
+returns-clause-answer g c = c.record_of.ensures
+
 pub returns-clause-fits : goal.returns-clause-fits
 returns-clause-fits g c =
     let short : length c.args.frame.now.body.now ≤ 65534 = search rules in
