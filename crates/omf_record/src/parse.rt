@@ -45,8 +45,8 @@ fn parts<'a, A: Allocator + Copy, P: Field<'a, A> + Blank>(
             at: bytes.len() - rest.len(),
         }),
         Err(ReadError::Memory) => Err(RecordFault::Memory),
-        Err(ReadError::Refused(rest)) => Err(RecordFault::Body {
-            at: bytes.len() - rest.len(),
+        Err(ReadError::Refused(bad)) => Err(RecordFault::Body {
+            at: bytes.len() - bad.len(),
         }),
     }
 }
