@@ -206,13 +206,19 @@ def cited_in_bracket(tokens, start, end, scope, bound):
     return set(), found
 
 
-class Declaration:
-    """A definition as its file has it: the parameters of the modules around it, its signature, what belongs to it, and
-    how many lines it has."""
+class Block(NamedTuple):
+    """A block that definitions stand in: the parameters that it gives them, and the numbers of its first lines."""
+    parameters: list
+    lines: list
 
-    def __init__(self, kind, name, line, around, signature):
-        self.kind, self.name, self.line, self.around, self.signature = kind, name, line, around, signature
-        self.parts, self.count = [], 0
+
+class Declaration:
+    """A definition as its file has it: the blocks around it, its signature, what belongs to it, and the numbers of its
+    lines."""
+
+    def __init__(self, kind, name, around, signature):
+        self.kind, self.name, self.around, self.signature = kind, name, around, signature
+        self.parts, self.lines = [], []
 
     @property
     def constructors(self):
@@ -224,7 +230,7 @@ class Declaration:
 
     def cites(self, scope):
         found, bound = set(), set()
-        for tokens in self.around:
+        for tokens, _ in self.around:
             found, bound = found | cited(tokens, scope, bound), bound | pattern(tokens, scope, bound)[0]
         found |= cited(self.signature, scope, bound)
         if self.kind in ("data", "record"):
@@ -265,39 +271,41 @@ def declarations(lines, marks=(), around=()):
     """The declarations of a file or of a block in it."""
     found = []
     for item in items(lines) if lines else []:
-        tokens = joined(item)
+        tokens, numbers = joined(item), [number for number, _ in item]
         head = find(tokens, lambda it: it not in MARKS | KINDS)
         kinds = KINDS.intersection(tokens[:head])
         rest = tokens[head + 1 :]
         is_signature = head > 0 or rest[find(rest, lambda it: it in (":", "=")) :][:1] == [":"]
         header = 1 + next((at for at, (_, text) in enumerate(item) if text.split()[-1:] == ["where"]), len(item) - 1)
         if "mutual" in kinds:
-            found += declarations(item[1:], tokens[:head], around)
+            found += declarations(item[1:], tokens[:head], [*around, Block([], numbers[:1])])
         elif "module" in kinds:
-            inner = declarations(item[header:], marks, [*around, joined(item[:header])[head + 1 : -1]])
-            inner[0].count += header
-            found += inner
+            block = Block(joined(item[:header])[head + 1 : -1], numbers[:header])
+            found += declarations(item[header:], marks, [*around, block])
         elif tokens[head] in HEADERS:
             continue
         elif is_signature:
             end = header if kinds else len(item)
-            signature = joined(item[:end])[head + 1 :]
-            found.append(Declaration(*kinds or ["term"], tokens[head], item[0][0], around, signature))
+            found.append(Declaration(*kinds or ["term"], tokens[head], around, joined(item[:end])[head + 1 :]))
             found[-1].parts += map(joined, items(item[end:]) if item[end:] else [])
-            found[-1].count += len(item)
+            found[-1].lines += numbers
         elif found:
             found[-1].parts.append(tokens)
-            found[-1].count += len(item)
+            found[-1].lines += numbers
     return found
 
 
-def comment_above(lines, at):
-    """The comment right above a line, as one line; that above an operator's precedence belongs to the operator."""
+def above(lines, at):
+    """The numbers of the lines right above one that speak of it: its comment, and an operator's precedence."""
     first = at - 1 if at and lines[at - 1].lstrip().startswith("infix") else at
-    last = first
     while first and re.match(r" *-- (?!----)", lines[first - 1]):
         first -= 1
-    return " ".join(it.strip()[3:] for it in lines[first:last])
+    return range(first, at)
+
+
+def comment_above(lines, at):
+    """The comment right above a line, as one line."""
+    return " ".join(lines[it].strip()[3:] for it in above(lines, at) if lines[it].lstrip().startswith("--"))
 
 
 class Specs:
@@ -305,16 +313,35 @@ class Specs:
     says."""
 
     def __init__(self, repository, crate, file, raw):
-        text = without_comments(raw, COMMENT)
-        lines = raw.split("\n")
-        end = next((at for at, line in enumerate(lines) if not line.startswith("--")), 0)
-        self.title, self.scope = comment_above(lines, end), Scope(repository, text)
+        text, self.lines = without_comments(raw, COMMENT), raw.split("\n")
+        end = next((at for at, line in enumerate(self.lines) if not line.startswith("--")), 0)
+        self.title, self.scope = comment_above(self.lines, end), Scope(repository, text)
         found = declarations([(at, it) for at, it in enumerate(text.split("\n")) if it.strip()])
         self.declared = {it.name: it for it in found}
-        self.says = {it.name: comment_above(lines, it.line) for it in found}
+        self.says = {it.name: comment_above(self.lines, it.lines[0]) for it in found}
         self.owners = {name: it.name for it in found for name in it.constructors}
         for name in [*self.declared, *self.owners]:
             self.scope.define(name, Definition(crate, file, name))
+
+
+    def numbers(self, names):
+        """The numbers of the lines of these definitions and of the blocks that they stand in, without comments."""
+        found = set()
+        for it in map(self.declared.get, names):
+            found.update(it.lines, *(block.lines for block in it.around))
+        return found
+
+    def text(self, names):
+        """These definitions as they stand in the file, with their comments and the names that it changes."""
+        shown = set()
+        for it in map(self.declared.get, names):
+            for first, *rest in [*(block.lines for block in it.around), it.lines]:
+                shown.update(above(self.lines, first), range(first, max([first, *rest]) + 1))
+        text = "\n".join(("" if at - 1 in shown else "\n") + self.lines[at] for at in sorted(shown)).strip("\n")
+        used = {it.partition(".")[0] for it in words(text)}
+        uses = (it for it in self.lines if it.startswith("use "))
+        renamed = [it for it in uses if used.intersection(re.findall(r" as ([^\s,}]+)", it))]
+        return "\n\n".join(filter(None, ["\n".join(renamed), text]))
 
 
 class Declared(NamedTuple):
@@ -582,19 +609,32 @@ class Repository:
         """The definitions and types on which the public contracts rest."""
         return self.resting(set().union(*(it.cited_by_contracts() for it in self.code.values())))
 
+    def function(self, name):
+        """The code and the file of a public function, the function, and its contract as it stands there, if there is
+        such a function."""
+        for code in self.code.values():
+            for file, source in code.sources.items():
+                for block in top_level(source):
+                    for each in functions(without_comments(block, CODE_COMMENT), 0):
+                        if each.marks[:1] == ["pub"] and each.name == name:
+                            text = re.sub(r"^(?:#|//!).*\n", "", block, flags=re.M)
+                            return code, file, each, text.partition("\n{")[0].strip()
+        return None
+
     def of_function(self, name):
         """Those on which the contract of a public function rests, with the types of its signature; none where there
         is no such function."""
-        for code in self.code.values():
-            for file, block in code.blocks:
-                for each in functions(block, 0):
-                    if each.marks[:1] == ["pub"] and each.name == name:
-                        return self.resting(set().union(*code.cited_by_function(each, file)))
+        match self.function(name):
+            case [code, file, function, _]:
+                return self.resting(set().union(*code.cited_by_function(function, file)))
         return set()
 
     def count(self, found):
-        """How many lines a definition or a type has, without comments."""
-        if isinstance(found, Type):
-            text = without_comments(self.code[found.crate].shown(found.name), CODE_COMMENT)
-            return sum(bool(it.strip()) for it in text.split("\n"))
-        return self.specs[found[:2]].declared[found.name].count
+        """How many lines definitions and types have together, without comments."""
+        types = {it for it in found if isinstance(it, Type)}
+        files = {}
+        for crate, file, name in set(found) - types:
+            files.setdefault((crate, file), []).append(name)
+        texts = [without_comments(self.code[it.crate].shown(it.name), CODE_COMMENT) for it in types]
+        return sum(len(self.specs[file].numbers(names)) for file, names in files.items()) + sum(
+            bool(line.strip()) for text in texts for line in text.split("\n"))
