@@ -267,7 +267,7 @@ def joined(lines):
     return words(" ".join(text for _, text in lines))
 
 
-def declarations(lines, marks=(), around=()):
+def declarations(lines, around=()):
     """The declarations of a file or of a block in it."""
     found = []
     for item in items(lines) if lines else []:
@@ -278,10 +278,10 @@ def declarations(lines, marks=(), around=()):
         is_signature = head > 0 or rest[find(rest, lambda it: it in (":", "=")) :][:1] == [":"]
         header = 1 + next((at for at, (_, text) in enumerate(item) if text.split()[-1:] == ["where"]), len(item) - 1)
         if "mutual" in kinds:
-            found += declarations(item[1:], tokens[:head], [*around, Block([], numbers[:1])])
+            found += declarations(item[1:], [*around, Block([], numbers[:1])])
         elif "module" in kinds:
             block = Block(joined(item[:header])[head + 1 : -1], numbers[:header])
-            found += declarations(item[header:], marks, [*around, block])
+            found += declarations(item[header:], [*around, block])
         elif tokens[head] in HEADERS:
             continue
         elif is_signature:
@@ -322,7 +322,6 @@ class Specs:
         self.owners = {name: it.name for it in found for name in it.constructors}
         for name in [*self.declared, *self.owners]:
             self.scope.define(name, Definition(crate, file, name))
-
 
     def numbers(self, names):
         """The numbers of the lines of these definitions and of the blocks that they stand in, without comments."""
