@@ -31,12 +31,13 @@ def find_program(given):
     script, or the one on the PATH."""
     if given is not None:
         return given
-    starter = TOP / "omf"
-    if starter.exists():
-        # builds the program where it isn't built yet
-        if subprocess.run([starter, "help"], stdout=subprocess.DEVNULL).returncode != 0:
-            raise NoProgram("the program couldn't be built")
-        return TOP / "crates" / "omf" / "out" / "omf"
+    which = TOP / "release" / "which"
+    if which.exists():
+        # unpacks or builds the program where it isn't there yet
+        found = subprocess.run([which, "omf"], stdout=subprocess.PIPE, text=True)
+        if found.returncode != 0:
+            raise NoProgram("the program isn't there")
+        return found.stdout.strip()
     installed = TOP.parent.parent / "bin" / "omf"
     found = installed if installed.exists() else shutil.which("omf")
     if found is None:

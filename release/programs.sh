@@ -1,0 +1,127 @@
+# What ./omf, ./install, release/make, tools/package and the gate know of this repository's programs: which sources
+# each is made of, where the released one stands and where the one that was built. Read by bash with the repository's
+# folder in `top`.
+
+programs="omf"
+unpacked=$top/out/released
+
+# The crates that a program stands on, and itself: crates_of PROGRAM
+crates_of() {
+    awk -F: -v program="$1" '
+        !/^#/ && NF > 1 { uses[$1] = $2 }
+        END {
+            found[count = 1] = program
+            for (at = 1; at <= count; at++) {
+                print found[at]
+                split(uses[found[at]], words, " ")
+                for (each in words)
+                    if ((words[each] in uses) && !met[words[each]]++)
+                        found[++count] = words[each]
+            }
+        }' "$top/crates.txt"
+}
+
+# The sum of all that a program is made of, its crates' lines of crates.txt and their files by paths: sum_of PROGRAM
+sum_of() {
+    (
+        cd "$top" || exit 3
+        crates=$(crates_of "$1" | sort)
+        {
+            for crate in $crates; do grep "^$crate:" crates.txt; done
+            for crate in $crates; do
+                find "crates/$crate" -path '*/out' -prune -o -type f \( -name '*.rt' -o -name '*.antt' \) -print0
+            done | sort -z | xargs -0 sha256sum
+        } | sha256sum | cut -d ' ' -f 1
+    )
+}
+
+# What release/RELEASE says of a program, sources or sha256: said_of PROGRAM WORD
+said_of() {
+    sed -n "s/^$1 $2 //p" "$top/release/RELEASE" 2>/dev/null
+}
+
+# The first source that was touched after a file, or with WORDS also the first folder of them: touched FILE [WORDS]
+touched() {
+    find "$top/crates.txt" "$top/crates" -path '*/out' -prune \
+        -o \( -name crates.txt -o -name '*.rt' -o -name '*.antt' "${@:2}" \) -cnewer "$1" -print -quit
+}
+
+# Whether a program stands there that was seen to be made of the sources, of which none was touched, added or taken
+# away since: is_seen PROGRAM
+is_seen() {
+    [ -x "$1" ] && [ -f "$1.sources" ] && [ ! "$1" -nt "$1.sources" ] && [ -z "$(touched "$1.sources" -o -type d)" ]
+}
+
+# Unpacks the released program, and says why where that can't be: unpack PROGRAM
+unpack() {
+    mkdir -p "$unpacked" && xz -dc "$top/release/$1.xz" >"$unpacked/$1.new" 2>/dev/null &&
+        [ "$(sha256sum <"$unpacked/$1.new" | cut -d ' ' -f 1)" = "$(said_of "$1" sha256)" ] || {
+        rm -f "$unpacked/$1.new"
+        echo "$1: release/$1.xz is damaged: it doesn't have the sum that release/RELEASE says" >&2
+        return 1
+    }
+    chmod 755 "$unpacked/$1.new" && mv -f "$unpacked/$1.new" "$unpacked/$1"
+}
+
+# A line now and then of how many functions and types are proved, of as many as the released program has
+progress() {
+    awk -v program="$1" -v all="$(said_of "$1" proved)" '
+        /: proved$/ && ++count % 100 == 0 {
+            printf "%s: proved %d%s functions and types\n", program, count, all ? " of " all : ""
+            fflush()
+        }' >&2
+}
+
+# Builds a program of its sources, which takes long, since each function is proved first: build PROGRAM
+build() {
+    echo "$1: building the program from its sources; each function is proved first (README says how long that takes)" >&2
+    command -v rt >/dev/null || {
+        echo "$1: the Rattle kit isn't here (its command rt), which proves and compiles the sources" >&2
+        return 1
+    }
+    log=$(mktemp)
+    # help ends with status 0, so any other status is a build that failed
+    (cd "$top/crates/$1" && rt run -- help 2>&1 </dev/null) | tee "$log" | progress "$1"
+    if [ "${PIPESTATUS[0]}" -ne 0 ] || [ ! -x "$top/crates/$1/out/$1" ]; then
+        cat "$log" >&2
+        rm -f "$log"
+        echo "$1: the program couldn't be built" >&2
+        return 1
+    fi
+    rm -f "$log"
+}
+
+# Whether rt made the program after each source of it was written: is_newer PROGRAM
+is_newer() {
+    [ -x "$top/crates/$1/out/$1" ] && [ -z "$(touched "$top/crates/$1/out/$1")" ]
+}
+
+# Has `program` name the one to run, which is unpacked or built where it has to be: choose PROGRAM
+choose() {
+    local built=$top/crates/$1/out/$1
+    local made=("$built") begun now status
+    [ -n "${OMF_BUILD-}" ] || made+=("$unpacked/$1")
+    for program in "${made[@]}"; do
+        is_seen "$program" && return
+    done
+    begun=$(mktemp)
+    now=$(sum_of "$1")
+    make_or_find "$1" "$now" && echo "$now" >"$program.sources" && touch -r "$begun" "$program.sources"
+    status=$?
+    rm -f "$begun"
+    return $status
+}
+
+# Has `program` name one that is made of the sources with this sum: make_or_find PROGRAM SUM
+make_or_find() {
+    for program in "${made[@]}"; do
+        [ -x "$program" ] && [ "$(cat "$program.sources" 2>/dev/null)" = "$2" ] && return
+    done
+    program=$unpacked/$1
+    if [ -z "${OMF_BUILD-}" ] && ! is_newer "$1" && [ "$(said_of "$1" sources)" = "$2" ] && unpack "$1"; then
+        echo "$1: this is the released program, which was built of these very sources and proved" >&2
+        return
+    fi
+    program=$built
+    is_newer "$1" || build "$1"
+}
