@@ -3,7 +3,7 @@ use Rattle.std.proofs.Common.{◌≡◌, ◌≢◌, ℕ, zero, suc, ◌+◌, ◌
 use Rattle.std.proofs.lemmas.Bool.{cases_lt}
 use Rattle.std.proofs.lemmas.Grind.{same_number_lists}
 use Rattle.std.proofs.lemmas.Nat.{mul-le}
-use Rattle.std.proofs.lemmas.List.{length-append, length-map, length-take-le, map-append, drop_more, take-append-le}
+use Rattle.std.proofs.lemmas.List.{length-append, length-map, length-take-le, map-append, append-nil, drop_more, drop_all, take-append-le}
 use Rattle.std.proofs.Math.Seq.{take-append-add}
 use borrow.Rule.Slice.PartMut.{put_mid, post_of}
 use Rattle.omf_record.specs.Record.{Block, Content, Nested, Blocks, End, More, blocks_of}
@@ -55,6 +55,14 @@ repeated g place b times is so_far = rw (so_far, times, is) (sym (ap (map g) (ex
 -- the blocks from one on
 pub next_is : {X : Type 0} (f : X → Block) (xs : List X) (i : ℕ) (x : X) → i < length xs → x ≡ get_or xs i x → blocks_of (map f (drop i xs)) ≡ More (f x) (blocks_of (map f (drop (i + 1) xs)))
 next_is f xs i x lt is = ap (λ ys. blocks_of (map f ys)) (drop_more xs i x lt) ∙ ap (λ y. More (f y) (blocks_of (map f (drop (i + 1) xs)))) (sym is)
+
+-- how much of the expansion they are
+pub expansions_more : (place : ℕ) (b : Block) {bs left : Blocks} → left ≡ More b bs → length (expansions_at place left) ≡ length (expansion_at place b) + length (expansions_at (place + stored_len b) bs)
+expansions_more place b {bs} is = ap (λ xs. length (expansions_at place xs)) is ∙ length-append (expansion_at place b) (expansions_at (place + stored_len b) bs)
+
+-- all is laid
+pub all_laid : {X : Type 0} (f : X → Block) (g : ℕ × ℕ → ℕ) (place : ℕ) (xs : List X) (i : ℕ) {front whole : List ℕ} → length xs ≤ i → front ++ map g (expansions_at place (blocks_of (map f (drop i xs)))) ≡ whole → front ≡ whole
+all_laid f g place xs i {front} end laid = sym (append-nil front) ∙ rw (drop_all i xs end) at laid
 
 -- what stands at the front after a write behind it
 take_put : (at k len : ℕ) (old new : List ℕ) → at ≤ length old → len ≤ length new → take (at + len) (put_mid at k old new) ≡ take at old ++ take len new

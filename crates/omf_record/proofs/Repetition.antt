@@ -1,6 +1,6 @@
 -- Copies of a list, one behind the other.
 use Rattle.std.proofs.Common.{◌≡◌, ℕ, zero, suc, ◌+◌, ◌-◌, ◌*◌, ◌≤◌, ◌<◌, min, inl, inr, List, [], ◌++◌, length, take, map, refl, sym, ap, ◌∙◌, append_assoc, arith}
-use Rattle.std.proofs.lemmas.List.{length-append, map-append, take_at}
+use Rattle.std.proofs.lemmas.List.{length-append, append-nil, map-append, take_at}
 use Rattle.std.proofs.lemmas.Bool.{cases_lt}
 use Rattle.std.proofs.lemmas.Nat.{mul-le}
 use Rattle.std.proofs.Math.Nat.{le_of_mul-le-mul_right}
@@ -14,9 +14,15 @@ pub map-copies : {A B : Type 0} (f : A → B) (n : ℕ) (xs : List A) → map f 
 map-copies f zero xs = refl
 map-copies f (suc n) xs = map-append f xs (copies n xs) ∙ ap (λ t. map f xs ++ t) (map-copies f n xs)
 
-pub none : {A : Type 0} (n : ℕ) → copies {A = A} n [] ≡ []
+none : {A : Type 0} (n : ℕ) → copies {A = A} n [] ≡ []
 none zero = refl
 none (suc n) = none n
+
+-- copies of no item
+pub copies_none : {A : Type 0} (n once : ℕ) (xs : List A) → once ≡ 0 → take (n * once) xs ≡ copies n (take once xs)
+copies_none n once xs is =
+    let product : n * 0 ≡ 0 = omega arith in
+    rw (is, product) (sym (none n))
 
 copies-add : {A : Type 0} (m n : ℕ) (xs : List A) → copies (m + n) xs ≡ copies m xs ++ copies n xs
 copies-add zero n xs = ap (λ k. copies k xs) (omega arith)
@@ -47,6 +53,14 @@ pub record Copies {A : Type 0} (xs : List A) (once len : ℕ) (laid : List A) : 
   pub count : ℕ
   pub sized : len ≡ count * once
   pub same : laid ≡ copies count xs
+
+-- the first of them
+pub first_copy : {A : Type 0} (xs : List A) (once : ℕ) → length xs ≡ once → Copies xs once once xs
+first_copy xs once size = record {
+  count = 1;
+  sized = omega arith;
+  same = sym (append-nil xs);
+}
 
 pub again : {A : Type 0} (xs front copied behind : List A) (repeat once laid count : ℕ) → length xs ≡ once → Copies xs once laid front → laid < repeat * once → count ≡ min laid (repeat * once - laid) → copied ≡ take count front
     → Copies xs once (laid + count) (take (laid + count) (front ++ (copied ++ behind)))

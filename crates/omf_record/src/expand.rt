@@ -13,7 +13,6 @@ use std::alloc::Allocator;
 /// Lays copies of the first `once` items behind them, until there are `repeat` of them.
 ///
 /// What is laid doubles in each turn.
-#[tactic(auto, using(crate::proofs::Repetition::none))]
 fn repeat_front<T: Copy>(items: &mut [T], once: usize, repeat: usize)
     requires some { 0 < repeat }
     requires room { repeat * once ≤ length items.old }
@@ -125,7 +124,7 @@ fn expand_once<A: Allocator + Copy>(
 /// Lays the expansion of a block that is stored at the place into the fronts of the slices, and tells its length.
 #[inline]
 #[cycle(expand)]
-#[tactic(auto, using(crate::proofs::Expanded::expanded, crate::proofs::Expanded::once_fits))]
+#[tactic(auto, using(crate::proofs::Expanded::once_fits))]
 fn expand_block<A: Allocator + Copy>(
     block: &Block<'_, A>,
     place: u16,
