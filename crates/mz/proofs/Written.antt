@@ -270,7 +270,7 @@ module _ (p : Program) (w : IsProgram p) where
   pub loads_back : (P : ℕ) → Fits P p → loading P (as_file p) ≡ Ok (moved P p)
   loads_back P fits =
       let answer : Loaded → Result Loaded LoadFault = λ l. Ok l in
-      does_fit P (as_file p) (omega (arith, needed_is, fits.1)) ∙ ap answer (loaded_back P)
+      does_fit P (as_file p) (omega (arith, needed_is, fits)) ∙ ap answer (loaded_back P)
 
   pub refuses : (P : ℕ) → memory_len < 16 * P + length p.image → loading P (as_file p) ≡ Err DoesNotFit
   refuses P above = does_not_fit P (as_file p) (omega (arith, needed_is, above))

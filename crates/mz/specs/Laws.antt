@@ -11,7 +11,7 @@ use Rattle.mz.specs.Reading.{file_of, reading}
 
 -- the program fits into memory at paragraph P
 abbrev pub Fits : (paragraph : ℕ) → Program → Type 0
-Fits paragraph program = (paragraph ≤ 65535) × (16 * paragraph + length program.image ≤ memory_len)
+Fits paragraph program = 16 * paragraph + length program.image ≤ memory_len
 
 -- the written part of the program at paragraph P: P added to its relocated words, and to CS and SS
 abbrev pub moved : (paragraph : ℕ) → Program → Loaded
@@ -39,13 +39,13 @@ TellsItsLength =
 abbrev pub memory : (paragraph : ℕ) → List ℕ → Loaded
 memory paragraph bytes = loaded paragraph (file_of bytes)
 
--- loading the file of a program gives the program at that paragraph
+-- the file of a program, at any paragraph, is the program at that paragraph
 abbrev pub HoldsTheProgram : Type 0
 HoldsTheProgram =
-    (program : Program) (bytes rest : List ℕ) → Mz program bytes → (paragraph : ℕ) → Fits paragraph program
+    (program : Program) (bytes rest : List ℕ) → Mz program bytes → (paragraph : ℕ)
     → memory paragraph (bytes ++ rest) ≡ moved paragraph program
 
--- so does loading what was read of it
+-- where the program fits, loading what was read of it gives that
 abbrev pub LoadsAsWritten : Type 0
 LoadsAsWritten =
     (program : Program) → IsProgram program → (paragraph : ℕ) → Fits paragraph program

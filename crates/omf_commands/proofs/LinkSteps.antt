@@ -69,14 +69,14 @@ pub holds_program : (names : Names) (modules : List Module) (layout : Layout) (p
     → HoldsAtEachParagraph names modules file
 holds_program names modules layout p file reads holds loads linked mz = (layout, linked.is_layout, at)
   where
-    at : (P : ℕ) → FitsAt P layout.size → HoldsProgram P layout modules (memory P file) × ((l : Loaded) × IsLoadedFrom P file l × HoldsProgram P layout modules l)
-    at P fits =
+    at : (P : ℕ) → HoldsProgram P layout modules (memory P file) × (FitsAt P layout.size → (l : Loaded) × IsLoadedFrom P file l × HoldsProgram P layout modules l)
+    at P =
         let same : length p.image ≡ layout.size = linked.program.sized in
-        let here : Fits P p = (fits.0, subst (λ n. 16 * P + n ≤ 1048576) (sym same) fits.1) in
         let whole = append-nil file in
-        let loaded : memory P file ≡ moved P p = subst (λ b. memory P b ≡ moved P p) whole (holds p file [] mz P here) in
+        let loaded : memory P file ≡ moved P p = subst (λ b. memory P b ≡ moved P p) whole (holds p file [] mz P) in
         let read = subst (λ b. reading b ≡ Ok (as_file p)) whole (reads p file [] mz) in
-        (subst (HoldsProgram P layout modules) (sym loaded) (holds_moved names modules layout p P mz.0 linked), (moved P p, (as_file p, read, loads p mz.0 P here), holds_moved names modules layout p P mz.0 linked))
+        let here = holds_moved names modules layout p P mz.0 linked in
+        (subst (HoldsProgram P layout modules) (sym loaded) here, λ fits. (moved P p, (as_file p, read, loads p mz.0 P (subst (λ n. 16 * P + n ≤ 1048576) (sym same) fits)), here))
 
 -- ---- what a link answers
 

@@ -77,19 +77,20 @@ pub record HoldsProgram (paragraph : ℕ) (layout : Layout) (modules : List Modu
 
 -- a program of this size fits into memory at the paragraph
 abbrev pub FitsAt : (paragraph size : ℕ) → Type 0
-FitsAt paragraph size = (paragraph ≤ 65535) × (16 * paragraph + size ≤ 1048576)
+FitsAt paragraph size = 16 * paragraph + size ≤ 1048576
 
 -- reading the file and loading what was read
 abbrev pub IsLoadedFrom : (paragraph : ℕ) (file : List ℕ) → Loaded → Type 0
 IsLoadedFrom paragraph file loaded = (mz : MzFile) × (reading file ≡ Ok mz) × (loading paragraph mz ≡ Ok loaded)
 
--- The file loaded at any paragraph where the program fits holds the program of the modules, and so does what the file
--- is read as.
+-- The file at any paragraph holds the program of the modules, and where the program fits so does what the file, read
+-- and loaded there, gives.
 abbrev pub HoldsAtEachParagraph : Names → List Module → (file : List ℕ) → Type 0
 HoldsAtEachParagraph names modules file =
     (layout : Layout) × IsOnlyLayout names modules layout
-    × ((paragraph : ℕ) → FitsAt paragraph layout.size → HoldsProgram paragraph layout modules (memory paragraph file)
-    × ((loaded : Loaded) × IsLoadedFrom paragraph file loaded × HoldsProgram paragraph layout modules loaded))
+    × ((paragraph : ℕ) → HoldsProgram paragraph layout modules (memory paragraph file)
+    × (FitsAt paragraph layout.size
+    → (loaded : Loaded) × IsLoadedFrom paragraph file loaded × HoldsProgram paragraph layout modules loaded))
 
 -- ---- what a link answers
 
@@ -125,7 +126,7 @@ module _ {S : Type 0} (told : S → Option (List ℕ)) (failures : S → ℕ) wh
       AllRead olds news (λ modules. IsModulesFault {A = A} names modules (link.Program fault)) × Keeps wold wnew
   Links names olds news wold wnew (Err (link.File fault)) = ⊥
 
-  -- the file that was written holds the program of the inputs' records at each paragraph where it fits
+  -- the file that was written holds the program of the inputs' records at each paragraph
   abbrev pub WritesProgram : Names → (olds news : List S) (wold wnew : Option (List ℕ)) → Type 0
   WritesProgram names olds news wold wnew =
       AllRead olds news (λ modules. (file : List ℕ) × Appends wold wnew file × HoldsAtEachParagraph names modules file)

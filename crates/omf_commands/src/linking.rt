@@ -107,7 +107,7 @@ pub fn link<S: Source, K: Sink, A: Allocator + Copy>(
     ensures outcome { (inputs : List (List ℕ)) → AreTold S.remaining sources.old inputs
         → Outcome options.now.names inputs result }
     // Loading the file at any paragraph where the program fits gives, at each address of its written part, the byte
-    // that the records stand for.
+    // that the records stand for; so does moving what the file holds to any paragraph at all.
     ensures headline { OnOk result
         (WritesProgram S.remaining S.failures options.now.names sources.old sources.new (K.written sink.old)
         (K.written sink.new)) }

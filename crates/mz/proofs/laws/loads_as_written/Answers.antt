@@ -18,4 +18,4 @@ pub returns-clause-refuses : goal.returns-clause-refuses
 returns-clause-refuses c = λ p w P above. refuses p w P above
 
 pub returns-clause-memory : goal.returns-clause-memory
-returns-clause-memory c = λ p b rest mz P fits. ap (λ (l : List ℕ). memory P (l ++ rest)) mz.1 ∙ memory_back p mz.0 rest P
+returns-clause-memory c = λ p b rest mz P. ap (λ (l : List ℕ). memory P (l ++ rest)) mz.1 ∙ memory_back p mz.0 rest P
