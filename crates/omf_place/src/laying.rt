@@ -49,6 +49,36 @@ fn public_table<A: Allocator + Copy>(
     index_publics(alloc, names, groups.program.modules.len(), &entries)
 }
 
+/// The layout of a program none of whose groups is too long.
+fn lay_tables<A: Allocator + Copy>(
+    alloc: A,
+    names: Names,
+    groups: &Groups<'_, A>,
+    size: u32,
+    combined: Vec<Combined, A>,
+) -> Result<Layout<A>, PlaceFault<A>>
+    requires placed { IsPlacedProgram groups.now.program.now }
+    requires combined { combined.items ≡
+        of_program (λ ms addresses. map (combined_segment (sites ms) addresses) (leaders (sites ms)))
+        groups.now.program.now }
+    requires size { size ≤ 1048560 }
+    ensures apart { OnOk result (duplicate_in names (of_program placed_publics groups.now.program.now) ≡ None) }
+    ensures layout { IfOk result (λ l. l ≡ of_program (layout_at names) groups.now.program.now size) }
+    ensures fault { IfErr result
+        (λ e. IfSome (said e) (λ f. duplicate_in names (of_program placed_publics groups.now.program.now) ≡ Some f)) }
+{
+    let publics = public_table(alloc, names, groups)?;
+    let modules = module_rows(alloc, groups)?;
+    let places = placed_groups(alloc, groups)?;
+    Ok(Layout {
+        size,
+        modules,
+        combined,
+        groups: places,
+        publics,
+    })
+}
+
 /// The layout of a program whose segments stand.
 pub(crate) fn lay_out<A: Allocator + Copy>(
     alloc: A,
@@ -67,14 +97,5 @@ pub(crate) fn lay_out<A: Allocator + Copy>(
 {
     let groups = Groups::collect(alloc, program)?;
     check_groups(alloc, &groups)?;
-    let publics = public_table(alloc, names, &groups)?;
-    let modules = module_rows(alloc, &groups)?;
-    let places = placed_groups(alloc, &groups)?;
-    Ok(Layout {
-        size,
-        modules,
-        combined,
-        groups: places,
-        publics,
-    })
+    lay_tables(alloc, names, &groups, size, combined)
 }
