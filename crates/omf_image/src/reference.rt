@@ -4,8 +4,9 @@ ghost use Rattle.std.specs.Prelude.{◌≡◌, ◌<◌, length};
 ghost use Rattle.omf_place.specs.Layout.{places_of};
 ghost use Rattle.omf_module.specs.Seen.{external_seen};
 ghost use Rattle.omf_image.specs.Position.{position, segment_position, external_position};
-ghost use Rattle.omf_image.specs.Reference.{resolved, target_of, frame_of, own_frame, found_public};
-ghost use Rattle.omf_image.specs.inside.Lookups.{found};
+ghost use Rattle.omf_image.specs.Reference.{Is, both, resolved, target_of, frame_of, group_position, on_found, own_frame};
+ghost use Rattle.omf_image.specs.Reference.{found_public};
+ghost use Rattle.omf_image.specs.inside.Lookups.{found, framed_by};
 ghost use Rattle.omf_image.specs.inside.Ready.{IsTargetThere, IsFrameThere};
 
 use omf_module::{ExternalSymbol, FixupFrame, FixupTarget, Module};
@@ -82,6 +83,16 @@ fn external_position<A: Allocator + Copy>(
     }
 }
 
+/// Where a group of this frame stands.
+fn group_position(frame: Option<u16>) -> Result<Position, Missing>
+    ensures { found result ≡ group_position frame }
+{
+    match frame {
+        Some(frame) => Ok(Position::Relocatable(16 * u32::from(frame), Some(frame))),
+        None => Err(Missing::Members),
+    }
+}
+
 /// The frame of what stands somewhere.
 fn own_frame(position: Position) -> Result<Base, Missing>
     ensures { found result ≡ own_frame position }
@@ -106,15 +117,25 @@ fn target<A: Allocator + Copy>(
 {
     match target {
         FixupTarget::Segment(segment) => Ok(segment_position(layout, input, segment)),
-        FixupTarget::Group(group) => match layout.group_frame(input, usize::from(group)) {
-            Some(frame) => Ok(Position::Relocatable(16 * u32::from(frame), Some(frame))),
-            None => Err(Missing::Members),
-        },
+        FixupTarget::Group(group) => group_position(layout.group_frame(input, usize::from(group))),
         FixupTarget::External(external) => external_position(
             layout,
             input,
             module.external(usize::from(external)),
         ),
+    }
+}
+
+/// The target whose frame a method names; `here` is the segment of the data record.
+fn framed_by(here: u16, of: FixupTarget, method: FixupFrame) -> FixupTarget
+    ensures { result ≡ framed_by here of method }
+{
+    match method {
+        FixupFrame::OfSegment(segment) => FixupTarget::Segment(segment),
+        FixupFrame::OfGroup(group) => FixupTarget::Group(group),
+        FixupFrame::OfExternal(external) => FixupTarget::External(external),
+        FixupFrame::OfLocation => FixupTarget::Segment(here),
+        FixupFrame::OfTarget => of,
     }
 }
 
@@ -132,26 +153,33 @@ fn frame<A: Allocator + Copy>(
     requires frame { IsFrameThere layout.now input «module».now here method }
     ensures { found result ≡ frame_of layout.now input «module».now here of method }
 {
-    match method {
-        FixupFrame::OfSegment(segment) => own_frame(segment_position(layout, input, segment)),
-        FixupFrame::OfGroup(group) => own_frame(target(
-            layout,
-            input,
-            module,
-            FixupTarget::Group(group),
-        )?),
-        FixupFrame::OfExternal(external) => own_frame(target(
-            layout,
-            input,
-            module,
-            FixupTarget::External(external),
-        )?),
-        FixupFrame::OfLocation => own_frame(segment_position(layout, input, here)),
-        FixupFrame::OfTarget => own_frame(target(layout, input, module, of)?),
+    let framing = framed_by(here, of, method);
+    own_frame(target(layout, input, module, framing)?)
+}
+
+/// A reference whose target and frame were looked up. An external that means no public is named before a group without
+/// members.
+fn joined(
+    target: Result<Position, Missing>,
+    frame: Result<Base, Missing>,
+    displacement: u16,
+) -> Result<Resolved, Missing>
+    ensures { found result ≡ on_found (both (found target) (found frame))
+        (λ f. Is (record { target = f.0; named_frame = f.1; displacement = displacement })) }
+{
+    match (target, frame) {
+        (Ok(target), Ok(named_frame)) => Ok(Resolved {
+            target,
+            named_frame,
+            displacement,
+        }),
+        (Err(Missing::Public), _) => Err(Missing::Public),
+        (_, Err(Missing::Public)) => Err(Missing::Public),
+        (_, _) => Err(Missing::Members),
     }
 }
 
-/// What a reference stands for. An external that means no public is named before a group without members.
+/// What a reference stands for.
 pub fn resolve<A: Allocator + Copy>(
     layout: &Layout<A>,
     input: usize,
@@ -168,14 +196,5 @@ pub fn resolve<A: Allocator + Copy>(
 {
     let target = target(layout, input, module, of);
     let frame = frame(layout, input, module, here, of, method);
-    match (target, frame) {
-        (Ok(target), Ok(named_frame)) => Ok(Resolved {
-            target,
-            named_frame,
-            displacement,
-        }),
-        (Err(Missing::Public), _) => Err(Missing::Public),
-        (_, Err(Missing::Public)) => Err(Missing::Public),
-        (_, _) => Err(Missing::Members),
-    }
+    joined(target, frame, displacement)
 }
