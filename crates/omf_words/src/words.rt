@@ -241,15 +241,60 @@ fn bare_command<'a>(alloc: Global) -> Result<Command<'a>, AllocError>
         .bin_name("omf")
 }
 
+// The command with the subcommand `show`.
+fn with_show<'a>(alloc: Global, above: Command<'a>) -> Result<Command<'a>, AllocError>
+    requires above { (fields_of above).has_globals ≡ false }
+    ensures app { IfOk result (λ c. app_of c ≡ with_subcommand (app_of above.entry) spec.show_command.top) }
+    ensures local { IfOk result (λ c. (fields_of c).has_globals ≡ false) }
+{
+    with_command(above, show_command(alloc)?)
+}
+
+// The command with the subcommand `check`.
+fn with_check<'a>(alloc: Global, above: Command<'a>) -> Result<Command<'a>, AllocError>
+    requires above { (fields_of above).has_globals ≡ false }
+    ensures app { IfOk result (λ c. app_of c ≡ with_subcommand (app_of above.entry) spec.check_command.top) }
+    ensures local { IfOk result (λ c. (fields_of c).has_globals ≡ false) }
+{
+    with_command(above, check_command(alloc)?)
+}
+
+// The command with the subcommand `rewrite`.
+fn with_rewrite<'a>(alloc: Global, above: Command<'a>) -> Result<Command<'a>, AllocError>
+    requires above { (fields_of above).has_globals ≡ false }
+    ensures app { IfOk result (λ c. app_of c ≡ with_subcommand (app_of above.entry) spec.rewrite_command.top) }
+    ensures local { IfOk result (λ c. (fields_of c).has_globals ≡ false) }
+{
+    with_command(above, rewrite_command(alloc)?)
+}
+
+// The command with the subcommand `link`.
+fn with_link<'a>(alloc: Global, above: Command<'a>) -> Result<Command<'a>, AllocError>
+    requires above { (fields_of above).has_globals ≡ false }
+    ensures app { IfOk result (λ c. app_of c ≡ with_subcommand (app_of above.entry) spec.link_command.top) }
+    ensures local { IfOk result (λ c. (fields_of c).has_globals ≡ false) }
+{
+    with_command(above, link_command(alloc)?)
+}
+
+// The command with the subcommand `load`.
+fn with_load<'a>(alloc: Global, above: Command<'a>) -> Result<Command<'a>, AllocError>
+    requires above { (fields_of above).has_globals ≡ false }
+    ensures app { IfOk result (λ c. app_of c ≡ with_subcommand (app_of above.entry) spec.load_command.top) }
+    ensures local { IfOk result (λ c. (fields_of c).has_globals ≡ false) }
+{
+    with_command(above, load_command(alloc)?)
+}
+
 // The command `omf`.
 fn omf_command<'a>(alloc: Global) -> Result<Command<'a>, AllocError>
     ensures { IfOk result (λ c. app_of c ≡ spec.omf_command) }
 {
-    let command = with_command(bare_command(alloc)?, show_command(alloc)?)?;
-    let command = with_command(command, check_command(alloc)?)?;
-    let command = with_command(command, rewrite_command(alloc)?)?;
-    let command = with_command(command, link_command(alloc)?)?;
-    with_command(command, load_command(alloc)?)
+    let command = with_show(alloc, bare_command(alloc)?)?;
+    let command = with_check(alloc, command)?;
+    let command = with_rewrite(alloc, command)?;
+    let command = with_link(alloc, command)?;
+    with_load(alloc, command)
 }
 
 // What the parser says of the words.
