@@ -1,7 +1,7 @@
 //! The words of the command line.
 ghost use Rattle.std.specs.Prelude.{◌≡◌, ◌⊎◌, IfErr, IfOk, IsSome, Some, codes, false, true};
-ghost use Rattle.clap.specs.Words.{app_of, first_of, found_of, is_simple, kind_of, rows_of, rule_of, takes, with_rule};
-ghost use Rattle.clap.specs.Words.{with_subcommand};
+ghost use Rattle.clap.specs.Words.{App, app_of, first_of, found_of, is_simple, kind_of, rows_of, rule_of, takes};
+ghost use Rattle.clap.specs.Words.{with_rule, with_subcommand};
 ghost use Rattle.clap.specs.declared.Command.{out-Command as fields_of};
 ghost use Rattle.clap.specs.declared.error.ErrorKind.TheVariants.{OutOfMemory};
 ghost use Rattle.omf_words.specs.declared.words.WordsFault.TheVariants.{Memory};
@@ -217,14 +217,18 @@ fn load_command<'a>(alloc: Global) -> Result<Command<'a>, AllocError>
     )
 }
 
-// The command with one subcommand more.
-fn with_command<'a>(above: Command<'a>, command: Command<'a>) -> Result<Command<'a>, AllocError>
-    requires local { (fields_of command).has_globals ≡ false }
-    requires above { (fields_of above).has_globals ≡ false }
-    ensures app { IfOk result (λ c. app_of c ≡ with_subcommand (app_of above.entry) (app_of command.entry).top) }
+// The command with one subcommand more, where both could be made.
+fn with_command<'a>(
+    above: Result<Command<'a>, AllocError>,
+    command: Result<Command<'a>, AllocError>,
+) -> Result<Command<'a>, AllocError>
+    requires local { IfOk command (λ c. (fields_of c).has_globals ≡ false) }
+    requires above { IfOk above (λ a. (fields_of a).has_globals ≡ false) }
+    ensures app { (outer inner : App) → IfOk above.entry (λ a. app_of a ≡ outer)
+        → IfOk command.entry (λ c. app_of c ≡ inner) → IfOk result (λ c. app_of c ≡ with_subcommand outer inner.top) }
     ensures local { IfOk result (λ c. (fields_of c).has_globals ≡ false) }
 {
-    above.subcommand(command)
+    above?.subcommand(command?)
 }
 
 // The command `omf` before it has its subcommands.
@@ -241,60 +245,15 @@ fn bare_command<'a>(alloc: Global) -> Result<Command<'a>, AllocError>
         .bin_name("omf")
 }
 
-// The command with the subcommand `show`.
-fn with_show<'a>(alloc: Global, above: Command<'a>) -> Result<Command<'a>, AllocError>
-    requires above { (fields_of above).has_globals ≡ false }
-    ensures app { IfOk result (λ c. app_of c ≡ with_subcommand (app_of above.entry) spec.show_command.top) }
-    ensures local { IfOk result (λ c. (fields_of c).has_globals ≡ false) }
-{
-    with_command(above, show_command(alloc)?)
-}
-
-// The command with the subcommand `check`.
-fn with_check<'a>(alloc: Global, above: Command<'a>) -> Result<Command<'a>, AllocError>
-    requires above { (fields_of above).has_globals ≡ false }
-    ensures app { IfOk result (λ c. app_of c ≡ with_subcommand (app_of above.entry) spec.check_command.top) }
-    ensures local { IfOk result (λ c. (fields_of c).has_globals ≡ false) }
-{
-    with_command(above, check_command(alloc)?)
-}
-
-// The command with the subcommand `rewrite`.
-fn with_rewrite<'a>(alloc: Global, above: Command<'a>) -> Result<Command<'a>, AllocError>
-    requires above { (fields_of above).has_globals ≡ false }
-    ensures app { IfOk result (λ c. app_of c ≡ with_subcommand (app_of above.entry) spec.rewrite_command.top) }
-    ensures local { IfOk result (λ c. (fields_of c).has_globals ≡ false) }
-{
-    with_command(above, rewrite_command(alloc)?)
-}
-
-// The command with the subcommand `link`.
-fn with_link<'a>(alloc: Global, above: Command<'a>) -> Result<Command<'a>, AllocError>
-    requires above { (fields_of above).has_globals ≡ false }
-    ensures app { IfOk result (λ c. app_of c ≡ with_subcommand (app_of above.entry) spec.link_command.top) }
-    ensures local { IfOk result (λ c. (fields_of c).has_globals ≡ false) }
-{
-    with_command(above, link_command(alloc)?)
-}
-
-// The command with the subcommand `load`.
-fn with_load<'a>(alloc: Global, above: Command<'a>) -> Result<Command<'a>, AllocError>
-    requires above { (fields_of above).has_globals ≡ false }
-    ensures app { IfOk result (λ c. app_of c ≡ with_subcommand (app_of above.entry) spec.load_command.top) }
-    ensures local { IfOk result (λ c. (fields_of c).has_globals ≡ false) }
-{
-    with_command(above, load_command(alloc)?)
-}
-
 // The command `omf`.
 fn omf_command<'a>(alloc: Global) -> Result<Command<'a>, AllocError>
     ensures { IfOk result (λ c. app_of c ≡ spec.omf_command) }
 {
-    let command = with_show(alloc, bare_command(alloc)?)?;
-    let command = with_check(alloc, command)?;
-    let command = with_rewrite(alloc, command)?;
-    let command = with_link(alloc, command)?;
-    with_load(alloc, command)
+    let command = with_command(bare_command(alloc), show_command(alloc));
+    let command = with_command(command, check_command(alloc));
+    let command = with_command(command, rewrite_command(alloc));
+    let command = with_command(command, link_command(alloc));
+    with_command(command, load_command(alloc))
 }
 
 // What the parser says of the words.
