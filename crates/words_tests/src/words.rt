@@ -1,199 +1,208 @@
-use omf_words::*;
-use std::alloc::Global;
+use omf_words::parse_words;
+use std::alloc::{AllocError, Global};
 use std::process::Abort;
 
-/// Each row's words are taken for the job that is printed so.
-fn reads<R: Abort>(rt: &R, alloc: Global, rows: &[(&[&str], &str)]) {
-    for (words, shown) in rows {
-        match parse_words(alloc, words) {
-            Ok(job) => {
-                let text = format!(in alloc; "{job:?}").expect(rt, "text");
-                assert_eq!(rt; text.as_str(), *shown);
-            }
-            Err(_) => panic!(rt; "refused"),
-        }
-    }
+/// The answer to a line of words, printed. The first word is the program's, and a space more an empty one.
+fn answer(alloc: Global, line: &str) -> Result<String, AllocError> {
+    let words: Vec<&str> = line.split(' ').skip(1).collect(alloc)?;
+    format!(in alloc; "{:?}", parse_words(alloc, &words))
 }
 
-/// Each row's words are answered with a text that has this part: with help, or as wrong words.
-fn answers<R: Abort>(rt: &R, alloc: Global, rows: &[(&[&str], &str)], helps: bool) {
-    for (words, part) in rows {
-        match parse_words(alloc, words) {
-            Err(WordsFault::Wrong(text)) if !helps => {
-                assert!(rt; text.as_str().contains(part), "{text}");
-            }
-            Err(WordsFault::Help(text)) if helps => {
-                assert!(rt; text.as_str().contains(part), "{text}");
-            }
-            _ => panic!(rt; "another answer: {part}"),
-        }
+/// The answers to the lines of a table are of this kind, and each has the part that stands below its line.
+fn hold<R: Abort>(rt: &R, alloc: Global, kind: &str, table: &str) {
+    for row in table.split("\n\n") {
+        let (line, part) = row.split_once(" =>\n").unwrap_or((row, row));
+        let printed = answer(alloc, line).expect(rt, "text");
+        assert!(rt;
+            printed.as_str().starts_with(kind) && printed.as_str().contains(part),
+            "{row}: {printed}"
+        );
     }
 }
 
 #[test]
 fn reads_each_subcommand(rt: HostRuntime) {
-    let taken: [(&[&str], &str); 9] = [
-        (&["show", "A.OBJ"], "Show { file: \"A.OBJ\" }"),
-        (&["check", "A.OBJ"], "Check { file: \"A.OBJ\" }"),
-        (
-            &["rewrite", "A.OBJ", "B.OBJ"],
-            "Rewrite { from: \"A.OBJ\", to: \"B.OBJ\" }",
-        ),
-        (
-            &["link", "A", "-o", "P", "B"],
-            "Link { out: \"P\", map: None, ignore_case: false, files: [\"A\", \"B\"] }",
-        ),
-        (
-            &["link", "-oP", "A"],
-            "Link { out: \"P\", map: None, ignore_case: false, files: [\"A\"] }",
-        ),
-        (
-            &["load", "P", "1234"],
-            "Load { file: \"P\", digits: \"1234\", paragraph: 4660 }",
-        ),
-        (
-            &["load", "P", "aBcD"],
-            "Load { file: \"P\", digits: \"aBcD\", paragraph: 43981 }",
-        ),
-        (
-            &["rewrite", "--", "-a", "B"],
-            "Rewrite { from: \"-a\", to: \"B\" }",
-        ),
-        (&["rewrite", "A", ""], "Rewrite { from: \"A\", to: \"\" }"),
-    ];
-    reads(&rt, rt.alloc(), &taken);
+    let taken = r#"omf show A.OBJ =>
+Ok(Show { file: "A.OBJ" })
+
+omf check A.OBJ =>
+Ok(Check { file: "A.OBJ" })
+
+omf rewrite A.OBJ B.OBJ =>
+Ok(Rewrite { from: "A.OBJ", to: "B.OBJ" })
+
+omf link A -o P B =>
+Ok(Link { out: "P", map: None, ignore_case: false, files: ["A", "B"] })
+
+omf link -oP A =>
+Ok(Link { out: "P", map: None, ignore_case: false, files: ["A"] })
+
+omf load P 1234 =>
+Ok(Load { file: "P", digits: "1234", paragraph: 4660 })
+
+omf load P aBcD =>
+Ok(Load { file: "P", digits: "aBcD", paragraph: 43981 })
+
+omf rewrite -- -a B =>
+Ok(Rewrite { from: "-a", to: "B" })
+
+omf rewrite A  =>
+Ok(Rewrite { from: "A", to: "" })"#;
+    hold(&rt, rt.alloc(), "Ok(", taken);
 }
 
 #[test]
 fn reads_the_path_of_a_map(rt: HostRuntime) {
-    let linked = "Link { out: \"P\", map: Some(\"M\"), ignore_case: false, files: [\"A\", \"B\"] }";
-    let taken: [(&[&str], &str); 8] = [
-        (&["link", "-m", "M", "-o", "P", "A", "B"], linked),
-        (&["link", "-o", "P", "-m", "M", "A", "B"], linked),
-        (&["link", "-o", "P", "A", "-m", "M", "B"], linked),
-        (&["link", "A", "B", "-m", "M", "-o", "P"], linked),
-        (&["link", "A", "B", "-oP", "-mM"], linked),
-        (&["link", "-m=M", "-o=P", "A", "B"], linked),
-        (
-            &["link", "-o", "P", "-m", "", "A"],
-            "Link { out: \"P\", map: Some(\"\"), ignore_case: false, files: [\"A\"] }",
-        ),
-        (
-            &["link", "-o", "P", "--", "A", "-m"],
-            "Link { out: \"P\", map: None, ignore_case: false, files: [\"A\", \"-m\"] }",
-        ),
-    ];
-    reads(&rt, rt.alloc(), &taken);
+    let taken = r#"omf link -m M -o P A B =>
+Ok(Link { out: "P", map: Some("M"), ignore_case: false, files: ["A", "B"] })
+
+omf link -o P -m M A B =>
+Ok(Link { out: "P", map: Some("M"), ignore_case: false, files: ["A", "B"] })
+
+omf link -o P A -m M B =>
+Ok(Link { out: "P", map: Some("M"), ignore_case: false, files: ["A", "B"] })
+
+omf link A B -m M -o P =>
+Ok(Link { out: "P", map: Some("M"), ignore_case: false, files: ["A", "B"] })
+
+omf link A B -oP -mM =>
+Ok(Link { out: "P", map: Some("M"), ignore_case: false, files: ["A", "B"] })
+
+omf link -m=M -o=P A B =>
+Ok(Link { out: "P", map: Some("M"), ignore_case: false, files: ["A", "B"] })
+
+omf link -o P -m  A =>
+Ok(Link { out: "P", map: Some(""), ignore_case: false, files: ["A"] })
+
+omf link -o P -- A -m =>
+Ok(Link { out: "P", map: None, ignore_case: false, files: ["A", "-m"] })"#;
+    hold(&rt, rt.alloc(), "Ok(", taken);
 }
 
 #[test]
 fn reads_whether_case_counts(rt: HostRuntime) {
-    let linked = "Link { out: \"P\", map: None, ignore_case: true, files: [\"A\", \"B\"] }";
-    let taken: [(&[&str], &str); 5] = [
-        (&["link", "--ignore-case", "-o", "P", "A", "B"], linked),
-        (&["link", "-o", "P", "--ignore-case", "A", "B"], linked),
-        (&["link", "A", "--ignore-case", "B", "-o", "P"], linked),
-        (&["link", "-o", "P", "A", "B", "--ignore-case"], linked),
-        (
-            &["link", "-o", "P", "--", "A", "--ignore-case"],
-            "Link { out: \"P\", map: None, ignore_case: false, files: [\"A\", \"--ignore-case\"] }",
-        ),
-    ];
-    reads(&rt, rt.alloc(), &taken);
+    let taken = r#"omf link --ignore-case -o P A B =>
+Ok(Link { out: "P", map: None, ignore_case: true, files: ["A", "B"] })
+
+omf link -o P --ignore-case A B =>
+Ok(Link { out: "P", map: None, ignore_case: true, files: ["A", "B"] })
+
+omf link A --ignore-case B -o P =>
+Ok(Link { out: "P", map: None, ignore_case: true, files: ["A", "B"] })
+
+omf link -o P A B --ignore-case =>
+Ok(Link { out: "P", map: None, ignore_case: true, files: ["A", "B"] })
+
+omf link -o P -- A --ignore-case =>
+Ok(Link { out: "P", map: None, ignore_case: false, files: ["A", "--ignore-case"] })"#;
+    hold(&rt, rt.alloc(), "Ok(", taken);
 }
 
 #[test]
 fn refuses_with_the_texts_of_the_parser(rt: HostRuntime) {
-    let refused: [(&[&str], &str); 19] = [
-        (&["show", "A", "B"], "error: unexpected argument 'B' found"),
-        (&["show"], "Usage: omf show <FILE>\n"),
-        (&["check"], "Usage: omf check <FILE>\n"),
-        (&["rewrite", "A"], "Usage: omf rewrite <IN> <OUT>\n"),
-        (
-            &["link", "-o", "P.EXE"],
-            "not provided:\n  <FILES>...\n\nUsage: omf link -o <OUT> <FILES>...\n",
-        ),
-        (&["link", "A.OBJ"], "not provided:\n  -o <OUT>\n"),
-        (&["link", "-m", "M", "A.OBJ"], "not provided:\n  -o <OUT>\n"),
-        (
-            &["link", "-o", "P", "-m", "M"],
-            "not provided:\n  <FILES>...\n",
-        ),
-        (
-            &["link", "-o", "P", "-m", "M", "-m", "N", "A"],
-            "the argument '-m <MAP>' cannot be used multiple times",
-        ),
-        (
-            &["link", "-o", "P", "A", "-m"],
-            "a value is required for '-m <MAP>' but none was supplied",
-        ),
-        (
-            &["link", "-m", "-o", "P", "A"],
-            "a value is required for '-m <MAP>' but none was supplied",
-        ),
-        (
-            &["link", "--ignore-case", "-o", "P", "A", "--ignore-case"],
-            "the argument '--ignore-case' cannot be used multiple times",
-        ),
-        (
-            &["link", "--ignore-case=yes", "-o", "P", "A"],
-            "unexpected value 'yes' for '--ignore-case' found",
-        ),
-        (&["load", "P.EXE"], "Usage: omf load <FILE> <PARAGRAPH>\n"),
-        (&["load", "P.EXE", "12345"], "omf: wrong words\n"),
-        (&["load", "P.EXE", "123G"], "omf: wrong words\n"),
-        (&["what"], "error: unrecognized subcommand 'what'"),
-        (&["-V"], "error: unexpected argument '-V' found"),
-        (&[""; 0], "Usage: omf <COMMAND>\n"),
-    ];
-    answers(&rt, rt.alloc(), &refused, false);
+    let refused = r"omf show A B =>
+error: unexpected argument 'B' found
+
+omf show =>
+Usage: omf show <FILE>\n
+
+omf check =>
+Usage: omf check <FILE>\n
+
+omf rewrite A =>
+Usage: omf rewrite <IN> <OUT>\n
+
+omf link -o P.EXE =>
+not provided:\n  <FILES>...\n\nUsage: omf link -o <OUT> <FILES>...\n
+
+omf link A.OBJ =>
+not provided:\n  -o <OUT>\n
+
+omf link -m M A.OBJ =>
+not provided:\n  -o <OUT>\n
+
+omf link -o P -m M =>
+not provided:\n  <FILES>...\n
+
+omf link -o P -m M -m N A =>
+the argument '-m <MAP>' cannot be used multiple times
+
+omf link -o P A -m =>
+a value is required for '-m <MAP>' but none was supplied
+
+omf link -m -o P A =>
+a value is required for '-m <MAP>' but none was supplied
+
+omf link --ignore-case -o P A --ignore-case =>
+the argument '--ignore-case' cannot be used multiple times
+
+omf link --ignore-case=yes -o P A =>
+unexpected value 'yes' for '--ignore-case' found
+
+omf load P.EXE =>
+Usage: omf load <FILE> <PARAGRAPH>\n
+
+omf load P.EXE 12345 =>
+omf: wrong words\n
+
+omf load P.EXE 123G =>
+omf: wrong words\n
+
+omf what =>
+error: unrecognized subcommand 'what'
+
+omf -V =>
+error: unexpected argument '-V' found
+
+omf =>
+Usage: omf <COMMAND>\n";
+    hold(&rt, rt.alloc(), "Err(Wrong(", refused);
 }
 
 #[test]
 fn helps_with_the_texts_of_the_parser(rt: HostRuntime) {
-    let helped: [(&[&str], &str); 10] = [
-        (&["-h"], "Usage: omf <COMMAND>\n"),
-        (&["--help"], "Usage: omf <COMMAND>\n"),
-        (&["help"], "Usage: omf <COMMAND>\n"),
-        (&["help", "rewrite"], "Usage: omf rewrite <IN> <OUT>\n"),
-        (
-            &["help", "link"],
-            "Usage: omf link [OPTIONS] -o <OUT> <FILES>...\n",
-        ),
-        (
-            &["link", "-h"],
-            "  -m <MAP>           The map to write after it, another file than OUT\n",
-        ),
-        (
-            &["help", "link"],
-            "\n\nExit status: 0 all is done, 1 an input is at fault,",
-        ),
-        (&["help"], "docs/FAULTS.md\nand the man page say"),
-        (
-            &["link", "-h"],
-            "--ignore-case  Names agree without regard to case: for Pascal, and assemblers that write capitals\n",
-        ),
-        (&["rewrite", "--help"], "Usage: omf rewrite <IN> <OUT>\n"),
-    ];
-    answers(&rt, rt.alloc(), &helped, true);
+    let helped = r"omf -h =>
+Usage: omf <COMMAND>\n
+
+omf --help =>
+Usage: omf <COMMAND>\n
+
+omf help =>
+Usage: omf <COMMAND>\n
+
+omf help rewrite =>
+Usage: omf rewrite <IN> <OUT>\n
+
+omf help link =>
+Usage: omf link [OPTIONS] -o <OUT> <FILES>...\n
+
+omf link -h =>
+  -m <MAP>           The map to write after it, another file than OUT\n
+
+omf help link =>
+\n\nExit status: 0 all is done, 1 an input is at fault,
+
+omf help =>
+docs/FAULTS.md\nand the man page say
+
+omf link -h =>
+--ignore-case  Names agree without regard to case: for Pascal, and assemblers that write capitals\n
+
+omf rewrite --help =>
+Usage: omf rewrite <IN> <OUT>\n";
+    hold(&rt, rt.alloc(), "Err(Help(", helped);
+}
+
+/// The link of so many files, and the row that it is.
+fn link_of(alloc: Global, count: usize, part: &str) -> Result<String, AllocError> {
+    let files = " A.OBJ".repeat(alloc, count)?;
+    format!(in alloc; "omf link -o P.EXE{files} =>\n{part}")
 }
 
 #[test]
 fn refuses_too_many_files(rt: HostRuntime) {
-    let mut words = Vec::new(rt.alloc());
-    for word in ["link", "-o", "P.EXE"] {
-        words.push(word).expect(&rt, "push");
-    }
-    for _ in 0..65_535 {
-        words.push("A.OBJ").expect(&rt, "push");
-    }
-    match parse_words(rt.alloc(), words.as_slice()) {
-        Ok(Job::Link { files, .. }) => assert_eq!(rt; files.len(), 65_535),
-        _ => panic!(rt; "no link"),
-    }
-    words.push("A.OBJ").expect(&rt, "push");
-    match parse_words(rt.alloc(), words.as_slice()) {
-        Err(WordsFault::Wrong(text)) => assert_eq!(rt; text.as_str(), "omf: wrong words\n"),
-        _ => panic!(rt; "not refused"),
-    }
+    let files = r#", "A.OBJ""#.repeat(rt.alloc(), 65_534).expect(&rt, "text");
+    hold(&rt, rt.alloc(), "Ok(Link {", &link_of(rt.alloc(), 65_535, &files).expect(&rt, "text"));
+    let refused = link_of(rt.alloc(), 65_536, r"omf: wrong words\n").expect(&rt, "text");
+    hold(&rt, rt.alloc(), "Err(Wrong(", &refused);
 }
