@@ -1,11 +1,9 @@
-use crate::{Rewritten, encode_if_fits, is_body, rewrite};
+use crate::answers::{Ask, encode_if_fits, hold, read};
 use omf_record::{
-    Alignment, Block, Combination, External, Fixup, FrameDatum, FrameMethod, Location, PublicBase,
-    Record, Reference, SegmentDefinition, SegmentLength, Subrecord, TargetDatum, TargetMethod,
-    ThreadNumber, fits_frame, parse_record,
+    Block, External, Location, PublicBase, Record, RecordFault, SegmentLength, fits_frame,
 };
-use std::alloc::AllocError;
-use std::test::*;
+use std::alloc::{AllocError, Global};
+use std::process::Abort;
 
 /// The types of the fourteen records.
 const KINDS: [u8; 14] = [
@@ -14,265 +12,181 @@ const KINDS: [u8; 14] = [
 
 #[test]
 fn bodies_that_are_accepted(rt: HostRuntime) {
-    let rows: [(u8, &[u8], &[u8]); 14] = [
-        (0x8A, &[0x3E], &[0x00]),
-        (0x98, &[0x2A, 0, 0, 2, 1, 1], &[0x2A, 0, 0, 2, 1, 1]),
-        (0x98, &[0x28, 5, 0, 0x80, 2, 1, 1], &[0x28, 5, 0, 2, 1, 1]),
-        (
-            0x98,
-            &[0x00, 0x00, 0xB8, 0x00, 0x00, 0x40, 1, 1, 1],
-            &[0x00, 0x00, 0xB8, 0x00, 0x00, 0x40, 1, 1, 1],
-        ),
-        (0x96, &[], &[]),
-        (
-            0x96,
-            &[0, 4, 0x43, 0x4F, 0x44, 0x45],
-            &[0, 4, 0x43, 0x4F, 0x44, 0x45],
-        ),
-        (0x9C, &[0x10, 1], &[0x00, 1]),
-        (0x9C, &[0x64, 1], &[0x44, 1]),
-        (0x9C, &[0xC4, 4, 0xCC], &[0xC4, 4, 0x8C]),
-        (
-            0x90,
-            &[0, 0, 0, 0xB8, 1, 0x78, 0x10, 0, 0x80, 7],
-            &[0, 0, 0, 0xB8, 1, 0x78, 0x10, 0, 7],
-        ),
-        (0x8A, &[0xFF, 0x44, 0x81, 0x00], &[0xC1, 0x44, 0x81, 0x00]),
-        (0x88, &[1, 2, 3], &[1, 2, 3]),
-        (0xB4, &[1, 0x78, 0x80, 7, 0, 0], &[1, 0x78, 7, 0, 0]),
-        (
-            0xB6,
-            &[0, 0x80, 1, 1, 0x78, 0x10, 0, 0],
-            &[0, 1, 1, 0x78, 0x10, 0, 0],
-        ),
-    ];
-    for (kind, body, canonical) in rows {
-        let mut out = Vec::new(rt.alloc());
-        assert_eq!(rt;
-            rewrite(rt.alloc(), kind, body, &mut out),
-            Rewritten::Done,
-            "{kind} {body:?}"
-        );
-        assert_eq!(rt; out.as_slice(), canonical, "{kind} {body:?}");
-    }
+    let accepted = "\
+8A3E => 00
+982A0000020101 => 2A0000020101
+9828050080020101 => 280500020101
+980000B8000040010101 => 0000B8000040010101
+96 => \n\
+960004434F4445 => 0004434F4445
+9C1001 => 0001
+9C6401 => 4401
+9CC404CC => C4048C
+90000000B8017810008007 => 000000B80178100007
+8AFF448100 => C1448100
+88010203 => 010203
+B4017880070000 => 0178070000
+B60080010178100000 => 00010178100000";
+    hold(&rt, rt.alloc(), Ask::Body, accepted);
 }
 
 #[test]
 fn bodies_at_fault(rt: HostRuntime) {
-    let rows: [(u8, &[u8], Rewritten); 15] = [
-        (0x8A, &[0xC0, 0, 1, 1, 0, 0], Rewritten::Body { at: 0 }),
-        (0x98, &[0x2A, 5, 0, 2, 1, 1], Rewritten::Body { at: 1 }),
-        (0x98, &[0x28, 5, 0, 2, 1, 1, 0], Rewritten::Body { at: 6 }),
-        (0x90, &[0, 1, 1, 0x78, 0x10], Rewritten::Body { at: 5 }),
-        (0x90, &[], Rewritten::Body { at: 0 }),
-        (0x80, &[5, 0x41], Rewritten::Body { at: 2 }),
-        (0x9A, &[2, 0xFE, 1], Rewritten::Body { at: 1 }),
-        (0x9C, &[0xC4, 4], Rewritten::Body { at: 2 }),
-        (0x9C, &[0x4C, 1], Rewritten::Body { at: 0 }),
-        (
-            0xA2,
-            &[1, 0, 0, 1, 0, 0xFF, 0xFF],
-            Rewritten::Body { at: 7 },
-        ),
-        (0xB4, &[1, 0x78], Rewritten::Body { at: 2 }),
-        (0xB6, &[0, 1, 1, 0x78, 0x10], Rewritten::Body { at: 5 }),
-        (0x70, &[0], Rewritten::OtherType),
-        (0xB5, &[0], Rewritten::OtherType),
-        (0xB7, &[0, 1, 0], Rewritten::OtherType),
-    ];
-    for (kind, body, answer) in rows {
-        let mut out = Vec::new(rt.alloc());
-        assert_eq!(rt;
-            rewrite(rt.alloc(), kind, body, &mut out),
-            answer,
-            "{kind} {body:?}"
-        );
-        assert_eq!(rt; out.len(), 0);
-    }
+    let faults = "\
+8AC00001010000 => Body { at: 0 }
+982A0500020101 => Body { at: 1 }
+9828050002010100 => Body { at: 6 }
+900001017810 => Body { at: 5 }
+90 => Body { at: 0 }
+800541 => Body { at: 2 }
+9A02FE01 => Body { at: 1 }
+9CC404 => Body { at: 2 }
+9C4C01 => Body { at: 0 }
+A20100000100FFFF => Body { at: 7 }
+B40178 => Body { at: 2 }
+B60001017810 => Body { at: 5 }
+7000 => OtherType
+B500 => OtherType
+B7000100 => OtherType";
+    hold(&rt, rt.alloc(), Ask::Body, faults);
 }
 
-/// A block with a content, below so many levels.
-#[test]
-fn levels(rt: HostRuntime) -> Result<(), Fail> {
-    for (above, answer) in [
-        (62, Rewritten::Done),
-        (63, Rewritten::Done),
-        (64, Rewritten::Body { at: 257 }),
-    ] {
-        let mut body = Vec::new(rt.alloc());
-        body.extend_from_slice(&[1, 0, 0])?;
-        for _ in 0..above {
-            body.extend_from_slice(&[1, 0, 1, 0])?;
-        }
-        body.extend_from_slice(&[1, 0, 0, 0, 1, 0x41])?;
-        let mut out = Vec::new(rt.alloc());
-        assert_eq!(rt;
-            rewrite(rt.alloc(), 0xA2, &body, &mut out),
-            answer,
-            "{above}"
-        );
-    }
-    Ok(())
-}
-
-/// The greatest number of bytes that zeros complete, by trying.
-fn longest_front<A: std::alloc::Allocator + Copy>(
-    alloc: A,
-    kind: u8,
-    body: &[u8],
-) -> Result<usize, AllocError> {
-    let mut longest = 0;
-    for n in 0..=body.len() {
-        let mut text = Vec::new(alloc);
-        text.extend_from_slice(&body[..n])?;
-        for _ in 0..=256 {
-            if is_body(alloc, kind, &text) {
-                longest = n;
-                break;
-            }
-            text.push(0)?;
-        }
-    }
-    Ok(longest)
+/// The row of a block with a content, below so many levels, and its fault.
+fn nested(alloc: Global, above: usize, fault: Option<&str>) -> Result<String, AllocError> {
+    let levels = "01000100".repeat(alloc, above)?;
+    let body = format!(in alloc; "010000{levels}010000000141")?;
+    format!(in alloc; "A2{body} => {}", fault.unwrap_or(&body))
 }
 
 #[test]
-fn faults_stand_where_zeros_end_to_help(rt: HostRuntime) -> Result<(), Fail> {
+fn levels(rt: HostRuntime) {
+    for (above, fault) in [(62, None), (63, None), (64, Some("Body { at: 257 }"))] {
+        let row = nested(rt.alloc(), above, fault).expect(&rt, "text");
+        hold(&rt, rt.alloc(), Ask::Body, &row);
+    }
+}
+
+/// The bodies of at most three bytes, by number.
+fn small_body(number: usize) -> ([u8; 3], usize) {
     let bytes = [0x00, 0x01, 0x80, 0xC4, 0xFF];
-    for kind in KINDS {
-        for len in 0..4 {
-            for a in bytes {
-                for b in bytes {
-                    let c = if a == 0x01 { 0x05 } else { 0x80 };
-                    let whole = [a, b, c];
-                    let body = &whole[..len];
-                    let mut out = Vec::new(rt.alloc());
-                    if let Rewritten::Body { at } = rewrite(rt.alloc(), kind, body, &mut out) {
-                        assert_eq!(rt;
-                            at,
-                            longest_front(rt.alloc(), kind, body)?,
-                            "{kind} {body:?}"
-                        );
-                    }
-                }
-            }
+    let first = bytes[number % 5];
+    let third = if first == 0x01 { 0x05 } else { 0x80 };
+    ([first, bytes[number / 5 % 5], third], number / 25)
+}
+
+/// Whether zeros complete the bytes, so many of them.
+fn zeros_complete(alloc: Global, kind: u8, front: &[u8]) -> Result<bool, AllocError> {
+    let mut text = Vec::from_slice(alloc, front)?;
+    for _ in 0..=256 {
+        if read(alloc, kind, &text).is_ok() {
+            return Ok(true);
+        }
+        text.push(0)?;
+    }
+    Ok(false)
+}
+
+/// Whether the fault of a body, if it has one, stands behind the greatest number of bytes that zeros complete.
+fn stands_where_zeros_end(alloc: Global, kind: u8, body: &[u8]) -> Result<bool, AllocError> {
+    let Err(RecordFault::Body { at }) = read(alloc, kind, body) else {
+        return Ok(true);
+    };
+    let mut longest = 0;
+    for len in 0..=body.len() {
+        if zeros_complete(alloc, kind, &body[..len])? {
+            longest = len;
         }
     }
-    Ok(())
+    Ok(at == longest)
+}
+
+#[test]
+fn faults_stand_where_zeros_end_to_help(rt: HostRuntime) {
+    for kind in KINDS {
+        for number in 0..100 {
+            let (bytes, len) = small_body(number);
+            let stands = stands_where_zeros_end(rt.alloc(), kind, &bytes[..len.min(3)]);
+            assert!(rt; stands == Ok(true), "{kind} {number}");
+        }
+    }
 }
 
 #[test]
 fn what_is_read(rt: HostRuntime) {
-    let read = parse_record(
-        rt.alloc(),
-        &omf_frame::Frame::new(0, 0x98, &[0x2A, 0, 0, 2, 1, 1]),
+    let read = "\
+982A0000020101 => Segdef { segment: SegmentDefinition { alignment: Byte, combination: Public2, \
+length: Whole, name: 2, class: 1, overlay: 1 } }
+9C100167018805260134 => Fixupp { subrecords: [SetTarget(Zero, Segment(1)), SetFrame(Three, Group(1)), \
+Fixup(Fixup { self_relative: true, location: Base, offset: 5, reference: Reference { frame: By(External(1)), \
+target: By(External(52)), displacement: None } })] }";
+    hold(&rt, rt.alloc(), Ask::Content, read);
+    assert_eq!(rt;
+        (SegmentLength::Whole.bytes(), Location::Pointer.width()),
+        (65536, 4)
     );
-    match read {
-        Ok(Record::Segdef { segment }) => {
-            let wanted = SegmentDefinition {
-                alignment: Alignment::Byte,
-                combination: Combination::Public2,
-                length: SegmentLength::Whole,
-                name: 2,
-                class: 1,
-                overlay: 1,
-            };
-            assert_eq!(rt; segment, wanted);
-            assert_eq!(rt; segment.length.bytes(), 65536);
-        }
-        _ => assert!(rt; false),
-    }
-    let read = parse_record(
-        rt.alloc(),
-        &omf_frame::Frame::new(0, 0x9C, &[0x10, 1, 0x67, 1, 0x88, 5, 0x26, 1, 0x34]),
-    );
-    match read {
-        Ok(Record::Fixupp { subrecords }) => {
-            let fixup = Fixup {
-                self_relative: true,
-                location: Location::Base,
-                offset: 5,
-                reference: Reference {
-                    frame: FrameDatum::By(FrameMethod::External(1)),
-                    target: TargetDatum::By(TargetMethod::External(0x34)),
-                    displacement: None,
-                },
-            };
-            assert_eq!(rt; subrecords.len(), 3);
-            assert_eq!(rt;
-                subrecords[0],
-                Subrecord::SetTarget(ThreadNumber::Zero, TargetMethod::Segment(1))
-            );
-            assert_eq!(rt;
-                subrecords[1],
-                Subrecord::SetFrame(ThreadNumber::Three, FrameMethod::Group(1))
-            );
-            assert_eq!(rt; subrecords[2], Subrecord::Fixup(fixup));
-            assert_eq!(rt; Location::Pointer.width(), 4);
-        }
-        _ => assert!(rt; false),
-    }
 }
 
 /// Local names are told from others by the type alone.
 #[test]
 fn local_names_are_read(rt: HostRuntime) {
-    for (kind, is_local) in [(0x8C, false), (0xB4, true)] {
-        let frame = omf_frame::Frame::new(0, kind, &[1, 0x78, 7]);
-        let read = parse_record(rt.alloc(), &frame);
-        let is_read =
-            matches!(&read, Ok(Record::Extdef { local, names }) if *local == is_local && names.len() == 1);
-        assert!(rt; is_read, "{kind}");
-    }
-    for (kind, is_local) in [(0x90, false), (0xB6, true)] {
-        let frame = omf_frame::Frame::new(0, kind, &[0, 1, 1, 0x78, 0x10, 0, 0]);
-        let read = parse_record(rt.alloc(), &frame);
-        let is_read =
-            matches!(&read, Ok(Record::Pubdef { local, publics, .. }) if *local == is_local && publics.len() == 1);
-        assert!(rt; is_read, "{kind}");
-    }
+    let read = "\
+8C017807 => Extdef { local: false, names: [External { name: [120], type_index: 7 }] }
+B4017807 => Extdef { local: true, names: [External { name: [120], type_index: 7 }] }
+9000010178100000 => Pubdef { local: false, base: InSegment { group: 0, segment: 1 }, publics: \
+[Public { name: [120], offset: 16, type_index: 0 }] }
+B600010178100000 => Pubdef { local: true, base: InSegment { group: 0, segment: 1 }, publics: \
+[Public { name: [120], offset: 16, type_index: 0 }] }";
+    hold(&rt, rt.alloc(), Ask::Content, read);
 }
 
+fn has_no_body<R: Abort>(rt: &R, record: Record<'_>) {
+    assert!(rt; !fits_frame(&record), "{record:?}");
+}
+
+/// A long name, a great index, no address, and a block without blocks.
 #[test]
-fn values_without_a_body(rt: HostRuntime) -> Result<(), Fail> {
-    let long = [0u8; 256];
-    let mut names = Vec::new(rt.alloc());
-    names.push(External {
-        name: &long[..1],
-        type_index: 32768,
-    })?;
-    let mut nothing = Vec::new(rt.alloc());
-    nothing.push(Block::Nested {
-        repeat: 1,
-        blocks: Vec::new(rt.alloc()),
-    })?;
-    let records = [
-        Record::Theadr { name: &long },
+fn values_without_a_body(rt: HostRuntime) {
+    let alloc = rt.alloc();
+    has_no_body(&rt, Record::Theadr { name: &[0; 256] });
+    let segments = Vec::new(alloc);
+    has_no_body(
+        &rt,
         Record::Grpdef {
             name: 32768,
-            segments: Vec::new(rt.alloc()),
+            segments,
         },
-        Record::Extdef { local: true, names },
-        Record::Pubdef {
-            local: false,
-            base: PublicBase::InSegment {
-                group: 0,
-                segment: 0,
-            },
-            publics: Vec::new(rt.alloc()),
+    );
+    let external = External {
+        name: b"x",
+        type_index: 32768,
+    };
+    let names = vec![in alloc; external].expect(&rt, "memory");
+    has_no_body(&rt, Record::Extdef { local: true, names });
+    let publics = Record::Pubdef {
+        local: false,
+        base: PublicBase::InSegment {
+            group: 0,
+            segment: 0,
         },
-        Record::Lidata {
-            segment: 1,
-            offset: 0,
-            blocks: nothing,
-        },
-    ];
-    for record in &records {
-        assert!(rt; !fits_frame(record));
-    }
-    let mut out = Vec::new(rt.alloc());
-    out.push(9)?;
-    assert!(rt; encode_if_fits(&Record::Theadr { name: &long[..2] }, &mut out));
+        publics: Vec::new(alloc),
+    };
+    has_no_body(&rt, publics);
+    let nothing = Block::Nested {
+        repeat: 1,
+        blocks: Vec::new(alloc),
+    };
+    let repeated = Record::Lidata {
+        segment: 1,
+        offset: 0,
+        blocks: vec![in alloc; nothing].expect(&rt, "memory"),
+    };
+    has_no_body(&rt, repeated);
+}
+
+/// A body is written behind what stands in the vector.
+#[test]
+fn bodies_are_appended(rt: HostRuntime) {
+    let mut out = vec![in rt.alloc(); 9].expect(&rt, "memory");
+    encode_if_fits(&Record::Theadr { name: &[0, 0] }, &mut out);
     assert_eq!(rt; out.as_slice(), [9, 2, 0, 0].as_slice());
-    Ok(())
 }

@@ -2,20 +2,18 @@ ghost use Rattle.std.specs.Prelude.{◌≤◌, map};
 ghost use Rattle.omf_record.specs.Expansion.{blocks_len};
 ghost use Rattle.omf_record.specs.View.{block_view};
 
+use crate::answers::{Ask, hold};
 use omf_frame::Frame;
 use omf_record::{Block, Record, expand_into, expanded_len, parse_record, place_in_content};
-use std::alloc::Allocator;
-use std::test::*;
+use std::alloc::{AllocError, Global};
+use std::process::Abort;
 
 /// The blocks of a LIDATA body that is sound, or none.
 #[tactic(auto, unfolding(omf_record::specs::View::view, omf_record::specs::Expansion::data_len, omf_record::specs::Expansion::blocks_len))]
-fn blocks_of<'a, A: Allocator + Copy + 'a>(alloc: A, body: &'a [u8]) -> Vec<Block<'a, A>, A>
+fn blocks_of<'a>(alloc: Global, body: &'a [u8]) -> Vec<Block<'a>>
     ensures { blocks_len (map block_view result.items) ≤ 65534 }
 {
-    if body.len() > 65534 {
-        return Vec::new(alloc);
-    }
-    match parse_record(alloc, &Frame::new(0, 0xA2, body)) {
+    match parse_record(alloc, &Frame::new(0, 0xA2, &body[..body.len().min(65_534)])) {
         Ok(
             Record::Lidata {
                 segment: _,
@@ -27,79 +25,52 @@ fn blocks_of<'a, A: Allocator + Copy + 'a>(alloc: A, body: &'a [u8]) -> Vec<Bloc
     }
 }
 
+/// How many bytes the blocks of a LIDATA body expand to.
+pub fn length(alloc: Global, body: &[u8]) -> Result<String, AllocError> {
+    format!(in alloc; "{}", expanded_len(&blocks_of(alloc, body)))
+}
+
+/// The bytes that the blocks of a LIDATA body expand to, 16 at most, and the places that they are stored at.
+pub fn expansion(alloc: Global, body: &[u8]) -> Result<String, AllocError> {
+    let blocks = blocks_of(alloc, body);
+    let len = expanded_len(&blocks) as usize;
+    if len > 16 {
+        return length(alloc, body);
+    }
+    let mut bytes = [0u8; 16];
+    let mut places = [0u16; 16];
+    expand_into(&blocks, &mut bytes[..len], &mut places[..len]);
+    format!(in alloc; "{:?} at {:?}", &bytes[..len], &places[..len])
+}
+
+/// In the fourth row an empty block is repeated greatly, behind one byte.
 #[test]
 fn lengths(rt: HostRuntime) {
-    let rows: [(&[u8], u32); 6] = [
-        (&[1, 0, 0, 2, 0, 1, 0, 3, 0, 0, 0, 2, 0x41, 0x42], 12),
-        (
-            &[
-                1, 0, 0, 0xFF, 0xFF, 1, 0, 0xFF, 0xFF, 1, 0, 0xFF, 0xFF, 0, 0, 1, 0x41,
-            ],
-            65537,
-        ),
-        (
-            &[
-                1, 0, 0, 0, 0, 1, 0, 0xFF, 0xFF, 1, 0, 0xFF, 0xFF, 0, 0, 1, 0x41,
-            ],
-            0,
-        ),
-        // An empty block that is repeated greatly, behind one byte.
-        (
-            &[
-                1, 0, 0, 1, 0, 2, 0, 1, 0, 0, 0, 1, 0x41, 0xFF, 0xFF, 1, 0, 0xFF, 0xFF, 1, 0, 0xFF,
-                0xFF, 0, 0, 0,
-            ],
-            1,
-        ),
-        (&[1, 0, 0, 0, 1, 1, 0, 0, 1, 0, 0, 1, 0x41], 65536),
-        (&[1, 0, 0], 0),
-    ];
-    for (body, len) in rows {
-        assert_eq!(rt; expanded_len(&blocks_of(rt.alloc(), body)), len, "{body:?}");
-    }
+    let rows = "\
+A20100000200010003000000024142 => 12
+A2010000FFFF0100FFFF0100FFFF00000141 => 65537
+A201000000000100FFFF0100FFFF00000141 => 0
+A201000001000200010000000141FFFF0100FFFF0100FFFF000000 => 1
+A201000000010100000100000141 => 65536
+A2010000 => 0
+A2010000020005000100000001410100000001420300010001000000024344010000000145010000000146 => 20";
+    hold(&rt, rt.alloc(), Ask::Length, rows);
 }
 
 #[test]
 fn expansions(rt: HostRuntime) {
-    let rows: [(&[u8], &[u8], &[u16]); 4] = [
-        (
-            &[1, 0, 0, 2, 0, 1, 0, 3, 0, 0, 0, 2, 0x41, 0x42],
-            &[
-                0x41, 0x42, 0x41, 0x42, 0x41, 0x42, 0x41, 0x42, 0x41, 0x42, 0x41, 0x42,
-            ],
-            &[9, 10, 9, 10, 9, 10, 9, 10, 9, 10, 9, 10],
-        ),
-        (
-            &[1, 0, 0, 3, 0, 0, 0, 2, 0, 0],
-            &[0, 0, 0, 0, 0, 0],
-            &[5, 6, 5, 6, 5, 6],
-        ),
-        (
-            &[
-                1, 0, 0, 1, 0, 2, 0, 1, 0, 0, 0, 1, 0x41, 0xFF, 0xFF, 1, 0, 0xFF, 0xFF, 1, 0, 0xFF,
-                0xFF, 0, 0, 0,
-            ],
-            &[0x41],
-            &[9],
-        ),
-        (
-            &[
-                1, 0, 0, 1, 0, 0, 0, 1, 0x41, 2, 0, 2, 0, 1, 0, 0, 0, 1, 0x42, 1, 0, 0, 0, 1, 0x43,
-            ],
-            &[0x41, 0x42, 0x43, 0x42, 0x43],
-            &[5, 15, 21, 15, 21],
-        ),
-    ];
-    for (body, wanted, places) in rows {
-        let blocks = blocks_of(rt.alloc(), body);
-        let len = expanded_len(&blocks) as usize;
-        let mut bytes = [0u8; 16];
-        let mut stored = [0u16; 16];
-        assert!(rt; len <= 16);
-        expand_into(&blocks, &mut bytes[..len], &mut stored[..len]);
-        assert_eq!(rt; &bytes[..len], wanted, "{body:?}");
-        assert_eq!(rt; &stored[..len], places, "{body:?}");
-    }
+    let rows = "\
+A20100000200010003000000024142 => [65, 66, 65, 66, 65, 66, 65, 66, 65, 66, 65, 66] at \
+[9, 10, 9, 10, 9, 10, 9, 10, 9, 10, 9, 10]
+A201000003000000020000 => [0, 0, 0, 0, 0, 0] at [5, 6, 5, 6, 5, 6]
+A201000001000200010000000141FFFF0100FFFF0100FFFF000000 => [65] at [9]
+A201000001000000014102000200010000000142010000000143 => [65, 66, 67, 66, 67] at [5, 15, 21, 15, 21]";
+    hold(&rt, rt.alloc(), Ask::Expansion, rows);
+}
+
+/// Whether so many bytes from this place on lie in one content of the blocks.
+fn lie_inside<R: Abort>(rt: &R, blocks: &[Block<'_>], at: u16, width: u16, inside: bool) {
+    assert_eq!(rt; place_in_content(blocks, at, width), inside, "{at} {width}");
 }
 
 #[test]
@@ -108,22 +79,14 @@ fn places_in_contents(rt: HostRuntime) {
         1, 0, 0, 1, 0, 0, 0, 1, 0x41, 2, 0, 2, 0, 1, 0, 0, 0, 2, 0x42, 0x44, 1, 0, 0, 0, 1, 0x43,
     ];
     let blocks = blocks_of(rt.alloc(), &body);
-    for (at, width, inside) in [
-        (5, 1, true),
-        (5, 2, false),
-        (4, 1, false),
-        (15, 2, true),
-        (14, 2, false),
-        (16, 1, true),
-        (16, 2, false),
-        (22, 1, true),
-        (23, 1, false),
-        (6000, 1, false),
-    ] {
-        assert_eq!(rt;
-            place_in_content(&blocks, at, width),
-            inside,
-            "{at} {width}"
-        );
-    }
+    lie_inside(&rt, &blocks, 5, 1, true);
+    lie_inside(&rt, &blocks, 5, 2, false);
+    lie_inside(&rt, &blocks, 4, 1, false);
+    lie_inside(&rt, &blocks, 15, 2, true);
+    lie_inside(&rt, &blocks, 14, 2, false);
+    lie_inside(&rt, &blocks, 16, 1, true);
+    lie_inside(&rt, &blocks, 16, 2, false);
+    lie_inside(&rt, &blocks, 22, 1, true);
+    lie_inside(&rt, &blocks, 23, 1, false);
+    lie_inside(&rt, &blocks, 6000, 1, false);
 }
