@@ -1,73 +1,32 @@
 //! The rows of modules that are read whole, and where reading them ends.
 
-use omf_frame::{MemSource, closing};
-use omf_module::{FaultKind, ModuleFault, read_module};
-use std::alloc::{AllocError, Allocator};
+use omf_frame::MemSource;
+use omf_module::{FaultKind, Module, ModuleFault, read_module};
+use rows::{bytes_of, module_of};
+use std::alloc::{AllocError, Global};
+use std::process::Abort;
 use std::test::*;
 
-const THEADR: u8 = 0x80;
-
-const COMENT: u8 = 0x88;
-
-const MODEND: u8 = 0x8A;
-
-const EXTDEF: u8 = 0x8C;
-
-const PUBDEF: u8 = 0x90;
-
-const LINNUM: u8 = 0x94;
-
-const LNAMES: u8 = 0x96;
-
-const SEGDEF: u8 = 0x98;
-
-const GRPDEF: u8 = 0x9A;
-
-const FIXUPP: u8 = 0x9C;
-
-const LEDATA: u8 = 0xA0;
-
-const LIDATA: u8 = 0xA2;
-
-fn put<A: Allocator + Copy>(out: &mut Vec<u8, A>, kind: u8, body: &[u8]) -> Result<(), AllocError> {
-    if body.len() <= 65534 {
-        let len = (body.len() as u16 + 1).to_le_bytes();
-        out.push(kind)?;
-        out.extend_from_slice(&len)?;
-        out.extend_from_slice(body)?;
-        out.push(closing(kind, body))?;
-    }
-    Ok(())
-}
-
-/// A header, the names "" and "CODE", and a segment "CODE" of this length; the given records; MODEND.
-fn module_bytes<A: Allocator + Copy>(
-    alloc: A,
-    len: u16,
-    records: &[(u8, &[u8])],
-) -> Result<Vec<u8, A>, AllocError> {
-    let [low, high] = len.to_le_bytes();
-    let mut out = Vec::new(alloc);
-    put(&mut out, THEADR, &[1, 0x41])?;
-    put(&mut out, LNAMES, &[0, 4, 0x43, 0x4F, 0x44, 0x45])?;
-    put(&mut out, SEGDEF, &[0x28, low, high, 2, 1, 1])?;
-    for (kind, body) in records {
-        put(&mut out, *kind, body)?;
-    }
-    put(&mut out, MODEND, &[0])?;
-    Ok(out)
-}
-
-/// The number under which a fault is reported, 0 for none and 255 for want of memory, and the place.
-fn outcome<A: Allocator + Copy>(alloc: A, bytes: &[u8], piece: usize) -> (u8, u64) {
-    let mut source = MemSource::over(bytes, piece.max(1), None);
+/// How far the input is read, or the number under which its fault is reported and the place, in pieces of so many bytes
+/// and with a failing call, if any.
+fn outcome(
+    alloc: Global,
+    bytes: &[u8],
+    piece: usize,
+    fail_at: Option<u64>,
+) -> Result<String, AllocError> {
+    let mut source = MemSource::over(bytes, piece.max(1), fail_at);
     match read_module(alloc, &mut source) {
-        Ok(_) => (
-            0,
-            (bytes.len() - source.rest().len().min(bytes.len())) as u64,
-        ),
-        Err(ModuleFault::Memory) => (255, 0),
-        Err(ModuleFault::Record { place, kind }) => (number(kind), place),
+        Ok(_) => {
+            format!(in alloc;
+                "read to {}",
+                bytes.len().saturating_sub(source.rest().len())
+            )
+        }
+        Err(ModuleFault::Memory) => format!(in alloc; "memory"),
+        Err(ModuleFault::Record { place, kind }) => {
+            format!(in alloc; "{} at {place}", number(kind))
+        }
     }
 }
 
@@ -85,213 +44,301 @@ fn number(kind: FaultKind) -> u8 {
     }
 }
 
-/// Whether the input has this outcome, in pieces of 1, 2 and 3 bytes and whole.
-fn has_outcome<A: Allocator + Copy>(alloc: A, bytes: &[u8], wanted: (u8, u64)) -> bool {
-    for piece in [1, 2, 3, 65536] {
-        if outcome(alloc, bytes, piece) != wanted {
-            return false;
-        }
-    }
-    true
+fn is_told<R: Abort>(rt: &R, told: &str, wanted: &str) {
+    assert_eq!(rt; told, wanted);
 }
 
-const ABSOLUTE: (u8, &[u8]) = (SEGDEF, &[0x00, 0x00, 0xB8, 0x00, 0x00, 0x40, 1, 1, 1]);
+/// The input has this outcome, in pieces of 1, 2 and 3 bytes and whole.
+fn has_outcome<R: Abort>(rt: &R, alloc: Global, bytes: &[u8], wanted: &str) {
+    for piece in [1, 2, 3, 65536] {
+        let told = outcome(alloc, bytes, piece, None).expect(rt, "text");
+        is_told(rt, &told, wanted);
+    }
+}
 
-const TWO_BYTES: (u8, &[u8]) = (LEDATA, &[1, 0, 0, 0, 0]);
-
-#[test]
-fn checks(rt: HostRuntime) -> Result<(), Fail> {
-    let cases: [(u16, &[(u8, &[u8])], (u8, u64)); 20] = [
-        (1, &[(THEADR, &[1, 0x42])], (0, 37)),
-        (1, &[(SEGDEF, &[0x28, 1, 0, 3, 1, 1])], (10, 26)),
-        (2, &[(GRPDEF, &[3, 0xFF, 1])], (10, 26)),
-        (2, &[(GRPDEF, &[2, 0xFF, 2])], (11, 26)),
-        (2, &[(PUBDEF, &[1, 1, 1, 0x78, 0, 0, 0])], (12, 26)),
-        (2, &[TWO_BYTES, (FIXUPP, &[0xC4, 0, 0x56, 1])], (13, 35)),
-        (2, &[TWO_BYTES, (FIXUPP, &[0xC4, 0, 0x8C])], (14, 35)),
-        (1, &[(FIXUPP, &[0xC4, 0, 0x04, 1, 1])], (15, 26)),
-        (2, &[TWO_BYTES, (FIXUPP, &[0xC4, 1, 0x04, 1, 1])], (16, 35)),
-        (2, &[(LEDATA, &[1, 1, 0, 0, 0])], (17, 26)),
-        (2, &[ABSOLUTE, (LEDATA, &[2, 0, 0, 0])], (18, 39)),
-        (2, &[TWO_BYTES, (FIXUPP, &[0x88, 0, 0x04, 1, 1])], (19, 35)),
-        (2, &[ABSOLUTE, (GRPDEF, &[2, 0xFF, 2])], (21, 39)),
-        (2, &[(FIXUPP, &[0x00, 9]), TWO_BYTES], (0, 46)),
-        // of one item the smallest number, and of two items the first
-        (2, &[TWO_BYTES, (FIXUPP, &[0x88, 0, 0x8C])], (14, 35)),
-        (
-            2,
-            &[
-                TWO_BYTES,
-                (FIXUPP, &[0x88, 0, 0x04, 1, 1, 0xC4, 0, 0x04, 2, 1]),
-            ],
-            (19, 35),
-        ),
-        // a thread holds over records, and its index is checked where it is used
-        (
-            2,
-            &[
-                TWO_BYTES,
-                (FIXUPP, &[0x40, 1, 0x00, 1]),
-                (FIXUPP, &[0xC4, 0, 0x8C]),
-            ],
-            (0, 55),
-        ),
-        (
-            2,
-            &[TWO_BYTES, (FIXUPP, &[0x00, 9, 0xC4, 0, 0x5C])],
-            (11, 35),
-        ),
-        // comments, lines and publics that are absolute
-        (
-            2,
-            &[
-                (COMENT, &[0, 0, 1]),
-                (LINNUM, &[0, 9, 1, 0, 0, 0]),
-                (PUBDEF, &[0, 0, 0, 0, 1, 0x78, 0, 0, 0]),
-            ],
-            (0, 61),
-        ),
-        (
-            2,
-            &[(EXTDEF, &[1, 0x78, 0]), (FIXUPP, &[0xC4, 0, 0x56, 1])],
-            (15, 33),
-        ),
-    ];
-    for (len, records, wanted) in cases {
-        let bytes = module_bytes(rt.alloc(), len, records)?;
-        assert!(rt; has_outcome(rt.alloc(), &bytes, wanted), "{len} {wanted:?}");
+/// Each row of a table is an input and its outcome.
+fn hold<R: Abort>(rt: &R, alloc: Global, table: &str) -> Result<(), Fail> {
+    for row in table.split("\n\n") {
+        let (input, wanted) = row.split_once("\n= ").unwrap_or((row, "no outcome"));
+        let bytes = module_of(alloc, input)?;
+        has_outcome(rt, alloc, &bytes, wanted);
     }
     Ok(())
 }
 
 #[test]
-fn framing(rt: HostRuntime) {
-    let alloc = rt.alloc();
-    assert!(rt; has_outcome(alloc, &[], (8, 0)));
-    assert!(rt; has_outcome(alloc, &[0x80, 3], (3, 0)));
-    assert!(rt; has_outcome(alloc, &[0x80, 3, 0, 1, 0x41, 0x3B], (8, 6)));
-    assert!(rt; has_outcome(alloc, &[0x80, 3, 0, 1, 0x41, 0x3C], (4, 0)));
-    assert!(rt; has_outcome(alloc, &[0x80, 0, 0], (2, 0)));
-    assert!(rt; has_outcome(alloc, &[0x70, 2, 0, 0, 0x8E], (5, 0)));
-    assert!(rt; has_outcome(alloc, &[0x96, 2, 0, 0, 0], (7, 0)));
-    assert!(rt;
-        has_outcome(
-            alloc,
-            &[0x80, 3, 0, 1, 0x41, 0, 0x8A, 2, 0, 0, 0x74, 0xFF],
-            (0, 11)
-        )
-    );
+fn checks(rt: HostRuntime) -> Result<(), Fail> {
+    let rows = "\
+80 01 41
+96 00 04 43 4F 44 45
+98 28 01 00 02 01 01
+80 01 42
+= read to 37
+
+98 28 01 00 02 01 01
+98 28 01 00 03 01 01
+= 10 at 26
+
+98 28 02 00 02 01 01
+9A 03 FF 01
+= 10 at 26
+
+98 28 02 00 02 01 01
+9A 02 FF 02
+= 11 at 26
+
+98 28 02 00 02 01 01
+90 01 01 01 78 00 00 00
+= 12 at 26
+
+98 28 02 00 02 01 01
+A0 01 00 00 00 00
+9C C4 00 56 01
+= 13 at 35
+
+98 28 02 00 02 01 01
+A0 01 00 00 00 00
+9C C4 00 8C
+= 14 at 35
+
+98 28 01 00 02 01 01
+9C C4 00 04 01 01
+= 15 at 26
+
+98 28 02 00 02 01 01
+A0 01 00 00 00 00
+9C C4 01 04 01 01
+= 16 at 35
+
+98 28 02 00 02 01 01
+A0 01 01 00 00 00
+= 17 at 26
+
+98 28 02 00 02 01 01
+98 00 00 B8 00 00 40 01 01 01
+A0 02 00 00 00
+= 18 at 39
+
+98 28 02 00 02 01 01
+A0 01 00 00 00 00
+9C 88 00 04 01 01
+= 19 at 35
+
+98 28 02 00 02 01 01
+98 00 00 B8 00 00 40 01 01 01
+9A 02 FF 02
+= 21 at 39
+
+98 28 02 00 02 01 01
+9C 00 09
+A0 01 00 00 00 00
+= read to 46
+
+# of one item the smallest number, and of two items the first
+98 28 02 00 02 01 01
+A0 01 00 00 00 00
+9C 88 00 8C
+= 14 at 35
+
+98 28 02 00 02 01 01
+A0 01 00 00 00 00
+9C 88 00 04 01 01 C4 00 04 02 01
+= 19 at 35
+
+# a thread holds over records, and its index is checked where it is used
+98 28 02 00 02 01 01
+A0 01 00 00 00 00
+9C 40 01 00 01
+9C C4 00 8C
+= read to 55
+
+98 28 02 00 02 01 01
+A0 01 00 00 00 00
+9C 00 09 C4 00 5C
+= 11 at 35
+
+# comments, lines and publics that are absolute
+98 28 02 00 02 01 01
+88 00 00 01
+94 00 09 01 00 00 00
+90 00 00 00 00 01 78 00 00 00
+= read to 61
+
+98 28 02 00 02 01 01
+8C 01 78 00
+9C C4 00 56 01
+= 15 at 33";
+    hold(&rt, rt.alloc(), rows)
 }
 
 #[test]
-fn first_program(rt: HostRuntime) {
-    let bytes = [
-        0x80, 0x03, 0x00, 0x01, 0x41, 0x3B, 0x96, 0x07, 0x00, 0x00, 0x04, 0x43, 0x4F, 0x44, 0x45,
-        0x44, 0x98, 0x07, 0x00, 0x28, 0x05, 0x00, 0x02, 0x01, 0x01, 0x30, 0xA0, 0x09, 0x00, 0x01,
-        0x00, 0x00, 0xB8, 0x00, 0x00, 0x8E, 0xD8, 0x38, 0x9C, 0x06, 0x00, 0xC8, 0x01, 0x04, 0x01,
-        0x01, 0x8F, 0x8A, 0x07, 0x00, 0xC1, 0x00, 0x01, 0x01, 0x00, 0x00, 0xAC,
-    ];
-    assert!(rt; has_outcome(rt.alloc(), &bytes, (0, 57)));
-    let mut source = MemSource::over(&bytes, 1, Some(30));
-    assert_eq!(rt;
-        read_module(rt.alloc(), &mut source).err(),
-        Some(ModuleFault::Record {
-            place: 26,
-            kind: FaultKind::Device,
-        })
+fn framing(rt: HostRuntime) -> Result<(), Fail> {
+    let rows = "\
+raw
+= 8 at 0
+
+raw 80 03
+= 3 at 0
+
+raw 80 03 00 01 41 3B
+= 8 at 6
+
+raw 80 03 00 01 41 3C
+= 4 at 0
+
+raw 80 00 00
+= 2 at 0
+
+raw 70 02 00 00 8E
+= 5 at 0
+
+raw 96 02 00 00 00
+= 7 at 0
+
+raw 80 03 00 01 41 00 8A 02 00 00 74 FF
+= read to 11";
+    hold(&rt, rt.alloc(), rows)
+}
+
+/// The only segment of a module, its only data record and its start.
+fn only_items(alloc: Global, bytes: &[u8]) -> Result<String, Fail> {
+    let module = read_module(alloc, &mut MemSource::over(bytes, 5, None))?;
+    if module.segment_count() != 1 || module.data_record_count() != 1 {
+        return Ok(String::new(alloc));
+    }
+    let (segment, data_record) = (module.segment(0), module.data_record(0));
+    Ok(format!(in alloc; "{segment:?}\n{data_record:?}\n{:?}", module.start())?)
+}
+
+#[test]
+fn first_program(rt: HostRuntime) -> Result<(), Fail> {
+    let bytes = bytes_of(
+        rt.alloc(),
+        "\
+80 03 00 01 41 3B 96 07 00 00 04 43 4F 44 45 44 98 07 00 28 05 00 02 01 01 30 A0 09 00 01 00 00 B8 00 00 8E D8 38 \
+9C 06 00 C8 01 04 01 01 8F 8A 07 00 C1 00 01 01 00 00 AC",
+    )?;
+    has_outcome(&rt, rt.alloc(), &bytes, "read to 57");
+    is_told(&rt, &outcome(rt.alloc(), &bytes, 1, Some(30))?, "1 at 26");
+    is_told(
+        &rt,
+        &only_items(rt.alloc(), &bytes)?,
+        "\
+Segment { name: [67, 79, 68, 69], class: [], length: 5, standing: Relocatable { alignment: 1, kind: Public } }
+DataRecord { place: 26, segment: 0, offset: 0, bytes: [184, 0, 0, 142, 216], places: [0, 1, 2, 3, 4], fixups: \
+[ResolvedFixup { place: 38, self_relative: false, location: Base, offset: 1, frame: OfSegment(0), \
+target: Segment(0), displacement: 0 }] }
+Some(Start { place: 47, frame: OfSegment(0), target: Segment(0), displacement: 0 })",
     );
-    let mut source = MemSource::over(&bytes, 5, None);
-    let module = read_module(rt.alloc(), &mut source).expect(&rt, "a module");
-    assert_eq!(rt; module.segment_count(), 1);
-    assert_eq!(rt; module.segment(0).name, b"CODE".as_slice());
-    assert_eq!(rt; module.segment(0).class, b"".as_slice());
-    assert_eq!(rt; module.data_record_count(), 1);
-    assert_eq!(rt;
-        module.data_record(0).bytes,
-        [0xB8, 0, 0, 0x8E, 0xD8].as_slice()
-    );
-    assert_eq!(rt; module.data_record(0).places, [0, 1, 2, 3, 4].as_slice());
-    assert_eq!(rt; module.data_record(0).fixups.len(), 1);
-    assert!(rt; module.start().is_some());
+    Ok(())
 }
 
 #[test]
 fn repeated(rt: HostRuntime) -> Result<(), Fail> {
-    let alloc = rt.alloc();
-    let outside: &[u8] = &[
-        1, 0, 0, 0xFF, 0xFF, 1, 0, 0xFF, 0xFF, 1, 0, 0xFF, 0xFF, 0, 0, 1, 0x41,
-    ];
-    let bytes = module_bytes(alloc, 12, &[(LIDATA, outside)])?;
-    assert!(rt; has_outcome(alloc, &bytes, (17, 26)));
-    let threes: &[u8] = &[1, 0, 0, 3, 0, 0, 0, 2, 0, 0];
-    let bytes = module_bytes(alloc, 6, &[(LIDATA, threes), (FIXUPP, &[0xC8, 4, 4, 1, 1])])?;
-    assert!(rt; has_outcome(alloc, &bytes, (16, 40)));
-    let bytes = module_bytes(alloc, 6, &[(LIDATA, threes), (FIXUPP, &[0xC8, 5, 4, 1, 1])])?;
-    assert!(rt; has_outcome(alloc, &bytes, (0, 54)));
-    // a great repeat count of an empty content takes no turn for each copy
-    let empty: &[u8] = &[
-        1, 0, 0, 1, 0, 2, 0, 1, 0, 0, 0, 1, 0x41, 0xFF, 0xFF, 1, 0, 0xFF, 0xFF, 1, 0, 0xFF, 0xFF,
-        0, 0, 0,
-    ];
-    let bytes = module_bytes(alloc, 1, &[(LIDATA, empty)])?;
-    assert!(rt; has_outcome(alloc, &bytes, (0, 61)));
-    let mut source = MemSource::over(&bytes, 3, None);
-    let module = read_module(alloc, &mut source)?;
-    assert_eq!(rt; module.data_record_count(), 1);
-    assert_eq!(rt; module.data_record(0).bytes, [0x41].as_slice());
-    let mut deep = Vec::new(alloc);
-    deep.extend_from_slice(&[1, 0, 0])?;
-    for _ in 0..15 {
-        deep.extend_from_slice(&[0xFF, 0xFF, 1, 0])?;
-    }
-    deep.extend_from_slice(&[0xFF, 0xFF, 0, 0, 1, 0x41])?;
-    let bytes = module_bytes(alloc, 12, &[(LIDATA, &deep)])?;
-    assert!(rt; has_outcome(alloc, &bytes, (17, 26)));
+    let rows = "\
+98 28 0C 00 02 01 01
+A2 01 00 00 FF FF 01 00 FF FF 01 00 FF FF 00 00 01 41
+= 17 at 26
+
+98 28 06 00 02 01 01
+A2 01 00 00 03 00 00 00 02 00 00
+9C C8 04 04 01 01
+= 16 at 40
+
+98 28 06 00 02 01 01
+A2 01 00 00 03 00 00 00 02 00 00
+9C C8 05 04 01 01
+= read to 54
+
+# sixteen levels of the greatest repeat counts
+98 28 0C 00 02 01 01
+A2 01 00 00 FF FF 01 00 FF FF 01 00 FF FF 01 00 FF FF 01 00 FF FF 01 00 FF FF 01 00 FF FF 01 00 FF FF 01 00 FF FF 01 00 FF FF 01 00 FF FF 01 00 FF FF 01 00 FF FF 01 00 FF FF 01 00 FF FF 01 00 FF FF 00 00 01 41
+= 17 at 26
+
+# a great repeat count of an empty content takes no turn for each copy
+98 28 01 00 02 01 01
+A2 01 00 00 01 00 02 00 01 00 00 00 01 41 FF FF 01 00 FF FF 01 00 FF FF 00 00 00
+= read to 61";
+    hold(&rt, rt.alloc(), rows)?;
+    let great = module_of(
+        rt.alloc(),
+        "\
+98 28 01 00 02 01 01
+A2 01 00 00 01 00 02 00 01 00 00 00 01 41 FF FF 01 00 FF FF 01 00 FF FF 00 00 00",
+    )?;
+    is_told(
+        &rt,
+        &only_items(rt.alloc(), &great)?,
+        "\
+Segment { name: [67, 79, 68, 69], class: [], length: 1, standing: Relocatable { alignment: 1, kind: Public } }
+DataRecord { place: 26, segment: 0, offset: 0, bytes: [65], places: [9], fixups: [] }
+None",
+    );
     Ok(())
 }
 
 #[test]
 fn start_at_its_location(rt: HostRuntime) -> Result<(), Fail> {
-    let mut bytes = Vec::new(rt.alloc());
-    put(&mut bytes, THEADR, &[1, 0x41])?;
-    put(&mut bytes, LNAMES, &[0])?;
-    put(&mut bytes, SEGDEF, &[0x28, 5, 0, 1, 1, 1])?;
-    put(&mut bytes, MODEND, &[0xC1, 0x44, 1])?;
-    assert!(rt; has_outcome(rt.alloc(), &bytes, (20, 21)));
-    Ok(())
+    let rows = "\
+80 01 41
+96 00
+98 28 05 00 01 01 01
+8A C1 44 01
+= 20 at 21";
+    hold(&rt, rt.alloc(), rows)
 }
 
-/// Each list of a module by its iterator, in a word that tells its items apart.
-#[test]
-fn lists_are_handed_out_in_order(rt: HostRuntime) -> Result<(), Fail> {
-    let records: [(u8, &[u8]); 7] = [
-        (SEGDEF, &[0x28, 7, 0, 1, 1, 1]),
-        (GRPDEF, &[2, 0xFF, 1]),
-        (GRPDEF, &[1, 0xFF, 2, 0xFF, 1]),
-        (EXTDEF, &[1, 0x78, 0, 2, 0x79, 0x7A, 0]),
-        (PUBDEF, &[0, 1, 1, 0x61, 1, 0, 0, 1, 0x62, 2, 0, 0]),
-        (LEDATA, &[2, 3, 0, 5]),
-        (LEDATA, &[1, 0, 0, 6]),
-    ];
-    let bytes = module_bytes(rt.alloc(), 2, &records)?;
-    let mut source = MemSource::over(&bytes, 9, None);
-    let module = read_module(rt.alloc(), &mut source)?;
-    let mut seen = Vec::new(rt.alloc());
+/// Each list of a module by its iterator.
+fn lists(alloc: Global, module: &Module) -> Result<String, AllocError> {
+    let mut told = String::new(alloc);
     for segment in module.segments() {
-        seen.push(segment.length as usize)?;
+        write!(told, "{segment:?}\n")?;
     }
     for group in module.groups() {
-        seen.push(group.members.len())?;
+        write!(told, "{group:?}\n")?;
     }
     for external in module.externals() {
-        seen.push(external.name.len())?;
+        write!(told, "{external:?}\n")?;
     }
     for public in module.publics() {
-        seen.push(usize::from(public.offset))?;
+        write!(told, "{public:?}\n")?;
     }
     for data_record in module.data_records() {
-        seen.push(usize::from(data_record.segment))?;
+        write!(told, "{data_record:?}\n")?;
     }
-    assert_eq!(rt; seen.as_slice(), [2, 7, 1, 2, 1, 2, 1, 2, 1, 0].as_slice());
+    Ok(told)
+}
+
+#[test]
+fn lists_are_handed_out_in_order(rt: HostRuntime) -> Result<(), Fail> {
+    let bytes = module_of(
+        rt.alloc(),
+        "\
+98 28 02 00 02 01 01
+98 28 07 00 01 01 01
+9A 02 FF 01
+9A 01 FF 02 FF 01
+8C 01 78 00 02 79 7A 00
+90 00 01 01 61 01 00 00 01 62 02 00 00
+A0 02 03 00 05
+A0 01 00 00 06",
+    )?;
+    let module = read_module(rt.alloc(), &mut MemSource::over(&bytes, 9, None))?;
+    is_told(
+        &rt,
+        &lists(rt.alloc(), &module)?,
+        "\
+Segment { name: [67, 79, 68, 69], class: [], length: 2, standing: Relocatable { alignment: 1, kind: Public } }
+Segment { name: [], class: [], length: 7, standing: Relocatable { alignment: 1, kind: Public } }
+Group { name: [67, 79, 68, 69], members: [0] }
+Group { name: [], members: [1, 0] }
+ExternalSymbol { name: [120], local: false }
+ExternalSymbol { name: [121, 122], local: false }
+PublicSymbol { name: [97], base: InSegment(0, None), offset: 1, local: false }
+PublicSymbol { name: [98], base: InSegment(0, None), offset: 2, local: false }
+DataRecord { place: 79, segment: 1, offset: 3, bytes: [5], places: [0], fixups: [] }
+DataRecord { place: 87, segment: 0, offset: 0, bytes: [6], places: [0], fixups: [] }
+",
+    );
     Ok(())
 }
