@@ -1,7 +1,10 @@
 -- What stands in a store stays where it is, and what is kept at its end is there.
-use Rattle.std.proofs.Common.{◌≡◌, ℕ, ◌-◌, ◌≤◌, Bool, List, [], ◌∷◌, ◌++◌, length, take, drop, map, refl, sym, ap, ◌∙◌, arith, length-append, length-drop, length-take}
-use Rattle.std.specs.List.{AllByRecursion, zip}
-use Rattle.std.proofs.lemmas.List.{append-nil, drop-append-le, take-append-le, drop_at, take_at, take-take, take_all, map_push}
+use Rattle.std.proofs.Common.{◌≡◌, ℕ, ◌-◌, ◌≤◌, ◌<◌, Bool, List, [], ◌∷◌, ◌++◌, length, get_or, take, drop, map, Option, Some, refl, subst, sym, ap, ◌∙◌, arith, length-append, length-drop, length-take}
+use Rattle.std.specs.List.{AllByRecursion, zip, slice_get}
+use Rattle.std.specs.Option.{option_map}
+use Rattle.std.proofs.lemmas.Option.{slice_get-map, slice_get_read}
+use Rattle.std.proofs.lemmas.List.Elements.{All-from_recursion}
+use Rattle.std.proofs.lemmas.List.{append-nil, drop-append-le, take-append-le, drop_at, take_at, take-take, take_all, map_push, length-map, length-take-le}
 use Rattle.omf_record.proofs.Places.{all-append}
 use Rattle.omf_module.specs.declared.pieces.Piece.{Piece}
 use Rattle.omf_module.specs.declared.entries.SegmentEntry.{SegmentEntry}
@@ -10,7 +13,7 @@ use Rattle.omf_module.specs.declared.entries.ExternalEntry.{ExternalEntry}
 use Rattle.omf_module.specs.declared.entries.PublicEntry.{PublicEntry}
 use Rattle.omf_module.specs.declared.entries.DataEntry.{DataEntry}
 use Rattle.omf_module.specs.declared.SymbolBase.{SymbolBase}
-use Rattle.omf_module.specs.Module.{DataRecord}
+use Rattle.omf_module.specs.Module.{Segment, Group, DataRecord}
 use Rattle.omf_module.specs.inside.Store.{Kept, elements, segment, group, external, public_symbol, places_piece, data_record, IsIn, SegmentIsIn, GroupIsIn, ExternalIsIn, PublicIsIn, DataIsIn, Holds, Entries, kept, AreIn}
 
 pub all_push : {X : Type 0} (P : X → Type 0) (xs : List X) (x : X) → AllByRecursion P xs → P x → AllByRecursion P (xs ++ x ∷ [])
@@ -74,6 +77,18 @@ bytes_stay bytes more places e h = rw append-nil at (stays bytes more places [] 
 pub places_stay : {A : Type 0} (bytes places more : List ℕ) (e : Entries A) → AreIn bytes places e → AreIn bytes (places ++ more) e
 places_stay bytes places more e h = (rw append-nil at (stays bytes [] places more e h)).1
 
+-- what stands in a piece
+pub length_elements : {X : Type 0} (xs : List X) (p : Piece) → IsIn xs p → length (elements xs p) ≡ p.len
+length_elements xs p h = length-take-le p.len (drop p.from xs) (omega (arith, length-drop p.from xs))
+
+-- what the entry at an index says, and that it lies in its lists
+pub said_at : {E V : Type 0} (see : E → V) (In : E → Type 0) (es : List E) {vs : List V} (i : ℕ) (e : E) → map see es ≡ vs → AllByRecursion In es → i < length vs → e ≡ get_or es i e → (slice_get vs i ≡ Some (see e)) × In e
+said_at see In es i e is all lt at =
+    let inside : i < length es = omega (arith, ap length is, length-map es see, lt) in (
+      ap (λ xs. slice_get xs i) (sym is) ∙ slice_get-map see es i ∙ ap (option_map see) (slice_get_read es (length es) i e refl inside at),
+      subst In (sym at) (All-from_recursion In es all i e inside),
+    )
+
 -- the piece that was kept last
 abbrev pub last_of : {X : Type 0} → List X → List X → Piece
 last_of xs piece = record { from = length xs; len = length piece }
@@ -114,6 +129,24 @@ module _ {A : Type 0} (bytes places : List ℕ) (e : Entries A) (h : AreIn bytes
   name_in name =
       let s = (bytes_stay bytes name places e h).1 in
       record { names = all_push (IsIn (bytes ++ name)) e.names (last_of bytes name) s.names (last_is_in bytes name); segments = s.segments; groups = s.groups; externals = s.externals; publics = s.publics; data_records = s.data_records }
+
+  abbrev segmented : SegmentEntry → Entries A
+  segmented p = record { names = e.names; segments = e.segments ++ p ∷ []; groups = e.groups; externals = e.externals; publics = e.publics; data_records = e.data_records }
+
+  pub segment_kept : (p : SegmentEntry) {said : Segment} → segment bytes p ≡ said → kept bytes places (segmented p) ≡ record (kept bytes places e) { segments = (kept bytes places e).segments ++ said ∷ [] }
+  segment_kept p says = ap (λ ns. record (kept bytes places e) { segments = ns }) (map_push (segment bytes) e.segments p ∙ ap (λ x. map (segment bytes) e.segments ++ x ∷ []) says)
+
+  pub segment_in : (p : SegmentEntry) → SegmentIsIn bytes p → AreIn bytes places (segmented p)
+  segment_in p i = record { names = h.names; segments = all_push (SegmentIsIn bytes) e.segments p h.segments i; groups = h.groups; externals = h.externals; publics = h.publics; data_records = h.data_records }
+
+  abbrev grouped : GroupEntry A → Entries A
+  grouped p = record { names = e.names; segments = e.segments; groups = e.groups ++ p ∷ []; externals = e.externals; publics = e.publics; data_records = e.data_records }
+
+  pub group_kept : (p : GroupEntry A) {said : Group} → group bytes p ≡ said → kept bytes places (grouped p) ≡ record (kept bytes places e) { groups = (kept bytes places e).groups ++ said ∷ [] }
+  group_kept p says = ap (λ ns. record (kept bytes places e) { groups = ns }) (map_push (group bytes) e.groups p ∙ ap (λ x. map (group bytes) e.groups ++ x ∷ []) says)
+
+  pub group_in : (p : GroupEntry A) → GroupIsIn bytes p → AreIn bytes places (grouped p)
+  group_in p i = record { names = h.names; segments = h.segments; groups = all_push (GroupIsIn bytes) e.groups p h.groups i; externals = h.externals; publics = h.publics; data_records = h.data_records }
 
   abbrev externed : ExternalEntry → Entries A
   externed p = record { names = e.names; segments = e.segments; groups = e.groups; externals = e.externals ++ p ∷ []; publics = e.publics; data_records = e.data_records }

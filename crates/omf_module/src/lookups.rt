@@ -439,10 +439,12 @@ impl<'a, A: Allocator + Copy> Model for DataRecords<'a, A> {
 impl<'a, A: Allocator + Copy> Iterator for DataRecords<'a, A> {
     type Item = DataRecord<'a>;
 
+    ghost use Rattle.std.specs.Prelude.{◌≡◌, IfSome, length};
     ghost use Rattle.std.specs.Iterator.{YieldsFirstBy, item_count};
     ghost use Rattle.omf_module.specs.Seen.{data_seen};
 
-    ghost next_gives = { YieldsFirstBy data_seen (λ s. s) };
+    ghost next_gives = { λ s r t. YieldsFirstBy data_seen (λ s. s) s r t
+        × IfSome r (λ data_record. length data_record.bytes.now ≡ length data_record.places.now) };
 
     ghost remaining = { item_count (λ s. s) };
 

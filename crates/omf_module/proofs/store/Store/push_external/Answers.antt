@@ -1,7 +1,19 @@
 use Rattle.std.proofs.Common.{◌++◌, ◌∷◌, [], ap, ◌∙◌}
 use Rattle.omf_module.specs.inside.Store.{Kept, IsConsistent}
-use Rattle.omf_module.proofs.Stored.{external_kept, external_in}
+use Rattle.omf_module.proofs.Stored.{bytes_stay, external_kept, external_in}
 use Rattle.omf_module.proofs.store.Store.push_external.Goals as goal
+
+pub invariant_of-self : goal.invariant_of-self
+unfolding IsConsistent
+invariant_of-self g c =
+    let b = c.keep.ensures.kept in
+    (rw b.1 (bytes_stay c.self.inside.bytes.items b.0 c.self.inside.places.items _ c.self.invariant.0).1, c.self.invariant.1)
+
+pub invariant_of-self-in_err-push : goal.invariant_of-self-in_err-push
+unfolding IsConsistent
+invariant_of-self-in_err-push g c =
+    let b = c.keep.ensures.kept in
+    (rw (c.in_err-push.ensures.items, b.1) (bytes_stay c.self.inside.bytes.items b.0 c.self.inside.places.items _ c.self.invariant.0).1, c.self.invariant.1)
 
 pub invariant_of-self-2 : goal.invariant_of-self-2
 unfolding IsConsistent
