@@ -4,8 +4,9 @@ use Rattle.std.specs.List.{AllByRecursion, zip, slice_get}
 use Rattle.std.specs.Option.{option_map}
 use Rattle.std.proofs.lemmas.Option.{slice_get-map, slice_get_read}
 use Rattle.std.proofs.lemmas.List.Elements.{All-from_recursion}
-use Rattle.std.proofs.lemmas.List.{append-nil, drop-append-le, take-append-le, drop_at, take_at, take-take, take_all, map_push, length-map, length-take-le}
+use Rattle.std.proofs.lemmas.List.{append-nil, drop_all, drop-append-le, take-append-le, drop_at, take_at, take-take, take_all, map_push, length-map, length-take-le}
 use Rattle.omf_record.proofs.Places.{all-append}
+use borrow.Rule.Slice.PartMut.{put_mid, post_of}
 use Rattle.omf_module.specs.declared.pieces.Piece.{Piece}
 use Rattle.omf_module.specs.declared.entries.SegmentEntry.{SegmentEntry}
 use Rattle.omf_module.specs.declared.entries.GroupEntry.{GroupEntry}
@@ -113,6 +114,16 @@ once_kept places laid now cut from at len is f l k h =
     let count : length now - from ≡ len = omega (arith, ap length is, length-append places laid, f, l) in
     let grown : cut ≡ places ++ k.0 = rw front at k.1 in
     (k.0, grown, rw (count, back, grown) at h)
+
+-- a list, after all that stood behind its front was written anew
+pub written_behind : {X : Type 0} (front more now slice written said : List X) (from n : ℕ) → from ≡ length front → now ≡ front ++ more → slice ≡ now → n ≡ length now → written ≡ said → length said ≡ length more
+    → take n (put_mid from (length slice - from) slice written ++ drop (length (put_mid from (length slice - from) slice written)) now) ≡ front ++ said
+written_behind front more now slice written said from n f is same size fill len =
+    let before : take from slice ≡ front = rw (same, is) (take_at front more from (sym f)) in
+    let none : post_of from (length slice - from) slice ≡ [] = drop_all (length slice - from) (drop from slice) (omega (arith, length-drop from slice)) in
+    let whole : put_mid from (length slice - from) slice written ≡ front ++ said = rw (before, none, fill) (ap (λ ys. front ++ ys) (append-nil said)) in
+    let all : length (front ++ said) ≡ length now = omega (arith, ap length is, length-append front more, length-append front said, len) in
+    rw (whole, drop_all (length (front ++ said)) now (omega (arith, all)), append-nil (front ++ said)) (take_all n (front ++ said) (omega (arith, all, size)))
 
 -- what a store says and where it lies, with one entry more
 module _ {A : Type 0} (bytes places : List ℕ) (e : Entries A) (h : AreIn bytes places e) where

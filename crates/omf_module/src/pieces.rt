@@ -78,6 +78,21 @@ pub fn rising_piece<A: Allocator + Copy>(
     Ok(longer)
 }
 
+/// Makes a list longer by so many elements, and tells where they begin.
+fn lengthen<T: Copy + Default, A: Allocator + Copy>(
+    list: &mut Vec<T, A>,
+    len: usize,
+) -> Result<usize, AllocError>
+    requires { len ≤ 65536 }
+    ensures kept { (more : List T) × (list.new.items ≡ list.old.items ++ more) }
+    ensures ok { IfOk result (λ from. (from ≡ length list.old.items)
+        × (more : List T) × (list.new.items ≡ list.old.items ++ more) × (length more ≡ len)) }
+{
+    let from = list.len();
+    list.resize(from + len, T::default())?;
+    Ok(from)
+}
+
 /// Keeps the expansion of blocks at the end of the two lists.
 pub fn keep_expansion<A: Allocator + Copy>(
     bytes: &mut Vec<u8, A>,
@@ -94,10 +109,8 @@ pub fn keep_expansion<A: Allocator + Copy>(
         ((bytes.new.items ≡ bytes.old.items ++ data_of.bytes (expansion (map block_view blocks.now)))
         × (places.new.items ≡ places.old.items ++ data_of.places (expansion (map block_view blocks.now)))) }
 {
-    let from = bytes.len();
-    let places_from = places.len();
-    bytes.resize(from + len, 0)?;
-    places.resize(places_from + len, 0)?;
+    let from = lengthen(bytes, len)?;
+    let places_from = lengthen(places, len)?;
     let bytes = bytes.as_mut_slice();
     let places = places.as_mut_slice();
     expand_into(blocks, &mut bytes[from..], &mut places[places_from..]);
