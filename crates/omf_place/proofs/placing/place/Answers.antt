@@ -1,17 +1,53 @@
-use Rattle.std.proofs.Common.{◌≡◌, Some, None, IfSome, ap, rules, subst, ◌∙◌}
+use Rattle.std.proofs.Common.{◌≡◌, Some, None, IfSome, ap, map, rules, subst, sym, ◌∙◌}
+use Rattle.std.specs.List.{AllByRecursion}
 use Rattle.std.specs.Option.{option_or}
+use Rattle.omf_module.specs.Sound.{SegmentFits}
 use Rattle.omf_place.specs.Bounded.{IsBounded}
 use Rattle.omf_place.specs.Faults.{IsFirstFault, IsOnlyLayout, PlacementFault, later_fault, segment_fault, size_fault}
 use Rattle.omf_place.specs.Layout.{layout_at}
 use Rattle.omf_place.specs.Placed.{IsOnlyPlacement, IsPlaced}
-use Rattle.omf_place.specs.Parts.{sites}
+use Rattle.omf_place.specs.Parts.{placement_order, rank, sites}
 use Rattle.omf_place.specs.Said.{said}
+use Rattle.omf_place.specs.inside.Numbered.{IsNumberedFrom}
 use Rattle.omf_place.specs.inside.Sites.{sites_view}
-use Rattle.omf_place.specs.inside.Spans.{addresses_in}
+use Rattle.omf_place.specs.inside.Spans.{AreSpans, addresses_in}
 use Rattle.omf_place.proofs.Bounding.{bounded}
 use Rattle.omf_place.proofs.Ended.{early-fault, late-fault, only-layout}
 use Rattle.omf_place.proofs.Results.{IfErr-map, IfOk-both, IfOk-map, IfSome-map}
 use Rattle.omf_place.proofs.placing.place.Goals as goal
+
+pub start_parts-requires-clause-numbered : goal.start_parts-requires-clause-numbered
+start_parts-requires-clause-numbered g c = subst (λ ss. IsNumberedFrom 0 (sites_view ss)) (sym c.deref.ensures.value) c.in_ok-sites.ensures.numbered
+
+pub start_parts-requires-clause-sound : goal.start_parts-requires-clause-sound
+start_parts-requires-clause-sound g c = subst (λ ss. AllByRecursion (λ a. SegmentFits a.segment) (sites_view ss)) (sym c.deref.ensures.value) c.in_ok-sites.ensures.sound
+
+pub check_segments-requires-clause-numbered : goal.check_segments-requires-clause-numbered
+check_segments-requires-clause-numbered g c = subst (λ ss. IsNumberedFrom 0 (sites_view ss)) (sym c.deref-2.ensures.value) c.in_ok-sites.ensures.numbered
+
+pub check_segments-requires-clause-order : goal.check_segments-requires-clause-order
+check_segments-requires-clause-order g c = subst (λ ss. c.in_ok-started.started.ranks.items ≡ map (rank (sites_view ss)) (placement_order (sites_view ss))) (c.deref.ensures.value ∙ sym c.deref-2.ensures.value) c.in_ok-started.ensures.order
+
+pub check_segments-requires-clause-spans : goal.check_segments-requires-clause-spans
+check_segments-requires-clause-spans g c = subst (λ ss. AreSpans (sites_view ss) c.in_ok-started.started.spans.items) (c.deref.ensures.value ∙ sym c.deref-2.ensures.value) c.in_ok-started.ensures.spans
+
+pub place_started-requires-clause-numbered : goal.place_started-requires-clause-numbered
+place_started-requires-clause-numbered g c = subst (λ ss. IsNumberedFrom 0 (sites_view ss)) (sym c.deref-3.ensures.value) c.in_ok-sites.ensures.numbered
+
+pub place_started-requires-clause-sound : goal.place_started-requires-clause-sound
+place_started-requires-clause-sound g c = subst (λ ss. AllByRecursion (λ a. SegmentFits a.segment) (sites_view ss)) (sym c.deref-3.ensures.value) c.in_ok-sites.ensures.sound
+
+pub place_started-requires-clause-order : goal.place_started-requires-clause-order
+place_started-requires-clause-order g c = subst (λ ss. c.in_ok-started.started.ranks.items ≡ map (rank (sites_view ss)) (placement_order (sites_view ss))) (c.deref.ensures.value ∙ sym c.deref-3.ensures.value) c.in_ok-started.ensures.order
+
+pub place_started-requires-clause-spans : goal.place_started-requires-clause-spans
+place_started-requires-clause-spans g c = subst (λ ss. AreSpans (sites_view ss) c.in_ok-started.started.spans.items) (c.deref.ensures.value ∙ sym c.deref-3.ensures.value) c.in_ok-started.ensures.spans
+
+pub place_started-requires-clause-made : goal.place_started-requires-clause-made
+place_started-requires-clause-made g c = ap sites_view c.deref-3.ensures.value ∙ c.in_ok-sites.ensures.made
+
+pub place_started-requires-clause-placed : goal.place_started-requires-clause-placed
+place_started-requires-clause-placed g c = subst (λ ss. IsPlaced (sites_view ss) (addresses_in c.in_ok-started.started.spans.items) c.in_ok-started.started.size) (c.deref.ensures.value ∙ sym c.deref-3.ensures.value) c.in_ok-started.ensures.placed
 
 pub returns-in_err-check_segments-clause-fault : goal.returns-in_err-check_segments-clause-fault
 returns-in_err-check_segments-clause-fault g c =
