@@ -33,3 +33,4 @@ pub mod LinkProgram
 pub mod Ended
 pub mod Bounding
 pub mod Worked
+pub mod Turns

@@ -1,6 +1,5 @@
-use Rattle.std.proofs.Common.{◌∙◌, ap, map, sym, subst, take, ◌+◌}
+use Rattle.std.proofs.Common.{◌∙◌, ap, map, sym, take, ◌+◌}
 use Rattle.std.proofs.lemmas.List.{map-append}
-use Rattle.std.specs.List.{AllByRecursion}
 use Rattle.omf_place.specs.Layout.{module_places}
 use Rattle.omf_place.specs.Parts.{sites}
 use Rattle.omf_place.specs.Rows.{row_view}
@@ -8,10 +7,16 @@ use Rattle.omf_place.specs.inside.Program.{IsPlacedInput, addresses_of, input_vi
 use Rattle.omf_place.specs.inside.Rows.{placed_row}
 use Rattle.omf_place.specs.inside.Sites.{sites_view}
 use Rattle.omf_place.proofs.FirstMet.{map-turn}
-use Rattle.omf_place.proofs.GreatestAt.{All-at}
 use Rattle.omf_place.proofs.KeyPlaces.{map_two}
 use Rattle.omf_place.proofs.LinkRows.{row_same}
+use Rattle.omf_place.proofs.Turns.{at_turn}
 use Rattle.omf_place.proofs.rows.module_rows.Goals as goal
+
+pub segments_of-requires : goal.segments_of-requires
+segments_of-requires g c =
+    let p = c.args.groups.now.program.now in
+    (at_turn (IsPlacedInput (sites p.modules.now) (addresses_of p.stands.now)) p.inputs.items c.deref-input-items.result.now c.loop-input.input-index c.input-item.result
+    c.deref-input-items.ensures.value c.requires.each c.loop-input-test.true c.input-item.is).stands
 
 pub loop-input-preserved : goal.loop-input-preserved
 loop-input-preserved g c =
@@ -22,8 +27,7 @@ loop-input-preserved g c =
     let x = c.input-item.result in
     let i = c.loop-input.input-index in
     let same = c.deref-input-items.ensures.value in
-    let placed : IsPlacedInput (sites ms) A x = subst (λ y. IsPlacedInput (sites ms) A y) (sym c.input-item.is)
-    (All-at (IsPlacedInput (sites ms) A) items i x (subst (λ ys. AllByRecursion (IsPlacedInput (sites ms) A) ys) (sym same) c.requires.each) c.loop-input-test.true) in
+    let placed = at_turn (IsPlacedInput (sites ms) A) p.inputs.items items i x same c.requires.each c.loop-input-test.true c.input-item.is in
     let segments = c.in_ok-segments.ensures ∙ ap (λ ts. placed_row (sites_view x.sites.now) ts) placed.own ∙ row_same (sites ms) A (sites_view x.sites.now) in
     let groups = c.in_ok-group_frames.ensures in
     ap (λ rows. map row_view rows) c.in_ok-push.ensures.items ∙ map-append row_view c.loop-input.all.items _
