@@ -1,169 +1,195 @@
 use omf_frame::MemSink;
 use omf_text::{FileFault, InputFault, LinkFault, ProgramFault, fault_line, status};
-use std::test::*;
+use std::process::Abort;
 
-fn at_record(fault: InputFault) -> LinkFault {
-    LinkFault::Record {
-        input: 2,
-        place: 4_294_901_759,
-        fault,
-    }
-}
-
-#[test]
-fn each_fault_has_its_line_and_status(rt: HostRuntime) -> Result<(), Fail> {
-    let rows = [
-        (
-            InputFault::ZeroLength,
-            "2 ZeroLength at record 4294901759",
-            1u8,
-        ),
-        (InputFault::Truncated, "3 Truncated at record 4294901759", 1),
-        (InputFault::Closing, "4 Closing at record 4294901759", 1),
-        (InputFault::Type, "5 Type at record 4294901759", 1),
-        (
-            InputFault::Body { at: 65_533 },
-            "6 Body at record 4294901759 byte 65533",
-            1,
-        ),
-        (InputFault::NotHeader, "7 NotHeader at record 4294901759", 1),
-        (InputFault::NoEnd, "8 NoEnd at record 4294901759", 1),
-        (
-            InputFault::NameIndex,
-            "10 NameIndex at record 4294901759",
-            1,
-        ),
-        (
-            InputFault::SegmentIndex,
-            "11 SegmentIndex at record 4294901759",
-            1,
-        ),
-        (
-            InputFault::GroupIndex,
-            "12 GroupIndex at record 4294901759",
-            1,
-        ),
-        (
-            InputFault::ExternalIndex,
-            "13 ExternalIndex at record 4294901759",
-            1,
-        ),
-        (
-            InputFault::ThreadNotSet,
-            "14 ThreadNotSet at record 4294901759",
-            1,
-        ),
-        (
-            InputFault::FixupBeforeData,
-            "15 FixupBeforeData at record 4294901759",
-            1,
-        ),
-        (
-            InputFault::FixupPlace,
-            "16 FixupPlace at record 4294901759",
-            1,
-        ),
-        (
-            InputFault::DataOutside,
-            "17 DataOutside at record 4294901759",
-            1,
-        ),
-        (
-            InputFault::DataInAbsolute,
-            "18 DataInAbsolute at record 4294901759",
-            1,
-        ),
-        (
-            InputFault::SelfRelativeBase,
-            "19 SelfRelativeBase at record 4294901759",
-            1,
-        ),
-        (
-            InputFault::FrameOfLocation,
-            "20 FrameOfLocation at record 4294901759",
-            1,
-        ),
-        (
-            InputFault::GroupOfAbsolute,
-            "21 GroupOfAbsolute at record 4294901759",
-            1,
-        ),
-        (
-            InputFault::InputTooLong,
-            "41 InputTooLong at record 4294901759",
-            1,
-        ),
-    ];
-    for (fault, line, exit) in rows {
+/// The fault of a file is told by this line, of which there is as much as there is room for, and by this status and
+/// input.
+fn is_told<R: Abort>(
+    rt: &R,
+    fault: LinkFault,
+    file: &str,
+    line: &str,
+    numbers: (u8, Option<usize>),
+) {
+    for len in 0..line.len() + 1 {
         let mut room = [0u8; 80];
-        let mut sink = MemSink::over(&mut room, 3);
-        let fault = at_record(fault);
-        assert_eq!(rt; fault_line(&fault, "A.OBJ", &mut sink), Ok(()));
-        let written = sink.written();
-        assert!(rt; written.starts_with(b"omf: A.OBJ: "));
-        assert!(rt; written.ends_with(b"\n"));
-        assert_eq!(rt; &written[12..written.len() - 1], line.as_bytes());
-        assert_eq!(rt; status(&fault), exit);
-        assert_eq!(rt; fault.input(), Some(2));
+        let mut sink = MemSink::over(&mut room[..len.min(80)], 3);
+        let whole = fault_line(&fault, file, &mut sink).is_ok();
+        let told = (whole, sink.written(), (status(&fault), fault.input()));
+        let front = &line.as_bytes()[..len];
+        assert_eq!(rt; told, (len == line.len(), front, numbers));
     }
-    Ok(())
+}
+
+/// Each fault of a record, at the last place of a long input, is told by its line and its status.
+fn are_told<R: Abort>(rt: &R, rows: &[(InputFault, &str, u8)]) {
+    for (fault, line, exit) in rows {
+        let fault = LinkFault::Record {
+            input: 2,
+            place: 4_294_901_759,
+            fault: *fault,
+        };
+        is_told(rt, fault, "A.OBJ", line, (*exit, Some(2)));
+    }
 }
 
 #[test]
-fn memory_and_outputs_have_lines(rt: HostRuntime) -> Result<(), Fail> {
-    let rows: [(LinkFault, &str, &str); 7] = [
-        (LinkFault::Memory, "", "omf: memory\n"),
-        (LinkFault::Output, "output", "omf: output: 40 Device\n"),
-        (LinkFault::Output, "P.EXE", "omf: P.EXE: 40 Device\n"),
-        (
-            LinkFault::Device {
-                input: 1,
-                place: 26,
-            },
-            "B.OBJ",
-            "omf: B.OBJ: 1 Device at record 26\n",
-        ),
-        (
-            LinkFault::Record {
-                input: 0,
-                place: 16,
-                fault: InputFault::Body { at: 6 },
-            },
-            "A.OBJ",
-            "omf: A.OBJ: 6 Body at record 16 byte 6\n",
-        ),
-        (
-            LinkFault::Program(ProgramFault::TooManyRelocations),
-            "",
-            "omf: link: 34 TooManyRelocations\n",
-        ),
-        (
-            LinkFault::File(FileFault::Device),
-            "P.EXE",
-            "omf: P.EXE: 40 Device\n",
-        ),
-    ];
-    for (fault, file, line) in rows {
-        for n in 0..line.len() + 1 {
-            let mut room = [0u8; 60];
-            let mut sink = MemSink::over(&mut room[..n.min(60)], 4);
-            let whole = fault_line(&fault, file, &mut sink).is_ok();
-            assert_eq!(rt; whole, n == line.len());
-            assert_eq!(rt; sink.written(), &line.as_bytes()[..n]);
-        }
-    }
-    let memory: LinkFault = LinkFault::Memory;
-    let output: LinkFault = LinkFault::Output;
-    assert_eq!(rt; status(&memory), 3u8);
-    assert_eq!(rt; status(&output), 3u8);
-    let device: LinkFault = LinkFault::Device {
+fn each_fault_has_its_line_and_status(rt: HostRuntime) {
+    are_told(
+        &rt,
+        &[
+            (
+                InputFault::ZeroLength,
+                "omf: A.OBJ: 2 ZeroLength at record 4294901759\n",
+                1,
+            ),
+            (
+                InputFault::Truncated,
+                "omf: A.OBJ: 3 Truncated at record 4294901759\n",
+                1,
+            ),
+            (
+                InputFault::Closing,
+                "omf: A.OBJ: 4 Closing at record 4294901759\n",
+                1,
+            ),
+            (
+                InputFault::Type,
+                "omf: A.OBJ: 5 Type at record 4294901759\n",
+                1,
+            ),
+            (
+                InputFault::Body { at: 65_533 },
+                "omf: A.OBJ: 6 Body at record 4294901759 byte 65533\n",
+                1,
+            ),
+            (
+                InputFault::NotHeader,
+                "omf: A.OBJ: 7 NotHeader at record 4294901759\n",
+                1,
+            ),
+            (
+                InputFault::NoEnd,
+                "omf: A.OBJ: 8 NoEnd at record 4294901759\n",
+                1,
+            ),
+            (
+                InputFault::NameIndex,
+                "omf: A.OBJ: 10 NameIndex at record 4294901759\n",
+                1,
+            ),
+            (
+                InputFault::SegmentIndex,
+                "omf: A.OBJ: 11 SegmentIndex at record 4294901759\n",
+                1,
+            ),
+            (
+                InputFault::GroupIndex,
+                "omf: A.OBJ: 12 GroupIndex at record 4294901759\n",
+                1,
+            ),
+            (
+                InputFault::ExternalIndex,
+                "omf: A.OBJ: 13 ExternalIndex at record 4294901759\n",
+                1,
+            ),
+            (
+                InputFault::ThreadNotSet,
+                "omf: A.OBJ: 14 ThreadNotSet at record 4294901759\n",
+                1,
+            ),
+            (
+                InputFault::FixupBeforeData,
+                "omf: A.OBJ: 15 FixupBeforeData at record 4294901759\n",
+                1,
+            ),
+            (
+                InputFault::FixupPlace,
+                "omf: A.OBJ: 16 FixupPlace at record 4294901759\n",
+                1,
+            ),
+            (
+                InputFault::DataOutside,
+                "omf: A.OBJ: 17 DataOutside at record 4294901759\n",
+                1,
+            ),
+            (
+                InputFault::DataInAbsolute,
+                "omf: A.OBJ: 18 DataInAbsolute at record 4294901759\n",
+                1,
+            ),
+            (
+                InputFault::SelfRelativeBase,
+                "omf: A.OBJ: 19 SelfRelativeBase at record 4294901759\n",
+                1,
+            ),
+            (
+                InputFault::FrameOfLocation,
+                "omf: A.OBJ: 20 FrameOfLocation at record 4294901759\n",
+                1,
+            ),
+            (
+                InputFault::GroupOfAbsolute,
+                "omf: A.OBJ: 21 GroupOfAbsolute at record 4294901759\n",
+                1,
+            ),
+            (
+                InputFault::InputTooLong,
+                "omf: A.OBJ: 41 InputTooLong at record 4294901759\n",
+                1,
+            ),
+        ],
+    );
+}
+
+#[test]
+fn memory_and_outputs_have_lines(rt: HostRuntime) {
+    let output = "omf: output: 40 Device\n";
+    let device = LinkFault::Device {
         input: 1,
         place: 26,
     };
-    assert_eq!(rt; status(&device), 3u8);
-    assert_eq!(rt; device.input(), Some(1));
-    assert_eq!(rt; output.input(), None);
-    assert_eq!(rt; output.number(), Some(40u8));
-    assert_eq!(rt; memory.number(), None);
-    Ok(())
+    let body = LinkFault::Record {
+        input: 0,
+        place: 16,
+        fault: InputFault::Body { at: 6 },
+    };
+    let many = LinkFault::Program(ProgramFault::TooManyRelocations);
+    let many_line = "omf: link: 34 TooManyRelocations\n";
+    let file = LinkFault::File(FileFault::Device);
+    is_told(&rt, LinkFault::Memory, "", "omf: memory\n", (3, None));
+    is_told(&rt, LinkFault::Output, "output", output, (3, None));
+    is_told(
+        &rt,
+        LinkFault::Output,
+        "P.EXE",
+        "omf: P.EXE: 40 Device\n",
+        (3, None),
+    );
+    is_told(
+        &rt,
+        device,
+        "B.OBJ",
+        "omf: B.OBJ: 1 Device at record 26\n",
+        (3, Some(1)),
+    );
+    is_told(
+        &rt,
+        body,
+        "A.OBJ",
+        "omf: A.OBJ: 6 Body at record 16 byte 6\n",
+        (1, Some(0)),
+    );
+    is_told(&rt, many, "", many_line, (1, None));
+    is_told(&rt, file, "P.EXE", "omf: P.EXE: 40 Device\n", (3, Some(0)));
+}
+
+fn has_number<R: Abort>(rt: &R, fault: LinkFault, number: Option<u8>) {
+    assert_eq!(rt; fault.number(), number);
+}
+
+#[test]
+fn memory_has_no_number(rt: HostRuntime) {
+    has_number(&rt, LinkFault::Memory, None);
+    has_number(&rt, LinkFault::Output, Some(40));
 }
