@@ -2,4 +2,8 @@
 #![tactic(auto)]
 
 #[cfg(test)]
+mod fixups;
+#[cfg(test)]
 mod programs;
+#[cfg(test)]
+mod said;

@@ -1,772 +1,509 @@
 //! Programs by their bytes, relocations and registers, and why none is made.
 
-mod fixups;
-
-use omf_frame::{MemSource, closing};
-use omf_image::{FixFault, FixKind, Program, Registers, build};
-use omf_module::read_module;
+use crate::said::{outcome, run, same};
+use omf_image::{Program, build};
 use omf_place::{Names, place};
 use refusing::Refusing;
-use std::alloc::{AllocError, Allocator, Global};
+use rows::{read_modules, read_row};
+use std::alloc::Allocator;
 use std::process::Abort;
 use std::test::*;
 
-const THEADR: u8 = 0x80;
-
-const MODEND: u8 = 0x8A;
-
-const EXTDEF: u8 = 0x8C;
-
-const PUBDEF: u8 = 0x90;
-
-const LNAMES: u8 = 0x96;
-
-const SEGDEF: u8 = 0x98;
-
-const GRPDEF: u8 = 0x9A;
-
-const FIXUPP: u8 = 0x9C;
-
-const LEDATA: u8 = 0xA0;
-
-const LIDATA: u8 = 0xA2;
-
-/// A record's type and its body.
-type Body<'a> = (u8, &'a [u8]);
-
-fn put<A: Allocator + Copy>(out: &mut Vec<u8, A>, kind: u8, body: &[u8]) -> Result<(), AllocError> {
-    if body.len() <= 65534 {
-        let len = (body.len() as u16 + 1).to_le_bytes();
-        out.push(kind)?;
-        out.extend_from_slice(&len)?;
-        out.extend_from_slice(body)?;
-        out.push(closing(kind, body))?;
-    }
-    Ok(())
-}
-
-fn records<A: Allocator + Copy>(alloc: A, bodies: &[Body<'_>]) -> Result<Vec<u8, A>, AllocError> {
-    let mut out = Vec::new(alloc);
-    for (kind, body) in bodies {
-        put(&mut out, *kind, body)?;
-    }
-    Ok(out)
-}
-
-/// A header, the names "" and "CODE", and a public segment "CODE" of this length; the given records; MODEND. The
-/// given records begin at place 26.
-fn module_bytes<A: Allocator + Copy>(
-    alloc: A,
-    len: u16,
-    bodies: &[Body<'_>],
-) -> Result<Vec<u8, A>, AllocError> {
-    let [low, high] = len.to_le_bytes();
-    let mut out = Vec::new(alloc);
-    put(&mut out, THEADR, &[1, 0x41])?;
-    put(&mut out, LNAMES, &[0, 4, 0x43, 0x4F, 0x44, 0x45])?;
-    put(&mut out, SEGDEF, &[0x28, low, high, 2, 1, 1])?;
-    for (kind, body) in bodies {
-        put(&mut out, *kind, body)?;
-    }
-    put(&mut out, MODEND, &[0])?;
-    Ok(out)
-}
-
-/// Why a program wasn't linked.
-#[derive(Clone, Copy, Debug, PartialEq, Eq)]
-enum Unlinked {
-    Unread,
-    Unplaced,
-    Unbuilt(FixFault),
-}
-
-fn linked<A: Allocator + Copy>(alloc: A, inputs: &[&[u8]]) -> Result<Program<A>, Unlinked> {
-    let mut modules = Vec::new(alloc);
-    for bytes in inputs {
-        let mut source = MemSource::over(bytes, 65536, None);
-        let Ok(module) = read_module(alloc, &mut source) else {
-            return Err(Unlinked::Unread);
-        };
-        if modules.push(module).is_err() {
-            return Err(Unlinked::Unread);
-        }
-    }
-    let Ok(layout) = place(alloc, &modules, Names::Exact) else {
-        return Err(Unlinked::Unplaced);
-    };
-    match build(alloc, &modules, &layout) {
-        Ok(program) => Ok(program),
-        Err(fault) => Err(Unlinked::Unbuilt(fault)),
-    }
-}
-
-/// The number under which a fault is reported, its input and the place of its record.
-fn reported(fault: Unlinked) -> (u8, usize, u64) {
-    match fault {
-        Unlinked::Unread | Unlinked::Unplaced | Unlinked::Unbuilt(FixFault::Memory) => (0, 0, 0),
-        Unlinked::Unbuilt(FixFault::TooManyRelocations) => (34, 0, 0),
-        Unlinked::Unbuilt(FixFault::At { kind, input, place }) => (number(kind), input, place),
-    }
-}
-
-fn number(kind: FixKind) -> u8 {
-    match kind {
-        FixKind::CoversRelocated => 26,
-        FixKind::Unresolved => 27,
-        FixKind::EmptyGroup => 28,
-        FixKind::Mixed => 29,
-        FixKind::OutOfFrame => 30,
-        FixKind::ShortTooFar => 31,
-        FixKind::OverlapRelocated => 32,
-        FixKind::TwoStarts => 33,
-    }
-}
-
-fn bytes_of<A: Allocator + Copy>(alloc: A, program: &Program<A>) -> Result<Vec<u8, A>, AllocError> {
-    let mut bytes = Vec::new(alloc);
-    for address in 0..program.size() {
-        bytes.push(program.byte(address))?;
-    }
-    Ok(bytes)
-}
-
-/// Whether the program's pieces are its bytes, one after the other.
-fn has_pieces<A: Allocator + Copy>(program: &Program<A>, bytes: &[u8]) -> bool {
-    let size = program.size();
-    let mut address = 0;
-    for _ in 0..=size {
-        if address >= size {
-            return true;
-        }
-        let piece = program.piece(address);
-        let from = address as usize;
-        if bytes.len().saturating_sub(from) < piece.len()
-            || &bytes[from..from + piece.len()] != piece
-        {
-            return false;
-        }
-        address += piece.len() as u32;
-    }
-    false
-}
-
-fn expect(
-    rt: &impl Abort,
-    alloc: Global,
-    inputs: &[&[u8]],
-    image: &[u8],
-    relocations: &[u32],
-) -> Result<(), AllocError> {
-    match linked(alloc, inputs) {
-        Ok(program) => {
-            assert_eq!(rt; bytes_of(alloc, &program)?.as_slice(), image);
-            assert!(rt; has_pieces(&program, image));
-            assert_eq!(rt; program.relocations(), relocations);
-        }
-        Err(fault) => assert!(rt; false, "{fault:?}"),
-    }
-    Ok(())
-}
-
-fn expect_fault(rt: &impl Abort, alloc: Global, inputs: &[&[u8]], wanted: (u8, usize, u64)) {
-    match linked(alloc, inputs) {
-        Ok(_) => assert!(rt; false, "no fault, not {wanted:?}"),
-        Err(fault) => assert_eq!(rt; reported(fault), wanted),
-    }
-}
-
-const ABSOLUTE: Body<'static> = (SEGDEF, &[0x00, 0x00, 0xB8, 0x00, 0x00, 0x40, 1, 1, 1]);
-
-const EXTERNAL_X: Body<'static> = (EXTDEF, &[1, 0x78, 0]);
-
-const TWO_BYTES: Body<'static> = (LEDATA, &[1, 0, 0, 0, 0]);
-
-const ONE_BYTE: Body<'static> = (LEDATA, &[1, 0, 0, 0xAA]);
-
-const FOUR_BYTES: Body<'static> = (LEDATA, &[1, 0, 0, 0, 0, 0, 0]);
-
-const EMPTY_GROUP: Body<'static> = (GRPDEF, &[2]);
-
-const REPEATED_WORDS: Body<'static> = (LIDATA, &[1, 0, 0, 3, 0, 0, 0, 2, 0, 0]);
-
 #[test]
 fn images(rt: HostRuntime) -> Result<(), Fail> {
-    let cases: [(u16, &[Body<'_>], &[u8], &[u32]); 13] = [
-        // a low byte keeps its carry
-        (
-            2,
-            &[
-                (LEDATA, &[1, 0, 0, 0xFF, 0]),
-                (FIXUPP, &[0xC0, 0, 0, 1, 1, 2, 0]),
-            ],
-            &[1, 0],
-            &[],
-        ),
-        // a distance counts from the end of each repetition
-        (
-            4,
-            &[
-                (LIDATA, &[1, 0, 0, 2, 0, 0, 0, 2, 0, 0]),
-                (FIXUPP, &[0x84, 5, 0, 1, 1, 0x10, 0]),
-            ],
-            &[0x0E, 0, 0x0C, 0],
-            &[],
-        ),
-        // an absolute target has its own frame
-        (
-            2,
-            &[
-                ABSOLUTE,
-                TWO_BYTES,
-                (FIXUPP, &[0xC4, 0, 0, 1, 2, 0x34, 0x12]),
-            ],
-            &[0x34, 0x12],
-            &[],
-        ),
-        (
-            2,
-            &[ABSOLUTE, TWO_BYTES, (FIXUPP, &[0xC8, 0, 4, 2, 2])],
-            &[0, 0xB8],
-            &[],
-        ),
-        (
-            12,
-            &[(LIDATA, &[1, 0, 0, 2, 0, 1, 0, 3, 0, 0, 0, 2, 0x41, 0x42])],
-            &[
-                0x41, 0x42, 0x41, 0x42, 0x41, 0x42, 0x41, 0x42, 0x41, 0x42, 0x41, 0x42,
-            ],
-            &[],
-        ),
-        (
-            6,
-            &[REPEATED_WORDS, (FIXUPP, &[0xC8, 5, 4, 1, 1])],
-            &[0; 6],
-            &[0, 2, 4],
-        ),
-        // a call
-        (
-            17,
-            &[
-                EXTERNAL_X,
-                (PUBDEF, &[0, 1, 1, 0x78, 0x10, 0, 0]),
-                (LEDATA, &[1, 0, 0, 0xE8, 0, 0]),
-                (FIXUPP, &[0x84, 1, 0x56, 1]),
-            ],
-            &[0xE8, 0x0D, 0, 0, 0, 0, 0, 0, 0, 0, 0, 0, 0, 0, 0, 0, 0],
-            &[],
-        ),
-        // two offsets on the same bytes are added
-        (
-            3,
-            &[
-                (EXTDEF, &[1, 0x78, 0, 1, 0x79, 0]),
-                (
-                    PUBDEF,
-                    &[0, 0, 0, 0, 1, 0x78, 0x32, 0x16, 0, 1, 0x79, 0, 0x40, 0],
-                ),
-                (LEDATA, &[1, 0, 0, 0x9B, 0x26, 0xD9]),
-                (FIXUPP, &[0xC4, 0, 0x56, 1, 0xC4, 1, 0x56, 2]),
-            ],
-            &[0xCD, 0x3C, 0x19],
-            &[],
-        ),
-        // later data wins
-        (
-            4,
-            &[
-                FOUR_BYTES,
-                (FIXUPP, &[0xC4, 0, 0, 1, 1, 0x34, 0x12]),
-                (LEDATA, &[1, 1, 0, 0xAA]),
-            ],
-            &[0x34, 0xAA, 0, 0],
-            &[],
-        ),
-        // an external that no fix-up names needs no public
-        (
-            3,
-            &[EXTERNAL_X, (LEDATA, &[1, 0, 0, 0xE8, 0, 0])],
-            &[0xE8, 0, 0],
-            &[],
-        ),
-        // a short jump as far as can be
-        (
-            2,
-            &[
-                (LEDATA, &[1, 0, 0, 0xEB, 0]),
-                (FIXUPP, &[0x80, 1, 0, 1, 1, 0x81, 0]),
-            ],
-            &[0xEB, 0x7F],
-            &[],
-        ),
-        // the public of an empty group has an address
-        (
-            2,
-            &[
-                EMPTY_GROUP,
-                EXTERNAL_X,
-                (PUBDEF, &[1, 1, 1, 0x78, 1, 0, 0]),
-                TWO_BYTES,
-                (FIXUPP, &[0xC4, 0, 6, 1, 1]),
-            ],
-            &[1, 0],
-            &[],
-        ),
-        // data that is repeated no time has no hit
-        (
-            2,
-            &[
-                ABSOLUTE,
-                (LIDATA, &[1, 0, 0, 0, 0, 0, 0, 2, 0, 0]),
-                (FIXUPP, &[0xC8, 5, 4, 1, 1]),
-            ],
-            &[0, 0],
-            &[],
-        ),
-    ];
-    for (len, bodies, image, relocations) in cases {
-        let bytes = module_bytes(rt.alloc(), len, bodies)?;
-        expect(&rt, rt.alloc(), &[&bytes], image, relocations)?;
-    }
-    Ok(())
+    run(
+        &rt,
+        rt.alloc(),
+        "\
+# a low byte keeps its carry
+98 28 02 00 02 01 01
+A0 01 00 00 FF 00
+9C C0 00 00 01 01 02 00
+= 2 of 2 in 1: 01 00; 0000:0000 0000:0000
+
+# a distance counts from the end of each repetition
+98 28 04 00 02 01 01
+A2 01 00 00 02 00 00 00 02 00 00
+9C 84 05 00 01 01 10 00
+= 4 of 4 in 1: 0E 00 0C 00; 0000:0000 0000:0000
+
+# an absolute target has its own frame
+98 28 02 00 02 01 01
+98 00 00 B8 00 00 40 01 01 01
+A0 01 00 00 00 00
+9C C4 00 00 01 02 34 12
+= 2 of 2 in 1: 34 12; 0000:0000 0000:0000
+
+98 28 02 00 02 01 01
+98 00 00 B8 00 00 40 01 01 01
+A0 01 00 00 00 00
+9C C8 00 04 02 02
+= 2 of 2 in 1: 00 B8; 0000:0000 0000:0000
+
+98 28 0C 00 02 01 01
+A2 01 00 00 02 00 01 00 03 00 00 00 02 41 42
+= 12 of 12 in 1: 41 42 41 42 41 42 41 42 41 42 41 42; 0000:0000 0000:0000
+
+98 28 06 00 02 01 01
+A2 01 00 00 03 00 00 00 02 00 00
+9C C8 05 04 01 01
+= 6 of 6 in 1: 00*6 @0 @2 @4; 0000:0000 0000:0000
+
+# a call
+98 28 11 00 02 01 01
+8C 01 78 00
+90 00 01 01 78 10 00 00
+A0 01 00 00 E8 00 00
+9C 84 01 56 01
+= 3 of 17 in 1: E8 0D 00*15; 0000:0000 0000:0000
+
+# two offsets on the same bytes are added
+98 28 03 00 02 01 01
+8C 01 78 00 01 79 00
+90 00 00 00 00 01 78 32 16 00 01 79 00 40 00
+A0 01 00 00 9B 26 D9
+9C C4 00 56 01 C4 01 56 02
+= 3 of 3 in 1: CD 3C 19; 0000:0000 0000:0000
+
+# later data wins
+98 28 04 00 02 01 01
+A0 01 00 00 00 00 00 00
+9C C4 00 00 01 01 34 12
+A0 01 01 00 AA
+= 4 of 4 in 1: 34 AA 00*2; 0000:0000 0000:0000
+
+# an external that no fix-up names needs no public
+98 28 03 00 02 01 01
+8C 01 78 00
+A0 01 00 00 E8 00 00
+= 3 of 3 in 1: E8 00*2; 0000:0000 0000:0000
+
+# a short jump as far as can be
+98 28 02 00 02 01 01
+A0 01 00 00 EB 00
+9C 80 01 00 01 01 81 00
+= 2 of 2 in 1: EB 7F; 0000:0000 0000:0000
+
+# the public of an empty group has an address
+98 28 02 00 02 01 01
+9A 02
+8C 01 78 00
+90 01 01 01 78 01 00 00
+A0 01 00 00 00 00
+9C C4 00 06 01 01
+= 2 of 2 in 1: 01 00; 0000:0000 0000:0000
+
+# data that is repeated no time has no hit
+98 28 02 00 02 01 01
+98 00 00 B8 00 00 40 01 01 01
+A2 01 00 00 00 00 00 00 02 00 00
+9C C8 05 04 01 01
+= 0 of 2 in 0: 00*2; 0000:0000 0000:0000",
+    )
 }
 
 #[test]
 fn faults(rt: HostRuntime) -> Result<(), Fail> {
-    let part: Body<'_> = (SEGDEF, &[0x68, 4, 0, 1, 1, 1]);
-    let data: Body<'_> = (LEDATA, &[2, 0, 0, 0, 0, 5, 0]);
-    let cases: [(u16, &[Body<'_>], (u8, u64)); 15] = [
-        (
-            4,
-            &[
-                FOUR_BYTES,
-                (FIXUPP, &[0xC8, 0, 4, 1, 1]),
-                (LEDATA, &[1, 1, 0, 0xAA]),
-            ],
-            (26, 46),
-        ),
-        (
-            17,
-            &[
-                EXTERNAL_X,
-                (LEDATA, &[1, 0, 0, 0xE8, 0, 0]),
-                (FIXUPP, &[0x84, 1, 0x56, 1]),
-            ],
-            (27, 43),
-        ),
-        // also where nothing is added
-        (
-            2,
-            &[
-                EXTERNAL_X,
-                (LIDATA, &[1, 0, 0, 0, 0, 0, 0, 2, 0, 0]),
-                (FIXUPP, &[0xC4, 5, 0x56, 1]),
-            ],
-            (27, 47),
-        ),
-        // before an empty group
-        (
-            2,
-            &[
-                EMPTY_GROUP,
-                EXTERNAL_X,
-                TWO_BYTES,
-                (FIXUPP, &[0xC8, 0, 0x16, 1, 1]),
-            ],
-            (27, 47),
-        ),
-        (
-            2,
-            &[EMPTY_GROUP, TWO_BYTES, (FIXUPP, &[0xC8, 0, 0x14, 1, 1])],
-            (28, 40),
-        ),
-        (
-            2,
-            &[EMPTY_GROUP, TWO_BYTES, (FIXUPP, &[0xC8, 0, 0x05, 1, 1])],
-            (28, 40),
-        ),
-        // an absolute target has no frame of its own under a frame that doesn't exist
-        (
-            2,
-            &[
-                ABSOLUTE,
-                EMPTY_GROUP,
-                TWO_BYTES,
-                (FIXUPP, &[0xC4, 0, 0x14, 1, 2]),
-            ],
-            (28, 53),
-        ),
-        (
-            2,
-            &[ABSOLUTE, TWO_BYTES, (FIXUPP, &[0xC4, 0, 0, 2, 1, 0, 0])],
-            (29, 48),
-        ),
-        (
-            2,
-            &[ABSOLUTE, TWO_BYTES, (FIXUPP, &[0x84, 0, 4, 2, 2])],
-            (29, 48),
-        ),
-        (
-            32,
-            &[part, data, (FIXUPP, &[0xC4, 0, 0, 2, 1, 0, 0])],
-            (30, 47),
-        ),
-        (
-            2,
-            &[
-                (LEDATA, &[1, 0, 0, 0xEB, 0]),
-                (FIXUPP, &[0x80, 1, 0, 1, 1, 0x82, 0]),
-            ],
-            (31, 35),
-        ),
-        // bases one byte apart
-        (
-            4,
-            &[FOUR_BYTES, (FIXUPP, &[0xC8, 0, 4, 1, 1, 0xC8, 1, 4, 1, 1])],
-            (32, 37),
-        ),
-        // a base on an earlier offset, and an offset on an earlier base
-        (
-            4,
-            &[FOUR_BYTES, (FIXUPP, &[0xC4, 0, 4, 1, 1, 0xC8, 1, 4, 1, 1])],
-            (32, 37),
-        ),
-        (
-            4,
-            &[FOUR_BYTES, (FIXUPP, &[0xC8, 0, 4, 1, 1, 0xC4, 1, 4, 1, 1])],
-            (32, 37),
-        ),
-        // a base on the offset of an absolute pointer
-        (
-            4,
-            &[
-                ABSOLUTE,
-                FOUR_BYTES,
-                (FIXUPP, &[0xCC, 0, 4, 2, 2, 0xC8, 0, 4, 1, 1]),
-            ],
-            (32, 50),
-        ),
-    ];
-    for (len, bodies, (number, place)) in cases {
-        let bytes = module_bytes(rt.alloc(), len, bodies)?;
-        expect_fault(&rt, rt.alloc(), &[&bytes], (number, 0, place));
-    }
-    Ok(())
+    run(
+        &rt,
+        rt.alloc(),
+        "\
+98 28 04 00 02 01 01
+A0 01 00 00 00 00 00 00
+9C C8 00 04 01 01
+A0 01 01 00 AA
+= data covers a relocated word at record 46 of input 0
+
+98 28 11 00 02 01 01
+8C 01 78 00
+A0 01 00 00 E8 00 00
+9C 84 01 56 01
+= an external has no public at record 43 of input 0
+
+# also where nothing is added
+98 28 02 00 02 01 01
+8C 01 78 00
+A2 01 00 00 00 00 00 00 02 00 00
+9C C4 05 56 01
+= an external has no public at record 47 of input 0
+
+# before an empty group
+98 28 02 00 02 01 01
+9A 02
+8C 01 78 00
+A0 01 00 00 00 00
+9C C8 00 16 01 01
+= an external has no public at record 47 of input 0
+
+98 28 02 00 02 01 01
+9A 02
+A0 01 00 00 00 00
+9C C8 00 14 01 01
+= a group has no members at record 40 of input 0
+
+98 28 02 00 02 01 01
+9A 02
+A0 01 00 00 00 00
+9C C8 00 05 01 01
+= a group has no members at record 40 of input 0
+
+# an absolute target has no frame of its own under a frame that doesn't exist
+98 28 02 00 02 01 01
+98 00 00 B8 00 00 40 01 01 01
+9A 02
+A0 01 00 00 00 00
+9C C4 00 14 01 02
+= a group has no members at record 53 of input 0
+
+98 28 02 00 02 01 01
+98 00 00 B8 00 00 40 01 01 01
+A0 01 00 00 00 00
+9C C4 00 00 02 01 00 00
+= a distance between relocatable and absolute at record 48 of input 0
+
+98 28 02 00 02 01 01
+98 00 00 B8 00 00 40 01 01 01
+A0 01 00 00 00 00
+9C 84 00 04 02 02
+= a distance between relocatable and absolute at record 48 of input 0
+
+98 28 20 00 02 01 01
+98 68 04 00 01 01 01
+A0 02 00 00 00 00 05 00
+9C C4 00 00 02 01 00 00
+= a distance leaves its frame at record 47 of input 0
+
+98 28 02 00 02 01 01
+A0 01 00 00 EB 00
+9C 80 01 00 01 01 82 00
+= a distance doesn't fit a byte at record 35 of input 0
+
+# bases one byte apart
+98 28 04 00 02 01 01
+A0 01 00 00 00 00 00 00
+9C C8 00 04 01 01 C8 01 04 01 01
+= fix-ups share a relocated word at record 37 of input 0
+
+# a base on an earlier offset, and an offset on an earlier base
+98 28 04 00 02 01 01
+A0 01 00 00 00 00 00 00
+9C C4 00 04 01 01 C8 01 04 01 01
+= fix-ups share a relocated word at record 37 of input 0
+
+98 28 04 00 02 01 01
+A0 01 00 00 00 00 00 00
+9C C8 00 04 01 01 C4 01 04 01 01
+= fix-ups share a relocated word at record 37 of input 0
+
+# a base on the offset of an absolute pointer
+98 28 04 00 02 01 01
+98 00 00 B8 00 00 40 01 01 01
+A0 01 00 00 00 00 00 00
+9C CC 00 04 02 02 C8 00 04 01 01
+= fix-ups share a relocated word at record 50 of input 0",
+    )
 }
 
 #[test]
 fn bases_and_pointers(rt: HostRuntime) -> Result<(), Fail> {
-    let alloc = rt.alloc();
-    let part: Body<'_> = (SEGDEF, &[0x68, 4, 0, 1, 1, 1]);
-    let data: Body<'_> = (LEDATA, &[2, 0, 0, 0, 0, 5, 0]);
-    let mut image = [0; 36];
-    image[32] = 2;
-    image[34] = 5;
-    let bytes = module_bytes(
-        alloc,
-        32,
-        &[part, data, (FIXUPP, &[0xC8, 0, 0, 2, 1, 0, 0])],
-    )?;
-    expect(&rt, alloc, &[&bytes], &image, &[32])?;
-    image[32] = 3;
-    image[34] = 7;
-    let bytes = module_bytes(
-        alloc,
-        32,
-        &[part, data, (FIXUPP, &[0xCC, 0, 0, 2, 2, 3, 0])],
-    )?;
-    expect(&rt, alloc, &[&bytes], &image, &[34])?;
-    // a word that begins with the last byte of a paragraph
-    let last: Body<'_> = (LEDATA, &[2, 1, 0, 0, 0]);
-    let bytes = module_bytes(
-        alloc,
-        65534,
-        &[
-            (SEGDEF, &[0x28, 4, 0, 1, 1, 1]),
-            last,
-            (FIXUPP, &[0xC8, 0, 4, 2, 2]),
-        ],
-    )?;
-    let program = linked(alloc, &[&bytes]).expect(&rt, "a program");
-    assert_eq!(rt; program.size(), 65538);
-    assert_eq!(rt; [program.byte(65535), program.byte(65536)], [0xFF, 0x0F]);
-    assert_eq!(rt; program.relocations(), [65535].as_slice());
-    Ok(())
+    run(
+        &rt,
+        rt.alloc(),
+        "\
+98 28 20 00 02 01 01
+98 68 04 00 01 01 01
+A0 02 00 00 00 00 05 00
+9C C8 00 00 02 01 00 00
+= 36 of 36 in 1: 00*32 02 00 05 00 @32; 0000:0000 0000:0000
+
+98 28 20 00 02 01 01
+98 68 04 00 01 01 01
+A0 02 00 00 00 00 05 00
+9C CC 00 00 02 02 03 00
+= 36 of 36 in 1: 00*32 03 00 07 00 @34; 0000:0000 0000:0000
+
+# a word that begins with the last byte of a paragraph
+98 28 FE FF 02 01 01
+98 28 04 00 01 01 01
+A0 02 01 00 00 00
+9C C8 00 04 02 02
+= 65537 of 65538 in 2: 00*65535 FF 0F 00 @65535; 0000:0000 0000:0000",
+    )
 }
 
-const NAMES: &[u8] = &[
-    0, 4, 0x43, 0x4F, 0x44, 0x45, 5, 0x5F, 0x44, 0x41, 0x54, 0x41, 6, 0x44, 0x47, 0x52, 0x4F, 0x55,
-    0x50,
-];
-
-const DATA_NAMES: &[u8] = &[
-    0, 5, 0x5F, 0x44, 0x41, 0x54, 0x41, 6, 0x44, 0x47, 0x52, 0x4F, 0x55, 0x50,
-];
-
-const CODE_MODULE: [Body<'static>; 10] = [
-    (THEADR, &[1, 0x41]),
-    (LNAMES, NAMES),
-    (SEGDEF, &[0x68, 0x12, 0, 2, 2, 1]),
-    (SEGDEF, &[0x48, 3, 0, 3, 3, 1]),
-    (GRPDEF, &[4, 0xFF, 2]),
-    EXTERNAL_X,
-    (LEDATA, &[1, 0, 0, 0xB8, 0, 0, 0xA1, 0, 0]),
-    (FIXUPP, &[0x44, 1, 8, 1]),
-    (FIXUPP, &[0xC8, 1, 0x8C, 0xC4, 4, 0x8C]),
-    (MODEND, &[0xC1, 0, 1, 1, 0, 0]),
-];
-
-const DATA_MODULE: [Body<'static>; 7] = [
-    (THEADR, &[1, 0x42]),
-    (LNAMES, DATA_NAMES),
-    (SEGDEF, &[0x48, 2, 0, 2, 2, 1]),
-    (GRPDEF, &[3, 0xFF, 1]),
-    (PUBDEF, &[1, 1, 1, 0x78, 0, 0, 0]),
-    (LEDATA, &[1, 0, 0, 0x34, 0x12]),
-    (MODEND, &[0]),
-];
-
-const GROUPED: [u8; 24] = [
-    0xB8, 1, 0, 0xA1, 6, 0, 0, 0, 0, 0, 0, 0, 0, 0, 0, 0, 0, 0, 0, 0, 0, 0, 0x34, 0x12,
-];
+/// A module that takes a word of another one by a group.
+const GROUPED: &str = "\
+80 01 41
+96 00 04 43 4F 44 45 05 5F 44 41 54 41 06 44 47 52 4F 55 50
+98 68 12 00 02 02 01
+98 48 03 00 03 03 01
+9A 04 FF 02
+8C 01 78 00
+A0 01 00 00 B8 00 00 A1 00 00
+9C 44 01 08 01
+9C C8 01 8C C4 04 8C
+8A C1 00 01 01 00 00
+--
+80 01 42
+96 00 05 5F 44 41 54 41 06 44 47 52 4F 55 50
+98 48 02 00 02 02 01
+9A 03 FF 01
+90 01 01 01 78 00 00 00
+A0 01 00 00 34 12
+= 24 of 24 in 1: B8 01 00 A1 06 00*17 34 12 @1; 0000:0000 0000:0000";
 
 #[test]
 fn two_inputs(rt: HostRuntime) -> Result<(), Fail> {
-    let alloc = rt.alloc();
-    let code = records(alloc, &CODE_MODULE)?;
-    let words = records(alloc, &DATA_MODULE)?;
-    expect(&rt, alloc, &[&code, &words], &GROUPED, &[1])?;
-    // common segments lie over one another
-    let names: Body<'_> = (LNAMES, &[0, 4, 0x43, 0x4F, 0x44, 0x45]);
-    let one = records(
-        alloc,
-        &[
-            (THEADR, &[1, 0x41]),
-            names,
-            (SEGDEF, &[0x38, 4, 0, 2, 1, 1]),
-            (LEDATA, &[1, 0, 0, 0x11, 0x22, 0x33, 0x44]),
-            (MODEND, &[0]),
-        ],
-    )?;
-    let two = records(
-        alloc,
-        &[
-            (THEADR, &[1, 0x41]),
-            names,
-            (SEGDEF, &[0x38, 2, 0, 2, 1, 1]),
-            (LEDATA, &[1, 0, 0, 0xAA, 0xBB]),
-            (MODEND, &[0]),
-        ],
-    )?;
-    expect(&rt, alloc, &[&one, &two], &[0xAA, 0xBB, 0x33, 0x44], &[])?;
-    // each input has its own entry
-    let first = [
-        0x80, 0x03, 0x00, 0x01, 0x41, 0x3B, 0x96, 0x07, 0x00, 0x00, 0x04, 0x43, 0x4F, 0x44, 0x45,
-        0x44, 0x98, 0x07, 0x00, 0x28, 0x05, 0x00, 0x02, 0x01, 0x01, 0x30, 0xA0, 0x09, 0x00, 0x01,
-        0x00, 0x00, 0xB8, 0x00, 0x00, 0x8E, 0xD8, 0x38, 0x9C, 0x06, 0x00, 0xC8, 0x01, 0x04, 0x01,
-        0x01, 0x8F, 0x8A, 0x07, 0x00, 0xC1, 0x00, 0x01, 0x01, 0x00, 0x00, 0xAC,
-    ];
-    expect(&rt, alloc, &[&first], &[0xB8, 0, 0, 0x8E, 0xD8], &[1])?;
-    expect_fault(&rt, alloc, &[&first, &first], (33, 1, 47));
-    Ok(())
-}
+    run(&rt, rt.alloc(), GROUPED)?;
+    run(
+        &rt,
+        rt.alloc(),
+        "\
+# common segments lie over one another
+98 38 04 00 02 01 01
+A0 01 00 00 11 22 33 44
+--
+98 38 02 00 02 01 01
+A0 01 00 00 AA BB
+= 4 of 4 in 1: AA BB 33 44; 0000:0000 0000:0000
 
-/// The registers CS, IP, SS, SP of a program whose code segment has 5 bytes.
-fn registers_of(
-    rt: &impl Abort,
-    alloc: Global,
-    segments: &[Body<'_>],
-    end: &[u8],
-) -> Result<[u16; 4], AllocError> {
-    let mut bytes = records(
-        alloc,
-        &[
-            (THEADR, &[1, 0x41]),
-            (LNAMES, &[0, 4, 0x43, 0x4F, 0x44, 0x45]),
-            (SEGDEF, &[0x68, 5, 0, 2, 1, 1]),
-        ],
-    )?;
-    for (kind, body) in segments {
-        put(&mut bytes, *kind, body)?;
-    }
-    put(&mut bytes, MODEND, end)?;
-    let program = linked(alloc, &[&bytes]).expect(rt, "a program");
-    let Registers { cs, ip, ss, sp } = program.registers();
-    Ok([cs, ip, ss, sp])
+# each input has its own entry
+98 28 05 00 02 01 01
+A0 01 00 00 B8 00 00 8E D8
+9C C8 01 04 01 01
+8A C1 00 01 01 00 00
+= 5 of 5 in 1: B8 00*2 8E D8 @1; 0000:0000 0000:0000
+
+98 28 05 00 02 01 01
+A0 01 00 00 B8 00 00 8E D8
+9C C8 01 04 01 01
+8A C1 00 01 01 00 00
+--
+98 28 05 00 02 01 01
+A0 01 00 00 B8 00 00 8E D8
+9C C8 01 04 01 01
+8A C1 00 01 01 00 00
+= a second start at record 47 of input 1",
+    )
 }
 
 #[test]
 fn registers(rt: HostRuntime) -> Result<(), Fail> {
-    let alloc = rt.alloc();
-    let stack: Body<'_> = (SEGDEF, &[0x74, 0, 1, 2, 1, 1]);
-    let whole: Body<'_> = (SEGDEF, &[0x76, 0, 0, 1, 2, 1]);
-    let code: Body<'_> = (SEGDEF, &[0x68, 5, 0, 1, 1, 1]);
-    assert_eq!(rt; registers_of(&rt, alloc, &[], &[0])?, [0, 0, 0, 0]);
-    assert_eq!(rt; registers_of(&rt, alloc, &[stack], &[0])?, [0, 0, 1, 256]);
-    assert_eq!(rt; registers_of(&rt, alloc, &[whole], &[0])?, [0, 0, 1, 0]);
-    // of two stacks the first
-    assert_eq!(rt;
-        registers_of(&rt, alloc, &[stack, whole], &[0])?,
-        [0, 0, 1, 256]
-    );
-    let start = [0xC1, 0, 2, 2, 3, 0];
-    assert_eq!(rt;
-        registers_of(&rt, alloc, &[code, stack], &start)?,
-        [1, 3, 2, 256]
-    );
-    Ok(())
+    run(
+        &rt,
+        rt.alloc(),
+        "\
+98 68 05 00 02 01 01
+= 0 of 5 in 0: 00*5; 0000:0000 0000:0000
+
+98 68 05 00 02 01 01
+98 74 00 01 02 01 01
+= 0 of 272 in 0: 00*272; 0000:0000 0001:0100
+
+98 68 05 00 02 01 01
+98 76 00 00 01 02 01
+= 0 of 65552 in 0: 00*65552; 0000:0000 0001:0000
+
+# of two stacks the first
+98 68 05 00 02 01 01
+98 74 00 01 02 01 01
+98 76 00 00 01 02 01
+= 0 of 65808 in 0: 00*65808; 0000:0000 0001:0100
+
+98 68 05 00 02 01 01
+98 68 05 00 01 01 01
+98 74 00 01 02 01 01
+8A C1 00 02 02 03 00
+= 0 of 288 in 0: 00*288; 0001:0003 0002:0100",
+    )
 }
 
 #[test]
 fn start_faults(rt: HostRuntime) -> Result<(), Fail> {
-    let alloc = rt.alloc();
-    let cases: [(&[Body<'_>], &[u8], (u8, u64)); 5] = [
-        (&[EXTERNAL_X], &[0xC1, 0x56, 1], (27, 33)),
-        (&[EMPTY_GROUP], &[0xC1, 0x14, 1, 1], (28, 31)),
-        (&[ABSOLUTE], &[0xC1, 4, 2, 2], (29, 39)),
-        (
-            &[(SEGDEF, &[0x68, 4, 0, 1, 1, 1])],
-            &[0xC1, 4, 2, 1],
-            (30, 36),
-        ),
-        // a fault of data comes first
-        (
-            &[EXTERNAL_X, TWO_BYTES, (FIXUPP, &[0xC4, 0, 0x56, 1])],
-            &[0xC1, 0x56, 1],
-            (27, 42),
-        ),
-    ];
-    for (bodies, end, (number, place)) in cases {
-        let mut bytes = records(
-            alloc,
-            &[
-                (THEADR, &[1, 0x41]),
-                (LNAMES, &[0, 4, 0x43, 0x4F, 0x44, 0x45]),
-                (SEGDEF, &[0x28, 32, 0, 2, 1, 1]),
-            ],
-        )?;
-        for (kind, body) in bodies {
-            put(&mut bytes, *kind, body)?;
-        }
-        put(&mut bytes, MODEND, end)?;
-        expect_fault(&rt, alloc, &[&bytes], (number, 0, place));
-    }
+    run(
+        &rt,
+        rt.alloc(),
+        "\
+98 28 20 00 02 01 01
+8C 01 78 00
+8A C1 56 01
+= an external has no public at record 33 of input 0
+
+98 28 20 00 02 01 01
+9A 02
+8A C1 14 01 01
+= a group has no members at record 31 of input 0
+
+98 28 20 00 02 01 01
+98 00 00 B8 00 00 40 01 01 01
+8A C1 04 02 02
+= a distance between relocatable and absolute at record 39 of input 0
+
+98 28 20 00 02 01 01
+98 68 04 00 01 01 01
+8A C1 04 02 01
+= a distance leaves its frame at record 36 of input 0
+
+# a fault of data comes first
+98 28 20 00 02 01 01
+8C 01 78 00
+A0 01 00 00 00 00
+9C C4 00 56 01
+8A C1 56 01
+= an external has no public at record 42 of input 0",
+    )
+}
+
+/// Data over the end of a page.
+const EDGE: &str = "\
+98 28 02 10 02 01 01
+A0 01 FF 0F 00 00
+9C C4 00 00 01 01 34 12";
+
+#[test]
+fn pages(rt: HostRuntime) -> Result<(), Fail> {
+    run(
+        &rt,
+        rt.alloc(),
+        "\
+98 28 02 10 02 01 01
+A0 01 FF 0F 00 00
+9C C4 00 00 01 01 34 12
+= 4097 of 4098 in 2: 00*4095 34 12 00; 0000:0000 0000:0000
+
+98 28 FE FF 02 01 01
+A0 01 00 F0 AA
+= 61441 of 65534 in 1: 00*61440 AA 00*4093; 0000:0000 0000:0000",
+    )
+}
+
+/// A piece ends with its page.
+fn has_pieces<R: Abort, A: Allocator + Copy>(rt: &R, program: &Program<A>) {
+    assert_eq!(rt; program.size(), 4098);
+    let pieces = (program.piece(4095), program.piece(4096));
+    assert_eq!(rt; pieces, ([0x34].as_slice(), [0x12, 0].as_slice()));
+}
+
+fn link_edge<R: Abort, A: Allocator + Copy>(
+    rt: &R,
+    alloc: A,
+    inputs: &[Vec<u8>],
+) -> Result<(), Fail> {
+    let modules = read_modules(alloc, inputs)?;
+    let layout = place(alloc, &modules, Names::Exact)?;
+    let program = build(alloc, &modules, &layout)?;
+    has_pieces(rt, &program);
     Ok(())
 }
 
 #[test]
-fn pages(rt: HostRuntime) -> Result<(), Fail> {
-    let alloc = rt.alloc();
-    let bytes = module_bytes(
-        alloc,
-        4098,
-        &[
-            (LEDATA, &[1, 0xFF, 0x0F, 0, 0]),
-            (FIXUPP, &[0xC4, 0, 0, 1, 1, 0x34, 0x12]),
-        ],
-    )?;
-    let program = linked(alloc, &[&bytes]).expect(&rt, "a program");
-    assert_eq!(rt; program.size(), 4098);
-    assert_eq!(rt; [program.byte(4095), program.byte(4096)], [0x34, 0x12]);
-    assert_eq!(rt; program.page_count(), 2);
-    assert_eq!(rt; program.piece(4095), [0x34].as_slice());
-    assert_eq!(rt; program.piece(4096), [0x12, 0].as_slice());
-    let bytes = module_bytes(alloc, 65534, &[(LEDATA, &[1, 0, 0xF0, 0xAA])])?;
-    let program = linked(alloc, &[&bytes]).expect(&rt, "a program");
-    assert_eq!(rt; program.size(), 65534);
-    assert_eq!(rt; program.page_count(), 1);
-    assert_eq!(rt; [program.byte(0), program.byte(61440)], [0, 0xAA]);
-    let image = bytes_of(alloc, &program)?;
-    assert!(rt; has_pieces(&program, &image));
-    Ok(())
+fn pieces(rt: HostRuntime) -> Result<(), Fail> {
+    let row = read_row(rt.alloc(), EDGE)?;
+    link_edge(&rt, rt.alloc(), &row.inputs)
 }
 
 #[test]
 fn written_part(rt: HostRuntime) -> Result<(), Fail> {
-    let cases: [(u16, &[Body<'_>], u32); 10] = [
-        (5, &[], 0),
-        (4, &[FOUR_BYTES], 4),
-        (17, &[(LEDATA, &[1, 0, 0, 0xE8, 0, 0])], 3),
-        // at a page's edge and behind it
-        (5000, &[(LEDATA, &[1, 0xFF, 0x0F, 0xAA])], 4096),
-        (5000, &[(LEDATA, &[1, 0xFF, 0x0F, 0xAA, 0xBB])], 4097),
-        // zeros of data are data
-        (8, &[ONE_BYTE, (LEDATA, &[1, 2, 0, 0, 0])], 4),
-        // an earlier record reaches farther
-        (8, &[(LEDATA, &[1, 3, 0, 0xAA]), ONE_BYTE], 4),
-        // a record without bytes covers none
-        (8, &[ONE_BYTE, (LEDATA, &[1, 8, 0])], 1),
-        (8, &[(LEDATA, &[1, 8, 0])], 0),
-        (8, &[(LIDATA, &[1, 2, 0, 0, 0, 0, 0, 1, 0xAA])], 0),
-    ];
-    for (len, bodies, written) in cases {
-        let bytes = module_bytes(rt.alloc(), len, bodies)?;
-        let program = linked(rt.alloc(), &[&bytes]).expect(&rt, "a program");
-        let found = [program.size(), program.written()];
-        assert_eq!(rt; found, [u32::from(len), written]);
-    }
-    Ok(())
+    run(
+        &rt,
+        rt.alloc(),
+        "\
+98 28 05 00 02 01 01
+= 0 of 5 in 0: 00*5; 0000:0000 0000:0000
+
+98 28 04 00 02 01 01
+A0 01 00 00 00 00 00 00
+= 4 of 4 in 1: 00*4; 0000:0000 0000:0000
+
+98 28 11 00 02 01 01
+A0 01 00 00 E8 00 00
+= 3 of 17 in 1: E8 00*16; 0000:0000 0000:0000
+
+# at a page's edge and behind it
+98 28 88 13 02 01 01
+A0 01 FF 0F AA
+= 4096 of 5000 in 1: 00*4095 AA 00*904; 0000:0000 0000:0000
+
+98 28 88 13 02 01 01
+A0 01 FF 0F AA BB
+= 4097 of 5000 in 2: 00*4095 AA BB 00*903; 0000:0000 0000:0000
+
+# zeros of data are data
+98 28 08 00 02 01 01
+A0 01 00 00 AA
+A0 01 02 00 00 00
+= 4 of 8 in 1: AA 00*7; 0000:0000 0000:0000
+
+# an earlier record reaches farther
+98 28 08 00 02 01 01
+A0 01 03 00 AA
+A0 01 00 00 AA
+= 4 of 8 in 1: AA 00*2 AA 00*4; 0000:0000 0000:0000
+
+# a record without bytes covers none
+98 28 08 00 02 01 01
+A0 01 00 00 AA
+A0 01 08 00
+= 1 of 8 in 1: AA 00*7; 0000:0000 0000:0000
+
+98 28 08 00 02 01 01
+A0 01 08 00
+= 0 of 8 in 0: 00*8; 0000:0000 0000:0000
+
+98 28 08 00 02 01 01
+A2 01 02 00 00 00 00 00 01 AA
+= 0 of 8 in 0: 00*8; 0000:0000 0000:0000",
+    )
 }
 
+/// 65,534 and as many more as the last data record has.
 #[test]
 fn relocated_words(rt: HostRuntime) -> Result<(), Fail> {
-    let alloc = rt.alloc();
-    let part: Body<'_> = (SEGDEF, &[0x60, 0xFE, 0xFF, 1, 1, 1]);
-    let base: Body<'_> = (FIXUPP, &[0xC8, 5, 4, 1, 1]);
-    let repeated: Body<'_> = (LIDATA, &[1, 0, 0, 0xFF, 0x7F, 0, 0, 2, 0, 0]);
-    let again: Body<'_> = (LIDATA, &[2, 0, 0, 0xFF, 0x7F, 0, 0, 2, 0, 0]);
-    // 65,534 and as many more as the last data record has
-    for (body, count) in [
-        ([3, 0, 0, 0, 0].as_slice(), 65535),
-        (&[3, 0, 0, 0, 0, 0, 0], 0),
-    ] {
-        let fixups: &[u8] = &[0xC8, 0, 4, 3, 3, 0xC8, 2, 4, 3, 3];
-        let used = if count == 0 { fixups } else { &fixups[..5] };
-        let bytes = module_bytes(
-            alloc,
-            65534,
-            &[
-                part,
-                part,
-                repeated,
-                base,
-                again,
-                base,
-                (LEDATA, body),
-                (FIXUPP, used),
-            ],
-        )?;
-        match linked(alloc, &[&bytes]) {
-            Ok(program) => assert_eq!(rt; program.relocations().len(), count),
-            Err(fault) => assert_eq!(rt; (reported(fault), count), ((34, 0, 0), 0)),
-        }
-    }
-    Ok(())
+    run(
+        &rt,
+        rt.alloc(),
+        "\
+98 28 FE FF 02 01 01
+98 60 FE FF 01 01 01 x2
+A2 01 00 00 FF 7F 00 00 02 00 00
+9C C8 05 04 01 01
+A2 02 00 00 FF 7F 00 00 02 00 00
+9C C8 05 04 01 01
+A0 03 00 00 00 00
+9C C8 00 04 03 03
+= 131074 of 196606 in 33: 00*131073 20 00*65532 and 65535 relocated words; 0000:0000 0000:0000
+
+# one more
+98 28 FE FF 02 01 01
+98 60 FE FF 01 01 01 x2
+A2 01 00 00 FF 7F 00 00 02 00 00
+9C C8 05 04 01 01
+A2 02 00 00 FF 7F 00 00 02 00 00
+9C C8 05 04 01 01
+A0 03 00 00 00 00 00 00
+9C C8 00 04 03 03 C8 02 04 03 03
+= too many relocated words",
+    )
 }
 
-/// A map makes do with a smaller growth where a larger one is refused.
+/// Want of memory where a growth is refused, or the program where an index map makes do with a smaller growth.
 #[test]
 fn each_growth(rt: HostRuntime) -> Result<(), Fail> {
-    let code = records(rt.alloc(), &CODE_MODULE)?;
-    let words = records(rt.alloc(), &DATA_MODULE)?;
-    let mut refusals = 0;
+    let row = read_row(rt.alloc(), GROUPED)?;
+    let mut refused_building = 0;
     for number in 1..1000 {
         let heap = Refusing::nth(rt.alloc(), number);
-        match linked(&heap, &[&code, &words]) {
-            Ok(program) => {
-                assert!(rt; has_pieces(&program, &GROUPED));
-                if !heap.has_refused() {
-                    break;
-                }
-            }
-            Err(fault) => {
-                assert!(rt; heap.has_refused(), "{number}");
-                assert_eq!(rt; reported(fault), (0, 0, 0));
-                if fault == Unlinked::Unbuilt(FixFault::Memory) {
-                    refusals = number;
-                }
-            }
+        let said = outcome(&heap, rt.alloc(), &row.inputs)?;
+        if !heap.has_refused() {
+            same(&rt, said.as_str(), row.wanted);
+            break;
+        }
+        match said.as_str() {
+            "no memory" | "memory" => {}
+            "out of memory" => refused_building = number,
+            text => same(&rt, text, row.wanted),
         }
     }
-    assert!(rt; refusals > 4);
+    assert!(rt; refused_building > 4);
     Ok(())
 }
