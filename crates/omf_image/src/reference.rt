@@ -4,8 +4,7 @@ ghost use Rattle.std.specs.Prelude.{◌≡◌, ◌<◌, length};
 ghost use Rattle.omf_place.specs.Layout.{places_of};
 ghost use Rattle.omf_module.specs.Seen.{external_seen};
 ghost use Rattle.omf_image.specs.Position.{position, segment_position, external_position};
-ghost use Rattle.omf_image.specs.Reference.{Is, both, resolved, target_of, frame_of, group_position, on_found, own_frame};
-ghost use Rattle.omf_image.specs.Reference.{found_public};
+ghost use Rattle.omf_image.specs.Reference.{resolved, target_of, frame_of, own_frame, found_public};
 ghost use Rattle.omf_image.specs.inside.Lookups.{found, framed_by};
 ghost use Rattle.omf_image.specs.inside.Ready.{IsTargetThere, IsFrameThere};
 
@@ -83,16 +82,6 @@ fn external_position<A: Allocator + Copy>(
     }
 }
 
-/// Where a group of this frame stands.
-fn group_position(frame: Option<u16>) -> Result<Position, Missing>
-    ensures { found result ≡ group_position frame }
-{
-    match frame {
-        Some(frame) => Ok(Position::Relocatable(16 * u32::from(frame), Some(frame))),
-        None => Err(Missing::Members),
-    }
-}
-
 /// The frame of what stands somewhere.
 fn own_frame(position: Position) -> Result<Base, Missing>
     ensures { found result ≡ own_frame position }
@@ -117,7 +106,10 @@ fn target<A: Allocator + Copy>(
 {
     match target {
         FixupTarget::Segment(segment) => Ok(segment_position(layout, input, segment)),
-        FixupTarget::Group(group) => group_position(layout.group_frame(input, usize::from(group))),
+        FixupTarget::Group(group) => match layout.group_frame(input, usize::from(group)) {
+            Some(frame) => Ok(Position::Relocatable(16 * u32::from(frame), Some(frame))),
+            None => Err(Missing::Members),
+        },
         FixupTarget::External(external) => external_position(
             layout,
             input,
@@ -157,29 +149,7 @@ fn frame<A: Allocator + Copy>(
     own_frame(target(layout, input, module, framing)?)
 }
 
-/// A reference whose target and frame were looked up. An external that means no public is named before a group without
-/// members.
-fn joined(
-    target: Result<Position, Missing>,
-    frame: Result<Base, Missing>,
-    displacement: u16,
-) -> Result<Resolved, Missing>
-    ensures { found result ≡ on_found (both (found target) (found frame))
-        (λ f. Is (record { target = f.0; named_frame = f.1; displacement = displacement })) }
-{
-    match (target, frame) {
-        (Ok(target), Ok(named_frame)) => Ok(Resolved {
-            target,
-            named_frame,
-            displacement,
-        }),
-        (Err(Missing::Public), _) => Err(Missing::Public),
-        (_, Err(Missing::Public)) => Err(Missing::Public),
-        (_, _) => Err(Missing::Members),
-    }
-}
-
-/// What a reference stands for.
+/// What a reference stands for. An external that means no public is named before a group without members.
 pub fn resolve<A: Allocator + Copy>(
     layout: &Layout<A>,
     input: usize,
@@ -196,5 +166,14 @@ pub fn resolve<A: Allocator + Copy>(
 {
     let target = target(layout, input, module, of);
     let frame = frame(layout, input, module, here, of, method);
-    joined(target, frame, displacement)
+    match (target, frame) {
+        (Ok(target), Ok(named_frame)) => Ok(Resolved {
+            target,
+            named_frame,
+            displacement,
+        }),
+        (Err(Missing::Public), _) => Err(Missing::Public),
+        (_, Err(Missing::Public)) => Err(Missing::Public),
+        (_, _) => Err(Missing::Members),
+    }
 }

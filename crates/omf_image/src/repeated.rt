@@ -204,6 +204,19 @@ impl<A: Allocator + Copy> Work<A> {
     }
 }
 
+/// How many fix-ups of a data record are added once for all copies of a byte: of plain data none.
+fn count_once<A: Allocator + Copy>(placed: &PlacedData<'_, A>) -> usize
+    ensures count { result ≤ length placed.now.data_record.fixups.now }
+    ensures leading { All (λ x. x.self_relative ≡ false) (take result placed.now.data_record.fixups.now) }
+    ensures repeated { 0 < result → placed.now.plain ≡ false }
+{
+    if placed.plain {
+        0
+    } else {
+        leading(placed.data_record.fixups)
+    }
+}
+
 /// Lays the data of a record, with the fix-ups that are added once for all copies of a byte: where a byte may have
 /// copies, those before the first self-relative one. Answers how many they are.
 pub fn lay_data<A: Allocator + Copy>(
@@ -232,11 +245,7 @@ pub fn lay_data<A: Allocator + Copy>(
         ≡ fixups_fault placed.now.layout.now (entry_seen placed.now) [] placed.now.data_record.fixups.now)) }
 {
     let record = placed.data_record;
-    let count = if placed.plain {
-        0
-    } else {
-        leading(record.fixups)
-    };
+    let count = count_once(placed);
     if count == 0 {
         work.lay(placed.start, record.bytes)?;
         return Ok(0);

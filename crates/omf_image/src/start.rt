@@ -1,6 +1,7 @@
 //! The registers at the start.
 
-ghost use Rattle.std.specs.Prelude.{◌≡◌, ◌<◌, ◌≤◌, All, Some, None, length};
+ghost use Rattle.std.specs.Prelude.{◌≡◌, ◌<◌, ◌≤◌, All, Some, None, false, length, slice_get};
+ghost use Rattle.std.specs.Option.{option_map_or};
 ghost use Rattle.omf_image.specs.inside.Ready.{IsStartReady};
 ghost use Rattle.omf_image.specs.Registers.{starts, start_meaning, starts_fault, entry_of, entry_at, is_stack};
 ghost use Rattle.omf_image.specs.Registers.{is_stack_segment, stack, stack_of, registers};
@@ -70,18 +71,21 @@ fn is_stack(standing: Standing) -> bool
     )
 }
 
+/// Whether a segment of a module is there and is a stack.
+fn is_stack_of<A: Allocator + Copy>(module: &Module<A>, segment: usize) -> bool
+    ensures { result ≡ option_map_or (λ s. is_stack s.standing) (slice_get «module».now.segments segment) false }
+{
+    segment < module.segment_count() && is_stack(module.segment(segment).standing)
+}
+
 /// Whether a combined segment is a stack.
 fn is_stack_segment<A: Allocator + Copy>(modules: &[Module<A>], combined: Combined) -> bool
     ensures { result ≡ is_stack_segment modules.now combined }
 {
-    if combined.input >= modules.len() {
-        return false;
+    match modules.get(combined.input) {
+        Some(module) => is_stack_of(module, combined.segment),
+        None => false,
     }
-    let module = &modules[combined.input];
-    if combined.segment >= module.segment_count() {
-        return false;
-    }
-    is_stack(module.segment(combined.segment).standing)
 }
 
 /// SS and SP: the frame of the first stack segment and its end counted from there.

@@ -1,4 +1,5 @@
-use Rattle.std.proofs.Common.{◌≡◌, ◌∙◌, List, Bool, false, None, filter, get_or, length, refl, sym, ap, arith, subst}
+use Rattle.std.proofs.Common.{◌≡◌, ◌∙◌, ℕ, List, Bool, false, None, filter, get_or, length, refl, sym, ap, arith, subst}
+use Rattle.std.proofs.lemmas.List.{length-replicate}
 use Rattle.std.specs.List.{range_with_len}
 use Rattle.omf_image.specs.Faults.{data_fault}
 use Rattle.omf_image.specs.Program.{Program}
@@ -8,6 +9,21 @@ use Rattle.omf_image.specs.Building.{IsProgramOf}
 use Rattle.omf_image.proofs.Finishing.{leads_first, no_fault, flags_are, program_limits, program_is, data_first, start_second, count_last}
 use Rattle.omf_image.proofs.Leading.{refused_by}
 use Rattle.omf_image.proofs.build_program.Goals as goal
+
+pub add_modules-requires-clause-whole : goal.add_modules-requires-clause-whole
+add_modules-requires-clause-whole g c =
+    let n = c.size.result in
+    let bytes = ap length c.in_ok-work.ensures.pages.bytes in
+    record {
+      sized = omega (arith, bytes, length-replicate {A = ℕ} n 0, c.size.ensures);
+      words = omega (arith, bytes, length-replicate {A = ℕ} n 0, ap length c.in_ok-work.ensures.words, length-replicate n false);
+      small = c.requires.small;
+    }
+
+pub flagged-requires : goal.flagged-requires
+flagged-requires g c =
+    let whole = c.in_ok-add_modules.ensures.whole in
+    omega (arith, whole.words, whole.sized, c.requires.small, ap length c.deref.ensures.value)
 
 pub returns-in_err-add_modules : goal.returns-in_err-add_modules
 returns-in_err-add_modules g c =

@@ -49,6 +49,26 @@ record_index-requires g c =
     let z : bytes_of e.data_record ≡ d.bytes.now = second_of_zip d.places.now d.bytes.now (sym c.requires.lengths) in
     omega (arith, c.requires.lengths, c.requires.ready.inside, ap length z, c.requires.whole.small)
 
+pub lay_data-requires-clause-placed : goal.lay_data-requires-clause-placed
+lay_data-requires-clause-placed g c = record {
+  input = c.requires.ready.input;
+  segment = c.requires.ready.segment;
+  start = c.data_address-start.ensures;
+  lengths = c.requires.lengths;
+  plain = c.is_plain-plain.ensures.only;
+  index = c.in_ok-index.ensures;
+}
+
+pub add_fixups-requires-clause-placed : goal.add_fixups-requires-clause-placed
+add_fixups-requires-clause-placed g c = record {
+  input = c.requires.ready.input;
+  segment = c.requires.ready.segment;
+  start = c.data_address-start.ensures;
+  lengths = c.requires.lengths;
+  plain = c.is_plain-plain.ensures.only;
+  index = c.in_ok-index.ensures;
+}
+
 pub lay_data-requires-clause-inside : goal.lay_data-requires-clause-inside
 lay_data-requires-clause-inside g c =
     let d = c.args.data_record in

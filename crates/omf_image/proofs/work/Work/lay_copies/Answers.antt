@@ -1,8 +1,27 @@
-use Rattle.std.proofs.Common.{◌∙◌, ◌+◌, ◌||◌, List, Bool, ap, arith, length, map, get_or, false}
+use Rattle.std.proofs.Common.{◌∙◌, ◌+◌, ◌<◌, ◌||◌, List, Bool, All, ap, arith, length, map, get_or, false, subst, sym}
 use Rattle.std.proofs.lemmas.List.{with_items_is}
+use Rattle.std.proofs.lemmas.List.Elements.{All-weaker}
 use Rattle.omf_image.specs.inside.States.{state}
 use Rattle.omf_image.proofs.Copying.{copies_hold}
 use Rattle.omf_image.proofs.work.Work.lay_copies.Goals as goal
+
+pub copied_bytes-requires : goal.copied_bytes-requires
+copied_bytes-requires g c =
+    let s = state c.args.stored.now in
+    All-weaker (λ p. p < length s.touched) (λ p. p < length s.image) (λ p h. omega (arith, h, c.requires.room.inside)) c.args.places.now c.requires.ends
+
+pub copy_marks-requires : goal.copy_marks-requires
+copy_marks-requires g c = subst (λ (flags : List Bool). All (λ p. p < length flags) c.args.places.now) (sym c.deref.ensures.value) c.requires.ends
+
+pub copy_marks-requires-2 : goal.copy_marks-requires-2
+copy_marks-requires-2 g c =
+    let s = state c.args.stored.now in
+    All-weaker (λ p. p < length s.touched) (λ p. p < length c.deref-2.result.now) (λ p h. omega (arith, h, c.requires.room.same, ap length c.deref-2.ensures.value)) c.args.places.now c.requires.ends
+
+pub copy_flags-requires-clause-places : goal.copy_flags-requires-clause-places
+copy_flags-requires-clause-places g c =
+    let s = state c.args.stored.now in
+    All-weaker (λ p. p < length s.touched) (λ p. p < length c.deref-3.result.now) (λ p h. omega (arith, h, c.requires.room.inside, c.requires.room.words, ap length c.deref-3.ensures.value)) c.args.places.now c.requires.ends
 
 pub returns-clause-holds : goal.returns-clause-holds
 returns-clause-holds g c bytes earlier h =
