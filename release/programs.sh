@@ -29,7 +29,7 @@ sum_of() {
         {
             for crate in $crates; do grep "^$crate:" crates.txt; done
             for crate in $crates; do
-                find "crates/$crate" -path '*/out' -prune -o -type f \( -name '*.rt' -o -name '*.antt' \) -print0
+                [ ! -d "crates/$crate" ] || find "crates/$crate" -path '*/out' -prune -o -type f \( -name '*.rt' -o -name '*.antt' \) -print0
             done | sort -z | xargs -0 sha256sum
         } | sha256sum | cut -d ' ' -f 1
     )

@@ -1,15 +1,17 @@
 """The object modules of a library: of a .LIB (its dictionary isn't used), or of a Unix archive."""
 
-import struct
-from dataclasses import dataclass
+import os
 
+from records import COMENT, FRONT
+
+# what is read of a file at once
+PIECE = 65536
 ARCHIVE = b"!<arch>\n"
 # of a member of an archive
 MEMBER_HEADER = 60
 LIBRARY_BEGIN, LIBRARY_END = 0xF0, 0xF1
 MODULE_BEGINS = (0x80, 0x82)
 MODULE_ENDS = (0x8A, 0x8B)
-COMMENT = 0x88
 # the class of the comment in which a librarian keeps a module's name
 LIBRARY_NAME = 0xA3
 
@@ -18,23 +20,22 @@ class Damaged(Exception):
     """A library, or what was given as one, can't be used."""
 
 
-@dataclass
 class Module:
     """A module: the library's file, the module's name and place in it, and its bytes from THEADR to MODEND."""
 
-    library: str
-    name: bytes
-    place: int
-    content: bytes
+    def __init__(self, library, name, place, content):
+        self.library = library
+        self.name = name
+        self.place = place
+        self.content = content
 
 
 class Reading:
     """The bytes of a library, with its file's name for errors."""
 
-    def __init__(self, path):
+    def __init__(self, path, content):
         self.path = path
-        with open(path, "rb") as file:
-            self.content = file.read()
+        self.content = content
 
     def damaged(self, place, what):
         """The error of something at a place."""
@@ -42,12 +43,13 @@ class Reading:
 
     def record(self, place):
         """The type of the record at a place, and the place behind it."""
-        if place + 3 > len(self.content):
+        content, begin = self.content, place + FRONT
+        if begin > len(content):
             raise self.damaged(place, "the file ends where a record should begin")
-        kind, length = struct.unpack_from("<BH", self.content, place)
-        if length == 0 or place + 3 + length > len(self.content):
+        kind, end = content[place], begin + content[place + 1] + (content[place + 2] << 8)
+        if end == begin or end > len(content):
             raise self.damaged(place, f"the record of type {kind:02X}H ends behind the file, or has no length")
-        return kind, place + 3 + length
+        return kind, end
 
     def module(self, begin):
         """The module at a place, and the place behind it."""
@@ -58,7 +60,7 @@ class Reading:
         while kind not in MODULE_ENDS:
             record = place
             kind, place = self.record(record)
-            if kind == COMMENT and self.content[record + 4:record + 5] == bytes([LIBRARY_NAME]):
+            if kind == COMENT and self.content[record + 4:record + 5] == bytes([LIBRARY_NAME]):
                 name = self.content[record + 6:place - 1] or name
         return Module(self.path, name, begin, self.content[begin:place]), place
 
@@ -115,18 +117,32 @@ class Reading:
         return name[:-1] if name.endswith(b"/") else name
 
 
-def is_library(path):
-    """Whether a file begins as a library does."""
-    with open(path, "rb") as file:
-        begin = file.read(len(ARCHIVE))
-    return begin[:1] == bytes([LIBRARY_BEGIN]) or begin == ARCHIVE
+def content_of(path):
+    """The bytes of a file, with the fewest calls, since there may be thousands of files."""
+    descriptor, pieces = os.open(path, os.O_RDONLY), []
+    try:
+        while piece := os.read(descriptor, PIECE):
+            pieces.append(piece)
+    finally:
+        os.close(descriptor)
+    return b"".join(pieces)
+
+
+def is_library(content):
+    """Whether these bytes begin as a library does."""
+    return content[:1] == bytes([LIBRARY_BEGIN]) or content.startswith(ARCHIVE)
+
+
+def modules(path, content):
+    """The modules of a library's file, in their order."""
+    reading = Reading(path, content)
+    if content.startswith(ARCHIVE):
+        return reading.archive()
+    if content[:1] == bytes([LIBRARY_BEGIN]):
+        return reading.library()
+    raise Damaged(f"{path} is no library: it begins neither with F0H nor with !<arch>")
 
 
 def read(path):
     """The modules of a library, in their order."""
-    reading = Reading(path)
-    if reading.content.startswith(ARCHIVE):
-        return reading.archive()
-    if reading.content[:1] == bytes([LIBRARY_BEGIN]):
-        return reading.library()
-    raise Damaged(f"{path} is no library: it begins neither with F0H nor with !<arch>")
+    return modules(path, content_of(path))
