@@ -201,13 +201,12 @@ raw 80 03 00 01 41 00 8A 02 00 00 74 FF
 }
 
 /// The only segment of a module, its only data record and its start.
-fn only_items(alloc: Global, bytes: &[u8]) -> Result<String, Fail> {
-    let module = read_module(alloc, &mut MemSource::over(bytes, 5, None))?;
+fn only_items(alloc: Global, module: &Module) -> Result<String, AllocError> {
     if module.segment_count() != 1 || module.data_record_count() != 1 {
         return Ok(String::new(alloc));
     }
     let (segment, data_record) = (module.segment(0), module.data_record(0));
-    Ok(format!(in alloc; "{segment:?}\n{data_record:?}\n{:?}", module.start())?)
+    format!(in alloc; "{segment:?}\n{data_record:?}\n{:?}", module.start())
 }
 
 #[test]
@@ -222,7 +221,7 @@ fn first_program(rt: HostRuntime) -> Result<(), Fail> {
     is_told(&rt, &outcome(rt.alloc(), &bytes, 1, Some(30))?, "1 at 26");
     is_told(
         &rt,
-        &only_items(rt.alloc(), &bytes)?,
+        &described(rt.alloc(), &bytes, true)?,
         "\
 Segment { name: [67, 79, 68, 69], class: [], length: 5, standing: Relocatable { alignment: 1, kind: Public } }
 DataRecord { place: 26, segment: 0, offset: 0, bytes: [184, 0, 0, 142, 216], places: [0, 1, 2, 3, 4], fixups: \
@@ -252,7 +251,8 @@ A2 01 00 00 03 00 00 00 02 00 00
 
 # sixteen levels of the greatest repeat counts
 98 28 0C 00 02 01 01
-A2 01 00 00 FF FF 01 00 FF FF 01 00 FF FF 01 00 FF FF 01 00 FF FF 01 00 FF FF 01 00 FF FF 01 00 FF FF 01 00 FF FF 01 00 FF FF 01 00 FF FF 01 00 FF FF 01 00 FF FF 01 00 FF FF 01 00 FF FF 01 00 FF FF 00 00 01 41
+A2 01 00 00 FF FF 01 00 FF FF 01 00 FF FF 01 00 FF FF 01 00 FF FF 01 00 FF FF 01 00 FF FF 01 00 FF FF 01 00 \
+FF FF 01 00 FF FF 01 00 FF FF 01 00 FF FF 01 00 FF FF 01 00 FF FF 01 00 FF FF 01 00 FF FF 00 00 01 41
 = 17 at 26
 
 # a great repeat count of an empty content takes no turn for each copy
@@ -268,7 +268,7 @@ A2 01 00 00 01 00 02 00 01 00 00 00 01 41 FF FF 01 00 FF FF 01 00 FF FF 00 00 00
     )?;
     is_told(
         &rt,
-        &only_items(rt.alloc(), &great)?,
+        &described(rt.alloc(), &great, true)?,
         "\
 Segment { name: [67, 79, 68, 69], class: [], length: 1, standing: Relocatable { alignment: 1, kind: Public } }
 DataRecord { place: 26, segment: 0, offset: 0, bytes: [65], places: [9], fixups: [] }
@@ -288,25 +288,59 @@ fn start_at_its_location(rt: HostRuntime) -> Result<(), Fail> {
     hold(&rt, rt.alloc(), rows)
 }
 
-/// Each list of a module by its iterator.
-fn lists(alloc: Global, module: &Module) -> Result<String, AllocError> {
-    let mut told = String::new(alloc);
+fn push_segments(told: &mut String, module: &Module) -> Result<(), AllocError> {
     for segment in module.segments() {
         write!(told, "{segment:?}\n")?;
     }
+    Ok(())
+}
+
+fn push_groups(told: &mut String, module: &Module) -> Result<(), AllocError> {
     for group in module.groups() {
         write!(told, "{group:?}\n")?;
     }
+    Ok(())
+}
+
+fn push_externals(told: &mut String, module: &Module) -> Result<(), AllocError> {
     for external in module.externals() {
         write!(told, "{external:?}\n")?;
     }
+    Ok(())
+}
+
+fn push_publics(told: &mut String, module: &Module) -> Result<(), AllocError> {
     for public in module.publics() {
         write!(told, "{public:?}\n")?;
     }
+    Ok(())
+}
+
+fn push_data_records(told: &mut String, module: &Module) -> Result<(), AllocError> {
     for data_record in module.data_records() {
         write!(told, "{data_record:?}\n")?;
     }
+    Ok(())
+}
+
+/// Each list of a module by its iterator.
+fn lists(alloc: Global, module: &Module) -> Result<String, AllocError> {
+    let mut told = String::new(alloc);
+    push_segments(&mut told, module)?;
+    push_groups(&mut told, module)?;
+    push_externals(&mut told, module)?;
+    push_publics(&mut told, module)?;
+    push_data_records(&mut told, module)?;
     Ok(told)
+}
+
+/// What is told of the module of an input: its lists, or its only items.
+fn described(alloc: Global, bytes: &[u8], only: bool) -> Result<String, Fail> {
+    let module = read_module(alloc, &mut MemSource::over(bytes, 5, None))?;
+    Ok(match only {
+        true => only_items(alloc, &module),
+        false => lists(alloc, &module),
+    }?)
 }
 
 #[test]
@@ -323,10 +357,9 @@ fn lists_are_handed_out_in_order(rt: HostRuntime) -> Result<(), Fail> {
 A0 02 03 00 05
 A0 01 00 00 06",
     )?;
-    let module = read_module(rt.alloc(), &mut MemSource::over(&bytes, 9, None))?;
     is_told(
         &rt,
-        &lists(rt.alloc(), &module)?,
+        &described(rt.alloc(), &bytes, false)?,
         "\
 Segment { name: [67, 79, 68, 69], class: [], length: 2, standing: Relocatable { alignment: 1, kind: Public } }
 Segment { name: [], class: [], length: 7, standing: Relocatable { alignment: 1, kind: Public } }
