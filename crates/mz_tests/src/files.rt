@@ -1,7 +1,7 @@
 //! Files as bytes: what is read of them and what is loaded.
-use mz::{LoadFault, MzFault, load, read_mz};
+use mz::{LoadFault, Loaded, MzFault, MzFile, load, read_mz};
 use omf_frame::{MemSource, Source};
-use std::alloc::Global;
+use std::alloc::{AllocError, Global};
 use std::process::Abort;
 use std::test::*;
 
@@ -12,16 +12,25 @@ const SMALL: [u8; 37] = [
     0xB8, 0x00, 0x00, 0x8E, 0xD8,
 ];
 
-/// The fault of a file that is read in pieces, and how many bytes are left.
-fn fault_of(
+/// The fault of a file, if any, and how many bytes are left of it.
+type Answer = (Option<MzFault>, usize);
+
+/// A file has this answer in pieces of so many bytes, with a failing call, if any.
+fn has_answer<R: Abort>(
+    rt: &R,
     alloc: Global,
     bytes: &[u8],
     piece: usize,
     fail_at: Option<u64>,
-) -> (Option<MzFault>, usize) {
+    wanted: Answer,
+) {
     let mut source = MemSource::over(bytes, piece.max(1), fail_at);
     let fault = read_mz(alloc, &mut source).err();
-    (fault, source.rest().len())
+    assert_eq!(rt;
+        (fault, source.rest().len()),
+        wanted,
+        "{piece} {fail_at:?} {bytes:?}"
+    );
 }
 
 /// The small file with some of its bytes replaced, from a place on.
@@ -38,8 +47,7 @@ fn changed(at: usize, bytes: &[u8]) -> [u8; 37] {
 /// The file has this fault, in pieces of 1, 2 and 3 bytes, and so many bytes are left.
 fn has_fault<R: Abort>(rt: &R, alloc: Global, file: &[u8], fault: MzFault, left: usize) {
     for piece in 1..4 {
-        let answer = fault_of(alloc, file, piece, None);
-        assert_eq!(rt; answer, (Some(fault), left), "{file:?}");
+        has_answer(rt, alloc, file, piece, None, (Some(fault), left));
     }
 }
 
@@ -54,32 +62,41 @@ fn is_told<R: Abort>(rt: &R, told: &str, wanted: &str) {
     assert_eq!(rt; told, wanted);
 }
 
+/// What a file says, and how many calls of its source have failed.
+fn described(alloc: Global, file: &MzFile, failures: u64) -> Result<String, AllocError> {
+    let header = file.header();
+    format!(in alloc;
+        "table at {}, overlay {}, {failures} failures\n{:?}\n{:?}",
+        header.relocation_table,
+        header.overlay,
+        file.entries(),
+        file.image()
+    )
+}
+
 /// What is read of a file.
 fn read(alloc: Global, bytes: &[u8]) -> Result<String, Fail> {
     let mut source = MemSource::over(bytes, 7, None);
     let file = read_mz(alloc, &mut source)?;
-    let (header, left) = (file.header(), source.rest().len());
-    Ok(format!(in alloc;
-        "table at {}, overlay {}, {left} left, {} failures\n{:?}\n{:?}",
-        header.relocation_table,
-        header.overlay,
-        source.failures(),
-        file.entries(),
-        file.image()
-    )?)
+    Ok(described(alloc, &file, source.failures())?)
 }
 
-/// What a file is as it is loaded at a paragraph: its length, its first bytes, its last bytes and the registers.
-fn loaded(alloc: Global, bytes: &[u8], paragraph: u16) -> Result<String, Fail> {
-    let file = read_mz(alloc, &mut MemSource::over(bytes, 4096, None))?;
-    let loaded = load(alloc, &file, paragraph)?;
+/// The length of what is loaded, its first bytes, its last bytes and the registers.
+fn described_load(alloc: Global, loaded: &Loaded) -> Result<String, AllocError> {
     let bytes = loaded.bytes();
     let (first, last) = (bytes.get(..4), bytes.get(bytes.len().saturating_sub(3)..));
-    Ok(format!(in alloc;
+    format!(in alloc;
         "{}: {first:?} {last:?}\n{:?}",
         bytes.len(),
         loaded.registers()
-    )?)
+    )
+}
+
+/// What a file is as it is loaded at a paragraph.
+fn loaded(alloc: Global, bytes: &[u8], paragraph: u16) -> Result<String, Fail> {
+    let file = read_mz(alloc, &mut MemSource::over(bytes, 4096, None))?;
+    let loaded = load(alloc, &file, paragraph)?;
+    Ok(described_load(alloc, &loaded)?)
 }
 
 #[test]
@@ -88,7 +105,7 @@ fn a_file_is_read_and_loaded(rt: HostRuntime) -> Result<(), Fail> {
         &rt,
         &read(rt.alloc(), &SMALL)?,
         "\
-table at 28, overlay 0, 0 left, 0 failures
+table at 28, overlay 0, 0 failures
 [Entry { offset: 1, segment: 0 }]
 [184, 0, 0, 142, 216]",
     );
@@ -159,7 +176,7 @@ fn a_header_without_relocations(rt: HostRuntime) -> Result<(), Fail> {
         &rt,
         &read(rt.alloc(), &bytes)?,
         "\
-table at 65535, overlay 7, 0 left, 0 failures
+table at 65535, overlay 7, 0 failures
 []
 [5, 6, 7, 8, 9]",
     );
@@ -201,7 +218,7 @@ fn entries_that_overlap_and_repeat(rt: HostRuntime) -> Result<(), Fail> {
         &rt,
         &read(rt.alloc(), &TWICE)?,
         "\
-table at 30, overlay 0, 0 left, 0 failures
+table at 30, overlay 0, 0 failures
 [Entry { offset: 0, segment: 0 }, Entry { offset: 1, segment: 0 }, Entry { offset: 0, segment: 0 }]
 [255, 255, 0, 0, 0, 0, 0, 0, 0, 0, 0, 0, 0, 0, 0, 0, 0, 0, 0, 0, 0, 0, 0, 0]",
     );
@@ -226,15 +243,14 @@ fn extra_paragraphs(rt: HostRuntime) {
 }
 
 /// A file of 65,570 bytes with one entry, whose image is zeros but for the word at 65,535.
-fn large(alloc: Global, entry: &[u8]) -> Result<Vec<u8>, Fail> {
-    let mut file = Vec::from_slice(alloc, &SMALL)?;
-    file.truncate(2);
-    file.extend_from_slice(&[
-        0x22, 0x00, 0x81, 0x00, 0x01, 0x00, 0x02, 0x00, 0x00, 0x00, 0xFF, 0xFF,
-    ])?;
-    file.resize(24, 0)?;
-    file.extend_from_slice(&[0x1C, 0x00, 0x00, 0x00])?;
-    file.extend_from_slice(entry)?;
+fn large(alloc: Global, entry: [u8; 4]) -> Result<Vec<u8>, AllocError> {
+    let [first, second, third, fourth] = entry;
+    let head = [
+        0x4D, 0x5A, 0x22, 0x00, 0x81, 0x00, 0x01, 0x00, 0x02, 0x00, 0x00, 0x00, 0xFF, 0xFF, 0x00,
+        0x00, 0x00, 0x00, 0x00, 0x00, 0x00, 0x00, 0x00, 0x00, 0x1C, 0x00, 0x00, 0x00, first,
+        second, third, fourth,
+    ];
+    let mut file = Vec::from_slice(alloc, &head)?;
     file.resize(32 + 65_535, 0)?;
     file.extend_from_slice(&[0xFF, 0x0F, 0x00])?;
     Ok(file)
@@ -242,7 +258,7 @@ fn large(alloc: Global, entry: &[u8]) -> Result<Vec<u8>, Fail> {
 
 #[test]
 fn a_word_over_the_end_of_a_segment(rt: HostRuntime) -> Result<(), Fail> {
-    let bytes = large(rt.alloc(), &[0x0F, 0x00, 0xFF, 0x0F])?;
+    let bytes = large(rt.alloc(), [0x0F, 0x00, 0xFF, 0x0F])?;
     is_told(
         &rt,
         &loaded(rt.alloc(), &bytes, 1)?,
@@ -250,7 +266,7 @@ fn a_word_over_the_end_of_a_segment(rt: HostRuntime) -> Result<(), Fail> {
 65538: Some([0, 0, 0, 0]) Some([0, 16, 0])
 Registers { cs: 1, ip: 0, ss: 1, sp: 0 }",
     );
-    let wrapping = large(rt.alloc(), &[0xFF, 0xFF, 0x00, 0x00])?;
+    let wrapping = large(rt.alloc(), [0xFF, 0xFF, 0x00, 0x00])?;
     has_fault(&rt, rt.alloc(), &wrapping, MzFault::RelocationOutside, 0);
     Ok(())
 }
@@ -262,14 +278,20 @@ fn cut_off_and_longer_files(rt: HostRuntime) {
     }
     let mut longer = [5; 42];
     longer[..37].copy_from_slice(&SMALL);
-    assert_eq!(rt; fault_of(rt.alloc(), &longer, 512, None), (None, 5));
+    has_answer(&rt, rt.alloc(), &longer, 512, None, (None, 5));
 }
 
 #[test]
 fn a_failing_read(rt: HostRuntime) {
-    for call in 1..38 {
-        let (fault, _left) = fault_of(rt.alloc(), &SMALL, 1, Some(call));
-        assert_eq!(rt; fault, Some(MzFault::Device), "{call}");
+    for call in 1..38usize {
+        has_answer(
+            &rt,
+            rt.alloc(),
+            &SMALL,
+            1,
+            Some(call as u64),
+            (Some(MzFault::Device), 38 - call),
+        );
     }
-    assert_eq!(rt; fault_of(rt.alloc(), &SMALL, 1, Some(38)), (None, 0));
+    has_answer(&rt, rt.alloc(), &SMALL, 1, Some(38), (None, 0));
 }
