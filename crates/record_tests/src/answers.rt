@@ -37,13 +37,18 @@ pub fn encode_if_fits<A: Allocator + Copy>(record: &Record<'_, A>, out: &mut Vec
     fits_frame(record) && encode_record(record, out).is_ok()
 }
 
+/// The canonical body of a record.
+fn body_of(alloc: Global, record: &Record<'_>) -> Result<String, AllocError> {
+    let mut out = Vec::new(alloc);
+    if !encode_if_fits(record, &mut out) {
+        return Err(AllocError);
+    }
+    hex::encode_upper(alloc, &out)
+}
+
 fn canonical(alloc: Global, kind: u8, body: &[u8]) -> Result<String, AllocError> {
     match read(alloc, kind, body) {
-        Ok(record) => {
-            let mut out = Vec::new(alloc);
-            encode_if_fits(&record, &mut out);
-            hex::encode_upper(alloc, &out)
-        }
+        Ok(record) => body_of(alloc, &record),
         Err(fault) => format!(in alloc; "{fault:?}"),
     }
 }
