@@ -201,8 +201,15 @@ fn link_of(alloc: Global, count: usize, part: &str) -> Result<String, AllocError
 
 #[test]
 fn refuses_too_many_files(rt: HostRuntime) {
-    let files = r#", "A.OBJ""#.repeat(rt.alloc(), 65_534).expect(&rt, "text");
-    hold(&rt, rt.alloc(), "Ok(Link {", &link_of(rt.alloc(), 65_535, &files).expect(&rt, "text"));
+    let files = r#", "A.OBJ""#
+        .repeat(rt.alloc(), 65_534)
+        .expect(&rt, "text");
+    hold(
+        &rt,
+        rt.alloc(),
+        "Ok(Link {",
+        &link_of(rt.alloc(), 65_535, &files).expect(&rt, "text"),
+    );
     let refused = link_of(rt.alloc(), 65_536, r"omf: wrong words\n").expect(&rt, "text");
     hold(&rt, rt.alloc(), "Err(Wrong(", &refused);
 }
