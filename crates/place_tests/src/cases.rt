@@ -1,355 +1,222 @@
 //! Worked programs.
 
-use crate::laid::{Records, outcome, outcome_of, read_records};
-use std::alloc::Global;
-use std::process::Abort;
+use crate::laid::{expect, run};
+use omf_place::Names;
 use std::test::*;
 
-pub const HEADER: (u8, &[u8]) = (0x80, &[1, 0x41]);
-
-/// The names "" and "CODE".
-pub const CODE: (u8, &[u8]) = (0x96, &[0, 4, 0x43, 0x4F, 0x44, 0x45]);
-
-pub const END: (u8, &[u8]) = (0x8A, &[0]);
-
-/// The public segment "CODE", at any byte, of one byte.
-const ONE: (u8, &[u8]) = (0x98, &[0x28, 1, 0, 2, 1, 1]);
-
-/// Of five bytes.
-const FIVE: (u8, &[u8]) = (0x98, &[0x28, 5, 0, 2, 1, 1]);
-
-/// Of 65,535 bytes.
-const LONG: (u8, &[u8]) = (0x98, &[0x28, 0xFF, 0xFF, 2, 1, 1]);
-
-/// A private segment of 65,536 bytes without a name.
-const WHOLE: (u8, &[u8]) = (0x98, &[0x22, 0, 0, 1, 1, 1]);
-
-/// Two publics "x", in the first segment.
-const TWICE: (u8, &[u8]) = (0x90, &[0, 1, 1, 0x78, 0, 0, 0, 1, 0x78, 1, 0, 0]);
+#[test]
+fn no_modules(rt: HostRuntime) -> Result<(), Fail> {
+    expect(&rt, rt.alloc(), Names::Exact, &[], "size 0:;;")
+}
 
 /// Modules that have a layout, and what it says.
 #[test]
 fn layouts(rt: HostRuntime) -> Result<(), Fail> {
-    let rows: [(&[Records<'_>], &str); 14] = [
-        (&[], "size 0:;;"),
-        // the classes B and C, in order of first meeting: the third segment is placed before the second
-        (
-            &[&[
-                HEADER,
-                (0x96, &[0, 1, 0x41, 1, 0x42, 1, 0x43]),
-                (0x98, &[0x28, 1, 0, 2, 3, 1]),
-                (0x98, &[0x28, 2, 0, 3, 4, 1]),
-                (0x98, &[0x28, 4, 0, 4, 3, 1]),
-                END,
-            ]],
-            "size 7: 0/0 5/0 1/0 |; 0-1 0.0 1-5 0.2 5-7 0.1;",
-        ),
-        // an absolute segment opens no class
-        (
-            &[&[
-                HEADER,
-                (0x96, &[0, 1, 0x58, 1, 0x59]),
-                (0x98, &[0x00, 0, 0, 0, 1, 0, 1, 2, 1]),
-                (0x98, &[0x28, 1, 0, 1, 3, 1]),
-                (0x98, &[0x28, 1, 0, 1, 2, 1]),
-                END,
-            ]],
-            "size 2: =0/=0 0/0 1/0 |; 0-1 0.1 1-2 0.2;",
-        ),
-        // the second part of a stack has no alignment of its own
-        (
-            &[&[
-                HEADER,
-                CODE,
-                ONE,
-                (0x98, &[0x74, 3, 0, 2, 1, 1]),
-                (0x98, &[0x74, 5, 0, 2, 1, 1]),
-                END,
-            ]],
-            "size 24: 0/0 16/1 19/1 |; 0-1 0.0 16-24 0.1;",
-        ),
-        (
-            &[&[HEADER, CODE, FIVE, (0x98, &[0x74, 0, 1, 2, 1, 1]), END]],
-            "size 272: 0/0 16/1 |; 0-5 0.0 16-272 0.1;",
-        ),
-        (
-            &[&[
-                HEADER,
-                CODE,
-                (0x98, &[0x28, 0, 0, 2, 1, 1]),
-                (0x98, &[0x76, 0, 0, 2, 1, 1]),
-                END,
-            ]],
-            "size 65536: 0/0 0/0 |; 0-0 0.0 0-65536 0.1;",
-        ),
-        // a common segment has the greatest length and the greatest alignment of its parts
-        (
-            &[
-                &[
-                    HEADER,
-                    CODE,
-                    (0x98, &[0x38, 4, 0, 2, 1, 1]),
-                    (0xA0, &[1, 0, 0, 0x11, 0x22, 0x33, 0x44]),
-                    END,
-                ],
-                &[
-                    HEADER,
-                    CODE,
-                    (0x98, &[0x38, 2, 0, 2, 1, 1]),
-                    (0xA0, &[1, 0, 0, 0xAA, 0xBB]),
-                    END,
-                ],
-            ],
-            "size 4: 0/0 | 0/0 |; 0-4 0.0;",
-        ),
-        (
-            &[
-                &[HEADER, CODE, FIVE, (0x98, &[0x38, 2, 0, 2, 1, 1]), END],
-                &[HEADER, CODE, (0x98, &[0x78, 4, 0, 2, 1, 1]), END],
-            ],
-            "size 20: 0/0 16/1 | 16/1 |; 0-5 0.0 16-20 0.1;",
-        ),
-        // private segments stay apart
-        (
-            &[&[
-                HEADER,
-                CODE,
-                ONE,
-                (0x98, &[0x20, 1, 0, 2, 1, 1]),
-                (0x98, &[0x20, 1, 0, 2, 1, 1]),
-                END,
-            ]],
-            "size 3: 0/0 1/0 2/0 |; 0-1 0.0 1-2 0.1 2-3 0.2;",
-        ),
-        // an absolute segment and a public in it
-        (
-            &[&[
-                HEADER,
-                CODE,
-                FIVE,
-                (0x98, &[0x00, 0x00, 0xB8, 0x07, 0x00, 0x40, 1, 1, 1]),
-                (0x90, &[0, 2, 1, 0x78, 2, 0, 0]),
-                END,
-            ]],
-            "size 5: 0/0 =753671/=47104 |; 0-5 0.0;; x =753673/=47104",
-        ),
-        // a public at a frame
-        (
-            &[&[
-                HEADER,
-                CODE,
-                FIVE,
-                (0x90, &[0, 0, 0x34, 0x12, 1, 0x78, 5, 0, 0]),
-                END,
-            ]],
-            "size 5: 0/0 |; 0-5 0.0;; x =74565/=4660",
-        ),
-        // a group without members
-        (
-            &[&[
-                HEADER,
-                CODE,
-                FIVE,
-                (0x9A, &[2]),
-                (0x90, &[1, 1, 1, 0x78, 2, 0, 0]),
-                END,
-            ]],
-            "size 5: 0/0 | -; 0-5 0.0; - 0.0; x 2/-",
-        ),
-        // members of a group in two modules
-        (
-            &[
-                &[
-                    HEADER,
-                    CODE,
-                    (0x98, &[0x28, 16, 0, 2, 1, 1]),
-                    (0x98, &[0x68, 16, 0, 1, 1, 1]),
-                    (0x9A, &[2, 0xFF, 2]),
-                    END,
-                ],
-                &[
-                    HEADER,
-                    CODE,
-                    (0x98, &[0x28, 0, 0, 2, 1, 1]),
-                    (0x9A, &[2, 0xFF, 1]),
-                    END,
-                ],
-            ],
-            "size 32: 0/0 16/1 | 0 16/0 | 0; 0-16 0.0 16-32 0.1; 0 0.0",
-        ),
-        (&TWO, TWO_LAID),
-    ];
-    for (inputs, text) in rows {
-        let laid = outcome_of(rt.alloc(), rt.alloc(), inputs)?;
-        assert_eq!(rt; laid.as_str(), text);
-    }
-    Ok(())
+    run(
+        &rt,
+        rt.alloc(),
+        Names::Exact,
+        "\
+# the classes B and C, in order of first meeting: the third segment is placed before the second
+80 01 41
+96 00 01 41 01 42 01 43
+98 28 01 00 02 03 01
+98 28 02 00 03 04 01
+98 28 04 00 04 03 01
+= size 7: 0/0 5/0 1/0 |; 0-1 0.0 1-5 0.2 5-7 0.1;
+
+# an absolute segment opens no class
+80 01 41
+96 00 01 58 01 59
+98 00 00 00 00 01 00 01 02 01
+98 28 01 00 01 03 01
+98 28 01 00 01 02 01
+= size 2: =0/=0 0/0 1/0 |; 0-1 0.1 1-2 0.2;
+
+# the second part of a stack has no alignment of its own
+98 28 01 00 02 01 01
+98 74 03 00 02 01 01
+98 74 05 00 02 01 01
+= size 24: 0/0 16/1 19/1 |; 0-1 0.0 16-24 0.1;
+
+98 28 05 00 02 01 01
+98 74 00 01 02 01 01
+= size 272: 0/0 16/1 |; 0-5 0.0 16-272 0.1;
+
+98 28 00 00 02 01 01
+98 76 00 00 02 01 01
+= size 65536: 0/0 0/0 |; 0-0 0.0 0-65536 0.1;
+
+# a common segment has the greatest length and the greatest alignment of its parts
+98 38 04 00 02 01 01
+A0 01 00 00 11 22 33 44
+--
+98 38 02 00 02 01 01
+A0 01 00 00 AA BB
+= size 4: 0/0 | 0/0 |; 0-4 0.0;
+
+98 28 05 00 02 01 01
+98 38 02 00 02 01 01
+--
+98 78 04 00 02 01 01
+= size 20: 0/0 16/1 | 16/1 |; 0-5 0.0 16-20 0.1;
+
+# private segments stay apart
+98 28 01 00 02 01 01
+98 20 01 00 02 01 01
+98 20 01 00 02 01 01
+= size 3: 0/0 1/0 2/0 |; 0-1 0.0 1-2 0.1 2-3 0.2;
+
+# an absolute segment and a public in it
+98 28 05 00 02 01 01
+98 00 00 B8 07 00 40 01 01 01
+90 00 02 01 78 02 00 00
+= size 5: 0/0 =753671/=47104 |; 0-5 0.0;; x =753673/=47104
+
+# a public at a frame
+98 28 05 00 02 01 01
+90 00 00 34 12 01 78 05 00 00
+= size 5: 0/0 |; 0-5 0.0;; x =74565/=4660
+
+# a group without members
+98 28 05 00 02 01 01
+9A 02
+90 01 01 01 78 02 00 00
+= size 5: 0/0 | -; 0-5 0.0; - 0.0; x 2/-
+
+# members of a group in two modules
+98 28 10 00 02 01 01
+98 68 10 00 01 01 01
+9A 02 FF 02
+--
+98 28 00 00 02 01 01
+9A 02 FF 01
+= size 32: 0/0 16/1 | 0 16/0 | 0; 0-16 0.0 16-32 0.1; 0 0.0
+
+# a group of 65,536 bytes is not too long
+98 28 FF FF 02 01 01
+98 28 01 00 01 01 01
+9A 02 FF 01 FF 02
+= size 65536: 0/0 65535/4095 | 0; 0-65535 0.0 65535-65536 0.1; 0 0.0",
+    )
 }
 
 /// Two modules with a group and a segment in common, and a public in the second.
-pub const TWO: [Records<'static>; 2] = [
-    &[
-        HEADER,
-        (
-            0x96,
-            &[
-                0, 4, 0x43, 0x4F, 0x44, 0x45, 5, 0x5F, 0x44, 0x41, 0x54, 0x41, 6, 0x44, 0x47, 0x52,
-                0x4F, 0x55, 0x50,
-            ],
-        ),
-        (0x98, &[0x68, 18, 0, 2, 2, 1]),
-        (0x98, &[0x48, 3, 0, 3, 3, 1]),
-        (0x9A, &[4, 0xFF, 2]),
-        (0x8C, &[1, 0x78, 0]),
-        (0xA0, &[1, 0, 0, 0xB8, 0, 0, 0xA1, 0, 0]),
-        (0x9C, &[0x44, 1, 8, 1]),
-        (0x9C, &[0xC8, 1, 0x8C, 0xC4, 4, 0x8C]),
-        (0x8A, &[0xC1, 0, 1, 1, 0, 0]),
-    ],
-    &[
-        HEADER,
-        (
-            0x96,
-            &[
-                0, 5, 0x5F, 0x44, 0x41, 0x54, 0x41, 6, 0x44, 0x47, 0x52, 0x4F, 0x55, 0x50,
-            ],
-        ),
-        (0x98, &[0x48, 2, 0, 2, 2, 1]),
-        (0x9A, &[3, 0xFF, 1]),
-        (0x90, &[1, 1, 1, 0x78, 0, 0, 0]),
-        (0xA0, &[1, 0, 0, 0x34, 0x12]),
-        END,
-    ],
-];
+pub const TWO: &str = "\
+80 01 41
+96 00 04 43 4F 44 45 05 5F 44 41 54 41 06 44 47 52 4F 55 50
+98 68 12 00 02 02 01
+98 48 03 00 03 03 01
+9A 04 FF 02
+8C 01 78 00
+A0 01 00 00 B8 00 00 A1 00 00
+9C 44 01 08 01
+9C C8 01 8C C4 04 8C
+8A C1 00 01 01 00 00
+--
+80 01 41
+96 00 05 5F 44 41 54 41 06 44 47 52 4F 55 50
+98 48 02 00 02 02 01
+9A 03 FF 01
+90 01 01 01 78 00 00 00
+A0 01 00 00 34 12
+= size 24: 0/0 18/1 | 1 22/1 | 1; 0-18 0.0 18-24 0.1; 1 0.0; x 22/1";
 
-pub const TWO_LAID: &str = "size 24: 0/0 18/1 | 1 22/1 | 1; 0-18 0.0 18-24 0.1; 1 0.0; x 22/1";
+#[test]
+fn two_modules(rt: HostRuntime) -> Result<(), Fail> {
+    run(&rt, rt.alloc(), Names::Exact, TWO)
+}
 
 /// A stack that is one byte too long, a group that is, each alone and with two publics of one name; and these alone.
-pub const AT_FAULT: [(Records<'static>, &str); 5] = [
-    (
-        &[
-            HEADER,
-            CODE,
-            (0x98, &[0x28, 0, 0, 2, 1, 1]),
-            (0x98, &[0x76, 0, 0, 2, 1, 1]),
-            (0x98, &[0x74, 1, 0, 2, 1, 1]),
-            END,
-        ],
-        "22 SegmentTooLong CODE",
-    ),
-    (
-        &[
-            HEADER,
-            CODE,
-            LONG,
-            (0x98, &[0x28, 2, 0, 1, 1, 1]),
-            (0x9A, &[2, 0xFF, 1, 0xFF, 2]),
-            END,
-        ],
-        "24 GroupTooLong CODE",
-    ),
-    (
-        &[
-            HEADER,
-            CODE,
-            (0x98, &[0x28, 0, 0, 2, 1, 1]),
-            (0x98, &[0x76, 0, 0, 2, 1, 1]),
-            (0x98, &[0x74, 1, 0, 2, 1, 1]),
-            TWICE,
-            END,
-        ],
-        "22 SegmentTooLong CODE",
-    ),
-    (
-        &[
-            HEADER,
-            CODE,
-            LONG,
-            (0x98, &[0x28, 2, 0, 1, 1, 1]),
-            (0x9A, &[2, 0xFF, 1, 0xFF, 2]),
-            TWICE,
-            END,
-        ],
-        "24 GroupTooLong CODE",
-    ),
-    (&[HEADER, CODE, FIVE, TWICE, END], "25 DuplicatePublic x"),
-];
+pub const AT_FAULT: &str = "\
+98 28 00 00 02 01 01
+98 76 00 00 02 01 01
+98 74 01 00 02 01 01
+= 22 SegmentTooLong CODE
+
+98 28 FF FF 02 01 01
+98 28 02 00 01 01 01
+9A 02 FF 01 FF 02
+= 24 GroupTooLong CODE
+
+98 28 00 00 02 01 01
+98 76 00 00 02 01 01
+98 74 01 00 02 01 01
+90 00 01 01 78 00 00 00 01 78 01 00 00
+= 22 SegmentTooLong CODE
+
+98 28 FF FF 02 01 01
+98 28 02 00 01 01 01
+9A 02 FF 01 FF 02
+90 00 01 01 78 00 00 00 01 78 01 00 00
+= 24 GroupTooLong CODE
+
+98 28 05 00 02 01 01
+90 00 01 01 78 00 00 00 01 78 01 00 00
+= 25 DuplicatePublic x";
 
 #[test]
 fn faults(rt: HostRuntime) -> Result<(), Fail> {
-    for (records, text) in AT_FAULT {
-        let laid = outcome_of(rt.alloc(), rt.alloc(), &[records])?;
-        assert_eq!(rt; laid.as_str(), text);
-    }
-    Ok(())
+    run(&rt, rt.alloc(), Names::Exact, AT_FAULT)
 }
 
-/// A group of 65,536 bytes is not too long.
-#[test]
-fn a_group_that_fits(rt: HostRuntime) -> Result<(), Fail> {
-    let records: Records<'_> = &[
-        HEADER,
-        CODE,
-        LONG,
-        (0x98, &[0x28, 1, 0, 1, 1, 1]),
-        (0x9A, &[2, 0xFF, 1, 0xFF, 2]),
-        END,
-    ];
-    let laid = outcome_of(rt.alloc(), rt.alloc(), &[records])?;
-    assert_eq!(rt;
-        laid.as_str(),
-        "size 65536: 0/0 65535/4095 | 0; 0-65535 0.0 65535-65536 0.1; 0 0.0"
-    );
-    Ok(())
-}
-
-/// After these names fifteen private segments of 65,536 bytes, then these records: the front of what is said of them.
-fn fifteen_and<R: Abort>(
-    rt: &R,
-    alloc: Global,
-    names: (u8, &'static [u8]),
-    more: Records<'_>,
-    front: &str,
-) -> Result<(), Fail> {
-    let mut records = Vec::new(alloc);
-    records.push(HEADER)?;
-    records.push(names)?;
-    for _ in 0..15u8 {
-        records.push(WHOLE)?;
-    }
-    for record in more {
-        records.push(*record)?;
-    }
-    records.push(END)?;
-    let mut modules = Vec::new(alloc);
-    modules.push(read_records(alloc, &records)?)?;
-    let laid = outcome(alloc, alloc, &modules)?;
-    assert!(rt; laid.as_str().starts_with(front));
-    Ok(())
-}
-
-/// A program of 1,048,560 bytes is not too large; faults come in order of number.
+/// Fifteen private segments of 65,536 bytes, and more.
 #[test]
 fn large_programs(rt: HostRuntime) -> Result<(), Fail> {
-    let group: (u8, &[u8]) = (0x9A, &[2, 0xFF, 1, 0xFF, 2]);
-    let fits: (u8, &[u8]) = (0x98, &[0x20, 0xF0, 0xFF, 1, 1, 1]);
-    let over: (u8, &[u8]) = (0x98, &[0x20, 0xF1, 0xFF, 1, 1, 1]);
-    let stack: (u8, &[u8]) = (0x98, &[0x76, 0, 0, 2, 1, 1]);
-    let more: (u8, &[u8]) = (0x98, &[0x74, 1, 0, 2, 1, 1]);
-    let nameless: (u8, &[u8]) = (0x96, &[0]);
-    let rows: [((u8, &[u8]), Records<'_>, &str); 5] = [
-        (
-            nameless,
-            &[fits],
-            "size 1048560: 0/0 65536/4096 131072/8192",
-        ),
-        (nameless, &[over], "23 ProgramTooLarge"),
-        (CODE, &[fits, group], "24 GroupTooLong CODE"),
-        (CODE, &[over, group], "23 ProgramTooLarge"),
-        (CODE, &[over, stack, more], "22 SegmentTooLong CODE"),
-    ];
-    for (names, more, front) in rows {
-        fifteen_and(&rt, rt.alloc(), names, more, front)?;
-    }
-    Ok(())
+    run(
+        &rt,
+        rt.alloc(),
+        Names::Exact,
+        "\
+# a program of 1,048,560 bytes is not too large
+80 01 41
+96 00
+98 22 00 00 01 01 01 x15
+98 20 F0 FF 01 01 01
+= size 1048560: 0/0 65536/4096 131072/8192 196608/12288 262144/16384 327680/20480 393216/24576 458752/28672 \
+524288/32768 589824/36864 655360/40960 720896/45056 786432/49152 851968/53248 917504/57344 983040/61440 |; 0-65536 \
+0.0 65536-131072 0.1 131072-196608 0.2 196608-262144 0.3 262144-327680 0.4 327680-393216 0.5 393216-458752 0.6 \
+458752-524288 0.7 524288-589824 0.8 589824-655360 0.9 655360-720896 0.10 720896-786432 0.11 786432-851968 0.12 \
+851968-917504 0.13 917504-983040 0.14 983040-1048560 0.15;
+
+80 01 41
+96 00
+98 22 00 00 01 01 01 x15
+98 20 F1 FF 01 01 01
+= 23 ProgramTooLarge
+
+# faults come in order of number
+98 22 00 00 01 01 01 x15
+98 20 F0 FF 01 01 01
+9A 02 FF 01 FF 02
+= 24 GroupTooLong CODE
+
+98 22 00 00 01 01 01 x15
+98 20 F1 FF 01 01 01
+9A 02 FF 01 FF 02
+= 23 ProgramTooLarge
+
+98 22 00 00 01 01 01 x15
+98 20 F1 FF 01 01 01
+98 76 00 00 02 01 01
+98 74 01 00 02 01 01
+= 22 SegmentTooLong CODE",
+    )
+}
+
+/// Segments whose names differ in case stay two.
+#[test]
+fn segments_agree_exactly(rt: HostRuntime) -> Result<(), Fail> {
+    run(
+        &rt,
+        rt.alloc(),
+        Names::AsciiFolded,
+        "\
+98 28 01 00 02 01 01
+--
+80 01 41
+96 00 04 63 6F 64 65
+98 28 01 00 02 01 01
+= size 2: 0/0 | 1/0 |; 0-1 0.0 1-2 1.0;",
+    )
 }
