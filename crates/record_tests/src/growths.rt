@@ -1,5 +1,5 @@
 use crate::answers::{Ask, encode_if_fits, hold, read};
-use omf_record::Record;
+use omf_record::{Record, RecordFault};
 use refusing::Refusing;
 use std::alloc::{AllocError, Allocator, Global};
 
@@ -21,7 +21,8 @@ fn rewrite<A: Allocator + Copy>(
 ) -> &'static str {
     match read(alloc, kind, body) {
         Ok(record) => append(&record, out),
-        Err(_) => "reading",
+        Err(RecordFault::Memory) => "reading",
+        Err(_) => "another fault",
     }
 }
 
