@@ -63,11 +63,11 @@ unpack() {
     chmod 755 "$unpacked/$1.new" && mv -f "$unpacked/$1.new" "$unpacked/$1"
 }
 
-# A line now and then of how many functions and types are proved, of as many as the released program has
+# A line for every fifty functions that are proved, with how many there are in the released program: progress PROGRAM
 progress() {
-    awk -v program="$1" -v all="$(said_of "$1" proved)" '
-        /: proved$/ && ++count % 100 == 0 {
-            printf "%s: proved %d%s functions and types\n", program, count, all ? " of " all : ""
+    awk -v program="$1" -v all="$(said_of "$1" functions)" '
+        /^fn [^ ]+: proved$/ && !met[$2]++ && ++count % 50 == 0 {
+            printf "%s: proved %d of %s functions\n", program, count, all ? all : "all"
             fflush()
         }' >&2
 }
