@@ -1,280 +1,215 @@
-use crate::modules::append;
-use crate::objects::{BIOS, GREET, GROUPS, LINES, MAIN, NEAR, TINY};
-use crate::records::{HELLO, SMALL};
-use omf_commands::check;
-use omf_frame::{MemSink, MemSource};
-use omf_text::{InputFault, LinkFault};
-use std::alloc::Global;
-use std::process::Abort;
+//! Inputs that are checked.
+
+use crate::answer::Command;
+use crate::tables::{Telling, answers};
 use std::test::*;
 
-/// A record: its type and its body.
-type Entry<'a> = (u8, &'a [u8]);
+/// The first fault of the records counts.
+const MODULES: &str = "\
+80 01 41
+96 00 04 43 4F 44 45
+98 28 01 00 02 01 01
+80 01 42
+= ok
 
-/// A module with one segment of this length and these records.
-fn module_with(alloc: Global, length: u16, records: &[Entry<'_>]) -> Result<Vec<u8>, Fail> {
-    let [low, high] = length.to_le_bytes();
-    let mut module = Vec::new(alloc);
-    append(&mut module, 0x80, &[0x01, 0x41])?;
-    append(&mut module, 0x96, &[0x00, 0x04, 0x43, 0x4F, 0x44, 0x45])?;
-    append(&mut module, 0x98, &[0x28, low, high, 0x02, 0x01, 0x01])?;
-    for record in records {
-        append(&mut module, record.0, record.1)?;
-    }
-    append(&mut module, 0x8A, &[0x00])?;
-    Ok(module)
-}
+98 28 01 00 02 01 01
+98 28 01 00 03 01 01
+= 1 omf: A.OBJ: 10 NameIndex at record 26
 
-/// Checks the input in pieces of 1, 2 and 3 bytes.
-fn answers<R: Abort>(
-    rt: &R,
-    alloc: Global,
-    input: &[u8],
-    answer: Result<(), (u64, InputFault)>,
-) -> Result<(), Fail> {
-    for piece in [1usize, 2, 3] {
-        let mut source = MemSource::over(input, piece, None);
-        let mut room = [0u8; 4];
-        let mut sink = MemSink::over(&mut room, 1);
-        let result = check(alloc, &mut source, &mut sink);
-        match answer {
-            Ok(()) => {
-                assert!(rt; result.is_ok());
-                assert_eq!(rt; sink.written(), b"ok\n".as_slice());
-            }
-            Err((place, fault)) => {
-                assert_eq!(rt;
-                    result,
-                    Err(LinkFault::Record {
-                        input: 0,
-                        place,
-                        fault
-                    })
-                );
-                assert!(rt; sink.written().is_empty());
-            }
-        }
-    }
-    Ok(())
-}
+98 28 02 00 02 01 01
+A0 02 00 00 00
+= 1 omf: A.OBJ: 11 SegmentIndex at record 26
+
+98 28 02 00 02 01 01
+90 05 01 01 78 00 00 00
+= 1 omf: A.OBJ: 12 GroupIndex at record 26
+
+98 28 02 00 02 01 01
+B6 00 02 01 78 00 00 00
+= 1 omf: A.OBJ: 11 SegmentIndex at record 26
+
+98 28 02 00 02 01 01
+B6 05 01 01 78 00 00 00
+= 1 omf: A.OBJ: 12 GroupIndex at record 26
+
+# local externals and others are counted together
+98 28 02 00 02 01 01
+8C 01 78 00
+B4 01 79 00 01 7A 00
+8C 01 78 00
+A0 01 00 00 00 00
+9C C4 00 56 04
+= ok
+
+98 28 02 00 02 01 01
+B4 01 78 00
+8C 01 79 00
+A0 01 00 00 00 00
+9C C4 00 56 03
+= 1 omf: A.OBJ: 13 ExternalIndex at record 49
+
+98 28 02 00 02 01 01
+A0 01 00 00 00 00
+9C C4 00 56 01
+= 1 omf: A.OBJ: 13 ExternalIndex at record 35
+
+98 28 02 00 02 01 01
+A0 01 00 00 00 00
+9C C4 00 8C
+= 1 omf: A.OBJ: 14 ThreadNotSet at record 35
+
+98 28 01 00 02 01 01
+9C C4 00 04 01 01
+= 1 omf: A.OBJ: 15 FixupBeforeData at record 26
+
+98 28 02 00 02 01 01
+A0 01 01 00 00 00
+= 1 omf: A.OBJ: 17 DataOutside at record 26
+
+98 28 02 00 02 01 01
+98 00 00 B8 00 00 40 01 01 01
+A0 02 00 00 00
+= 1 omf: A.OBJ: 18 DataInAbsolute at record 39
+
+98 28 02 00 02 01 01
+A0 01 00 00 00 00
+9C 88 00 04 01 01
+= 1 omf: A.OBJ: 19 SelfRelativeBase at record 35
+
+98 28 02 00 02 01 01
+98 00 00 B8 00 00 40 01 01 01
+9A 02 FF 02
+= 1 omf: A.OBJ: 21 GroupOfAbsolute at record 39
+
+98 28 02 00 02 01 01
+9C 00 09
+A0 01 00 00 00 00
+= ok
+
+98 28 0C 00 02 01 01
+A2 01 00 00 02 00 01 00 03 00 00 00 02 41 42
+= ok
+
+98 28 0C 00 02 01 01
+A2 01 00 00 FF FF 01 00 FF FF 01 00 FF FF 00 00 01 41
+= 1 omf: A.OBJ: 17 DataOutside at record 26
+
+98 28 06 00 02 01 01
+A2 01 00 00 03 00 00 00 02 00 00
+9C C8 05 04 01 01
+= ok
+
+98 28 06 00 02 01 01
+A2 01 00 00 03 00 00 00 02 00 00
+9C C8 04 04 01 01
+= 1 omf: A.OBJ: 16 FixupPlace at record 40
+
+98 28 01 00 02 01 01
+A2 01 00 00 01 00 02 00 01 00 00 00 01 41 FF FF 01 00 FF FF 01 00 FF FF 00 00 00
+= ok";
 
 #[test]
 fn records_are_checked_in_order(rt: HostRuntime) -> Result<(), Fail> {
-    let rows: [(u16, &[Entry<'_>], Result<(), (u64, InputFault)>); 21] = [
-        (1, &[(0x80, &[0x01, 0x42])], Ok(())),
-        (
-            1,
-            &[(0x98, &[0x28, 0x01, 0x00, 0x03, 0x01, 0x01])],
-            Err((26, InputFault::NameIndex)),
-        ),
-        (
-            2,
-            &[(0xA0, &[0x02, 0x00, 0x00, 0x00])],
-            Err((26, InputFault::SegmentIndex)),
-        ),
-        (
-            2,
-            &[(0x90, &[0x05, 0x01, 0x01, 0x78, 0x00, 0x00, 0x00])],
-            Err((26, InputFault::GroupIndex)),
-        ),
-        (
-            2,
-            &[(0xB6, &[0x00, 0x02, 0x01, 0x78, 0x00, 0x00, 0x00])],
-            Err((26, InputFault::SegmentIndex)),
-        ),
-        (
-            2,
-            &[(0xB6, &[0x05, 0x01, 0x01, 0x78, 0x00, 0x00, 0x00])],
-            Err((26, InputFault::GroupIndex)),
-        ),
-        // local externals and others are counted together
-        (
-            2,
-            &[
-                (0x8C, &[0x01, 0x78, 0x00]),
-                (0xB4, &[0x01, 0x79, 0x00, 0x01, 0x7A, 0x00]),
-                (0x8C, &[0x01, 0x78, 0x00]),
-                (0xA0, &[0x01, 0x00, 0x00, 0x00, 0x00]),
-                (0x9C, &[0xC4, 0x00, 0x56, 0x04]),
-            ],
-            Ok(()),
-        ),
-        (
-            2,
-            &[
-                (0xB4, &[0x01, 0x78, 0x00]),
-                (0x8C, &[0x01, 0x79, 0x00]),
-                (0xA0, &[0x01, 0x00, 0x00, 0x00, 0x00]),
-                (0x9C, &[0xC4, 0x00, 0x56, 0x03]),
-            ],
-            Err((49, InputFault::ExternalIndex)),
-        ),
-        (
-            2,
-            &[
-                (0xA0, &[0x01, 0x00, 0x00, 0x00, 0x00]),
-                (0x9C, &[0xC4, 0x00, 0x56, 0x01]),
-            ],
-            Err((35, InputFault::ExternalIndex)),
-        ),
-        (
-            2,
-            &[
-                (0xA0, &[0x01, 0x00, 0x00, 0x00, 0x00]),
-                (0x9C, &[0xC4, 0x00, 0x8C]),
-            ],
-            Err((35, InputFault::ThreadNotSet)),
-        ),
-        (
-            1,
-            &[(0x9C, &[0xC4, 0x00, 0x04, 0x01, 0x01])],
-            Err((26, InputFault::FixupBeforeData)),
-        ),
-        (
-            2,
-            &[(0xA0, &[0x01, 0x01, 0x00, 0x00, 0x00])],
-            Err((26, InputFault::DataOutside)),
-        ),
-        (
-            2,
-            &[
-                (
-                    0x98,
-                    &[0x00, 0x00, 0xB8, 0x00, 0x00, 0x40, 0x01, 0x01, 0x01],
-                ),
-                (0xA0, &[0x02, 0x00, 0x00, 0x00]),
-            ],
-            Err((39, InputFault::DataInAbsolute)),
-        ),
-        (
-            2,
-            &[
-                (0xA0, &[0x01, 0x00, 0x00, 0x00, 0x00]),
-                (0x9C, &[0x88, 0x00, 0x04, 0x01, 0x01]),
-            ],
-            Err((35, InputFault::SelfRelativeBase)),
-        ),
-        (
-            2,
-            &[
-                (
-                    0x98,
-                    &[0x00, 0x00, 0xB8, 0x00, 0x00, 0x40, 0x01, 0x01, 0x01],
-                ),
-                (0x9A, &[0x02, 0xFF, 0x02]),
-            ],
-            Err((39, InputFault::GroupOfAbsolute)),
-        ),
-        (
-            2,
-            &[
-                (0x9C, &[0x00, 0x09]),
-                (0xA0, &[0x01, 0x00, 0x00, 0x00, 0x00]),
-            ],
-            Ok(()),
-        ),
-        (
-            12,
-            &[(
-                0xA2,
-                &[
-                    0x01, 0x00, 0x00, 0x02, 0x00, 0x01, 0x00, 0x03, 0x00, 0x00, 0x00, 0x02, 0x41,
-                    0x42,
-                ],
-            )],
-            Ok(()),
-        ),
-        (
-            12,
-            &[(
-                0xA2,
-                &[
-                    0x01, 0x00, 0x00, 0xFF, 0xFF, 0x01, 0x00, 0xFF, 0xFF, 0x01, 0x00, 0xFF, 0xFF,
-                    0x00, 0x00, 0x01, 0x41,
-                ],
-            )],
-            Err((26, InputFault::DataOutside)),
-        ),
-        (
-            6,
-            &[
-                (
-                    0xA2,
-                    &[0x01, 0x00, 0x00, 0x03, 0x00, 0x00, 0x00, 0x02, 0x00, 0x00],
-                ),
-                (0x9C, &[0xC8, 0x05, 0x04, 0x01, 0x01]),
-            ],
-            Ok(()),
-        ),
-        (
-            6,
-            &[
-                (
-                    0xA2,
-                    &[0x01, 0x00, 0x00, 0x03, 0x00, 0x00, 0x00, 0x02, 0x00, 0x00],
-                ),
-                (0x9C, &[0xC8, 0x04, 0x04, 0x01, 0x01]),
-            ],
-            Err((40, InputFault::FixupPlace)),
-        ),
-        (
-            1,
-            &[(
-                0xA2,
-                &[
-                    0x01, 0x00, 0x00, 0x01, 0x00, 0x02, 0x00, 0x01, 0x00, 0x00, 0x00, 0x01, 0x41,
-                    0xFF, 0xFF, 0x01, 0x00, 0xFF, 0xFF, 0x01, 0x00, 0xFF, 0xFF, 0x00, 0x00, 0x00,
-                ],
-            )],
-            Ok(()),
-        ),
-    ];
-    for (length, records, answer) in rows {
-        let input = module_with(rt.alloc(), length, records)?;
-        answers(&rt, rt.alloc(), input.as_slice(), answer)?;
-    }
-    Ok(())
+    answers(&rt, rt.alloc(), Command::Check, Telling::Text, MODULES)
 }
+
+/// Inputs as they stand.
+const INPUTS: &str = "\
+raw 80 03 00 01 41 3B 96 07 00*2 04 43 4F 44 45 44 98 07 00 28 05 00 02 01*2 30 A0 09 00 01 00*2 B8 00*2 8E D8 \
+38 9C 06 00 C8 01 04 01*2 8F 8A 07 00 C1 00 01*2 00*2 AC
+= ok
+
+# examples/absolute/BIOS.OBJ
+raw 80 0A 00 08 42 49 4F 53 2E 41 53 4D 32 88 21 00*3 1D 54 68 65 20 4E 65 74 77 69 64 65 20 41 73*2 65 6D 62 \
+6C 65 72 20 32 2E 31 36 2E 30 31 F5 96 1C 00*2 09 62 69 6F 73 5F 64 61 74 61 05 76 69 64 65 6F 04 63 6F 64 65 \
+04 43 4F 44 45 C5 98 0A 00 08 40 00*2 18 00 02 01*2 FA 98 0A 00 08 00 B8 00 A0 0F 03 01*2 EA 98 07 00 68 17 00 \
+04 05 01 D8 A0 1B 00 03 00*2 B8 40 00 8E C0 26 A0 17 00 BB 00 B8 8E C3 26 A2 00*2 B8 00 4C CD 21 A1 9C 09 00 C4 \
+07 54 01 C4 10 54 02 11 8A 07 00 C1 00 03*2 00*2 A8
+= ok
+
+# examples/far/GREET.OBJ
+raw 80 0B 00 09 47 52 45*2 54 2E 41 53 4D E6 88 21 00*3 1D 54 68 65 20 4E 65 74 77 69 64 65 20 41 73*2 65 6D 62 \
+6C 65 72 20 32 2E 31 36 2E 30 31 F5 96 22 00*2 0A 67 72 65*2 74 5F 63 6F 64 65 04 43 4F 44 45 0A 67 72 65*2 74 \
+5F 64 61 74 61 04 44 41 54 41 D6 98 07 00 68 10 00 02 03 01 E3 98 07 00 48 01 00 04 05 01 0E 90 0C 00*2 01 05 \
+67 72 65*2 74 00*3 47 88 04 00 40 A2 01 91 A0 14 00 01 00*2 1E B8 00*2 8E D8 8A 16 00*2 B4 02 CD 21 1F CB E1 9C \
+09 00 C8 02 54 02 C4 08 54 02 19 A0 05 00 02 00*2 41 18 8A 02 00*2 74
+= ok
+
+# examples/far/MAIN.OBJ
+raw 80 0A 00 08 4D 41 49 4E 2E 41 53 4D 3A 88 21 00*3 1D 54 68 65 20 4E 65 74 77 69 64 65 20 41 73*2 65 6D 62 \
+6C 65 72 20 32 2E 31 36 2E 30 31 F5 96 1D 00*2 09 6D 61 69 6E 5F 63 6F 64 65 04 43 4F 44 45 05 73 74 61 63 6B \
+05 53 54 41 43 4B F0 98 07 00 68 0A 00 02 03 01 E9 98 07 00 74 40 00 04 05 01 A3 8C 08 00 05 67 72 65*2 74 00 \
+50 A0 0E 00 01 00*2 9A 00*4 B8 00 4C CD 21 C5 9C 09 00 C4 01 56 01 C8 03 56 01 1D 8A 07 00 C1 00 01*2 00*2 AC
+= ok
+
+# examples/groups/GROUPS.OBJ
+raw 80 0C 00 0A 47 52 4F 55 50 53 2E 41 53 4D 7B 88 21 00*3 1D 54 68 65 20 4E 65 74 77 69 64 65 20 41 73*2 65 \
+6D 62 6C 65 72 20 32 2E 31 36 2E 30 31 F5 96 25 00*2 04 63 6F 64 65 04 43 4F 44 45 04 64 61 74 61 04 44 41 54 \
+41 03 62 73*2 03 42 53*2 06 64 67 72 6F 75 70 FE 98 07 00 28 12 00 02 03 01 21 98 07 00 48 08 00 04 05 01 07 98 \
+07 00 48 02 00 06 07 01 09 9A 06 00 08 FF 02 FF 03 55 A0 16 00 01 00*2 B8 00*2 8E D8 8B 1E 00*2 89 1E 00*2 B8 \
+00 4C CD 21 E9 9C 0F 00 C8 01 55 01 C4 07 14 01 02 C4 0B 14 01 03 6D A0 0C 00 02 00*2 03 00*7 4F 9C 0F 00 C4 02 \
+14 01 03 C4 04 14 01 02 C8 06 55 01 74 8A 07 00 C1 00 01*2 00*2 AC
+= ok
+
+# examples/hello/HELLO.OBJ
+raw 80 0B 00 09 48 45 4C*2 4F 2E 41 53 4D E9 88 21 00*3 1D 54 68 65 20 4E 65 74 77 69 64 65 20 41 73*2 65 6D 62 \
+6C 65 72 20 32 2E 31 36 2E 30 31 F5 96 22 00*2 04 63 6F 64 65 04 43 4F 44 45 04 64 61 74 61 04 44 41 54 41 05 \
+73 74 61 63 6B 05 53 54 41 43 4B 38 98 07 00 68 19 00 02 03 01 DA 98 07 00 68 1F 00 04 05 01 D0 98 07 00 74 00 \
+01 06 07 01 DE A0 1D 00 01 00*2 B8 00*2 8E D8 B8 00*2 8E D0 BC 00 01 BA 00*2 B4 09 CD 21 B8 00 4C CD 21 FA 9C \
+11 00 C8 01 54 02 C8 06 54 03 C4 0B 54 03 C4 0E 54 02 C1 A0 23 00 02 00*2 48 65 6C*2 6F 20 66 72 6F 6D 20 61 20 \
+6C 69 6E 6B 65 64 20 70 72 6F 67 72 61 6D 2E 0D 0A 24 DA 8A 07 00 C1 00 01*2 00*2 AC
+= ok
+
+# examples/lines/LINES.OBJ
+raw 80 0B 00 09 4C 49 4E 45 53 2E 41 53 4D E2 88 21 00*3 1D 54 68 65 20 4E 65 74 77 69 64 65 20 41 73*2 65 6D \
+62 6C 65 72 20 32 2E 31 36 2E 30 31 F5 88 03 00 C0 A1 14 96 16 00*2 04 63 6F 64 65 04 43 4F 44 45 04 64 61 74 \
+61 04 44 41 54 41 DA 98 07 00 68 09 00 02 03 01 EA 98 07 00 48 02 00 04 05 01 0D 90 0C 00*2 01 05 74 77 69 63 \
+65 00*3 42 88 04 00 40 A2 01 91 88 05 00 C0 EA 04 00 C5 88 08 00 C0 E3 18 00 06 00 2A 85 88 09 00 C0 E3 19 00*3 \
+24 00 8F 88 09 00 C0 E3 1A 00*3 24 01 8D 88 0B 00 C0 E3 1B 00*3 23 00*3 8C 88 0B 00 C0 E3 1C 00*3 23 00 04 00 \
+87 88 0B 00 C0 E3 1D 00*3 23 00 01 00 89 88 0B 00 C0 E3 1E 00*3 23 00 05 00 84 88 12 00 C0 E8 00 09 4C 49 4E 45 \
+53 2E 41 53 4D 00*4 2B 94 13 00*2 01 0A 00*3 0B 00 03 00 0C 00 05 00 0D 00 08 00 1A 94 07 00*2 02 11 00*3 52 88 \
+32 00 C0 E6 10 73 74 61 72 74 5F 6F 66 5F 70 72 6F 67 72 61 6D 19 00*2 01 00*2 05 74 77 69 63 65 19 00*2 01 \
+00*2 05 76 61 6C 75 65 0A 00*2 02 00*2 54 A0 0D 00 01 00*2 A1 00*2 01 C0 A3 00*2 CB 82 9C 09 00 C4 01 54 02 C4 \
+06 54 02 20 A0 06 00 02 00*2 15 00 43 8A 07 00 C1 00 01*2 00*2 AC
+= ok
+
+# examples/near/NEAR.OBJ
+raw 80 0A 00 08 4E 45 41 52 2E 41 53 4D 39 88 21 00*3 1D 54 68 65 20 4E 65 74 77 69 64 65 20 41 73*2 65 6D 62 \
+6C 65 72 20 32 2E 31 36 2E 30 31 F5 96 0D 00*2 05 5F 54 45 58 54 04 43 4F 44 45 95 98 07 00 28 0C 00 02 03 01 \
+27 90 0C 00*2 01 05 62 65 67 69 6E 00*3 59 8C 1C 00 0D 6C 65 61 76 65 5F 70 72 6F 67 72 61 6D 00 0A 73 74 61 72 \
+74 5F 74 65 78 74 00 8B A0 10 00 01 00*2 BA 00*2 A0 00*2 E8 00*2 E9 00*2 24 9C 11 00 C4 01 56 02 C4 04 56 02 84 \
+07 56 01 84 0A 56 01 4F 8A 07 00 C1 00 01*2 00*2 AC
+= ok
+
+# examples/tiny/TINY.OBJ
+raw 80 0A 00 08 54 49 4E 59 2E 41 53 4D 1B 88 21 00*3 1D 54 68 65 20 4E 65 74 77 69 64 65 20 41 73*2 65 6D 62 \
+6C 65 72 20 32 2E 31 36 2E 30 31 F5 90 0F 00*5 06 61 6E 73 77 65 72 2A 00*2 A1 88 04 00 40 A2 01 91 8A 02 00*2 \
+74
+= ok
+
+# the frame of a start is that of a location
+raw 80 03 00 01 41 3B 96 07 00*2 04 43 4F 44 45 44 98 07 00 28 05 00 02 01*2 30 A0 09 00 01 00*2 B8 00*2 8E D8 \
+38 9C 06 00 C8 01 04 01*2 8F 8A 04 00 C1 44 01 6C
+= 1 omf: A.OBJ: 20 FrameOfLocation at record 47
+
+# no header
+raw 96 02 00*2 68
+= 1 omf: A.OBJ: 7 NotHeader at record 0
+
+raw 80 03
+= 1 omf: A.OBJ: 3 Truncated at record 0
+
+raw 80 03 00 01 41 3B
+= 1 omf: A.OBJ: 8 NoEnd at record 6
+
+raw 80 03 00 01 41 3B 96 07
+= 1 omf: A.OBJ: 3 Truncated at record 6
+
+# nothing
+raw
+= 1 omf: A.OBJ: 8 NoEnd at record 0";
 
 #[test]
 fn whole_inputs_are_checked(rt: HostRuntime) -> Result<(), Fail> {
-    let mut own_frame = Vec::new(rt.alloc());
-    own_frame.extend_from_slice(&SMALL[..47])?;
-    append(&mut own_frame, 0x8A, &[0xC1, 0x44, 0x01])?;
-    let mut names = Vec::new(rt.alloc());
-    append(&mut names, 0x96, &[0x00])?;
-    let rows: [(&[u8], Result<(), (u64, InputFault)>); 15] = [
-        (&SMALL, Ok(())),
-        (&HELLO, Ok(())),
-        (&BIOS, Ok(())),
-        (&GREET, Ok(())),
-        (&MAIN, Ok(())),
-        (&GROUPS, Ok(())),
-        (&LINES, Ok(())),
-        (&NEAR, Ok(())),
-        (&TINY, Ok(())),
-        (own_frame.as_slice(), Err((47, InputFault::FrameOfLocation))),
-        (names.as_slice(), Err((0, InputFault::NotHeader))),
-        (&[0x80, 0x03], Err((0, InputFault::Truncated))),
-        (&SMALL[..6], Err((6, InputFault::NoEnd))),
-        (&SMALL[..8], Err((6, InputFault::Truncated))),
-        (&[], Err((0, InputFault::NoEnd))),
-    ];
-    for (input, answer) in rows {
-        answers(&rt, rt.alloc(), input, answer)?;
-    }
-    Ok(())
-}
-
-#[test]
-fn a_failing_device_is_told(rt: HostRuntime) -> Result<(), Fail> {
-    for (call, place) in [(1u64, 0u64), (6, 0), (7, 6), (57, 47)] {
-        let mut source = MemSource::over(&SMALL, 1, Some(call));
-        let mut room = [0u8; 4];
-        let mut sink = MemSink::over(&mut room, 4);
-        let result = check(rt.alloc(), &mut source, &mut sink);
-        assert_eq!(rt; result, Err(LinkFault::Device { input: 0, place }));
-        assert!(rt; sink.written().is_empty());
-    }
-    Ok(())
+    answers(&rt, rt.alloc(), Command::Check, Telling::Text, INPUTS)
 }

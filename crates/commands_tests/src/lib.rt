@@ -1,8 +1,12 @@
-//! The commands, over inputs in memory.
+//! Tests of the commands, over inputs in memory.
 #![tactic(auto)]
 
 #[cfg(test)]
+mod answer;
+#[cfg(test)]
 mod checking;
+#[cfg(test)]
+mod failing;
 #[cfg(test)]
 mod hostile;
 #[cfg(test)]
@@ -10,14 +14,12 @@ mod linking;
 #[cfg(test)]
 mod loading;
 #[cfg(test)]
-mod local_names;
-#[cfg(test)]
 mod mapping;
-#[cfg(test)]
-mod modules;
 #[cfg(test)]
 mod names;
 #[cfg(test)]
 mod objects;
 #[cfg(test)]
 mod records;
+#[cfg(test)]
+mod tables;
