@@ -280,8 +280,8 @@ fn each_refused_growth_is_want_of_memory(rt: HostRuntime) -> Result<(), Fail> {
     all_want(&rt, rt.alloc(), Command::Load(0x1234), SMALL_FILE, &[0])
 }
 
-/// The second of two modules isn't called before the first is read, the list of modules grows, and so does the buffer of
-/// the second. Two growths of index maps are made do without.
+/// The second of two modules isn't called before the first is read, the list of modules grows, and so does the buffer
+/// of the second. Two growths of index maps are made do without.
 #[test]
 fn each_refused_growth_of_a_link_is_told(rt: HostRuntime) -> Result<(), Fail> {
     let first = refusals(&rt, rt.alloc(), Command::Check, FIRST, &[0])?;
