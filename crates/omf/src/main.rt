@@ -1,11 +1,9 @@
-//! The program `omf`: what its words ask for, and the status that it ends with.
+//! The program `omf`: its words, its streams and its exit status.
 #![tactic(auto)]
 
-mod jobs;
-#[cfg(test)]
-mod tests;
-
-use jobs::{out_of_memory, run_words, wrong_words};
+use omf_files::BufferedSink;
+use omf_frame::WriteSink;
+use omf_jobs::{out_of_memory, run_words, wrong_words};
 use std::env;
 use std::io::ErrorKind;
 use std::process::ExitCode;
@@ -16,18 +14,22 @@ fn main(rt: HostRuntime) -> ExitCode {
 
 // Does what the words after the program's name ask for, and hands out the exit status.
 fn run(rt: &HostRuntime) -> u8 {
+    let mut errors = WriteSink::new(rt.stderr());
+    let Ok(mut output) = BufferedSink::new(rt.alloc(), rt.stdout()) else {
+        return out_of_memory(&mut errors);
+    };
     let arguments = match env::args(rt) {
         Ok(arguments) => arguments,
-        Err(error) if error.kind() == ErrorKind::OutOfMemory => return out_of_memory(rt),
+        Err(error) if error.kind() == ErrorKind::OutOfMemory => return out_of_memory(&mut errors),
         // a word is no text
-        Err(_) => return wrong_words(rt, "omf: wrong words\n"),
+        Err(_) => return wrong_words("omf: wrong words\n", &mut errors),
     };
     let Ok(arguments) = arguments.collect::<Vec<String>>(rt.alloc()) else {
-        return out_of_memory(rt);
+        return out_of_memory(&mut errors);
     };
     let words = arguments.iter().skip(1).map(|word| word.as_str());
     match words.collect::<Vec<&str>>(rt.alloc()) {
-        Ok(words) => run_words(rt.alloc(), rt, words.as_slice()),
-        Err(_) => out_of_memory(rt),
+        Ok(words) => run_words(rt.alloc(), rt, words.as_slice(), &mut output, &mut errors),
+        Err(_) => out_of_memory(&mut errors),
     }
 }

@@ -4,21 +4,14 @@ ghost use Rattle.std.specs.declared.option.Option.{Option};
 
 use std::fs::{self, File};
 use std::io::{self, Read, Write};
-use std::rt::{Stderr, Stdout};
 
-/// Files by their paths, and the two streams that a program writes to. Tests have worlds of their own.
+/// Files by their paths. Tests have worlds of their own.
 pub trait World {
     /// A file that is read.
     type Input: Read + Drop;
 
     /// A file that is written.
     type Created: Write + Drop;
-
-    /// The standard output.
-    type Output: Write + Drop;
-
-    /// The standard error.
-    type Errors: Write + Drop;
 
     // The bytes of the file at a path, where the world tells them.
     ghost bytes: { Self → List ℕ → Option (List ℕ) } = { λ _ _. None };
@@ -29,12 +22,6 @@ pub trait World {
 
     /// The file at the path, which is created, or emptied where there is one.
     fn create(&self, path: &str) -> io::Result<Self::Created>;
-
-    /// The standard output.
-    fn output(&self) -> Self::Output;
-
-    /// The standard error.
-    fn errors(&self) -> Self::Errors;
 }
 
 impl World for &HostRuntime {
@@ -42,23 +29,11 @@ impl World for &HostRuntime {
 
     type Created = File;
 
-    type Output = Stdout;
-
-    type Errors = Stderr;
-
     fn open(&self, path: &str) -> io::Result<File> {
         fs::open(*self, path)
     }
 
     fn create(&self, path: &str) -> io::Result<File> {
         fs::create(*self, path)
-    }
-
-    fn output(&self) -> Stdout {
-        self.stdout()
-    }
-
-    fn errors(&self) -> Stderr {
-        self.stderr()
     }
 }

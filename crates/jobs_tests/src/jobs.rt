@@ -1,7 +1,11 @@
-use super::*;
-use crate::tests::memory::{Count, Desk, Page};
+//! Jobs over a world in memory.
+use crate::memory::{Count, Desk, Page, Pen};
+use omf_files::BufferedSink;
+use omf_frame::WriteSink;
+use omf_jobs::{out_of_memory, run_job, run_words};
+use omf_words::parse_words;
 use refusing::Refusing;
-use std::alloc::AllocError;
+use std::alloc::{AllocError, Global};
 use std::test::*;
 
 /// A module with five bytes of data, a fix-up of its own base, and a start.
@@ -89,7 +93,30 @@ struct Done {
     has_refused: bool,
 }
 
-/// Does what the words ask for in a world with these files.
+/// The status of what the words ask for in this world, with the memory of an allocator that refuses the growth of a
+/// number, if there is one.
+fn status_of(
+    alloc: Global,
+    memory: &Refusing<Global>,
+    desk: Desk<'_, '_>,
+    words: &[&str],
+    output: &Page<'_>,
+    errors: &Page<'_>,
+) -> Result<u8, AllocError> {
+    let mut errors = WriteSink::new(Pen::new(errors));
+    match parse_words(alloc, words) {
+        Ok(job) if !memory.has_refused() => match BufferedSink::new(memory, Pen::new(output)) {
+            Ok(mut output) => Ok(run_job(memory, desk, &job, &mut output, &mut errors)),
+            Err(_) => Ok(out_of_memory(&mut errors)),
+        },
+        _ => {
+            let mut output = BufferedSink::new(alloc, Pen::new(output))?;
+            Ok(run_words(alloc, desk, words, &mut output, &mut errors))
+        }
+    }
+}
+
+/// What the words do in a world with these files.
 fn run_in<'f>(
     alloc: Global,
     files: &'f [(&'f str, &'f [u8])],
@@ -106,16 +133,11 @@ fn run_in<'f>(
         files,
         out: &out,
         map: &map,
-        output: &output,
-        errors: &errors,
         opened: &opened,
         count: &count,
     };
     let memory = Refusing::nth(alloc, limits.refused.unwrap_or(0));
-    let status = match parse_words(alloc, words) {
-        Ok(job) if limits.refused.is_some() => run_job(&memory, desk, &job),
-        _ => run_words(alloc, desk, words),
-    };
+    let status = status_of(alloc, &memory, desk, words, &output, &errors)?;
     Ok(Done {
         status,
         output: output.bytes(alloc)?,

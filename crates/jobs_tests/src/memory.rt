@@ -71,6 +71,13 @@ pub(crate) struct Pen<'a> {
     page: &'a Page<'a>,
 }
 
+impl<'a> Pen<'a> {
+    /// One that writes at the end of the page.
+    pub(crate) fn new(page: &'a Page<'a>) -> Pen<'a> {
+        Pen { page }
+    }
+}
+
 impl Write for Pen<'_> {
     fn write(&mut self, buf: &[u8]) -> io::Result<usize> {
         self.page.append(buf)
@@ -131,8 +138,7 @@ impl Count {
     }
 }
 
-/// Files that can be read by their paths, pages that can be written, the streams, and a page that lists what was
-/// opened.
+/// Files that can be read by their paths, pages that can be written, and a page that lists what was opened.
 #[derive(Clone, Copy)]
 pub(crate) struct Desk<'f, 'p> {
     /// The files that can be read.
@@ -141,10 +147,6 @@ pub(crate) struct Desk<'f, 'p> {
     pub(crate) out: &'p Page<'p>,
     /// Another one.
     pub(crate) map: &'p Page<'p>,
-    /// The standard output.
-    pub(crate) output: &'p Page<'p>,
-    /// The standard error.
-    pub(crate) errors: &'p Page<'p>,
     /// The paths that were opened or tried, each ended by a space.
     pub(crate) opened: &'p Page<'p>,
     /// How many files are open.
@@ -155,10 +157,6 @@ impl<'f, 'p> World for Desk<'f, 'p> {
     type Input = Scroll<'f, 'p>;
 
     type Created = Pen<'p>;
-
-    type Output = Pen<'p>;
-
-    type Errors = Pen<'p>;
 
     fn open(&self, path: &str) -> io::Result<Scroll<'f, 'p>> {
         for text in [path, " "] {
@@ -189,13 +187,5 @@ impl<'f, 'p> World for Desk<'f, 'p> {
         };
         page.empty();
         Ok(Pen { page })
-    }
-
-    fn output(&self) -> Pen<'p> {
-        Pen { page: self.output }
-    }
-
-    fn errors(&self) -> Pen<'p> {
-        Pen { page: self.errors }
     }
 }

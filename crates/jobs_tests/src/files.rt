@@ -1,7 +1,5 @@
 //! Files over a world in memory.
-pub(crate) mod memory;
-
-use crate::tests::memory::{Count, Desk, Page};
+use crate::memory::{Count, Desk, Page};
 use omf_files::{BufferedSink, CreatedFile, open_source};
 use omf_frame::{IoFault, Sink, Source, put_all};
 use std::alloc::Global;
@@ -91,8 +89,6 @@ fn reads_once<'a>(
         files: &[("A", b"abc")],
         out: page,
         map: page,
-        output: page,
-        errors: page,
         opened,
         count,
     };
