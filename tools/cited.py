@@ -1,7 +1,7 @@
 """What contracts and definitions cite: definitions of specs/, and types that src/ declares."""
 
 import re
-from functools import cached_property
+from functools import cache, cached_property
 from typing import NamedTuple
 
 LIBRARY = "Rattle"
@@ -96,7 +96,7 @@ class Scope:
     """What the words of a file mean, by its `use` lines and what it defines itself."""
 
     def __init__(self, repository, text):
-        self.repository, self.names, self.modules, self.variants = repository, {}, {}, set()
+        self.repository, self.names, self.modules, self.variants, self.library = repository, {}, {}, set(), {}
         for path, listed, alias in USE.findall(text):
             if listed:
                 for one in filter(None, (it.strip() for it in listed.split(","))):
@@ -111,6 +111,8 @@ class Scope:
             self.define(word, found)
             if ".TheVariants." in path:
                 self.variants.add(word)
+        else:
+            self.library |= dict.fromkeys(filter(None, word.split("◌")), path.rpartition(".")[2])
 
     def define(self, word, found):
         """An operator is known by its whole name, and by what stands between the places of its arguments."""
@@ -126,6 +128,10 @@ class Scope:
         if first == LIBRARY:
             found.add(self.repository.named(rest))
         return found - {None}
+
+    def of_library(self, tokens):
+        """The words among these that the file takes from the library."""
+        return {first for first in (it.partition(".")[0] for it in tokens) if first in self.library}
 
     def is_constructor(self, word):
         return word in self.variants or any(map(self.repository.is_constructor, self.names.get(word, ())))
@@ -331,16 +337,22 @@ class Specs:
         return found
 
     def text(self, names):
-        """These definitions as they stand in the file, with their comments and the names that it changes."""
+        """These definitions as they stand in the file, with their comments and the blocks around them."""
         shown = set()
         for it in map(self.declared.get, names):
             for first, *rest in [*(block.lines for block in it.around), it.lines]:
                 shown.update(above(self.lines, first), range(first, max([first, *rest]) + 1))
-        text = "\n".join(("" if at - 1 in shown else "\n") + self.lines[at] for at in sorted(shown)).strip("\n")
-        used = {it.partition(".")[0] for it in words(text)}
+        return "\n".join(("" if at - 1 in shown else "\n") + self.lines[at] for at in sorted(shown)).strip("\n")
+
+    def renamed(self, names):
+        """The lines that take a word under another name, as far as these definitions use it."""
+        used = {it.partition(".")[0] for it in words(self.text(names))}
         uses = (it for it in self.lines if it.startswith("use "))
-        renamed = [it for it in uses if used.intersection(re.findall(r" as ([^\s,}]+)", it))]
-        return "\n\n".join(filter(None, ["\n".join(renamed), text]))
+        return "\n".join(it for it in uses if used.intersection(re.findall(r" as ([^\s,}]+)", it)))
+
+    def of_library(self, names):
+        """The words of the library in these definitions."""
+        return self.scope.of_library(words("\n".join(self.lines[it].partition("--")[0] for it in self.numbers(names))))
 
 
 class Declared(NamedTuple):
@@ -548,6 +560,7 @@ class Repository:
     """The crates below a folder, each behind those that it stands on."""
 
     def __init__(self, root):
+        self.root = root
         listed = re.findall(r"^(\w+):", (root / "crates.txt").read_text(encoding="utf-8"), re.M)
         folders = {it: root / "crates" / it for it in listed if (root / "crates" / it / "specs").is_dir()}
         self.crates = list(folders)
@@ -627,6 +640,31 @@ class Repository:
             case [code, file, function, _]:
                 return self.resting(set().union(*code.cited_by_function(function, file)))
         return set()
+
+    def files_of(self, found):
+        """Definitions and types by crate and file: crates from the bottom up, the files of each as specs/Lib.antt lists
+        them, and behind them those of its code."""
+        files = {}
+        for crate in self.crates:
+            listed = (self.root / "crates" / crate / "specs/Lib.antt").read_text(encoding="utf-8").split()
+            specs = {file: it for (owner, file), it in self.specs.items() if owner == crate}
+            for file in sorted(specs, key=lambda it: (listed.index(it) if it in listed else len(listed), it)):
+                files[crate, f"specs/{file}.antt"] = [Definition(crate, file, it) for it in specs[file].declared]
+            for name, declared in self.code[crate].types.items():
+                files.setdefault((crate, f"src/{declared.file}"), []).append(Type(crate, name))
+        kept = {where: [it for it in here if it in found] for where, here in files.items()}
+        return {where: here for where, here in kept.items() if here}
+
+    def shown(self, one):
+        """A definition or a type as its file has it."""
+        if isinstance(one, Type):
+            return self.code[one.crate].shown(one.name)
+        return self.specs[one[:2]].text([one.name])
+
+    @cache
+    def rests_on(self, one):
+        """What a definition or a type cites itself, where that is defined."""
+        return set().union(*map(self.found_in, self.cited_by(one))) - {one}
 
     def count(self, found):
         """How many lines definitions and types have together, without comments."""
