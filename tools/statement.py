@@ -114,8 +114,8 @@ class Statement:
         lines = [f"# The statement: `{crate}`", ""]
         lines += wrapped(
             f"{self.counts(crate)} of crates/{crate}, each as it stands in its file and with what it rests on. "
-            f"[The statement](../STATEMENT.md) leads through them; [README.md](README.md) says how to read them{beside}. "
-            "`tools/definitions --write` makes this page.")
+            "[The statement](../STATEMENT.md) leads through them; [README.md](README.md) says how to read them"
+            f"{beside}. `tools/definitions --write` makes this page.")
         lines.append("")
         for path, here in sections:
             lines += wrapped(f"- [{path}](#{self.section(path)}): " + ", ".join(self.link(it, crate) for it in here))
@@ -162,9 +162,9 @@ class Statement:
         """The programs that proofs/Worked.antt of the crates have the checker evaluate."""
         lines = ["# Worked programs", ""]
         lines += wrapped(
-            "Small programs with the numbers that the definitions give for them. The checker evaluates each line that "
-            "`refl` proves, and refuses another number; a line with `≡` is a test that passed. [README.md](README.md) "
-            "says how to read them; `tools/definitions --write` makes this page.")
+            "Small programs with the numbers that the definitions give for them. The checker evaluates each line with "
+            "`≡` that `refl` proves, and refuses another number. [README.md](README.md) says how to read them; "
+            "`tools/definitions --write` makes this page.")
         for crate in self.crates:
             path = self.repository.root / "crates" / crate / "proofs/Worked.antt"
             if path.exists():
@@ -249,7 +249,8 @@ class Statement:
                     f"`{name}` stands for more than one thing, and docs/statement/README.md doesn't list it")
 
         def row(found):
-            things = (f"{self.link(it, 'README')} of {it.crate}" for it in self.order if it.name == found[1])
+            things = (f"[{crate} {path}]({crate}.md#{self.anchor(it)})"
+                      for (crate, path), here in self.files.items() for it in here if it.name == found[1])
             return f"| `{found[1]}` | {', '.join(things)} |"
 
         table = re.sub(r"^\| `([^`]+)` \|.*$", row, table, flags=re.M)
