@@ -275,9 +275,18 @@ class Statement:
 
     # What the tool does with them
 
+    def dangling(self):
+        """The links to a place of a page that the page doesn't have."""
+        places = {page: set(re.findall(r'<a id="([^"]+)"', text)) for page, text in self.kept.items()}
+        for page, text in self.kept.items():
+            for other, place in re.findall(r"\]\(([\w/]+\.md)?#([^)]+)\)", text):
+                target = (page.rpartition("/")[0] + "/" + other).lstrip("/") if other else page
+                if place not in places.get(target, ()):
+                    yield f"docs/{page} leads to {other}#{place}, which isn't there"
+
     def faults(self):
         """What is wrong with the pages."""
-        wrong = list(self.wrong)
+        wrong = [*self.wrong, *self.dangling()]
         for page, wanted in self.kept.items():
             path = self.docs / page
             wrong += differences(page, path.read_text(encoding="utf-8") if path.exists() else "", wanted)
