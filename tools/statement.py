@@ -11,6 +11,7 @@ CLAUSES = "Its clauses:"
 CITED = "They cite "
 WHOLE = "Definition by definition: "
 SEVERAL = "## Names of more than one thing"
+COUNTS = r"\d+ definitions\sof [\d,]+\slines\sand\s\d+\stypes\sof [\d,]+\slines"
 WIDTH = 100
 
 
@@ -192,6 +193,7 @@ class Statement:
     def guide(self, text):
         """docs/STATEMENT.md with the contract, the counts and the links made anew."""
         parts, led = re.split(r"^(?=## )", text, flags=re.M), set()
+        parts[0] = re.sub(COUNTS, self.counted, parts[0])
         for at, part in enumerate(parts):
             if re.match(r"## \d", part):
                 kept = re.split(rf"^{WHOLE}", part, maxsplit=1, flags=re.M)
@@ -210,7 +212,7 @@ class Statement:
         cites = "\n".join(wrapped(f"{CITED}{self.links(self.cited)}."))
         text = re.sub(rf"^{CITED}(?s:.*?)(?=\n\n)", lambda _: cites, text, flags=re.M)
         self.wrong += [f"docs/STATEMENT.md leaves out `{it}`" for it in (self.contract, cites) if it not in text]
-        return re.sub(r"\d+ definitions\sof [\d,]+\slines\sand\s\d+\stypes\sof [\d,]+\slines", self.counted, text)
+        return text
 
     def linked(self, part, rows):
         """A part with links in the first cells of its tables."""
