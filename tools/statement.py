@@ -120,8 +120,8 @@ class CratePage:
         self.sections = list(self.files())
 
     def files(self):
-        """The files of the crate with what of each is shown: before a definition the types that it names, and those that
-        no definition names in their own file of the code."""
+        """The files of the crate with what of each is shown: before a definition the types that it names, and the
+        others in their own file of the code."""
         shown = set()
 
         def with_types(one):
