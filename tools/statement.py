@@ -35,16 +35,26 @@ def differences(page, text, wanted):
             for line in lines if not line.startswith(("---", "+++", "@@"))]
 
 
+def declared_in(repository, crate, file):
+    """The definitions of a file of specs/, or the types of one of src/."""
+    folder, _, name = file.partition("/")
+    if folder == "specs":
+        name = name.removesuffix(".antt")
+        found = repository.specs.get((crate, name))
+        return [cited.Definition(crate, name, it) for it in found.declared] if found else []
+    code = repository.code.get(crate)
+    return [cited.Type(crate, it) for it, where in code.types.items() if where.file == name] if code else []
+
+
 def tabled(repository, part, crate=None):
     """The rows of a part's tables that begin with names: the text of the first cell, and of each of its names what it
     may mean by the files of the last cell. A file without a crate is of the crate that was named before it."""
     for first, last in re.findall(r"^\| (\[?`.*?) \|(?:.*\|)? ([^|]*) \|$", part, re.M):
         files = []
-        for other, file in re.findall(r"(\w+)? ?specs/(\w+)\.antt", last):
+        for other, file in re.findall(r"(\w+)? ?((?:specs|src)/\w+\.(?:antt|rt))", last):
             crate = other or crate
             files.append((crate, file))
-        names = {name: {cited.Definition(*it, one) for it in files if it in repository.specs
-                        for one in repository.specs[it].declared if plain(one) == name}
+        names = {name: {one for it in files for one in declared_in(repository, *it) if plain(one.name) == name}
                  for name in re.findall(r"`([^`]+)`", first)}
         yield first, last, names
 

@@ -1,5 +1,5 @@
 -- Reading inputs one after the other.
-use Rattle.std.proofs.Common.{◌≡◌, ℕ, suc, ◌+◌, ◌<◌, ◌≤◌, List, [], ◌∷◌, ◌++◌, length, get_or, take, drop, set, refl, sym, ap, ap₂, subst, ◌∙◌, arith, Ok, Err, take-append-drop, inl}
+use Rattle.std.proofs.Common.{◌≡◌, ℕ, suc, ◌+◌, ◌<◌, ◌≤◌, List, [], ◌∷◌, ◌++◌, length, map, get_or, take, drop, set, refl, sym, ap, ap₂, subst, ◌∙◌, arith, Ok, Err, take-append-drop, inl}
 use Rattle.std.specs.declared.option.Option.{Option}
 use Rattle.std.specs.Io.KnownBytes.{Consumes}
 use Rattle.std.proofs.lemmas.List.{take_more, take_more_set, take_all, drop-set-lt, get_or-drop, drop-drop, set_split, length-set, length-take-le, map-append}
@@ -12,7 +12,7 @@ use Rattle.omf_module.specs.Module.{Module}
 use Rattle.omf_record.specs.Records.{Placed}
 use Rattle.omf_module.specs.Tables.{module_of}
 use Rattle.omf_module.specs.Reading.{Reads, failures_in}
-use Rattle.omf_commands.specs.Inputs.{modules_of, IsInput, AreInputs, ReadsFront, StopsReading}
+use Rattle.omf_commands.specs.Inputs.{IsInput, AreInputs, ReadsFront, StopsReading}
 use Rattle.omf_commands.specs.inside.Inputs.{IsInputFault}
 use Rattle.omf_commands.specs.Faults.{fault_at, module_fault}
 
@@ -34,6 +34,15 @@ module _ {S : Type 0} (told : S → Option (List ℕ)) (failures : S → ℕ) wh
   one_more (l ∷ ls) [] ys rs old new h one = absurd h
   one_more (l ∷ ls) (x ∷ xs) [] rs old new h one = absurd h
   one_more (l ∷ ls) (x ∷ xs) (y ∷ ys) rs old new h one = (h.0, one_more ls xs ys rs old new h.1 one)
+
+  -- each input has its records
+  pub as_many : (lists : List (List Placed)) (olds news : List S) → AreInputs told failures lists olds news → length lists ≡ length olds
+  as_many [] [] [] h = refl
+  as_many [] [] (y ∷ ys) h = absurd h
+  as_many [] (x ∷ xs) ys h = absurd h
+  as_many (l ∷ ls) [] ys h = absurd h
+  as_many (l ∷ ls) (x ∷ xs) [] h = absurd h
+  as_many (l ∷ ls) (x ∷ xs) (y ∷ ys) h = ap suc (as_many ls xs ys h.1)
 
   -- an input that isn't read yet is as it was
   pub same_at : (lists : List (List Placed)) (i : ℕ) (olds mids : List S) (d : S) → SoFar lists i olds mids → get_or mids i d ≡ get_or olds i d
@@ -58,15 +67,14 @@ module _ {S : Type 0} (told : S → Option (List ℕ)) (failures : S → ℕ) wh
         long = length-set mids i new ∙ so.long;
       }
 
-  pub front_read : (lists : List (List Placed)) (i : ℕ) (olds mids : List S) → SoFar lists i olds mids → ReadsFront told failures lists olds mids
-  front_read lists i olds mids so = record {
-    old_front = take i olds;
-    new_front = take i mids;
-    rest = drop i olds;
-    olds_are = sym (take-append-drop i olds);
-    news_are = sym (take-append-drop i mids) ∙ ap (λ l. take i mids ++ l) so.rest;
-    inputs = so.inputs;
-  }
+  pub front_read : (lists : List (List Placed)) (i : ℕ) (olds mids : List S) → SoFar lists i olds mids → ReadsFront told failures lists olds mids (drop i olds) (drop i olds)
+  front_read lists i olds mids so = (
+    take i olds,
+    take i mids,
+    so.inputs,
+    sym (take-append-drop i olds),
+    sym (take-append-drop i mids) ∙ ap (λ l. take i mids ++ l) so.rest,
+  )
 
   pub all_read : (lists : List (List Placed)) (i : ℕ) (olds mids : List S) → length olds ≤ i → SoFar lists i olds mids → AreInputs told failures lists olds mids
   all_read lists i olds mids h so =
@@ -79,21 +87,22 @@ module _ {S : Type 0} (told : S → Option (List ℕ)) (failures : S → ℕ) wh
   stopped lists i olds mids d new e h so reads failed =
       let within : i < length mids = omega (arith, h, so.long) in
       let next : suc i ≡ i + 1 = omega arith in
-      let same = same_at lists i olds mids d so in
-      record {
-        lists = lists;
-        old_front = take i olds;
-        new_front = take i mids;
-        old = get_or olds i d;
-        new = new;
-        rest = drop (i + 1) olds;
-        olds_are = sym (take-append-drop i olds) ∙ ap (λ l. take i olds ++ l) (drop-cons olds i d h ∙ ap (λ k. get_or olds i d ∷ drop k olds) next);
-        news_are = set_split mids i new within ∙ ap (λ l. take i mids ++ new ∷ l) (ap (λ k. drop k mids) next ∙ rest_after i olds mids so.rest);
-        index = sym (length-take-le i olds (omega (arith, h)));
-        inputs = so.inputs;
-        refused = subst (λ x. Reads (λ (m : Module). m) (told x) (told new) (Err e)) same reads;
-        failed = subst (λ x. failures new ≡ failures x + failures_in {A = Module} (Err e)) same failed;
-      }
+      let same = same_at lists i olds mids d so in (
+        lists,
+        get_or olds i d,
+        new,
+        drop (i + 1) olds,
+        (
+          take i olds,
+          take i mids,
+          so.inputs,
+          sym (take-append-drop i olds) ∙ ap (λ l. take i olds ++ l) (drop-cons olds i d h ∙ ap (λ k. get_or olds i d ∷ drop k olds) next),
+          set_split mids i new within ∙ ap (λ l. take i mids ++ new ∷ l) (ap (λ k. drop k mids) next ∙ rest_after i olds mids so.rest),
+        ),
+        sym (as_many lists (take i olds) (take i mids) so.inputs ∙ length-take-le i olds (omega (arith, h))),
+        subst (λ x. Reads (λ (m : Module). m) (told x) (told new) (Err e)) same reads,
+        subst (λ x. failures new ≡ failures x + failures_in {A = Module} (Err e)) same failed,
+      )
 
   -- an input isn't a module
   pub refused : (A : Type 0) (lists : List (List Placed)) (i : ℕ) (olds mids : List S) (d : S) (new : S) (e : ModuleFault) → i < length olds → SoFar lists i olds mids
@@ -117,16 +126,12 @@ module _ {S : Type 0} (told : S → Option (List ℕ)) (failures : S → ℕ) wh
   pub read_input : (m : Module) (old new : S) → Reads (λ (x : Module). x) (told old) (told new) (Ok m) → failures new ≡ failures old + 0
       → (rs : List Placed) × IsInput told failures rs old new × (m ≡ module_of rs)
   unfolding Reads
-  read_input m old new reads works = (reads.0, record { bytes = reads.1; whole = reads.2; taken = reads.3; works = omega (arith, works) }, reads.4)
+  read_input m old new reads works = (reads.0, (reads.1, reads.2, reads.3, omega (arith, works)), reads.4)
 
   -- an input that was read is finished
   pub finished : (rs : List Placed) (old mid new : S) → told new ≡ told mid → failures new ≡ failures mid → IsInput told failures rs old mid → IsInput told failures rs old new
-  finished rs old mid new same works one = record {
-    bytes = one.bytes;
-    whole = one.whole;
-    taken = subst (λ rest. Consumes (told old) rest one.bytes) (sym same) one.taken;
-    works = works ∙ one.works;
-  }
+  finished rs old mid new same works (bytes, whole, taken, worked) =
+      (bytes, whole, subst (λ rest. Consumes (told old) rest bytes) (sym same) taken, works ∙ worked)
 
-pub modules_push : (lists : List (List Placed)) (rs : List Placed) (ms : List Module) (m : Module) → ms ≡ modules_of lists → m ≡ module_of rs → ms ++ m ∷ [] ≡ modules_of (lists ++ rs ∷ [])
+pub modules_push : (lists : List (List Placed)) (rs : List Placed) (ms : List Module) (m : Module) → ms ≡ map module_of lists → m ≡ module_of rs → ms ++ m ∷ [] ≡ map module_of (lists ++ rs ∷ [])
 modules_push lists rs ms m are is = ap₂ (λ xs x. xs ++ x ∷ []) are is ∙ sym (map-append module_of lists (rs ∷ []))

@@ -1,3 +1,4 @@
+pub mod ByCase
 pub mod Exclusive
 pub mod InputSteps
 pub mod LinkSteps
@@ -10,4 +11,5 @@ pub mod PlacelessLayout
 pub mod PlacelessProgram
 pub mod Rewritten
 pub mod Said
+pub mod Same
 pub mod Through

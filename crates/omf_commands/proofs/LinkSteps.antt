@@ -1,9 +1,10 @@
 -- The steps of a link, put together from what each of them answers.
-use Rattle.std.proofs.Common.{◌≡◌, ℕ, ◌+◌, ◌*◌, ◌≤◌, List, [], ◌∷◌, length, None, Some, IfSome, Ok, Err, refl, sym, subst, ◌∙◌, append-nil, inl, inr, arith}
+use Rattle.std.proofs.Common.{◌≡◌, ℕ, ◌+◌, ◌*◌, ◌≤◌, List, [], ◌∷◌, length, map, None, Some, IfSome, Ok, Err, refl, sym, subst, ◌∙◌, append-nil, inl, inr, arith}
 use Rattle.std.proofs.lemmas.List.{length-set, length-take-le, get_or-take}
 use Rattle.std.specs.declared.option.Option.{Option}
 use Rattle.std.specs.Io.KnownBytes.{Keeps}
 use Rattle.omf_module.specs.Module.{Module}
+use Rattle.omf_module.specs.Tables.{module_of}
 use Rattle.omf_record.specs.Records.{Placed}
 use Rattle.omf_place.specs.Faults.{IsOnlyLayout, IsFirstFault}
 use Rattle.omf_place.specs.Layout.{Layout}
@@ -17,16 +18,16 @@ use Rattle.omf_image.specs.Records.{written}
 use Rattle.omf_image.specs.Words.{put_word, add_word, add_words}
 use Rattle.omf_image.specs.declared.faults.FixFault.{FixFault}
 use Rattle.omf_image.specs.declared.faults.FixFault.TheVariants as build
-use Rattle.mz.specs.File.{Mz}
+use Rattle.mz.specs.File.{Mz, MzFile}
 use Rattle.mz.specs.Laws.{Fits, HoldsTheProgram, ReadsAsWritten, LoadsAsWritten, memory, moved, as_file}
-use Rattle.mz.specs.Loading.{Loaded}
+use Rattle.mz.specs.Loading.{Loaded, loading}
 use Rattle.mz.specs.Reading.{reading}
 use Rattle.omf_text.specs.declared.fault.LinkFault.{LinkFault}
 use Rattle.omf_text.specs.declared.fault.LinkFault.TheVariants as link
-use Rattle.omf_commands.specs.Inputs.{modules_of, AreInputs, ReadsFront}
+use Rattle.omf_commands.specs.Inputs.{AreInputs, ReadsFront}
 use Rattle.omf_commands.specs.inside.Inputs.{IsInputFault}
 use Rattle.omf_commands.specs.Reading.{sink_failures}
-use Rattle.omf_commands.specs.Linking.{IsLinked, IsLoadedFrom, IsModulesFault, Links, HoldsProgram, FitsAt, HoldsAtEachParagraph}
+use Rattle.omf_commands.specs.Linking.{IsLinked, IsModulesFault, Links, HoldsProgram, HoldsAtEachParagraph}
 use Rattle.omf_commands.specs.inside.Linking.{LinksModules}
 use Rattle.omf_commands.specs.inside.Faults.{place_fault, fix_fault}
 
@@ -69,14 +70,14 @@ pub holds_program : (names : Names) (modules : List Module) (layout : Layout) (p
     → HoldsAtEachParagraph names modules file
 holds_program names modules layout p file reads holds loads linked mz = (layout, linked.is_layout, at)
   where
-    at : (P : ℕ) → HoldsProgram P layout modules (memory P file) × (FitsAt P layout.size → (l : Loaded) × IsLoadedFrom P file l × HoldsProgram P layout modules l)
+    at : (P : ℕ) → HoldsProgram P layout modules (memory P file) × (16 * P + layout.size ≤ 1048576 → (mz : MzFile) × (l : Loaded) × (reading file ≡ Ok mz) × (loading P mz ≡ Ok l) × HoldsProgram P layout modules l)
     at P =
         let same : length p.image ≡ layout.size = linked.program.sized in
         let whole = append-nil file in
         let loaded : memory P file ≡ moved P p = subst (λ b. memory P b ≡ moved P p) whole (holds p file [] mz P) in
         let read = subst (λ b. reading b ≡ Ok (as_file p)) whole (reads p file [] mz) in
         let here = holds_moved names modules layout p P mz.0 linked in
-        (subst (HoldsProgram P layout modules) (sym loaded) here, λ fits. (moved P p, (as_file p, read, loads p mz.0 P (subst (λ n. 16 * P + n ≤ 1048576) (sym same) fits)), here))
+        (subst (HoldsProgram P layout modules) (sym loaded) here, λ fits. (as_file p, moved P p, read, loads p mz.0 P (subst (λ n. 16 * P + n ≤ 1048576) (sym same) fits), here))
 
 -- ---- what a link answers
 
@@ -88,29 +89,22 @@ module _ {S : Type 0} (told : S → Option (List ℕ)) (failures : S → ℕ) wh
   pub not_read : {A : Type 0} (names : Names) (olds news : List S) (w : Option (List ℕ)) (e : LinkFault A) → IsInputFault told failures olds news e
       → Links told failures names olds news w w (Err e)
   not_read names olds news w link.Memory h = (h, kept w)
-  not_read names olds news w (link.Device input place) h = (h, kept w)
+  not_read names olds news w (link.Device input place) h = (inl h, kept w)
   not_read names olds news w (link.Record input place f) h = (inl h, kept w)
   not_read names olds news w link.Output h = absurd h
   not_read names olds news w (link.Program f) h = absurd h
   not_read names olds news w (link.File f) h = absurd h
 
-  all_front : (lists : List (List Placed)) (olds news : List S) → AreInputs told failures lists olds news → ReadsFront told failures lists olds news
-  all_front lists olds news inputs = record {
-    old_front = olds;
-    new_front = news;
-    rest = [];
-    olds_are = sym (append-nil olds);
-    news_are = sym (append-nil news);
-    inputs = inputs;
-  }
+  all_front : (lists : List (List Placed)) (olds news : List S) → AreInputs told failures lists olds news → ReadsFront told failures lists olds news [] []
+  all_front lists olds news inputs = (olds, news, inputs, sym (append-nil olds), sym (append-nil news))
 
   pub not_linked : {A : Type 0} (names : Names) (olds news : List S) (w : Option (List ℕ)) (lists : List (List Placed)) (modules : List Module) (e : LinkFault A) → AreInputs told failures lists olds news
-      → modules ≡ modules_of lists → LinksModules {A = A} names modules (Err e) → Links told failures names olds news w w (Err e)
-  not_linked names olds news w lists modules link.Memory inputs is h = (inr (lists, all_front lists olds news inputs), kept w)
+      → modules ≡ map module_of lists → LinksModules {A = A} names modules (Err e) → Links told failures names olds news w w (Err e)
+  not_linked names olds news w lists modules link.Memory inputs is h = (inr (lists, [], all_front lists olds news inputs), kept w)
   not_linked names olds news w lists modules (link.Device input place) inputs is h = absurd h
   not_linked {A} names olds news w lists modules (link.Record input place f) inputs is h = (inr (lists, inputs, subst (λ ms. IsModulesFault {A = A} names ms (link.Record input place f)) is h), kept w)
   not_linked names olds news w lists modules link.Output inputs is h = absurd h
-  not_linked {A} names olds news w lists modules (link.Program f) inputs is h = ((lists, inputs, subst (λ ms. IsModulesFault {A = A} names ms (link.Program f)) is h), kept w)
+  not_linked {A} names olds news w lists modules (link.Program f) inputs is h = (inr (lists, inputs, subst (λ ms. IsModulesFault {A = A} names ms (link.Program f)) is h), kept w)
   not_linked names olds news w lists modules (link.File f) inputs is h = absurd h
 
 -- placing and building write nothing

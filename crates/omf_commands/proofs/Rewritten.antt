@@ -2,9 +2,10 @@
 use Rattle.std.proofs.Common.{◌≡◌, ℕ, List, [], ◌∷◌, map, refl, sym, ap₂, arith}
 use Rattle.omf_record.specs.Records.{Placed}
 use Rattle.omf_module.specs.Bytes.{ModuleBytes}
+use Rattle.omf_module.specs.Tables.{module_of}
 use Rattle.omf_place.specs.declared.names.Names.{Names}
 use Rattle.omf_commands.specs.Records.{rewritten, says_of}
-use Rattle.omf_commands.specs.Inputs.{modules_of, AreModules}
+use Rattle.omf_commands.specs.Inputs.{AreModules}
 use Rattle.omf_commands.specs.Linking.{IsFileOf}
 use Rattle.omf_commands.proofs.PlacelessChecks.{sound_of}
 use Rattle.omf_commands.proofs.Said.{file_of_said}
@@ -26,8 +27,8 @@ said_same : (lists : List (List Placed)) → map says_of (map (rewritten_from 0)
 said_same [] = refl
 said_same (rs ∷ lists) = ap₂ (λ says l. says ∷ l) (says_same 0 rs) (said_same lists)
 
-pub file_of_rewritten : (names : Names) (lists : List (List Placed)) (inputs : List (List ℕ)) (file : List ℕ) → AreModules lists inputs → IsFileOf names (modules_of lists) file
-    → (others : List (List Placed)) × AreModules others (map rewritten lists) × (map says_of others ≡ map says_of lists) × IsFileOf names (modules_of others) file
+pub file_of_rewritten : (names : Names) (lists : List (List Placed)) (inputs : List (List ℕ)) (file : List ℕ) → AreModules lists inputs → IsFileOf names (map module_of lists) file
+    → (others : List (List Placed)) × AreModules others (map rewritten lists) × (map says_of others ≡ map says_of lists) × IsFileOf names (map module_of others) file
 file_of_rewritten names lists inputs file are made =
     let others = map (rewritten_from 0) lists in
     (others, rewritten_modules lists inputs are, said_same lists, file_of_said names lists others file (sym (said_same lists)) made)

@@ -12,7 +12,6 @@ use Rattle.omf_image.specs.Building.{IsProgramOf}
 use Rattle.omf_image.specs.Program.{Program}
 use Rattle.omf_image.specs.Records.{program_byte, page_covered, relocations, written}
 use Rattle.omf_image.specs.Registers.{program_fault, registers}
-use Rattle.omf_commands.specs.Inputs.{modules_of}
 use Rattle.omf_commands.specs.Records.{says_of}
 use Rattle.omf_commands.specs.Linking.{IsFileOf, IsLinked}
 use Rattle.omf_commands.proofs.OneFile.{same_file}
@@ -28,10 +27,10 @@ module_said : (rs : List Placed) → placeless (module_of rs) ≡ says_module (s
 unfolding says_module
 module_said rs = sym (module_of_unplaced rs) ∙ ap module_of (sym (map-map _ _ rs))
 
-modules_said : (lists : List (List Placed)) → map placeless (modules_of lists) ≡ map says_module (map says_of lists)
+modules_said : (lists : List (List Placed)) → map placeless (map module_of lists) ≡ map says_module (map says_of lists)
 modules_said lists = map-map placeless module_of lists ∙ (ap (λ f. map f lists) (fun_ext module_said) ∙ sym (map-map says_module says_of lists))
 
-alike : (lists others : List (List Placed)) → map says_of lists ≡ map says_of others → Alike (modules_of lists) (modules_of others)
+alike : (lists others : List (List Placed)) → map says_of lists ≡ map says_of others → Alike (map module_of lists) (map module_of others)
 alike lists others same = modules_said lists ∙ (ap (map says_module) same ∙ sym (modules_said others))
 
 program_of : (modules others : List Module) (layout : Layout) (p : Program) → Alike modules others → IsProgramOf layout modules p → IsProgramOf layout others p
@@ -53,8 +52,8 @@ linked_of names modules others layout p same linked = record {
   program = program_of modules others layout p same linked.program;
 }
 
-pub file_of_said : (names : Names) (lists others : List (List Placed)) (file : List ℕ) → map says_of lists ≡ map says_of others → IsFileOf names (modules_of lists) file → IsFileOf names (modules_of others) file
-file_of_said names lists others file same (layout, p, linked, mz) = (layout, p, linked_of names (modules_of lists) (modules_of others) layout p (alike lists others same) linked, mz)
+pub file_of_said : (names : Names) (lists others : List (List Placed)) (file : List ℕ) → map says_of lists ≡ map says_of others → IsFileOf names (map module_of lists) file → IsFileOf names (map module_of others) file
+file_of_said names lists others file same (layout, p, linked, mz) = (layout, p, linked_of names (map module_of lists) (map module_of others) layout p (alike lists others same) linked, mz)
 
-pub one_file_of_said : (names : Names) (lists others : List (List Placed)) (file other : List ℕ) → map says_of lists ≡ map says_of others → IsFileOf names (modules_of lists) file → IsFileOf names (modules_of others) other → file ≡ other
-one_file_of_said names lists others file other same a b = same_file names (modules_of others) file other (file_of_said names lists others file same a) b
+pub one_file_of_said : (names : Names) (lists others : List (List Placed)) (file other : List ℕ) → map says_of lists ≡ map says_of others → IsFileOf names (map module_of lists) file → IsFileOf names (map module_of others) other → file ≡ other
+one_file_of_said names lists others file other same a b = same_file names (map module_of others) file other (file_of_said names lists others file same a) b

@@ -1,13 +1,15 @@
 -- What the record lists of the inputs stand for, under a choice of which names agree, and what linking them answers.
-use Rattle.std.specs.Prelude.{◌≡◌, ℕ, ◌+◌, ◌*◌, ◌<◌, ◌≤◌, ◌⊎◌, List, length, get_or, None, Some, Ok, Err}
+use Rattle.std.specs.Prelude.{◌≡◌, ℕ, ◌+◌, ◌*◌, ◌<◌, ◌≤◌, ◌⊎◌, List, length, map, get_or, None, Some, Ok, Err}
+use Rattle.std.specs.Prelude.{MatchOption}
 use Rattle.std.specs.declared.option.Option.{Option}
 use Rattle.std.specs.declared.result.Result.{Result}
 use Rattle.std.specs.Io.KnownBytes.{Appends, Keeps}
 use Rattle.omf_frame.specs.Device.{AppendsFront}
 use Rattle.omf_module.specs.Module.{Module}
+use Rattle.omf_module.specs.Tables.{module_of}
 use Rattle.omf_record.specs.Records.{Placed}
 use Rattle.omf_place.specs.Faults as placing
-use Rattle.omf_place.specs.Faults.{IsOnlyLayout, IsFirstFault}
+use Rattle.omf_place.specs.Faults.{PlacementFault, IsOnlyLayout, IsFirstFault}
 use Rattle.omf_place.specs.Layout.{Layout}
 use Rattle.omf_place.specs.declared.names.Names.{Names}
 use Rattle.omf_image.specs.Building.{IsProgramOf}
@@ -21,11 +23,12 @@ use Rattle.mz.specs.File.{Mz, MzFile}
 use Rattle.mz.specs.Laws.{memory}
 use Rattle.mz.specs.Loading.{Loaded, loading}
 use Rattle.mz.specs.Reading.{reading}
+use Rattle.omf_text.specs.declared.fault.ProgramFault.{ProgramFault}
 use Rattle.omf_text.specs.declared.fault.ProgramFault.TheVariants as program
 use Rattle.omf_text.specs.declared.fault.LinkFault.{LinkFault}
 use Rattle.omf_text.specs.declared.fault.LinkFault.TheVariants as link
 use Rattle.omf_commands.specs.declared.linking.Report.{Report}
-use Rattle.omf_commands.specs.Inputs.{modules_of, AreInputs, StopsAtRecord, StopsForMemory}
+use Rattle.omf_commands.specs.Inputs.{AreInputs, StopsAtRecord, StopsForMemory}
 use Rattle.omf_commands.specs.Faults.{fix_kind_fault}
 
 -- ---- the program of modules, and its file
@@ -42,28 +45,26 @@ IsFileOf names modules file = (layout : Layout) × (made : Program) × IsLinked 
 
 -- ---- the first fault of modules
 
+-- what a fault of the modules together says, but that too many words are relocated, which is a fault of building
+abbrev pub program_said : {A : Type 0} → ProgramFault A → Option PlacementFault
+program_said (program.SegmentTooLong name) = Some (placing.SegmentTooLong name.items)
+program_said program.ProgramTooLarge = Some placing.ProgramTooLarge
+program_said (program.GroupTooLong name) = Some (placing.GroupTooLong name.items)
+program_said (program.DuplicatePublic name) = Some (placing.DuplicatePublic name.items)
+program_said program.TooManyRelocations = None
+
 -- of data, fix-ups, the start, or the number of relocated words
 abbrev pub IsBuildFault : Names → List Module → FixFault → Type 0
 IsBuildFault names modules fault =
     (layout : Layout) × IsOnlyLayout names modules layout × (program_fault layout modules ≡ Some fault)
 
--- the first fault of placing modules and of building their program; want of memory and devices' faults are none
+-- the first fault of placing modules and of building their program; no other fault is one
 abbrev pub IsModulesFault : {A : Type 0} → Names → List Module → LinkFault A → Type 0
-IsModulesFault names modules (link.Program (program.SegmentTooLong name)) =
-    IsFirstFault names modules (placing.SegmentTooLong name.items)
-IsModulesFault names modules (link.Program program.ProgramTooLarge) = IsFirstFault names modules placing.ProgramTooLarge
-IsModulesFault names modules (link.Program (program.GroupTooLong name)) =
-    IsFirstFault names modules (placing.GroupTooLong name.items)
-IsModulesFault names modules (link.Program (program.DuplicatePublic name)) =
-    IsFirstFault names modules (placing.DuplicatePublic name.items)
-IsModulesFault names modules (link.Program program.TooManyRelocations) =
-    IsBuildFault names modules build.TooManyRelocations
+IsModulesFault names modules (link.Program fault) =
+    MatchOption (program_said fault) (IsBuildFault names modules build.TooManyRelocations) (IsFirstFault names modules)
 IsModulesFault names modules (link.Record input place fault) =
     (kind : FixKind) × (fault ≡ fix_kind_fault kind) × IsBuildFault names modules (build.At kind input place)
-IsModulesFault names modules (link.Device input place) = ⊥
-IsModulesFault names modules (link.File fault) = ⊥
-IsModulesFault names modules link.Output = ⊥
-IsModulesFault names modules link.Memory = ⊥
+IsModulesFault names modules _ = ⊥
 
 -- ---- the file, loaded
 
@@ -75,22 +76,15 @@ pub record HoldsProgram (paragraph : ℕ) (layout : Layout) (modules : List Modu
       → get_or loaded.bytes address 0 ≡ program_byte paragraph layout modules address
   pub registers : registers paragraph layout modules ≡ loaded.registers
 
--- a program of this size fits into memory at the paragraph
-abbrev pub FitsAt : (paragraph size : ℕ) → Type 0
-FitsAt paragraph size = 16 * paragraph + size ≤ 1048576
-
--- reading the file and loading what was read
-abbrev pub IsLoadedFrom : (paragraph : ℕ) (file : List ℕ) → Loaded → Type 0
-IsLoadedFrom paragraph file loaded = (mz : MzFile) × (reading file ≡ Ok mz) × (loading paragraph mz ≡ Ok loaded)
-
--- The file at any paragraph holds the program of the modules, and where the program fits so does what the file, read
--- and loaded there, gives.
+-- The file at any paragraph holds the program of the modules, and where the program fits below 1 MB so does what the
+-- file, read and loaded there, gives.
 abbrev pub HoldsAtEachParagraph : Names → List Module → (file : List ℕ) → Type 0
 HoldsAtEachParagraph names modules file =
     (layout : Layout) × IsOnlyLayout names modules layout
     × ((paragraph : ℕ) → HoldsProgram paragraph layout modules (memory paragraph file)
-    × (FitsAt paragraph layout.size
-    → (loaded : Loaded) × IsLoadedFrom paragraph file loaded × HoldsProgram paragraph layout modules loaded))
+    × (16 * paragraph + layout.size ≤ 1048576
+    → (mz : MzFile) × (loaded : Loaded) × (reading file ≡ Ok mz) × (loading paragraph mz ≡ Ok loaded)
+    × HoldsProgram paragraph layout modules loaded))
 
 -- ---- what a link answers
 
@@ -103,7 +97,7 @@ module _ {S : Type 0} (told : S → Option (List ℕ)) (failures : S → ℕ) wh
   -- all inputs were read as modules of these records
   abbrev pub AllRead : (olds news : List S) → (List Module → Type 0) → Type 0
   AllRead olds news holds =
-      (lists : List (List Placed)) × AreInputs told failures lists olds news × holds (modules_of lists)
+      (lists : List (List Placed)) × AreInputs told failures lists olds news × holds (map module_of lists)
 
   -- What a link answers, and what is told of the sources and of the sink before and after. Nothing is written after a
   -- refusal but the sink's own, and then a front of the file.
@@ -116,15 +110,9 @@ module _ {S : Type 0} (told : S → Option (List ℕ)) (failures : S → ℕ) wh
   Links names olds news wold wnew (Err link.Output) =
       AllRead olds news (λ modules. (file : List ℕ) × IsFileOf names modules file × AppendsFront wold wnew file)
   Links names olds news wold wnew (Err link.Memory) = StopsForMemory told failures olds news × Keeps wold wnew
-  Links {A = A} names olds news wold wnew (Err (link.Device input place)) =
-      StopsAtRecord told failures {A = A} olds news (link.Device input place) × Keeps wold wnew
-  Links {A = A} names olds news wold wnew (Err (link.Record input place fault)) =
-      (StopsAtRecord told failures {A = A} olds news (link.Record input place fault)
-      ⊎ AllRead olds news (λ modules. IsModulesFault {A = A} names modules (link.Record input place fault)))
+  Links names olds news wold wnew (Err fault) =
+      (StopsAtRecord told failures olds news fault ⊎ AllRead olds news (λ modules. IsModulesFault names modules fault))
       × Keeps wold wnew
-  Links {A = A} names olds news wold wnew (Err (link.Program fault)) =
-      AllRead olds news (λ modules. IsModulesFault {A = A} names modules (link.Program fault)) × Keeps wold wnew
-  Links names olds news wold wnew (Err (link.File fault)) = ⊥
 
   -- the file that was written holds the program of the inputs' records at each paragraph
   abbrev pub WritesProgram : Names → (olds news : List S) (wold wnew : Option (List ℕ)) → Type 0

@@ -37,13 +37,8 @@ source_failures (Err (link.File fault)) = file_failures fault
 
 -- how many calls of the sink failed, by the answer
 abbrev pub sink_failures : {T A : Type 0} → Result T (LinkFault A) → ℕ
-sink_failures (Ok done) = 0
-sink_failures (Err link.Memory) = 0
 sink_failures (Err link.Output) = 1
-sink_failures (Err (link.Device input place)) = 0
-sink_failures (Err (link.Record input place fault)) = 0
-sink_failures (Err (link.Program fault)) = 0
-sink_failures (Err (link.File fault)) = 0
+sink_failures _ = 0
 
 -- what is taken of the record at fault: the whole of it, or all there is of one that is cut off; at the limit nothing
 abbrev pub TakesFaulty : Option (List ℕ) → Option (List ℕ) → InputFault → Type 0

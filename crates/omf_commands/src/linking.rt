@@ -1,15 +1,16 @@
 //! Object modules linked into a program.
 ghost use Rattle.std.specs.Prelude.{All, OnOk, ◌≡◌, ◌+◌, ◌-◌, ◌^◌, ◌<◌, ℕ, List, map};
 ghost use Rattle.omf_module.specs.Module.{Module as Says};
+ghost use Rattle.omf_module.specs.Tables.{module_of};
 ghost use Rattle.omf_place.specs.declared.names.Names.{Names as Choice};
 ghost use Rattle.omf_place.specs.declared.names.Names.TheVariants.{AsciiFolded, Exact};
 ghost use Rattle.omf_record.specs.Records.{Placed};
 ghost use Rattle.omf_text.specs.declared.fault.LinkFault.{LinkFault as Fault};
-ghost use Rattle.omf_commands.specs.Inputs.{AreModules, modules_of};
+ghost use Rattle.omf_commands.specs.Inputs.{AreModules};
 ghost use Rattle.omf_commands.specs.Records.{rewritten, says_of};
 ghost use Rattle.omf_commands.specs.Linking.{IsFileOf, IsModulesFault, Links, WritesProgram};
 ghost use Rattle.omf_commands.specs.inside.Linking.{LinksModules};
-ghost use Rattle.omf_commands.specs.Outcome.{AreTold, Outcome, telling};
+ghost use Rattle.omf_commands.specs.Outcome.{AreTold, Outcome, SameFault, telling};
 ghost use Rattle.omf_commands.specs.Reading.{sink_failures};
 
 use crate::faults::{fix_fault, place_fault};
@@ -126,7 +127,9 @@ pub fn file_or_fault<A: Allocator + Copy>()
     ensures exclusive { (names : Choice) (modules : List Says) (file : List ℕ) (fault : Fault A)
         → IsFileOf names modules file → IsModulesFault names modules fault → ⊥ }
     ensures one_fault { (names : Choice) (modules : List Says) (fault other : Fault A)
-        → IsModulesFault names modules fault → IsModulesFault names modules other → telling fault ≡ telling other }
+        → IsModulesFault names modules fault → IsModulesFault names modules other → SameFault fault other }
+    // Faults that are one tell the same: their number, the input at fault and their line.
+    ensures told { (fault other : Fault A) → SameFault fault other → telling fault ≡ telling other }
 {}
 
 /// Modules have one file under each choice of which names agree, whatever their bytes were: it hangs on what the
@@ -136,15 +139,15 @@ pub fn one_file()
         → IsFileOf names modules other → file ≡ other }
     // Records that say the same have the same file.
     ensures of_records { (names : Choice) (lists others : List (List Placed)) (file other : List ℕ)
-        → map says_of lists ≡ map says_of others → IsFileOf names (modules_of lists) file
-        → IsFileOf names (modules_of others) other → file ≡ other }
+        → map says_of lists ≡ map says_of others → IsFileOf names (map module_of lists) file
+        → IsFileOf names (map module_of others) other → file ≡ other }
     // Where the ones have a file, so have the others.
     ensures shared { (names : Choice) (lists others : List (List Placed)) (file : List ℕ)
-        → map says_of lists ≡ map says_of others → IsFileOf names (modules_of lists) file
-        → IsFileOf names (modules_of others) file }
+        → map says_of lists ≡ map says_of others → IsFileOf names (map module_of lists) file
+        → IsFileOf names (map module_of others) file }
     // Modules that are rewritten are modules that say the same, and have the file that they had.
     ensures rewritten { (names : Choice) (lists : List (List Placed)) (inputs : List (List ℕ)) (file : List ℕ)
-        → AreModules lists inputs → IsFileOf names (modules_of lists) file
+        → AreModules lists inputs → IsFileOf names (map module_of lists) file
         → (others : List (List Placed)) × AreModules others (map rewritten lists)
-        × (map says_of others ≡ map says_of lists) × IsFileOf names (modules_of others) file }
+        × (map says_of others ≡ map says_of lists) × IsFileOf names (map module_of others) file }
 {}

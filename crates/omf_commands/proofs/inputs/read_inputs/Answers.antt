@@ -1,4 +1,4 @@
-use Rattle.std.proofs.Common.{rules, ◌≡◌, ◌<◌, ◌++◌, ◌∷◌, [], length, sym, subst, inr}
+use Rattle.std.proofs.Common.{rules, ◌≡◌, ◌<◌, ◌+◌, ◌++◌, ◌∷◌, [], drop, length, sym, subst, inr}
 use Rattle.std.proofs.lemmas.List.Elements.{All-get_or}
 use Rattle.std.proofs.lemmas.Result.{err_from_is_err_and}
 use Rattle.omf_commands.proofs.InputSteps.{finished, front_read, modules_push, read_input, read_one, refused, same_at}
@@ -32,6 +32,7 @@ returns-in_err-map_err g c =
     let p = err_from_is_err_and c.from_residual.result c.from_residual.ensures.1 in
     rw (p.1, p.2) (inr (
       lists ++ rs ∷ [],
+      drop (c.loop-input.input + 1) c.args.sources.now,
       front_read told failures _ _ _ _ (read_one told failures lists c.loop-input.input c.args.sources.now c.loop-input.sources c.index-sources-input.result rs
           c.finish.new.self here so input),
     ))

@@ -1,9 +1,9 @@
-use Rattle.std.proofs.Common.{rules, [], subst}
+use Rattle.std.proofs.Common.{rules, [], map, subst}
 use Rattle.std.proofs.lemmas.Result.{err_from_is_err_and}
 use Rattle.std.specs.Io.KnownBytes.{Appends}
 use Rattle.omf_frame.specs.Device.{AppendsFront}
+use Rattle.omf_module.specs.Tables.{module_of}
 use Rattle.mz.specs.File.{written}
-use Rattle.omf_commands.specs.Inputs.{modules_of}
 use Rattle.omf_commands.specs.Linking.{IsLinked}
 use Rattle.omf_commands.proofs.LinkSteps.{holds_program, not_linked, not_read, unwritten}
 use Rattle.omf_commands.proofs.Outcome.{none_stands, refused}
@@ -53,7 +53,7 @@ returns-in-Ok-clause-headline g c =
     let report = c.in_ok-report.report in
     let linked = subst (λ ms. IsLinked c.args.options.now.names ms report.layout report.program) are c.in_ok-report.ensures.linked in
     let laws = c.loads_as_written.ensures in
-    let holds = holds_program c.args.options.now.names (modules_of lists) report.layout report.program (written report.program) laws.reads laws.memory laws.loads linked c.in-Ok.ensures.format in
+    let holds = holds_program c.args.options.now.names (map module_of lists) report.layout report.program (written report.program) laws.reads laws.memory laws.loads linked c.in-Ok.ensures.format in
     let appended : Appends (g.K.Sink.written c.args.sink.now) (g.K.Sink.written c.write_mz.new.sink) (written report.program) = search rules in
     (lists, inputs, (written report.program, appended, holds))
 
