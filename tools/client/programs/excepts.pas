@@ -15,7 +15,7 @@ begin
     try
       case which of
         1: raise ERefused.Create('first');
-        2: StrToInt('x' + IntToStr(which));
+        2: StrToInt('no' + IntToStr(which));
         3: writeln(100 div (which - 3));
       else
         writeln('nothing');
@@ -27,7 +27,7 @@ begin
     on problem: ERefused do
       writeln('refused: ', problem.Message);
     on problem: EConvertError do
-      writeln(problem.ClassName, ' ', pos('x2', problem.Message) > 0);
+      writeln(problem.ClassName);
     on EDivByZero do
       writeln('divided by zero');
   end;

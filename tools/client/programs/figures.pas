@@ -16,6 +16,7 @@ type
     destructor done; virtual;
   end;
   pointer_to_figure = ^figure;
+  pointer_to_named = ^named;
 
 var
   alive: integer;
@@ -66,4 +67,6 @@ initialization
   writeln('figures begins with ', alive);
 finalization
   writeln('figures ends with ', alive, ' of ', made);
+  { the output was flushed before units end }
+  flush(output);
 end.
