@@ -1,6 +1,8 @@
-"""The names that a module defines and uses, read from its records (docs/FORMATS.md has their layouts)."""
+"""The names that a module defines and uses, read from its records (docs/FORMATS.md has their layouts).
 
-import re
+There may be thousands of modules: so no record is read by more calls than one, and a name that is met becomes a `Named`
+only where it is asked for.
+"""
 
 THEADR, COMENT, MODEND, EXTDEF, PUBDEF, LINNUM, LNAMES = 0x80, 0x88, 0x8A, 0x8C, 0x90, 0x94, 0x96
 SEGDEF, GRPDEF, FIXUPP, LEDATA, LIDATA, LEXTDEF, LPUBDEF = 0x98, 0x9A, 0x9C, 0xA0, 0xA2, 0xB4, 0xB6
@@ -10,30 +12,15 @@ FRONT = 3
 BY_EXTERNAL = 2
 # the methods by which a frame is that of the location or of the target
 WITHOUT_INDEX = (4, 5)
-LOCATIONS = (0, 1, 2, 3, 5)
+# the first bytes of fix-ups, by the locations that are accepted
+FIXUPS = frozenset(0x80 | self_relative | location << 2 | place for self_relative in (0, 0x40)
+                   for location in (0, 1, 2, 3, 5) for place in range(4))
+# what most references begin with: the frame is that of the target, an external without displacement
+TO_EXTERNAL = 0x56
+COMBINATIONS = (0, 2, 4, 5, 6, 7)
+GREATEST_ALIGNMENT = 5
 # a block of this level of repeated data has no blocks
 DEEPEST_LEVEL = 64
-
-INDEX = rb"(?:[\x00-\x7F]|[\x80-\xFF].)"
-
-
-def attributes(alignments, is_whole):
-    """The first bytes of a SEGDEF with these alignments, for a regular expression."""
-    combinations = (0, 2, 4, 5, 6, 7)
-    accepted = [a << 5 | c << 2 | is_whole << 1 for a in alignments for c in combinations]
-    return b"[" + re.escape(bytes(accepted)) + b"]"
-
-
-# the bodies of the records that no name depends on
-BODIES = {
-    COMENT: rb"...*",
-    LINNUM: INDEX + INDEX + rb"(?:....)*",
-    SEGDEF: b"(?:%s..|%s\0\0|%s.....|%s...\0\0)" % (
-        attributes(range(1, 6), 0), attributes(range(1, 6), 1), attributes([0], 0), attributes([0], 1)) + 3 * INDEX,
-    GRPDEF: INDEX + rb"(?:\xFF" + INDEX + rb")*",
-    LEDATA: INDEX + rb"...*",
-}
-MATCHES = {kind: re.compile(body, re.DOTALL).fullmatch for kind, body in BODIES.items()}
 
 
 class Refused(Exception):
@@ -46,22 +33,40 @@ class Named:
 
     __slots__ = ("name", "is_local", "place", "uses")
 
-    def __init__(self, name, is_local, place):
+    def __init__(self, name, is_local, place, uses):
         self.name = name
         self.is_local = is_local
         self.place = place
-        self.uses = []
+        self.uses = uses
 
 
 class Module:
     """What the records of a module define and want: all of them, or those before the first that `omf` refuses."""
 
+    __slots__ = ("external_names", "external_records", "has_local", "uses", "publics", "is_whole", "threads")
+
     def __init__(self):
-        self.externals = []
+        self.external_names = []
+        # of each record with externals: how many names come before its own, whether they are local, and its place
+        self.external_records = []
+        # whether some external or public is local
+        self.has_local = False
+        # by the index of an external, the place of each record that uses it
+        self.uses = {}
         self.publics = []
         self.is_whole = False
         # the external by which each of four target threads goes, and each of four frame threads, or 0
         self.threads = [0] * 8
+
+    def external(self, number):
+        """The external with an index."""
+        for before, is_local, place in reversed(self.external_records):
+            if before < number:
+                return Named(self.external_names[number - 1], is_local, place, self.uses.get(number, []))
+
+    @property
+    def externals(self):
+        return [self.external(number) for number in range(1, len(self.external_names) + 1)]
 
 
 def index(content, at):
@@ -80,6 +85,16 @@ def read_title(module, content, place, end):
     expect(place + FRONT + 1 + content[place + FRONT] == end)
 
 
+def read_comment(module, content, place, end):
+    expect(place + FRONT + 2 <= end)
+
+
+def read_lines(module, content, place, end):
+    _, at = index(content, place + FRONT)
+    _, at = index(content, at)
+    expect(at <= end and (end - at) % 4 == 0)
+
+
 def read_list(module, content, place, end):
     at = place + FRONT
     while at < end:
@@ -87,18 +102,43 @@ def read_list(module, content, place, end):
     expect(at == end)
 
 
-def read_other(module, content, place, end):
-    expect(MATCHES[content[place]](content, place + FRONT, end))
+def read_segment(module, content, place, end):
+    at = place + FRONT
+    attributes = content[at]
+    alignment, is_whole = attributes >> 5, attributes & 2
+    expect(alignment <= GREATEST_ALIGNMENT and attributes >> 2 & 7 in COMBINATIONS and not attributes & 1)
+    at += 1 if alignment else 4
+    expect(not is_whole or content[at] == content[at + 1] == 0)
+    at += 2
+    for _ in range(3):
+        at += 1 if content[at] < 128 else 2
+    expect(at == end)
+
+
+def read_group(module, content, place, end):
+    _, at = index(content, place + FRONT)
+    while at < end:
+        expect(content[at] == 0xFF)
+        _, at = index(content, at + 1)
+    expect(at == end)
+
+
+def read_data(module, content, place, end):
+    _, at = index(content, place + FRONT)
+    expect(at + 2 <= end)
 
 
 def read_externals(module, content, place, end):
-    found, is_local, at = [], content[place] == LEXTDEF, place + FRONT
+    names, at = [], place + FRONT
     while at < end:
         behind = at + 1 + content[at]
-        found.append(Named(content[at + 1:behind], is_local, place))
+        names.append(content[at + 1:behind])
         at = behind + (1 if content[behind] < 128 else 2)
     expect(at == end)
-    module.externals += found
+    is_local = content[place] == LEXTDEF
+    module.external_records.append((len(module.external_names), is_local, place))
+    module.external_names += names
+    module.has_local |= is_local
 
 
 def read_publics(module, content, place, end):
@@ -109,10 +149,11 @@ def read_publics(module, content, place, end):
         at += 2
     while at < end:
         behind = at + 1 + content[at]
-        found.append(Named(content[at + 1:behind], is_local, place))
+        found.append(Named(content[at + 1:behind], is_local, place, []))
         at = behind + (3 if content[behind + 2] < 128 else 4)
     expect(at == end)
     module.publics += found
+    module.has_local |= is_local
 
 
 def read_thread(threads, content, at):
@@ -144,8 +185,13 @@ def read_reference(threads, content, at, used):
         target = threads[method]
     else:
         expect(method <= BY_EXTERNAL)
-        number, at = index(content, at)
-        target = number if method == BY_EXTERNAL else 0
+        target = content[at]
+        at += 1
+        if target >= 128:
+            target = (target & 127) << 8 | content[at]
+            at += 1
+        if method != BY_EXTERNAL:
+            target = 0
     used.append(target)
     if frame and frame != target:
         used.append(frame)
@@ -154,21 +200,28 @@ def read_reference(threads, content, at, used):
 
 def note_uses(module, used, place):
     """Notes at the externals with these indexes, 0 being none, that the record at a place uses them."""
-    externals = module.externals
+    uses, most = module.uses, len(module.external_names)
     for number in used:
-        if 0 < number <= len(externals):
-            externals[number - 1].uses.append(place)
+        if 0 < number <= most:
+            if number in uses:
+                uses[number].append(place)
+            else:
+                uses[number] = [place]
 
 
 def read_fixups(module, content, place, end):
     used, threads, at = [], module.threads, place + FRONT
     while at < end:
         first = content[at]
-        if first & 0x80:
-            expect(first >> 2 & 15 in LOCATIONS)
-            at = read_reference(threads, content, at + 2, used)
-        else:
+        if first < 128:
             at = read_thread(threads, content, at)
+        elif first not in FIXUPS:
+            raise Refused
+        elif content[at + 2] == TO_EXTERNAL and content[at + 3] < 128:
+            used.append(content[at + 3])
+            at += 4
+        else:
+            at = read_reference(threads, content, at + 2, used)
     expect(at == end)
     note_uses(module, used, place)
 
@@ -206,10 +259,14 @@ def read_end(module, content, place, end):
 
 
 READERS = {
-    THEADR: read_title, LNAMES: read_list, LIDATA: read_repeated, MODEND: read_end, FIXUPP: read_fixups,
+    THEADR: read_title, COMENT: read_comment, LINNUM: read_lines, LNAMES: read_list, SEGDEF: read_segment,
+    GRPDEF: read_group, LEDATA: read_data, LIDATA: read_repeated, FIXUPP: read_fixups, MODEND: read_end,
     EXTDEF: read_externals, LEXTDEF: read_externals, PUBDEF: read_publics, LPUBDEF: read_publics,
-    **dict.fromkeys(MATCHES, read_other),
 }
+# records that no name depends on, which are mostly the same in many modules
+REPEATED = frozenset([COMENT, LNAMES, SEGDEF, GRPDEF])
+# those of them that were read
+sound = set()
 
 
 def read(content):
@@ -217,12 +274,17 @@ def read(content):
     module, place, readers = Module(), 0, READERS
     try:
         while not module.is_whole:
-            end = place + 2 + content[place + 1] + (content[place + 2] << 8)
-            # an end that lies behind the bytes has no closing byte there, and one without length has no body
-            if end < place + FRONT or content[end] and sum(content[place:end + 1]) & 255:
-                break
-            readers[content[place]](module, content, place, end)
-            place = end + 1
+            behind = place + FRONT + content[place + 1] + (content[place + 2] << 8)
+            record = content[place:behind]
+            if record not in sound:
+                kind, end = content[place], behind - 1
+                # an end that lies behind the bytes has no closing byte there, and one without length has no body
+                if end < place + FRONT or content[end] and sum(record) & 255:
+                    break
+                readers[kind](module, content, place, end)
+                if kind in REPEATED:
+                    sound.add(record)
+            place = behind
     except (Refused, IndexError, KeyError):
         pass
     return module

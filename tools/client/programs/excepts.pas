@@ -7,7 +7,7 @@ type
   ERefused = class(Exception)
   end;
 var
-  number: integer;
+  number: longint;
 
 procedure attempt(which: integer);
 begin
@@ -15,7 +15,7 @@ begin
     try
       case which of
         1: raise ERefused.Create('first');
-        2: StrToInt('no' + IntToStr(which));
+        2: raise EConvertError.Create('no ' + IntToStr(which));
         3: writeln(100 div (which - 3));
       else
         writeln('nothing');
@@ -27,7 +27,7 @@ begin
     on problem: ERefused do
       writeln('refused: ', problem.Message);
     on problem: EConvertError do
-      writeln(problem.ClassName);
+      writeln(problem.ClassName, ': ', problem.Message);
     on EDivByZero do
       writeln('divided by zero');
   end;
@@ -37,6 +37,7 @@ begin
   for number := 1 to 3 do
     attempt(number);
   writeln(Format('%d %5d|%-5d|%s %x', [1, 22, 333, 'four', 255]));
+  writeln(TryStrToInt('-77', number), ' ', number, ' ', TryStrToInt('7-', number));
   writeln(UpperCase('abc'), ' ', Trim('  d e '), ' ', IntToHex(48879, 8));
   writeln(StringReplace('a-b-c', '-', '+', [rfReplaceAll]));
 end.
