@@ -13,10 +13,10 @@ BY_EXTERNAL = 2
 # the methods by which a frame is that of the location or of the target
 WITHOUT_INDEX = (4, 5)
 # the first bytes of fix-ups, by the locations that are accepted
-FIXUPS = frozenset(0x80 | self_relative | location << 2 | place for self_relative in (0, 0x40)
+FIXUPS = bytes(0x80 | self_relative | location << 2 | place for self_relative in (0, 0x40)
                    for location in (0, 1, 2, 3, 5) for place in range(4))
 # what most references begin with: the frame is that of the target, an external without displacement
-TO_EXTERNAL = 0x56
+TO_EXTERNAL = b"\x56"
 COMBINATIONS = (0, 2, 4, 5, 6, 7)
 GREATEST_ALIGNMENT = 5
 # a block of this level of repeated data has no blocks
@@ -40,33 +40,62 @@ class Named:
         self.uses = uses
 
 
+class Names:
+    """The names of a module's records of externals, or of publics, in their order."""
+
+    __slots__ = ("names", "records", "has_local")
+
+    def __init__(self):
+        self.names = []
+        # of each record: how many names come before its own, whether they are local, and its place
+        self.records = []
+        self.has_local = False
+
+    def add(self, names, is_local, place):
+        self.records.append((len(self.names), is_local, place))
+        self.names += names
+        self.has_local |= is_local
+
+    def named(self, uses):
+        """Each name, with the places that are told of its index."""
+        found = []
+        for (before, is_local, place), (behind, _, _) in zip(self.records, self.records[1:] + [(len(self.names), 0, 0)]):
+            for at in range(before, behind):
+                found.append(Named(self.names[at], is_local, place, uses.get(at + 1, [])))
+        return found
+
+
 class Module:
     """What the records of a module define and want: all of them, or those before the first that `omf` refuses."""
 
-    __slots__ = ("external_names", "external_records", "has_local", "uses", "publics", "is_whole", "threads")
+    __slots__ = ("external_names", "public_names", "uses", "is_whole", "threads")
 
     def __init__(self):
-        self.external_names = []
-        # of each record with externals: how many names come before its own, whether they are local, and its place
-        self.external_records = []
-        # whether some external or public is local
-        self.has_local = False
-        # by the index of an external, the place of each record that uses it
-        self.uses = {}
-        self.publics = []
+        self.external_names = Names()
+        self.public_names = Names()
+        # of each record that uses externals: its place, and their indexes, one for each use
+        self.uses = []
         self.is_whole = False
         # the external by which each of four target threads goes, and each of four frame threads, or 0
         self.threads = [0] * 8
 
-    def external(self, number):
-        """The external with an index."""
-        for before, is_local, place in reversed(self.external_records):
-            if before < number:
-                return Named(self.external_names[number - 1], is_local, place, self.uses.get(number, []))
-
     @property
     def externals(self):
-        return [self.external(number) for number in range(1, len(self.external_names) + 1)]
+        uses = {}
+        for place, used in self.uses:
+            for number in used:
+                uses.setdefault(number, []).append(place)
+        return self.external_names.named(uses)
+
+    @property
+    def publics(self):
+        return self.public_names.named({})
+
+    def used(self):
+        """The indexes of the externals that are used, rising."""
+        if len(self.uses) == 1:
+            return sorted(set(self.uses[0][1]))
+        return sorted({number for _, used in self.uses for number in used})
 
 
 def index(content, at):
@@ -135,25 +164,26 @@ def read_externals(module, content, place, end):
         names.append(content[at + 1:behind])
         at = behind + (1 if content[behind] < 128 else 2)
     expect(at == end)
-    is_local = content[place] == LEXTDEF
-    module.external_records.append((len(module.external_names), is_local, place))
-    module.external_names += names
-    module.has_local |= is_local
+    module.external_names.add(names, content[place] == LEXTDEF, place)
 
 
-def read_publics(module, content, place, end):
+def public_names(content, place, end):
+    """The names of the record of publics at a place, whose body ends at another."""
     _, at = index(content, place + FRONT)
     segment, at = index(content, at)
-    found, is_local = [], content[place] == LPUBDEF
+    names = []
     if segment == 0:
         at += 2
     while at < end:
         behind = at + 1 + content[at]
-        found.append(Named(content[at + 1:behind], is_local, place, []))
+        names.append(content[at + 1:behind])
         at = behind + (3 if content[behind + 2] < 128 else 4)
     expect(at == end)
-    module.publics += found
-    module.has_local |= is_local
+    return names
+
+
+def read_publics(module, content, place, end):
+    module.public_names.add(public_names(content, place, end), content[place] == LPUBDEF, place)
 
 
 def read_thread(threads, content, at):
@@ -199,28 +229,28 @@ def read_reference(threads, content, at, used):
 
 
 def note_uses(module, used, place):
-    """Notes at the externals with these indexes, 0 being none, that the record at a place uses them."""
-    uses, most = module.uses, len(module.external_names)
-    for number in used:
-        if 0 < number <= most:
-            if number in uses:
-                uses[number].append(place)
-            else:
-                uses[number] = [place]
+    """Notes that the record at a place uses the externals with these indexes, of which 0 is none."""
+    most = len(module.external_names.names)
+    if 0 in used or used and max(used) > most:
+        used = [number for number in used if 0 < number <= most]
+    if used:
+        module.uses.append((place, used))
 
 
 def read_fixups(module, content, place, end):
-    used, threads, at = [], module.threads, place + FRONT
+    at = place + FRONT
+    # where each fix-up has four bytes, all are read at once
+    if (end - at) % 4 == 0 and not content[at:end:4].translate(None, FIXUPS) and \
+            not content[at + 2:end:4].translate(None, TO_EXTERNAL) and content[at + 3:end:4].isascii():
+        note_uses(module, content[at + 3:end:4], place)
+        return
+    used, threads = [], module.threads
     while at < end:
         first = content[at]
         if first < 128:
             at = read_thread(threads, content, at)
-        elif first not in FIXUPS:
-            raise Refused
-        elif content[at + 2] == TO_EXTERNAL and content[at + 3] < 128:
-            used.append(content[at + 3])
-            at += 4
         else:
+            expect(first in FIXUPS)
             at = read_reference(threads, content, at + 2, used)
     expect(at == end)
     note_uses(module, used, place)
@@ -273,7 +303,7 @@ def read(content):
     """What the module at the front of some bytes defines and wants."""
     module, place, readers = Module(), 0, READERS
     try:
-        while not module.is_whole:
+        while True:
             behind = place + FRONT + content[place + 1] + (content[place + 2] << 8)
             record = content[place:behind]
             if record not in sound:
@@ -284,6 +314,8 @@ def read(content):
                 readers[kind](module, content, place, end)
                 if kind in REPEATED:
                     sound.add(record)
+                elif kind == MODEND:
+                    break
             place = behind
     except (Refused, IndexError, KeyError):
         pass
