@@ -58,9 +58,9 @@ class Names:
 
     def named(self, uses):
         """Each name, with the places that are told of its index."""
-        found = []
-        for (before, is_local, place), (behind, _, _) in zip(self.records, self.records[1:] + [(len(self.names), 0, 0)]):
-            for at in range(before, behind):
+        found, ends = [], [before for before, _, _ in self.records[1:]] + [len(self.names)]
+        for (before, is_local, place), end in zip(self.records, ends):
+            for at in range(before, end):
                 found.append(Named(self.names[at], is_local, place, uses.get(at + 1, [])))
         return found
 
