@@ -78,10 +78,11 @@ unpack() {
     chmod 755 "$unpacked/$1.new" && mv -f "$unpacked/$1.new" "$unpacked/$1"
 }
 
-# A line for every fifty functions that are proved, with how many there are in the released program: progress PROGRAM
+# A line for every fifty functions that are proved, with how many there are in the released program, of which rt counts
+# no closures (their names have the part `fn`): progress PROGRAM
 progress() {
     awk -v program="$1" -v all="$(said_of "$1" functions)" '
-        /^fn [^ ]+: proved$/ && !met[$2]++ && ++count % 50 == 0 {
+        /^fn [^ ]+: proved$/ && $2 !~ /::fn::/ && !met[$2]++ && ++count % 50 == 0 {
             printf "%s: proved %d of %s functions\n", program, count, all ? all : "all"
             fflush()
         }' >&2
