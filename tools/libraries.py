@@ -1,11 +1,7 @@
 """The object modules of a library: of a .LIB (its dictionary isn't used), or of a Unix archive."""
 
-import os
+from records import COMENT, FRONT, PUBDEF, Refused, content_of, public_names
 
-from records import COMENT, FRONT, PUBDEF, Refused, public_names
-
-# what is read of a file at once
-PIECE = 65536
 ARCHIVE = b"!<arch>\n"
 # of a member of an archive
 MEMBER_HEADER = 60
@@ -132,17 +128,6 @@ def names_at(content, place, end):
         return public_names(content, place, end)
     except (Refused, IndexError):
         return []
-
-
-def content_of(path):
-    """The bytes of a file, with the fewest calls, since there may be thousands of files."""
-    descriptor, pieces = os.open(path, os.O_RDONLY), []
-    try:
-        while piece := os.read(descriptor, PIECE):
-            pieces.append(piece)
-    finally:
-        os.close(descriptor)
-    return b"".join(pieces)
 
 
 def is_library(content):

@@ -4,6 +4,10 @@ There may be thousands of modules: so no record is read by more calls than one, 
 only where it is asked for.
 """
 
+import os
+
+# what is read of a file at once
+PIECE = 65536
 THEADR, COMENT, MODEND, EXTDEF, PUBDEF, LINNUM, LNAMES = 0x80, 0x88, 0x8A, 0x8C, 0x90, 0x94, 0x96
 SEGDEF, GRPDEF, FIXUPP, LEDATA, LIDATA, LEXTDEF, LPUBDEF = 0x98, 0x9A, 0x9C, 0xA0, 0xA2, 0xB4, 0xB6
 # the bytes before a record's body: its type and its length
@@ -40,39 +44,21 @@ class Named:
         self.uses = uses
 
 
-class Names:
-    """The names of a module's records of externals, or of publics, in their order."""
-
-    __slots__ = ("names", "records", "has_local")
-
-    def __init__(self):
-        self.names = []
-        # of each record: how many names come before its own, whether they are local, and its place
-        self.records = []
-        self.has_local = False
-
-    def add(self, names, is_local, place):
-        self.records.append((len(self.names), is_local, place))
-        self.names += names
-        self.has_local |= is_local
-
-    def named(self, uses):
-        """Each name, with the places that are told of its index."""
-        found, ends = [], [before for before, _, _ in self.records[1:]] + [len(self.names)]
-        for (before, is_local, place), end in zip(self.records, ends):
-            for at in range(before, end):
-                found.append(Named(self.names[at], is_local, place, uses.get(at + 1, [])))
-        return found
-
-
 class Module:
     """What the records of a module define and want: all of them, or those before the first that `omf` refuses."""
 
-    __slots__ = ("external_names", "public_names", "uses", "is_whole", "threads")
+    __slots__ = (
+        "external_names", "external_records", "public_names", "public_records", "has_local", "uses", "is_whole",
+        "threads")
 
     def __init__(self):
-        self.external_names = Names()
-        self.public_names = Names()
+        # the names of externals and of publics; of each of their records how many names come before its own,
+        # whether they are local, and its place
+        self.external_names = []
+        self.external_records = []
+        self.public_names = []
+        self.public_records = []
+        self.has_local = False
         # of each record that uses externals: its place, and their indexes, one for each use
         self.uses = []
         self.is_whole = False
@@ -85,17 +71,31 @@ class Module:
         for place, used in self.uses:
             for number in used:
                 uses.setdefault(number, []).append(place)
-        return self.external_names.named(uses)
+        return all_named(self.external_names, self.external_records, uses)
 
     @property
     def publics(self):
-        return self.public_names.named({})
+        return all_named(self.public_names, self.public_records, {})
 
-    def used(self):
-        """The indexes of the externals that are used, rising."""
-        if len(self.uses) == 1:
-            return sorted(set(self.uses[0][1]))
-        return sorted({number for _, used in self.uses for number in used})
+
+def all_named(names, records, uses):
+    """Each name with what is told of its record, and with the places that are told of its index."""
+    found, ends = [], [before for before, _, _ in records[1:]] + [len(names)]
+    for (before, is_local, place), end in zip(records, ends):
+        for at in range(before, end):
+            found.append(Named(names[at], is_local, place, uses.get(at + 1, [])))
+    return found
+
+
+def content_of(path):
+    """The bytes of a file, with the fewest calls, since there may be thousands of files."""
+    descriptor, pieces = os.open(path, os.O_RDONLY), []
+    try:
+        while piece := os.read(descriptor, PIECE):
+            pieces.append(piece)
+    finally:
+        os.close(descriptor)
+    return b"".join(pieces)
 
 
 def index(content, at):
@@ -164,7 +164,10 @@ def read_externals(module, content, place, end):
         names.append(content[at + 1:behind])
         at = behind + (1 if content[behind] < 128 else 2)
     expect(at == end)
-    module.external_names.add(names, content[place] == LEXTDEF, place)
+    is_local = content[place] == LEXTDEF
+    module.has_local |= is_local
+    module.external_records.append((len(module.external_names), is_local, place))
+    module.external_names += names
 
 
 def public_names(content, place, end):
@@ -183,7 +186,10 @@ def public_names(content, place, end):
 
 
 def read_publics(module, content, place, end):
-    module.public_names.add(public_names(content, place, end), content[place] == LPUBDEF, place)
+    names, is_local = public_names(content, place, end), content[place] == LPUBDEF
+    module.has_local |= is_local
+    module.public_records.append((len(module.public_names), is_local, place))
+    module.public_names += names
 
 
 def read_thread(threads, content, at):
@@ -230,7 +236,7 @@ def read_reference(threads, content, at, used):
 
 def note_uses(module, used, place):
     """Notes that the record at a place uses the externals with these indexes, of which 0 is none."""
-    most = len(module.external_names.names)
+    most = len(module.external_names)
     if 0 in used or used and max(used) > most:
         used = [number for number in used if 0 < number <= most]
     if used:
@@ -293,6 +299,8 @@ READERS = {
     GRPDEF: read_group, LEDATA: read_data, LIDATA: read_repeated, FIXUPP: read_fixups, MODEND: read_end,
     EXTDEF: read_externals, LEXTDEF: read_externals, PUBDEF: read_publics, LPUBDEF: read_publics,
 }
+# the MODEND of a module without a start, as of most
+LAST = bytes([MODEND, 2, 0, 0, 0x74])
 # records that no name depends on, which are mostly the same in many modules
 REPEATED = frozenset([COMENT, LNAMES, SEGDEF, GRPDEF])
 # those of them that were read
@@ -306,6 +314,9 @@ def read(content):
         while True:
             behind = place + FRONT + content[place + 1] + (content[place + 2] << 8)
             record = content[place:behind]
+            if record == LAST:
+                module.is_whole = True
+                break
             if record not in sound:
                 kind, end = content[place], behind - 1
                 # an end that lies behind the bytes has no closing byte there, and one without length has no body
