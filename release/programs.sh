@@ -46,10 +46,25 @@ touched() {
         -o \( -name crates.txt -o -name '*.rt' -o -name '*.antt' "${@:2}" \) -cnewer "$1" -print -quit
 }
 
+# All that `touched FILE -o -type d` looks at, for a run that reads no folder: watched
+watched() {
+    (
+        cd "$top" && find crates.txt crates -path '*/out' -prune \
+            -o \( -name crates.txt -o -name '*.rt' -o -name '*.antt' -o -type d \) -print0
+    )
+}
+
 # Whether a program stands there that was seen to be made of the sources, of which none was touched, added or taken
-# away since: is_seen PROGRAM
+# away since; each run waits for this. Where find can't take its paths from a file it reads the folders: is_seen PROGRAM
 is_seen() {
-    [ -x "$1" ] && [ -f "$1.sources" ] && [ ! "$1" -nt "$1.sources" ] && [ -z "$(touched "$1.sources" -o -type d)" ]
+    local seen=$1 found
+    [ -x "$1" ] && [ -f "$1.watched" ] && [ -f "$1.sources" ] && [ ! "$1" -nt "$1.sources" ] || return
+    [[ $seen == /* ]] || seen=$PWD/$seen
+    found=$(
+        cd "$top" &&
+            exec find -files0-from "$seen.watched" -maxdepth 0 -cnewer "$seen.sources" -print -quit 2>/dev/null
+    ) || found=$(touched "$1.sources" -o -type d)
+    [ -z "$found" ]
 }
 
 # Unpacks the released program, and says why where that can't be: unpack PROGRAM
@@ -63,10 +78,11 @@ unpack() {
     chmod 755 "$unpacked/$1.new" && mv -f "$unpacked/$1.new" "$unpacked/$1"
 }
 
-# A line for every fifty functions that are proved, with how many there are in the released program: progress PROGRAM
+# A line for every fifty functions that are proved, with how many there are in the released program, of which rt counts
+# no closures (their names have the part `fn`): progress PROGRAM
 progress() {
     awk -v program="$1" -v all="$(said_of "$1" functions)" '
-        /^fn [^ ]+: proved$/ && !met[$2]++ && ++count % 50 == 0 {
+        /^fn [^ ]+: proved$/ && $2 !~ /::fn::/ && !met[$2]++ && ++count % 50 == 0 {
             printf "%s: proved %d of %s functions\n", program, count, all ? all : "all"
             fflush()
         }' >&2
@@ -106,7 +122,8 @@ choose() {
     done
     begun=$(mktemp)
     now=$(sum_of "$1")
-    make_or_find "$1" "$now" && echo "$now" >"$program.sources" && touch -r "$begun" "$program.sources"
+    make_or_find "$1" "$now" && watched >"$program.watched" && echo "$now" >"$program.sources" &&
+        touch -r "$begun" "$program.sources"
     status=$?
     rm -f "$begun"
     return $status

@@ -1,11 +1,7 @@
 """The object modules of a library: of a .LIB (its dictionary isn't used), or of a Unix archive."""
 
-import os
+from records import COMENT, FRONT, PUBDEF, Refused, content_of, public_names
 
-from records import COMENT, FRONT
-
-# what is read of a file at once
-PIECE = 65536
 ARCHIVE = b"!<arch>\n"
 # of a member of an archive
 MEMBER_HEADER = 60
@@ -13,7 +9,7 @@ LIBRARY_BEGIN, LIBRARY_END = 0xF0, 0xF1
 MODULE_BEGINS = (0x80, 0x82)
 MODULE_ENDS = (0x8A, 0x8B)
 # the class of the comment in which a librarian keeps a module's name
-LIBRARY_NAME = 0xA3
+LIBRARY_NAME = b"\xA3"
 
 
 class Damaged(Exception):
@@ -21,13 +17,15 @@ class Damaged(Exception):
 
 
 class Module:
-    """A module: the library's file, the module's name and place in it, and its bytes from THEADR to MODEND."""
+    """A module: the library's file, the module's name and place in it, its bytes from THEADR to MODEND, and the names
+    of its publics, of which its frames alone tell."""
 
-    def __init__(self, library, name, place, content):
+    def __init__(self, library, name, place, content, publics):
         self.library = library
         self.name = name
         self.place = place
         self.content = content
+        self.publics = publics
 
 
 class Reading:
@@ -53,16 +51,23 @@ class Reading:
 
     def module(self, begin):
         """The module at a place, and the place behind it."""
-        kind, place = self.record(begin)
+        content, most, publics = self.content, len(self.content), []
+        kind, behind = self.record(begin)
         if kind not in MODULE_BEGINS:
             raise self.damaged(begin, f"a module should begin here, and a record of type {kind:02X}H does")
-        name = self.content[begin + 4:min(begin + 4 + self.content[begin + 3], place - 1)]
+        name = content[begin + 4:min(begin + 4 + content[begin + 3], behind - 1)]
         while kind not in MODULE_ENDS:
-            record = place
-            kind, place = self.record(record)
-            if kind == COMENT and self.content[record + 4:record + 5] == bytes([LIBRARY_NAME]):
-                name = self.content[record + 6:place - 1] or name
-        return Module(self.path, name, begin, self.content[begin:place]), place
+            place = behind
+            if place + FRONT > most:
+                self.record(place)
+            kind, behind = content[place], place + FRONT + content[place + 1] + (content[place + 2] << 8)
+            if behind > most or behind == place + FRONT:
+                self.record(place)
+            if kind == PUBDEF:
+                publics += names_at(content, place, behind - 1)
+            elif kind == COMENT and content[place + 4:place + 5] == LIBRARY_NAME:
+                name = content[place + 6:behind - 1] or name
+        return Module(self.path, name, begin, content[begin:behind], publics), behind
 
     def library(self):
         """The modules of a .LIB: each begins at a page, whose size the header's length tells."""
@@ -117,15 +122,12 @@ class Reading:
         return name[:-1] if name.endswith(b"/") else name
 
 
-def content_of(path):
-    """The bytes of a file, with the fewest calls, since there may be thousands of files."""
-    descriptor, pieces = os.open(path, os.O_RDONLY), []
+def names_at(content, place, end):
+    """The names of a record of publics, or none where it isn't sound, of which a link tells."""
     try:
-        while piece := os.read(descriptor, PIECE):
-            pieces.append(piece)
-    finally:
-        os.close(descriptor)
-    return b"".join(pieces)
+        return public_names(content, place, end)
+    except (Refused, IndexError):
+        return []
 
 
 def is_library(content):
