@@ -1,0 +1,11 @@
+use Rattle.std.proofs.Common.{length}
+use Rattle.std.specs.Str.{IsUtf8}
+use Rattle.doslink_words.specs.inside.Tokens.{pieces}
+use Rattle.doslink_words.proofs.TokensLemmas.{IsLeft}
+use Rattle.doslink_words.proofs.tokens.tokens.Given as goal
+
+abbrev pub invariant-loop-front : goal.invariant-loop-front
+invariant-loop-front l = record { left : IsLeft l.syntax l.text (pieces l.tokens.items) l.rest; utf8 : IsUtf8 l.rest }
+
+abbrev pub decreases-loop-front : goal.decreases-loop-front
+decreases-loop-front l = length l.rest

@@ -1,0 +1,218 @@
+-- What the directives of a response file mean: a fold over its lines.
+use Rattle.std.specs.Prelude.{◌≡◌, ℕ, ◌+◌, ◌==◌, ◌||◌, ⊤, Bool, true, false, List, [], ◌∷◌, ◌++◌, length, codes}
+use Rattle.std.specs.Prelude.{Option, Some, None, Result, Ok, Err, if◌then◌else◌, slice_index}
+use Rattle.std.specs.Option.{option_map_or}
+use Rattle.std.specs.List.{slice_split}
+use Rattle.std.specs.Str.Lines.{lines}
+use Rattle.clap.specs.Words.{Text}
+use Rattle.doslink_words.specs.declared.faults.DirectiveFault.{DirectiveFault}
+use Rattle.doslink_words.specs.declared.faults.DirectiveFault.TheVariants as directive_fault
+use Rattle.doslink_words.specs.declared.faults.DirectiveFaultKind.{DirectiveFaultKind}
+use Rattle.doslink_words.specs.declared.faults.DirectiveFaultKind.TheVariants as kind
+use Rattle.doslink_words.specs.declared.job.Directives.{Directives}
+use Rattle.doslink_words.specs.declared.job.WarningKind.{WarningKind}
+use Rattle.doslink_words.specs.declared.job.WarningKind.TheVariants as warning
+use Rattle.doslink_words.specs.declared.keywords.Directive.{Directive}
+use Rattle.doslink_words.specs.declared.keywords.Directive.TheVariants as directive
+use Rattle.doslink_words.specs.declared.keywords.Plain.{Plain}
+use Rattle.doslink_words.specs.declared.keywords.Plain.TheVariants as plain
+use Rattle.doslink_words.specs.declared.keywords.Switch.{Switch}
+use Rattle.doslink_words.specs.declared.keywords.Switch.TheVariants as switch
+use Rattle.doslink_words.specs.declared.tokens.Syntax.TheVariants.{Directives as Directive_syntax}
+use Rattle.doslink_words.specs.Keywords.{is_keyword, directive_named, switch_named}
+use Rattle.doslink_words.specs.Said.{Said, SaidItem, nothing, said_of}
+use Rattle.doslink_words.specs.Said.{Class, Segment, Beside, At, Dosseg, Listed}
+use Rattle.doslink_words.specs.Tokens.{Piece, Word, Quoted, Comma, Equals, after_space, tokens}
+
+-- what is done with a value, where there is one, and else the fault that there is
+abbrev pub and_then : {A B E : Type 0} → Result A E → (A → Result B E) → Result B E
+and_then (Ok value) next = next value
+and_then (Err fault) next = Err fault
+
+-- a line is at fault with this
+abbrev pub Line : Type 0 → Type 0
+Line A = Result A DirectiveFaultKind
+
+-- the name that a token is
+abbrev pub name_of : Piece → Line Text
+name_of (Word text) = Ok text
+name_of (Quoted text) = Ok text
+name_of Comma = Err kind.WrongOperands
+name_of Equals = Err kind.WrongOperands
+
+-- the word without quotes that a token is
+abbrev pub word_of : Piece → Line Text
+word_of (Word text) = Ok text
+word_of (Quoted text) = Err kind.WrongOperands
+word_of Comma = Err kind.WrongOperands
+word_of Equals = Err kind.WrongOperands
+
+-- whether a token is this keyword
+abbrev pub is_word : Piece → Text → Bool
+is_word (Word text) keyword = is_keyword text keyword
+is_word (Quoted text) keyword = false
+is_word Comma keyword = false
+is_word Equals keyword = false
+
+-- whether a token is a comma
+abbrev pub is_comma : Piece → Bool
+is_comma (Word text) = false
+is_comma (Quoted text) = false
+is_comma Comma = true
+is_comma Equals = false
+
+-- whether a token is an equals sign
+abbrev pub is_equals : Piece → Bool
+is_equals (Word text) = false
+is_equals (Quoted text) = false
+is_equals Comma = false
+is_equals Equals = true
+
+-- what commas separate
+abbrev pub parts : List Piece → List (List Piece)
+parts = slice_split is_comma
+
+-- the name that is alone
+abbrev pub one_name : List Piece → Line Text
+one_name (token ∷ []) = name_of token
+one_name _ = Err kind.WrongOperands
+
+-- `A[,B..]`: these names and those that are named, one in each part
+abbrev pub with_names : (had : List Text) → List (List Piece) → Line (List Text)
+with_names had [] = Ok had
+with_names had (part ∷ more) = and_then (one_name part) (λ name. with_names (had ++ (name ∷ [])) more)
+
+-- a warning of a line
+abbrev pub warned : (line : ℕ) → WarningKind → Said → Line Said
+warned line what said = Ok (record said { warnings = said.warnings ++ (record { line = line; kind = what } ∷ []) })
+
+-- `NAME[=VALUE]`
+abbrev pub option_of : List Piece → Line (Text × Option Text)
+option_of (name ∷ []) = and_then (word_of name) (λ word. Ok (word, None))
+option_of (name ∷ mark ∷ value ∷ []) =
+    if is_equals mark then and_then (name_of value) (λ text. and_then (word_of name) (λ word. Ok (word, Some text)))
+    else Err kind.WrongOperands
+option_of _ = Err kind.WrongOperands
+
+-- what an option means that takes no value
+abbrev pub plain_meaning : Plain → Said → Said
+plain_meaning plain.Quiet said = record said { quiet = true }
+plain_meaning plain.Dosseg said = record said { order = Dosseg }
+plain_meaning plain.Exact said = record said { ignore_case = false }
+plain_meaning plain.Ignoring said = record said { ignore_case = true }
+plain_meaning plain.NoDefaultLibraries said = record said { default_libraries = false }
+
+-- what an option means with a value or without: those that have no effect take any
+abbrev pub switch_meaning : (line : ℕ) → Switch → Option Text → Said → Line Said
+switch_meaning line switch.Map value said = Ok (record said { map = Some (option_map_or At value Beside) })
+switch_meaning line (switch.Idle what) value said = warned line what said
+switch_meaning line (switch.Plain what) None said = Ok (plain_meaning what said)
+switch_meaning line (switch.Plain what) (Some value) said = Err kind.WrongOperands
+
+-- what an option means
+abbrev pub option_meaning : (line : ℕ) → Text → Option Text → Said → Line Said
+option_meaning line name value said =
+    option_map_or (λ s. switch_meaning line s value said) (switch_named name) (Err kind.UnknownOption)
+
+-- `X[=VALUE][,Y[=VALUE]..]`: one option in each part
+abbrev pub with_options : (line : ℕ) → List (List Piece) → Said → Line Said
+with_options line [] said = Ok said
+with_options line (part ∷ more) said =
+    and_then (option_of part) (λ o. and_then (option_meaning line o.0 o.1 said) (with_options line more))
+
+-- `dos [exe]`, and no other
+abbrev pub format_meaning : List Piece → Line Unit
+format_meaning (system ∷ []) = if is_word system (codes "dos") then Ok tt else Err kind.NotDos
+format_meaning (system ∷ what ∷ []) =
+    if is_word system (codes "dos") then
+    (if is_word what (codes "exe") then Ok tt
+    else Err (if is_word what (codes "com") then kind.NoCom else kind.NotDos))
+    else Err kind.NotDos
+format_meaning _ = Err kind.NotDos
+
+-- `clname CLASS` or `segment SEGMENT`
+abbrev pub order_item : (keyword name : Piece) → Line SaidItem
+order_item keyword name = and_then (name_of name) (λ text.
+    if is_word keyword (codes "clname") then Ok (Class text)
+    else (if is_word keyword (codes "segment") then Ok (Segment text) else Err kind.WrongOperands))
+
+-- these items and those that are listed
+abbrev pub with_items : (had : List SaidItem) → List Piece → Line (List SaidItem)
+with_items had [] = Ok had
+with_items had (keyword ∷ []) = Err kind.WrongOperands
+with_items had (keyword ∷ name ∷ more) =
+    and_then (order_item keyword name) (λ item. with_items (had ++ (item ∷ [])) more)
+
+-- an order, which begins with a class
+abbrev pub order_meaning : List Piece → Said → Line Said
+order_meaning [] said = Err kind.WrongOperands
+order_meaning (first ∷ more) said =
+    if is_word first (codes "clname")
+    then and_then (with_items [] (first ∷ more)) (λ items. Ok (record said { order = Listed items }))
+    else Err kind.WrongOperands
+
+-- what a directive means
+abbrev pub directive_meaning : (line : ℕ) → Directive → List Piece → Said → Line Said
+directive_meaning line directive.File operands said =
+    and_then (with_names said.files (parts operands)) (λ names. Ok (record said { files = names }))
+directive_meaning line directive.Library operands said =
+    and_then (with_names said.libraries (parts operands)) (λ names. Ok (record said { libraries = names }))
+directive_meaning line directive.Folder operands said =
+    and_then (with_names said.folders (parts operands)) (λ names. Ok (record said { folders = names }))
+directive_meaning line directive.Name operands said =
+    and_then (one_name operands) (λ name. Ok (record said { out = Some name }))
+directive_meaning line directive.Format operands said = and_then (format_meaning operands) (λ _. Ok said)
+directive_meaning line directive.Option operands said = with_options line (parts operands) said
+directive_meaning line directive.Order operands said = order_meaning operands said
+directive_meaning line directive.Debug operands said = Ok said
+directive_meaning line directive.Sort operands said = warned line warning.Sort said
+directive_meaning line directive.Disable operands said = warned line warning.Disable said
+
+-- a line that is empty or a comment
+abbrev pub says_nothing : Text → Bool
+says_nothing line = length (after_space line) == 0 || slice_index (after_space line) 0 == 35
+
+-- the directive that a token names
+abbrev pub directive_of : Piece → Line Directive
+directive_of (Word text) = option_map_or Ok (directive_named text) (Err kind.UnknownDirective)
+directive_of _ = Err kind.UnknownDirective
+
+-- what the tokens of a line mean: the first names a directive, and the others are its operands
+abbrev pub tokens_meaning : (line : ℕ) → Said → List Piece → Line Said
+tokens_meaning line said [] = Ok said
+tokens_meaning line said (first ∷ operands) =
+    and_then (directive_of first) (λ d. directive_meaning line d operands said)
+
+-- what a line means
+unfoldable pub line_meaning : (line : ℕ) → Text → Said → Line Said
+line_meaning line text said =
+    if says_nothing text then Ok said
+    else option_map_or (tokens_meaning line said) (tokens Directive_syntax text) (Err kind.UnclosedQuote)
+
+-- the first line that is at fault: its number, its text and what is wrong with it
+pub record FaultyLine : Type 0 where
+  pub line : ℕ
+  pub text : Text
+  pub kind : DirectiveFaultKind
+
+-- what follows from a line
+abbrev pub on_line : (line : ℕ) → Text → Line Said → (Said → Result Said FaultyLine) → Result Said FaultyLine
+on_line line text (Ok said) next = next said
+on_line line text (Err what) next = Err (record { line = line; text = text; kind = what })
+
+-- what lines mean behind what is said, where `line` of them came before
+abbrev pub lines_meaning : (line : ℕ) → List Text → Said → Result Said FaultyLine
+lines_meaning line [] said = Ok said
+lines_meaning line (text ∷ more) said =
+    on_line (line + 1) text (line_meaning (line + 1) text said) (lines_meaning (line + 1) more)
+
+-- what a text of directives means
+unfoldable pub meaning : Text → Result Said FaultyLine
+meaning text = lines_meaning 0 (lines text) nothing
+
+-- an answer is what a text means, or want of memory
+abbrev pub Means : Result Directives DirectiveFault → Result Said FaultyLine → Type 0
+Means (Ok directives) said = said ≡ Ok (said_of directives)
+Means (Err directive_fault.Memory) said = ⊤
+Means (Err (directive_fault.Line line text what)) said =
+    said ≡ Err (record { line = line; text = text.now; kind = what })

@@ -1,0 +1,91 @@
+-- What directives ask for, by its texts.
+use Rattle.std.specs.Prelude.{Bool, true, false, List, [], Option, None, map}
+use Rattle.std.specs.Option.{option_map}
+use Rattle.clap.specs.Words.{Text}
+use Rattle.doslink_words.specs.Tokens.{texts}
+use Rattle.doslink_words.specs.declared.job.Directives.{Directives}
+use Rattle.doslink_words.specs.declared.job.MapFile.{MapFile}
+use Rattle.doslink_words.specs.declared.job.MapFile.TheVariants as map_file
+use Rattle.doslink_words.specs.declared.job.Order.{Order}
+use Rattle.doslink_words.specs.declared.job.Order.TheVariants as order
+use Rattle.doslink_words.specs.declared.job.OrderItem.{OrderItem}
+use Rattle.doslink_words.specs.declared.job.OrderItem.TheVariants as order_item
+use Rattle.doslink_words.specs.declared.job.Warning.{Warning}
+
+-- a map beside the program, or at a path
+pub data SaidMap : Type 0 where
+  Beside : SaidMap
+  At : Text → SaidMap
+
+-- a class or a segment of an order
+pub data SaidItem : Type 0 where
+  Class : Text → SaidItem
+  Segment : Text → SaidItem
+
+-- the order of meeting, DOSSEG, or a list
+pub data SaidOrder : Type 0 where
+  Meeting : SaidOrder
+  Dosseg : SaidOrder
+  Listed : List SaidItem → SaidOrder
+
+-- a job and its warnings
+pub record Said : Type 0 where
+  pub files : List Text
+  pub out : Option Text
+  pub map : Option SaidMap
+  pub folders : List Text
+  pub libraries : List Text
+  pub ignore_case : Bool
+  pub order : SaidOrder
+  pub default_libraries : Bool
+  pub verbose : Bool
+  pub quiet : Bool
+  pub warnings : List Warning
+
+-- what no directive asks for
+abbrev pub nothing : Said
+nothing = record {
+  files = [];
+  out = None;
+  map = None;
+  folders = [];
+  libraries = [];
+  ignore_case = false;
+  order = Meeting;
+  default_libraries = true;
+  verbose = false;
+  quiet = false;
+  warnings = [];
+}
+
+-- what the values of the code say
+abbrev pub map_of : MapFile → SaidMap
+map_of map_file.Beside = Beside
+map_of (map_file.At path) = At path.now
+
+abbrev pub item_of : OrderItem → SaidItem
+item_of (order_item.Class name) = Class name.now
+item_of (order_item.Segment name) = Segment name.now
+
+abbrev pub items_of : List OrderItem → List SaidItem
+items_of = map item_of
+
+abbrev pub order_of : Order → SaidOrder
+order_of order.Meeting = Meeting
+order_of order.Dosseg = Dosseg
+order_of (order.Listed items) = Listed (items_of items.items)
+
+abbrev pub said_of : Directives → Said
+said_of directives = record {
+  files = texts directives.job.files.items;
+  out = option_map (λ path. path.now) directives.job.out;
+  map = option_map map_of directives.job.map;
+  folders = texts directives.job.folders.items;
+  libraries = texts directives.job.libraries.items;
+  ignore_case = directives.job.ignore_case;
+  order = order_of directives.job.order;
+  default_libraries = directives.job.default_libraries;
+  verbose = directives.job.verbose;
+  quiet = directives.job.quiet;
+  warnings = directives.warnings.items;
+}

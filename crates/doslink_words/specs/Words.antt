@@ -1,0 +1,103 @@
+-- The command line: what it takes, and which job its values are.
+use Rattle.std.specs.Prelude.{◌≡◌, ◌==◌, Bool, true, false, not, List, [], Option, Some, None, map, codes}
+use Rattle.std.specs.Prelude.{if◌then◌else◌}
+use Rattle.std.specs.Option.{option_map, unwrap_or}
+use Rattle.std.specs.List.{slice_split}
+use Rattle.clap.specs.Words.{App, Row, Rule, Text, all_of, fault_of, first_of, matches_of, new_app, new_rule}
+use Rattle.clap.specs.Words.{one_of, with_rule}
+use Rattle.clap.specs.Lexer.{usize_max}
+use Rattle.clap.specs.declared.builder.action.ArgAction.TheVariants.{Append, SetTrue}
+use Rattle.doslink_words.specs.declared.job.Job.{Job}
+use Rattle.doslink_words.specs.Keywords.{is_keyword}
+use Rattle.doslink_words.specs.Said.{SaidOrder, Meeting, Dosseg, Listed, Class, At, map_of, order_of}
+use Rattle.doslink_words.specs.Tokens.{texts}
+
+-- the program that is written: `-o OUT`
+abbrev pub out_rule : Rule
+out_rule = record (new_rule (codes "OUT")) { short = Some 111 }
+
+-- the map that is written: `-m MAP`
+abbrev pub map_rule : Rule
+map_rule = record (new_rule (codes "MAP")) { short = Some 109 }
+
+-- a folder of libraries, any number of times: `-L FOLDER`
+abbrev pub folder_rule : Rule
+folder_rule = record (new_rule (codes "FOLDER")) { short = Some 76; action = Some Append }
+
+-- a library, any number of times: `-l LIB`
+abbrev pub library_rule : Rule
+library_rule = record (new_rule (codes "LIB")) { short = Some 108; action = Some Append }
+
+-- `--ignore-case`, a flag whose value is true where it is given and else false
+abbrev pub case_rule : Rule
+case_rule = record (new_rule (codes "ignore-case")) { long = Some (codes "ignore-case"); action = Some SetTrue }
+
+-- the order of classes: `--order dosseg`, `--order CLASS,CLASS,..`
+abbrev pub order_rule : Rule
+order_rule = record (new_rule (codes "ORDER")) { long = Some (codes "order") }
+
+-- `--no-default-libs`, a flag
+abbrev pub no_defaults_rule : Rule
+no_defaults_rule =
+    record (new_rule (codes "no-default-libs")) { long = Some (codes "no-default-libs"); action = Some SetTrue }
+
+-- `-v`, a flag
+abbrev pub verbose_rule : Rule
+verbose_rule = record (new_rule (codes "verbose")) { short = Some 118; action = Some SetTrue }
+
+-- one or more files
+abbrev pub files_rule : Rule
+files_rule = record (new_rule (codes "FILES")) {
+  required = true;
+  range = Some (record { start_inclusive = 1; end_inclusive = usize_max });
+}
+
+-- the command before it has arguments
+abbrev pub bare_command : App
+bare_command =
+    let app = new_app (codes "doslink") in
+    record app { top = record app.top { no_binary_name = true; arg_required_else_help = true } }
+
+-- `-o OUT`, `-m MAP`, `-L FOLDER`, `-l LIB` and the files
+abbrev pub files_command : App
+files_command =
+    with_rule (with_rule (with_rule (with_rule (with_rule bare_command out_rule) map_rule) folder_rule) library_rule)
+    files_rule
+
+-- the command `doslink`
+unfoldable pub doslink_command : App
+doslink_command =
+    with_rule (with_rule (with_rule (with_rule files_command case_rule) order_rule) no_defaults_rule) verbose_rule
+
+-- the values of an argument, none where it isn't given
+abbrev pub values_of : Text → List Row → List Text
+values_of id rows = unwrap_or (all_of id rows) []
+
+-- what a flag is: its value, or false where it has none
+pub record IsFlag (id : Text) (rows : List Row) (flag : Bool) : Type 0 where
+  pub given : one_of id rows ≡ Some (codes "true") → flag ≡ true
+  pub other : one_of id rows ≡ Some (codes "false") → flag ≡ false
+  pub none : one_of id rows ≡ None → flag ≡ false
+
+-- an order as a word: DOSSEG by its name, else classes, which commas separate
+abbrev pub order_asked : Option Text → SaidOrder
+order_asked None = Meeting
+order_asked (Some word) =
+    if is_keyword word (codes "dosseg") then Dosseg else Listed (map Class (slice_split (λ byte. byte == 44) word))
+
+-- `job` is what these values ask for
+pub record IsJobOf (rows : List Row) (job : Job) : Type 0 where
+  pub files : texts job.files.items ≡ values_of (codes "FILES") rows
+  pub out : option_map (λ path. path.now) job.out ≡ first_of (codes "OUT") rows
+  pub map : option_map map_of job.map ≡ option_map At (first_of (codes "MAP") rows)
+  pub folders : texts job.folders.items ≡ values_of (codes "FOLDER") rows
+  pub libraries : texts job.libraries.items ≡ values_of (codes "LIB") rows
+  pub ignore_case : IsFlag (codes "ignore-case") rows job.ignore_case
+  pub order : order_of job.order ≡ order_asked (first_of (codes "ORDER") rows)
+  pub default_libraries : IsFlag (codes "no-default-libs") rows (not job.default_libraries)
+  pub verbose : IsFlag (codes "verbose") rows job.verbose
+  pub quiet : job.quiet ≡ false
+
+-- the command has no fault at the words, and `job` is what its matches give for them
+unfoldable pub IsJobFor : List Text → Job → Type 0
+IsJobFor words job = (fault_of doslink_command words ≡ []) × IsJobOf (matches_of doslink_command words) job

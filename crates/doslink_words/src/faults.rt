@@ -1,0 +1,112 @@
+//! What a text can be at fault with.
+ghost use Rattle.std.specs.Prelude.{◌≡◌};
+ghost use Rattle.doslink_words.specs.declared.faults.LineFault.TheVariants as line_fault;
+ghost use Rattle.doslink_words.specs.declared.faults.SplitFault.TheVariants as split_fault;
+ghost use Rattle.doslink_words.specs.inside.Follows.{split_line_fault};
+
+use std::alloc::{AllocError, AllocFailed};
+use thiserror::Error;
+
+/// Why a text is no list of words.
+#[derive(Clone, Copy, Debug, PartialEq, Eq, Error)]
+pub enum SplitFault {
+    /// There was no memory.
+    #[error("out of memory")]
+    Memory,
+    /// A quote isn't closed.
+    #[error("a quote isn't closed")]
+    UnclosedQuote,
+}
+
+impl From<AllocError> for SplitFault {
+    ghost from_gives = { λ _ e. e ≡ split_fault.Memory };
+
+    fn from(_error: AllocError) -> SplitFault {
+        SplitFault::Memory
+    }
+}
+
+impl<T: Drop> From<AllocFailed<T>> for SplitFault {
+    ghost from_gives = { λ _ e. e ≡ split_fault.Memory };
+
+    fn from(_error: AllocFailed<T>) -> SplitFault {
+        SplitFault::Memory
+    }
+}
+
+/// Why the directives of a response file are no job.
+#[derive(Clone, Copy, Debug, PartialEq, Eq, Error)]
+pub enum DirectiveFault<'a> {
+    /// There was no memory.
+    #[error("out of memory")]
+    Memory,
+    /// A line is at fault.
+    #[error("line {line}: {kind}: {text}")]
+    Line {
+        /// Its number, counted from 1.
+        line: usize,
+        /// The line.
+        text: &'a str,
+        /// What is wrong with it.
+        kind: DirectiveFaultKind,
+    },
+}
+
+/// What is wrong with a line.
+#[derive(Clone, Copy, Debug, PartialEq, Eq, Error)]
+pub enum DirectiveFaultKind {
+    /// A quote isn't closed.
+    #[error("a quote isn't closed")]
+    UnclosedQuote,
+    /// The line begins with no known directive.
+    #[error("unknown directive")]
+    UnknownDirective,
+    /// An option that isn't known, or that would change what the program does.
+    #[error("unknown option")]
+    UnknownOption,
+    /// What follows a directive or an option isn't what it takes.
+    #[error("wrong operands")]
+    WrongOperands,
+    /// A .COM program is asked for.
+    #[error("no .COM program is written, only .EXE")]
+    NoCom,
+    /// A program that isn't for DOS is asked for.
+    #[error("no other program is written than one for DOS")]
+    NotDos,
+}
+
+// Why a line can't be followed.
+#[derive(Clone, Copy, Debug)]
+pub(crate) enum LineFault {
+    // There was no memory.
+    Memory,
+    // This is wrong with it.
+    Wrong(DirectiveFaultKind),
+}
+
+impl<T: Drop> From<AllocFailed<T>> for LineFault {
+    ghost from_gives = { λ _ e. e ≡ line_fault.Memory };
+
+    fn from(_error: AllocFailed<T>) -> LineFault {
+        LineFault::Memory
+    }
+}
+
+impl From<DirectiveFaultKind> for LineFault {
+    ghost from_gives = { λ kind e. e ≡ line_fault.Wrong kind };
+
+    fn from(kind: DirectiveFaultKind) -> LineFault {
+        LineFault::Wrong(kind)
+    }
+}
+
+impl From<SplitFault> for LineFault {
+    ghost from_gives = { λ fault e. e ≡ split_line_fault fault };
+
+    fn from(fault: SplitFault) -> LineFault {
+        match fault {
+            SplitFault::Memory => LineFault::Memory,
+            SplitFault::UnclosedQuote => LineFault::Wrong(DirectiveFaultKind::UnclosedQuote),
+        }
+    }
+}

@@ -1,0 +1,117 @@
+//! The job of `doslink`.
+ghost use Rattle.std.specs.Prelude.{◌≡◌};
+ghost use Rattle.doslink_words.specs.Said.{nothing, said_of};
+
+use std::alloc::Global;
+
+/// What is linked, and how. Each text is a slice of the words or of the response file that ask for it.
+#[derive(Debug, Drop)]
+pub struct Job<'a> {
+    /// The paths of the object modules, in their order.
+    pub files: Vec<&'a str>,
+    /// The path of the program that is written, where one is given.
+    pub out: Option<&'a str>,
+    /// The map that is written, where one is asked for.
+    pub map: Option<MapFile<'a>>,
+    /// The folders in which libraries are looked up, in their order.
+    pub folders: Vec<&'a str>,
+    /// The libraries as they are named, in their order.
+    pub libraries: Vec<&'a str>,
+    /// Whether names of publics and externals agree without regard to case.
+    pub ignore_case: bool,
+    /// The order of segments.
+    pub order: Order<'a>,
+    /// Whether the libraries that modules name are searched too.
+    pub default_libraries: bool,
+    /// Whether what is done is told.
+    pub verbose: bool,
+    /// Whether nothing is told but faults.
+    pub quiet: bool,
+}
+
+/// Where a map is written.
+#[derive(Clone, Copy, Debug, PartialEq, Eq)]
+pub enum MapFile<'a> {
+    /// Beside the program, under its name with `.MAP` at its end.
+    Beside,
+    /// At this path.
+    At(&'a str),
+}
+
+/// The order in which segments stand.
+#[derive(Debug, Drop)]
+pub enum Order<'a> {
+    /// As classes and segments are met.
+    Meeting,
+    /// DOSSEG: the classes that end in CODE, what is in no group DGROUP, and in DGROUP the class BEGDATA, others, BSS
+    /// and STACK.
+    Dosseg,
+    /// These classes and segments, and the others behind them.
+    Listed(Vec<OrderItem<'a>>),
+}
+
+/// A class or a segment in a list of an order.
+#[derive(Clone, Copy, Debug, PartialEq, Eq)]
+pub enum OrderItem<'a> {
+    /// The class of this name.
+    Class(&'a str),
+    /// The segment of this name, of the last class before it.
+    Segment(&'a str),
+}
+
+/// What the directives of a response file ask for.
+#[derive(Debug, Drop)]
+pub struct Directives<'a> {
+    /// What is linked, and how.
+    pub job: Job<'a>,
+    /// What has no effect, in the order of lines.
+    pub warnings: Vec<Warning>,
+}
+
+/// Something that has no effect.
+#[derive(Clone, Copy, Debug, PartialEq, Eq)]
+pub struct Warning {
+    /// The line, counted from 1.
+    pub line: usize,
+    /// What it is.
+    pub kind: WarningKind,
+}
+
+/// What has no effect, and what comes of that.
+#[derive(Clone, Copy, Debug, PartialEq, Eq)]
+pub enum WarningKind {
+    /// An option that changes nothing of what a DOS program does: nothing is lost.
+    Option,
+    /// `option stack`: the stack is as long as the modules make it.
+    Stack,
+    /// `option symfile`: no file of symbols is written.
+    Symbols,
+    /// `sort`: the map is not sorted.
+    Sort,
+    /// `disable`: no message is left out.
+    Disable,
+}
+
+impl<'a> Directives<'a> {
+    // What no directive asks for.
+    pub(crate) fn new(alloc: Global) -> Directives<'a>
+        ensures { said_of result ≡ nothing }
+    {
+        let job = Job {
+            files: Vec::new(alloc),
+            out: None,
+            map: None,
+            folders: Vec::new(alloc),
+            libraries: Vec::new(alloc),
+            ignore_case: false,
+            order: Order::Meeting,
+            default_libraries: true,
+            verbose: false,
+            quiet: false,
+        };
+        Directives {
+            job,
+            warnings: Vec::new(alloc),
+        }
+    }
+}

@@ -1,0 +1,111 @@
+//! The options of a directive `option`.
+ghost use Rattle.std.specs.Prelude.{◌≡◌};
+ghost use Rattle.std.specs.Option.{option_map, option_map_or};
+ghost use Rattle.doslink_words.specs.Directives as spec;
+ghost use Rattle.doslink_words.specs.Said.{At, Beside, map_of, said_of};
+ghost use Rattle.doslink_words.specs.inside.Tokens.{piece_of, pieces};
+ghost use Rattle.doslink_words.specs.inside.Follows.{Follows, Gives, option_said};
+
+use crate::faults::{DirectiveFaultKind, LineFault};
+use crate::job::{Directives, MapFile, Order, Warning, WarningKind};
+use crate::keywords::{Plain, Switch, switch_named};
+use crate::operands::part_end;
+use crate::tokens::Token;
+
+/// Tells that something of a line has no effect.
+pub(crate) fn warn(
+    directives: &mut Directives,
+    line: usize,
+    kind: WarningKind,
+) -> Result<(), LineFault>
+    ensures { Follows result (spec.warned line kind (said_of directives.old)) (said_of directives.new) }
+{
+    Ok(directives.warnings.push(Warning { line, kind })?)
+}
+
+// The name of an option `NAME[=VALUE]`, and its value.
+fn option_of<'a>(part: &[Token<'a>]) -> Result<(&'a str, Option<&'a str>), DirectiveFaultKind>
+    ensures { Gives option_said result (spec.option_of (pieces part.now)) }
+{
+    let (name, value) = match part {
+        [name] => (name, None),
+        [name, mark, value] if mark.is_equals() => (name, Some(value.name()?)),
+        _ => return Err(DirectiveFaultKind::WrongOperands),
+    };
+    Ok((name.word()?, value))
+}
+
+// The map that an option `map` asks for.
+fn map_file<'a>(value: Option<&'a str>) -> MapFile<'a>
+    ensures { map_of result ≡ option_map_or At (option_map (λ s. s.now) value.entry) Beside }
+{
+    match value {
+        Some(path) => MapFile::At(path),
+        None => MapFile::Beside,
+    }
+}
+
+// Follows an option that takes no value.
+fn follow_plain(directives: &mut Directives, plain: Plain)
+    ensures { said_of directives.new ≡ spec.plain_meaning plain (said_of directives.old) }
+{
+    match plain {
+        Plain::Quiet => directives.job.quiet = true,
+        Plain::Dosseg => directives.job.order = Order::Dosseg,
+        Plain::Exact => directives.job.ignore_case = false,
+        Plain::Ignoring => directives.job.ignore_case = true,
+        Plain::NoDefaultLibraries => directives.job.default_libraries = false,
+    }
+}
+
+// Follows an option.
+fn follow_option<'a>(
+    directives: &mut Directives<'a>,
+    line: usize,
+    name: &'a str,
+    value: Option<&'a str>,
+) -> Result<(), LineFault>
+    ensures { Follows result
+        (spec.option_meaning line name.now (option_map (λ s. s.now) value.entry) (said_of directives.old))
+        (said_of directives.new) }
+{
+    let Some(switch) = switch_named(name) else {
+        return Err(LineFault::Wrong(DirectiveFaultKind::UnknownOption));
+    };
+    match switch {
+        Switch::Idle(kind) => warn(directives, line, kind),
+        Switch::Map => {
+            directives.job.map = Some(map_file(value));
+            Ok(())
+        }
+        Switch::Plain(plain) => {
+            if value.is_some() {
+                return Err(LineFault::Wrong(DirectiveFaultKind::WrongOperands));
+            }
+            follow_plain(directives, plain);
+            Ok(())
+        }
+    }
+}
+
+/// Follows the options `NAME[=VALUE][,NAME[=VALUE]..]`.
+pub(crate) fn follow_options<'a>(
+    directives: &mut Directives<'a>,
+    line: usize,
+    operands: &[Token<'a>],
+) -> Result<(), LineFault>
+    ensures { Follows result (spec.with_options line (spec.parts (pieces operands.now)) (said_of directives.old))
+        (said_of directives.new) }
+{
+    let mut start = 0;
+    'parts: loop {
+        let end = part_end(operands, start);
+        let (name, value) = option_of(&operands[start..end])?;
+        follow_option(directives, line, name, value)?;
+        let last = operands.len();
+        if end == last {
+            return Ok(());
+        }
+        start = end + 1;
+    }
+}

@@ -1,0 +1,232 @@
+//! The tokens of a text.
+ghost use Rattle.std.specs.Prelude.{◌≡◌, ◌⊎◌, ◌<◌, ◌≤◌, IfErr, IfOk, IfSome, None, Some, length, map};
+ghost use Rattle.std.specs.Str.{IsUtf8};
+ghost use Rattle.doslink_words.specs.Tokens as spec;
+ghost use Rattle.doslink_words.specs.Directives as directives;
+ghost use Rattle.doslink_words.specs.inside.Follows.{Gives};
+ghost use Rattle.doslink_words.specs.Tokens.{after_space, texts};
+ghost use Rattle.doslink_words.specs.inside.Tokens.{piece_of, pieces, said, said_mark};
+ghost use Rattle.doslink_words.specs.declared.faults.SplitFault.TheVariants.{Memory, UnclosedQuote};
+
+use crate::faults::{DirectiveFaultKind, SplitFault};
+use crate::keywords::is;
+use std::alloc::{AllocError, Global};
+
+/// What splits a text.
+#[derive(Clone, Copy, Debug, PartialEq, Eq)]
+pub(crate) enum Syntax {
+    /// Words stand between white space.
+    Words,
+    /// Words stand between white space, commas and equals signs.
+    Directives,
+}
+
+/// A token of a text.
+#[derive(Clone, Copy, Debug)]
+pub(crate) enum Token<'a> {
+    /// What stands without quotes.
+    Word(&'a str),
+    /// What stands between two quotes.
+    Quoted(&'a str),
+    /// `,`
+    Comma,
+    /// `=`
+    Equals,
+}
+
+impl<'a> Token<'a> {
+    // The text of the token.
+    pub(crate) fn text(self) -> &'a str
+        ensures { result.now ≡ spec.text_of (piece_of self.entry) }
+    {
+        match self {
+            Token::Word(text) | Token::Quoted(text) => text,
+            Token::Comma => ",",
+            Token::Equals => "=",
+        }
+    }
+
+    // The name that it is.
+    pub(crate) fn name(self) -> Result<&'a str, DirectiveFaultKind>
+        ensures { Gives (λ name. name.now) result (directives.name_of (piece_of self.entry)) }
+    {
+        match self {
+            Token::Word(text) | Token::Quoted(text) => Ok(text),
+            _ => Err(DirectiveFaultKind::WrongOperands),
+        }
+    }
+
+    // The word without quotes that it is.
+    pub(crate) fn word(self) -> Result<&'a str, DirectiveFaultKind>
+        ensures { Gives (λ name. name.now) result (directives.word_of (piece_of self.entry)) }
+    {
+        match self {
+            Token::Word(text) => Ok(text),
+            _ => Err(DirectiveFaultKind::WrongOperands),
+        }
+    }
+
+    // Whether it is this keyword.
+    pub(crate) fn is_word(self, keyword: &str) -> bool
+        ensures { result ≡ directives.is_word (piece_of self.entry) keyword.now }
+    {
+        match self {
+            Token::Word(text) => is(text, keyword),
+            _ => false,
+        }
+    }
+
+    // Whether it is a comma.
+    pub(crate) fn is_comma(self) -> bool
+        ensures { result ≡ directives.is_comma (piece_of self.entry) }
+    {
+        match self {
+            Token::Comma => true,
+            _ => false,
+        }
+    }
+
+    // Whether it is an equals sign.
+    pub(crate) fn is_equals(self) -> bool
+        ensures { result ≡ directives.is_equals (piece_of self.entry) }
+    {
+        match self {
+            Token::Equals => true,
+            _ => false,
+        }
+    }
+}
+
+// Whether a byte stands behind a word, and not in it.
+fn ends_word(syntax: Syntax, byte: u8) -> bool
+    ensures { result ≡ spec.ends_word syntax byte }
+{
+    match syntax {
+        Syntax::Words => byte.is_ascii_whitespace(),
+        Syntax::Directives => byte.is_ascii_whitespace() || byte == b',' || byte == b'=',
+    }
+}
+
+// Whether a byte begins what is quoted.
+fn is_quote(syntax: Syntax, byte: u8) -> bool
+    ensures { result ≡ spec.is_quote syntax byte }
+{
+    match syntax {
+        Syntax::Words => byte == b'"',
+        Syntax::Directives => byte == b'"' || byte == b'\'',
+    }
+}
+
+// The mark that a byte is.
+fn mark_of<'a>(syntax: Syntax, byte: u8) -> Option<Token<'a>>
+    ensures { said_mark result ≡ spec.mark_of syntax byte }
+{
+    match syntax {
+        Syntax::Directives if byte == b',' => Some(Token::Comma),
+        Syntax::Directives if byte == b'=' => Some(Token::Equals),
+        _ => None,
+    }
+}
+
+// The text without the white space at its start.
+pub(crate) fn after_space(text: &str) -> &str
+    ensures { result.now ≡ after_space text.now }
+{
+    text.trim_ascii_start()
+}
+
+// What stands up to a quote, and what follows that.
+fn quoted_token<'a>(quote: u8, text: &'a str) -> Option<(Token<'a>, &'a str)>
+    requires { quote < 128 }
+    ensures token { said result ≡ spec.quoted quote text.now }
+    ensures shorter { IfSome result (λ p. length p.1.now ≤ length text.now) }
+    ensures utf8 { IfSome result (λ p. IsUtf8 p.1.now) }
+{
+    let (quoted, rest) = text.split_once(char::from(quote))?;
+    Some((Token::Quoted(quoted), rest))
+}
+
+// How many bytes the word has that a text begins with.
+fn word_len(syntax: Syntax, text: &str) -> usize
+    requires { 0 < length text.now }
+    ensures { result ≡ spec.word_len syntax text.now }
+{
+    let inside = &text.as_bytes()[1..];
+    let end = inside.iter().position(|byte| ends_word(syntax, *byte));
+    end.unwrap_or(inside.len()) + 1
+}
+
+// The word that a text begins with, and what follows it.
+fn word_token<'a>(syntax: Syntax, text: &'a str) -> (Token<'a>, &'a str)
+    requires { 0 < length text.now }
+    ensures token { (piece_of result.0, result.1.now) ≡ spec.word syntax text.now }
+    ensures shorter { length result.1.now < length text.now }
+    ensures utf8 { IsUtf8 result.1.now }
+{
+    let end = word_len(syntax, text);
+    (Token::Word(&text[..end]), &text[end..])
+}
+
+// The token that a text begins with, and what follows it, or none where a quote isn't closed.
+fn next_token<'a>(syntax: Syntax, text: &'a str) -> Option<(Token<'a>, &'a str)>
+    requires { 0 < length text.now }
+    ensures token { said result ≡ spec.token syntax text.now }
+    ensures shorter { IfSome result (λ p. length p.1.now < length text.now) }
+    ensures utf8 { IfSome result (λ p. IsUtf8 p.1.now) }
+{
+    let first = text.as_bytes()[0];
+    if is_quote(syntax, first) {
+        return quoted_token(first, &text[1..]);
+    }
+    match mark_of(syntax, first) {
+        Some(mark) => Some((mark, &text[1..])),
+        None => Some(word_token(syntax, text)),
+    }
+}
+
+// The tokens of a text.
+pub(crate) fn tokens<'a>(
+    alloc: Global,
+    syntax: Syntax,
+    text: &'a str,
+) -> Result<Vec<Token<'a>>, SplitFault>
+    ensures ok { IfOk result (λ tokens. spec.tokens syntax text.now ≡ Some (pieces tokens.items)) }
+    ensures err { IfErr result (λ fault. (fault ≡ Memory)
+        ⊎ ((fault ≡ UnclosedQuote) × (spec.tokens syntax text.now ≡ None))) }
+{
+    let mut tokens = Vec::new(alloc);
+    let mut rest = text;
+    loop {
+        let front = after_space(rest);
+        if front.is_empty() {
+            return Ok(tokens);
+        }
+        let Some((token, after)) = next_token(syntax, front) else {
+            return Err(SplitFault::UnclosedQuote);
+        };
+        tokens.push(token)?;
+        rest = after;
+    }
+}
+
+// The texts of tokens.
+fn texts_of<'a>(alloc: Global, tokens: &[Token<'a>]) -> Result<Vec<&'a str>, AllocError>
+    ensures { IfOk result (λ words. texts words.items ≡ map spec.text_of (pieces tokens.now)) }
+{
+    let mut words = Vec::new(alloc);
+    'tokens: for token in tokens {
+        words.push(token.text())?;
+    }
+    Ok(words)
+}
+
+/// The words of a text: what stands between white space (blank, tab, form feed and the ends of lines). A word that
+/// begins with `"` goes on to the next `"`, without the two, and the next word begins behind it. A text whose last
+/// quote isn't closed is no list of words.
+pub fn split_words<'a>(alloc: Global, text: &'a str) -> Result<Vec<&'a str>, SplitFault>
+    ensures ok { IfOk result (λ words. spec.words text.now ≡ Some (texts words.items)) }
+    ensures err { IfErr result (λ fault. (fault ≡ Memory) ⊎ ((fault ≡ UnclosedQuote) × (spec.words text.now ≡ None))) }
+{
+    let tokens = tokens(alloc, Syntax::Words, text)?;
+    Ok(texts_of(alloc, tokens.as_slice())?)
+}

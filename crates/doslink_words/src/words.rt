@@ -1,0 +1,299 @@
+//! The words of the command line.
+ghost use Rattle.std.specs.Prelude.{◌≡◌, ◌==◌, IfErr, IfOk, [], false, map, true};
+ghost use Rattle.std.specs.List.{slice_split};
+ghost use Rattle.std.specs.Option.{option_map};
+ghost use Rattle.clap.specs.Words.{app_of, fault_of, found_of, is_simple_and_free, kind_of, rows_of, rule_of};
+ghost use Rattle.clap.specs.Words.{with_rule};
+ghost use Rattle.clap.specs.declared.Command.{out-Command as fields_of};
+ghost use Rattle.clap.specs.declared.error.ErrorKind.TheVariants.{OutOfMemory};
+ghost use Rattle.doslink_words.specs.Said.{At, Class, items_of, map_of, order_of};
+ghost use Rattle.doslink_words.specs.Tokens.{texts};
+ghost use Rattle.doslink_words.specs.Words as spec;
+ghost use Rattle.doslink_words.specs.Words.{IsJobFor, IsJobOf};
+ghost use Rattle.doslink_words.specs.declared.words.WordsFault.TheVariants.{Memory};
+
+use crate::job::{Job, MapFile, Order, OrderItem};
+use crate::keywords::is;
+use clap::builder::ValueRange;
+use clap::error::ErrorKind;
+use clap::{Arg, ArgAction, ArgMatches, Command};
+use std::alloc::{AllocError, Global};
+use thiserror::Error;
+
+/// What stands at the end of help.
+const NOTES: &str = "\
+`doslink @FILE` takes its words from a file, at white space or in double quotes. Under the name\n\
+`wlink`, FILE has directives (file, library, libpath, name, format, option, order).\n\n\
+Exit status: 0 all is done, 1 an input is at fault, 2 wrong arguments, 3 a file or\n\
+device failed or out of memory. A fault is one line on standard error; docs/FAULTS.md\n\
+and the man page say what to do about each.";
+
+/// Why the words are no job.
+#[derive(Debug, Drop, Error)]
+pub enum WordsFault {
+    /// They ask for help, which is this text.
+    #[error("{0}")]
+    Help(String),
+    /// They are wrong, and this text says why.
+    #[error("{0}")]
+    Wrong(String),
+    /// There was no memory.
+    #[error("out of memory")]
+    Memory,
+}
+
+impl From<AllocError> for WordsFault {
+    ghost from_gives = { λ _ e. e ≡ Memory };
+
+    fn from(_error: AllocError) -> WordsFault {
+        WordsFault::Memory
+    }
+}
+
+// The program that is written.
+fn out_option<'a>(alloc: Global) -> Arg<'a>
+    ensures rule { rule_of result ≡ spec.out_rule }
+    ensures local { result.global ≡ false }
+{
+    Arg::new(alloc, "OUT").short('o').help(
+        "The program to write: the first of FILES with .EXE, where none is given",
+    )
+}
+
+// The map that is written, where one is asked for.
+fn map_option<'a>(alloc: Global) -> Arg<'a>
+    ensures rule { rule_of result ≡ spec.map_rule }
+    ensures local { result.global ≡ false }
+{
+    Arg::new(alloc, "MAP")
+        .short('m')
+        .help("The map to write after it, another file than OUT")
+}
+
+// A folder of libraries.
+fn folder_option<'a>(alloc: Global) -> Arg<'a>
+    ensures rule { rule_of result ≡ spec.folder_rule }
+    ensures local { result.global ≡ false }
+{
+    Arg::new(alloc, "FOLDER")
+        .short('L')
+        .action(ArgAction::Append)
+        .help("A folder to look up libraries in, in the order given")
+}
+
+// A library.
+fn library_option<'a>(alloc: Global) -> Arg<'a>
+    ensures rule { rule_of result ≡ spec.library_rule }
+    ensures local { result.global ≡ false }
+{
+    Arg::new(alloc, "LIB")
+        .short('l')
+        .action(ArgAction::Append)
+        .help("A library to search, in the order given")
+}
+
+// Whether names agree without regard to case.
+fn case_flag<'a>(alloc: Global) -> Arg<'a>
+    ensures rule { rule_of result ≡ spec.case_rule }
+    ensures local { result.global ≡ false }
+{
+    Arg::new(alloc, "ignore-case")
+        .long("ignore-case")
+        .action(ArgAction::SetTrue)
+        .help("Names agree without regard to case: for Pascal, and assemblers that write capitals")
+}
+
+// The order of classes.
+fn order_option<'a>(alloc: Global) -> Arg<'a>
+    ensures rule { rule_of result ≡ spec.order_rule }
+    ensures local { result.global ≡ false }
+{
+    Arg::new(alloc, "ORDER").long("order").help(
+        "dosseg, or the classes that stand first: CLASS,CLASS,.. (else in the order of meeting)",
+    )
+}
+
+// Whether the libraries that modules name are left out.
+fn no_defaults_flag<'a>(alloc: Global) -> Arg<'a>
+    ensures rule { rule_of result ≡ spec.no_defaults_rule }
+    ensures local { result.global ≡ false }
+{
+    Arg::new(alloc, "no-default-libs")
+        .long("no-default-libs")
+        .action(ArgAction::SetTrue)
+        .help("Search no library that only a module names")
+}
+
+// Whether what is done is told.
+fn verbose_flag<'a>(alloc: Global) -> Arg<'a>
+    ensures rule { rule_of result ≡ spec.verbose_rule }
+    ensures local { result.global ≡ false }
+{
+    Arg::new(alloc, "verbose")
+        .short('v')
+        .action(ArgAction::SetTrue)
+        .help("Tell what is linked, and why")
+}
+
+// The files that are linked, one or more.
+fn files<'a>(alloc: Global) -> Arg<'a>
+    ensures rule { rule_of result ≡ spec.files_rule }
+    ensures local { result.global ≡ false }
+{
+    Arg::new(alloc, "FILES")
+        .required(true)
+        .num_args(ValueRange::from(1..))
+        .help("The object modules to link, one in each file, in their order")
+}
+
+// The command with one argument more.
+fn with_arg<'a>(command: Command<'a>, arg: Arg<'a>) -> Result<Command<'a>, AllocError>
+    requires local { arg.global ≡ false }
+    requires above { (fields_of command).has_globals ≡ false }
+    ensures app { IfOk result (λ c. app_of c ≡ with_rule (app_of command.entry) (rule_of arg.entry)) }
+    ensures local { IfOk result (λ c. (fields_of c).has_globals ≡ false) }
+{
+    command.arg(arg)
+}
+
+// The command `doslink` before it has arguments.
+fn bare_command<'a>(alloc: Global) -> Result<Command<'a>, AllocError>
+    ensures app { IfOk result (λ c. app_of c ≡ spec.bare_command) }
+    ensures local { IfOk result (λ c. (fields_of c).has_globals ≡ false) }
+{
+    Command::new(alloc, "doslink")
+        .about("Links what compilers for DOS write, with libraries, into an MS-DOS program")
+        .after_help(NOTES)
+        .no_binary_name(true)
+        .arg_required_else_help(true)
+        .bin_name("doslink")
+}
+
+// The command `doslink` with what it says of files.
+fn files_command<'a>(alloc: Global) -> Result<Command<'a>, AllocError>
+    ensures app { IfOk result (λ c. app_of c ≡ spec.files_command) }
+    ensures local { IfOk result (λ c. (fields_of c).has_globals ≡ false) }
+{
+    let command = bare_command(alloc)?;
+    let command = with_arg(command, out_option(alloc))?;
+    let command = with_arg(command, map_option(alloc))?;
+    let command = with_arg(command, folder_option(alloc))?;
+    let command = with_arg(command, library_option(alloc))?;
+    with_arg(command, files(alloc))
+}
+
+// The command `doslink`.
+fn doslink_command<'a>(alloc: Global) -> Result<Command<'a>, AllocError>
+    ensures app { IfOk result (λ c. app_of c ≡ spec.doslink_command) }
+    ensures local { IfOk result (λ c. (fields_of c).has_globals ≡ false) }
+{
+    let command = files_command(alloc)?;
+    let command = with_arg(command, case_flag(alloc))?;
+    let command = with_arg(command, order_option(alloc))?;
+    let command = with_arg(command, no_defaults_flag(alloc))?;
+    with_arg(command, verbose_flag(alloc))
+}
+
+// What the parser says of the words.
+fn refusal(alloc: Global, error: &clap::Error) -> WordsFault
+    ensures { kind_of error.now ≡ OutOfMemory → result ≡ WordsFault.Memory }
+{
+    if error.kind() == ErrorKind::OutOfMemory {
+        return WordsFault::Memory;
+    }
+    match error.to_string(alloc) {
+        Err(_) => WordsFault::Memory,
+        Ok(text) if error.use_stderr() => WordsFault::Wrong(text),
+        Ok(text) => WordsFault::Help(text),
+    }
+}
+
+// The values of an argument, none where it isn't given.
+fn values_of<'a>(
+    alloc: Global,
+    values: &ArgMatches<'a>,
+    id: &str,
+) -> Result<Vec<&'a str>, AllocError>
+    ensures { IfOk result (λ list. texts list.items ≡ spec.values_of id.now (rows_of (found_of values.now))) }
+{
+    match values.get_strs(id) {
+        Some(list) => Vec::from_slice(alloc, list),
+        None => Ok(Vec::new(alloc)),
+    }
+}
+
+// What commas separate.
+fn names_in<'a>(alloc: Global, list: &'a str) -> Result<Vec<&'a str>, AllocError>
+    ensures { IfOk result (λ names. texts names.items ≡ slice_split (λ byte. byte == 44) list.now) }
+{
+    list.split(',').collect(alloc)
+}
+
+// The classes of these names.
+fn classes_of<'a>(alloc: Global, names: &[&'a str]) -> Result<Vec<OrderItem<'a>>, AllocError>
+    ensures { IfOk result (λ classes. items_of classes.items ≡ map Class (texts names.now)) }
+{
+    let mut classes = Vec::new(alloc);
+    'names: for name in names {
+        classes.push(OrderItem::Class(name))?;
+    }
+    Ok(classes)
+}
+
+// The order that a value asks for.
+fn order_asked<'a>(alloc: Global, value: Option<&'a str>) -> Result<Order<'a>, AllocError>
+    ensures { IfOk result (λ order. order_of order ≡ spec.order_asked (option_map (λ s. s.now) value.entry)) }
+{
+    let Some(word) = value else {
+        return Ok(Order::Meeting);
+    };
+    if is(word, "dosseg") {
+        return Ok(Order::Dosseg);
+    }
+    let names = names_in(alloc, word)?;
+    Ok(Order::Listed(classes_of(alloc, names.as_slice())?))
+}
+
+// The map that a value asks for.
+fn map_asked<'a>(value: Option<&'a str>) -> Option<MapFile<'a>>
+    ensures { option_map map_of result ≡ option_map At (option_map (λ s. s.now) value.entry) }
+{
+    match value {
+        Some(path) => Some(MapFile::At(path)),
+        None => None,
+    }
+}
+
+// The job that values ask for.
+fn job_of<'a>(alloc: Global, values: &ArgMatches<'a>) -> Result<Job<'a>, AllocError>
+    ensures { IfOk result (IsJobOf (rows_of (found_of values.now))) }
+{
+    Ok(Job {
+        files: values_of(alloc, values, "FILES")?,
+        out: values.get_str("OUT"),
+        map: map_asked(values.get_str("MAP")),
+        folders: values_of(alloc, values, "FOLDER")?,
+        libraries: values_of(alloc, values, "LIB")?,
+        ignore_case: values.get_flag("ignore-case"),
+        order: order_asked(alloc, values.get_str("ORDER"))?,
+        default_libraries: !values.get_flag("no-default-libs"),
+        verbose: values.get_flag("verbose"),
+        quiet: false,
+    })
+}
+
+/// The job that the words after the program's name ask for. Words in which the command has no fault are refused for
+/// nothing but want of memory.
+pub fn parse_words<'a>(alloc: Global, words: &'a [&'a str]) -> Result<Job<'a>, WordsFault>
+    ensures job { IfOk result (IsJobFor (texts words.entry.now)) }
+    ensures refused { fault_of spec.doslink_command (texts words.entry.now) ≡ []
+        → IfErr result (λ fault. fault ≡ Memory) }
+    // What is at fault, and the matches, are those that the parser promises of simple commands.
+    ensures simple { is_simple_and_free spec.doslink_command ≡ true }
+{
+    let command = doslink_command(alloc)?;
+    match command.try_get_matches_from(words) {
+        Ok(values) => Ok(job_of(alloc, &values)?),
+        Err(error) => Err(refusal(alloc, &error)),
+    }
+}

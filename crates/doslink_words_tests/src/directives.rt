@@ -1,0 +1,218 @@
+//! The directives of a response file, and the words of one.
+use doslink_words::{parse_directives, split_words};
+use std::alloc::{AllocError, Global};
+use std::process::Abort;
+
+/// The answer to the text of a row, printed: to words where it begins with a blank, and else to directives.
+fn answer(alloc: Global, text: &str) -> Result<String, AllocError> {
+    if text.starts_with(' ') {
+        return format!(in alloc; "{:?}", split_words(alloc, text));
+    }
+    format!(in alloc; "{:?}", parse_directives(alloc, text))
+}
+
+/// The answer to each row of a table has the part that stands below its text.
+fn hold<R: Abort>(rt: &R, alloc: Global, table: &str) {
+    for row in table.split("\n\n\n") {
+        let (text, part) = row.split_once("\n=>\n").unwrap_or((row, "no part"));
+        let printed = answer(alloc, text).expect(rt, "text");
+        assert!(rt; printed.as_str().contains(part), "{row}: {printed}");
+    }
+}
+
+#[test]
+fn reads_what_compilers_write(rt: HostRuntime) {
+    let table = r##"option quiet
+debug dwarf
+file rtl/large/prt0l.o
+library hello.a
+library rtl/large/system.a
+format dos
+order clname CODE clname FAR_DATA clname BEGDATA segment _NULL segment _AFTERNULL clname DATA clname BSS clname STACK clname HEAP
+name hello.exe
+=>
+Ok(Directives { job: Job { files: ["rtl/large/prt0l.o"], out: Some("hello.exe"), map: None, folders: [], libraries: ["hello.a", "rtl/large/system.a"], ignore_case: false, order: Listed([Class("CODE"), Class("FAR_DATA"), Class("BEGDATA"), Segment("_NULL"), Segment("_AFTERNULL"), Class("DATA"), Class("BSS"), Class("STACK"), Class("HEAP")]), default_libraries: true, verbose: false, quiet: true }, warnings: [] })
+
+
+# a comment with "a quote
+
+  # another
+ FILE 'a b.obj' , "it's.obj",c.obj
+=>
+files: ["a b.obj", "it's.obj", "c.obj"]
+
+
+libpath a,b
+Lib c,d
+libpath e
+=>
+folders: ["a", "b", "e"], libraries: ["c", "d"],
+
+
+option map
+=>
+map: Some(Beside)
+
+
+op quiet, map = "a b.map", dosseg, NODEFAULTLIBS
+=>
+map: Some(At("a b.map")), folders: [], libraries: [], ignore_case: false, order: Dosseg, default_libraries: false, verbose: false, quiet: true
+
+
+option ignorecase
+=>
+ignore_case: true
+
+
+option nocaseexact, caseexact
+=>
+ignore_case: false
+
+
+name a.exe
+name b.exe
+option dosseg
+order clname A
+=>
+out: Some("b.exe"), map: None, folders: [], libraries: [], ignore_case: false, order: Listed([Class("A")])
+
+
+option symfile,verbose,stack=4096
+sort global
+disable 1023
+format DOS exe
+=>
+warnings: [Warning { line: 1, kind: Symbols }, Warning { line: 1, kind: Option }, Warning { line: 1, kind: Stack }, Warning { line: 2, kind: Sort }, Warning { line: 3, kind: Disable }]
+
+
+ a "b c" d'e "f"g,h=i
+=>
+Ok(["a", "b c", "d'e", "f", "g,h=i"])
+
+
+ 
+=>
+Ok([])
+
+
+ a "b
+=>
+Err(UnclosedQuote)"##;
+    hold(&rt, rt.alloc(), table);
+}
+
+#[test]
+fn refuses_by_line(rt: HostRuntime) {
+    let table = r##"file a.obj
+
+modtrace b
+=>
+Err(Line { line: 3, text: "modtrace b", kind: UnknownDirective })
+
+
+'file' a.obj
+=>
+kind: UnknownDirective
+
+
+, a
+=>
+kind: UnknownDirective
+
+
+option quiet
+  file 'a.obj
+=>
+Err(Line { line: 2, text: "  file 'a.obj", kind: UnclosedQuote })
+
+
+file
+=>
+kind: WrongOperands
+
+
+file a b
+=>
+kind: WrongOperands
+
+
+file a,
+=>
+kind: WrongOperands
+
+
+file a,,b
+=>
+kind: WrongOperands
+
+
+name a,b
+=>
+kind: WrongOperands
+
+
+option
+=>
+kind: WrongOperands
+
+
+option quiet=1
+=>
+kind: WrongOperands
+
+
+option map=
+=>
+kind: WrongOperands
+
+
+option 'quiet'
+=>
+kind: WrongOperands
+
+
+option undefsok
+=>
+kind: UnknownOption
+
+
+format dos com
+=>
+kind: NoCom
+
+
+format os2
+=>
+kind: NotDos
+
+
+format
+=>
+kind: NotDos
+
+
+order
+=>
+kind: WrongOperands
+
+
+order segment A
+=>
+kind: WrongOperands
+
+
+order clname
+=>
+kind: WrongOperands
+
+
+order clname A B
+=>
+kind: WrongOperands
+
+
+order clname A type B
+=>
+kind: WrongOperands"##;
+    hold(&rt, rt.alloc(), table);
+}

@@ -1,0 +1,7 @@
+//! Tests of the words of `doslink` and of the directives of response files.
+#![tactic(auto)]
+
+#[cfg(test)]
+mod directives;
+#[cfg(test)]
+mod words;

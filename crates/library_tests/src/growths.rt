@@ -1,0 +1,44 @@
+//! Each growth refused in turn.
+
+use crate::files::{file_of, same, told_members, told_names};
+use refusing::Refusing;
+use std::alloc::Global;
+use std::process::Abort;
+use std::test::*;
+
+/// What is told of a file where a growth is refused is want of memory, and where none is, what is wanted.
+fn refused<R: Abort>(
+    rt: &R,
+    alloc: Global,
+    of_names: bool,
+    lines: &str,
+    wanted: &str,
+) -> Result<(), Fail> {
+    let file = file_of(alloc, lines)?;
+    for number in 1..100u64 {
+        let refusing = Refusing::nth(alloc, number);
+        let told = if of_names {
+            told_names(&refusing, alloc, &file)?
+        } else {
+            told_members(&refusing, alloc, &file)?
+        };
+        if !refusing.has_refused() {
+            same(rt, told.as_str(), wanted);
+            break;
+        }
+        same(rt, told.as_str(), "no memory");
+    }
+    Ok(())
+}
+
+#[test]
+fn refused_growths(rt: HostRuntime) -> Result<(), Fail> {
+    let library = "lib 16\n80 01 41\n8A 00\npad 16\nraw F1";
+    refused(&rt, rt.alloc(), false, library, "[16 11 A]")?;
+    let archive = "text !<arch>\nar a.o/ 1\nraw 41";
+    refused(&rt, rt.alloc(), false, archive, "[68 1 a.o]")?;
+    refused(&rt, rt.alloc(), false, "raw 41", "[0 1 ]")?;
+    let module = "96 01 61\n8C 01 62 00\n90 00 01 01 63 00 00 00\nBC 01 00\n88 00 9F 6C";
+    let names = "wants b a, offers c, libraries l";
+    refused(&rt, rt.alloc(), true, module, names)
+}

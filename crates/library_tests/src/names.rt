@@ -1,0 +1,89 @@
+//! The names of modules.
+
+use crate::files::run;
+use std::test::*;
+
+#[test]
+fn names_of_modules(rt: HostRuntime) -> Result<(), Fail> {
+    run(
+        &rt,
+        rt.alloc(),
+        true,
+        "\
+80 01 4D
+8C 01 61 00 02 62 63 81 00
+90 00 01 01 64 00 00 00 01 65 00 00 00
+91 00 00 34 12 01 66 00 00 00 00 00
+8A 00
+8C 01 7A 00
+= wants a bc, offers d e f, libraries
+
+# the two names of an alias
+C6 01 61 01 62 02 63 63 02 64 64
+= wants b dd, offers a cc, libraries
+
+# by the names listed so far
+BC 01 00
+96 01 61 01 62
+CA 01 63
+BC 01 00 03 00 00 00 04 00 80 02 00
+= wants a c b, offers, libraries
+
+# a COMDAT with a base in a segment, one with a frame, one with none
+96 01 61 01 62 01 63
+C2 00 00 00 00 00 00 01 01 01 FF FF
+C2 00 01 00 00 00 00 02 FF
+C3 01 00 00 00 00 00 00 00 00 00 00 00 03
+= wants, offers a b c, libraries
+
+# local, without a name, cut off
+96 01 61
+C2 04 00 00 00 00 00 00 01 01
+C2 00 01 00 00 00 00 02
+C2 00 01 00 00 00 00
+C2 00 01
+= wants, offers, libraries
+
+# local and communal names
+B0 01 61 00 62 01
+B4 01 61 00
+B5 01 61 00
+B6 00 01 01 61 00 00 00
+B7 00 01 01 61 00 00 00 00 00
+B8 01 61 00 62 01
+B2 01 61 00
+BE 01 61
+= wants, offers, libraries
+
+88 00 9F 6C 69 62
+88 00 81 6F 6C 64
+88 80 9E
+88 00 9F
+88 00 A3 01 61
+= wants, offers, libraries lib old , dosseg
+
+# bodies that end inside an entry
+8C 01 61 00 02 62
+8C 01 63 00 01 64
+90 00 01 01 65 00 00 00 01 66 00 00
+90 00
+96 01 67 05 68
+BC 01 00 01
+C6 01 69 01 6A 01 6B
+= wants a c g j, offers e i, libraries
+
+# to the first fault
+8C 01 61 00
+raw 96 00 00
+8C 01 62 00
+= wants a, offers, libraries
+
+8C 01 61 00
+8B 00
+8C 01 62 00
+= wants a, offers, libraries
+
+raw 41 42
+= wants, offers, libraries",
+    )
+}

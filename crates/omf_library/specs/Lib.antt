@@ -1,0 +1,9 @@
+pub mod Fields
+pub mod Records
+pub mod Entries
+pub mod Names
+pub mod Members
+pub mod Library
+pub mod Archive
+pub mod Files
+pub mod inside

@@ -1,0 +1,177 @@
+//! The names of a module, by its records' frames alone.
+
+ghost use Rattle.std.specs.Prelude.{◌≡◌, ◌++◌, is_some, IfOk, OnOk};
+ghost use Rattle.omf_frame.specs.Lending.{plain_frame};
+ghost use Rattle.omf_library.specs.Records.{comment_text, module_records};
+ghost use Rattle.omf_library.specs.Names.{texts, listed_in, wanted_in, offered_in, library_in};
+ghost use Rattle.omf_library.specs.Names.{public_names, comdat_names};
+ghost use Rattle.omf_library.specs.Names.{wanted_names, offered_names, library_names, asks_dosseg};
+
+use crate::entries::{Entry, behind_base, comdat_name, listed_name, push_communal, push_names};
+use crate::records::{comment_text, ends_module, record_at};
+use omf_frame::Frame;
+use std::alloc::{AllocError, Allocator, Global};
+
+/// The classes of a comment with the name of a default library; the older one was for it before.
+const DEFAULT_LIBRARY: u8 = 0x9F;
+
+const OLD_DEFAULT_LIBRARY: u8 = 0x81;
+
+/// The class of a comment that asks for the DOSSEG order.
+const DOSSEG: u8 = 0x9E;
+
+/// What a module says of names, in the order of its records; each a part of the module's bytes.
+#[derive(Drop)]
+pub struct ModuleNames<'a, A: Allocator + Copy = Global> {
+    /// The names that it wants from other modules. One may stand more than once.
+    pub wanted: Vec<&'a [u8], A>,
+    /// The names that it offers to other modules.
+    pub offered: Vec<&'a [u8], A>,
+    /// The default libraries that its comments name.
+    pub libraries: Vec<&'a [u8], A>,
+    /// Whether a comment asks for the DOSSEG order of segments.
+    pub dosseg: bool,
+}
+
+/// Appends the names that a record adds to the list of names: LNAMES and LLNAMES.
+#[tactic(auto, unfolding(crate::specs::Names::listed_in))]
+fn push_listed<'a, A: Allocator + Copy>(
+    frame: &Frame<'a>,
+    listed: &mut Vec<&'a [u8], A>,
+) -> Result<(), AllocError>
+    ensures { OnOk result (texts listed.new.items
+        ≡ texts listed.old.items ++ listed_in (plain_frame frame.now)) }
+{
+    match frame.kind {
+        0x96 | 0xCA => push_names(Entry::Listed, frame.body, listed),
+        _ => Ok(()),
+    }
+}
+
+/// Appends the names that a record wants: those of EXTDEF and CEXTDEF, and those that ALIAS stands for.
+#[tactic(auto, unfolding(crate::specs::Names::wanted_in))]
+fn push_wanted<'a, A: Allocator + Copy>(
+    frame: &Frame<'a>,
+    listed: &[&'a [u8]],
+    wanted: &mut Vec<&'a [u8], A>,
+) -> Result<(), AllocError>
+    ensures { OnOk result (texts wanted.new.items
+        ≡ texts wanted.old.items ++ wanted_in (texts listed.now) (plain_frame frame.now)) }
+{
+    match frame.kind {
+        0x8C => push_names(Entry::External, frame.body, wanted),
+        0xBC => push_communal(listed, frame.body, wanted),
+        0xC6 => push_names(Entry::Substitute, frame.body, wanted),
+        _ => Ok(()),
+    }
+}
+
+/// Appends the names that a record offers: those of PUBDEF, that of COMDAT unless it is local, and those of ALIAS.
+#[tactic(auto, unfolding(crate::specs::Names::offered_in))]
+fn push_offered<'a, A: Allocator + Copy>(
+    frame: &Frame<'a>,
+    listed: &[&'a [u8]],
+    offered: &mut Vec<&'a [u8], A>,
+) -> Result<(), AllocError>
+    ensures { OnOk result (texts offered.new.items
+        ≡ texts offered.old.items ++ offered_in (texts listed.now) (plain_frame frame.now)) }
+{
+    match frame.kind {
+        0x90 => push_publics(2, frame.body, offered),
+        0x91 => push_publics(4, frame.body, offered),
+        0xC2 => push_comdat(2, frame.body, listed, offered),
+        0xC3 => push_comdat(4, frame.body, listed, offered),
+        0xC6 => push_names(Entry::Alias, frame.body, offered),
+        _ => Ok(()),
+    }
+}
+
+/// Appends the names of a PUBDEF's body, whose offsets have so many bytes.
+fn push_publics<'a, A: Allocator + Copy>(
+    offset: usize,
+    body: &'a [u8],
+    offered: &mut Vec<&'a [u8], A>,
+) -> Result<(), AllocError>
+    ensures { OnOk result (texts offered.new.items ≡ texts offered.old.items ++ public_names offset body.now) }
+{
+    match behind_base(body) {
+        Some(entries) => push_names(Entry::Public { offset }, entries, offered),
+        None => Ok(()),
+    }
+}
+
+/// Appends the name of a COMDAT's body, whose offset has so many bytes, unless it is local.
+fn push_comdat<'a, A: Allocator + Copy>(
+    offset: usize,
+    body: &[u8],
+    listed: &[&'a [u8]],
+    offered: &mut Vec<&'a [u8], A>,
+) -> Result<(), AllocError>
+    ensures { OnOk result (texts offered.new.items
+        ≡ texts offered.old.items ++ comdat_names offset (texts listed.now) body.now) }
+{
+    if let Some(index) = comdat_name(offset, body)
+        && let Some(name) = listed_name(listed, index)
+    {
+        offered.push(name)?;
+    }
+    Ok(())
+}
+
+/// Appends the default library that a record names.
+#[tactic(auto, unfolding(crate::specs::Names::library_in))]
+fn push_library<'a, A: Allocator + Copy>(
+    frame: &Frame<'a>,
+    libraries: &mut Vec<&'a [u8], A>,
+) -> Result<(), AllocError>
+    ensures { OnOk result (texts libraries.new.items
+        ≡ texts libraries.old.items ++ library_in (plain_frame frame.now)) }
+{
+    let text = comment_text(frame, DEFAULT_LIBRARY).or(comment_text(frame, OLD_DEFAULT_LIBRARY));
+    if let Some(name) = text {
+        libraries.push(name)?;
+    }
+    Ok(())
+}
+
+/// Whether a record asks for the DOSSEG order.
+fn is_dosseg(frame: &Frame<'_>) -> bool
+    ensures { result ≡ is_some (comment_text 0x9E (plain_frame frame.now)) }
+{
+    comment_text(frame, DOSSEG).is_some()
+}
+
+/// The names of the module whose records begin the bytes, up to the first record that ends a module, or before the
+/// first that is at fault.
+pub fn module_names<'a, A: Allocator + Copy>(
+    alloc: A,
+    bytes: &'a [u8],
+) -> Result<ModuleNames<'a, A>, AllocError>
+    ensures wanted { IfOk result (λ said. texts said.wanted.items ≡ wanted_names (module_records bytes.now 0)) }
+    ensures offered { IfOk result (λ said. texts said.offered.items ≡ offered_names (module_records bytes.now 0)) }
+    ensures libraries { IfOk result (λ said. texts said.libraries.items ≡ library_names (module_records bytes.now 0)) }
+    ensures dosseg { IfOk result (λ said. said.dosseg ≡ asks_dosseg (module_records bytes.now 0)) }
+{
+    let mut said = ModuleNames {
+        wanted: Vec::new(alloc),
+        offered: Vec::new(alloc),
+        libraries: Vec::new(alloc),
+        dosseg: false,
+    };
+    let mut listed = Vec::new(alloc);
+    let mut place = 0;
+    loop {
+        let Ok(frame) = record_at(bytes, place) else {
+            return Ok(said);
+        };
+        push_wanted(&frame, &listed, &mut said.wanted)?;
+        push_offered(&frame, &listed, &mut said.offered)?;
+        push_library(&frame, &mut said.libraries)?;
+        push_listed(&frame, &mut listed)?;
+        said.dosseg |= is_dosseg(&frame);
+        if ends_module(frame.kind) {
+            return Ok(said);
+        }
+        place += frame.body.len() + 4;
+    }
+}

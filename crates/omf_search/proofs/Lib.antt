@@ -1,0 +1,9 @@
+pub mod Results
+pub mod Agreeing
+pub mod TakenSteps
+pub mod OfferSteps
+pub mod ChoiceSteps
+pub mod Slack
+pub mod Distinct
+pub mod ChoiceLaws
+pub mod LikeSteps

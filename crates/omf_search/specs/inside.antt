@@ -1,0 +1,4 @@
+pub mod Keys
+pub mod Taken
+pub mod Likeness
+pub mod Met

@@ -1,0 +1,171 @@
+//! Searches, each with what is answered.
+
+use crate::links::outcome;
+use std::alloc::Global;
+use std::process::Abort;
+use std::test::*;
+
+/// Links, each with the members that are taken and the names that stay missing.
+const SEARCHES: &str = "\
++main
+=
+
++main -f
+library
++f
+=
+0.0 f 0
+
++main -f
+library
++g
++f -g -h
++h
+=
+0.1 f 0
+0.0 g 1
+0.2 h 1
+
++main -f
+library
++f -g
+library
++g -h -f
+library
++h
+=
+0.0 f 0
+1.0 g 1
+2.0 h 2
+
++main -f -g
+library
++f -g
+library
++g -f
+=
+0.0 f 0
+1.0 g 0
+
++main -f -g
+library
++g
++f
+library
++g
++f
+=
+0.1 f 0
+0.0 g 0
+
++main -f
+library
++x
+library
++f
++f
+library
++f
+=
+1.0 f 0
+
++main -f
++other -f -f
+library
++f
+=
+0.0 f 0
+
++main -f -g
+library
++f +g
+=
+0.0 f 0
+
++main -f -g -g
++f -g
+=
+missing g 0
+missing g 1
+
+folded
++main -F -G -g
+library
++f
+=
+0.0 F 0
+missing G 0
+
++main -F
+library
++f
+=
+missing F 0 like f 0.0
+
++_f -f -f__ -__f -_g -_h
+library
++G
++f_
++f__
+=
+0.2 f__ 0
+missing f 0 like _f 0
+missing __f 0 like _f 0
+missing _g 0 like G 0.0
+missing _h 0
+
+folded
++main -_Alpha -BETA -gamma
+library
++alpha
++__Beta
++_beta
++_GAMMA +Gamma
+=
+0.3 gamma 0
+missing _Alpha 0 like alpha 0.0
+missing BETA 0 like _beta 0.2";
+
+/// What is wanted.
+fn same<R: Abort>(rt: &R, answered: &str, wanted: &str) {
+    assert!(rt; answered == wanted, "{answered}, not {wanted}");
+}
+
+/// Each link of a table is answered as its row says.
+fn answers<R: Abort>(rt: &R, alloc: Global, table: &str, rounds: &[usize]) -> Result<(), Fail> {
+    for row in table.split("\n\n") {
+        if let Some((link, wanted)) = row.split_once("\n=") {
+            let answered = outcome(alloc, alloc, link, rounds)?;
+            same(rt, answered.as_str().trim(), wanted.trim());
+        }
+    }
+    Ok(())
+}
+
+#[test]
+fn searches(rt: HostRuntime) -> Result<(), Fail> {
+    answers(&rt, rt.alloc(), SEARCHES, &[99])
+}
+
+/// A link whose later libraries are searched afterwards: so many members each time.
+const ROUNDS: &str = "\
++main -f
+library
++f -g -h
++h
+library
++g -k
++f
++k
+library
++k
+=
+0.0 f 0
+0.1 h 1
+1.0 g 1
+1.2 k 3";
+
+#[test]
+fn rounds(rt: HostRuntime) -> Result<(), Fail> {
+    answers(&rt, rt.alloc(), ROUNDS, &[2, 5, 6])
+}
