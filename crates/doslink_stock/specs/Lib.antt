@@ -1,0 +1,4 @@
+pub mod Files
+pub mod Search
+pub mod Seen
+pub mod inside

@@ -1,0 +1,11 @@
+pub mod Bodies
+pub mod Lists
+pub mod ByKey
+pub mod Found
+pub mod Selecting
+pub mod Steps
+pub mod FirstMet
+pub mod Fitting
+pub mod Dosseg
+pub mod Sound
+pub mod Naming

@@ -1,0 +1,7 @@
+use Rattle.std.proofs.Common.{◌≡◌, take}
+use Rattle.omf_order.specs.Segments.{grouped}
+use Rattle.omf_order.specs.inside.Held.{segments_view}
+use Rattle.omf_order.proofs.segments.grouped_segments.Given as goal
+
+abbrev pub invariant-loop-each : goal.invariant-loop-each
+invariant-loop-each g l = segments_view l.grouped.items ≡ grouped (take l.each-index l.modules)

@@ -1,0 +1,22 @@
+use Rattle.std.proofs.Common.{◌∙◌, ap, sym}
+use Rattle.omf_module.specs.Module.{Segment}
+use Rattle.omf_module.specs.Seen.{segment_seen}
+use Rattle.omf_place.specs.Parts.{is_relocatable}
+use Rattle.omf_order.specs.inside.Held.{segments_view}
+use Rattle.omf_order.proofs.Lists.{filter-added, filter-kept}
+use Rattle.omf_order.proofs.segments.push_placed.Goals as goal
+use Rattle.omf_order.proofs.segments.push_placed.Goals.{then-is_placed+in_ok-push, else-is_placed}
+
+pub loop-index-preserved : goal.loop-index-preserved
+loop-index-preserved g c =
+    let segments = c.args.from.now.segments in
+    let i = c.loop-index.index in
+    let s = c.segment-segment.result in
+    elim c.if-is_placed.branch [
+      | then-is_placed+in_ok-push w ↦ ap (λ v. segments_view v.items) w.placed-is
+          ∙ filter-added segment_seen (λ (a : Segment). is_relocatable a.standing) segments i s (segments_view c.args.placed.now.items) c.loop-index.placed.items _ c.segment-segment.ensures
+          (sym c.is_placed.ensures ∙ w.if-is_placed.true) w.in_ok-push.ensures.items c.loop-index.invariant
+      | else-is_placed w ↦ ap (λ v. segments_view v.items) w.placed-is
+          ∙ filter-kept segment_seen (λ (a : Segment). is_relocatable a.standing) segments i s (segments_view c.args.placed.now.items) c.loop-index.placed.items c.segment-segment.ensures
+          (sym c.is_placed.ensures ∙ w.if-is_placed.false) c.loop-index.invariant
+    ]

@@ -1,0 +1,9 @@
+pub mod Segments
+pub mod Parts
+pub mod Marks
+pub mod Keys
+pub mod Plan
+pub mod Records
+pub mod Answer
+pub mod Whole
+pub mod inside

@@ -1,0 +1,105 @@
+-- The records of the order module (TIS OMF 1.1, the section of each), and its bytes.
+use Rattle.std.specs.Prelude.{ℕ, ◌+◌, ◌*◌, ◌==◌, false, List, [], ◌∷◌, ◌++◌, map, if◌then◌else◌, Option, None, Some}
+use Rattle.std.specs.Prelude.{codes}
+use Rattle.std.specs.List.{flat_map}
+use Rattle.std.specs.Option.{option_to_list}
+use Rattle.omf_frame.specs.Frame.{frame}
+use Rattle.omf_module.specs.declared.Kind.{Kind}
+use Rattle.omf_module.specs.declared.Kind.TheVariants as kind
+use Rattle.omf_record.specs.declared.segments.Alignment.{Alignment}
+use Rattle.omf_record.specs.declared.segments.Combination.{Combination}
+use Rattle.omf_record.specs.declared.segments.SegmentDefinition.{SegmentDefinition}
+use Rattle.omf_record.specs.declared.externals.PublicBase.TheVariants.{InSegment}
+use Rattle.omf_record.specs.declared.segments.Alignment.TheVariants as align
+use Rattle.omf_record.specs.declared.segments.Combination.TheVariants as combine
+use Rattle.omf_record.specs.declared.segments.SegmentLength.TheVariants as len
+use Rattle.omf_record.specs.Record.{Record, Theadr, Lnames, Segdef, Grpdef, Pubdef, Modend, Public}
+use Rattle.omf_record.specs.Body.{kind_of}
+use Rattle.omf_record.specs.Canonical.{canonical}
+use Rattle.omf_order.specs.Segments.{dgroup}
+use Rattle.omf_order.specs.Parts.{Part}
+use Rattle.omf_order.specs.Plan.{Plan}
+
+-- the alignment of so many bytes, of which there are five
+abbrev pub alignment_of : ℕ → Alignment
+alignment_of bytes =
+    if bytes == 1 then align.Byte
+    else if bytes == 2 then align.Word
+    else if bytes == 4 then align.DoubleWord
+    else if bytes == 16 then align.Paragraph
+    else align.Page
+
+-- how a kind is said
+abbrev pub combination_of : Kind → Combination
+combination_of kind.Private = combine.Private
+combination_of kind.Public = combine.Public2
+combination_of kind.Stack = combine.Stack
+combination_of kind.Common = combine.Common
+
+-- the SEGDEF of the part at a place: of length 0, its name and class behind those of the parts before it and DGROUP
+abbrev pub definition : (place : ℕ) → Part → SegmentDefinition
+definition place p = record {
+  alignment = alignment_of p.alignment;
+  combination = combination_of p.kind;
+  length = len.Word 0;
+  name = 2 * place + 2;
+  class = 2 * place + 3;
+  overlay = 0;
+}
+
+-- its record
+abbrev pub segment_record : (place : ℕ) → Part → Record
+segment_record place p = Segdef (definition place p)
+
+-- the names and the SEGDEF of each part, the first at this place
+abbrev pub part_records : (place : ℕ) → List Part → List Record
+part_records place [] = []
+part_records place (p ∷ ps) =
+    Lnames (p.name ∷ p.class ∷ []) ∷ segment_record place p ∷ part_records (place + 1) ps
+
+-- the segment index of the part at a place
+abbrev pub segment_index : ℕ → ℕ
+segment_index place = place + 1
+
+-- DGROUP of these segments, if there are any
+abbrev pub group_records : List ℕ → List Record
+group_records [] = []
+group_records (segment ∷ segments) = Grpdef 1 (segment ∷ segments) ∷ []
+
+-- a name at the begin of its segment
+abbrev pub public_of : List ℕ → Public
+public_of name = record { name = name; offset = 0; type_index = 0 }
+
+-- the public names of a mark, at the begin of a part
+abbrev pub mark_record : List (List ℕ) → ℕ → Record
+mark_record names place = Pubdef false (InSegment 1 (segment_index place)) (map public_of names)
+
+-- those, if there is a part for them
+abbrev pub mark_records : List (List ℕ) → Option ℕ → List Record
+mark_records names None = []
+mark_records names (Some place) = mark_record names place ∷ []
+
+-- the segments of the marks
+abbrev pub mark_segments : Plan → List ℕ
+mark_segments p = map segment_index (option_to_list p.data_end.part ++ option_to_list p.bss_end.part)
+
+-- what comes behind the segments
+abbrev pub last_records : Plan → List Record
+last_records p = group_records (mark_segments p) ++ (mark_records p.data_end.names p.data_end.part
+    ++ (mark_records p.bss_end.names p.bss_end.part ++ Modend false None ∷ []))
+
+-- all records
+abbrev pub records : Plan → List Record
+records p = Theadr (codes "doslink") ∷ Lnames (dgroup ∷ []) ∷ (part_records 0 p.parts ++ last_records p)
+
+-- a record as a frame, with its canonical body
+abbrev pub record_bytes : Record → List ℕ
+record_bytes r = frame (kind_of r) (canonical r)
+
+-- records, one after the other
+abbrev pub records_bytes : List Record → List ℕ
+records_bytes rs = flat_map record_bytes rs
+
+-- the module
+abbrev pub module_bytes : Plan → List ℕ
+module_bytes p = records_bytes (records p)

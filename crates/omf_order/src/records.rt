@@ -1,0 +1,302 @@
+//! The records of the order module.
+
+ghost use Rattle.std.specs.Prelude.{◌≡◌, ◌++◌, ◌<◌, ◌≤◌, [], ◌∷◌, IfOk, IfSome, OnOk, length, map};
+ghost use Rattle.std.specs.List.{AllByRecursion};
+ghost use Rattle.std.specs.Option.{option_to_list};
+ghost use Rattle.omf_record.specs.Body.{kind_of};
+ghost use Rattle.omf_record.specs.Canonical.{FitsFrame};
+ghost use Rattle.omf_record.specs.Record.{Lnames};
+ghost use Rattle.omf_record.specs.View.{view, public_view};
+ghost use Rattle.omf_order.specs.Records as records;
+ghost use Rattle.omf_order.specs.inside.Fits.{Fits, FitsMark, IsName, IsShortPart};
+ghost use Rattle.omf_order.specs.inside.Held.{mark_view, names_view, part_view, parts_view, plan_view};
+
+use crate::parts::Part;
+use crate::planning::{Mark, Plan};
+use omf_frame::closing;
+use omf_module::Kind;
+use omf_record::{
+    Alignment, Combination, Public, PublicBase, Record, SegmentDefinition, SegmentLength,
+    encode_record,
+};
+use std::alloc::{AllocError, Allocator};
+
+/// Appends a record as a frame.
+fn put_record<A: Allocator + Copy>(
+    alloc: A,
+    kind: u8,
+    record: &Record<'_, A>,
+    out: &mut Vec<u8, A>,
+) -> Result<(), AllocError>
+    requires kind { kind ≡ kind_of (view «record».now) }
+    requires fits { FitsFrame (view «record».now) }
+    ensures { OnOk result (out.new.items ≡ out.old.items ++ records.record_bytes (view «record».now)) }
+{
+    let mut body = Vec::new(alloc);
+    encode_record(record, &mut body)?;
+    let length = body.len() + 1;
+    out.extend_from_slice(&[kind, (length % 256) as u8, (length / 256) as u8])?;
+    out.extend_from_slice(&body)?;
+    out.push(closing(kind, &body))?;
+    Ok(())
+}
+
+/// How a SEGDEF says an alignment.
+fn alignment_of(bytes: u16) -> Alignment
+    ensures { result ≡ records.alignment_of bytes }
+{
+    match bytes {
+        1 => Alignment::Byte,
+        2 => Alignment::Word,
+        4 => Alignment::DoubleWord,
+        16 => Alignment::Paragraph,
+        _ => Alignment::Page,
+    }
+}
+
+/// How a SEGDEF says a kind.
+fn combination_of(kind: Kind) -> Combination
+    ensures { result ≡ records.combination_of kind }
+{
+    match kind {
+        Kind::Private => Combination::Private,
+        Kind::Public => Combination::Public2,
+        Kind::Stack => Combination::Stack,
+        Kind::Common => Combination::Common,
+    }
+}
+
+/// The definition of the part at a place, which counts from 0.
+fn definition(place: usize, part: &Part<'_>) -> SegmentDefinition
+    requires { place < 16383 }
+    ensures { result ≡ records.definition place (part_view part.now) }
+{
+    SegmentDefinition {
+        alignment: alignment_of(part.alignment),
+        combination: combination_of(part.kind),
+        length: SegmentLength::Word(0),
+        name: 2 * place as u16 + 2,
+        class: 2 * place as u16 + 3,
+        overlay: 0,
+    }
+}
+
+/// Appends LNAMES with one name.
+#[tactic(auto, unfolding(omf_record::specs::View::view))]
+fn put_name<A: Allocator + Copy>(
+    alloc: A,
+    name: &[u8],
+    out: &mut Vec<u8, A>,
+) -> Result<(), AllocError>
+    requires { length name.now ≤ 255 }
+    ensures { OnOk result (out.new.items ≡ out.old.items ++ records.record_bytes (Lnames (name.now ∷ []))) }
+{
+    let mut names = Vec::new(alloc);
+    names.push(name)?;
+    put_record(alloc, 0x96, &Record::Lnames { names }, out)
+}
+
+/// Appends LNAMES with a name and a class.
+#[tactic(auto, unfolding(omf_record::specs::View::view))]
+fn put_names<A: Allocator + Copy>(
+    alloc: A,
+    name: &[u8],
+    class: &[u8],
+    out: &mut Vec<u8, A>,
+) -> Result<(), AllocError>
+    requires name { length name.now ≤ 255 }
+    requires class { length class.now ≤ 255 }
+    ensures { OnOk result
+        (out.new.items ≡ out.old.items ++ records.record_bytes (Lnames (name.now ∷ class.now ∷ []))) }
+{
+    let mut names = Vec::new(alloc);
+    names.push(name)?;
+    names.push(class)?;
+    put_record(alloc, 0x96, &Record::Lnames { names }, out)
+}
+
+/// Appends SEGDEF of the part at a place.
+#[tactic(auto, unfolding(omf_record::specs::View::view))]
+fn put_segment<A: Allocator + Copy>(
+    alloc: A,
+    place: usize,
+    part: &Part<'_>,
+    out: &mut Vec<u8, A>,
+) -> Result<(), AllocError>
+    requires { place < 16383 }
+    ensures { OnOk result (out.new.items ≡
+        out.old.items ++ records.record_bytes (records.segment_record place (part_view part.now))) }
+{
+    let segment = definition(place, part);
+    put_record(alloc, 0x98, &Record::Segdef { segment }, out)
+}
+
+/// Appends the names and the SEGDEF of each part.
+fn put_parts<A: Allocator + Copy>(
+    alloc: A,
+    parts: &[Part<'_>],
+    out: &mut Vec<u8, A>,
+) -> Result<(), AllocError>
+    requires count { length parts.now ≤ 16383 }
+    requires short { AllByRecursion IsShortPart (parts_view parts.now) }
+    ensures { OnOk result (out.new.items ≡
+        out.old.items ++ records.records_bytes (records.part_records 0 (parts_view parts.now))) }
+{
+    for (place, part) in parts.iter().enumerate() {
+        put_names(alloc, part.name, part.class, out)?;
+        put_segment(alloc, place, part, out)?;
+    }
+    Ok(())
+}
+
+/// The segment indexes of the parts of the marks.
+fn mark_segments<A: Allocator + Copy>(
+    alloc: A,
+    data_end: Option<usize>,
+    bss_end: Option<usize>,
+) -> Result<Vec<u16, A>, AllocError>
+    requires data_end { IfSome data_end (λ place. place < 16383) }
+    requires bss_end { IfSome bss_end (λ place. place < 16383) }
+    ensures { IfOk result (λ v. v.items ≡
+        map records.segment_index (option_to_list data_end ++ option_to_list bss_end)) }
+{
+    let mut segments = Vec::new(alloc);
+    if let Some(place) = data_end {
+        segments.push(segment_index(place))?;
+    }
+    if let Some(place) = bss_end {
+        segments.push(segment_index(place))?;
+    }
+    Ok(segments)
+}
+
+/// Appends the GRPDEF of DGROUP with these segments, if there are any.
+#[tactic(auto, unfolding(omf_record::specs::View::view))]
+fn put_group<A: Allocator + Copy>(
+    alloc: A,
+    segments: Vec<u16, A>,
+    out: &mut Vec<u8, A>,
+) -> Result<(), AllocError>
+    requires few { length segments.items ≤ 2 }
+    requires small { AllByRecursion (λ n. n ≤ 16383) segments.items }
+    ensures { OnOk result
+        (out.new.items ≡ out.old.items ++ records.records_bytes (records.group_records segments.items)) }
+{
+    if segments.is_empty() {
+        return Ok(());
+    }
+    put_record(alloc, 0x9A, &Record::Grpdef { name: 1, segments }, out)
+}
+
+/// Public names at the begin of a segment.
+fn publics_of<'a, A: Allocator + Copy>(
+    alloc: A,
+    names: &[&'a [u8]],
+) -> Result<Vec<Public<'a>, A>, AllocError>
+    ensures { IfOk result (λ v. map public_view v.items ≡ map records.public_of (names_view names.now)) }
+{
+    let mut publics = Vec::new(alloc);
+    for name in names {
+        publics.push(Public {
+            name,
+            offset: 0,
+            type_index: 0,
+        })?;
+    }
+    Ok(publics)
+}
+
+/// The segment index of the part at a place.
+fn segment_index(place: usize) -> u16
+    requires { place < 16383 }
+    ensures { result ≡ records.segment_index place }
+{
+    place as u16 + 1
+}
+
+/// Appends the PUBDEF of names at the begin of the part at a place.
+#[tactic(auto, unfolding(omf_record::specs::View::view))]
+fn put_publics<A: Allocator + Copy>(
+    alloc: A,
+    place: usize,
+    names: &[&[u8]],
+    out: &mut Vec<u8, A>,
+) -> Result<(), AllocError>
+    requires place { place < 16383 }
+    requires few { length names.now ≤ 2 }
+    requires names { AllByRecursion IsName (names_view names.now) }
+    ensures { OnOk result (out.new.items ≡
+        out.old.items ++ records.record_bytes (records.mark_record (names_view names.now) place)) }
+{
+    let base = PublicBase::InSegment {
+        group: 1,
+        segment: segment_index(place),
+    };
+    let publics = publics_of(alloc, names)?;
+    put_record(
+        alloc,
+        0x90,
+        &Record::Pubdef {
+            local: false,
+            base,
+            publics,
+        },
+        out,
+    )
+}
+
+/// Appends the PUBDEF of a mark, if it has a part.
+fn put_mark<A: Allocator + Copy>(
+    alloc: A,
+    mark: &Mark<'_, A>,
+    out: &mut Vec<u8, A>,
+) -> Result<(), AllocError>
+    requires { FitsMark 16383 (mark_view mark.now) }
+    ensures { OnOk result (out.new.items ≡ out.old.items
+        ++ records.records_bytes (records.mark_records (mark_view mark.now).names (mark_view mark.now).part)) }
+{
+    match mark.part {
+        None => Ok(()),
+        Some(place) => put_publics(alloc, place, &mark.names, out),
+    }
+}
+
+/// Appends the records behind those of the parts.
+#[tactic(auto, unfolding(omf_record::specs::View::view))]
+fn put_last<A: Allocator + Copy>(
+    alloc: A,
+    plan: &Plan<'_, A>,
+    out: &mut Vec<u8, A>,
+) -> Result<(), AllocError>
+    requires { Fits (plan_view plan.now) }
+    ensures { OnOk result
+        (out.new.items ≡ out.old.items ++ records.records_bytes (records.last_records (plan_view plan.now))) }
+{
+    let segments = mark_segments(alloc, plan.data_end.part, plan.bss_end.part)?;
+    put_group(alloc, segments, out)?;
+    put_mark(alloc, &plan.data_end, out)?;
+    put_mark(alloc, &plan.bss_end, out)?;
+    let end = Record::Modend {
+        main: false,
+        start: None,
+    };
+    put_record(alloc, 0x8A, &end, out)?;
+    Ok(())
+}
+
+/// Appends the records of a plan.
+#[tactic(auto, unfolding(omf_record::specs::View::view))]
+pub(crate) fn put_module<A: Allocator + Copy>(
+    alloc: A,
+    plan: &Plan<'_, A>,
+    out: &mut Vec<u8, A>,
+) -> Result<(), AllocError>
+    requires { Fits (plan_view plan.now) }
+    ensures { OnOk result (out.new.items ≡ out.old.items ++ records.module_bytes (plan_view plan.now)) }
+{
+    put_record(alloc, 0x80, &Record::Theadr { name: b"doslink" }, out)?;
+    put_name(alloc, b"DGROUP", out)?;
+    put_parts(alloc, &plan.parts, out)?;
+    put_last(alloc, plan, out)?;
+    Ok(())
+}
