@@ -38,6 +38,8 @@ pub record Said : Type 0 where
   pub ignore_case : Bool
   pub order : SaidOrder
   pub default_libraries : Bool
+  pub keep_debug : Bool
+  pub packs_far_data : Bool
   pub verbose : Bool
   pub quiet : Bool
   pub warnings : List Warning
@@ -53,6 +55,8 @@ nothing = record {
   ignore_case = false;
   order = Meeting;
   default_libraries = true;
+  keep_debug = false;
+  packs_far_data = true;
   verbose = false;
   quiet = false;
   warnings = [];
@@ -85,6 +89,8 @@ said_of directives = record {
   ignore_case = directives.job.ignore_case;
   order = order_of directives.job.order;
   default_libraries = directives.job.default_libraries;
+  keep_debug = directives.job.keep_debug;
+  packs_far_data = directives.job.packs_far_data;
   verbose = directives.job.verbose;
   quiet = directives.job.quiet;
   warnings = directives.warnings.items;

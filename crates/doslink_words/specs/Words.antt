@@ -41,6 +41,10 @@ abbrev pub no_defaults_rule : Rule
 no_defaults_rule =
     record (new_rule (codes "no-default-libs")) { long = Some (codes "no-default-libs"); action = Some SetTrue }
 
+-- `--keep-debug`, a flag
+abbrev pub debug_rule : Rule
+debug_rule = record (new_rule (codes "keep-debug")) { long = Some (codes "keep-debug"); action = Some SetTrue }
+
 -- `-v`, a flag
 abbrev pub verbose_rule : Rule
 verbose_rule = record (new_rule (codes "verbose")) { short = Some 118; action = Some SetTrue }
@@ -67,7 +71,8 @@ files_command =
 -- the command `doslink`
 unfoldable pub doslink_command : App
 doslink_command =
-    with_rule (with_rule (with_rule (with_rule files_command case_rule) order_rule) no_defaults_rule) verbose_rule
+    with_rule (with_rule (with_rule (with_rule (with_rule files_command case_rule) order_rule) no_defaults_rule) debug_rule)
+    verbose_rule
 
 -- the values of an argument, none where it isn't given
 abbrev pub values_of : Text → List Row → List Text
@@ -95,6 +100,8 @@ pub record IsJobOf (rows : List Row) (job : Job) : Type 0 where
   pub ignore_case : IsFlag (codes "ignore-case") rows job.ignore_case
   pub order : order_of job.order ≡ order_asked (first_of (codes "ORDER") rows)
   pub default_libraries : IsFlag (codes "no-default-libs") rows (not job.default_libraries)
+  pub keep_debug : IsFlag (codes "keep-debug") rows job.keep_debug
+  pub packs_far_data : job.packs_far_data ≡ false
   pub verbose : IsFlag (codes "verbose") rows job.verbose
   pub quiet : job.quiet ≡ false
 

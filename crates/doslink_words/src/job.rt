@@ -23,6 +23,10 @@ pub struct Job<'a> {
     pub order: Order<'a>,
     /// Whether the libraries that modules name are searched too.
     pub default_libraries: bool,
+    /// Whether segments of debugging stay in the program.
+    pub keep_debug: bool,
+    /// Whether segments of class FAR_DATA share a frame where they fit in one, as under WLINK.
+    pub packs_far_data: bool,
     /// Whether what is done is told.
     pub verbose: bool,
     /// Whether nothing is told but faults.
@@ -106,6 +110,8 @@ impl<'a> Directives<'a> {
             ignore_case: false,
             order: Order::Meeting,
             default_libraries: true,
+            keep_debug: false,
+            packs_far_data: true,
             verbose: false,
             quiet: false,
         };

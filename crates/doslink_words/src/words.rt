@@ -124,6 +124,17 @@ fn no_defaults_flag<'a>(alloc: Global) -> Arg<'a>
         .help("Search no library that only a module names")
 }
 
+// Whether segments of debugging stay in the program.
+fn debug_flag<'a>(alloc: Global) -> Arg<'a>
+    ensures rule { rule_of result ≡ spec.debug_rule }
+    ensures local { result.global ≡ false }
+{
+    Arg::new(alloc, "keep-debug")
+        .long("keep-debug")
+        .action(ArgAction::SetTrue)
+        .help("Keep segments of the classes DEBSYM, DEBTYP and DWARF in the program")
+}
+
 // Whether what is done is told.
 fn verbose_flag<'a>(alloc: Global) -> Arg<'a>
     ensures rule { rule_of result ≡ spec.verbose_rule }
@@ -191,6 +202,7 @@ fn doslink_command<'a>(alloc: Global) -> Result<Command<'a>, AllocError>
     let command = with_arg(command, case_flag(alloc))?;
     let command = with_arg(command, order_option(alloc))?;
     let command = with_arg(command, no_defaults_flag(alloc))?;
+    let command = with_arg(command, debug_flag(alloc))?;
     with_arg(command, verbose_flag(alloc))
 }
 
@@ -277,6 +289,8 @@ fn job_of<'a>(alloc: Global, values: &ArgMatches<'a>) -> Result<Job<'a>, AllocEr
         ignore_case: values.get_flag("ignore-case"),
         order: order_asked(alloc, values.get_str("ORDER"))?,
         default_libraries: !values.get_flag("no-default-libs"),
+        keep_debug: values.get_flag("keep-debug"),
+        packs_far_data: false,
         verbose: values.get_flag("verbose"),
         quiet: false,
     })

@@ -31,7 +31,7 @@ format dos
 order clname CODE clname FAR_DATA clname BEGDATA segment _NULL segment _AFTERNULL clname DATA clname BSS clname STACK clname HEAP
 name hello.exe
 =>
-Ok(Directives { job: Job { files: ["rtl/large/prt0l.o"], out: Some("hello.exe"), map: None, folders: [], libraries: ["hello.a", "rtl/large/system.a"], ignore_case: false, order: Listed([Class("CODE"), Class("FAR_DATA"), Class("BEGDATA"), Segment("_NULL"), Segment("_AFTERNULL"), Class("DATA"), Class("BSS"), Class("STACK"), Class("HEAP")]), default_libraries: true, verbose: false, quiet: true }, warnings: [] })
+Ok(Directives { job: Job { files: ["rtl/large/prt0l.o"], out: Some("hello.exe"), map: None, folders: [], libraries: ["hello.a", "rtl/large/system.a"], ignore_case: false, order: Listed([Class("CODE"), Class("FAR_DATA"), Class("BEGDATA"), Segment("_NULL"), Segment("_AFTERNULL"), Class("DATA"), Class("BSS"), Class("STACK"), Class("HEAP")]), default_libraries: true, keep_debug: false, packs_far_data: true, verbose: false, quiet: true }, warnings: [] })
 
 
 # a comment with "a quote
@@ -56,7 +56,7 @@ map: Some(Beside)
 
 op quiet, map = "a b.map", dosseg, NODEFAULTLIBS
 =>
-map: Some(At("a b.map")), folders: [], libraries: [], ignore_case: false, order: Dosseg, default_libraries: false, verbose: false, quiet: true
+map: Some(At("a b.map")), folders: [], libraries: [], ignore_case: false, order: Dosseg, default_libraries: false, keep_debug: false, packs_far_data: true, verbose: false, quiet: true
 
 
 option ignorecase

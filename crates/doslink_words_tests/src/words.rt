@@ -21,7 +21,7 @@ fn hold<R: Abort>(rt: &R, alloc: Global, table: &str) {
 #[test]
 fn reads_words(rt: HostRuntime) {
     let table = r#"doslink A.OBJ =>
-Ok(Job { files: ["A.OBJ"], out: None, map: None, folders: [], libraries: [], ignore_case: false, order: Meeting, default_libraries: true, verbose: false, quiet: false })
+Ok(Job { files: ["A.OBJ"], out: None, map: None, folders: [], libraries: [], ignore_case: false, order: Meeting, default_libraries: true, keep_debug: false, packs_far_data: false, verbose: false, quiet: false })
 
 doslink -o P -m M A B =>
 files: ["A", "B"], out: Some("P"), map: Some(At("M"))
@@ -30,7 +30,10 @@ doslink -L X A -L Y -lC -l D.LIB B =>
 files: ["A", "B"], out: None, map: None, folders: ["X", "Y"], libraries: ["C", "D.LIB"],
 
 doslink --ignore-case -v A --no-default-libs =>
-ignore_case: true, order: Meeting, default_libraries: false, verbose: true, quiet: false
+ignore_case: true, order: Meeting, default_libraries: false, keep_debug: false, packs_far_data: false, verbose: true, quiet: false
+
+doslink --keep-debug A =>
+keep_debug: true, packs_far_data: false
 
 doslink --order DosSeg A =>
 order: Dosseg

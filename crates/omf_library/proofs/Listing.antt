@@ -6,7 +6,7 @@ use Rattle.std.specs.Borrow.{Bor}
 use Rattle.std.specs.Option.{option_map_or, option_map, option_copied}
 use Rattle.std.specs.Slice.{IsItemAt}
 use Rattle.std.proofs.lemmas.Option.{slice_get-map}
-use Rattle.omf_library.specs.inside.Views.{bytes_said}
+use Rattle.omf_library.specs.Said.{bytes_said}
 use Rattle.omf_library.specs.Entries.{entries_up_to, entries, listed_name}
 use Rattle.omf_library.specs.Names.{texts}
 

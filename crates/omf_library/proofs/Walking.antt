@@ -1,13 +1,14 @@
 -- What is left of a module's records while they are gone through.
-use Rattle.std.proofs.Common.{◌≡◌, ℕ, zero, suc, ◌+◌, ◌<◌, ◌≤◌, Bool, true, false, ◌||◌, List, [], ◌∷◌, ◌++◌, length, drop, slice_range, cond, is_some, Some, None, Ok, Err, refl, sym, ap, ◌∙◌, append_assoc, arith}
+use Rattle.std.proofs.Common.{◌≡◌, ℕ, zero, suc, ◌+◌, ◌<◌, ◌≤◌, Bool, true, false, ◌||◌, List, [], ◌∷◌, ◌++◌, length, drop, map, slice_range, cond, is_some, Some, None, Ok, Err, refl, sym, ap, ◌∙◌, append_assoc, arith}
 use Rattle.std.specs.declared.option.Option.{Option}
 use Rattle.std.specs.declared.result.Result.{Result}
 use Rattle.std.specs.Option.{option_map_or, option_or}
 use Rattle.std.specs.Result.{result_ok}
 use Rattle.std.specs.List.{flat_map, list_any}
-use Rattle.std.proofs.lemmas.List.{append-nil}
+use Rattle.std.proofs.lemmas.List.{append-nil, map-append}
 use Rattle.std.proofs.Math.Seq.{drop-length}
 use Rattle.omf_frame.specs.Frame.{Frame, frame_of}
+use Rattle.omf_frame.specs.Lending.{plain_frame}
 use Rattle.omf_library.specs.declared.fault.FormatFault.TheVariants.{Truncated}
 use Rattle.omf_library.specs.declared.fault.LibraryFault.{LibraryFault}
 use Rattle.omf_library.specs.declared.fault.LibraryFault.TheVariants.{Malformed}
@@ -15,7 +16,7 @@ use Rattle.omf_library.specs.Records.{record_or_fault, record_at, place_behind, 
 use Rattle.std.specs.Borrow.{Bor}
 use Rattle.omf_library.specs.Names.{texts, said_by, listed_in, wanted_in, offered_in, library_in, wanted_names, offered_names, library_names, asks_dosseg}
 use Rattle.omf_library.specs.Library.{first_said, name_of, name_in, member_between, member_at}
-use Rattle.omf_library.specs.inside.Views.{bytes_said, record_said}
+use Rattle.omf_library.specs.Said.{bytes_said, record_said}
 use Rattle.omf_frame.specs.declared.frame.Frame.{Frame as LentFrame}
 
 -- ---- the next record, and none
@@ -210,6 +211,65 @@ pub names_stop : (file : List ℕ) (place : ℕ) (listed wanted offered librarie
 names_stop file place listed wanted offered libraries dosseg (Ok f) left is other = absurd (other f refl)
 names_stop file place listed wanted offered libraries dosseg (Err e) left is other =
     names_none file place listed wanted offered libraries dosseg e left (sym is)
+
+-- ---- the records of a module
+
+-- the records that were listed, and those that are left, make all of the module
+pub record FramesLeft (file : List ℕ) (place : ℕ) (listed : List LentFrame) : Type 0 where
+  pub within : place ≤ length file
+  pub most : ℕ
+  pub enough : length file ≤ place + most
+  pub all : map plain_frame listed ++ records_up_to most file place ≡ module_records file 0
+
+pub frames_first : (file : List ℕ) (listed : List LentFrame) → listed ≡ [] → FramesLeft file 0 listed
+unfolding module_records
+frames_first file listed e = record {
+  within = omega arith;
+  most = length file;
+  enough = omega arith;
+  all = ap (λ (fs : List LentFrame). map plain_frame fs ++ records_up_to (length file) file 0) e;
+}
+
+-- what was read is no record
+pub frames_stop : (file : List ℕ) (place : ℕ) (listed : List LentFrame) (r : Result LentFrame LibraryFault)
+    → FramesLeft file place listed → record_said r ≡ record_at file place → ((f : LentFrame) → r ≡ Ok f → ⊥)
+    → map plain_frame listed ≡ module_records file 0
+frames_stop file place listed (Ok f) left is other = absurd (other f refl)
+frames_stop file place listed (Err e) left is other =
+    sym (append-nil (map plain_frame listed)) ∙ ap (λ fs. map plain_frame listed ++ fs) (sym (records-none left.most file place e (sym is))) ∙ left.all
+
+frames_with : (file : List ℕ) (place most' : ℕ) (listed more : List LentFrame) (f : LentFrame) (t : Bool)
+    → (left : FramesLeft file place listed) → left.most ≡ suc most' → more ≡ listed ++ f ∷ [] → Ok (plain_frame f) ≡ record_at file place → ends_module f.kind ≡ t
+    → map plain_frame more ++ cond t [] (records_up_to most' file (place_behind (plain_frame f))) ≡ module_records file 0
+frames_with file place most' listed more f t left e pushed is ends =
+    let rest = cond t [] (records_up_to most' file (place_behind (plain_frame f))) in
+    ap (λ (fs : List LentFrame). map plain_frame fs ++ rest) pushed
+    ∙ ap (λ fs. fs ++ rest) (map-append plain_frame listed (f ∷ []))
+    ∙ append_assoc (map plain_frame listed) (plain_frame f ∷ []) rest
+    ∙ ap (λ fs. map plain_frame listed ++ fs) (sym (ap (λ n. records_up_to n file place) e ∙ records-next most' file place (plain_frame f) t (sym is) ends))
+    ∙ left.all
+
+-- the last record
+pub frames_last : (file : List ℕ) (place : ℕ) (listed more : List LentFrame) (f : LentFrame)
+    → FramesLeft file place listed → more ≡ listed ++ f ∷ [] → Ok (plain_frame f) ≡ record_at file place → ends_module f.kind ≡ true → place < length file
+    → map plain_frame more ≡ module_records file 0
+frames_last file place listed more f left pushed is ends within =
+    let p = pred_of left.most 0 (omega (arith, left.enough)) in
+    sym (append-nil (map plain_frame more)) ∙ frames_with file place p.0 listed more f true left p.1 pushed is ends
+
+-- one record more
+pub frames_more : (file : List ℕ) (place next : ℕ) (listed more : List LentFrame) (f : LentFrame)
+    → FramesLeft file place listed → more ≡ listed ++ f ∷ [] → Ok (plain_frame f) ≡ record_at file place → ends_module f.kind ≡ false
+    → next ≡ place_behind (plain_frame f) → next ≤ length file → place < next
+    → FramesLeft file next more
+frames_more file place next listed more f left pushed is goes e within behind =
+    let p = pred_of left.most 0 (omega (arith, left.enough)) in
+    record {
+      within = within;
+      most = p.0;
+      enough = omega (arith, p.1, left.enough, behind);
+      all = ap (λ k. map plain_frame more ++ records_up_to p.0 file k) e ∙ frames_with file place p.0 listed more f false left p.1 pushed is goes;
+    }
 
 -- ---- the end and the name of a member
 

@@ -1,4 +1,5 @@
 pub mod Fields
+pub mod Said
 pub mod Records
 pub mod Entries
 pub mod Names

@@ -5,7 +5,8 @@ ghost use Rattle.std.specs.List.{before_first};
 ghost use Rattle.omf_library.specs.Archive.{at_place, entry_of, is_table, without_slash, long_name, member_name};
 ghost use Rattle.omf_library.specs.Archive.{archive_members, table_behind, modules_of};
 ghost use Rattle.omf_library.specs.Files.{AreMembers, IsFault, IsPart};
-ghost use Rattle.omf_library.specs.inside.Views.{bytes_said, entry_said, plain_entry, IsContent, Pushed};
+ghost use Rattle.omf_library.specs.Said.{bytes_said};
+ghost use Rattle.omf_library.specs.inside.Views.{entry_said, plain_entry, IsContent, Pushed};
 
 use crate::fault::{FormatFault, LibraryFault};
 use crate::files::Member;

@@ -5,7 +5,8 @@ ghost use Rattle.std.specs.List.{filter_map};
 ghost use Rattle.omf_library.specs.Entries.{entries, communal_front, behind_base, listed_name};
 ghost use Rattle.omf_library.specs.Entries.{behind_allocation, comdat_index, comdat_name};
 ghost use Rattle.omf_library.specs.Names.{texts};
-ghost use Rattle.omf_library.specs.inside.Views.{bytes_said, name_said, number_said, entry_front};
+ghost use Rattle.omf_library.specs.Said.{bytes_said, name_said, number_said};
+ghost use Rattle.omf_library.specs.inside.Views.{entry_front};
 
 use crate::fields::{take_bytes, take_index, take_name};
 use std::alloc::{AllocError, Allocator};
@@ -67,7 +68,7 @@ pub(crate) fn push_names<'a, A: Allocator + Copy>(
 }
 
 /// The name with this index in a list of names, whose first has index 1. None where there is none.
-pub(crate) fn listed_name<'a>(listed: &[&'a [u8]], index: u16) -> Option<&'a [u8]>
+pub fn listed_name<'a>(listed: &[&'a [u8]], index: u16) -> Option<&'a [u8]>
     ensures { bytes_said result ≡ listed_name (texts listed.now) index }
 {
     if index == 0 {

@@ -2,12 +2,12 @@
 
 ghost use Rattle.std.specs.Prelude.{◌≡◌, ◌<◌, ◌≤◌, length, IfSome};
 ghost use Rattle.omf_library.specs.Fields.{bytes_front, name_front, index_front};
-ghost use Rattle.omf_library.specs.inside.Views.{name_said, number_said};
+ghost use Rattle.omf_library.specs.Said.{name_said, number_said};
 
 use omf_frame::{read_index, read_name};
 
 /// So many bytes at the front of the bytes. None where there are fewer.
-pub(crate) fn take_bytes(bytes: &[u8], count: usize) -> Option<(&[u8], &[u8])>
+pub fn take_bytes(bytes: &[u8], count: usize) -> Option<(&[u8], &[u8])>
     ensures said { name_said result ≡ bytes_front count bytes.now }
     ensures no_longer { IfSome result (λ x. length x.1.now ≤ length bytes.now) }
 {
@@ -18,7 +18,7 @@ pub(crate) fn take_bytes(bytes: &[u8], count: usize) -> Option<(&[u8], &[u8])>
 }
 
 /// The name at the front of the bytes. None where the bytes end inside it.
-pub(crate) fn take_name(bytes: &[u8]) -> Option<(&[u8], &[u8])>
+pub fn take_name(bytes: &[u8]) -> Option<(&[u8], &[u8])>
     ensures name { name_said result ≡ name_front bytes.now }
     ensures shorter { IfSome result (λ x. length x.1.now < length bytes.now) }
 {
@@ -27,7 +27,7 @@ pub(crate) fn take_name(bytes: &[u8]) -> Option<(&[u8], &[u8])>
 }
 
 /// The index at the front of the bytes. None where the bytes end inside it.
-pub(crate) fn take_index(bytes: &[u8]) -> Option<(u16, &[u8])>
+pub fn take_index(bytes: &[u8]) -> Option<(u16, &[u8])>
     ensures index { number_said result ≡ index_front bytes.now }
     ensures shorter { IfSome result (λ x. length x.1.now < length bytes.now) }
 {

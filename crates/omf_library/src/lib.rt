@@ -11,6 +11,9 @@ mod names;
 mod number;
 mod records;
 
+pub use entries::listed_name;
 pub use fault::{FormatFault, LibraryFault};
+pub use fields::{take_bytes, take_index, take_name};
 pub use files::{FileKind, Member, file_kind, members};
-pub use names::{ModuleNames, module_names};
+pub use names::{ModuleNames, module_names, push_listed};
+pub use records::{ends_module, module_frames, record_at};

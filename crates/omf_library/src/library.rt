@@ -3,7 +3,8 @@
 ghost use Rattle.std.specs.Prelude.{◌≡◌, ◌≤◌, length, All, IfOk, MatchResult};
 ghost use Rattle.omf_library.specs.Library.{page_size, libmod_name, name_of, member_at, library_members};
 ghost use Rattle.omf_library.specs.Files.{AreMembers, IsFault, IsPart};
-ghost use Rattle.omf_library.specs.inside.Views.{bytes_said, member_said, IsMember};
+ghost use Rattle.omf_library.specs.Said.{bytes_said};
+ghost use Rattle.omf_library.specs.inside.Views.{member_said, IsMember};
 
 use crate::fault::{FormatFault, LibraryFault};
 use crate::files::Member;

@@ -35,7 +35,7 @@ pub struct ModuleNames<'a, A: Allocator + Copy = Global> {
 
 /// Appends the names that a record adds to the list of names: LNAMES and LLNAMES.
 #[tactic(auto, unfolding(crate::specs::Names::listed_in))]
-fn push_listed<'a, A: Allocator + Copy>(
+pub fn push_listed<'a, A: Allocator + Copy>(
     frame: &Frame<'a>,
     listed: &mut Vec<&'a [u8], A>,
 ) -> Result<(), AllocError>

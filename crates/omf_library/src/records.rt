@@ -1,17 +1,19 @@
 //! The records of a file in memory (TIS OMF 1.1, "Record Format").
 
-ghost use Rattle.std.specs.Prelude.{◌≡◌, ◌+◌, ◌≤◌, length, IfOk};
-ghost use Rattle.omf_library.specs.Records.{record_at, ends_module, comment_text, header_name};
-ghost use Rattle.omf_library.specs.inside.Views.{bytes_said, record_said, IsSplit};
+ghost use Rattle.std.specs.Prelude.{◌≡◌, ◌+◌, ◌≤◌, length, map, IfOk};
+ghost use Rattle.omf_library.specs.Records.{record_at, ends_module, comment_text, header_name, module_records};
+ghost use Rattle.omf_library.specs.Said.{bytes_said, record_said};
+ghost use Rattle.omf_library.specs.inside.Views.{IsSplit};
 ghost use Rattle.omf_frame.specs.Lending.{plain_frame};
 
 use crate::fault::{FormatFault, LibraryFault};
 use crate::fields::take_name;
 use omf_frame::{Frame, closing};
+use std::alloc::{AllocError, Allocator};
 
 /// The record that begins at the place of the file, which is no greater than the file's length; else what is wrong
 /// with it. Where the file ends before it, it is cut off.
-pub(crate) fn record_at(file: &[u8], place: usize) -> Result<Frame<'_>, LibraryFault>
+pub fn record_at(file: &[u8], place: usize) -> Result<Frame<'_>, LibraryFault>
     requires { place ≤ length file.now }
     ensures said { record_said result ≡ record_at file.now place }
     ensures place { IfOk result (λ f. f.place ≡ place) }
@@ -47,7 +49,7 @@ fn split_record(bytes: &[u8]) -> Result<(u8, &[u8]), FormatFault>
 }
 
 /// Whether a record of this type ends a module: MODEND, 8AH or 8BH.
-pub(crate) fn ends_module(kind: u8) -> bool
+pub fn ends_module(kind: u8) -> bool
     ensures { result ≡ ends_module kind }
 {
     kind == 0x8A || kind == 0x8B
@@ -74,4 +76,26 @@ pub(crate) fn header_name<'a>(frame: &Frame<'a>) -> Option<&'a [u8]>
     }
     let (name, _) = take_name(frame.body)?;
     Some(name)
+}
+
+/// The records of the module whose records begin the bytes, up to the first that ends a module, or before the first
+/// that is at fault.
+pub fn module_frames<'a, A: Allocator + Copy>(
+    alloc: A,
+    bytes: &'a [u8],
+) -> Result<Vec<Frame<'a>, A>, AllocError>
+    ensures { IfOk result (λ v. map plain_frame v.items ≡ module_records bytes.now 0) }
+{
+    let mut frames = Vec::new(alloc);
+    let mut place = 0;
+    loop {
+        let Ok(frame) = record_at(bytes, place) else {
+            return Ok(frames);
+        };
+        frames.push(frame)?;
+        if ends_module(frame.kind) {
+            return Ok(frames);
+        }
+        place += frame.body.len() + 4;
+    }
 }

@@ -1,12 +1,9 @@
 -- Answers of the program without where their bytes lie in memory.
-use Rattle.std.specs.Prelude.{◌≡◌, ℕ, ◌+◌, ◌≤◌, ◌<◌, List, ◌++◌, length, map, slice_range, All, IfOk, Some, None, Ok}
-use Rattle.std.specs.Prelude.{Err}
+use Rattle.std.specs.Prelude.{◌≡◌, ℕ, ◌+◌, ◌≤◌, ◌<◌, List, ◌++◌, length, map, slice_range, All, IfOk, Ok, Err}
 use Rattle.std.specs.declared.option.Option.{Option}
 use Rattle.std.specs.declared.result.Result.{Result}
 use Rattle.std.specs.Borrow.{Bor}
 use Rattle.omf_frame.specs.Frame.{Frame, frame_of}
-use Rattle.omf_frame.specs.Lending.{plain_frame}
-use Rattle.omf_frame.specs.declared.frame.Frame.{Frame as LentFrame}
 use Rattle.omf_library.specs.declared.fault.FormatFault.{FormatFault}
 use Rattle.omf_library.specs.declared.fault.LibraryFault.{LibraryFault}
 use Rattle.omf_library.specs.declared.entries.Entry.{Entry}
@@ -19,26 +16,6 @@ use Rattle.omf_library.specs.Entries.{external_front, public_front, alias_front,
 use Rattle.omf_library.specs.Members.{PlainMember, plain_member}
 use Rattle.omf_library.specs.Archive.{PlainEntry, at_place}
 use Rattle.omf_library.specs.Files.{IsPart}
-
--- bytes
-abbrev pub bytes_said : Option (Bor (List ℕ)) → Option (List ℕ)
-bytes_said None = None
-bytes_said (Some x) = Some x.now
-
--- bytes, and the bytes behind a field
-abbrev pub name_said : Option (Bor (List ℕ) × Bor (List ℕ)) → Option (List ℕ × List ℕ)
-name_said None = None
-name_said (Some (x, rest)) = Some (x.now, rest.now)
-
--- a number, and the bytes behind its field
-abbrev pub number_said : Option (ℕ × Bor (List ℕ)) → Option (ℕ × List ℕ)
-number_said None = None
-number_said (Some (n, rest)) = Some (n, rest.now)
-
--- a record
-abbrev pub record_said : Result LentFrame LibraryFault → Result Frame LibraryFault
-record_said (Ok f) = Ok (plain_frame f)
-record_said (Err e) = Err e
 
 -- a record's type and body, at this place
 abbrev pub split_said : ℕ → Result (ℕ × Bor (List ℕ)) FormatFault → Result Frame FormatFault

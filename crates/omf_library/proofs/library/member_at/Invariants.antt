@@ -1,5 +1,5 @@
 use Rattle.std.proofs.Common.{◌-◌, length}
-use Rattle.omf_library.specs.inside.Views.{bytes_said}
+use Rattle.omf_library.specs.Said.{bytes_said}
 use Rattle.omf_library.proofs.Walking.{ModuleLeft}
 use Rattle.omf_library.proofs.library.member_at.Given as goal
 

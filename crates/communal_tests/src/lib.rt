@@ -1,0 +1,9 @@
+//! Communal variables: what modules declare, what a program has of them, and the module that has them.
+#![tactic(auto)]
+
+#[cfg(test)]
+mod cases;
+#[cfg(test)]
+mod growths;
+#[cfg(test)]
+mod told;

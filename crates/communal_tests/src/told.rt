@@ -1,0 +1,268 @@
+//! What is told of communal variables, as text.
+
+use omf_communal::{
+    ClashFault, Communal, CommunalFault, Declaring, Extent, PlanFault, Variable, communal_module,
+    communals, has_bss, variables,
+};
+use omf_library::{ModuleNames, module_names};
+use omf_module::{Module, ModuleFault, Standing, SymbolBase};
+use omf_place::Names;
+use rows::{read_modules, read_row};
+use std::alloc::{AllocError, Allocator, Global};
+use std::process::Abort;
+use std::test::*;
+
+/// What is told of the modules of a row.
+#[derive(Clone, Copy, PartialEq, Eq)]
+pub enum Asked {
+    /// What each declares.
+    Communals,
+    /// The variables that they have together.
+    Variables(Names),
+    /// The module that has these.
+    Module { in_bss: bool },
+    /// Whether one of them has `_BSS` in DGROUP.
+    Bss,
+}
+
+/// What a module declares and offers.
+#[derive(Drop)]
+struct Read<'a, A: Allocator + Copy> {
+    communals: Vec<Communal<'a>, A>,
+    names: ModuleNames<'a, A>,
+}
+
+/// Appends a name, as text.
+fn push_text(text: &mut String, name: &[u8]) -> Result<(), AllocError> {
+    for byte in name {
+        text.push(char::from(*byte))?;
+    }
+    Ok(())
+}
+
+/// Appends a variable, as text.
+fn push_extent(text: &mut String, name: &[u8], extent: Extent) -> Result<(), AllocError> {
+    push_text(text, name)?;
+    match extent {
+        Extent::Near { length } => write!(text, " near {length}; "),
+        Extent::Far { count, size } => write!(text, " far {count} of {size}; "),
+    }
+}
+
+/// What a module declares, with the place of its record.
+fn told_communals<A: Allocator + Copy>(
+    alloc: A,
+    text: &mut String,
+    bytes: &[u8],
+) -> Result<(), AllocError> {
+    match communals(alloc, bytes) {
+        Ok(told) => {
+            for each in &told {
+                let place = each.place;
+                write!(text, "{place} ")?;
+                push_extent(text, each.name, each.extent)?;
+            }
+            Ok(())
+        }
+        Err(fault) => write!(text, "{fault}"),
+    }
+}
+
+/// What modules declare and offer.
+fn read_all<'a, A: Allocator + Copy>(
+    alloc: A,
+    inputs: &'a [Vec<u8>],
+) -> Result<Vec<Read<'a, A>, A>, CommunalFault> {
+    let mut all = Vec::new(alloc);
+    for bytes in inputs {
+        let communals = communals(alloc, bytes)?;
+        let names = module_names(alloc, bytes)?;
+        all.push(Read { communals, names })?;
+    }
+    Ok(all)
+}
+
+/// The variables of modules.
+fn decided<'a, A: Allocator + Copy>(
+    alloc: A,
+    names: Names,
+    all: &[Read<'a, A>],
+) -> Result<Vec<Variable<'a>, A>, ClashFault> {
+    let mut declaring = Vec::new(alloc);
+    for each in all {
+        declaring.push(Declaring {
+            communals: each.communals.as_slice(),
+            offered: each.names.offered.as_slice(),
+        })?;
+    }
+    variables(alloc, names, &declaring)
+}
+
+/// The variables of modules, or the clash.
+fn told_variables<A: Allocator + Copy>(
+    alloc: A,
+    text: &mut String,
+    names: Names,
+    all: &[Read<'_, A>],
+) -> Result<(), AllocError> {
+    match decided(alloc, names, all) {
+        Ok(told) => {
+            for each in &told {
+                push_extent(text, each.name, each.extent)?;
+            }
+            Ok(())
+        }
+        Err(ClashFault::NearAndFar { first, other })
+        | Err(ClashFault::ElementSizes { first, other }) => {
+            let (one, two) = (first.module, other.module);
+            let (three, four) = (first.communal, other.communal);
+            write!(text, "{one}.{three} {two}.{four}")
+        }
+        Err(fault) => write!(text, "{fault}"),
+    }
+}
+
+/// Appends the segments of a module: name, class, alignment, length.
+fn push_segments(text: &mut String, from: &Module) -> Result<(), AllocError> {
+    for index in 0..from.segment_count() {
+        let segment = from.segment(index);
+        push_text(text, segment.name)?;
+        text.push('.')?;
+        push_text(text, segment.class)?;
+        if let Standing::Relocatable { alignment, kind } = segment.standing {
+            write!(text, " {alignment} {kind:?}")?;
+        }
+        let length = segment.length;
+        write!(text, " {length}; ")?;
+    }
+    Ok(())
+}
+
+/// Appends the groups of a module: name and members.
+fn push_groups(text: &mut String, from: &Module) -> Result<(), AllocError> {
+    for index in 0..from.group_count() {
+        let group = from.group(index);
+        push_text(text, group.name)?;
+        for member in group.members {
+            write!(text, " {member}")?;
+        }
+        text.push_str("; ")?;
+    }
+    Ok(())
+}
+
+/// Appends the public names of a module: segment, group and offset.
+fn push_publics(text: &mut String, from: &Module) -> Result<(), AllocError> {
+    for index in 0..from.public_symbol_count() {
+        let public = from.public_symbol(index);
+        push_text(text, public.name)?;
+        let offset = public.offset;
+        match public.base {
+            SymbolBase::InSegment(segment, Some(group)) => {
+                write!(text, " {segment}:{offset} of {group}; ")?
+            }
+            SymbolBase::InSegment(segment, None) => write!(text, " {segment}:{offset}; ")?,
+            SymbolBase::AtFrame(frame) => write!(text, " at {frame}; ")?,
+        }
+    }
+    Ok(())
+}
+
+/// What the module of these bytes says.
+fn reread(alloc: Global, text: &mut String, bytes: &[u8]) -> Result<(), AllocError> {
+    let mut inputs = Vec::new(alloc);
+    inputs.push(Vec::from_slice(alloc, bytes)?)?;
+    match read_modules(alloc, &inputs) {
+        Ok(modules) => {
+            for made in &modules {
+                push_segments(text, made)?;
+                push_groups(text, made)?;
+                push_publics(text, made)?;
+                if made.external_count() != 0 || made.data_record_count() != 0 {
+                    text.push_str("and more")?;
+                }
+            }
+            Ok(())
+        }
+        Err(ModuleFault::Memory) => text.push_str("memory"),
+        Err(ModuleFault::Record { place, kind: _ }) => write!(text, "fault at {place}"),
+    }
+}
+
+/// The module that has the variables of modules.
+fn told_module<A: Allocator + Copy>(
+    alloc: A,
+    words: Global,
+    text: &mut String,
+    in_bss: bool,
+    all: &[Read<'_, A>],
+) -> Result<(), AllocError> {
+    let variables = match decided(alloc, Names::Exact, all) {
+        Ok(variables) => variables,
+        Err(fault) => return write!(text, "{fault}"),
+    };
+    match communal_module(alloc, &variables, in_bss) {
+        Ok(None) => text.push_str("none"),
+        Ok(Some(bytes)) => reread(words, text, &bytes),
+        Err(PlanFault::NearTooLong { variable }) => write!(text, "57 {variable}"),
+        Err(PlanFault::CutElement { variable }) => write!(text, "58 {variable}"),
+        Err(PlanFault::TooManySegments { variable }) => write!(text, "59 {variable}"),
+        Err(PlanFault::Memory) => text.push_str("no memory"),
+    }
+}
+
+/// Whether a module has the segment `_BSS` in DGROUP.
+fn told_bss(alloc: Global, text: &mut String, inputs: &[Vec<u8>]) -> Result<(), AllocError> {
+    match read_modules(alloc, inputs) {
+        Ok(modules) => {
+            let has = has_bss(&modules);
+            write!(text, "{has}")
+        }
+        Err(_) => text.push_str("no module"),
+    }
+}
+
+/// What is told of modules.
+pub fn told<A: Allocator + Copy>(
+    alloc: A,
+    words: Global,
+    asked: Asked,
+    inputs: &[Vec<u8>],
+) -> Result<String, AllocError> {
+    let mut text = String::new(words);
+    match asked {
+        Asked::Bss => told_bss(words, &mut text, inputs)?,
+        Asked::Communals => {
+            for bytes in inputs {
+                told_communals(alloc, &mut text, bytes)?;
+            }
+        }
+        Asked::Variables(names) => match read_all(alloc, inputs) {
+            Ok(all) => told_variables(alloc, &mut text, names, &all)?,
+            Err(fault) => write!(text, "{fault}")?,
+        },
+        Asked::Module { in_bss } => match read_all(alloc, inputs) {
+            Ok(all) => told_module(alloc, words, &mut text, in_bss, &all)?,
+            Err(fault) => write!(text, "{fault}")?,
+        },
+    }
+    if text.is_empty() {
+        text.push_str("nothing")?;
+    }
+    Ok(text)
+}
+
+/// What is told is what is wanted.
+pub fn same<R: Abort>(rt: &R, told: &str, wanted: &str) {
+    assert_eq!(rt; told.trim_ascii(), wanted.trim_ascii());
+}
+
+/// Tries each row of a table.
+pub fn run<R: Abort>(rt: &R, alloc: Global, asked: Asked, table: &str) -> Result<(), Fail> {
+    for row in table.split("\n\n") {
+        let row = read_row(alloc, row)?;
+        let text = told(alloc, alloc, asked, &row.inputs)?;
+        same(rt, text.as_str(), row.wanted);
+    }
+    Ok(())
+}

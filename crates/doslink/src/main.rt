@@ -1,0 +1,64 @@
+//! The program `doslink`: its words, its streams and its exit status.
+#![tactic(auto)]
+
+ghost use Rattle.std.specs.Prelude.{◌≡◌, ◌-◌, ◌^◌, ◌<◌};
+ghost use Rattle.omf_files.specs.Files.{sink_failures};
+
+use doslink_jobs::{Language, language_of, library_folders, out_of_memory, run_words, wrong_words};
+use omf_files::BufferedSink;
+use omf_frame::{Sink, WriteSink};
+use std::env::{self, VarError};
+use std::io::{ErrorKind, Write};
+use std::process::ExitCode;
+
+fn main(rt: HostRuntime) -> ExitCode {
+    ExitCode::from(run(&rt))
+}
+
+// Does what the words after the program's name ask for, and hands out the exit status.
+fn run(rt: &HostRuntime) -> u8 {
+    let mut errors = WriteSink::new(rt.stderr());
+    let Ok(mut output) = BufferedSink::new(rt.alloc(), rt.stdout()) else {
+        return out_of_memory(&mut errors);
+    };
+    let arguments = match env::args(rt) {
+        Ok(arguments) => arguments,
+        Err(error) if error.kind() == ErrorKind::OutOfMemory => return out_of_memory(&mut errors),
+        // a word is no text
+        Err(_) => return wrong_words("doslink: wrong words\n", &mut errors),
+    };
+    let Ok(arguments) = arguments.collect::<Vec<String>>(rt.alloc()) else {
+        return out_of_memory(&mut errors);
+    };
+    let words = arguments.iter().map(|word| word.as_str());
+    match words.collect::<Vec<&str>>(rt.alloc()) {
+        Ok(words) => run_arguments(rt, &words, &mut output, &mut errors),
+        Err(_) => out_of_memory(&mut errors),
+    }
+}
+
+// Does what the program's name and the words after it ask for, and hands out the exit status.
+fn run_arguments<O: Write + Drop, E: Sink>(
+    rt: &HostRuntime,
+    arguments: &[&str],
+    output: &mut BufferedSink<O>,
+    errors: &mut E,
+) -> u8
+    requires output { sink_failures output.old ≡ 0 }
+    requires errors { E.failures errors.old < 2 ^ 64 - 1 }
+{
+    let (language, words) = match arguments {
+        [program, words @ ..] => (language_of(program), words),
+        [] => (Language::Words, arguments),
+    };
+    // where LIB is missing or no text it names no folder
+    let list = match env::var(rt, "LIB") {
+        Ok(list) => list,
+        Err(VarError::OutOfMemory) => return out_of_memory(errors),
+        Err(_) => String::new(rt.alloc()),
+    };
+    match library_folders(rt.alloc(), list.as_str()) {
+        Ok(folders) => run_words(rt.alloc(), rt, language, words, &folders, output, errors),
+        Err(_) => out_of_memory(errors),
+    }
+}

@@ -1,0 +1,7 @@
+use Rattle.std.proofs.Common.{map, take}
+use Rattle.doslink_files.specs.Files.{AreTold, contents}
+use Rattle.doslink_files.proofs.reading.read_files.Given as goal
+
+abbrev pub invariant-loop-path : goal.invariant-loop-path
+invariant-loop-path g l =
+    AreTold (g.W.World.bytes l.fn.world) (map (λ p. p.now) (take l.path-index l.fn.paths)) (contents l.files.items)

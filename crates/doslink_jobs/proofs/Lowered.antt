@@ -1,0 +1,35 @@
+-- Modules that are lowered, one behind the other.
+use Rattle.std.proofs.Common.{◌≡◌, ℕ, ◌+◌, ◌<◌, List, [], ◌∷◌, ◌++◌, length, map, take, get_or, Some, None, Result, Ok, sym, ap, ap₂, ◌∙◌, Vec}
+use Rattle.std.proofs.lemmas.List.{map-append, take_more}
+use Rattle.std.specs.declared.option.Option.{Option}
+use Rattle.std.specs.Option.{option_map_or}
+use Rattle.omf_lower.specs.declared.fault.LoweringFault.{LoweringFault}
+use Rattle.omf_lower.specs.declared.lowering.Lowering.{Lowering}
+use Rattle.omf_lower.specs.Module.{Answers, lowered}
+use Rattle.doslink_stock.specs.declared.searching.Handed.{Handed}
+use Rattle.doslink_stock.specs.Seen.{handed_held}
+use Rattle.doslink_jobs.specs.declared.lowering.LoweredModule.{LoweredModule}
+use Rattle.doslink_jobs.specs.Jobs.{AreLowered}
+use Rattle.doslink_jobs.specs.inside.Inputs.{lowered_bytes}
+
+-- what is linked of a module is the module lowered
+pub answer-lowered : {A : Type 0} (own : List ℕ) (stands : Result (List ℕ) LoweringFault) (o : Option (Vec ℕ A))
+    → Answers own stands (Ok o) → stands ≡ Ok (option_map_or (λ v. v.items) o own)
+answer-lowered own stands None is = is
+answer-lowered own stands (Some v) is = is
+
+-- the next module
+pub lowered-next : {A : Type 0} (lowering : Lowering) (handed : List (Handed A)) (i : ℕ) (d : Handed A)
+    (old new : List (LoweredModule A)) (one : LoweredModule A) → i < length handed
+    → AreLowered lowering (map (λ h. (handed_held h).bytes) (take i handed)) (map lowered_bytes old)
+    → lowered lowering (handed_held (get_or handed i d)).bytes ≡ Ok (lowered_bytes one) → new ≡ old ++ one ∷ []
+    → AreLowered lowering (map (λ h. (handed_held h).bytes) (take (i + 1) handed)) (map lowered_bytes new)
+lowered-next {A} lowering handed i d old new one h are is pushed =
+    let bytes = λ (h : Handed A). (handed_held h).bytes in
+    let front : map bytes (take (i + 1) handed) ≡ map bytes (take i handed) ++ bytes (get_or handed i d) ∷ [] =
+    ap (map bytes) (take_more handed i d h) ∙ map-append bytes (take i handed) (get_or handed i d ∷ []) in
+    let back : map lowered_bytes new ≡ map lowered_bytes old ++ lowered_bytes one ∷ [] =
+    ap (map lowered_bytes) pushed ∙ map-append lowered_bytes old (one ∷ []) in
+    ap (map (lowered lowering)) front ∙ map-append (lowered lowering) (map bytes (take i handed)) (bytes (get_or handed i d) ∷ [])
+    ∙ ap₂ (λ l r. l ++ r ∷ []) are is ∙ sym (map-append Ok (map lowered_bytes old) (lowered_bytes one ∷ []))
+    ∙ sym (ap (map Ok) back)

@@ -1,0 +1,13 @@
+use Rattle.std.proofs.Common.{sym, ap, ◌∙◌}
+use Rattle.omf_lower.specs.Module.{lowered}
+use Rattle.doslink_stock.specs.Seen.{handed_held}
+use Rattle.doslink_jobs.proofs.Lowered.{answer-lowered, lowered-next}
+use Rattle.doslink_jobs.proofs.lowering.lower_modules.Goals as goal
+
+pub loop-each-preserved : goal.loop-each-preserved
+loop-each-preserved g c =
+    lowered-next c.args.lowering c.args.taken.now.handed.now c.loop-each.each-index c.each-item.result
+    c.loop-each.modules.items c.push.new.self.items _ c.loop-each-test.true c.loop-each.invariant
+    (ap (λ h. lowered c.args.lowering (handed_held h).bytes) (sym c.each-item.is)
+    ∙ answer-lowered _ _ c.in-Ok.lowered c.in-Ok.ensures)
+    c.in_ok-push-in-Ok.ensures.items

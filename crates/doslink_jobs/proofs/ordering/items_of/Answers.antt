@@ -1,0 +1,12 @@
+use Rattle.std.proofs.Common.{rules, ◌≡◌, ◌<◌, ◌++◌, ◌∷◌, [], length}
+use Rattle.doslink_stock.proofs.Walks.{map-step}
+use Rattle.doslink_words.specs.Said.{item_of}
+use Rattle.doslink_jobs.specs.Orders.{item_said}
+use Rattle.doslink_jobs.proofs.ordering.items_of.Goals as goal
+
+pub loop-each-preserved : goal.loop-each-preserved
+loop-each-preserved g c =
+    let here : c.loop-each.each-index < length c.args.list.now = search rules in
+    let pushed : c.push.new.self.items ≡ c.loop-each.items.items ++ c.item_of-item.result ∷ [] = search rules in
+    map-step item_said item_of c.args.list.now c.loop-each.each-index _ c.loop-each.items.items _ c.item_of-item.result
+    here pushed c.item_of-item.ensures c.loop-each.invariant

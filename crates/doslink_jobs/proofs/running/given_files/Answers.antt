@@ -1,0 +1,15 @@
+use Rattle.std.proofs.Common.{ap, ◌∙◌}
+use Rattle.std.proofs.lemmas.List.{map-append}
+use Rattle.doslink_files.specs.Files.{contents}
+use Rattle.doslink_jobs.proofs.running.given_files.Goals as goal
+
+pub returns : goal.returns
+returns g c =
+    let named = c.in_ok-files.files.items in
+    let libraries = c.in_ok-libraries.libraries.items in (
+      contents named,
+      contents libraries,
+      c.in_ok-files.ensures,
+      c.in_ok-libraries.ensures,
+      ap contents c.in_ok-append.ensures ∙ map-append (λ f. f.bytes.items) named libraries,
+    )

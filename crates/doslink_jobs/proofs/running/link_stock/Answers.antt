@@ -1,0 +1,28 @@
+use Rattle.std.proofs.Common.{◌≡◌, List, [], map, ap, sym, subst, ◌∙◌}
+use Rattle.omf_commands.specs.Outcome.{IsFaultless}
+use Rattle.doslink_stock.specs.Search.{Takes}
+use Rattle.doslink_telling.specs.Missing.{unmet}
+use Rattle.doslink_stock.specs.Seen.{entry_held, handed_held}
+use Rattle.doslink_jobs.specs.Jobs.{names_of}
+use Rattle.doslink_jobs.specs.inside.Inputs.{IsLinkedStock, input_list}
+use Rattle.doslink_jobs.proofs.Doing.{OnOk-weaker, of-inputs}
+use Rattle.doslink_jobs.proofs.Lists.{map-map}
+use Rattle.doslink_jobs.proofs.running.link_stock.Goals as goal
+
+pub returns : goal.returns
+returns g c =
+    let job = c.args.job.now in
+    let names = names_of job.ignore_case in
+    let os = map entry_held c.args.stock.now.objects.items in
+    let ms = map entry_held c.args.stock.now.members.items in
+    let found = c.in_ok-found.found.items in
+    let handed = c.as_slice-handed.result.now in
+    let inputs = c.in_ok-inputs.inputs in
+    let met : unmet names (map (λ h. (handed_held h).says) handed) ≡ [] =
+    ap (λ n. unmet n (map (λ h. (handed_held h).says) handed)) (sym c.options_of-names.ensures) ∙ c.in_ok-marks.ensures in
+    let takes = subst (λ n. Takes n os ms (map handed_held found)) c.options_of-names.ensures c.in_ok-found.ensures in
+    OnOk-weaker (IsFaultless g.row.A.Denot names (input_list inputs)) (IsLinkedStock g.row.A.Denot job os ms)
+    (λ faultless. of-inputs g.row.A.Denot job os ms (map handed_held handed) inputs
+    (subst (λ hs. Takes names os ms (map handed_held hs)) (sym c.as_slice-handed.ensures.value) takes)
+    (sym (ap (unmet names) (map-map handed_held (λ m. m.says) handed)) ∙ met) c.in_ok-inputs.ensures faultless)
+    c.write_program.result c.write_program.ensures

@@ -1,0 +1,101 @@
+-- What a job has done where it ends well, and how a run ends. `told` are the bytes of files by their paths, where the
+-- world tells them.
+use Rattle.std.specs.Prelude.{◌≡◌, ◌⊎◌, ℕ, Bool, true, false, All, List, [], ◌++◌, map, IfSome, Ok, if◌then◌else◌}
+use Rattle.std.specs.declared.option.Option.{Option}
+use Rattle.std.specs.declared.result.Result.{Result}
+use Rattle.std.specs.List.{list_any}
+use Rattle.std.specs.Option.{option_to_list}
+use Rattle.clap.specs.Words.{Text}
+use Rattle.omf_frame.specs.declared.device.IoFault.{IoFault}
+use Rattle.omf_frame.specs.Device.{Writes}
+use Rattle.omf_place.specs.declared.names.Names.{Names}
+use Rattle.omf_place.specs.declared.names.Names.TheVariants.{AsciiFolded, Exact}
+use Rattle.omf_commands.specs.Outcome.{IsFaultless}
+use Rattle.omf_lower.specs.declared.lowering.Lowering.{Lowering}
+use Rattle.omf_lower.specs.Module.{lowered}
+use Rattle.doslink_words.specs.declared.job.Job.{Job}
+use Rattle.doslink_words.specs.Said.{order_of}
+use Rattle.doslink_words.specs.Tokens.{texts}
+use Rattle.doslink_stock.specs.Search.{Takes}
+use Rattle.doslink_stock.specs.Files.{Held, members, objects}
+use Rattle.doslink_telling.specs.Missing.{unmet}
+use Rattle.doslink_jobs.specs.Orders.{IsOrderModule}
+use Rattle.doslink_files.specs.Files.{AreFound, AreTold, IsFound}
+
+-- which names agree, by `--ignore-case`
+abbrev pub names_of : Bool → Names
+names_of ignore_case = if ignore_case then AsciiFolded else Exact
+
+-- ---- the modules of a link
+
+-- of these files a link takes these modules: the object files, and the members of libraries that they choose
+abbrev pub TakesOf : Names → (files : List (List ℕ)) → (modules : List Held) → Type 0
+TakesOf names files modules =
+    (offered : List Held) × (members files ≡ Ok offered) × Takes names (objects files) offered modules
+
+-- how a job lowers modules: far data shares a frame only where the job packs it
+pub record IsLoweringFor (job : Job) (lowering : Lowering) : Type 0 where
+  pub debug : lowering.keep_debug ≡ job.keep_debug
+  pub far_data : lowering.shares_far_data ≡ true → job.packs_far_data ≡ true
+
+-- these are the modules lowered
+abbrev pub AreLowered : Lowering → (modules inputs : List (List ℕ)) → Type 0
+AreLowered lowering modules inputs = map (lowered lowering) modules ≡ map Ok inputs
+
+-- these are the modules lowered as a job asks for
+abbrev pub AreLoweredFor : Job → (modules inputs : List (List ℕ)) → Type 0
+AreLoweredFor job modules inputs =
+    (lowering : Lowering) × IsLoweringFor job lowering × AreLowered lowering modules inputs
+
+-- A link was done of the modules that it takes: none of their names is missing, and lowered, behind the order module
+-- where there is one, they have no fault.
+pub record IsLinkOf (A : Type 0) (job : Job) (takes : List Held → Type 0) : Type 0 where
+  pub modules : List Held
+  pub inputs : List (List ℕ)
+  pub order : Option (List ℕ)
+  pub taken : takes modules
+  pub met : unmet (names_of job.ignore_case) (map (λ m. m.says) modules) ≡ []
+  pub lowered : AreLoweredFor job (map (λ m. m.bytes) modules) inputs
+  pub ordered : IfSome order (IsOrderModule (names_of job.ignore_case) (list_any (λ m. m.dosseg) modules)
+      (order_of job.order) inputs)
+  pub faultless : IsFaultless A (names_of job.ignore_case) (option_to_list order ++ inputs)
+
+-- the same of the modules of files
+abbrev pub IsLinked : (A : Type 0) → Job → (files : List (List ℕ)) → Type 0
+IsLinked A job files = IsLinkOf A job (TakesOf (names_of job.ignore_case) files)
+
+-- ---- a job
+
+-- these are the bytes of a library that was looked up under some name
+abbrev pub IsLibrary : (told : Text → Option (List ℕ)) → (folders : List Text) → (bytes : List ℕ) → Type 0
+IsLibrary told folders bytes = (name : Text) × IsFound told folders name bytes
+
+-- these are default libraries of a job, which may ask for none
+pub record AreDefaults (told : Text → Option (List ℕ)) (folders : List Text) (job : Job) (files : List (List ℕ))
+    : Type 0 where
+  pub found : All (IsLibrary told folders) files
+  pub none : job.default_libraries ≡ false → files ≡ []
+
+-- A job was done: its files, its libraries and default libraries were read and linked, in this order. Default libraries
+-- are looked up in other folders too, behind those of the job.
+pub record IsDone (A : Type 0) (told : Text → Option (List ℕ)) (folders : List Text) (job : Job) : Type 0 where
+  pub named : List (List ℕ)
+  pub libraries : List (List ℕ)
+  pub defaults : List (List ℕ)
+  pub are_named : AreTold told (texts job.files.items) named
+  pub are_libraries : AreFound told (texts job.folders.items) (texts job.libraries.items) libraries
+  pub are_defaults : AreDefaults told (texts job.folders.items ++ folders) job defaults
+  pub linked : IsLinked A job (named ++ libraries ++ defaults)
+
+-- ---- a run
+
+-- this was written to a sink, or a front of it where the sink failed
+abbrev pub Tells : {K : Type 0} → (written : K → Option (List ℕ)) → (failures : K → ℕ) → (old new : K) → List ℕ
+    → Type 0
+Tells written failures old new text = (r : Result (Unit {0}) IoFault) × Writes written failures old new text r
+
+-- A run has told a text, and ends with status 0 only where this holds, with 1 where an input is at fault, with 2 where
+-- words are wrong, and with 3 where a file, a device or memory failed.
+abbrev pub EndsWith : (Done : Type 0) → (tells : List ℕ → Type 0) → (status : ℕ) → Type 0
+EndsWith Done tells status = ((text : List ℕ) × tells text)
+    × (((status ≡ 0) × Done) ⊎ (((status ≡ 1) ⊎ (status ≡ 2)) ⊎ (status ≡ 3)))

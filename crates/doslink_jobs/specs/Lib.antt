@@ -1,0 +1,4 @@
+pub mod Jobs
+pub mod Orders
+pub mod Runs
+pub mod inside

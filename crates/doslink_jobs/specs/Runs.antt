@@ -1,0 +1,70 @@
+-- What a run has done that ends with status 0.
+use Rattle.std.specs.Prelude.{◌≡◌, ◌⊎◌, ◌==◌, ◌||◌, ℕ, Bool, List, [], ◌∷◌, ◌++◌, map, Ok, None, Some, if◌then◌else◌, MatchOption, codes}
+use Rattle.std.specs.declared.option.Option.{Option}
+use Rattle.std.specs.List.{flat_map, slice_split}
+use Rattle.clap.specs.Words.{Text, fault_of}
+use Rattle.doslink_words.specs.declared.job.Directives.{Directives}
+use Rattle.doslink_words.specs.declared.job.Job.{Job}
+use Rattle.doslink_words.specs.Directives.{Means, meaning}
+use Rattle.doslink_words.specs.Keywords.{is_keyword}
+use Rattle.doslink_words.specs.Tokens.{words}
+use Rattle.doslink_words.specs.Words.{IsJobFor, doslink_command}
+use Rattle.doslink_files.specs.Files.{Each, IsTold}
+use Rattle.doslink_files.specs.Paths.{last_part}
+use Rattle.doslink_jobs.specs.declared.words.Language.{Language}
+use Rattle.doslink_jobs.specs.declared.words.Language.TheVariants as language
+use Rattle.doslink_jobs.specs.Jobs.{IsDone}
+
+-- the path of a response file: what stands behind `@` at the front of a word
+abbrev pub response_path : Text → Option Text
+response_path [] = None
+response_path (byte ∷ path) = if byte == 64 then Some path else None
+
+-- the path of a response file that is the only word
+abbrev pub only_response : List Text → Option Text
+only_response [] = None
+only_response (word ∷ []) = response_path word
+only_response _ = None
+
+-- the folders of the environment's LIB: `;` or `:` stands between them
+abbrev pub library_folders : Text → List Text
+library_folders list = flat_map (slice_split (λ byte. byte == 58)) (slice_split (λ byte. byte == 59) list)
+
+-- how the words of a program of this name are read: as directives where its last part is `wlink` or `wlink.exe`
+abbrev pub language_of : Text → Language
+language_of program =
+    if is_keyword (last_part program) (codes "wlink") || is_keyword (last_part program) (codes "wlink.exe")
+    then language.Directives else language.Words
+
+-- what a word gives of directives: the text of the response file that it names, and else the word itself
+abbrev pub IsPart : (told : Text → Option (List ℕ)) → (word part : Text) → Type 0
+IsPart told word part = MatchOption (response_path word) (part ≡ word) (λ path. IsTold (told path) part)
+
+-- the text of directives that words give, each part a line of its own at least
+abbrev pub IsTextOf : (told : Text → Option (List ℕ)) → (words : List Text) → (text : Text) → Type 0
+IsTextOf told words text =
+    (parts : List Text) × Each (IsPart told) words parts × (text ≡ flat_map (λ part. part ++ 10 ∷ []) parts)
+
+module _ (A : Type 0) (told : Text → Option (List ℕ)) (folders : List Text) where
+  -- the job was done that the words ask for, or they ask for none, as where they ask for help
+  abbrev pub RunsWords : (words : List Text) → Type 0
+  RunsWords words =
+      ((job : Job) × IsJobFor words job × IsDone A told folders job) ⊎ (fault_of doslink_command words ≡ [] → ⊥)
+
+  -- the same of the words of a text
+  abbrev pub RunsList : (text : Text) → Type 0
+  RunsList text = (list : List Text) × (words text ≡ Some list) × RunsWords list
+
+  -- the same of the words of a response file
+  abbrev pub RunsResponse : (path : Text) → Type 0
+  RunsResponse path = (text : Text) × IsTold (told path) text × RunsList text
+
+  -- the job was done that the directives ask for
+  abbrev pub RunsText : (text : Text) → Type 0
+  RunsText text =
+      (directives : Directives) × Means (Ok directives) (meaning text) × IsDone A told folders directives.job
+
+  -- the job was done that words ask for, which are options and files, or directives
+  abbrev pub Runs : Language → (words : List Text) → Type 0
+  Runs language.Words list = MatchOption (only_response list) (RunsWords list) RunsResponse
+  Runs language.Directives list = (text : Text) × IsTextOf told list text × RunsText text

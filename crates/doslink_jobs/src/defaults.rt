@@ -1,0 +1,192 @@
+//! The default libraries that comments of modules name.
+ghost use Rattle.std.specs.Prelude.{◌≡◌, ◌⊎◌, [], ◌∷◌, ◌++◌, IfOk, IfSome, OnOk, map};
+ghost use Rattle.doslink_files.specs.Files.{contents};
+ghost use Rattle.doslink_link.specs.Linking.{bytes_of};
+ghost use Rattle.doslink_jobs.specs.Jobs.{IsLibrary};
+ghost use Rattle.doslink_jobs.specs.inside.Adding.{AddsFound};
+
+use crate::stop::Stop;
+use doslink_files::{InputFile, ReadFault, find_library};
+use doslink_stock::{Stock, read_stock, search};
+use doslink_telling::{module_word, push_absent_line, push_device_line, push_stock_fault};
+use omf_files::World;
+use omf_place::Names;
+use std::alloc::{AllocError, Allocator};
+
+/// How often the search goes on with libraries that it has met.
+const MOST_ROUNDS: usize = 65_536;
+
+/// A default library, and the word for the first module that names it.
+#[derive(Drop)]
+struct DefaultLibrary<A: Allocator + Copy> {
+    name: Vec<u8, A>,
+    word: Vec<u8, A>,
+}
+
+/// The bytes of the files.
+pub(crate) fn slices_of<'a, A: Allocator + Copy>(
+    alloc: A,
+    files: &'a [InputFile<A>],
+) -> Result<Vec<&'a [u8], A>, AllocError>
+    ensures { IfOk result (λ v. bytes_of v.items ≡ contents files.now) }
+{
+    let mut slices = Vec::new(alloc);
+    for file in files {
+        slices.push(file.bytes.as_slice())?;
+    }
+    Ok(slices)
+}
+
+/// Whether a library of this name is among some.
+fn is_known<A: Allocator + Copy>(libraries: &[DefaultLibrary<A>], name: &[u8]) -> bool {
+    for library in libraries {
+        if library.name.as_slice() == name {
+            return true;
+        }
+    }
+    false
+}
+
+/// The default libraries that the modules that a link takes of these name, each once, in order of meeting, without those
+/// that were met before.
+fn libraries_of<A: Allocator + Copy>(
+    alloc: A,
+    files: &[InputFile<A>],
+    names: Names,
+    met: &[DefaultLibrary<A>],
+    stock: &Stock<'_, A>,
+) -> Result<Vec<DefaultLibrary<A>, A>, AllocError> {
+    let handed = search(alloc, stock, names)?;
+    let mut found = Vec::new(alloc);
+    for each in &handed {
+        for name in &each.entry.says.libraries {
+            if !is_known(met, name) && !is_known(&found, name) {
+                found.push(DefaultLibrary {
+                    name: Vec::from_slice(alloc, name)?,
+                    word: module_word(alloc, files, each.entry)?,
+                })?;
+            }
+        }
+    }
+    Ok(found)
+}
+
+/// The same of what the files hold.
+fn named_libraries<A: Allocator + Copy>(
+    alloc: A,
+    files: &[InputFile<A>],
+    names: Names,
+    met: &[DefaultLibrary<A>],
+    lines: &mut Vec<u8, A>,
+) -> Result<Vec<DefaultLibrary<A>, A>, Stop> {
+    let slices = slices_of(alloc, files)?;
+    match read_stock(alloc, &slices) {
+        Ok(stock) => Ok(libraries_of(alloc, files, names, met, &stock)?),
+        Err(fault) => {
+            push_stock_fault(lines, files, fault)?;
+            Err(Stop::Input)
+        }
+    }
+}
+
+/// Adds a file, unless one of its path is there.
+fn add_file<A: Allocator + Copy>(
+    files: &mut Vec<InputFile<A>, A>,
+    file: InputFile<A>,
+) -> Result<(), AllocError>
+    ensures { OnOk result ((contents files.new.items ≡ contents files.old.items)
+        ⊎ (contents files.new.items ≡ contents files.old.items ++ file.bytes.items ∷ [])) }
+{
+    let is_known = files
+        .iter()
+        .any(|known| known.path.as_str() == file.path.as_str());
+    if !is_known {
+        files.push(file)?;
+    }
+    Ok(())
+}
+
+/// The file of a default library. None where there is no such file, as where the name is no text.
+fn find_default<W: World, A: Allocator + Copy>(
+    alloc: A,
+    world: &W,
+    folders: &[&str],
+    library: &DefaultLibrary<A>,
+) -> Result<Option<InputFile<A>>, ReadFault>
+    ensures { IfOk result (λ found. IfSome found (λ file. IsLibrary (W.bytes world.now)
+        (map (λ f. f.now) folders.now) file.bytes.items)) }
+{
+    match str::from_utf8(&library.name) {
+        Ok(name) => find_library(alloc, world, folders, name),
+        Err(_) => Ok(None),
+    }
+}
+
+/// Adds the file of a default library, or warns that there is none.
+fn add_library<W: World, A: Allocator + Copy>(
+    alloc: A,
+    world: &W,
+    folders: &[&str],
+    library: &DefaultLibrary<A>,
+    files: &mut Vec<InputFile<A>, A>,
+    lines: &mut Vec<u8, A>,
+) -> Result<(), Stop>
+    ensures { OnOk result (AddsFound (W.bytes world.now) (map (λ f. f.now) folders.now) (contents files.old.items)
+        (contents files.new.items)) }
+{
+    match find_default(alloc, world, folders, library) {
+        Ok(Some(file)) => Ok(add_file(files, file)?),
+        Ok(None) | Err(ReadFault::Absent) => {
+            Ok(push_absent_line(alloc, lines, &library.name, &library.word)?)
+        }
+        Err(ReadFault::Memory) => Err(Stop::Memory),
+        Err(ReadFault::Device) => {
+            push_device_line(lines, str::from_utf8(&library.name).unwrap_or(""))?;
+            Err(Stop::Device)
+        }
+    }
+}
+
+/// Adds the files of some default libraries.
+fn add_found<W: World, A: Allocator + Copy>(
+    alloc: A,
+    world: &W,
+    folders: &[&str],
+    found: &[DefaultLibrary<A>],
+    files: &mut Vec<InputFile<A>, A>,
+    lines: &mut Vec<u8, A>,
+) -> Result<(), Stop>
+    ensures { OnOk result (AddsFound (W.bytes world.now) (map (λ f. f.now) folders.now) (contents files.old.items)
+        (contents files.new.items)) }
+{
+    for library in found {
+        add_library(alloc, world, folders, library, files, lines)?;
+    }
+    Ok(())
+}
+
+/// Adds the default libraries that the modules name, behind the files that are there, until none is new.
+pub(crate) fn add_default_libraries<W: World, A: Allocator + Copy>(
+    alloc: A,
+    world: &W,
+    folders: &[&str],
+    names: Names,
+    files: &mut Vec<InputFile<A>, A>,
+    lines: &mut Vec<u8, A>,
+) -> Result<(), Stop>
+    ensures { OnOk result (AddsFound (W.bytes world.now) (map (λ f. f.now) folders.now) (contents files.old.items)
+        (contents files.new.items)) }
+{
+    let mut met = Vec::new(alloc);
+    'rounds: for _ in 0..MOST_ROUNDS {
+        let found = named_libraries(alloc, files, names, &met, lines)?;
+        if found.is_empty() {
+            break;
+        }
+        add_found(alloc, world, folders, &found, files, lines)?;
+        for library in found {
+            met.push(library)?;
+        }
+    }
+    Ok(())
+}

@@ -1,0 +1,177 @@
+//! The modules of a link, as they are handed to it.
+ghost use Rattle.std.specs.Prelude.{◌≡◌, IfOk, IfSome, map};
+ghost use Rattle.std.specs.List.{list_any};
+ghost use Rattle.std.specs.Option.{option_map, option_to_list};
+ghost use Rattle.doslink_link.specs.Linking.{bytes_of};
+ghost use Rattle.doslink_stock.specs.Seen.{handed_held};
+ghost use Rattle.doslink_words.specs.Said as said;
+ghost use Rattle.doslink_jobs.specs.Jobs.{names_of};
+ghost use Rattle.doslink_jobs.specs.Orders.{IsOrderModule};
+ghost use Rattle.doslink_jobs.specs.inside.Inputs.{AreInputsFor, input_list, lowered_bytes};
+
+use crate::lowering::{LoweredModule, lower_for, lowered_slices};
+use crate::ordering::{Asked, order_bytes};
+use crate::stop::Stop;
+use crate::taking::Taken;
+use doslink_stock::Handed;
+use doslink_telling::push_order_line;
+use doslink_words::Job;
+use omf_commands::Options;
+use omf_order::OrderFault;
+use omf_text::LinkFault;
+use std::alloc::{AllocError, Allocator};
+
+/// The word for the order module in a fault's line and in a map.
+const ORDER_MODULE: &[u8] = b"order";
+
+/// How a job takes names.
+pub(crate) fn options_of(job: &Job<'_>) -> Options
+    ensures { result.names ≡ names_of job.now.ignore_case }
+{
+    if job.ignore_case {
+        Options::ignoring_case()
+    } else {
+        Options::new()
+    }
+}
+
+/// The modules of a link, as they are handed to it.
+#[derive(Drop)]
+pub(crate) struct Inputs<'a, A: Allocator + Copy> {
+    /// The order module, where one is needed.
+    pub order: Option<Vec<u8, A>>,
+    /// The modules that are taken, in their order.
+    pub modules: Vec<LoweredModule<'a, A>, A>,
+}
+
+/// The bytes of the order module, where there is one.
+fn order_slices<'m, A: Allocator + Copy>(
+    alloc: A,
+    order: &'m Option<Vec<u8, A>>,
+) -> Result<Vec<&'m [u8], A>, AllocError>
+    ensures { IfOk result (λ v. bytes_of v.items ≡ option_to_list (option_map (λ b. b.items) order.now)) }
+{
+    let mut slices = Vec::new(alloc);
+    match order {
+        Some(order) => {
+            slices.push(order.as_slice())?;
+            Ok(slices)
+        }
+        None => Ok(slices),
+    }
+}
+
+/// The bytes of all that is linked.
+pub(crate) fn input_slices<'m, A: Allocator + Copy>(
+    alloc: A,
+    inputs: &'m Inputs<'_, A>,
+) -> Result<Vec<&'m [u8], A>, AllocError>
+    ensures { IfOk result (λ v. bytes_of v.items ≡ input_list inputs.now) }
+{
+    let mut slices = order_slices(alloc, &inputs.order)?;
+    let modules = lowered_slices(alloc, &inputs.modules)?;
+    slices.extend_from_slice(&modules)?;
+    Ok(slices)
+}
+
+/// The words for them.
+pub(crate) fn input_words<'w, A: Allocator + Copy>(
+    alloc: A,
+    inputs: &Inputs<'_, A>,
+    words: &'w [Vec<u8, A>],
+) -> Result<Vec<&'w [u8], A>, AllocError> {
+    let mut all = Vec::new(alloc);
+    if inputs.order.is_some() {
+        all.push(ORDER_MODULE)?;
+    }
+    for word in words {
+        all.push(word.as_slice())?;
+    }
+    Ok(all)
+}
+
+/// The module that is the input with this index; none where that is the order module.
+fn module_at<'m, 'a, A: Allocator + Copy>(
+    inputs: &'m Inputs<'a, A>,
+    input: usize,
+) -> Option<&'m LoweredModule<'a, A>> {
+    match &inputs.order {
+        None => inputs.modules.get(input),
+        Some(_) if 0 < input => inputs.modules.get(input - 1),
+        Some(_) => None,
+    }
+}
+
+/// A fault with the place of its record in the bytes of the user's own file.
+pub(crate) fn in_own_bytes<A: Allocator + Copy>(
+    fault: LinkFault<A>,
+    inputs: &Inputs<'_, A>,
+) -> LinkFault<A> {
+    match fault {
+        LinkFault::Record {
+            input,
+            place,
+            fault,
+        } => {
+            let place = match module_at(inputs, input) {
+                Some(module) => module.own_place(place),
+                None => place,
+            };
+            LinkFault::Record {
+                input,
+                place,
+                fault,
+            }
+        }
+        other => other,
+    }
+}
+
+/// The order module for lowered modules, where one is needed.
+fn order_of<A: Allocator + Copy>(
+    alloc: A,
+    modules: &[LoweredModule<'_, A>],
+    asked: &Asked<'_, '_>,
+    lines: &mut Vec<u8, A>,
+) -> Result<Option<Vec<u8, A>>, Stop>
+    ensures { IfOk result (λ o. IfSome o (λ bytes. IsOrderModule asked.now.names asked.now.dosseg
+        (said.order_of asked.now.order.now) (map lowered_bytes modules.now) bytes.items)) }
+{
+    let slices = lowered_slices(alloc, modules)?;
+    match order_bytes(alloc, &slices, asked) {
+        Ok(order) => Ok(order),
+        Err(OrderFault::Memory) => Err(Stop::Memory),
+        Err(OrderFault::TooManySegments) => {
+            push_order_line(lines)?;
+            Err(Stop::Input)
+        }
+    }
+}
+
+/// Whether a module asks for the DOSSEG order.
+fn asks_dosseg<A: Allocator + Copy>(handed: &[Handed<'_, '_, A>]) -> bool
+    ensures { result ≡ list_any (λ h. (handed_held h).dosseg) handed.now }
+{
+    handed.iter().any(|each| each.entry.says.dosseg)
+}
+
+/// The modules of a link as they are handed to it: those that it takes, lowered, and the order module in front of them.
+pub(crate) fn inputs_of<'a, A: Allocator + Copy>(
+    alloc: A,
+    job: &Job<'_>,
+    taken: &Taken<'_, '_, 'a, A>,
+    marks: bool,
+    lines: &mut Vec<u8, A>,
+) -> Result<Inputs<'a, A>, Stop>
+    ensures { IfOk result (λ inputs. AreInputsFor job.now (map handed_held taken.now.handed.now) inputs) }
+{
+    let modules = lower_for(alloc, job, taken, lines)?;
+    let asked = Asked {
+        order: &job.order,
+        dosseg: asks_dosseg(taken.handed),
+        marks,
+        names: options_of(job).names,
+    };
+    let order = order_of(alloc, &modules, &asked, lines)?;
+    Ok(Inputs { order, modules })
+}

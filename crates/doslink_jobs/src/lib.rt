@@ -1,0 +1,20 @@
+//! What `doslink` does: object modules and libraries become a program.
+#![tactic(auto)]
+
+mod defaults;
+mod directives;
+mod inputs;
+mod linking;
+mod lowering;
+mod ordering;
+mod paths;
+mod places;
+mod program;
+mod running;
+mod stop;
+mod taking;
+mod words;
+
+pub use program::link_into;
+pub use running::run_job;
+pub use words::{Language, language_of, library_folders, out_of_memory, run_words, wrong_words};

@@ -1,0 +1,26 @@
+//! Paths of what is written, made of others.
+
+use doslink_files::has_extension;
+use std::alloc::{AllocError, Allocator};
+
+/// The path without the last dot in its last part, and what stands behind that.
+fn without_extension(path: &str) -> &str {
+    if !has_extension(path.as_bytes()) {
+        return path;
+    }
+    match path.rsplit_once('.') {
+        Some((front, _)) => front,
+        None => path,
+    }
+}
+
+/// The path with this extension in place of its own, if it has one.
+pub(crate) fn with_extension<A: Allocator + Copy>(
+    alloc: A,
+    path: &str,
+    extension: &str,
+) -> Result<String<A>, AllocError> {
+    let mut made = String::from_str(alloc, without_extension(path))?;
+    made.push_str(extension)?;
+    Ok(made)
+}

@@ -1,0 +1,127 @@
+//! A program and its map, written to files.
+ghost use Rattle.std.specs.Prelude.{◌≡◌, ◌+◌, ◌-◌, ◌^◌, ◌<◌, ◌≤◌, [], IfOk, OnOk};
+ghost use Rattle.std.specs.Io.KnownBytes.{Keeps};
+ghost use Rattle.omf_commands.specs.Outcome.{IsFaultless};
+ghost use Rattle.omf_files.specs.Files.{held_back, sink_bytes, sink_failures};
+ghost use Rattle.omf_place.specs.Bounded.{IsBounded};
+ghost use Rattle.doslink_link.specs.Linking.{WritesProgramOf, bytes_of};
+
+use doslink_link::link_bytes;
+use doslink_telling::table;
+use omf_commands::{Options, Report, write_map};
+use omf_files::BufferedSink;
+use omf_frame::{Sink, put_all};
+use omf_text::LinkFault;
+use std::alloc::Allocator;
+use std::io::Write;
+
+/// The answer once what the sink holds back is written. A failure there comes first.
+fn flushed<W: Write + Drop, T: Drop, A: Allocator + Copy>(
+    sink: &mut BufferedSink<W, A>,
+    answer: Result<T, LinkFault<A>>,
+) -> Result<T, LinkFault<A>>
+    requires { sink_failures sink.old < 2 ^ 64 - 1 }
+    ensures answer { OnOk result (result ≡ answer) }
+    ensures same { Keeps (sink_bytes W.contents sink.old) (sink_bytes W.contents sink.new) }
+    ensures whole { OnOk result (held_back sink.new ≡ []) }
+{
+    match sink.flush() {
+        Ok(()) => answer,
+        Err(_) => Err(LinkFault::Output),
+    }
+}
+
+/// Links the inputs, and writes the program to a sink, all of which is handed on to its writer.
+///
+/// # Errors
+/// Those of `link_bytes`; where handing on fails, that comes first.
+#[tactic(auto, using(crate::proofs::Failures::at_most_one))]
+pub fn link_into<W: Write + Drop, A: Allocator + Copy>(
+    alloc: A,
+    options: &Options,
+    inputs: &[&[u8]],
+    sink: &mut BufferedSink<W, A>,
+) -> Result<Report<A>, LinkFault<A>>
+    requires { sink_failures sink.old ≡ 0 }
+    // No fault stands in the inputs where it succeeds.
+    ensures linked { OnOk result (IsFaultless A options.now.names (bytes_of inputs.now)) }
+    // The file that was written holds the program of the inputs' records at each paragraph.
+    ensures headline { OnOk result (WritesProgramOf options.now.names (bytes_of inputs.now)
+        (sink_bytes W.contents sink.old) (sink_bytes W.contents sink.new)) }
+    // Nothing of it is held back.
+    ensures whole { OnOk result (held_back sink.new ≡ []) }
+    ensures bounded { IfOk result (λ report. IsBounded report.modules.items report.layout) }
+{
+    let result = link_bytes(alloc, inputs, sink, options);
+    flushed(sink, result)
+}
+
+/// Links the inputs into the program, all of which is handed on to the writer.
+fn link_to<W: Write + Drop, A: Allocator + Copy>(
+    alloc: A,
+    options: &Options,
+    inputs: &[&[u8]],
+    out: W,
+) -> Result<Report<A>, LinkFault<A>>
+    ensures linked { OnOk result (IsFaultless A options.now.names (bytes_of inputs.now)) }
+    ensures bounded { IfOk result (λ report. IsBounded report.modules.items report.layout) }
+{
+    let mut sink = BufferedSink::new(alloc, out)?;
+    link_into(alloc, options, inputs, &mut sink)
+}
+
+/// Writes the map of what was linked and its table.
+fn put_map<K: Sink, A: Allocator + Copy>(
+    alloc: A,
+    report: &Report<A>,
+    inputs: &[&[u8]],
+    words: &[&[u8]],
+    sink: &mut K,
+) -> Result<(), LinkFault<A>>
+    requires bounded { IsBounded report.now.modules.items report.now.layout }
+    requires sink { K.failures sink.old < 2 ^ 64 - 1 }
+    ensures { K.failures sink.new ≤ K.failures sink.old + 1 }
+{
+    let text = table(alloc, &report.modules, &report.layout, inputs, words)?;
+    write_map(report, sink)?;
+    match put_all(sink, &text) {
+        Ok(()) => Ok(()),
+        Err(_) => Err(LinkFault::Output),
+    }
+}
+
+/// Writes the map of what was linked, all of which is handed on to the writer.
+fn map_to<W: Write + Drop, A: Allocator + Copy>(
+    alloc: A,
+    report: &Report<A>,
+    inputs: &[&[u8]],
+    words: &[&[u8]],
+    out: W,
+) -> Result<(), LinkFault<A>>
+    requires { IsBounded report.now.modules.items report.now.layout }
+{
+    let mut sink = BufferedSink::new(alloc, out)?;
+    let result = put_map(alloc, report, inputs, words, &mut sink);
+    flushed(&mut sink, result)
+}
+
+/// Links the inputs into the program, and then writes the map where one is asked for. Beside the answer stands whether
+/// it comes of the map.
+pub(crate) fn link_and_map<W: Write + Drop, A: Allocator + Copy>(
+    alloc: A,
+    options: &Options,
+    inputs: &[&[u8]],
+    words: &[&[u8]],
+    out: W,
+    map: Option<W>,
+) -> (Result<(), LinkFault<A>>, bool)
+    ensures { OnOk result.0 (IsFaultless A options.now.names (bytes_of inputs.now)) }
+{
+    match link_to(alloc, options, inputs, out) {
+        Ok(report) => match map {
+            Some(map) => (map_to(alloc, &report, inputs, words, map), true),
+            None => (Ok(()), false),
+        },
+        Err(fault) => (Err(fault), false),
+    }
+}

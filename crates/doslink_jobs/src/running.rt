@@ -1,0 +1,277 @@
+//! A job of `doslink`, done with files and the two streams.
+ghost use Rattle.std.specs.Prelude.{◌≡◌, ◌-◌, ◌^◌, ◌<◌, ◌++◌, IfOk, OnOk, map};
+ghost use Rattle.omf_files.specs.Files.{sink_failures};
+ghost use Rattle.doslink_files.specs.Files.{AreFound, AreTold, contents};
+ghost use Rattle.doslink_stock.specs.Seen.{entry_held};
+ghost use Rattle.doslink_words.specs.Tokens.{texts};
+ghost use Rattle.doslink_jobs.specs.Jobs.{EndsWith, IsDone, IsLinked, Tells};
+ghost use Rattle.doslink_jobs.specs.inside.Adding.{AddsDefaults, AreGiven};
+ghost use Rattle.doslink_jobs.specs.inside.Inputs.{IsLinkedStock};
+ghost use Rattle.doslink_jobs.specs.inside.Stops as stops;
+ghost use Rattle.doslink_jobs.specs.inside.Stops.{told_text};
+
+use crate::defaults::{add_default_libraries, slices_of};
+use crate::inputs::{inputs_of, options_of};
+use crate::linking::write_program;
+use crate::places::{Places, places_of};
+use crate::stop::{Stop, stop_at};
+use crate::taking::{Taken, check_names, tell_taken};
+use doslink_files::{InputFile, find_libraries, read_files};
+use doslink_stock::{Stock, read_stock, search};
+use doslink_telling::{module_words, push_stock_fault};
+use doslink_words::Job;
+use omf_files::{BufferedSink, World};
+use omf_frame::{Sink, put_all};
+use std::alloc::{AllocError, Allocator};
+use std::io::Write;
+
+/// Links the modules that a link takes of these. They are told where the job asks for that; names that are missing stop
+/// it.
+fn link_stock<W: World + Copy, O: Write + Drop, A: Allocator + Copy>(
+    alloc: A,
+    world: W,
+    job: &Job<'_>,
+    files: &[InputFile<A>],
+    stock: &Stock<'_, A>,
+    output: &mut BufferedSink<O, A>,
+    lines: &mut Vec<u8, A>,
+) -> Result<(), Stop>
+    requires { sink_failures output.old ≡ 0 }
+    ensures { OnOk result (IsLinkedStock A job.now (map entry_held stock.now.objects.items)
+        (map entry_held stock.now.members.items)) }
+{
+    let places = places_of(alloc, job, files, lines)?;
+    let names = options_of(job).names;
+    let found = search(alloc, stock, names)?;
+    let handed = found.as_slice();
+    let words = module_words(alloc, files, handed)?;
+    let taken = Taken {
+        handed,
+        words: &words,
+    };
+    if job.verbose {
+        tell_taken(alloc, output, &taken, lines)?;
+    }
+    let marks = check_names(alloc, names, files, stock, handed, lines)?;
+    let inputs = inputs_of(alloc, job, &taken, marks, lines)?;
+    write_program(alloc, world, job, &places, &taken, &inputs, lines)
+}
+
+/// Links what the files hold.
+fn link_files<W: World + Copy, O: Write + Drop, A: Allocator + Copy>(
+    alloc: A,
+    world: W,
+    job: &Job<'_>,
+    files: &[InputFile<A>],
+    output: &mut BufferedSink<O, A>,
+    lines: &mut Vec<u8, A>,
+) -> Result<(), Stop>
+    requires { sink_failures output.old ≡ 0 }
+    ensures { OnOk result (IsLinked A job.now (contents files.now)) }
+{
+    let slices = slices_of(alloc, files)?;
+    match read_stock(alloc, &slices) {
+        Ok(stock) => link_stock(alloc, world, job, files, &stock, output, lines),
+        Err(fault) => {
+            push_stock_fault(lines, files, fault)?;
+            Err(Stop::Input)
+        }
+    }
+}
+
+/// The files of a job.
+fn named_files<W: World, A: Allocator + Copy>(
+    alloc: A,
+    world: &W,
+    job: &Job<'_>,
+    lines: &mut Vec<u8, A>,
+) -> Result<Vec<InputFile<A>, A>, Stop>
+    ensures { IfOk result (λ files. AreTold (W.bytes world.now) (texts job.now.files.items) (contents files.items)) }
+{
+    match read_files(alloc, world, &job.files) {
+        Ok(files) => Ok(files),
+        Err(fault) => Err(stop_at(lines, fault)),
+    }
+}
+
+/// The libraries of a job.
+fn named_libraries<W: World, A: Allocator + Copy>(
+    alloc: A,
+    world: &W,
+    job: &Job<'_>,
+    lines: &mut Vec<u8, A>,
+) -> Result<Vec<InputFile<A>, A>, Stop>
+    ensures { IfOk result (λ files. AreFound (W.bytes world.now) (texts job.now.folders.items)
+        (texts job.now.libraries.items) (contents files.items)) }
+{
+    match find_libraries(alloc, world, &job.folders, &job.libraries) {
+        Ok(libraries) => Ok(libraries),
+        Err(fault) => Err(stop_at(lines, fault)),
+    }
+}
+
+/// The files of a job, and behind them its libraries.
+fn given_files<W: World, A: Allocator + Copy>(
+    alloc: A,
+    world: &W,
+    job: &Job<'_>,
+    lines: &mut Vec<u8, A>,
+) -> Result<Vec<InputFile<A>, A>, Stop>
+    ensures { IfOk result (λ files. AreGiven (W.bytes world.now) job.now (contents files.items)) }
+{
+    let mut files = named_files(alloc, world, job, lines)?;
+    let libraries = named_libraries(alloc, world, job, lines)?;
+    append(&mut files, libraries)?;
+    Ok(files)
+}
+
+/// Puts files behind others.
+fn append<A: Allocator + Copy>(
+    files: &mut Vec<InputFile<A>, A>,
+    more: Vec<InputFile<A>, A>,
+) -> Result<(), AllocError>
+    ensures { OnOk result (files.new.items ≡ files.old.items ++ more.items) }
+{
+    for file in more {
+        files.push(file)?;
+    }
+    Ok(())
+}
+
+/// The folders of a job, and others behind them.
+fn all_folders<'a, A: Allocator + Copy>(
+    alloc: A,
+    job: &Job<'a>,
+    others: &[&'a str],
+) -> Result<Vec<&'a str, A>, AllocError>
+    ensures { IfOk result (λ folders. texts folders.items ≡ texts job.now.folders.items ++ texts others.now) }
+{
+    let mut folders = Vec::from_slice(alloc, &job.folders)?;
+    folders.extend_from_slice(others)?;
+    Ok(folders)
+}
+
+/// Adds the default libraries that modules name, where a job asks for them.
+fn add_defaults<W: World, A: Allocator + Copy>(
+    alloc: A,
+    world: &W,
+    job: &Job<'_>,
+    folders: &[&str],
+    files: &mut Vec<InputFile<A>, A>,
+    lines: &mut Vec<u8, A>,
+) -> Result<(), Stop>
+    ensures { OnOk result (AddsDefaults (W.bytes world.now) (texts folders.now) job.now (contents files.old.items)
+        (contents files.new.items)) }
+{
+    if !job.default_libraries {
+        return Ok(());
+    }
+    let names = options_of(job).names;
+    let mut warnings = Vec::new(alloc);
+    let added = add_default_libraries(alloc, world, folders, names, files, &mut warnings);
+    if added.is_err() || !job.quiet {
+        lines.extend_from_slice(&warnings)?;
+    }
+    added
+}
+
+/// Stops where a job names nothing that could be linked.
+fn check_inputs<A: Allocator + Copy>(job: &Job<'_>, lines: &mut Vec<u8, A>) -> Result<(), Stop> {
+    if job.files.is_empty() && job.libraries.is_empty() {
+        lines.extend_from_slice(b"doslink: no file is named to be linked\n")?;
+        return Err(Stop::Words);
+    }
+    Ok(())
+}
+
+/// Does a job. What it tells is appended to the lines.
+fn do_job<W: World + Copy, O: Write + Drop, A: Allocator + Copy>(
+    alloc: A,
+    world: W,
+    job: &Job<'_>,
+    folders: &[&str],
+    output: &mut BufferedSink<O, A>,
+    lines: &mut Vec<u8, A>,
+) -> Result<(), Stop>
+    requires { sink_failures output.old ≡ 0 }
+    ensures { OnOk result (IsDone A (W.bytes world) (texts folders.now) job.now) }
+{
+    check_inputs(job, lines)?;
+    let everywhere = all_folders(alloc, job, folders)?;
+    let mut files = given_files(alloc, &world, job, lines)?;
+    add_defaults(alloc, &world, job, &everywhere, &mut files, lines)?;
+    link_files(alloc, world, job, &files, output, lines)
+}
+
+/// Does a job, with the memory of this allocator, and hands out the exit status: 0 where the program is written, 1
+/// where an input is at fault, 2 where what would be written is one of the files that are read, 3 where a file, a device
+/// or memory failed. What went wrong is told on standard error. Default libraries are looked up in `folders` too, behind
+/// those of the job.
+pub fn run_job<W: World + Copy, O: Write + Drop, E: Sink, A: Allocator + Copy>(
+    alloc: A,
+    world: W,
+    job: &Job<'_>,
+    folders: &[&str],
+    output: &mut BufferedSink<O, A>,
+    errors: &mut E,
+) -> u8
+    requires output { sink_failures output.old ≡ 0 }
+    requires errors { E.failures errors.old < 2 ^ 64 - 1 }
+    ensures { EndsWith (IsDone A (W.bytes world) (texts folders.now) job.now)
+        (Tells E.written E.failures errors.old errors.new) result }
+{
+    run_lines(alloc, world, job, folders, Vec::new(alloc), output, errors)
+}
+
+/// Does the same behind lines that are told first.
+pub(crate) fn run_lines<W: World + Copy, O: Write + Drop, E: Sink, A: Allocator + Copy>(
+    alloc: A,
+    world: W,
+    job: &Job<'_>,
+    folders: &[&str],
+    first: Vec<u8, A>,
+    output: &mut BufferedSink<O, A>,
+    errors: &mut E,
+) -> u8
+    requires output { sink_failures output.old ≡ 0 }
+    requires errors { E.failures errors.old < 2 ^ 64 - 1 }
+    ensures { EndsWith (IsDone A (W.bytes world) (texts folders.now) job.now)
+        (Tells E.written E.failures errors.old errors.new) result }
+{
+    let mut lines = first;
+    let done = do_job(alloc, world, job, folders, output, &mut lines);
+    finish(done, &lines, errors)
+}
+
+/// What is told of a run: the lines, and where there was no memory that alone.
+fn text_of<'l>(done: &Result<(), Stop>, lines: &'l [u8]) -> &'l [u8]
+    ensures { result.now ≡ told_text done.now lines.now }
+{
+    match done {
+        Ok(()) => lines,
+        Err(stop) => stop.text(lines),
+    }
+}
+
+/// The exit status of a run.
+fn status_of(done: &Result<(), Stop>) -> u8
+    ensures { result ≡ stops.status_of done.now }
+{
+    match done {
+        Ok(()) => 0,
+        Err(stop) => stop.status(),
+    }
+}
+
+/// Writes the lines to standard error, or that there was no memory, where that is why the run stops. Hands out the exit
+/// status.
+pub(crate) fn finish<E: Sink>(done: Result<(), Stop>, lines: &[u8], errors: &mut E) -> u8
+    requires { E.failures errors.old < 2 ^ 64 - 1 }
+    ensures told { Tells E.written E.failures errors.old errors.new (told_text done lines.now) }
+    ensures status { result ≡ stops.status_of done }
+{
+    let text = text_of(&done, lines);
+    // where standard error fails, the status alone tells it
+    let _ = put_all(errors, text);
+    status_of(&done)
+}

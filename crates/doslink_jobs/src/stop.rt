@@ -1,0 +1,79 @@
+//! Why a run stops.
+ghost use Rattle.std.specs.Prelude.{◌≡◌};
+ghost use Rattle.doslink_jobs.specs.inside.Stops.{stop_status, stop_text};
+
+use doslink_files::FileFault;
+use doslink_telling::push_device_line;
+use std::alloc::{AllocError, AllocFailed, Allocator};
+
+/// Why a run stops before its program is written.
+#[derive(Clone, Copy, Debug, PartialEq, Eq)]
+pub(crate) enum Stop {
+    /// An input is at fault, which was told.
+    Input,
+    /// Words are wrong, which was told.
+    Words,
+    /// A file or a device failed, which was told.
+    Device,
+    /// There was no memory.
+    Memory,
+}
+
+impl Stop {
+    /// The exit status.
+    pub(crate) fn status(self) -> u8
+        ensures { result ≡ stop_status self }
+    {
+        match self {
+            Stop::Input => 1,
+            Stop::Words => 2,
+            Stop::Device | Stop::Memory => 3,
+        }
+    }
+}
+
+/// The line for want of memory.
+const MEMORY: &[u8] = b"doslink: memory\n";
+
+impl Stop {
+    /// What is told of a run that has told these lines.
+    pub(crate) fn text<'l>(self, lines: &'l [u8]) -> &'l [u8]
+        ensures { result.now ≡ stop_text self lines.now }
+    {
+        match self {
+            Stop::Input | Stop::Words | Stop::Device => lines,
+            Stop::Memory => MEMORY,
+        }
+    }
+}
+
+impl From<AllocError> for Stop {
+    ghost use Rattle.doslink_jobs.specs.declared.stop.Stop.TheVariants.{Memory};
+
+    ghost from_gives = { λ _ e. e ≡ Memory };
+
+    fn from(_error: AllocError) -> Stop {
+        Stop::Memory
+    }
+}
+
+impl<T: Drop> From<AllocFailed<T>> for Stop {
+    ghost use Rattle.doslink_jobs.specs.declared.stop.Stop.TheVariants.{Memory};
+
+    ghost from_gives = { λ _ e. e ≡ Memory };
+
+    fn from(_error: AllocFailed<T>) -> Stop {
+        Stop::Memory
+    }
+}
+
+/// Tells that a file can't be read, and stops.
+pub(crate) fn stop_at<A: Allocator + Copy>(lines: &mut Vec<u8, A>, fault: FileFault<'_>) -> Stop {
+    match fault {
+        FileFault::Memory => Stop::Memory,
+        FileFault::Unread { name } => match push_device_line(lines, name) {
+            Ok(()) => Stop::Device,
+            Err(AllocError) => Stop::Memory,
+        },
+    }
+}

@@ -1,0 +1,346 @@
+//! The words of the command line, as a job that is done.
+ghost use Rattle.std.specs.Prelude.{◌≡◌, ◌≢◌, ◌==◌, ◌-◌, ◌^◌, ◌<◌, IfOk, codes, string_bytes};
+ghost use Rattle.std.specs.List.{slice_split};
+ghost use Rattle.std.specs.Option.{option_map};
+ghost use Rattle.omf_files.specs.Files.{sink_failures};
+ghost use Rattle.doslink_words.specs.Keywords.{is_keyword};
+ghost use Rattle.doslink_words.specs.Tokens.{texts};
+ghost use Rattle.doslink_jobs.specs.Jobs.{EndsWith, IsDone, Tells};
+ghost use Rattle.doslink_jobs.specs.Runs as spec;
+ghost use Rattle.doslink_jobs.specs.Runs.{Runs, RunsList, RunsResponse, RunsText, RunsWords};
+
+use crate::directives::{
+    Spoken, directive_line, directives_of, push_warnings, response_path, response_text,
+};
+use crate::running::{finish, run_job, run_lines};
+use crate::stop::Stop;
+use doslink_files::last_part;
+use doslink_words::{
+    DirectiveFault, Directives, SplitFault, WordsFault, parse_directives, parse_words, split_words,
+};
+use omf_files::{BufferedSink, World};
+use omf_frame::{Sink, put_all};
+use std::alloc::{AllocError, Global};
+use std::io::Write;
+
+/// The exit status of wrong words.
+const WRONG_WORDS: u8 = 2;
+
+/// How a program's words are read.
+#[derive(Clone, Copy, Debug, PartialEq, Eq)]
+pub enum Language {
+    /// As options and files, or as one response file of these.
+    Words,
+    /// As directives, and as response files of these.
+    Directives,
+}
+
+/// Whether a name is this one, where small and capital letters are the same.
+fn is_named(name: &[u8], other: &[u8]) -> bool
+    ensures { result ≡ is_keyword name.now other.now }
+{
+    name.eq_ignore_ascii_case(other)
+}
+
+/// How the words of a program of this name are read: as directives where its last part is `wlink`, with `.exe` or
+/// without.
+pub fn language_of(program: &str) -> Language
+    ensures { result ≡ spec.language_of program.now }
+{
+    let name = last_part(program.as_bytes());
+    if is_named(name, b"wlink") || is_named(name, b"wlink.exe") {
+        Language::Directives
+    } else {
+        Language::Words
+    }
+}
+
+/// What semicolons separate.
+fn at_semicolons<'a>(alloc: Global, list: &'a str) -> Result<Vec<&'a str>, AllocError>
+    ensures { IfOk result (λ parts. texts parts.items ≡ slice_split (λ byte. byte == 59) list.now) }
+{
+    list.split(';').collect(alloc)
+}
+
+/// What colons separate.
+fn at_colons<'a>(alloc: Global, list: &'a str) -> Result<Vec<&'a str>, AllocError>
+    ensures { IfOk result (λ parts. texts parts.items ≡ slice_split (λ byte. byte == 58) list.now) }
+{
+    list.split(':').collect(alloc)
+}
+
+/// The folders that the environment's LIB names: `;` or `:` stands between them.
+pub fn library_folders<'a>(alloc: Global, list: &'a str) -> Result<Vec<&'a str>, AllocError>
+    ensures { IfOk result (λ folders. texts folders.items ≡ spec.library_folders list.now) }
+{
+    let parts = at_semicolons(alloc, list)?;
+    let mut folders = Vec::new(alloc);
+    for part in &parts {
+        let more = at_colons(alloc, part)?;
+        folders.extend_from_slice(&more)?;
+    }
+    Ok(folders)
+}
+
+/// Does the job of directives, and hands out the exit status.
+fn run_parsed<W: World + Copy, O: Write + Drop, E: Sink>(
+    alloc: Global,
+    world: W,
+    directives: &Directives<'_>,
+    folders: &[&str],
+    output: &mut BufferedSink<O>,
+    errors: &mut E,
+) -> u8
+    requires output { sink_failures output.old ≡ 0 }
+    requires errors { E.failures errors.old < 2 ^ 64 - 1 }
+    ensures { EndsWith (IsDone Global (W.bytes world) (texts folders.now) directives.now.job)
+        (Tells E.written E.failures errors.old errors.new) result }
+{
+    let mut lines = Vec::new(alloc);
+    if !directives.job.quiet && push_warnings(directives, &mut lines).is_err() {
+        return out_of_memory(errors);
+    }
+    run_lines(
+        alloc,
+        world,
+        &directives.job,
+        folders,
+        lines,
+        output,
+        errors,
+    )
+}
+
+/// Does what directives ask for, and hands out the exit status. `words` are those that gave them.
+fn run_spoken<W: World + Copy, O: Write + Drop, E: Sink>(
+    alloc: Global,
+    world: W,
+    spoken: &Spoken,
+    words: &[&str],
+    folders: &[&str],
+    output: &mut BufferedSink<O>,
+    errors: &mut E,
+) -> u8
+    requires output { sink_failures output.old ≡ 0 }
+    requires errors { E.failures errors.old < 2 ^ 64 - 1 }
+    ensures { EndsWith (RunsText Global (W.bytes world) (texts folders.now) (string_bytes spoken.now.text))
+        (Tells E.written E.failures errors.old errors.new) result }
+{
+    match parse_directives(alloc, spoken.text.as_str()) {
+        Ok(directives) => run_parsed(alloc, world, &directives, folders, output, errors),
+        Err(fault) => refuse_directives(alloc, &fault, words, &spoken.starts, errors),
+    }
+}
+
+/// Says why directives are wrong, and hands out the exit status.
+fn refuse_directives<E: Sink>(
+    alloc: Global,
+    fault: &DirectiveFault<'_>,
+    words: &[&str],
+    starts: &[usize],
+    errors: &mut E,
+) -> u8
+    requires { E.failures errors.old < 2 ^ 64 - 1 }
+    ensures { EndsWith ⊥ (Tells E.written E.failures errors.old errors.new) result }
+{
+    if matches!(fault, DirectiveFault::Memory) {
+        return out_of_memory(errors);
+    }
+    match directive_line(alloc, fault, words, starts) {
+        Ok(line) => wrong_words(line.as_str(), errors),
+        Err(AllocError) => out_of_memory(errors),
+    }
+}
+
+/// Does what directives ask for that words give, and hands out the exit status.
+fn run_directives<W: World + Copy, O: Write + Drop, E: Sink>(
+    alloc: Global,
+    world: W,
+    words: &[&str],
+    folders: &[&str],
+    output: &mut BufferedSink<O>,
+    errors: &mut E,
+) -> u8
+    requires output { sink_failures output.old ≡ 0 }
+    requires errors { E.failures errors.old < 2 ^ 64 - 1 }
+    ensures { EndsWith (Runs Global (W.bytes world) (texts folders.now) Language.Directives (texts words.now))
+        (Tells E.written E.failures errors.old errors.new) result }
+{
+    let mut lines = Vec::new(alloc);
+    match directives_of(alloc, &world, words, &mut lines) {
+        Ok(spoken) => run_spoken(alloc, world, &spoken, words, folders, output, errors),
+        Err(stop) => finish(Err(stop), &lines, errors),
+    }
+}
+
+/// Does what words ask for, and hands out the exit status.
+fn run_plain<W: World + Copy, O: Write + Drop, E: Sink>(
+    alloc: Global,
+    world: W,
+    words: &[&str],
+    folders: &[&str],
+    output: &mut BufferedSink<O>,
+    errors: &mut E,
+) -> u8
+    requires output { sink_failures output.old ≡ 0 }
+    requires errors { E.failures errors.old < 2 ^ 64 - 1 }
+    ensures { EndsWith (RunsWords Global (W.bytes world) (texts folders.now) (texts words.now))
+        (Tells E.written E.failures errors.old errors.new) result }
+{
+    match parse_words(alloc, words) {
+        Ok(job) => run_job(alloc, world, &job, folders, output, errors),
+        Err(fault) => answer_words(&fault, output, errors),
+    }
+}
+
+/// Says why the words are no job, and hands out the exit status.
+fn answer_words<O: Write + Drop, E: Sink>(
+    fault: &WordsFault,
+    output: &mut BufferedSink<O>,
+    errors: &mut E,
+) -> u8
+    requires output { sink_failures output.old ≡ 0 }
+    requires errors { E.failures errors.old < 2 ^ 64 - 1 }
+    ensures { EndsWith (fault.now ≢ WordsFault.Memory) (Tells E.written E.failures errors.old errors.new) result }
+{
+    match fault {
+        WordsFault::Help(text) => print_help(text.as_str(), output, errors),
+        WordsFault::Wrong(text) => wrong_words(text.as_str(), errors),
+        WordsFault::Memory => out_of_memory(errors),
+    }
+}
+
+/// Writes help to standard output, and hands out the exit status.
+fn print_help<O: Write + Drop, E: Sink>(
+    text: &str,
+    output: &mut BufferedSink<O>,
+    errors: &mut E,
+) -> u8
+    requires output { sink_failures output.old ≡ 0 }
+    requires errors { E.failures errors.old < 2 ^ 64 - 1 }
+    ensures { EndsWith (Unit {0}) (Tells E.written E.failures errors.old errors.new) result }
+{
+    let printed = match put_all(output, text.as_bytes()) {
+        Ok(()) => output.flush(),
+        Err(fault) => Err(fault),
+    };
+    match printed {
+        Ok(()) => 0,
+        Err(_) => finish(Err(Stop::Device), b"doslink: output: 40 Device\n", errors),
+    }
+}
+
+/// Does what the words of a text ask for, and hands out the exit status.
+fn run_list<W: World + Copy, O: Write + Drop, E: Sink>(
+    alloc: Global,
+    world: W,
+    text: &str,
+    folders: &[&str],
+    output: &mut BufferedSink<O>,
+    errors: &mut E,
+) -> u8
+    requires output { sink_failures output.old ≡ 0 }
+    requires errors { E.failures errors.old < 2 ^ 64 - 1 }
+    ensures { EndsWith (RunsList Global (W.bytes world) (texts folders.now) text.now)
+        (Tells E.written E.failures errors.old errors.new) result }
+{
+    match split_words(alloc, text) {
+        Ok(words) => run_plain(alloc, world, &words, folders, output, errors),
+        Err(SplitFault::Memory) => out_of_memory(errors),
+        Err(SplitFault::UnclosedQuote) => wrong_words("doslink: a quote isn't closed\n", errors),
+    }
+}
+
+/// Does what the words of a response file ask for, and hands out the exit status.
+fn run_response<W: World + Copy, O: Write + Drop, E: Sink>(
+    alloc: Global,
+    world: W,
+    path: &str,
+    folders: &[&str],
+    output: &mut BufferedSink<O>,
+    errors: &mut E,
+) -> u8
+    requires output { sink_failures output.old ≡ 0 }
+    requires errors { E.failures errors.old < 2 ^ 64 - 1 }
+    ensures { EndsWith (RunsResponse Global (W.bytes world) (texts folders.now) path.now)
+        (Tells E.written E.failures errors.old errors.new) result }
+{
+    let mut lines = Vec::new(alloc);
+    match response_text(alloc, &world, path, &mut lines) {
+        Ok(text) => run_list(alloc, world, text.as_str(), folders, output, errors),
+        Err(stop) => finish(Err(stop), &lines, errors),
+    }
+}
+
+/// The path of a response file that is the only word.
+fn only_response<'a>(words: &[&'a str]) -> Option<&'a str>
+    ensures { option_map (λ path. path.now) result ≡ spec.only_response (texts words.now) }
+{
+    match words {
+        [word] => response_path(word),
+        _ => None,
+    }
+}
+
+/// Does what words ask for, or those of the response file that is the only one, and hands out the exit status.
+fn run_command<W: World + Copy, O: Write + Drop, E: Sink>(
+    alloc: Global,
+    world: W,
+    words: &[&str],
+    folders: &[&str],
+    output: &mut BufferedSink<O>,
+    errors: &mut E,
+) -> u8
+    requires output { sink_failures output.old ≡ 0 }
+    requires errors { E.failures errors.old < 2 ^ 64 - 1 }
+    ensures { EndsWith (Runs Global (W.bytes world) (texts folders.now) Language.Words (texts words.now))
+        (Tells E.written E.failures errors.old errors.new) result }
+{
+    match only_response(words) {
+        Some(path) => run_response(alloc, world, path, folders, output, errors),
+        None => run_plain(alloc, world, words, folders, output, errors),
+    }
+}
+
+/// Does what the words after the program's name ask for, and hands out the exit status: 0 where the program is written
+/// or help is, 1 where an input is at fault, 2 where the words are wrong, 3 where a file, a device or memory failed.
+/// `folders` are those of the environment's LIB, in which default libraries are looked up last.
+pub fn run_words<W: World + Copy, O: Write + Drop, E: Sink>(
+    alloc: Global,
+    world: W,
+    language: Language,
+    words: &[&str],
+    folders: &[&str],
+    output: &mut BufferedSink<O>,
+    errors: &mut E,
+) -> u8
+    requires output { sink_failures output.old ≡ 0 }
+    requires errors { E.failures errors.old < 2 ^ 64 - 1 }
+    ensures { EndsWith (Runs Global (W.bytes world) (texts folders.now) language (texts words.now))
+        (Tells E.written E.failures errors.old errors.new) result }
+{
+    match language {
+        Language::Directives => run_directives(alloc, world, words, folders, output, errors),
+        Language::Words => run_command(alloc, world, words, folders, output, errors),
+    }
+}
+
+/// Says that there was no memory, and hands out the exit status.
+pub fn out_of_memory<E: Sink>(errors: &mut E) -> u8
+    requires { E.failures errors.old < 2 ^ 64 - 1 }
+    ensures line { Tells E.written E.failures errors.old errors.new (codes "doslink: memory\n") }
+    ensures status { result ≡ 3 }
+{
+    finish(Err(Stop::Memory), b"", errors)
+}
+
+/// Says why the words are refused, and hands out the exit status.
+pub fn wrong_words<E: Sink>(text: &str, errors: &mut E) -> u8
+    requires { E.failures errors.old < 2 ^ 64 - 1 }
+    ensures text { Tells E.written E.failures errors.old errors.new text.now }
+    ensures status { result ≡ 2 }
+{
+    // where standard error fails, the status alone tells it
+    let _ = put_all(errors, text.as_bytes());
+    WRONG_WORDS
+}

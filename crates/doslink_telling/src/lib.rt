@@ -1,0 +1,17 @@
+//! What `doslink` tells: lines with people's names for what is at fault, the modules that are linked, and the table
+//! behind a map.
+#![tactic(auto)]
+
+mod faults;
+mod lines;
+mod mapping;
+mod missing;
+mod telling;
+
+pub use faults::{
+    push_absent_line, push_among_files_line, push_device_line, push_duplicate, push_fault,
+    push_no_text_line, push_obstacle, push_order_line, push_stock_fault,
+};
+pub use mapping::table;
+pub use missing::{Unmet, push_missing_lines, unmet_names};
+pub use telling::{handed_saids, handed_text, module_word, module_words};

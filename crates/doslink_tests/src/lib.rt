@@ -1,0 +1,9 @@
+//! Runs of `doslink`, over a world in memory.
+#![tactic(auto)]
+
+#[cfg(test)]
+mod memory;
+#[cfg(test)]
+mod modules;
+#[cfg(test)]
+mod runs;

@@ -1,0 +1,143 @@
+//! Runs over a world in memory.
+use crate::memory::{Desk, Page, Pen};
+use crate::modules::{ELSEWHERE, LIBRARY, LIKE, MARKS, NAMES, OFFERS, WANTS};
+use doslink_jobs::{language_of, run_words};
+use omf_files::BufferedSink;
+use omf_frame::WriteSink;
+use std::alloc::{AllocError, Global};
+use std::test::*;
+
+/// The words of a response file.
+const RESPONSE: &str = "-v A.OBJ\n RUN.LIB";
+
+/// Directives that ask for the same.
+const DIRECTIVES: &str = "file A.OBJ\nlibrary RUN\nsort global\nname A.EXE\n";
+
+/// Directives of which the second is wrong.
+const WRONG: &str = "file A.OBJ\nfill F.OBJ\n";
+
+/// Bytes that are no text.
+const BINARY: [u8; 4] = [0x41, 0xFF, 0xFE, 0x0A];
+
+/// How much of the library is left where it is cut off, inside the last record of its first member.
+const CUT: usize = 64;
+
+/// Runs, each in a line: the program and its words | the status | what is written to standard output | and to standard
+/// error. `~` stands for a line end.
+const RUNS: &str = "\
+doslink A.OBJ F.OBJ|0||
+doslink -v A.OBJ F.OBJ RUN.LIB|0|A.OBJ~F.OBJ~|
+doslink -v A.OBJ RUN.LIB|0|A.OBJ~RUN.LIB(b.c) for \"f\"~RUN.LIB(c.c) for \"g\"~|
+doslink A.OBJ -l RUN|0||
+doslink A.OBJ|1||doslink: A.OBJ: \"f\" is missing: wanted by \"a.c\"~
+doslink A.OBJ D.OBJ|1||doslink: A.OBJ: \"f\" is missing: wanted by \"a.c\"; \"_f\" is in D.OBJ~
+doslink E.OBJ|0||doslink: warning: library \"NONE\" of E.OBJ was not found~
+doslink --no-default-libs E.OBJ|1||doslink: E.OBJ: \"f\" is missing: wanted by \"e.c\"~
+doslink A.OBJ F.OBJ F.OBJ|1||doslink: link: 25 DuplicatePublic \"f\" in F.OBJ and F.OBJ~
+doslink A.OBJ -l NONE|3||doslink: NONE: 1 Device at record 0~
+doslink -L LIBS A.OBJ -l OTHER|0||
+doslink M.OBJ|0||
+doslink --order dosseg A.OBJ F.OBJ|0||
+doslink --order DATA,CODE A.OBJ F.OBJ F.OBJ|1||doslink: link: 25 DuplicatePublic \"f\" in F.OBJ and F.OBJ~
+doslink X.OBJ|3||doslink: X.OBJ: 1 Device at record 0~
+doslink A.OBJ CUT.LIB|1||doslink: CUT.LIB: 44 Truncated at place 63~
+doslink @WORDS|0|A.OBJ~RUN.LIB(b.c) for \"f\"~RUN.LIB(c.c) for \"g\"~|
+/bin/WLINK.EXE @LINES|0||doslink: warning: line 3: the map is not sorted~
+wlink @NONE|3||doslink: NONE: 1 Device at record 0~
+wlink @WRONG|2||doslink: WRONG: line 2: unknown directive: fill F.OBJ~
+wlink @LINES @WRONG|2||doslink: WRONG: line 2: unknown directive: fill F.OBJ~
+doslink @BINARY|2||doslink: BINARY: it is no UTF-8 text~
+wlink @BINARY|2||doslink: BINARY: it is no UTF-8 text~
+doslink -o F.OBJ A.OBJ F.OBJ|2||doslink: F.OBJ: it is read and would be written~
+doslink -m RUN.LIB A.OBJ -l RUN|2||doslink: RUN.LIB: it is read and would be written~
+doslink G.OBJ|0||doslink: warning: library \"NONE\" of G.OBJ was not found~
+doslink --keep-debug A.OBJ F.OBJ|0||
+wlink|2||doslink: no file is named to be linked~
+";
+
+/// What a run told, as a row of the table has it.
+fn row_of(
+    alloc: Global,
+    words: &str,
+    status: u8,
+    output: &Page,
+    errors: &Page,
+) -> Result<Vec<u8>, AllocError> {
+    let mut row = Vec::from_slice(alloc, words.as_bytes())?;
+    row.push(b'|')?;
+    row.push(b'0' + status % 10)?;
+    for text in [output.bytes(alloc)?, errors.bytes(alloc)?] {
+        row.push(b'|')?;
+        for byte in &text {
+            row.push(if *byte == b'\n' { b'~' } else { *byte })?;
+        }
+    }
+    Ok(row)
+}
+
+/// What a run of these words tells, as a row of the table has it.
+fn told(alloc: Global, row: &str) -> Result<Vec<u8>, AllocError> {
+    let files = [
+        ("A.OBJ", WANTS.as_slice()),
+        ("F.OBJ", OFFERS.as_slice()),
+        ("D.OBJ", LIKE.as_slice()),
+        ("E.OBJ", NAMES.as_slice()),
+        ("M.OBJ", MARKS.as_slice()),
+        ("RUN.LIB", LIBRARY.as_slice()),
+        ("LIBS/OTHER.lib", LIBRARY.as_slice()),
+        ("G.OBJ", ELSEWHERE.as_slice()),
+        ("ENV/ENV.LIB", LIBRARY.as_slice()),
+        ("WRONG", WRONG.as_bytes()),
+        ("BINARY", BINARY.as_slice()),
+        ("CUT.LIB", &LIBRARY.as_slice()[..CUT]),
+        ("WORDS", RESPONSE.as_bytes()),
+        ("LINES", DIRECTIVES.as_bytes()),
+    ];
+    let written = Page::new(alloc);
+    let output_page = Page::new(alloc);
+    let error_page = Page::new(alloc);
+    let desk = Desk {
+        files: files.as_slice(),
+        written: &written,
+    };
+    let words = row.split_ascii_whitespace().collect::<Vec<&str>>(alloc)?;
+    let Ok(mut output) = BufferedSink::new(alloc, Pen::new(&output_page)) else {
+        return Err(AllocError);
+    };
+    let mut errors = WriteSink::new(Pen::new(&error_page));
+    let status = match words.as_slice() {
+        [program, words @ ..] => run_words(
+            alloc,
+            desk,
+            language_of(program),
+            words,
+            &["", "ENV"],
+            &mut output,
+            &mut errors,
+        ),
+        [] => 9,
+    };
+    row_of(alloc, row, status, &output_page, &error_page)
+}
+
+/// The first row that isn't what its run tells, if there is one.
+fn first_wrong(alloc: Global, rows: &str) -> Result<Option<String>, AllocError> {
+    for row in rows.lines() {
+        let words = match row.split_once('|') {
+            Some((words, _)) => words,
+            None => row,
+        };
+        let line = told(alloc, words)?;
+        if line.as_slice() != row.as_bytes() {
+            return Ok(Some(String::from_utf8_lossy(alloc, &line)?));
+        }
+    }
+    Ok(None)
+}
+
+#[test]
+fn runs_tell_these_lines(rt: HostRuntime) -> Result<(), Fail> {
+    let wrong = first_wrong(rt.alloc(), RUNS)?;
+    assert_eq!(rt; wrong, None);
+    Ok(())
+}

@@ -1,0 +1,25 @@
+//! Each growth refused in turn.
+
+use crate::lowered::{PLAIN, told};
+use refusing::Refusing;
+use rows::module_of;
+use std::test::*;
+
+/// Where a growth is refused the answer is want of memory, and where none is, the lowered module.
+#[test]
+fn refused_growths(rt: HostRuntime) -> Result<(), Fail> {
+    let alloc = rt.alloc();
+    let lines = "80 01 41\n96 05 44 57 41 52 46\n98 28 02 00 01 01 01\nA0 01 00 00 11\n9C 40 01";
+    let module = module_of(alloc, lines)?;
+    let wanted = told(alloc, alloc, &module, PLAIN)?;
+    for number in 1..100u64 {
+        let refusing = Refusing::nth(alloc, number);
+        let answer = told(&refusing, alloc, &module, PLAIN)?;
+        if !refusing.has_refused() {
+            assert_eq!(rt; answer.as_str(), wanted.as_str());
+            break;
+        }
+        assert_eq!(rt; answer.as_str(), "no memory");
+    }
+    Ok(())
+}

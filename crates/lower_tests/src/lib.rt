@@ -1,0 +1,17 @@
+//! Lowered modules, written out record by record.
+#![tactic(auto)]
+
+#[cfg(test)]
+mod debug;
+#[cfg(test)]
+mod growths;
+#[cfg(test)]
+mod lowered;
+#[cfg(test)]
+mod names;
+#[cfg(test)]
+mod narrow;
+#[cfg(test)]
+mod places;
+#[cfg(test)]
+mod taken;

@@ -1,0 +1,15 @@
+pub mod Agreeing
+pub mod Joining
+pub mod Entering
+pub mod Listing
+pub mod Meeting
+pub mod Widening
+pub mod Laying
+pub mod Bodies
+pub mod Putting
+pub mod Searching
+pub mod Fitting
+pub mod Clean
+pub mod Sound
+pub mod Once
+pub mod Apart

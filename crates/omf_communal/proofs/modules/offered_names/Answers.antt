@@ -1,0 +1,9 @@
+use Rattle.indexmap.specs.IndexSet.{contains}
+use Rattle.omf_communal.specs.inside.Keys.{key_of, same_key}
+use Rattle.omf_communal.proofs.Listing.{offers-turn}
+use Rattle.omf_communal.proofs.modules.offered_names.Goals as goal
+
+pub loop-declaring-preserved : goal.loop-declaring-preserved
+loop-declaring-preserved g c = λ q.
+    offers-turn c.args.names q.now c.args.modules.now c.loop-declaring.declaring-index c.declaring-item.result (contains same_key c.loop-declaring.offered (key_of c.args.names q))
+    (contains same_key c.insert_offered.new.offered (key_of c.args.names q)) c.loop-declaring-test.true c.declaring-item.is (c.loop-declaring.invariant q) (c.in_ok-insert_offered.ensures q)

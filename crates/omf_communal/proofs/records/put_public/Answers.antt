@@ -1,0 +1,14 @@
+use Rattle.std.proofs.Common.{◌∙◌, ◌++◌, [], ◌∷◌, ap, map, false, subst, sym, arith}
+use Rattle.omf_record.specs.Canonical.{FitsFrame}
+use Rattle.omf_record.specs.Record.{Pubdef}
+use Rattle.omf_record.specs.View.{public_view, view}
+use Rattle.omf_record.specs.declared.externals.Public.{Public}
+use Rattle.omf_communal.proofs.Bodies.{IsBytes-from, base_fits}
+use Rattle.omf_communal.proofs.records.put_public.Goals as goal
+
+pub put_record-requires-clause-fits : goal.put_record-requires-clause-fits
+unfolding view
+put_record-requires-clause-fits g c =
+    let p : Public = record { name = c.args.name; offset = c.args.offset; type_index = 0 } in
+    subst (λ ps. FitsFrame (Pubdef false c.args.base (map public_view ps))) (sym (c.in_ok-push.ensures.items ∙ ap (λ ps. ps ++ p ∷ []) c.new-publics.ensures.items))
+    (base_fits c.args.base c.args.offset c.args.name.now c.requires.base (omega arith) (c.requires.short, IsBytes-from c.args.name.now (λ i. omega (arith, c.type_inv.name i))))

@@ -1,0 +1,13 @@
+pub mod Fields
+pub mod Entries
+pub mod Reading
+pub mod Modules
+pub mod Deciding
+pub mod Plan
+pub mod Records
+pub mod Answers
+pub mod Bss
+pub mod Whole
+pub mod Once
+pub mod Apart
+pub mod inside

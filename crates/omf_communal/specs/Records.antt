@@ -1,0 +1,90 @@
+-- The records of the module (TIS OMF 1.1, the section of each), and its bytes.
+use Rattle.std.specs.Prelude.{ℕ, ◌==◌, Bool, false, List, [], ◌∷◌, ◌++◌, map, if◌then◌else◌, Option, None, Some, codes}
+use Rattle.std.specs.List.{flat_map}
+use Rattle.omf_frame.specs.Frame.{frame}
+use Rattle.omf_record.specs.declared.segments.SegmentLength.{SegmentLength}
+use Rattle.omf_record.specs.declared.segments.SegmentDefinition.{SegmentDefinition}
+use Rattle.omf_record.specs.declared.externals.PublicBase.TheVariants.{InSegment}
+use Rattle.omf_record.specs.declared.segments.Alignment.TheVariants as align
+use Rattle.omf_record.specs.declared.segments.Combination.TheVariants as combine
+use Rattle.omf_record.specs.declared.segments.SegmentLength.TheVariants as len
+use Rattle.omf_record.specs.Record.{Record, Theadr, Lnames, Segdef, Grpdef, Pubdef, Modend}
+use Rattle.omf_record.specs.Body.{kind_of}
+use Rattle.omf_record.specs.Canonical.{canonical}
+use Rattle.omf_communal.specs.Plan.{Place, Plan}
+
+-- the name of the group
+abbrev pub dgroup : List ℕ
+dgroup = codes "DGROUP"
+
+-- the name of the near segment: `_BSS`, where a module has that in DGROUP
+abbrev pub near_name : (in_bss : Bool) → List ℕ
+near_name in_bss = if in_bss then codes "_BSS" else codes "c_common"
+
+-- how a SEGDEF says a length of at most 65,536 bytes
+abbrev pub length_of : ℕ → SegmentLength
+length_of length = if length == 65536 then len.Whole else len.Word length
+
+-- the near segment: public, at an even address, with the second name and the third as its class
+abbrev pub near_definition : (length : ℕ) → SegmentDefinition
+near_definition length = record {
+  alignment = align.Word;
+  combination = combine.Public2;
+  length = length_of length;
+  name = 2;
+  class = 3;
+  overlay = 0;
+}
+
+-- a far segment: private, at a paragraph, with the fourth name, also as its class
+abbrev pub far_definition : (length : ℕ) → SegmentDefinition
+far_definition length = record {
+  alignment = align.Paragraph;
+  combination = combine.Private;
+  length = length_of length;
+  name = 4;
+  class = 4;
+  overlay = 0;
+}
+
+-- the near segment, if there is one, and the group DGROUP of it
+abbrev pub near_records : Option ℕ → List Record
+near_records None = []
+near_records (Some length) = Segdef (near_definition length) ∷ Grpdef 1 (1 ∷ []) ∷ []
+
+-- a far segment
+abbrev pub far_record : (length : ℕ) → Record
+far_record length = Segdef (far_definition length)
+
+-- a name of the module
+abbrev pub place_record : Place → Record
+place_record p = Pubdef false (InSegment p.group p.segment)
+    (record { name = p.name; offset = p.offset; type_index = 0 } ∷ [])
+
+-- the names of the group and the near segment; the class of that one, and the name of far segments and their class
+abbrev pub near_names : (in_bss : Bool) → Record
+near_names in_bss = Lnames (dgroup ∷ near_name in_bss ∷ [])
+
+abbrev pub far_names : Record
+far_names = Lnames (codes "BSS" ∷ codes "FAR_BSS" ∷ [])
+
+-- what comes behind the names
+abbrev pub last_records : Plan → List Record
+last_records p = near_records p.near
+    ++ (map far_record p.far ++ (map place_record p.places ++ Modend false None ∷ []))
+
+-- all records
+abbrev pub records : (in_bss : Bool) → Plan → List Record
+records in_bss p = Theadr (codes "communal") ∷ near_names in_bss ∷ far_names ∷ last_records p
+
+-- a record as a frame, with its canonical body
+abbrev pub record_bytes : Record → List ℕ
+record_bytes r = frame (kind_of r) (canonical r)
+
+-- records, one after the other
+abbrev pub records_bytes : List Record → List ℕ
+records_bytes rs = flat_map record_bytes rs
+
+-- the module
+abbrev pub module_bytes : (in_bss : Bool) → Plan → List ℕ
+module_bytes in_bss p = records_bytes (records in_bss p)

@@ -1,0 +1,23 @@
+-- Names as keys.
+use Rattle.std.specs.Prelude.{ℕ, Bool, List, ◌∷◌}
+use Rattle.std.specs.Borrow.{Bor}
+use Rattle.std.specs.Str.{bytes_eq}
+use Rattle.omf_place.specs.Names.{folded}
+use Rattle.omf_place.specs.declared.names.Names.{Names}
+use Rattle.omf_place.specs.declared.names.Names.TheVariants as by
+use Rattle.omf_communal.specs.declared.key.Key.{Key}
+use Rattle.omf_communal.specs.declared.key.Key.TheVariants.{Exact, AsciiFolded}
+
+-- what of a key counts: the choice, and the name by it
+abbrev pub key_text : Key → List ℕ
+key_text (Exact name) = 0 ∷ name.now
+key_text (AsciiFolded name) = 1 ∷ folded name.now
+
+-- two keys are one
+abbrev pub same_key : Key → Key → Bool
+same_key x y = bytes_eq (key_text x) (key_text y)
+
+-- the key of a name under a choice
+abbrev pub key_of : Names → Bor (List ℕ) → Key
+key_of by.Exact name = Exact name
+key_of by.AsciiFolded name = AsciiFolded name

@@ -1,0 +1,26 @@
+//! Communal variables: those that modules declare, the one length that each has in a program, and a module that has
+//! them all.
+#![tactic(auto)]
+
+mod bss;
+mod deciding;
+mod declarations;
+mod entries;
+mod fault;
+mod fields;
+mod key;
+mod laws;
+mod making;
+mod modules;
+mod places;
+mod planning;
+mod reading;
+mod records;
+
+pub use bss::has_bss;
+pub use deciding::variables;
+pub use declarations::{Communal, Declaring, Extent, Variable, Whose};
+pub use fault::{ClashFault, CommunalFault, EntryFault, PlanFault};
+pub use laws::{communal_module_is_whole, one_variable_for_each_name, places_are_apart};
+pub use making::communal_module;
+pub use reading::communals;

@@ -1,0 +1,239 @@
+//! The records of the module.
+
+ghost use Rattle.std.specs.Prelude.{◌≡◌, ◌++◌, ◌≤◌, [], ◌∷◌, false, Some, OnOk, length, map};
+ghost use Rattle.std.specs.Option.{option_map};
+ghost use Rattle.omf_communal.specs.Records.{record_bytes, records_bytes};
+ghost use Rattle.omf_record.specs.Body.{kind_of};
+ghost use Rattle.omf_record.specs.Canonical.{FitsFrame};
+ghost use Rattle.omf_record.specs.Record.{Lnames, Pubdef};
+ghost use Rattle.omf_record.specs.View.{view};
+ghost use Rattle.omf_communal.specs.Records as records;
+ghost use Rattle.omf_communal.specs.inside.Planned.{parts_said, places_said, plan_said, IsBase};
+
+use crate::places::{Part, Place};
+use crate::planning::Plan;
+use omf_frame::closing;
+use omf_record::{
+    Alignment, Combination, Public, PublicBase, Record, SegmentDefinition, SegmentLength,
+    encode_record,
+};
+use std::alloc::{AllocError, Allocator};
+
+/// Appends a record as a frame.
+fn put_record<A: Allocator + Copy>(
+    alloc: A,
+    kind: u8,
+    record: &Record<'_, A>,
+    out: &mut Vec<u8, A>,
+) -> Result<(), AllocError>
+    requires kind { kind ≡ kind_of (view «record».now) }
+    requires fits { FitsFrame (view «record».now) }
+    ensures { OnOk result (out.new.items ≡ out.old.items ++ record_bytes (view «record».now)) }
+{
+    let mut body = Vec::new(alloc);
+    encode_record(record, &mut body)?;
+    let length = body.len() + 1;
+    out.extend_from_slice(&[kind, (length % 256) as u8, (length / 256) as u8])?;
+    out.extend_from_slice(&body)?;
+    out.push(closing(kind, &body))?;
+    Ok(())
+}
+
+/// How a SEGDEF says the length of a segment.
+fn length_of(part: &Part) -> SegmentLength
+    ensures { result ≡ records.length_of part.now.length }
+{
+    if part.length == 65_536 {
+        SegmentLength::Whole
+    } else {
+        SegmentLength::Word(part.length as u16)
+    }
+}
+
+/// Appends the SEGDEF of the near segment, and the GRPDEF of DGROUP with it.
+#[tactic(auto, unfolding(omf_record::specs::View::view))]
+fn put_near<A: Allocator + Copy>(
+    alloc: A,
+    part: &Part,
+    out: &mut Vec<u8, A>,
+) -> Result<(), AllocError>
+    ensures { OnOk result
+        (out.new.items ≡ out.old.items ++ records_bytes (records.near_records (Some part.now.length))) }
+{
+    let segment = SegmentDefinition {
+        alignment: Alignment::Word,
+        combination: Combination::Public2,
+        length: length_of(part),
+        name: 2,
+        class: 3,
+        overlay: 0,
+    };
+    put_record(alloc, 0x98, &Record::Segdef { segment }, out)?;
+    let mut segments = Vec::new(alloc);
+    segments.push(1)?;
+    put_record(alloc, 0x9A, &Record::Grpdef { name: 1, segments }, out)
+}
+
+/// Appends the SEGDEF of a far segment.
+#[tactic(auto, unfolding(omf_record::specs::View::view))]
+fn put_far<A: Allocator + Copy>(
+    alloc: A,
+    part: &Part,
+    out: &mut Vec<u8, A>,
+) -> Result<(), AllocError>
+    ensures { OnOk result (out.new.items ≡ out.old.items ++ record_bytes (records.far_record part.now.length)) }
+{
+    let segment = SegmentDefinition {
+        alignment: Alignment::Paragraph,
+        combination: Combination::Private,
+        length: length_of(part),
+        name: 4,
+        class: 4,
+        overlay: 0,
+    };
+    put_record(alloc, 0x98, &Record::Segdef { segment }, out)
+}
+
+/// Appends the SEGDEFs of the far segments.
+fn put_fars<A: Allocator + Copy>(
+    alloc: A,
+    parts: &[Part],
+    out: &mut Vec<u8, A>,
+) -> Result<(), AllocError>
+    ensures { OnOk result (out.new.items ≡
+        out.old.items ++ records_bytes (map records.far_record (parts_said parts.now))) }
+{
+    for part in parts {
+        put_far(alloc, part, out)?;
+    }
+    Ok(())
+}
+
+/// Appends the PUBDEF of a name in a segment of a group, or of none where that is 0.
+#[tactic(auto, unfolding(omf_record::specs::View::view))]
+fn put_public<A: Allocator + Copy>(
+    alloc: A,
+    name: &[u8],
+    base: PublicBase,
+    offset: u16,
+    out: &mut Vec<u8, A>,
+) -> Result<(), AllocError>
+    requires short { length name.now ≤ 255 }
+    requires base { IsBase base }
+    ensures { OnOk result (out.new.items ≡ out.old.items ++ record_bytes (Pubdef false base
+        (record { name = name.now; offset = offset; type_index = 0 } ∷ []))) }
+{
+    let mut publics = Vec::new(alloc);
+    publics.push(Public {
+        name,
+        offset,
+        type_index: 0,
+    })?;
+    put_record(
+        alloc,
+        0x90,
+        &Record::Pubdef {
+            local: false,
+            base,
+            publics,
+        },
+        out,
+    )
+}
+
+/// Appends the PUBDEFs of the names of the module.
+fn put_places<A: Allocator + Copy>(
+    alloc: A,
+    places: &[Place<'_>],
+    out: &mut Vec<u8, A>,
+) -> Result<(), AllocError>
+    ensures { OnOk result (out.new.items ≡
+        out.old.items ++ records_bytes (map records.place_record (places_said places.now))) }
+{
+    for place in places {
+        let base = PublicBase::InSegment {
+            group: place.group,
+            segment: place.segment,
+        };
+        put_public(alloc, place.name, base, place.offset, out)?;
+    }
+    Ok(())
+}
+
+/// The name of the near segment.
+fn near_name(in_bss: bool) -> &'static [u8]
+    ensures name { result.now ≡ records.near_name in_bss }
+    ensures short { length result.now ≤ 255 }
+{
+    if in_bss { b"_BSS" } else { b"c_common" }
+}
+
+/// Appends LNAMES with two names.
+#[tactic(auto, unfolding(omf_record::specs::View::view))]
+fn put_names<A: Allocator + Copy>(
+    alloc: A,
+    one: &[u8],
+    other: &[u8],
+    out: &mut Vec<u8, A>,
+) -> Result<(), AllocError>
+    requires one { length one.now ≤ 255 }
+    requires other { length other.now ≤ 255 }
+    ensures { OnOk result
+        (out.new.items ≡ out.old.items ++ record_bytes (Lnames (one.now ∷ other.now ∷ []))) }
+{
+    let mut names = Vec::new(alloc);
+    names.push(one)?;
+    names.push(other)?;
+    put_record(alloc, 0x96, &Record::Lnames { names }, out)
+}
+
+/// Appends the near segment and its group, if there is one.
+fn put_nears<A: Allocator + Copy>(
+    alloc: A,
+    near: &Option<Part>,
+    out: &mut Vec<u8, A>,
+) -> Result<(), AllocError>
+    ensures { OnOk result (out.new.items ≡ out.old.items
+        ++ records_bytes (records.near_records (option_map (λ p. p.length) near.now))) }
+{
+    match near {
+        Some(part) => put_near(alloc, part, out),
+        None => Ok(()),
+    }
+}
+
+/// Appends the records behind the names.
+#[tactic(auto, unfolding(omf_record::specs::View::view))]
+fn put_last<A: Allocator + Copy>(
+    alloc: A,
+    plan: &Plan<'_, A>,
+    out: &mut Vec<u8, A>,
+) -> Result<(), AllocError>
+    ensures { OnOk result
+        (out.new.items ≡ out.old.items ++ records_bytes (records.last_records (plan_said plan.now))) }
+{
+    put_nears(alloc, &plan.near, out)?;
+    put_fars(alloc, &plan.far, out)?;
+    put_places(alloc, &plan.places, out)?;
+    let end = Record::Modend {
+        main: false,
+        start: None,
+    };
+    put_record(alloc, 0x8A, &end, out)
+}
+
+/// Appends the records of a plan.
+#[tactic(auto, unfolding(omf_record::specs::View::view))]
+pub(crate) fn put_module<A: Allocator + Copy>(
+    alloc: A,
+    in_bss: bool,
+    plan: &Plan<'_, A>,
+    out: &mut Vec<u8, A>,
+) -> Result<(), AllocError>
+    ensures { OnOk result (out.new.items ≡ out.old.items ++ records.module_bytes in_bss (plan_said plan.now)) }
+{
+    put_record(alloc, 0x80, &Record::Theadr { name: b"communal" }, out)?;
+    put_names(alloc, b"DGROUP", near_name(in_bss), out)?;
+    put_names(alloc, b"BSS", b"FAR_BSS", out)?;
+    put_last(alloc, plan, out)
+}

@@ -1,0 +1,29 @@
+-- Answers of the program without where their bytes lie in memory.
+use Rattle.std.specs.Prelude.{ℕ, List, Some, None, Ok, Err}
+use Rattle.std.specs.declared.option.Option.{Option}
+use Rattle.std.specs.declared.result.Result.{Result}
+use Rattle.std.specs.Borrow.{Bor}
+use Rattle.omf_frame.specs.Frame.{Frame}
+use Rattle.omf_frame.specs.Lending.{plain_frame}
+use Rattle.omf_frame.specs.declared.frame.Frame.{Frame as LentFrame}
+use Rattle.omf_library.specs.declared.fault.LibraryFault.{LibraryFault}
+
+-- bytes
+abbrev pub bytes_said : Option (Bor (List ℕ)) → Option (List ℕ)
+bytes_said None = None
+bytes_said (Some x) = Some x.now
+
+-- bytes, and the bytes behind a field
+abbrev pub name_said : Option (Bor (List ℕ) × Bor (List ℕ)) → Option (List ℕ × List ℕ)
+name_said None = None
+name_said (Some (x, rest)) = Some (x.now, rest.now)
+
+-- a number, and the bytes behind its field
+abbrev pub number_said : Option (ℕ × Bor (List ℕ)) → Option (ℕ × List ℕ)
+number_said None = None
+number_said (Some (n, rest)) = Some (n, rest.now)
+
+-- a record
+abbrev pub record_said : Result LentFrame LibraryFault → Result Frame LibraryFault
+record_said (Ok f) = Ok (plain_frame f)
+record_said (Err e) = Err e

@@ -1,0 +1,140 @@
+-- The subrecords of 9CH and 9DH FIXUPP (TIS OMF 1.1, "Fixup Record"), and how they are written.
+use Rattle.std.specs.Prelude.{ℕ, ◌+◌, ◌*◌, ◌/◌, ◌%◌, ◌==◌, ◌&&◌, Bool, true, false, ◌||◌, if◌then◌else◌, nat_lt}
+use Rattle.std.specs.Prelude.{List, [], ◌∷◌, ◌++◌, length, slice_index, None, Some, Ok, Err}
+use Rattle.std.specs.declared.option.Option.{Option}
+use Rattle.std.specs.declared.result.Result.{Result}
+use Rattle.std.specs.Option.{option_map, option_and_then, ok_or}
+use Rattle.omf_library.specs.Fields.{bytes_front, index_front}
+use Rattle.omf_lower.specs.declared.fault.Obstacle.{Obstacle}
+use Rattle.omf_lower.specs.declared.fault.Obstacle.TheVariants.{Location, Above16Bits}
+use Rattle.omf_lower.specs.Fields.{◌>>=◌, field, before, narrow}
+use Rattle.omf_lower.specs.Data.{Data, located, moves}
+
+-- whether an index stands for a frame by this method: F0, F1 and F2 have one, F4 and F5 none; others are refused
+abbrev pub frame_has_index : ℕ → Option Bool
+frame_has_index method =
+    if nat_lt method 3 then Some true
+    else if (method == 4) || (method == 5) then Some false
+    else None
+
+-- whether one stands for a target by this method, T0 to T2; T3 is refused
+abbrev pub target_has_index : ℕ → Option Bool
+target_has_index method = if method == 3 then None else Some true
+
+-- the bytes behind an index, if there is one
+abbrev pub behind_index : Bool → List ℕ → Option (List ℕ)
+behind_index true bytes = option_map (λ (index, rest). rest) (index_front bytes)
+behind_index false bytes = Some bytes
+
+-- those behind an index, of which it isn't known that its method is accepted
+abbrev pub behind_datum : Option Bool → List ℕ → Option (List ℕ)
+behind_datum None bytes = None
+behind_datum (Some has) bytes = behind_index has bytes
+
+-- whether an index stands in a thread: bit 6 tells those of frames, whose method bits 4 to 2 are, from those of
+-- targets, whose method bits 3 and 2 are
+abbrev pub thread_has_index : ℕ → Option Bool
+thread_has_index first =
+    if first / 64 % 2 == 1 then frame_has_index (first / 4 % 8) else target_has_index (first / 4 % 4)
+
+-- whether an index stands for a fix-up's frame: bit 7 of the fix data byte, F, is clear, and bits 6 to 4 are a method
+abbrev pub has_frame_index : ℕ → Option Bool
+has_frame_index fix_data = if fix_data / 128 == 1 then Some false else frame_has_index (fix_data / 16 % 8)
+
+-- whether one stands for its target: bit 3, T, is clear, and bits 1 and 0 are a method
+abbrev pub has_target_index : ℕ → Option Bool
+has_target_index fix_data = if fix_data / 8 % 2 == 1 then Some false else target_has_index (fix_data % 4)
+
+-- a displacement of so many bytes, which stands where bit 2, P, is clear, and the bytes behind it
+abbrev pub displacement_front : ℕ → ℕ → List ℕ → Option (List ℕ × List ℕ)
+displacement_front width fix_data bytes =
+    if fix_data / 4 % 2 == 1 then Some ([], bytes) else bytes_front width bytes
+
+-- the bytes behind a frame and a target
+abbrev pub behind_data : ℕ → List ℕ → Option (List ℕ)
+behind_data fix_data bytes =
+    option_and_then (behind_datum (has_target_index fix_data)) (behind_datum (has_frame_index fix_data) bytes)
+
+-- a reference: the fix data byte, a frame and a target; a displacement; and the bytes behind it
+pub record Reference : Type 0 where
+  pub datum : List ℕ
+  pub displacement : List ℕ
+  pub rest : List ℕ
+
+unfoldable pub reference_front : ℕ → List ℕ → Option Reference
+reference_front width [] = None
+reference_front width (fix_data ∷ bytes) = option_and_then
+    (λ after. option_map
+    (λ (displacement, rest).
+    record { datum = before (fix_data ∷ bytes) after; displacement = displacement; rest = rest })
+    (displacement_front width fix_data after))
+    (behind_data fix_data bytes)
+
+-- a fix-up: two bytes with its location, and its reference
+abbrev pub fixup_parts : ℕ → List ℕ → Option (ℕ × Reference)
+fixup_parts width [] = None
+fixup_parts width (low ∷ bytes) = option_map (λ reference. (low, reference)) (reference_front width bytes)
+
+-- the bytes behind a thread with this first byte
+abbrev pub behind_thread : ℕ → List ℕ → Option (List ℕ)
+behind_thread first bytes = behind_datum (thread_has_index first) bytes
+
+-- ---- threads alone
+
+-- the threads stay, and the fix-ups, whose displacements have so many bytes, go
+unfoldable pub threads_front : ℕ → List ℕ → Result (List ℕ × List ℕ) Obstacle
+threads_front width [] = field None
+threads_front width (first ∷ bytes) =
+    if nat_lt first 128
+    then (field (behind_thread first bytes) >>= λ rest. Ok (before (first ∷ bytes) rest, rest))
+    else (field (fixup_parts width bytes) >>= λ (low, reference). Ok ([], reference.rest))
+
+-- ---- narrower fix-ups
+
+-- a displacement in at most two bytes
+abbrev pub narrowed : List ℕ → Result (List ℕ) Obstacle
+narrowed displacement =
+    if nat_lt (length displacement) 4 then Ok displacement
+    else (narrow displacement >>= λ number. Ok number.0)
+
+-- the two bytes with a location, 1 to 15, at a place
+abbrev pub locat : (first location place : ℕ) → ℕ × ℕ
+locat first location place = (first / 64 * 64 + location * 4 + place / 256 % 4, place % 256)
+
+-- a place whose four bytes hold a number with an upper word of 0
+abbrev pub low_place : ℕ × List ℕ → Result ℕ Obstacle
+low_place (place, content) =
+    if nat_lt (length content) 4 then Err Location
+    else if (slice_index content 2 == 0) && (slice_index content 3 == 0) then Ok place
+    else Err Above16Bits
+
+-- a location of 32 bits, 9 or 13, becomes one of 16, 1. Bit 6, M, is set: it isn't self-relative
+abbrev pub wide_location : Data → ℕ → ℕ → Result (ℕ × ℕ) Obstacle
+wide_location last first place =
+    if first / 64 % 2 == 0 then Err Location
+    else (ok_or (located last place) Location >>= low_place >>= λ to. Ok (locat first 1 to))
+
+-- the two bytes of a fix-up with its location, bits 5 to 2 of the first, at the place to which that of the data moves
+abbrev pub moved : Data → ℕ → ℕ → Result (ℕ × ℕ) Obstacle
+moved last first low =
+    let location = first / 4 % 16 in
+    let place = first % 4 * 256 + low in
+    if (location == 9) || (location == 13) then wide_location last first place
+    else if moves last then (ok_or (located last place) Location >>= λ to. Ok (locat first location to.0))
+    else Ok (first, low)
+
+-- the text of a fix-up
+abbrev pub fixup_text : Data → ℕ → ℕ × Reference → Result (List ℕ) Obstacle
+fixup_text last first (low, reference) = do
+  locat' ← moved last first low
+  displacement ← narrowed reference.displacement
+  Ok (locat'.0 ∷ locat'.1 ∷ (reference.datum ++ displacement))
+
+-- threads stay, and fix-ups, whose displacements have so many bytes, are written anew
+unfoldable pub fixups_front : Data → ℕ → List ℕ → Result (List ℕ × List ℕ) Obstacle
+fixups_front last width [] = field None
+fixups_front last width (first ∷ bytes) =
+    if nat_lt first 128
+    then (field (behind_thread first bytes) >>= λ rest. Ok (before (first ∷ bytes) rest, rest))
+    else (field (fixup_parts width bytes)
+    >>= λ parts. (fixup_text last first parts >>= λ text. Ok (text, parts.1.rest)))

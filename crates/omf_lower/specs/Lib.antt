@@ -1,0 +1,12 @@
+pub mod Fields
+pub mod Content
+pub mod Segments
+pub mod Externals
+pub mod Narrow
+pub mod Data
+pub mod Fixups
+pub mod Seen
+pub mod Records
+pub mod Module
+pub mod Law
+pub mod inside

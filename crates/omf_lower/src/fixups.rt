@@ -1,0 +1,259 @@
+//! The subrecords of 9CH and 9DH FIXUPP.
+
+ghost use Rattle.std.specs.Prelude.{◌≡◌, ◌<◌, ◌≤◌, IfOk, IfSome, length};
+ghost use Rattle.omf_library.specs.Said.{bytes_said, name_said};
+ghost use Rattle.omf_lower.specs.Fixups as fixups;
+ghost use Rattle.omf_lower.specs.inside.Views.{data_view, entry_said, fixup_said, reference_said, reference_view};
+ghost use Rattle.omf_lower.specs.inside.Views.{rest_said, text_said};
+
+use crate::data::{Data, located};
+use crate::fault::Obstacle;
+use crate::fields::{before, narrow};
+use crate::written::Written;
+use omf_library::{take_bytes, take_index};
+
+/// The reference of a fix-up.
+#[derive(Clone, Copy, Debug)]
+pub(crate) struct Reference<'a> {
+    /// The fix data byte, a frame and a target.
+    pub(crate) datum: &'a [u8],
+    /// The displacement, or nothing.
+    pub(crate) displacement: &'a [u8],
+    /// The bytes behind it.
+    pub(crate) rest: &'a [u8],
+}
+/// Whether an index stands for a frame by this method. None where the method is refused.
+fn frame_has_index(method: u8) -> Option<bool>
+    ensures { result ≡ fixups.frame_has_index method }
+{
+    match method {
+        0..=2 => Some(true),
+        4 | 5 => Some(false),
+        _ => None,
+    }
+}
+
+/// Whether an index stands for a target by this method, from 0 to 3. None where the method is refused.
+fn target_has_index(method: u8) -> Option<bool>
+    ensures { result ≡ fixups.target_has_index method }
+{
+    if method == 3 { None } else { Some(true) }
+}
+
+/// The bytes behind an index, if there is one. None where they end inside it.
+fn behind_index(has: bool, bytes: &[u8]) -> Option<&[u8]>
+    ensures said { bytes_said result ≡ fixups.behind_index has bytes.now }
+    ensures no_longer { IfSome result (λ rest. length rest.now ≤ length bytes.now) }
+{
+    if !has {
+        return Some(bytes);
+    }
+    let (_, rest) = take_index(bytes)?;
+    Some(rest)
+}
+
+/// Whether an index stands in the thread with this first byte. None where its method is refused.
+fn thread_has_index(first: u8) -> Option<bool>
+    ensures { result ≡ fixups.thread_has_index first }
+{
+    if first / 64 % 2 == 1 {
+        frame_has_index(first / 4 % 8)
+    } else {
+        target_has_index(first / 4 % 4)
+    }
+}
+
+/// Whether an index stands for the frame of a fix-up. None where its method is refused.
+fn has_frame_index(fix_data: u8) -> Option<bool>
+    ensures { result ≡ fixups.has_frame_index fix_data }
+{
+    if fix_data / 128 == 1 {
+        Some(false)
+    } else {
+        frame_has_index(fix_data / 16 % 8)
+    }
+}
+
+/// Whether an index stands for the target of a fix-up. None where its method is refused.
+fn has_target_index(fix_data: u8) -> Option<bool>
+    ensures { result ≡ fixups.has_target_index fix_data }
+{
+    if fix_data / 8 % 2 == 1 {
+        Some(false)
+    } else {
+        target_has_index(fix_data % 4)
+    }
+}
+
+/// A displacement of so many bytes, if the fix data byte says that there is one, and the bytes behind it.
+fn take_displacement(width: usize, fix_data: u8, bytes: &[u8]) -> Option<(&[u8], &[u8])>
+    ensures said { name_said result ≡ fixups.displacement_front width fix_data bytes.now }
+    ensures no_longer { IfSome result (λ x. length x.1.now ≤ length bytes.now) }
+{
+    if fix_data / 4 % 2 == 1 {
+        return Some((&[], bytes));
+    }
+    take_bytes(bytes, width)
+}
+
+/// The bytes behind a frame and a target.
+fn behind_data(fix_data: u8, bytes: &[u8]) -> Option<&[u8]>
+    ensures said { bytes_said result ≡ fixups.behind_data fix_data bytes.now }
+    ensures no_longer { IfSome result (λ rest. length rest.now ≤ length bytes.now) }
+{
+    let rest = behind_index(has_frame_index(fix_data)?, bytes)?;
+    behind_index(has_target_index(fix_data)?, rest)
+}
+
+/// The reference at the front, whose displacement has so many bytes. None where none is there.
+#[tactic(auto, unfolding(crate::specs::Fixups::reference_front))]
+pub(crate) fn take_reference(width: usize, bytes: &[u8]) -> Option<Reference<'_>>
+    ensures said { reference_said result ≡ fixups.reference_front width bytes.now }
+    ensures shorter { IfSome result (λ r. length r.rest.now < length bytes.now) }
+{
+    let [fix_data, rest @ ..] = bytes else {
+        return None;
+    };
+    let after = behind_data(*fix_data, rest)?;
+    let (displacement, rest) = take_displacement(width, *fix_data, after)?;
+    Some(Reference {
+        datum: before(bytes, after),
+        displacement,
+        rest,
+    })
+}
+
+/// The second byte of a fix-up, and its reference.
+fn fixup_parts(width: usize, bytes: &[u8]) -> Option<(u8, Reference<'_>)>
+    ensures said { fixup_said result ≡ fixups.fixup_parts width bytes.now }
+    ensures shorter { IfSome result (λ x. length x.1.rest.now < length bytes.now) }
+{
+    let [low, rest @ ..] = bytes else {
+        return None;
+    };
+    let reference = take_reference(width, rest)?;
+    Some((*low, reference))
+}
+
+/// The bytes behind a thread with this first byte.
+fn behind_thread(first: u8, bytes: &[u8]) -> Option<&[u8]>
+    ensures said { bytes_said result ≡ fixups.behind_thread first bytes.now }
+    ensures no_longer { IfSome result (λ rest. length rest.now ≤ length bytes.now) }
+{
+    behind_index(thread_has_index(first)?, bytes)
+}
+
+/// What stays of the subrecord at the front, where only threads do, and the bytes behind it.
+#[tactic(auto, unfolding(crate::specs::Fixups::threads_front))]
+pub(crate) fn take_thread(width: usize, bytes: &[u8]) -> Result<(Written<'_>, &[u8]), Obstacle>
+    ensures said { entry_said result ≡ fixups.threads_front width bytes.now }
+    ensures shorter { IfOk result (λ x. length x.1.now < length bytes.now) }
+{
+    let [first, rest @ ..] = bytes else {
+        return Err(Obstacle::Body);
+    };
+    if *first < 128 {
+        let rest = behind_thread(*first, rest).ok_or(Obstacle::Body)?;
+        Ok((Written::Same(before(bytes, rest)), rest))
+    } else {
+        let (_, reference) = fixup_parts(width, rest).ok_or(Obstacle::Body)?;
+        Ok((Written::Nothing, reference.rest))
+    }
+}
+
+/// A displacement in at most two bytes.
+pub(crate) fn narrowed(displacement: &[u8]) -> Result<&[u8], Obstacle>
+    ensures { rest_said result ≡ fixups.narrowed displacement.now }
+{
+    if displacement.len() < 4 {
+        return Ok(displacement);
+    }
+    let (number, _) = narrow(displacement)?;
+    Ok(number)
+}
+
+/// The two bytes of a fix-up with a location at a place.
+fn locat(first: u8, location: u8, place: usize) -> (u8, u8)
+    requires { location < 16 }
+    ensures { result ≡ fixups.locat first location place }
+{
+    let high = (place / 256 % 4) as u8;
+    (first / 64 * 64 + location * 4 + high, (place % 256) as u8)
+}
+
+/// The place, if the four bytes there hold a number whose upper word is 0.
+fn low_place(place: usize, content: &[u8]) -> Result<usize, Obstacle>
+    ensures { result ≡ fixups.low_place (place, content.now) }
+{
+    if content.len() < 4 {
+        return Err(Obstacle::Location);
+    }
+    if content[2] != 0 || content[3] != 0 {
+        return Err(Obstacle::Above16Bits);
+    }
+    Ok(place)
+}
+
+/// The two bytes of a fix-up of 32 bits at a place, as one of 16.
+fn wide_location(last: &Data<'_>, first: u8, place: usize) -> Result<(u8, u8), Obstacle>
+    ensures { result ≡ fixups.wide_location (data_view last.now) first place }
+{
+    if first / 64 % 2 == 0 {
+        return Err(Obstacle::Location);
+    }
+    let (to, content) = located(last, place).ok_or(Obstacle::Location)?;
+    let to = low_place(to, content)?;
+    Ok(locat(first, 1, to))
+}
+
+/// The two bytes of a fix-up with its location, at the place to which that of the data moves.
+fn moved(last: &Data<'_>, first: u8, low: u8) -> Result<(u8, u8), Obstacle>
+    ensures { result ≡ fixups.moved (data_view last.now) first low }
+{
+    let location = first / 4 % 16;
+    let place = usize::from(first % 4) * 256 + usize::from(low);
+    if location == 9 || location == 13 {
+        return wide_location(last, first, place);
+    }
+    if last.kind != 0xA3 {
+        return Ok((first, low));
+    }
+    let (to, _) = located(last, place).ok_or(Obstacle::Location)?;
+    Ok(locat(first, location, to))
+}
+
+/// What is written for a fix-up with these two bytes and this reference.
+fn fixup_text<'a>(
+    last: &Data<'_>,
+    first: u8,
+    low: u8,
+    reference: &Reference<'a>,
+) -> Result<Written<'a>, Obstacle>
+    ensures { text_said result ≡ fixups.fixup_text (data_view last.now) first (low, reference_view reference.now) }
+{
+    let (first, low) = moved(last, first, low)?;
+    let displacement = narrowed(reference.displacement)?;
+    Ok(Written::Located(first, low, reference.datum, displacement))
+}
+
+/// What is written for the subrecord at the front, and the bytes behind it.
+#[tactic(auto, unfolding(crate::specs::Fixups::fixups_front))]
+pub(crate) fn take_fixup<'a>(
+    last: &Data<'_>,
+    width: usize,
+    bytes: &'a [u8],
+) -> Result<(Written<'a>, &'a [u8]), Obstacle>
+    ensures said { entry_said result ≡ fixups.fixups_front (data_view last.now) width bytes.now }
+    ensures shorter { IfOk result (λ x. length x.1.now < length bytes.now) }
+{
+    let [first, rest @ ..] = bytes else {
+        return Err(Obstacle::Body);
+    };
+    if *first < 128 {
+        let rest = behind_thread(*first, rest).ok_or(Obstacle::Body)?;
+        return Ok((Written::Same(before(bytes, rest)), rest));
+    }
+    let (low, reference) = fixup_parts(width, rest).ok_or(Obstacle::Body)?;
+    let written = fixup_text(last, *first, low, &reference)?;
+    Ok((written, reference.rest))
+}

@@ -1,0 +1,24 @@
+//! What compilers write, lowered to records that `omf` takes: a record for a record.
+#![tactic(auto)]
+
+mod data;
+mod draft;
+mod entries;
+mod externals;
+mod fault;
+mod fields;
+mod fixups;
+mod laws;
+mod lowering;
+mod narrowing;
+mod places;
+mod recipe;
+mod records;
+mod seen;
+mod segments;
+mod written;
+
+pub use fault::{LoweringFault, Obstacle};
+pub use laws::records_are_kept;
+pub use lowering::{Lowering, lower};
+pub use places::record_place;
