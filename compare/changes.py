@@ -13,8 +13,6 @@ from dataclasses import dataclass
 from pathlib import Path
 
 HERE = Path(__file__).resolve().parent
-# within so many seeds each change must be found
-MOST_SEEDS = 2000
 
 
 @dataclass
@@ -294,15 +292,18 @@ PRINTING = [
 CHANGES = [*READING, *MODULE, *PLACEMENT, *IMAGE, *FILES, *PRINTING]
 
 
-def seeds_until_found(program, change):
-    """In how many seeds a change makes its first difference, and the difference; 0 for none."""
+def seeds_until_found(kind, program, change):
+    """In how many seeds a change makes its first difference, and the difference; 0 for none.
+
+    It is looked for by a command line of some kind, which driving.py describes.
+    """
     with tempfile.TemporaryDirectory(prefix="omf-changed-") as folder:
         copy = Path(folder) / "compare"
         shutil.copytree(HERE, copy)
         change.make(copy)
         done = subprocess.run(
-            [sys.executable, copy / "run", "--program", program, "--count", str(MOST_SEEDS),
-             "--until-difference"],
+            [sys.executable, copy / kind.name, "--program", program,
+             "--count", str(kind.most_seeds), "--until-difference"],
             stdout=subprocess.PIPE, text=True, check=False)
     if done.returncode not in (0, 1):
         raise ValueError(f"{change.title}: the changed model failed")
@@ -310,15 +311,14 @@ def seeds_until_found(program, change):
     return int(number), difference
 
 
-def try_all(program, words, jobs):
-    """Tries each change whose title has some words; answers how many made no difference."""
-    chosen = [change for change in CHANGES if words in change.title]
+def try_all(kind, program, chosen, jobs):
+    """Tries each of some changes; answers how many made no difference."""
     missed = 0
     with concurrent.futures.ThreadPoolExecutor(jobs) as pool:
-        tried = pool.map(lambda change: seeds_until_found(program, change), chosen)
+        tried = pool.map(lambda change: seeds_until_found(kind, program, change), chosen)
         for change, (number, _) in zip(chosen, tried):
             missed += number == 0
-            answer = f"found in {number:,}" if number else f"not found in {MOST_SEEDS:,}"
+            answer = f"found in {number:,}" if number else f"not found in {kind.most_seeds:,}"
             print(f"{answer:>20}  {change.file:16} {change.title}", flush=True)
     print(f"{len(chosen):,} changes, not found: {missed:,}")
     return missed

@@ -38,7 +38,8 @@ def expect(what, found, wanted):
         begin = max(at - SHOWN // 2, 0)
         end = begin + SHOWN
         raise Difference(
-            f"{what} from {begin} on: omf {found[begin:end]!r}, the model {wanted[begin:end]!r}")
+            f"{what} from {begin} on: the program {found[begin:end]!r},"
+            f" the model {wanted[begin:end]!r}")
 
 
 def asked(command, *given):
@@ -250,9 +251,9 @@ def summary(counts, minutes):
         f" {linked / minutes:,.0f} links a minute")
 
 
-def compare_seeds(program, folder, seeds, keeps=False):
+def compare_seeds(program, folder, seeds, keeps=False, kind=Comparison):
     """Compares some seeds; answers the counts and a line for each difference."""
-    comparison = Comparison(program, Path(folder), keeps)
+    comparison = kind(program, Path(folder), keeps)
     differences = []
     for seed in seeds:
         try:
@@ -274,9 +275,9 @@ def compare_long_inputs(program, folder):
     return comparison.counts, differences
 
 
-def until_difference(program, folder, seeds):
+def until_difference(program, folder, seeds, kind=Comparison):
     """Compares seeds up to the first difference; answers how many it took, or 0, and a line."""
-    comparison = Comparison(program, Path(folder))
+    comparison = kind(program, Path(folder))
     for taken, seed in enumerate(seeds, 1):
         try:
             comparison.compare(seed)
@@ -285,11 +286,13 @@ def until_difference(program, folder, seeds):
     return 0, []
 
 
-def lines_of_ends(counts):
+COMMANDS = ["link", "load", "show", "check", "rewrite"]
+
+
+def lines_of_ends(counts, names=COMMANDS, titles=faults.NAMES):
     """A table of how often each command ended by each fault."""
-    names = ["link", "load", "show", "check", "rewrite"]
     yield " " * 22 + "".join(f"{name:>9}" for name in names)
-    for number, title in {0: DONE, **faults.NAMES}.items():
+    for number, title in {0: DONE, **titles}.items():
         row = [counts.ends[name, number] for name in names]
         yield f"{number or '':2} {title:19}" + "".join(f"{count:9,}" for count in row)
 

@@ -1,4 +1,4 @@
-"""A model of the rules of docs/FORMATS.md.
+"""A model of the rules of docs/FORMATS.md, and of those of docs/DOSLINK.md.
 
 The linker is proved to keep its contracts. Whether those contracts say what docs/FORMATS.md says,
 and whether that page can be followed by someone who has nothing else, no proof tells. So the rules
@@ -16,6 +16,13 @@ The model spends no thought on speed.
 | `program_file` | a program's file and how it is loaded: faults 35 to 39 |
 | `printing` | what is printed of records, programs and links |
 | `commands` | what each command of `omf` answers and writes |
+| `libraries` | the members of a library: faults 42 to 47 |
+| `names` | the names that a module wants and offers |
+| `search` | which members a link takes, and which names it misses |
+| `ordering` | the module that fixes an order of segments and defines marks |
+| `lowering` | modules of records that a link takes, and with far data together: faults 48 to 52 |
+| `directives` | what words and directives ask for |
+| `linking` | what `doslink` answers and writes |
 
 An `owner` is the number of an input, and of its module, from 0 on. A `place` is how many bytes come
 before a record. Left out are devices that fail while they are read or written, and want of memory.

@@ -12,22 +12,41 @@ NAMES = {
     35: "Magic", 36: "Header", 37: "Truncated", 38: "RelocationOutside", 39: "DoesNotFit",
     40: "Device", 41: "InputTooLong",
 }
+# those of libraries, which doslink reads
+LIBRARY_NAMES = {
+    42: "PageSize", 43: "ZeroLength", 44: "Truncated", 45: "Closing", 46: "Header", 47: "TooLong",
+}
+# those of records that can't be lowered
+LOWERING_NAMES = {
+    48: "DataType", 49: "Above16Bits", 50: "Location", 51: "Body", 52: "TooLong",
+}
+# what else ends a job of doslink, without a number
+MISSING, TOO_MANY_PARTS, WORDS, READ_AND_WRITTEN = "M", "P", "W", "O"
+OTHER_ENDS = {
+    MISSING: "names are missing", TOO_MANY_PARTS: "TooManySegments", WORDS: "wrong words",
+    READ_AND_WRITTEN: "OUT is read",
+}
 # the faults of devices, which have a status of their own
 DEVICE_FAULTS = (1, 40)
 
 PRINTABLE = frozenset(range(0x20, 0x7F)) - frozenset(b'"\\')
 
 
+def escaped(name):
+    """A name with `\\x` and two digits for a byte that isn't printed as it is."""
+    return "".join(chr(b) if b in PRINTABLE else f"\\x{b:02X}" for b in name)
+
+
 def printed_name(name):
-    """A name between quotes, with `\\x` and two digits for a byte that isn't printed as it is."""
-    return '"' + "".join(chr(b) if b in PRINTABLE else f"\\x{b:02X}" for b in name) + '"'
+    """An escaped name between quotes."""
+    return f'"{escaped(name)}"'
 
 
 class Fault(Exception):
     """A fault: its number and, where it has them, what it is at.
 
-    `owner` is an input's number, `place` that of a record, `byte` where in the body fault 6 stands,
-    and `name` that of a segment, a group or a public.
+    `owner` is an input's number, or how it is called; `place` that of a record, `byte` where in the
+    body fault 6 stands, and `name` that of a segment, a group or a public.
     """
 
     def __init__(self, number, owner=None, place=None, byte=None, name=None):
@@ -37,22 +56,26 @@ class Fault(Exception):
         self.place = place
         self.byte = byte
         self.name = name
+        # the words for modules that define a name twice
+        self.words = []
 
     @property
     def status(self):
         """The exit status that it makes."""
         return 3 if self.number in DEVICE_FAULTS else 1
 
-    def line(self, files):
-        """The line on standard error; `files` are the names of the inputs."""
-        whose = "link" if self.owner is None else files[self.owner]
-        line = f"omf: {whose}: {self.number} {NAMES[self.number]}"
+    def line(self, files=(), program="omf"):
+        """The line on standard error; `files` are the names of inputs that have numbers."""
+        whose = files[self.owner] if isinstance(self.owner, int) else self.owner or "link"
+        name = {**NAMES, **LIBRARY_NAMES, **LOWERING_NAMES}[self.number]
+        line = f"{program}: {whose}: {self.number} {name}"
         if self.place is not None:
-            line += f" at record {self.place}"
+            line += f" at {'place' if self.number in LIBRARY_NAMES else 'record'} {self.place}"
         if self.byte is not None:
             line += f" byte {self.byte}"
         if self.name is not None:
             line += f" {printed_name(self.name)}"
+        line += f" in {' and '.join(self.words)}" if self.words else ""
         return line + "\n"
 
 

@@ -162,15 +162,18 @@ class Module:
         """Names are never refused."""
         self.names += record.names
 
+    def name_at(self, index):
+        """The name of an index; that of 0 is empty."""
+        return self.names[index - 1] if index else b""
+
     def define_segment(self, record, place):
         """Fault 10 is a name or class above the names; index 0 is the empty name."""
         self.refuse([10] if max(record.name, record.class_name) > len(self.names) else [], place)
-        names = [b""] + self.names
         kind = KINDS[record.combination] if record.alignment else "absolute"
         alignment = ALIGNMENTS.get(record.alignment)
         self.segments.append(Segment(
-            names[record.name], names[record.class_name], kind, record.length, alignment,
-            record.frame, record.offset))
+            self.name_at(record.name), self.name_at(record.class_name), kind, record.length,
+            alignment, record.frame, record.offset))
 
     def define_group(self, record, place):
         """Fault 10 is a name that isn't there; then, of each component in order, 11 or 21."""

@@ -1,0 +1,376 @@
+"""Jobs of `doslink`: files, libraries, what is asked for, and the words or directives for it."""
+
+from dataclasses import dataclass, field
+
+from generator.libraries import SMALL_PAGES, archive, damaged, library
+from generator.objects import (
+    CLASSES, NAMES, SEGMENTS, TITLES, ObjectMaker, any_plan, module_of_far_data,
+    module_of_many_parts)
+from model import ordering
+from model.directives import Job
+from model.placement import folded
+
+OUT, MAP, RESPONSE, NO_FOLDER = "out.exe", "out.map", "response", "missing/"
+FOLDER, OTHER_FOLDER, LAST_FOLDER = "parts", "more/", "last"
+MOST_PARTS, MANY_EVERY = 16_383, 500
+# lengths of far data, which fits in a frame or not once it is in whole paragraphs
+FAR_LENGTHS = [(0xFFF0, 16), (0xFFF0, 17), (0xFFF1, 5), (0xFFE1, 15), (0x8000, 0x8000)]
+FAR_EVERY = 100
+MEMBER_NAMES = [b"printf.o", b"exit.o", b"system.o", b"a_long_name_of_a_member.o", b"x"]
+DEFAULT_LIBRARIES = [b"SLIBCE", b"runtime.a", b"GRAPH.LIB", b"em87", b"slibce"]
+LINES_OF_NOTHING = [
+    "", "# made by hand", "debug dwarf", "option quiet", "DEBUG line", "  ", "op quiet",
+    "option quiet, nodefaultlibs"]
+LEFT_OUT = [
+    "option symfile", "sort global", "disable 1014", "option symfile=out.sym", "op STACK = 4096",
+    "option quiet,verbose", "option map, stack=1", "OPTION NoFarCalls"]
+WRONG_LINES = [
+    "format dos com", "foo", "file", "order clname", "option", "name a b", "library a b", "= x",
+    "order segment _DATA", "format windows", 'file "a', "option quiet=1", "file a,", "'name' a",
+    "option quiet dosseg", "format dos exe com", "format", "format com", "option foo=1",
+    "order clname CODE clname", "order clname CODE name A", "sort 'a", "option quiet,", '"a" b',
+    ", file a", "file a b", "libpath", "option map=,quiet", 'option "map"', "name"]
+
+
+@dataclass
+class Case:
+    """A job: the files that are there, the words, and the program's name.
+
+    The folders are those of LIB, and between them stands a sign.
+    """
+
+    files: dict
+    job: Job
+    words: list = field(default_factory=list)
+    program: str = "doslink"
+    folders: list = field(default_factory=list)
+    between: str = ":"
+
+
+class JobMaker:
+    """Makes one job."""
+
+    def __init__(self, random):
+        self.random = random
+        self.files = {}
+        self.job = Job(out=OUT)
+        self.job.ignores_case = self.happens(0.3)
+        self.names = self.some_names()
+        self.left = list(self.names)
+        self.plan = any_plan(random, self.names)
+
+    def happens(self, likelihood):
+        return self.random.random() < likelihood
+
+    def some_names(self):
+        """Names of which no two agree, each of which some module offers; mostly."""
+        names = self.random.sample(NAMES, self.random.choice([2, 3, 5, 8]))
+        key = folded if self.job.ignores_case else bytes
+        return list({key(name): name for name in names}.values())
+
+    def make(self):
+        """The files and the job, and how it is asked for."""
+        self.folders = self.random.choice([[], [LAST_FOLDER], ["", LAST_FOLDER]])
+        if self.happens(0.3):
+            self.job.folders = self.random.choice([[FOLDER], [FOLDER, OTHER_FOLDER]])
+        self.choose_default_libraries()
+        for number in range(self.random.choice([1, 1, 2, 3])):
+            self.add_object(number)
+        for number in range(self.random.choice([0, 1, 1, 2, 3])):
+            self.add_library(number)
+        self.add_default_libraries()
+        if self.happens(0.8):
+            self.offer_the_rest()
+        self.ask()
+        return self.asked()
+
+    def offer_the_rest(self):
+        """A last library with a member for each name, so that none is missing."""
+        members = [
+            ObjectMaker(self.random, self.plan, [], [name]).make(b"REST") for name in self.names]
+        self.files["rest.lib"] = library(self.random, members, SMALL_PAGES)
+        self.job.libraries.append("rest.lib")
+
+    def make_far_data(self, lengths):
+        """Two modules of far data of these lengths."""
+        for number, length in enumerate(lengths):
+            self.files[f"{number}.obj"] = module_of_far_data(length)
+            self.job.files.append(f"{number}.obj")
+        self.folders, self.job.map = [], MAP
+        return self.asked() if self.happens(0.2) else self.by_directives()
+
+    def make_many_parts(self, count):
+        """An order of so many parts."""
+        self.files["many.obj"] = module_of_many_parts(count)
+        self.job.files = ["many.obj"]
+        self.job.order = self.random.choice([ordering.DOSSEG, [ordering.Class(b"CODE")]])
+        self.folders = []
+        return self.asked()
+
+    def choose_default_libraries(self):
+        if self.happens(0.4):
+            self.plan.libraries = self.random.sample(
+                DEFAULT_LIBRARIES, self.random.choice([1, 1, 2]))
+            self.job.has_default_libraries = self.happens(0.8)
+
+    def spelled(self, name):
+        """A name in another case, where case is ignored and rarely where not."""
+        if self.happens(0.5 if self.job.ignores_case else 0.01):
+            return self.random.choice([name.upper(), name.lower(), name.swapcase()])
+        return name
+
+    def wanted(self, most):
+        count = min(self.random.randrange(most + 1), len(self.names))
+        return [self.spelled(name) for name in self.random.sample(self.names, count)]
+
+    def offered(self, least, most):
+        """The next of the names that are left; rarely one that is offered already."""
+        count = min(self.random.randrange(least, most + 1), len(self.left))
+        names = [self.left.pop() for _ in range(count)]
+        if self.names and self.happens(0.15):
+            names.append(self.spelled(self.random.choice(self.names)))
+        return list(dict.fromkeys(names))
+
+    def add_object(self, number):
+        """One of FILES, rarely damaged or missing."""
+        maker = ObjectMaker(self.random, self.plan, self.wanted(5), self.offered(0, 1))
+        content = maker.make(b"%d.ASM" % number, has_start=number == 0 and self.happens(0.5))
+        if self.happens(0.01):
+            content = damaged(self.random, content)
+        path = f"{number}.obj"
+        self.files[path] = content if not self.happens(0.003) else None
+        self.job.files.append(path)
+
+    def members(self):
+        """Modules that want each other, with the names that a librarian gives them."""
+        count = self.random.choice([0, 1, 2, 3, 4])
+        names = self.random.sample(MEMBER_NAMES, count)
+        contents = []
+        for name in names:
+            maker = ObjectMaker(self.random, self.plan, self.wanted(2), self.offered(1, 2))
+            kept = self.random.choice([None, name])
+            content = maker.make(self.random.choice(TITLES), library_name=kept)
+            contents.append(content)
+        return contents, names
+
+    def library_content(self):
+        contents, names = self.members()
+        if self.happens(0.6):
+            content = library(self.random, contents)
+        else:
+            content = archive(self.random, contents, names)
+        return damaged(self.random, content) if self.happens(0.1) else content
+
+    def add_library(self, number):
+        """One that is named, among FILES or by -l, here or in a folder."""
+        name = self.random.choice([f"{number}.lib", f"{number}.a", f"L{number}", f"L{number}"])
+        name = "a.b/" + name if self.happens(0.03) else name
+        content = self.library_content()
+        if self.happens(0.3):
+            path = self.file_of(name)
+            self.files[path] = content
+            self.job.files.insert(self.random.randrange(len(self.job.files) + 1), path)
+            return
+        self.put(name, content, self.job.folders)
+        self.job.libraries.append(name)
+        if self.happens(0.1):
+            # given twice
+            self.job.libraries.append(self.random.choice(self.job.libraries))
+
+    def file_of(self, name):
+        """The file of a library's name, which has an ending where the name has none."""
+        has_ending = "." in name.rpartition("/")[2]
+        return name if has_ending else name + self.random.choice(["", ".LIB", ".LIB", ".lib"])
+
+    def put(self, name, content, folders):
+        """A library here, or in a folder; at times another one of its name is there too."""
+        places = ["", *(folder.rstrip("/") + "/" for folder in folders if folder)]
+        if self.happens(0.2):
+            self.files[self.random.choice(places) + self.file_of(name)] = self.library_content()
+        if self.happens(0.01):
+            # where it isn't looked for
+            places = ["other/", LAST_FOLDER + "/"]
+        self.files[self.random.choice(places) + self.file_of(name)] = content
+
+    def add_default_libraries(self):
+        """Most that a module may name are there, somewhere."""
+        for name in self.plan.libraries:
+            if self.happens(0.9):
+                content = self.library_content()
+                if self.happens(0.05):
+                    # it is a module, and no library
+                    content = ObjectMaker(self.random, self.plan, [], []).make(b"DEFAULT")
+                self.put(name.decode(), content, [*self.job.folders, *self.folders])
+        if self.plan.libraries and self.happens(0.03):
+            self.plan.libraries.append(b"\xE9LIB")
+
+    def ask(self):
+        """The order, the program and the map, and what is told."""
+        self.job.is_verbose = self.happens(0.9)
+        self.job.keeps_debug = self.happens(0.1)
+        self.job.out = self.place(OUT)
+        self.job.map = self.place(MAP) if self.happens(0.8) else None
+        if self.happens(0.5):
+            self.job.order = self.random.choice([ordering.DOSSEG, self.some_classes()])
+        if self.happens(0.1):
+            # it is called like the first of FILES
+            self.job.out = None
+
+    def place(self, path):
+        """A path to write at; rarely one in a folder that isn't there, or one that is read."""
+        if self.happens(0.01):
+            return NO_FOLDER + path
+        if self.happens(0.01):
+            return self.random.choice(list(self.files))
+        return path
+
+    def some_classes(self):
+        """A list of classes, and in a response file also of segments."""
+        items = []
+        usual = {class_name for _, class_name, *_ in self.plan.segments}
+        known = sorted(usual) if self.happens(0.7) else CLASSES
+        for name in self.random.sample(known, self.random.randrange(1, min(6, len(known) + 1))):
+            if name:
+                items.append(ordering.Class(name))
+                inner = {each for each, class_name, *_ in SEGMENTS if class_name == name and each}
+                items += map(ordering.Named, self.random.sample(
+                    sorted(inner), self.random.choice([0, min(1, len(inner)), min(2, len(inner))])))
+        return items or [ordering.Class(b"CODE")]
+
+    def asked(self):
+        """The job by words, by words in a file, or by directives."""
+        if self.happens(0.35):
+            return self.by_directives()
+        if isinstance(self.job.order, list):
+            self.job.order = [
+                item for item in self.job.order if isinstance(item, ordering.Class)]
+            if self.happens(0.03):
+                self.job.order.append(ordering.Class(b""))
+        words = self.words()
+        if self.happens(0.15):
+            self.files[RESPONSE] = self.text_of(words)
+            words = ["@" + RESPONSE]
+        return self.case(words, "doslink")
+
+    def case(self, words, program):
+        return Case(
+            self.files, self.job, words, program, self.folders, self.random.choice(":;"))
+
+    def text_of(self, words):
+        """A response file of words; rarely one that isn't there, or is wrong."""
+        quoted = [
+            f'"{word}"' if " " in word or not word or self.happens(0.2) else word
+            for word in words]
+        spaces = [self.random.choice([" ", "\n", "  ", "\t", "\r\n"]) for _ in quoted]
+        text = "".join(word + space for word, space in zip(quoted, spaces)).encode()
+        if self.happens(0.02):
+            return self.random.choice([None, text + b"\xE9", text + b'"a'])
+        return text
+
+    def words(self):
+        """The options in any order, and FILES."""
+        job = self.job
+        options = [["-o", job.out]] if job.out is not None else []
+        options += [["-m", job.map]] if job.map is not None else []
+        options += [["--ignore-case"]] if job.ignores_case else []
+        options += [] if job.has_default_libraries else [["--no-default-libs"]]
+        options += [["--keep-debug"]] if job.keeps_debug else []
+        options += [["-v"]] if job.is_verbose else []
+        options += [] if job.order is None else [["--order", self.order_word()]]
+        self.random.shuffle(options)
+        options += [["-L", folder] for folder in job.folders]
+        options += [["-l", name] for name in job.libraries]
+        return [*(word for option in options for word in option), *job.files]
+
+    def order_word(self):
+        if self.job.order == ordering.DOSSEG:
+            return self.random.choice(["dosseg", "dosseg", "DosSeg"])
+        return ",".join(item.name.decode() for item in self.job.order)
+
+    def by_directives(self):
+        """Directives in any order but that of files and of libraries, in a file or as words."""
+        job = self.job
+        job.is_verbose = job.keeps_debug = False
+        job.has_default_libraries = True
+        if self.happens(0.01):
+            job.files = []
+        lines = list(map(self.in_any_case, self.lines()))
+        if self.happens(0.8):
+            self.files[RESPONSE] = self.text_of_lines(lines)
+            return self.case(["@" + RESPONSE], "wlink")
+        parts, words = self.parts_of(lines), []
+        for number, part in enumerate(parts):
+            if len(part) == 1 and not part[0].startswith("@") and self.happens(0.5):
+                words.append(part[0])
+            else:
+                self.files[f"{RESPONSE}{number}"] = self.text_of_lines(part)
+                words.append(f"@{RESPONSE}{number}")
+        return self.case(words, "wlink")
+
+    def parts_of(self, lines):
+        """The lines in one part or some, of which many have but one."""
+        parts = []
+        while lines:
+            count = self.random.choice([1, 1, 2, len(lines)])
+            parts.append(lines[:count])
+            lines = lines[count:]
+        return parts
+
+    def text_of_lines(self, lines):
+        """A response file of directives; rarely one that isn't there, or is wrong."""
+        end = self.random.choice(["\n", "\n", "\n", "\r\n"])
+        text = (end.join(lines) + self.random.choice(["", "\n"])).encode()
+        if self.happens(0.01):
+            return self.random.choice([None, text + b"\xE9"])
+        return text
+
+    def lines(self):
+        job = self.job
+        lines = [] if job.out is None else [f"name {self.quoted(job.out)}"]
+        lines += [f"option map={job.map}"] if job.map and self.happens(0.7) else []
+        lines += ["option map"] if job.map and self.happens(0.3) else []
+        lines += ["option caseignore"] if job.ignores_case else []
+        lines += ["option dosseg"] if job.order == ordering.DOSSEG else []
+        lines += [self.order_line()] if isinstance(job.order, list) else []
+        lines += self.random.sample(LINES_OF_NOTHING, self.random.randrange(3))
+        lines += ["format dos"] if self.happens(0.7) else []
+        lines += [self.random.choice(LEFT_OUT)] if self.happens(0.2) else []
+        lines += [self.random.choice(WRONG_LINES)] if self.happens(0.1) else []
+        self.random.shuffle(lines)
+        library = self.random.choice(["library", "library", "lib"])
+        for directive, names in [
+                ("libpath", job.folders), ("file", job.files), (library, job.libraries)]:
+            lines[self.random.randrange(len(lines) + 1):0] = self.lists(directive, names)
+        return lines
+
+    def lists(self, directive, names):
+        """A line for each name, or one of all."""
+        names = list(map(self.quoted, names))
+        if names and self.happens(0.3):
+            return [f"{directive} {self.random.choice([',', ', ']).join(names)}"]
+        return [f"{directive} {name}" for name in names]
+
+    def quoted(self, name):
+        quote = self.random.choice(["", "", "", '"', "'"])
+        return quote + name + quote
+
+    def order_line(self):
+        words = {ordering.Class: "clname", ordering.Named: "segment"}
+        pairs = [f"{words[type(item)]} {item.name.decode()}" for item in self.job.order]
+        return "order " + " ".join(pairs)
+
+    def in_any_case(self, line):
+        """A line whose first word is mostly as it was, with spaces before it at times."""
+        word, space, rest = line.partition(" ")
+        word = self.random.choice([word, word, word.upper(), word.capitalize()])
+        return self.random.choice(["", "", "", "  "]) + word + space + rest
+
+
+def case(random, number=1):
+    """A job and its files; of some numbers one at a limit, or past it."""
+    maker = JobMaker(random)
+    if number % MANY_EVERY == 0:
+        return maker.make_many_parts(MOST_PARTS + number // MANY_EVERY % 2)
+    if number % FAR_EVERY == 1:
+        return maker.make_far_data(FAR_LENGTHS[number // FAR_EVERY % len(FAR_LENGTHS)])
+    return maker.make()

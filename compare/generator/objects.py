@@ -1,0 +1,373 @@
+"""Modules as compilers write them: segments of usual names and classes, DGROUP, and names.
+
+Most link; a module of another plan has records that no link takes, and that name much.
+"""
+
+from dataclasses import dataclass, field, replace
+
+from generator.spelling import RandomSpelling, reclosed
+from generator.widening import widened
+from model import records
+from model.ordering import BEGIN_MARKS, END_MARKS
+from model.records import ByThread, Direct, Fixup, Location, Method, PublicName, Reference
+
+GROUP, OTHER_GROUP = b"DGROUP", b"AUTO"
+# name, class, combination, whether DGROUP has it, and how often it is met
+SEGMENTS = [
+    (b"_TEXT", b"CODE", 2, False, 6), (b"SUB_TEXT", b"FAR_CODE", 2, False, 2),
+    (b"INIT", b"CODES", 2, False, 1), (b"_NULL", b"BEGDATA", 2, True, 2),
+    (b"_AFTERNULL", b"BEGDATA", 2, True, 2), (b"_DATA", b"DATA", 2, True, 6),
+    (b"CONST", b"CONST", 2, True, 2), (b"_BSS", b"BSS", 2, True, 4),
+    (b"c_common", b"BSS", 2, True, 1),
+    (b"_BSS", b"BSS", 0, True, 1), (b"HUGE_BSS", b"BSS", 2, False, 2),
+    (b"STACK", b"STACK", 5, True, 4), (b"OTHER", b"STACK", 5, False, 1),
+    (b"FAR_DATA", b"FAR_DATA", 0, False, 3), (b"FAR_BSS", b"FAR_BSS", 0, False, 1),
+    (b"HEAP", b"HEAP", 2, False, 1), (b"SHARED", b"DATA", 6, True, 1), (b"", b"", 2, False, 1),
+    (b"_DATA", b"data", 2, True, 1), (b"MORE_DATA", b"FAR_DATA", 2, False, 3)]
+# their names, and the classes that are kept out of a program
+DEBUG_SEGMENTS = [
+    (b"$$SYMBOLS", b"DEBSYM"), (b"$$TYPES", b"DEBTYP"), (b".debug_info", b"DWARF"),
+    (b".debug_line", b"DWARF"), (b"", b"DWARF"), (b"DWARF", b"dwarf")]
+LONG_LENGTHS = [0x4000, 0x7FE1, 0x8000, 0xFFE1, 0xFFF0, 0xFFF1, 0xFFF1]
+CLASSES = sorted({class_name for _, class_name, *_ in SEGMENTS})
+NAMES = [
+    b"_main", b"_MAIN", b"main", b"_printf", b"printf", b"__printf", b"_exit", b"EXIT", b"exit",
+    b"x", b"X", b"_x", b"@", b"`", b"\xE9", b"\xC9", b"y", b"z", b"", b"w"]
+MARKS = [*BEGIN_MARKS, *END_MARKS]
+TITLES = [b"HELLO.ASM", b"printf", b"a b", b"\x1F\"", b""]
+DEFAULT_LIBRARY, OTHER_DEFAULT_LIBRARY, DOSSEG, LIBRARY_MODULE_NAME = 0x9F, 0x81, 0x9E, 0xA3
+
+
+@dataclass
+class Plan:
+    """What the modules of a link share.
+
+    It is the segments that they may have, names, and how likely each of some things is in a module.
+    """
+
+    segments: list
+    names: list
+    wants_marks: float
+    is_dosseg: float
+    has_others: float
+    has_debug: float
+    has_long: float
+    is_wide: float
+    libraries: list = field(default_factory=list)
+
+
+def any_plan(random, names):
+    """A plan with some of the usual segments, often with those of DGROUP."""
+    weights = [often for *_, often in SEGMENTS]
+    chosen = random.choices(SEGMENTS, weights, k=random.choice([3, 4, 6, 9]))
+    return Plan(
+        chosen, names, random.choice([0, 0, 0.3]), random.choice([0, 0, 0.2]),
+        random.choice([0, 0, 0, 0.6]), random.choice([0, 0, 0.6]), random.choice([0, 0, 0.4]),
+        random.choice([0, 0, 0.6]))
+
+
+class ObjectMaker:
+    """Makes one module that wants and offers names."""
+
+    def __init__(self, random, plan, wanted, offered):
+        self.random = random
+        self.plan = plan
+        self.wanted = wanted
+        self.offered = offered
+        self.spelling = RandomSpelling(random)
+        self.pieces = []
+        self.names = [b"", GROUP]
+        self.lengths = []
+        self.grouped = []
+        # threads that fix-ups of what is kept out set, for targets
+        self.threads = []
+        # of each segment, whether it is absolute
+        self.absolute = []
+
+    def happens(self, likelihood):
+        return self.random.random() < likelihood
+
+    def add(self, record):
+        self.pieces.append(self.spelling.record(record))
+
+    def add_other(self, kind, body, is_cut=0.1):
+        """A record of a type that no link takes, at times cut."""
+        body = body[:self.random.randrange(len(body) + 1)] if self.happens(is_cut) else body
+        self.pieces.append(reclosed(self.random, kind, body))
+
+    def make(self, title, has_start=False, library_name=None):
+        """The bytes of the module."""
+        self.add(records.Header(title))
+        if self.happens(0.01):
+            # a header of the other type
+            self.pieces = [reclosed(self.random, 0x82, self.counted(title))]
+        self.add_comments(library_name)
+        self.define_segments()
+        steps = [self.define_externals, self.define_publics, self.define_local_names]
+        if self.happens(self.plan.has_others):
+            steps += self.random.sample([
+                self.add_communal_externals, self.add_publics_of_32_bits, self.add_communal_data,
+                self.add_aliases, self.add_communal_variables, self.add_names_without_type],
+                self.random.randrange(1, 4))
+        self.random.shuffle(steps)
+        for step in steps:
+            step()
+        self.add_data()
+        if self.debug:
+            self.add_debug_data()
+        start = Reference(Direct(Method.SEGMENT, 1), Direct(Method.SEGMENT, 1), 0)
+        self.add(records.ModuleEnd(has_start, start if has_start else None))
+        content = b"".join(self.pieces)
+        return widened(self.random, content) if self.happens(self.plan.is_wide) else content
+
+    def add_comments(self, library_name):
+        """A librarian's name, default libraries, and the DOSSEG order; at times any comment."""
+        if library_name is not None:
+            length = b"" if self.happens(0.2) else bytes([len(library_name)])
+            self.add_comment(LIBRARY_MODULE_NAME, length + library_name)
+        for name in self.plan.libraries:
+            if self.happens(0.3):
+                classes = [DEFAULT_LIBRARY, DEFAULT_LIBRARY, OTHER_DEFAULT_LIBRARY]
+                self.add_comment(self.random.choice(classes), name)
+        if self.happens(self.plan.is_dosseg):
+            self.add_comment(DOSSEG, self.random.choice([b"", b"\0"]))
+        if self.happens(0.1):
+            self.add_comment(self.random.choice([0, 0x9D, 0xA0]), b"SLIBCE")
+
+    def add_comment(self, class_byte, content):
+        self.add(records.Comment(self.random.choice([0, 0x40, 0x80]), class_byte, content))
+
+    def define_segments(self):
+        """Some segments, their names, and mostly DGROUP."""
+        chosen = self.random.sample(self.plan.segments, self.random.choice([1, 2, 2, 3]))
+        for name, class_name, combination, in_group, _ in chosen:
+            self.names += [name, class_name]
+            is_long = class_name == b"FAR_DATA" and self.happens(self.plan.has_long)
+            lengths = LONG_LENGTHS if is_long else [0, 1, 5, 16, 17, 33]
+            self.lengths.append(self.random.choice(lengths))
+            self.absolute.append(self.happens(0.03))
+            if not self.absolute[-1] and (
+                    in_group and self.happens(0.95) or self.happens(0.03)):
+                self.grouped.append(len(self.lengths))
+        has_other = self.happens(0.2)
+        self.names += [OTHER_GROUP] if has_other else []
+        other_group = len(self.names)
+        self.add(records.NameList(self.names))
+        for number, (_, _, combination, *_) in enumerate(chosen):
+            where = [0, 0xB800, 4] if self.absolute[number] else [
+                self.random.choice([1, 1, 2, 3, 3, 5]), None, None]
+            self.add(records.SegmentDefinition(
+                where[0], combination, self.lengths[number], 2 * number + 3, 2 * number + 4, 1,
+                *where[1:]))
+        self.define_debug_segments()
+        if has_other:
+            self.add(records.GroupDefinition(other_group, [1]))
+        # the index of DGROUP, or 0
+        self.group = 1 + has_other if self.grouped and self.happens(0.95) else 0
+        if self.group:
+            self.add(records.GroupDefinition(2, self.grouped))
+
+    def define_debug_segments(self):
+        """Segments that debuggers read, by either type of record, behind the others."""
+        self.debug = []
+        if not self.happens(self.plan.has_debug):
+            return
+        chosen = self.random.sample(DEBUG_SEGMENTS, self.random.choice([1, 1, 2]))
+        indexes = self.listed([name for segment in chosen for name in segment], 0x96)
+        for number in range(len(chosen)):
+            width = self.random.choice([2, 4])
+            length = self.random.choice([0, 8, 300])
+            first = self.random.choice([0x20, 0x28, 0x48, 0x60]) | width // 4
+            body = bytes([first]) + length.to_bytes(width, "little")
+            for index in indexes[2 * number:2 * number + 2]:
+                body += self.spelling.index(index)
+            self.add_other(0x98 + width // 4, body + b"\1", 0.02)
+            self.debug.append((len(self.lengths) + number + 1, width, length))
+
+    def add_debug_data(self):
+        """Bytes of these segments, with fix-ups of all kinds behind them."""
+        for index, width, length in self.debug:
+            for _ in range(self.random.choice([1, 1, 2])):
+                count = min(length, 8)
+                body = self.spelling.index(index) + bytes(width) + bytes(count)
+                self.add_other(0xA0 + width // 4, body, 0.02)
+                if self.happens(0.7):
+                    fixups = [self.debug_fixup(width) for _ in range(self.random.choice([1, 2]))]
+                    self.add_other(0x9C + width // 4, b"".join(fixups), 0.02)
+        if self.happens(0.2):
+            # a fix-up behind them is of these bytes, unless other data comes before it
+            self.add(records.FixupRecord([self.fixup()]))
+        elif self.happens(0.5):
+            self.add_data()
+
+    def debug_fixup(self, width):
+        """A thread, or a fix-up of any location; rarely of a method that there isn't."""
+        method = self.random.choice([0, 0, 1, 2, 3] if self.happens(0.05) else [0])
+        if self.happens(0.3):
+            kind, number = self.random.choice([0, 0x40]), self.random.randrange(4)
+            if kind == 0 and method == 0:
+                self.threads.append(number)
+            return bytes([kind | method << 2 | number, 1])
+        location = self.random.choice([1, 2, 3, 9, 13])
+        fix_data = self.random.choice([method << 4, 0x50, 0x50, 0x58, 0xD8])
+        fix_data |= 4 * self.random.randrange(2)
+        front = bytes([0xC0 | location << 2 & 0x3F, 0, fix_data])
+        front += b"\1" if fix_data < 0x40 else b""
+        front += b"" if fix_data & 8 else b"\1"
+        return front + (b"" if fix_data & 4 else bytes(width))
+
+    def define_externals(self):
+        """The names that it wants, in one record or some, and at times marks."""
+        names = list(self.wanted)
+        if self.happens(self.plan.wants_marks):
+            mark = self.random.choice(MARKS)
+            mark = mark.upper() if self.happens(0.05) else mark
+            names.insert(self.random.randrange(len(names) + 1), mark)
+        if self.happens(0.1):
+            # at times one twice
+            names.append(self.random.choice([*names, *self.plan.names, *self.any_names()]))
+        self.externals = len(names)
+        half = self.random.randrange(len(names) + 1)
+        for part in (names[:half], names[half:]):
+            self.add(records.ExternalNames(part, [0] * len(part)))
+
+    def define_publics(self):
+        """The names that it offers, rarely a mark."""
+        names = list(self.offered)
+        if self.happens(self.plan.wants_marks / 5):
+            names.append(self.random.choice(MARKS))
+        segment = self.random.randrange(1, len(self.lengths) + 1)
+        is_absolute = self.happens(0.1)
+        in_group = self.group and segment in self.grouped and self.happens(0.7)
+        segment, frame = (0, 0xB800) if is_absolute else (segment, None)
+        publics = [PublicName(name, self.random.randrange(20), 0) for name in names]
+        self.add(records.PublicNames(self.group if in_group else 0, segment, frame, publics))
+
+    def define_local_names(self):
+        """Names that other modules don't see."""
+        if self.happens(0.15):
+            name = self.random.choice([*self.plan.names, *MARKS])
+            self.add(records.LocalPublicNames(0, 1, None, [PublicName(name, 0, 0)]))
+            if self.happens(0.5):
+                # no data wants it, so that the numbers of others stay
+                self.pieces.append(reclosed(self.random, 0xB4, self.counted(name) + b"\0"))
+                self.externals = 0
+
+    def counted(self, name):
+        return records.name(name)
+
+    def any_names(self):
+        """The names of the plan, at times also others."""
+        return NAMES if self.happens(0.2) else self.plan.names
+
+    def some_names(self):
+        known = self.any_names()
+        return self.random.sample(known, min(self.random.choice([0, 1, 1, 2]), len(known)))
+
+    def listed(self, names, kind=None):
+        """Indexes of names that a record lists now, rarely of none."""
+        kind = kind or self.random.choice([0x96, 0xCA])
+        self.add_other(kind, b"".join(map(self.counted, names)), 0.03)
+        self.names += names
+        count = len(self.names)
+        indexes = range(count - len(names) + 1, count + 1)
+        return [0 if self.happens(0.05) else index for index in indexes]
+
+    def add_communal_externals(self):
+        indexes = self.listed(self.some_names())
+        self.add_other(0xBC, b"".join(self.spelling.index(index) + b"\0" for index in indexes))
+
+    def add_publics_of_32_bits(self):
+        """Publics by another type of record, or of a frame."""
+        base = self.random.choice([b"\0\1", b"\0\0\0\xB8", b"\1\x80\1"])
+        entries = [self.counted(name) + bytes(4) + b"\0" for name in self.some_names()]
+        self.add_other(0x91, base + b"".join(entries))
+
+    def add_communal_data(self):
+        """A COMDAT of any allocation, local or not."""
+        for index in self.listed(self.some_names()):
+            kind, width = self.random.choice([(0xC2, 2), (0xC3, 4)])
+            flags = self.random.choice([0, 1, 2, 4, 5])
+            allocation = self.random.choice([0, 0, 1, 2])
+            base = self.random.choice([b"\0\1", b"\0\0\0\xB8"]) if allocation == 0 else b""
+            attributes = self.random.choice([0, 0x10]) | allocation
+            front = bytes([flags, attributes, 1]) + bytes(width) + b"\0"
+            self.add_other(kind, front + base + self.spelling.index(index) + bytes(3))
+
+    def add_aliases(self):
+        aliases = [*self.some_names(), *self.some_names()]
+        pairs = [(alias, self.random.choice(self.plan.names)) for alias in aliases]
+        self.add_other(0xC6, b"".join(self.counted(a) + self.counted(b) for a, b in pairs))
+
+    def add_names_without_type(self):
+        """Externals or publics, of which the last has no type index."""
+        entries = [self.counted(self.random.choice(self.plan.names)) for _ in range(2)]
+        kind, base, offset = self.random.choice([(0x8C, b"", b""), (0x90, b"\0\1", b"\0\0")])
+        self.add_other(kind, base + entries[0] + offset + b"\0" + entries[1] + offset)
+
+    def add_communal_variables(self):
+        """Names that are neither wanted nor offered."""
+        for name in self.some_names():
+            self.add_other(
+                self.random.choice([0xB0, 0xB8]), self.counted(name) + b"\0\x62\2")
+
+    def add_data(self):
+        """Bytes of some segments, with fix-ups to what is wanted and to other segments."""
+        for number, length in enumerate(self.lengths, 1):
+            if length and not self.absolute[number - 1] and self.happens(0.7):
+                content = bytes(self.random.randrange(256) for _ in range(min(length, 12)))
+                if self.happens(0.5):
+                    content = content[:2] + bytes(len(content[2:4])) + content[4:]
+                if length >= 8 and self.happens(0.3):
+                    self.add_repeated_data(number)
+                    continue
+                self.add(records.Data(number, 0, content))
+                if length >= 4 and self.happens(0.7):
+                    self.add(records.FixupRecord([self.fixup()]))
+
+    def add_repeated_data(self, number):
+        """Bytes that are repeated, with fix-ups in them."""
+        content = bytes([self.random.randrange(256), 0, 0, 0])
+        block, place = records.Block(2, content), 5
+        if self.happens(0.5):
+            block, place = records.Block(1, [block]), 9
+        self.add(records.RepeatedData(number, 0, [block]))
+        if self.happens(0.7):
+            place += self.random.choice([0, 0, 0, 1])
+            self.add(records.FixupRecord([replace(self.fixup(), offset=place)]))
+
+    def fixup(self):
+        """An offset or a pointer, to an external or to a segment."""
+        targets = [Direct(Method.SEGMENT, self.random.randrange(1, len(self.lengths) + 1))]
+        if self.externals:
+            targets += 3 * [Direct(
+                Method.EXTERNAL, self.random.randrange(1, self.externals + 1))]
+        if self.threads and self.happens(0.5):
+            targets = [ByThread(self.random.choice(self.threads))]
+        frame = Direct(Method.TARGET)
+        if self.group and self.happens(0.3):
+            frame = Direct(Method.GROUP, self.group)
+        location = self.random.choice([Location.OFFSET, Location.POINTER, Location.BASE])
+        return Fixup(True, location, 0, Reference(frame, self.random.choice(targets), None))
+
+
+def module_of_many_parts(count):
+    """A module of so many segments of one class, of which none combines with another."""
+    spelling = records.Spelling()
+    names = [b"", b"CODE", *(b"%d" % number for number in range(count))]
+    made = [records.Header(b"MANY")]
+    made += [records.NameList(names[at:at + 5000]) for at in range(0, len(names), 5000)]
+    made += [records.SegmentDefinition(1, 2, 0, number + 3, 2, 1) for number in range(count)]
+    made.append(records.ModuleEnd(False, None))
+    return b"".join(map(spelling.record, made))
+
+
+def module_of_far_data(length):
+    """A module of far data with the number of its own frame."""
+    itself = Reference(Direct(Method.TARGET), Direct(Method.SEGMENT, 1), None)
+    made = [
+        records.Header(b"FAR"), records.NameList([b"", b"FAR_DATA", b"FAR"]),
+        records.SegmentDefinition(3, 0, length, 3, 2, 1), records.Data(1, 0, bytes(2)),
+        records.FixupRecord([Fixup(True, Location.BASE, 0, itself)]),
+        records.ModuleEnd(False, None)]
+    return b"".join(map(records.Spelling().record, made))

@@ -1,0 +1,286 @@
+"""What `doslink` is asked for: a job, from words or from the directives of a response file.
+
+Directives are those that compilers write for `wlink`, a line each.
+"""
+
+import re
+from dataclasses import dataclass, field
+from typing import Optional
+
+from model import ordering
+
+# what parts words
+SPACE = " \t\n\f\r"
+# a word, or between quotes
+WORD = re.compile(rf'[{SPACE}]*(?:"([^"]*)"|([^"{SPACE}][^{SPACE}]*))')
+# a name between quotes of either kind, a word, or a comma or an equals sign
+TOKEN = re.compile(
+    rf"""[{SPACE}]*(?:("[^"]*"|'[^']*')|([,=])|([^"'{SPACE},=][^{SPACE},=]*))""")
+
+
+@dataclass
+class Job:
+    """What is to be linked, how, and what is written; `order` is None where none is asked for."""
+
+    files: list = field(default_factory=list)
+    out: Optional[str] = None
+    map: Optional[str] = None
+    folders: list = field(default_factory=list)
+    libraries: list = field(default_factory=list)
+    ignores_case: bool = False
+    order: object = None
+    has_default_libraries: bool = True
+    keeps_debug: bool = False
+    packs_far_data: bool = False
+    is_verbose: bool = False
+    is_quiet: bool = False
+    # the map is asked for, by no name of its own
+    maps_to_out: bool = False
+    # pairs of a line and what becomes of what it asks for
+    warnings: list = field(default_factory=list)
+
+
+class Unread(Exception):
+    """A response file that isn't there, or is no text."""
+
+    def __init__(self, path, is_there):
+        super().__init__(path, is_there)
+        self.path = path
+        self.is_there = is_there
+
+
+class DirectiveFault(Exception):
+    """A line that is no directive or asks for what can't be done."""
+
+    def __init__(self, line, text):
+        super().__init__(line, text)
+        self.line = line
+        self.text = text
+
+
+class Refused(Exception):
+    """This directive is at fault."""
+
+    def __init__(self, text="wrong operands"):
+        super().__init__(text)
+        self.text = text
+
+
+def pieces(pattern, text):
+    """What a pattern finds from the start of a text to its end; spaces may stand at the end."""
+    found, place, text = [], 0, text.rstrip(SPACE)
+    while place < len(text):
+        match = pattern.match(text, place)
+        if match is None:
+            raise Refused("a quote isn't closed")
+        found.append(match)
+        place = match.end()
+    return found
+
+
+def split_words(text):
+    """The words of a response file, between white space or between quotes."""
+    return [match[2] if match[1] is None else match[1] for match in pieces(WORD, text)]
+
+
+@dataclass
+class Token:
+    """A word, what stands between quotes, or one of the signs `,` and `=`."""
+
+    kind: str
+    text: str
+
+    def is_word(self, *words):
+        """Whether it is one of some words, in small letters or capitals."""
+        return self.kind == "word" and self.text.lower() in words
+
+
+def token(match):
+    quoted, sign, word = match.groups()
+    if quoted is not None:
+        return Token("quoted", quoted[1:-1])
+    return Token("word", word) if sign is None else Token(sign, sign)
+
+
+def parts(tokens):
+    """What commas separate."""
+    found = [[]]
+    for each in tokens:
+        if each.kind == ",":
+            found.append([])
+        else:
+            found[-1].append(each)
+    return found
+
+
+def name(tokens):
+    """The one name that there is."""
+    if len(tokens) != 1 or tokens[0].kind not in ("word", "quoted"):
+        raise Refused
+    return tokens[0].text
+
+
+def names(tokens):
+    """Names with commas between them."""
+    return list(map(name, parts(tokens)))
+
+
+def read_files(job, tokens, line):
+    job.files += names(tokens)
+
+
+def read_libraries(job, tokens, line):
+    job.libraries += names(tokens)
+
+
+def read_folders(job, tokens, line):
+    job.folders += names(tokens)
+
+
+def read_name(job, tokens, line):
+    job.out = name(tokens)
+
+
+def read_format(job, tokens, line):
+    """A program of DOS, which is an .EXE file; no .COM file is written."""
+    if len(tokens) not in (1, 2) or not tokens[0].is_word("dos"):
+        raise Refused(NOT_DOS)
+    if tokens[1:] and not tokens[1].is_word("exe"):
+        raise Refused(NO_COM if tokens[1].is_word("com") else NOT_DOS)
+
+
+def read_options(job, tokens, line):
+    """Options with commas between them, each a word, or one with an equals sign and a value."""
+    for option in parts(tokens):
+        kinds = [each.kind for each in option]
+        if kinds == ["word"]:
+            read_option(job, option[0].text.lower(), None, line)
+        elif kinds in (["word", "=", "word"], ["word", "=", "quoted"]):
+            read_option(job, option[0].text.lower(), option[2].text, line)
+        else:
+            raise Refused
+
+
+def read_option(job, word, value, line):
+    """An option; what is left out may have any value, and besides only a map has one."""
+    if word in LEFT_OUT:
+        job.warnings.append((line, LEFT_OUT[word]))
+    elif word == "map":
+        job.map, job.maps_to_out = value, value is None
+    elif word not in SWITCHES:
+        raise Refused("unknown option")
+    elif value is not None:
+        raise Refused
+    else:
+        setattr(job, *SWITCHES[word])
+
+
+def read_order(job, tokens, line):
+    """A list of classes, each with the segments that come first in it."""
+    if not tokens or len(tokens) % 2 or not tokens[0].is_word("clname"):
+        raise Refused
+    job.order = [
+        order_item(word, name([its_name])) for word, its_name in zip(tokens[::2], tokens[1::2])]
+
+
+def order_item(word, its_name):
+    if word.is_word("clname"):
+        return ordering.Class(its_name.encode())
+    if word.is_word("segment"):
+        return ordering.Named(its_name.encode())
+    raise Refused
+
+
+def leave_out(job, tokens, line):
+    """It has no effect; its word is noted by the line that it stands in."""
+
+
+READERS = {
+    "file": read_files, "library": read_libraries, "lib": read_libraries,
+    "libpath": read_folders, "name": read_name, "format": read_format, "option": read_options,
+    "op": read_options, "order": read_order, "debug": leave_out, "sort": leave_out,
+    "disable": leave_out,
+}
+# of those, what has no effect where it might be missed
+WARNED = {"sort": "the map is not sorted", "disable": "no message is left out"}
+NO_EFFECT = "the option has no effect"
+NO_COM = "no .COM program is written, only .EXE"
+NOT_DOS = "no other program is written than one for DOS"
+SWITCHES = {
+    "quiet": ("is_quiet", True), "dosseg": ("order", ordering.DOSSEG),
+    "caseexact": ("ignores_case", False), "nocaseignore": ("ignores_case", False),
+    "noignorecase": ("ignores_case", False), "nocaseexact": ("ignores_case", True),
+    "caseignore": ("ignores_case", True), "ignorecase": ("ignores_case", True),
+    "nodefaultlibs": ("has_default_libraries", False),
+}
+LEFT_OUT = {
+    "symfile": "no file of symbols is written",
+    "stack": "the stack is as long as the modules make it",
+    "verbose": NO_EFFECT, "statics": NO_EFFECT, "artificial": NO_EFFECT, "showdead": NO_EFFECT,
+    "cache": NO_EFFECT, "nocache": NO_EFFECT, "farcalls": NO_EFFECT, "nofarcalls": NO_EFFECT,
+    "maxerrors": NO_EFFECT,
+}
+
+
+def read_directive(job, text, line):
+    """One directive; an empty line and a comment are none."""
+    if text.lstrip(SPACE)[:1] in ("", "#"):
+        return
+    first, *others = map(token, pieces(TOKEN, text))
+    word = first.text.lower()
+    if first.kind != "word" or word not in READERS:
+        raise Refused("unknown directive")
+    if word in WARNED:
+        job.warnings.append((line, WARNED[word]))
+    READERS[word](job, others, line)
+
+
+@dataclass
+class Line:
+    """A line of directives, with its number, from 1 on, in the response file or word it is in."""
+
+    path: Optional[str]
+    number: int
+    text: str
+
+
+def lines_of(text, path=None):
+    """The lines of a text; a carriage return before a line end is of that."""
+    return [
+        Line(path, number, line.removesuffix("\r"))
+        for number, line in enumerate(text.split("\n"), 1)]
+
+
+def text_of(path, files):
+    """The text of a response file."""
+    if files.get(path) is None:
+        raise Unread(path, False)
+    try:
+        return files[path].decode()
+    except UnicodeDecodeError:
+        raise Unread(path, True) from None
+
+
+def spoken(words, files):
+    """The lines that words give: those of a file where a word begins with `@`, else its own."""
+    lines = []
+    for word in words:
+        if word.startswith("@"):
+            lines += lines_of(text_of(word[1:], files), word[1:])
+        else:
+            lines += lines_of(word)
+    return lines
+
+
+def read_directives(lines):
+    """The job of directives, or the first line at fault; warnings count over all lines."""
+    job = Job(packs_far_data=True)
+    for number, line in enumerate(lines, 1):
+        try:
+            read_directive(job, line.text, number)
+        except Refused as refused:
+            path = "" if line.path is None else f"{line.path}: "
+            raise DirectiveFault(
+                line.number,
+                f"{path}line {line.number}: {refused.text}: {line.text}") from None
+    return job

@@ -1,0 +1,428 @@
+"""Modules as they are handed to the link: of records that it takes, and with far data together.
+
+A lowered module has a record for each record. Debugging segments have nothing in it, communal
+variables are externals, names by indexes are names, and numbers of 32 bits have 16. What is no
+record, and what stands behind the record that ends the module, stays as it is.
+"""
+
+from dataclasses import dataclass
+
+from model import module
+from model.faults import Fault
+from model.libraries import COMMENT, FRONT_OF_RECORD, whole_frames
+from model.names import LOCAL_NAME_LIST, NAME_LIST, Ended, Entries
+from model.records import LONGEST_BODY, Spelling
+
+# of each of these types the second one has values of 32 bits
+SEGMENTS, DATA = (0x98, 0x99), (0xA0, 0xA1, 0xA2, 0xA3)
+REPEATED = (0xA2, 0xA3)
+FIXUPS, COMMUNAL_DATA = (0x9C, 0x9D), (0xC2, 0xC3)
+PUBLICS_32, LINES_32, END_32 = (0x91, 0xB7), 0x95, 0x8B
+# communal variables by the type of the externals that they become
+COMMUNALS = {0xB0: 0x8C, 0xB8: 0xB4}
+COMMUNAL_EXTERNALS, EXTERNALS = 0xBC, 0x8C
+# a header and a list of names by the types of others that say the same
+SAME = {0x82: 0x80, LOCAL_NAME_LIST: NAME_LIST}
+# the lengths of a communal variable by its data type: far, near
+LENGTHS = {0x61: 2, 0x62: 1}
+# the bytes behind the first of a length
+BYTES_OF_LENGTH = {0x81: 2, 0x84: 3, 0x88: 4}
+DEBUG_CLASSES = (b"DEBSYM", b"DEBTYP", b"DWARF")
+FAR_DATA = b"FAR_DATA"
+# the fields of the byte that begins a SEGDEF: alignment, combination, and whether it has 32 bits
+ALIGNMENT, COMBINATION, USE_32 = 0xE0, 0x1C, 0x01
+BYTE_ALIGNED, PUBLIC = 0x20, 0x08
+# locations: an offset of 16 bits, and those of 32
+OFFSET, OFFSETS_32 = 1, (9, 13)
+# a comment of a class that means nothing
+NOTHING = bytes([0x00, 0xDA])
+FRAME, PARAGRAPH = 65_536, 16
+# the faults
+DATA_TYPE, ABOVE_16_BITS, LOCATION, BODY, TOO_LONG = 48, 49, 50, 51, 52
+
+
+class Obstacle(Exception):
+    """Why a record can't be lowered: the number of a fault."""
+
+    def __init__(self, number):
+        super().__init__(number)
+        self.number = number
+
+
+@dataclass
+class Definition:
+    """A SEGDEF: its first byte, where it stands if it is absolute, its length, and its indexes.
+
+    Behind the name are the indexes of class and overlay.
+    """
+
+    first: int
+    standing: bytes
+    length: bytes
+    name: bytes
+    behind_name: bytes
+    class_field: bytes
+    class_index: int
+
+
+@dataclass
+class Data:
+    """The last data: whether it is repeated, the bytes of its counts, and what it stores."""
+
+    is_repeated: bool = False
+    width: int = 2
+    stored: bytes = b""
+
+
+def width_of(kind):
+    """The bytes of a number in a record of a type."""
+    return 4 if kind % 2 else 2
+
+
+def narrowed(number):
+    """The two bytes of a number that has four; of a shorter one all."""
+    if any(number[2:]):
+        raise Obstacle(ABOVE_16_BITS)
+    return number[:2]
+
+
+def definition(kind, body):
+    entries = Entries(body)
+    first = entries.byte()
+    standing = entries.bytes(0 if first & ALIGNMENT else 3)
+    length = entries.bytes(width_of(kind))
+    at_name = entries.place
+    entries.index()
+    at_class = entries.place
+    class_index = entries.index()
+    at_overlay = entries.place
+    return Definition(
+        first, standing, length, body[at_name:at_class], body[at_class:],
+        body[at_class:at_overlay], class_index)
+
+
+def take_index(entries, method, with_index, without):
+    """An index, where the method has one; there is no other method."""
+    if method in with_index:
+        entries.index()
+    elif method not in without:
+        raise Obstacle(BODY)
+
+
+def take_frame(entries, method):
+    take_index(entries, method, (0, 1, 2), (4, 5))
+
+
+def take_target(entries, method):
+    take_index(entries, method % 4, (0, 1, 2), ())
+
+
+def thread(entries, first):
+    """The bytes of a subrecord that sets a thread."""
+    place = entries.place - 1
+    if first & 0x40:
+        take_frame(entries, first >> 2 & 7)
+    else:
+        take_target(entries, first >> 2)
+    return entries.body[place:entries.place]
+
+
+def reference(entries, width):
+    """The bytes of a reference, whose displacement has a width, with one of two bytes."""
+    place, fix_data = entries.place, entries.byte()
+    if not fix_data & 0x80:
+        take_frame(entries, fix_data >> 4 & 7)
+    if not fix_data & 8:
+        take_target(entries, fix_data)
+    front = entries.body[place:entries.place]
+    return front, b"" if fix_data & 4 else entries.bytes(width)
+
+
+def blocks(data):
+    """The places of contents in repeated data, with their bytes.
+
+    Beside each stands how many bytes go before it where counts have two.
+    """
+    entries, gone = Entries(data.stored), 0
+    while entries.has_more():
+        entries.bytes(data.width)
+        gone += data.width - 2
+        if entries.bytes(2) == b"\0\0":
+            content = entries.name()
+            yield entries.place - len(content), content, gone
+
+
+def located(data, place):
+    """Where a place of data is where its numbers have two bytes, and what is stored from it on."""
+    if not data.is_repeated:
+        return place, data.stored[place:]
+    try:
+        for begin, content, gone in blocks(data):
+            if begin <= place < begin + len(content):
+                return place - gone, content[place - begin:]
+    except Ended:
+        pass
+    raise Obstacle(LOCATION)
+
+
+class Lowering:
+    """Lowers one record of a module after the other."""
+
+    def __init__(self, keeps_debug, shares_far_data):
+        self.keeps_debug = keeps_debug
+        self.shares_far_data = shares_far_data
+        self.names = []
+        # of each segment, whether it is kept out of the program
+        self.kept_out = []
+        # whether that holds of the segment of the data that came last, and that data
+        self.drops_fixups = False
+        self.data = Data()
+
+    def lower(self, kind, body):
+        """The type and the body of a record, or of what stands in its place."""
+        if kind in SEGMENTS:
+            return self.lower_segment(kind, body)
+        if kind in DATA:
+            return self.lower_data(kind, body)
+        if kind in FIXUPS:
+            return self.lower_fixups(kind, body)
+        if kind in COMMUNAL_DATA:
+            self.drops_fixups, self.data = False, Data()
+        if kind in (NAME_LIST, LOCAL_NAME_LIST):
+            self.add_names(Entries(body))
+        try:
+            return self.lower_other(kind, body)
+        except Ended:
+            raise Obstacle(BODY) from None
+
+    def lower_other(self, kind, body):
+        entries = Entries(body)
+        if kind in COMMUNALS:
+            return COMMUNALS[kind], self.each(entries, self.communal)
+        if kind == COMMUNAL_EXTERNALS:
+            return EXTERNALS, self.each(entries, self.named)
+        if kind in PUBLICS_32:
+            entries.base()
+            front = body[:entries.place]
+            return kind - 1, front + self.each(entries, self.public)
+        if kind == LINES_32:
+            entries.index()
+            entries.index()
+            front = body[:entries.place]
+            return kind - 1, front + self.each(entries, self.line)
+        if kind == END_32:
+            return kind - 1, self.end(entries)
+        return SAME.get(kind, kind), body
+
+    def each(self, entries, lowered_entry):
+        """All entries up to the end of a body."""
+        found = b""
+        while entries.has_more():
+            found += lowered_entry(entries)
+        return found
+
+    def communal(self, entries):
+        """A name and a type index; what its variable is isn't told here."""
+        place = entries.place
+        entries.name()
+        entries.index()
+        found = entries.body[place:entries.place]
+        data_type = entries.byte()
+        if data_type not in LENGTHS:
+            raise Obstacle(DATA_TYPE)
+        for _ in range(LENGTHS[data_type]):
+            first = entries.byte()
+            if first > 0x80 and first not in BYTES_OF_LENGTH:
+                raise Obstacle(BODY)
+            entries.bytes(BYTES_OF_LENGTH.get(first, 0))
+        return found
+
+    def named(self, entries):
+        """The name of an index, and a type index."""
+        index, place = entries.index(), entries.place
+        entries.index()
+        if not 1 <= index <= len(self.names):
+            raise Obstacle(BODY)
+        name = self.names[index - 1]
+        return bytes([len(name)]) + name + entries.body[place:entries.place]
+
+    def public(self, entries):
+        place = entries.place
+        entries.name()
+        name = entries.body[place:entries.place]
+        offset = narrowed(entries.bytes(4))
+        place = entries.place
+        entries.index()
+        return name + offset + entries.body[place:entries.place]
+
+    def line(self, entries):
+        return entries.bytes(2) + narrowed(entries.bytes(4))
+
+    def end(self, entries):
+        """The end of a module, with its start where it has one."""
+        attribute = entries.byte()
+        if not attribute & 0x40:
+            return entries.body
+        front, displacement = reference(entries, 4)
+        return bytes([attribute]) + front + narrowed(displacement) + entries.body[entries.place:]
+
+    def add_names(self, entries):
+        try:
+            while entries.has_more():
+                self.names.append(entries.name())
+        except Ended:
+            pass
+
+    def lower_segment(self, kind, body):
+        """A segment of a class for debuggers has nothing; one of far data is named by its class."""
+        try:
+            found = definition(kind, body)
+        except Ended:
+            self.kept_out.append(False)
+            return kind, body
+        index = found.class_index
+        class_name = self.names[index - 1] if 1 <= index <= len(self.names) else b""
+        self.kept_out.append(not self.keeps_debug and class_name in DEBUG_CLASSES)
+        if self.kept_out[-1]:
+            return SEGMENTS[0], bytes([BYTE_ALIGNED, 0, 0]) + found.name + found.behind_name
+        first, name = found.first, found.name
+        if self.shares_far_data and class_name == FAR_DATA:
+            first, name = first & ~COMBINATION | PUBLIC, found.class_field
+        front = bytes([first & ~USE_32]) + found.standing + narrowed(found.length)
+        return SEGMENTS[0], front + name + found.behind_name
+
+    def lower_data(self, kind, body):
+        """Data, without repeat counts and an offset of 32 bits; none of what is kept out."""
+        entries = Entries(body)
+        self.drops_fixups, self.data = False, Data()
+        try:
+            index = entries.index()
+            front = body[:entries.place]
+            self.drops_fixups = 1 <= index <= len(self.kept_out) and self.kept_out[index - 1]
+            offset = entries.bytes(width_of(kind))
+            self.data = Data(kind in REPEATED, width_of(kind), body[entries.place:])
+        except Ended:
+            if self.drops_fixups:
+                return COMMENT, NOTHING
+            if kind % 2:
+                raise Obstacle(BODY) from None
+            return kind, body
+        if self.drops_fixups:
+            return COMMENT, NOTHING
+        if kind % 2 == 0:
+            return kind, body
+        return kind - 1, front + narrowed(offset) + self.stored(kind, entries)
+
+    def stored(self, kind, entries):
+        if kind not in REPEATED:
+            return entries.body[entries.place:]
+        try:
+            return self.each(entries, self.block)
+        except Ended:
+            raise Obstacle(BODY) from None
+
+    def block(self, entries):
+        """The counts of a block, and its content where it has no blocks."""
+        repeat, place = narrowed(entries.bytes(4)), entries.place
+        if entries.bytes(2) == b"\0\0":
+            entries.name()
+        return repeat + entries.body[place:entries.place]
+
+    def lower_fixups(self, kind, body):
+        """Of what is kept out, threads alone, since later fix-ups may use them."""
+        if not self.drops_fixups and kind % 2 == 0 and self.data.width == 2:
+            return kind, body
+        try:
+            subrecords = Entries(body)
+            width = width_of(kind)
+            return FIXUPS[0], self.each(subrecords, lambda _: self.subrecord(subrecords, width))
+        except Ended:
+            raise Obstacle(BODY) from None
+
+    def subrecord(self, entries, width):
+        first = entries.byte()
+        if not first & 0x80:
+            return thread(entries, first)
+        low = entries.byte()
+        front, displacement = reference(entries, width)
+        if self.drops_fixups:
+            return b""
+        return self.located(first, low) + front + narrowed(displacement)
+
+    def located(self, first, low):
+        """The two bytes of a fix-up that tell its location and its place."""
+        location, place = first >> 2 & 15, (first & 3) << 8 | low
+        if location in OFFSETS_32:
+            # it has to be an offset in a segment, and the upper part of what is there 0
+            if not first & 0x40:
+                raise Obstacle(LOCATION)
+            place, stored = located(self.data, place)
+            if len(stored) < 4:
+                raise Obstacle(LOCATION)
+            narrowed(stored[:4])
+            location = OFFSET
+        elif self.data.is_repeated and self.data.width == 4:
+            place, _ = located(self.data, place)
+        return bytes([first & 0xC0 | location << 2 | place >> 8, place & 0xFF])
+
+
+def lowered(content, keeps_debug, shares_far_data, owner=None):
+    """The bytes of a module that is lowered, or the fault of its first record that can't be."""
+    lowering, found, place = Lowering(keeps_debug, shares_far_data), [], 0
+    for frame in whole_frames(content):
+        try:
+            kind, body = lowering.lower(frame.kind, frame.body)
+            if len(body) > LONGEST_BODY:
+                raise Obstacle(TOO_LONG)
+        except Obstacle as obstacle:
+            raise Fault(obstacle.number, owner, place) from None
+        if (kind, body) == (frame.kind, frame.body):
+            found.append(content[place:frame.behind])
+        else:
+            found.append(Spelling().framed(kind, body))
+        place = frame.behind
+    return b"".join([*found, content[place:]])
+
+
+def fits_a_frame(contents):
+    """Whether far data fits in one frame, each segment of it in whole paragraphs.
+
+    Of modules that can't be read nothing is said.
+    """
+    try:
+        modules = [module.read(content, None) for content in contents]
+    except Fault:
+        return False
+    lengths = [
+        segment.length for each in modules for segment in each.segments
+        if segment.class_name == FAR_DATA]
+    return sum(-(-length // PARAGRAPH) * PARAGRAPH for length in lengths) <= FRAME
+
+
+def lowered_modules(contents, words, keeps_debug, packs_far_data):
+    """The bytes of modules that are lowered; far data shares a frame where it fits in one.
+
+    A fault is told by the word for its module.
+    """
+    pairs = list(zip(contents, words))
+    plain = [lowered(content, keeps_debug, False, word) for content, word in pairs]
+    if packs_far_data and fits_a_frame(plain):
+        return [lowered(content, keeps_debug, True, word) for content, word in pairs]
+    return plain
+
+
+def record_places(content):
+    """Where the records of a module begin, and what stands behind the last."""
+    place = 0
+    while place + FRONT_OF_RECORD <= len(content):
+        yield place
+        place += FRONT_OF_RECORD + int.from_bytes(content[place + 1:place + 3], "little")
+    yield place
+
+
+def own_place(content, lowered_content, place):
+    """The place in a module of a record that has a place in the module as it was lowered."""
+    if content == lowered_content:
+        return place
+    number = list(record_places(lowered_content)).index(place)
+    return list(record_places(content))[number]

@@ -1,0 +1,660 @@
+"""Answers of `doslink` that were written out by hand, from the rules alone.
+
+The model must give them. They are what the rules say of libraries, of the names of a module, of
+what is taken for them, of the module that fixes an order, of modules that are lowered, and of
+directives.
+"""
+
+from model import (
+    directives, libraries, linking, lowering, module, names, ordering, records, search)
+from model.directives import Job
+from model.faults import Fault
+from model.names import Names
+from model.ordering import Class, Named
+from model.records import PublicName, Spelling
+from worked import MOST, NEAR_CALL, NO_REGISTERS, NO_TABLE, header
+
+# modules of a header and an end, and their bytes
+A, B = "80 0300 0141 3B  8A 0200 00 74", "80 0300 0142 00  8A 0200 00 00"
+# a module that its librarian calls LM
+NAMED = "80 0300 0141 3B  88 0600 00A3 02 4C4D 00  8A 0200 00 74"
+# a library's own record of a page of 16 bytes, and one of 32
+PAGE_16, PAGE_32 = "F0 0D00" + "AA" * 13, "F0 1D00" + "AA" * 29
+
+# title, a .LIB, and the place, length and name of each member, or the fault and its place
+LIBRARIES = [
+    ("no members", PAGE_16 + "F1", []),
+    ("one", PAGE_16 + A + "AA" * 5 + "F1", [(16, 11, b"A")]),
+    ("what stands behind the end isn't read", PAGE_16 + A + "00" * 5 + "F1 0500 8A0200",
+     [(16, 11, b"A")]),
+    ("two", PAGE_16 + A + "AA" * 5 + B + "AA" * 5 + "F1", [(16, 11, b"A"), (32, 11, b"B")]),
+    ("a librarian's name without its length",
+     PAGE_16 + "88 0500 00A3 4C4D 00  8A 0200 00 74" + "AA" * 3 + "F1", [(16, 13, b"LM")]),
+    ("a header that is cut", PAGE_16 + "80 0300 0241 00  8A 0200 00 74" + "AA" * 5 + "F1",
+     [(16, 11, b"")]),
+    ("two in larger pages", PAGE_32 + A + "AA" * 21 + B + "AA" * 21 + "F1",
+     [(32, 11, b"A"), (64, 11, b"B")]),
+    ("a member of more than a page", PAGE_16 + NAMED + "AA" * 12 + "F1", [(16, 20, b"LM")]),
+    ("a member that ends with its page", PAGE_16 + "88 0800 0000" + "00" * 6 + "8A 0200 00 74"
+     + "F1", [(16, 16, b"")]),
+    ("an end by the other type", PAGE_16 + "80 0300 0141 3B  8B 0200 00 00" + "AA" * 5 + "F1",
+     [(16, 11, b"A")]),
+    ("a type of no record", PAGE_16 + "00 0300 0141 00  8A 0200 00 74" + "AA" * 5 + "F1",
+     [(16, 11, b"")]),
+    ("an end inside a member is none", PAGE_16 + "F0 0300 0141 00  F1 0200 00 00  8A 0200 00 00"
+     + "F1", [(16, 16, b"")]),
+    ("a page of 8", "F0 0500" + "AA" * 5 + "F1", (42, 0)),
+    ("a page of 17", "F0 0E00" + "AA" * 14 + "F1", (42, 0)),
+    ("a page of 48", "F0 2D00" + "AA" * 45 + "F1", (42, 0)),
+    ("a page of 32,768", "F0 FD7F" + "AA" * 32_765 + "F1", []),
+    ("a page of 65,536", "F0 FDFF" + "AA" * 65_533 + "F1", (42, 0)),
+    ("a page of 3", "F0 0000 F1", (42, 0)),
+    ("no length", "F0 0D", (44, 0)),
+    ("no end", PAGE_16, (44, 16)),
+    ("no end behind a member", PAGE_16 + A, (44, 32)),
+    ("a front that is cut", PAGE_16 + "80 03", (44, 16)),
+    ("a record that is cut", PAGE_16 + "80 0300 0141 3B  8A 0200 00", (44, 22)),
+    ("a length 0", PAGE_16 + "80 0300 0141 3B  88 0000", (43, 22)),
+    ("a closing byte", PAGE_16 + "80 0300 0141 3C", (45, 16)),
+    ("a record that is cut and whose closing byte is wrong", PAGE_16 + "80 0400 0141 3C", (44, 16)),
+    ("a member that ends before its end", PAGE_16 + "80 0300 0141 3B  F1 0200 00 00", (44, 27)),
+]
+
+
+def member(name, size, content):
+    """A header of an archive's member, and its content."""
+    fields = f"{name:16}{0:<12}{0:<6}{0:<6}{644:<8}{size:<10}"
+    return fields.encode() + b"`\n" + content
+
+
+MAGIC = b"!<arch>\n"
+A_BYTES = bytes.fromhex(A)
+LONG = b"a_long_name_of_one.o/\nanother.o/\n"
+
+# title, an archive, and as above
+ARCHIVES = [
+    ("no members", MAGIC, []),
+    ("a module in the place of a library", A_BYTES, [(0, 11, b"")]),
+    ("another line end", MAGIC[:-1] + b"\r\n", [(0, 9, b"")]),
+    ("one of an odd length", MAGIC + member("a.o/", 11, A_BYTES), [(68, 11, b"a.o")]),
+    ("two", MAGIC + member("a.o/", 11, A_BYTES + b"\n") + member("b.o", 11, A_BYTES),
+     [(68, 11, b"a.o"), (140, 11, b"b.o")]),
+    ("tables", MAGIC + member("/", 4, bytes(4)) + member("__.SYMDEF", 2, bytes(2))
+     + member("__.SYMDEF SORTED", 2, bytes(2)) + member("a.o/", 11, A_BYTES),
+     [(256, 11, b"a.o")]),
+    ("long names", MAGIC + member("//", 33, LONG + b"\n") + member("/0", 11, A_BYTES + b"\n")
+     + member("/22", 11, A_BYTES),
+     [(162, 11, b"a_long_name_of_one.o"), (234, 11, b"another.o")]),
+    ("nothing in a member", MAGIC + member("a.o/", 0, b""), [(68, 0, b"a.o")]),
+    ("what is no module", MAGIC + member("a.o/", 2, b"\xFF\xFF"), [(68, 2, b"a.o")]),
+    ("a header that is cut", MAGIC + member("a.o/", 0, b"")[:-1], (46, 8)),
+    ("a name that is no place of a long one", MAGIC + member("/9/", 0, b"") + member("/9", 0, b""),
+     [(68, 0, b"/9/"), (128, 0, b"/9")]),
+    ("another end of a header", MAGIC + member("a.o/", 0, b"")[:-1] + b"\r", (46, 8)),
+    ("a size of no digits", MAGIC + member("a.o/", " ", b""), (46, 8)),
+    ("a size that isn't decimal", MAGIC + member("a.o/", "1F", bytes(31)), (46, 8)),
+    ("a digit behind a space", MAGIC + member("a.o/", "1 1", bytes(11)), (46, 8)),
+    ("a header at an odd place", MAGIC + member("a.o/", 11, A_BYTES) + member("b.o/", 0, b""),
+     (46, 80)),
+    ("a member that is too long", MAGIC + member("a.o/", 12, A_BYTES), (47, 8)),
+    ("a second that is too long", MAGIC + member("a.o/", 11, A_BYTES + b"\n")
+     + member("b.o/", 12, A_BYTES), (47, 80)),
+]
+
+# title, bodies of records as type and hexadecimal, and the names that they want and offer
+NAMES = [
+    ("externals", [(0x8C, "0161 00 0162 8001")], "a b", ""),
+    ("externals that are cut", [(0x8C, "0161 00 0262")], "a", ""),
+    ("an external without a type", [(0x8C, "0161 00 0162")], "a", ""),
+    ("publics", [(0x90, "00 01 0161 0000 00 0162 0500 00")], "", "a b"),
+    ("publics of a frame", [(0x90, "00 00 00B8 0161 0000 00")], "", "a"),
+    ("publics by indexes of two bytes", [(0x90, "8000 8001 0161 0000 8000")], "", "a"),
+    ("32-bit publics", [(0x91, "00 01 0161 00000000 00")], "", "a"),
+    ("16-bit publics of a 32-bit type", [(0x91, "00 01 0161 0000 00")], "", ""),
+    ("communal externals", [(0x96, "00 0161 0162"), (0xBC, "03 00 02 00 00 00 04 00")], "b a", ""),
+    ("local names beside others", [(0xCA, "0161"), (0x96, "0162"), (0xBC, "01 00 02 00")], "a b",
+     ""),
+    ("a name that is listed later", [(0xBC, "01 00"), (0x96, "0161")], "", ""),
+    ("an alias", [(0xC6, "0161 0162 0163")], "b", "a"),
+    ("data of a COMDAT", [(0x96, "0161"), (0xC2, "00 00 00 0000 00 00 01 01 FFFF")], "", "a"),
+    ("a COMDAT of a frame", [(0x96, "0161"), (0xC2, "00 00 00 0000 00 00 00 00B8 01")], "", "a"),
+    ("a COMDAT of no base", [(0x96, "0161"), (0xC2, "00 11 00 0000 00 01 05 05")], "", "a"),
+    ("a 32-bit COMDAT", [(0x96, "0161"), (0xC3, "00 11 00 00000000 00 01")], "", "a"),
+    ("a local COMDAT", [(0x96, "0161"), (0xC2, "04 11 00 0000 00 01")], "", ""),
+    ("what no other module sees", [
+        (0xB0, "0161 00 62 02"), (0xB4, "0161 00"), (0xB5, "0161 00"), (0xB6, "00 01 0161 0000 00"),
+        (0xB7, "00 01 0161 00000000 00"), (0xB8, "0161 00 62 02")], "", ""),
+    ("behind the end", [(0x8A, "00"), (0x8C, "0161 00")], "", ""),
+    ("behind the other end", [(0x8B, "00"), (0x8C, "0161 00")], "", ""),
+]
+
+# title, modules and libraries of modules as names wanted and offered, whether case is ignored, and
+# the library and member that are taken, the name, and the module that wants it
+SEARCHES = [
+    ("nothing wanted", ["-a"], [["-b"]], False, []),
+    ("one", ["a-"], [["-b", "-a"]], False, [(0, 1, b"a", 0)]),
+    ("what is offered by a module", ["a-", "-a"], [["-a"]], False, []),
+    ("a member of a member", ["a-"], [["-c", "b-a", "c-b"]], False,
+     [(0, 1, b"a", 0), (0, 2, b"b", 1), (0, 0, b"c", 2)]),
+    ("a name of the files first", ["ab-"], [["c-a", "-c", "-b"]], False,
+     [(0, 0, b"a", 0), (0, 2, b"b", 0), (0, 1, b"c", 1)]),
+    ("two libraries that want each other", ["a-"], [["b-a", "d-c"], ["c-b", "-d"]], False,
+     [(0, 0, b"a", 0), (1, 0, b"b", 1), (0, 1, b"c", 2), (1, 1, b"d", 3)]),
+    ("the first library", ["a-"], [["-a"], ["-a"]], False, [(0, 0, b"a", 0)]),
+    ("the first member", ["a-"], [["-ab", "-a"]], False, [(0, 0, b"a", 0)]),
+    ("the second library, by a name before", ["ba-"], [["-a"], ["-ab"]], False, [(1, 0, b"b", 0)]),
+    ("a name that nothing offers", ["xa-"], [["-a"]], False, [(0, 0, b"a", 0)]),
+    ("a member that wants its own name", ["a-"], [["a-a"]], False, [(0, 0, b"a", 0)]),
+    ("other case", ["A-"], [["-a"]], False, []),
+    ("other case, which is ignored", ["A-", "a-"], [["-a"]], True, [(0, 0, b"A", 0)]),
+    ("other case that is offered", ["a-A"], [["-a"]], True, []),
+]
+
+# title, modules and libraries, whether case is ignored, and what is missing, by whom, and like what
+MISSING = [
+    ("nothing", ["a-", "-a"], [], False, []),
+    ("once for a module", ["aa-", "a-"], [], False, [(b"a", 0, None), (b"a", 1, None)]),
+    ("by its first spelling", ["Aa-"], [], True, [(b"A", 0, None)]),
+    ("another case", ["a-", "-A"], [], False, [(b"a", 0, b"A")]),
+    ("another case in a library", ["a-"], [["-A"]], False, [(b"a", 0, b"A")]),
+    ("letters and digits alike", ["1-", "-2"], [], False, [(b"1", 0, None)]),
+]
+
+
+def segment(name, class_name, kind="public", alignment=1, in_group=False):
+    """One that is in DGROUP with all of its class, or not."""
+    return ordering.Segment(name, class_name, kind, alignment, in_group, in_group)
+
+
+TEXT, FAR = segment(b"T", b"MY_CODE"), segment(b"F", b"FAR_DATA", alignment=16)
+NULL = segment(b"N", b"BEGDATA", alignment=16, in_group=True)
+DATA = segment(b"D", b"DATA", alignment=2, in_group=True)
+BSS, STACK = segment(b"B", b"BSS", in_group=True), segment(b"S", b"STACK", "stack", 16, True)
+OUTER_STACK = segment(b"S", b"STACK", "stack", 16)
+
+# title, segments as they are met, and their order by DOSSEG
+DOSSEG = [
+    ("all", [STACK, BSS, DATA, NULL, FAR, TEXT], [TEXT, FAR, NULL, DATA, BSS, STACK]),
+    ("of one kind as they are met", [DATA, segment(b"E", b"CONST", in_group=True)],
+     [DATA, segment(b"E", b"CONST", in_group=True)]),
+    ("a stack outside of DGROUP", [DATA, OUTER_STACK], [OUTER_STACK, DATA]),
+    ("a segment outside of DGROUP of a class in it", [
+        ordering.Segment(b"X", b"DATA", "public", 1, False, True), NULL, FAR],
+     [FAR, NULL, ordering.Segment(b"X", b"DATA", "public", 1, False, True)]),
+    ("code in DGROUP", [FAR, segment(b"T", b"CODE", in_group=True)],
+     [segment(b"T", b"CODE", in_group=True), FAR]),
+]
+
+# title, the items of a list, segments as they are met, and their order
+LISTS = [
+    ("a class", ["DATA"], [TEXT, DATA, FAR], [DATA, TEXT, FAR]),
+    ("a class that no segment has", ["HEAP", "DATA"], [TEXT, DATA], [DATA, TEXT]),
+    ("a segment first in its class", ["DATA", ".E"],
+     [TEXT, DATA, segment(b"E", b"DATA")], [segment(b"E", b"DATA"), DATA, TEXT]),
+    ("segments of a class", ["DATA", ".E", ".D"],
+     [DATA, segment(b"X", b"DATA"), segment(b"E", b"DATA")],
+     [segment(b"E", b"DATA"), DATA, segment(b"X", b"DATA")]),
+    ("a name in another class", ["DATA", ".F"], [FAR, DATA], [DATA, FAR]),
+]
+
+
+def bytes_of(made):
+    return b"".join(map(Spelling().record, made))
+
+
+def module_of(segments, wants=(), locally=(), defines=()):
+    """A module of segments that wants names, some of them locally, and defines some.
+
+    A segment is a name, a class, an alignment, a combination, and whether DGROUP has it.
+    """
+    listed = [b"DGROUP", *(name for segment in segments for name in segment[:2])]
+    grouped = [number for number, segment in enumerate(segments, 1) if segment[4]]
+    made = [
+        records.Header(b"A"), records.NameList(listed),
+        *(records.SegmentDefinition(each[2], each[3], 5, 2 * number, 2 * number + 1, 0, 0, 0)
+          for number, each in enumerate(segments, 1)),
+        records.GroupDefinition(1, grouped),
+        records.ExternalNames(wants, [0] * len(wants)),
+        records.LocalExternalNames(locally, [0] * len(locally)),
+        records.PublicNames(0, 0, 0, [PublicName(name, 0, 0) for name in defines]),
+        records.ModuleEnd(False, None)]
+    return module.read(bytes_of(made), 0)
+
+
+CODE_OF = (b"T", b"CODE", 1, 2, False)
+DATA_OF = (b"D", b"DATA", 2, 2, True)
+BSS_OF = (b"B", b"BSS", 3, 2, True)
+STACK_OF = (b"S", b"STACK", 3, 5, True)
+PRIVATE_BSS = (b"P", b"BSS", 3, 0, True)
+OUTER_BSS = (b"_BSS", b"BSS", 1, 2, False)
+
+# title, modules, an order, whether case is ignored, the names and classes of the segments of the
+# module in front, with the alignment of each, and its marks with the segments of these
+ORDERS = [
+    ("none", [module_of([CODE_OF, BSS_OF])], "meeting", False, "", ""),
+    ("DOSSEG", [module_of([STACK_OF, BSS_OF, CODE_OF])], "dosseg", False,
+     "T.CODE.1 B.BSS.16 S.STACK.16", ""),
+    ("DGROUP of another module", [
+        module_of([DATA_OF[:4] + (False,), CODE_OF]), module_of([DATA_OF])], "dosseg", False,
+     "T.CODE.1 D.DATA.2", ""),
+    ("the first part's alignment", [
+        module_of([(b"D", b"DATA", 1, 2, True)]), module_of([DATA_OF])], "dosseg", False,
+     "D.DATA.1", ""),
+    ("marks", [module_of([CODE_OF, BSS_OF, STACK_OF], [b"_edata", b"_end"])], "meeting", False,
+     "T.CODE.1 B.BSS.16 S.STACK.16", "_edata@B _end@S"),
+    ("all marks", [module_of(
+        [BSS_OF, STACK_OF], [b"__end", b"_end", b"__edata", b"_edata"])], "meeting", False,
+     "B.BSS.16 S.STACK.16", "_edata@B __edata@B _end@S __end@S"),
+    ("a mark that is defined", [module_of([BSS_OF], [b"_edata"], defines=[b"_edata"])], "meeting",
+     False, "", ""),
+    ("a mark that is wanted locally", [module_of([BSS_OF], locally=[b"_edata"])], "meeting", False,
+     "", ""),
+    ("a mark of another case", [module_of([BSS_OF], [b"_EDATA"])], "meeting", False, "", ""),
+    ("a mark of another case, which is ignored", [module_of([BSS_OF], [b"_EDATA"])], "meeting",
+     True, "B.BSS.16", "_edata@B"),
+    ("no BSS", [module_of([DATA_OF, STACK_OF], [b"_edata"])], "dosseg", False,
+     "D.DATA.2 _BSS.BSS.1 S.STACK.16", "_edata@_BSS"),
+    ("no BSS, as they are met", [module_of([DATA_OF, STACK_OF], [b"_edata"])], "meeting", False,
+     "D.DATA.2 S.STACK.16 _BSS.BSS.1", "_edata@_BSS"),
+    ("no BSS in DGROUP", [module_of([OUTER_BSS, DATA_OF], [b"_edata"])], "dosseg", False,
+     "D.DATA.2 _BSS.BSS.1 _BSS.BSS.1", "_edata@_BSS"),
+    ("BSS of a class in DGROUP", [module_of([OUTER_BSS, BSS_OF], [b"_edata"])], "meeting", False,
+     "_BSS.BSS.1 B.BSS.16", "_edata@B"),
+    ("no stack", [module_of([BSS_OF, DATA_OF], [b"_end"])], "meeting", False,
+     "B.BSS.16 _END._END.1 D.DATA.2", "_end@_END"),
+    ("no stack behind a class met again", [module_of([BSS_OF, DATA_OF, OUTER_BSS], [b"_end"])],
+     "meeting", False, "B.BSS.16 _END._END.1 D.DATA.2 _BSS.BSS.1", "_end@_END"),
+    ("neither", [module_of([CODE_OF], [b"_end"])], "dosseg", False,
+     "T.CODE.1 _BSS.BSS.1 _END._END.1", "_end@_END"),
+    ("a private BSS", [module_of([PRIVATE_BSS, DATA_OF], [b"_edata"])], "dosseg", False,
+     "D.DATA.2 P.BSS.1 _BSS.BSS.1", "_edata@_BSS"),
+    ("a private one behind one of its class", [module_of([BSS_OF, PRIVATE_BSS])], "dosseg", False,
+     "B.BSS.16", ""),
+    ("a private one before one of its class", [module_of([PRIVATE_BSS, BSS_OF])], "dosseg", False,
+     "P.BSS.1 B.BSS.16", ""),
+    ("private ones of a class", [module_of([PRIVATE_BSS]), module_of([PRIVATE_BSS])], "dosseg",
+     False, "P.BSS.1", ""),
+    ("an absolute one", [module_of([(b"A", b"ABS", 0, 2, False), CODE_OF])], "dosseg", False,
+     "T.CODE.1", ""),
+]
+
+RESPONSE = """\
+option quiet
+debug dwarf
+file rtl/large/prt0l.o
+library hello.a
+library rtl/large/system.a
+format dos
+order clname CODE clname BEGDATA segment _NULL segment _AFTERNULL clname BSS
+
+# made by hand
+name 'my hello.exe'
+"""
+
+# title, directives, and what of the job isn't as in one without any directive, or the line's fault
+DIRECTIVES = [
+    ("of a compiler", RESPONSE, {
+        "is_quiet": True, "files": ["rtl/large/prt0l.o"], "out": "my hello.exe",
+        "libraries": ["hello.a", "rtl/large/system.a"],
+        "order": [
+            Class(b"CODE"), Class(b"BEGDATA"), Named(b"_NULL"), Named(b"_AFTERNULL"),
+            Class(b"BSS")]}),
+    ("several names", 'FILE a.o, "b c.o",d.o', {"files": ["a.o", "b c.o", "d.o"]}),
+    ("an option that is cut", "op q\n", "line 1: unknown option: op q"),
+    ("shorter words", "op quiet\nlib a.lib\n", {"is_quiet": True, "libraries": ["a.lib"]}),
+    ("a map of a name", "option map=a.map, quiet", {"map": "a.map", "is_quiet": True}),
+    ("a map", "name a.exe\noption map", {"out": "a.exe", "maps_to_out": True}),
+    ("case", "option caseignore", {"ignores_case": True}),
+    ("DOSSEG", "option dosseg", {"order": ordering.DOSSEG}),
+    ("what is left out", "\noption symfile\nsort global\ndisable 1014", {"warnings": [
+        (2, "no file of symbols is written"), (3, "the map is not sorted"),
+        (4, "no message is left out")]}),
+    ("folders", "libpath my/lib,other", {"folders": ["my/lib", "other"]}),
+    ("line ends of DOS", "file a.o\r\nfile b.o\r\n", {"files": ["a.o", "b.o"]}),
+    ("white space", " \tfile\ta.o ", {"files": ["a.o"]}),
+    ("a quote that isn't closed", 'file "a.o', "line 1: a quote isn't closed: file \"a.o"),
+    ("a quote inside of a word", "file a'b", {"files": ["a'b"]}),
+    ("an equals sign in a name", "file a=b", "line 1: wrong operands: file a=b"),
+    ("spaces around one", "option map = a.map", {"map": "a.map"}),
+    ("a value of an option without one", "option quiet=1",
+     "line 1: wrong operands: option quiet=1"),
+    ("no option", "option", "line 1: wrong operands: option"),
+    ("a directive between quotes", "'file' a.o", "line 1: unknown directive: 'file' a.o"),
+    ("no default libraries", "option nodefaultlibs", {"has_default_libraries": False}),
+    ("a stack", "option stack=4096",
+     {"warnings": [(1, "the stack is as long as the modules make it")]}),
+    ("what changes nothing", "op nofarcalls", {"warnings": [(1, "the option has no effect")]}),
+    ("a .COM file", "file a.o\nformat dos com",
+     "line 2: no .COM program is written, only .EXE: format dos com"),
+    ("another system", "format windows",
+     "line 1: no other program is written than one for DOS: format windows"),
+    ("no directive", "file a.o\n\nfoo bar\r\n", "line 3: unknown directive: foo bar"),
+    ("no word", "=", "line 1: unknown directive: ="),
+    ("no file", "file", "line 1: wrong operands: file"),
+    ("no name behind a comma", "file a.o,", "line 1: wrong operands: file a.o,"),
+    ("an order of nothing", "order clname", "line 1: wrong operands: order clname"),
+    ("a segment of no class", "order segment A", "line 1: wrong operands: order segment A"),
+]
+
+SPLIT = [
+    ("a  b\n\tc", ["a", "b", "c"]), ('-o "my out" x', ["-o", "my out", "x"]),
+    ("a'b 'c d\"", ["a'b", "'c", 'd"']), ('"" ""', ["", ""])]
+
+
+def code_module(title, *body):
+    """A module with a segment CODE of 17 bytes."""
+    return bytes_of([
+        records.Header(title), records.NameList([b"", b"CODE"]),
+        records.SegmentDefinition(1, 2, 17, 2, 2, 1), *body, records.ModuleEnd(False, None)])
+
+
+CALLING = code_module(b"M", records.ExternalNames([b"x"], [0]), *NEAR_CALL)
+CALLED = code_module(b"X", records.PublicNames(0, 1, None, [PublicName(b"x", 2, 0)]))
+NAMING = code_module(b"N", records.Comment(0, 0x9F, b"X"))
+NAMING_TWO = code_module(b"N", records.Comment(0, 0x9F, b"X"), records.Comment(0, 0x9F, b"Y"))
+WANTING_TWO = code_module(b"W", records.ExternalNames([b"_X", b"y", b"y", b"_edata"], [0] * 4))
+CALLS_TWICE = code_module(
+    b"T", records.ExternalNames([b"x"], [0]), records.Comment(0, 0x9F, b"X"), *NEAR_CALL)
+PADDING = bytes(16 - len(CALLED) % 16)
+LIBRARY = bytes.fromhex(PAGE_16) + CALLED + PADDING + b"\xF1"
+FILES = {
+    "m.obj": CALLING, "x.obj": CALLED, "n.obj": NAMING, "two.obj": NAMING_TWO, "t.obj": CALLS_TWICE,
+    "w.obj": WANTING_TWO, "x.lib": LIBRARY, "cut.lib": LIBRARY[:-1], "x.a": MAGIC, "X.LIB": MAGIC,
+    "f/X.lib": LIBRARY, "f/L": LIBRARY, "f/L.LIB": MAGIC, "f/Y": CALLED, "g/L.LIB": LIBRARY,
+    "bad": b"\xFF"}
+# 17 bytes of each module; the call's end is at 3 and x at 19
+PROGRAM = header("2300 0100 0000 0200 0300" + MOST + NO_REGISTERS) + NO_TABLE + "E81000"
+
+# title, what is asked for, the folders of LIB, and the bytes of OUT or the lines on standard error,
+# and the lines that tell the modules
+LINKS = [
+    ("a module of a library", {"files": ["m.obj"], "libraries": ["x.lib"]}, [], PROGRAM,
+     'm.obj\nx.lib(X) for "x"\n'),
+    ("a library among the files", {"files": ["x.lib", "m.obj"]}, [], PROGRAM,
+     'm.obj\nx.lib(X) for "x"\n'),
+    ("a module in the place of a library", {"files": ["m.obj"], "libraries": ["x.obj"]}, [],
+     PROGRAM, "m.obj\nx.obj\n"),
+    ("nothing to take", {"files": ["m.obj"], "libraries": ["x.a"]}, [],
+     'doslink: m.obj: "x" is missing: wanted by "M"\n', "m.obj\n"),
+    ("names that nothing uses", {"files": ["w.obj"], "libraries": ["x.lib"]}, [],
+     'doslink: w.obj: "_X" is missing: wanted by "W"; "x" is in x.lib(X)\n'
+     'doslink: w.obj: "y" is missing: wanted by "W"\n', "w.obj\n"),
+    ("a library without an end", {"files": ["m.obj"], "libraries": ["cut.lib"]}, [],
+     f"doslink: cut.lib: 44 Truncated at place {len(LIBRARY) - 1}\n", ""),
+    ("a file that isn't there comes first", {"files": ["cut.lib", "none.obj"]}, [],
+     "doslink: none.obj: 1 Device at record 0\n", ""),
+    ("no such library", {"files": ["m.obj"], "libraries": ["none.lib"]}, [],
+     "doslink: none.lib: 1 Device at record 0\n", ""),
+    ("a name in a folder", {"files": ["m.obj"], "libraries": ["L"], "folders": ["f", "g"]}, [],
+     PROGRAM, 'm.obj\nf/L(X) for "x"\n'),
+    ("an ending", {"files": ["m.obj"], "libraries": ["L"], "folders": ["g/"]}, [], PROGRAM,
+     'm.obj\ng/L.LIB(X) for "x"\n'),
+    ("LIB is for default libraries", {"files": ["m.obj"], "libraries": ["L"]}, ["g"],
+     "doslink: L: 1 Device at record 0\n", ""),
+    ("a default library of this folder", {"files": ["t.obj"]}, ["f"],
+     'doslink: t.obj: "x" is missing: wanted by "T"\n', "t.obj\n"),
+    ("no default libraries", {"files": ["t.obj"], "has_default_libraries": False}, ["f"],
+     'doslink: t.obj: "x" is missing: wanted by "T"\n', "t.obj\n"),
+    ("a default library that isn't there", {"files": ["two.obj", "m.obj", "x.lib"]}, ["g"],
+     'doslink: warning: library "Y" of two.obj was not found\n',
+     'two.obj\nm.obj\nx.lib(X) for "x"\n'),
+    ("a default module of LIB", {"files": ["two.obj", "m.obj"]}, ["f"], "",
+     "two.obj\nm.obj\nf/Y\n"),
+    ("a name twice", {"files": ["x.obj", "x.obj"]}, [],
+     'doslink: link: 25 DuplicatePublic "x" in x.obj and x.obj\n', "x.obj\nx.obj\n"),
+    ("a module at fault", {"files": ["bad"]}, [], "doslink: bad: 3 Truncated at record 0\n",
+     "bad\n"),
+    ("OUT is read", {"files": ["m.obj"], "out": "m.obj"}, [],
+     "doslink: m.obj: it is read and would be written\n", ""),
+    ("the map is read", {"files": ["m.obj"], "map": "m.obj"}, [],
+     "doslink: m.obj: it is read and would be written\n", ""),
+]
+
+# what is asked for, and the path of the program
+OUTS = [
+    ({"files": ["a.obj", "b.obj"]}, "a.EXE"), ({"files": ["a.b/c"]}, "a.b/c.EXE"),
+    ({"libraries": ["l.lib"]}, "l.EXE"), ({}, "OUT.EXE"), ({"files": ["a"], "out": "b"}, "b"),
+]
+
+TABLE = """\
+modules
+"doslink" order
+ 000000 R 000000 "CODE" "CODE"
+"M" m.obj
+ 000000 R 000011 "CODE" "CODE"
+"X" x.lib(X)
+ 000011 R 000011 "CODE" "CODE"
+"""
+
+# names by their indexes: CODE, DWARF, FAR_DATA and _TEXT
+LISTED = (0x96, "04434F4445 054457415246 084641525F44415441 055F54455854")
+DEBUG_SEGMENT, CODE_SEGMENT = (0x98, "28 0800 04 02 00"), (0x98, "28 0800 04 01 00")
+WITHOUT, NOTHING = (0x98, "20 0000 04 02 00"), (0x88, "00DA")
+FAR_SEGMENT = (0x98, "60 0800 04 03 00")
+DATA_OF_1, DATA_OF_2 = (0xA0, "01 0000 00"), (0xA0, "02 0000 00")
+FIXUPS = (0x9C, "C400 54 01")
+
+# title, whether debugging is kept and far data shares a frame, records, and the same as lowered
+LOWERED = [
+    ("data for debuggers", False, False, [LISTED, DEBUG_SEGMENT, DATA_OF_1, FIXUPS],
+     [LISTED, WITHOUT, NOTHING, (0x9C, "")]),
+    ("which is kept", True, False, [LISTED, DEBUG_SEGMENT, DATA_OF_1, FIXUPS],
+     [LISTED, DEBUG_SEGMENT, DATA_OF_1, FIXUPS]),
+    ("fix-ups of other data", False, False,
+     [LISTED, DEBUG_SEGMENT, CODE_SEGMENT, DATA_OF_1, FIXUPS, DATA_OF_2, FIXUPS],
+     [LISTED, WITHOUT, CODE_SEGMENT, NOTHING, (0x9C, ""), DATA_OF_2, FIXUPS]),
+    ("threads stay", False, False, [
+        LISTED, DEBUG_SEGMENT, DATA_OF_1, (0x9C, "00 01  C400 54 01  41 01  C400 9C  53")],
+     [LISTED, WITHOUT, NOTHING, (0x9C, "00 01  41 01  53")]),
+    ("by 32 bits", False, False, [
+        LISTED, (0x99, "A9 08000000 04 02 00"), (0xA1, "01 00000000 00"),
+        (0x9D, "E400 50 01 00000000")],
+     [LISTED, WITHOUT, NOTHING, (0x9C, "")]),
+    ("repeated", False, False, [LISTED, DEBUG_SEGMENT, (0xA2, "01 0000 0100 0000 01 00"), FIXUPS],
+     [LISTED, WITHOUT, NOTHING, (0x9C, "")]),
+    ("an absolute one", False, False, [LISTED, (0x98, "00 00B8 00 0800 04 8002 01")],
+     [LISTED, (0x98, "20 0000 04 8002 01")]),
+    ("fix-ups that are cut", False, False, [LISTED, DEBUG_SEGMENT, DATA_OF_1, (0x9C, "C400")],
+     (51, 3)),
+    ("a class that is listed later", False, False, [DEBUG_SEGMENT, LISTED, DATA_OF_1],
+     [DEBUG_SEGMENT, LISTED, DATA_OF_1]),
+    ("far data", False, True, [LISTED, FAR_SEGMENT], [LISTED, (0x98, "68 0800 03 03 00")]),
+    ("far data that doesn't fit", False, False, [LISTED, FAR_SEGMENT], [LISTED, FAR_SEGMENT]),
+    ("an absolute one of far data", False, True, [LISTED, (0x98, "01 00B8 00 0800 04 03 01")],
+     [LISTED, (0x98, "08 00B8 00 0800 03 03 01")]),
+    ("behind the end", False, False, [LISTED, (0x8A, "00"), DEBUG_SEGMENT],
+     [LISTED, (0x8A, "00"), DEBUG_SEGMENT]),
+    ("another header and names", False, False, [(0x82, "0141"), (0xCA, "0141")],
+     [(0x80, "0141"), (0x96, "0141")]),
+    ("near and far variables", False, False, [
+        (0xB0, "0141 00 62 05  0142 8001 61 81FFFF 80  0143 01 62 84010000"
+               " 0144 00 61 00 8801000000")],
+     [(0x8C, "0141 00  0142 8001  0143 01  0144 00")]),
+    ("local ones", False, False, [(0xB8, "0141 00 62 05")], [(0xB4, "0141 00")]),
+    ("a variable of another type", False, False, [LISTED, (0xB0, "0141 00 05 05")], (48, 1)),
+    ("a length of no form", False, False, [(0xB0, "0141 00 62 82")], (51, 0)),
+    ("a variable that is cut", False, False, [(0xB0, "0141 00 61 01")], (51, 0)),
+    ("externals by indexes", False, False, [LISTED, (0xBC, "02 00 8001 8005")],
+     [LISTED, (0x8C, "054457415246 00  04434F4445 8005")]),
+    ("an index of no name", False, False, [LISTED, (0xBC, "05 00")], (51, 1)),
+    ("the index 0", False, False, [LISTED, (0xBC, "00 00")], (51, 1)),
+    ("a segment of 32 bits", False, False, [LISTED, (0x99, "69 34120000 04 01 00")],
+     [LISTED, (0x98, "68 3412 04 01 00")]),
+    ("the bit of 32 bits alone", False, False, [LISTED, (0x98, "69 3412 04 01 00")],
+     [LISTED, (0x98, "68 3412 04 01 00")]),
+    ("a length of more than 16 bits", False, False, [LISTED, (0x99, "69 00000100 04 01 00")],
+     (49, 1)),
+    ("publics of 32 bits", False, False, [(0x91, "00 01 0141 34120000 00")],
+     [(0x90, "00 01 0141 3412 00")]),
+    ("local ones of a frame", False, False, [(0xB7, "00 00 00B8 0141 34120000 8001")],
+     [(0xB6, "00 00 00B8 0141 3412 8001")]),
+    ("an offset of more than 16 bits", False, False, [(0x91, "00 01 0141 00000100 00")], (49, 0)),
+    ("line numbers", False, False, [(0x95, "00 01 0A00 34120000")], [(0x94, "00 01 0A00 3412")]),
+    ("an end", False, False, [(0x8B, "00")], [(0x8A, "00")]),
+    ("a start", False, False, [(0x8B, "C1 00 01 01 34120000")], [(0x8A, "C1 00 01 01 3412")]),
+    ("a start without a displacement", False, False, [(0x8B, "C1 04 01 01")],
+     [(0x8A, "C1 04 01 01")]),
+    ("data", False, False, [(0xA1, "01 34120000 AABB")], [(0xA0, "01 3412 AABB")]),
+    ("an offset of 32 bits", False, False, [(0xA1, "01 00000000 00000000"), (0x9D, "E400 54 02")],
+     [(0xA0, "01 0000 00000000"), (0x9C, "C400 54 02")]),
+    ("by a displacement", False, False, [
+        (0xA1, "01 00000000 FFFF0000"), (0x9D, "F400 50 02 34120000")],
+     [(0xA0, "01 0000 FFFF0000"), (0x9C, "C400 50 02 3412")]),
+    ("one whose upper word isn't 0", False, False, [
+        (0xA1, "01 00000000 00000100"), (0x9D, "E400 54 02")], (49, 1)),
+    ("one that isn't whole in the data", False, False, [
+        (0xA1, "01 00000000 000000"), (0x9D, "E400 54 02")], (50, 1)),
+    ("one that is self-relative", False, False, [
+        (0xA1, "01 00000000 00000000"), (0x9D, "A400 54 02")], (50, 1)),
+    ("repeated data", False, False, [
+        (0xA3, "01 00000000  02000000 0100  03000000 0000 04 AA000000"),
+        (0x9D, "C40D 54 02  E40D 54 02  8411 54 02")],
+     (50, 1)),
+    ("places in repeated data", False, False, [
+        (0xA3, "01 00000000  02000000 0100  03000000 0000 04 AA000000"),
+        (0x9C, "C40D 54 02  E40D 54 02  840F 54 02")],
+     [(0xA2, "01 0000  0200 0100  0300 0000 04 AA000000"),
+      (0x9C, "C409 54 02  C409 54 02  840B 54 02")]),
+    ("a repeat count of more than 16 bits", False, False, [
+        (0xA3, "01 00000000  00000100 0000 01 AA")], (49, 0)),
+]
+
+# the lengths of segments of far data, and whether they share a frame
+FITTING = [([65_536], True), ([65_521], True), ([65_520, 16], True), ([65_520, 17], False)]
+
+
+def members_of(content):
+    """The place, length and name of each member, or the fault and its place."""
+    try:
+        return [
+            (each.place, len(each.content), each.name) for each in libraries.members(content)]
+    except Fault as fault:
+        return fault.number, fault.place
+
+
+def names_of(bodies):
+    """The names that records want and offer."""
+    made = b"".join(Spelling().framed(kind, bytes.fromhex(body)) for kind, body in bodies)
+    found = names.names_of(made)
+    return [b" ".join(each).decode() for each in (found.wanted, found.offered)]
+
+
+def named(text):
+    """A module whose names are letters, before the sign - those that it wants."""
+    wanted, offered = ([letter.encode() for letter in each] for each in text.split("-"))
+    return Names(wanted, offered)
+
+
+def named_libraries(texts):
+    return [[named(text) for text in library] for library in texts]
+
+
+def items(texts):
+    return [
+        Named(text[1:].encode()) if text[0] == "." else Class(text.encode())
+        for text in texts]
+
+
+def check_libraries():
+    for title, digits, wanted in LIBRARIES:
+        assert members_of(bytes.fromhex(digits)) == wanted, title
+    for title, content, wanted in ARCHIVES:
+        assert members_of(content) == wanted, title
+    for title, bodies, *wanted in NAMES:
+        assert names_of(bodies) == wanted, title
+
+
+def check_search():
+    for title, modules, found, ignores_case, wanted in SEARCHES:
+        choices = search.choose(
+            list(map(named, modules)), named_libraries(found), search.agreed(ignores_case))
+        taken = [(each.library, each.member, each.name, each.wanted_by) for each in choices]
+        assert taken == wanted, title
+    for title, modules, found, ignores_case, wanted in MISSING:
+        members = [member for library in named_libraries(found) for member in library]
+        lacking = search.missing(
+            list(map(named, modules)), members, search.agreed(ignores_case))
+        assert [(each.name, each.wanted_by, each.like) for each in lacking] == wanted, title
+
+
+def check_order():
+    for title, met, wanted in DOSSEG:
+        assert ordering.in_dosseg_order(met) == wanted, title
+    for title, texts, met, wanted in LISTS:
+        assert ordering.in_listed_order(met, items(texts)) == wanted, title
+    for title, modules, order, ignores_case, *wanted in ORDERS:
+        opened, marks = ordering.ordering(modules, order, search.agreed(ignores_case))
+        segments = [
+            f"{each.name.decode()}.{each.class_name.decode()}.{each.alignment}" for each in opened]
+        marks = [f"{mark.decode()}@{opened[number].name.decode()}" for mark, number in marks]
+        assert [" ".join(segments), " ".join(marks)] == wanted, title
+
+
+def check_directives():
+    for text, wanted in SPLIT:
+        assert directives.split_words(text) == wanted, text
+    without = vars(Job(packs_far_data=True))
+    for title, text, wanted in DIRECTIVES:
+        try:
+            job = vars(directives.read_directives(directives.lines_of(text)))
+            found = {name: value for name, value in job.items() if value != without[name]}
+        except directives.DirectiveFault as fault:
+            found = fault.text
+        assert found == wanted, title
+
+
+def framed(made):
+    return b"".join(Spelling().framed(kind, bytes.fromhex(body)) for kind, body in made)
+
+
+def lowered(made, keeps_debug, shares_far_data):
+    """The bytes of records that are lowered, or the fault and how many records stand before it."""
+    try:
+        return lowering.lowered(framed(made), keeps_debug, shares_far_data)
+    except Fault as fault:
+        places = [len(framed(made[:count])) for count in range(len(made))]
+        return fault.number, places.index(fault.place)
+
+
+def check_lowering():
+    for title, keeps_debug, shares_far_data, made, wanted in LOWERED:
+        wanted = wanted if isinstance(wanted, tuple) else framed(wanted)
+        assert lowered(made, keeps_debug, shares_far_data) == wanted, title
+    for lengths, wanted in FITTING:
+        far_data = [module_of_bytes(length) for length in lengths]
+        assert lowering.fits_a_frame(far_data) == wanted, lengths
+    _, _, _, made, wanted = LOWERED[0]
+    place = lowering.own_place(framed(made), framed(wanted), len(framed(wanted[:3])))
+    assert place == len(framed(made[:3]))
+
+
+def module_of_bytes(length):
+    """A module of far data of a length, which is big where it is 65,536."""
+    return framed([
+        (0x80, "00"), LISTED,
+        (0x98, f"6{2 * (length >> 16)} {(length & 0xFFFF).to_bytes(2, 'little').hex()} 04 03 00"),
+        (0x8A, "00")])
+
+
+def check_links():
+    for title, asked, folders, wanted, told in LINKS:
+        answer = linking.link(Job(**{"out": "out", "is_verbose": True, **asked}), FILES, folders)
+        if wanted[:1].isdigit():
+            assert answer.files["out"] == bytes.fromhex(wanted), title
+        else:
+            assert answer.error == wanted.encode(), title
+        assert answer.output == told.encode(), title
+    for asked, wanted in OUTS:
+        assert linking.Linking(Job(**asked), {}, [], None, None).places()[0] == wanted, asked
+    job = Job(["m.obj"], "out", "map", libraries=["x.lib"], order=ordering.DOSSEG)
+    assert linking.link(job, FILES).files["map"].endswith(TABLE.encode())
+
+
+def check():
+    """Raises an AssertionError where the model gives another answer."""
+    check_libraries()
+    check_search()
+    check_order()
+    check_lowering()
+    check_directives()
+    check_links()
