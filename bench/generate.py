@@ -29,6 +29,8 @@ FIRST_CONTENT = 5
 EXPANDED = 65_000
 # bytes of code of a program that is long and has no other data
 CODE = 16
+# bytes of a page of a library
+PAGE = 512
 
 
 # types of the records that define names and use them, for all modules or for their own
@@ -189,6 +191,40 @@ def calling_modules(count):
     """Modules that call one another: five relocations each, and one in the last."""
     modules = [calling_module(number, count) for number in range(count)]
     return Inputs(modules, 4 * CALLS * count, CALLS * (count - 1) + 1)
+
+
+def library(members):
+    """A .LIB with a dictionary that holds nothing."""
+    def padded(content):
+        return content + bytes(-len(content) % PAGE)
+
+    first = b"\xF0" + struct.pack("<HIHB", PAGE - 3, 0, 1, 0)
+    last = b"\xF1" + struct.pack("<H", PAGE - 3)
+    return b"".join(map(padded, [first, *members, last])) + bytes(PAGE)
+
+
+def unwanted_module(number):
+    """A module as one that is called, whose names no other wants or offers."""
+    return (
+        header(f"u{number}")
+        + names("CODE", "CODE")
+        + segment(4 * CALLS)
+        + publics({f"u{number}": 0})
+        + externals([f"v{number}.{call}" for call in range(CALLS)])
+        + data(1, 0, bytes(4 * CALLS))
+        + fixups(fixup(4 * call, Location.POINTER, Target.EXTERNAL, call + 1) for call in range(CALLS))
+        + end()
+    )
+
+
+def library_of_callers(count):
+    """A module, and a library of a number of members of which it takes a third: each of these calls five others."""
+    called = calling_modules(count // 3 + 1)
+    main, *taken = called.modules
+    members = []
+    for number, module in enumerate(taken):
+        members += [unwanted_module(2 * number), unwanted_module(2 * number + 1), module]
+    return Inputs([main, library(members)], called.size, called.relocations)
 
 
 def part_module(number):

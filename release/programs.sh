@@ -1,9 +1,15 @@
-# What ./omf, ./install, release/make, tools/package and the gate know of this repository's programs: which sources
-# each is made of, where the released one stands and where the one that was built. Read by bash with the repository's
-# folder in `top`.
+# What ./omf, ./doslink, ./install, release/make, tools/package and the gate know of this repository's programs: which
+# sources each is made of, where the released one stands and where the one that was built. Read by bash with the
+# repository's folder in `top`.
 
-programs="omf"
 unpacked=$top/out/released
+
+# The programs that crates.txt has: programs
+programs() {
+    for each in omf doslink; do
+        ! grep -q "^$each:" "$top/crates.txt" || echo "$each"
+    done
+}
 
 # The crates that a program stands on, and itself: crates_of PROGRAM
 crates_of() {
@@ -97,7 +103,7 @@ build() {
     }
     log=$(mktemp)
     # help ends with status 0, so any other status is a build that failed
-    (cd "$top/crates/$1" && rt run -- help 2>&1 </dev/null) | tee "$log" | progress "$1"
+    (cd "$top/crates/$1" && rt run --jobs 2 -- --help 2>&1 </dev/null) | tee "$log" | progress "$1"
     if [ "${PIPESTATUS[0]}" -ne 0 ] || [ ! -x "$top/crates/$1/out/$1" ]; then
         cat "$log" >&2
         rm -f "$log"
