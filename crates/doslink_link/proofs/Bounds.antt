@@ -6,7 +6,8 @@ use Rattle.std.specs.Option.{option_or}
 use Rattle.omf_module.specs.Module.{Module}
 use Rattle.omf_module.specs.Tables.{module_of}
 use Rattle.omf_place.specs.Bounded.{IsBounded}
-use Rattle.omf_place.specs.Faults.{IsOnlyLayout, ProgramTooLarge, later_fault, segment_fault, size_fault}
+use Rattle.omf_place.specs.Faults.{IsOnlyLayout, ProgramTooLarge, segment_fault}
+use Rattle.omf_place.specs.inside.Steps.{later_fault, size_fault}
 use Rattle.omf_place.specs.Layout.{Layout}
 use Rattle.omf_place.specs.Parts.{sites}
 use Rattle.omf_place.specs.declared.names.Names.{Names}

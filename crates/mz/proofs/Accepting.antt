@@ -3,7 +3,8 @@ use Rattle.std.proofs.Common.{◌≡◌, ◌+◌, ◌*◌, ◌≤◌, ◌⊎◌,
 use Rattle.std.specs.Prelude.{nat_le}
 use Rattle.std.proofs.lemmas.Bool.{and_parts, or_cases, leb-true, eqb-true}
 use Rattle.mz.specs.declared.format.Header.{Header}
-use Rattle.mz.specs.Header.{header_len, told_len, has_table_inside, is_accepted}
+use Rattle.mz.specs.Header.{header_len, told_len, is_accepted}
+use Rattle.mz.specs.inside.Format.{has_table_inside}
 
 abbrev inner : Header → Bool
 inner h = nat_le 1 h.pages && nat_le h.last_page_bytes 511 && nat_le 28 (header_len h) && nat_le (header_len h) (told_len h)

@@ -6,7 +6,8 @@ use Rattle.std.proofs.lemmas.List.Concat.{flat_map-append}
 use lib.Seq.{take-add}
 use Rattle.omf_image.specs.Program.{Program}
 use Rattle.mz.specs.declared.format.Header.{Header}
-use Rattle.mz.specs.Header.{header_bytes, entry_bytes, header_len}
+use Rattle.mz.specs.Header.{header_len}
+use Rattle.mz.specs.inside.Format.{header_bytes, entry_bytes}
 use Rattle.mz.specs.File.{header_of, entry_of, file_image, paragraphs, table, padding, written}
 
 -- the entries of a range of addresses, between those of the addresses before and behind it

@@ -9,7 +9,8 @@ use Rattle.mz.specs.declared.fault.LoadFault.{LoadFault}
 use Rattle.mz.specs.declared.fault.LoadFault.TheVariants.{DoesNotFit, Memory}
 use Rattle.mz.specs.Header.{entry_address}
 use Rattle.mz.specs.File.{MzFile}
-use Rattle.mz.specs.Loading.{Loaded, loaded, header_registers, memory_len, needed_len, loading, Loads}
+use Rattle.mz.specs.Loading.{Loaded, loaded, header_registers, needed_len, loading, Loads}
+use Rattle.mz.specs.Laws.{memory_len}
 
 pub does_not_fit : (P : ℕ) (f : MzFile) → memory_len < 16 * P + needed_len f → loading P f ≡ Err DoesNotFit
 unfolding loading

@@ -11,7 +11,8 @@ use Rattle.mz.specs.declared.fault.MzFault.{MzFault}
 use Rattle.mz.specs.declared.fault.MzFault.TheVariants.{Magic, Header, Truncated, RelocationOutside}
 use Rattle.mz.specs.Header.{magic, header_at, header_len, told_len, is_accepted, is_inside}
 use Rattle.mz.specs.File.{MzFile}
-use Rattle.mz.specs.Reading.{entries_at, file_of, stands, reading, reach}
+use Rattle.mz.specs.Reading.{entries_at, file_of, reading, reach}
+use Rattle.mz.specs.inside.Steps.{stands}
 use Rattle.mz.specs.inside.Steps.{header_in, file_in}
 use Rattle.mz.proofs.Accepting.{header_within, words_within, table_within}
 
@@ -94,15 +95,15 @@ behind_header b =
     cond (stands Truncated b) (Err Truncated) (cond (stands RelocationOutside b) (Err RelocationOutside) (Ok (file_of b)))
 
 reads_magic : (b : List ℕ) → stands Magic b ≡ true → reading b ≡ Err Magic
-unfolding reading
+unfolding reading stands
 reads_magic b t = cond-true (stands Magic b) _ _ t
 
 reads_header : (b : List ℕ) → stands Magic b ≡ false → stands Header b ≡ true → reading b ≡ Err Header
-unfolding reading
+unfolding reading stands
 reads_header b f t = cond-false (stands Magic b) _ _ f ∙ cond-true (stands Header b) _ _ t
 
 pub reads_behind : (b : List ℕ) → stands Magic b ≡ false → stands Header b ≡ false → reading b ≡ behind_header b
-unfolding reading
+unfolding reading stands
 reads_behind b f k = cond-false (stands Magic b) _ _ f ∙ cond-false (stands Header b) _ _ k
 
 pub reads_truncated : (b : List ℕ) → stands Truncated b ≡ true → behind_header b ≡ Err Truncated

@@ -12,13 +12,16 @@ use Rattle.mz.specs.declared.format.Header.{Header}
 use Rattle.mz.specs.declared.format.Entry.{Entry}
 use Rattle.mz.specs.declared.fault.MzFault.{MzFault}
 use Rattle.mz.specs.declared.fault.MzFault.TheVariants.{RelocationOutside}
-use Rattle.mz.specs.Header.{magic, header_bytes, header_at, header_len, told_len, has_table_inside, is_accepted, entry_bytes, entry_address, is_inside}
+use Rattle.mz.specs.Header.{magic, header_at, header_len, told_len, is_accepted, entry_address, is_inside}
+use Rattle.mz.specs.inside.Format.{has_table_inside}
+use Rattle.mz.specs.inside.Format.{header_bytes, entry_bytes}
 use Rattle.mz.specs.File.{paragraphs, file_image, file_len, header_of, entry_of, table, padding, written, MzFile}
 use Rattle.mz.specs.Reading.{entries_at, file_of, reading}
 use Rattle.mz.specs.inside.Steps.{file_in}
 use Rattle.mz.specs.declared.fault.LoadFault.{LoadFault}
 use Rattle.mz.specs.declared.fault.LoadFault.TheVariants.{DoesNotFit}
-use Rattle.mz.specs.Loading.{Loaded, loaded, memory_len, needed_len, loading}
+use Rattle.mz.specs.Loading.{Loaded, loaded, needed_len, loading}
+use Rattle.mz.specs.Laws.{memory_len}
 use Rattle.mz.specs.Laws.{Fits, memory, moved, as_file}
 use Rattle.mz.proofs.Taken.{header_at-append, file_agrees, reads_accepted, whole_behind}
 use Rattle.mz.proofs.Placing.{does_fit, does_not_fit}
@@ -172,11 +175,11 @@ module _ (p : Program) (w : IsProgram p) where
     header_paragraphs = omega (arith, w.few);
     least_extra_paragraphs = omega (arith, w.short);
     greatest_extra_paragraphs = omega arith;
-    ss = w.ss;
-    sp = w.sp;
+    ss = w.words.2;
+    sp = w.words.3;
     checksum = omega arith;
-    ip = w.ip;
-    cs = w.cs;
+    ip = w.words.1;
+    cs = w.words.0;
     relocation_table = omega arith;
     overlay = omega arith;
   }

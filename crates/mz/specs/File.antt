@@ -1,10 +1,10 @@
 -- The file of a program, as Microsoft published the EXE file: the header, the relocation table, bytes 00 to a whole
 -- paragraph, the image. The file's image is the written part of the program's, up to the last byte that data covers.
-use Rattle.std.specs.Prelude.{◌≡◌, ℕ, ◌+◌, ◌-◌, ◌*◌, ◌/◌, ◌%◌, List, ◌++◌, flat_map, take, replicate, length}
+use Rattle.std.specs.Prelude.{◌≡◌, ℕ, ◌+◌, ◌-◌, ◌*◌, ◌/◌, ◌%◌, List, [], ◌∷◌, ◌++◌, flat_map, take, replicate, length}
 use Rattle.omf_image.specs.Program.{Program, IsProgram}
 use Rattle.mz.specs.declared.format.Header.{Header}
 use Rattle.mz.specs.declared.format.Entry.{Entry}
-use Rattle.mz.specs.Header.{header_bytes, entry_bytes}
+use Rattle.mz.specs.Header.{magic, word_bytes}
 
 -- the first bytes of the program's image, as many as are written
 abbrev pub file_image : Program → List ℕ
@@ -22,7 +22,15 @@ file_len program = 16 * paragraphs (length program.relocations) + program.writte
 abbrev pub extra_paragraphs : Program → ℕ
 extra_paragraphs program = (length program.image + 15) / 16 - program.written / 16
 
--- the header of the file: it asks for all memory behind the program (e_maxalloc), and CS, IP, SS and SP are the
+-- the words of the header: e_magic, e_cblp, e_cp, e_crlc, e_cparhdr, e_minalloc, e_maxalloc, which asks for all memory
+-- behind the program, e_ss, e_sp, e_csum, e_ip, e_cs, e_lfarlc and e_ovno
+abbrev pub words_of : Program → List ℕ
+words_of program =
+    magic ∷ file_len program % 512 ∷ (file_len program + 511) / 512 ∷ length program.relocations
+    ∷ paragraphs (length program.relocations) ∷ extra_paragraphs program ∷ 65535
+    ∷ program.registers.ss ∷ program.registers.sp ∷ 0 ∷ program.registers.ip ∷ program.registers.cs ∷ 28 ∷ 0 ∷ []
+
+-- the same as a header: it asks for all memory behind the program (e_maxalloc), and CS, IP, SS and SP are the
 -- program's
 abbrev pub header_of : Program → Header
 header_of program = record {
@@ -47,7 +55,7 @@ entry_of address = record { offset = address % 16; segment = address / 16 }
 
 -- the relocation table for words at these addresses
 abbrev pub table : (addresses : List ℕ) → List ℕ
-table addresses = flat_map (λ address. entry_bytes (entry_of address)) addresses
+table addresses = flat_map (λ address. word_bytes (address % 16) ++ word_bytes (address / 16)) addresses
 
 -- bytes 00 from the end of the table to the end of the header's last paragraph
 abbrev pub padding : Program → List ℕ
@@ -55,7 +63,9 @@ padding program = replicate (16 * paragraphs (length program.relocations) - (28 
 
 -- the bytes of the file
 unfoldable pub written : Program → List ℕ
-written program = header_bytes (header_of program) ++ table program.relocations ++ padding program ++ file_image program
+written program =
+    flat_map word_bytes (words_of program) ++ table program.relocations ++ padding program
+    ++ take program.written program.image
 
 -- these bytes are the file of a program
 abbrev pub Mz : Program → List ℕ → Type 0

@@ -1,7 +1,7 @@
 -- The header of an MS-DOS executable file as Microsoft published it: fourteen words from place 0 on, low byte first.
 -- The relocation table, whose place the header tells, has an entry of two words for each relocated word.
 use Rattle.std.specs.Prelude.{ℕ, ◌+◌, ◌-◌, ◌*◌, ◌/◌, ◌%◌, ◌==◌, Bool, not, ◌&&◌, ◌||◌, nat_le, if◌then◌else◌, List}
-use Rattle.std.specs.Prelude.{[], ◌∷◌, ◌++◌, flat_map}
+use Rattle.std.specs.Prelude.{[], ◌∷◌}
 use Rattle.omf_image.specs.Words.{word_at}
 use Rattle.mz.specs.declared.format.Header.{Header}
 use Rattle.mz.specs.declared.format.Entry.{Entry}
@@ -10,20 +10,9 @@ use Rattle.mz.specs.declared.format.Entry.{Entry}
 abbrev pub magic : ℕ
 magic = 23117
 
--- e_magic, e_cblp, e_cp, e_crlc, e_cparhdr, e_minalloc, e_maxalloc, e_ss, e_sp, e_csum, e_ip, e_cs, e_lfarlc and e_ovno
-abbrev pub header_words : Header → List ℕ
-header_words header =
-    magic ∷ header.last_page_bytes ∷ header.pages ∷ header.relocation_count ∷ header.header_paragraphs
-    ∷ header.least_extra_paragraphs ∷ header.greatest_extra_paragraphs
-    ∷ header.ss ∷ header.sp ∷ header.checksum ∷ header.ip ∷ header.cs ∷ header.relocation_table ∷ header.overlay ∷ []
-
 -- the two bytes of a word
 abbrev pub word_bytes : ℕ → List ℕ
 word_bytes word = word % 256 ∷ word / 256 % 256 ∷ []
-
--- the 28 bytes of a header
-abbrev pub header_bytes : Header → List ℕ
-header_bytes header = flat_map word_bytes (header_words header)
 
 -- the header that begins a file
 unfoldable pub header_at : List ℕ → Header
@@ -52,27 +41,18 @@ abbrev pub told_len : Header → ℕ
 told_len header =
     if header.last_page_bytes == 0 then 512 * header.pages else 512 * (header.pages - 1) + header.last_page_bytes
 
--- the relocation table begins behind the words of the header and ends in the header
-abbrev pub has_table_inside : Header → Bool
-has_table_inside header =
-    nat_le 28 header.relocation_table
-    && nat_le (header.relocation_table + 4 * header.relocation_count) (header_len header)
-
--- there is a page, the last one has at most 511 bytes where it isn't full, and the header has its words, lies in the
--- file and holds its table
+-- there is a page, the last one has at most 511 bytes where it isn't full, and the header has its words and lies in the
+-- file; the relocation table, where it has an entry, begins behind the words of the header and ends in the header
 abbrev pub is_accepted : Header → Bool
 is_accepted header =
     nat_le 1 header.pages && nat_le header.last_page_bytes 511
     && nat_le 28 (header_len header) && nat_le (header_len header) (told_len header)
-    && ((header.relocation_count == 0) || has_table_inside header)
+    && ((header.relocation_count == 0) || (nat_le 28 header.relocation_table
+    && nat_le (header.relocation_table + 4 * header.relocation_count) (header_len header)))
 
 -- the entry that stands at a place of a file
 abbrev pub entry_at : (place : ℕ) → List ℕ → Entry
 entry_at place bytes = record { offset = word_at bytes place; segment = word_at bytes (place + 2) }
-
--- the four bytes of an entry
-abbrev pub entry_bytes : Entry → List ℕ
-entry_bytes entry = word_bytes entry.offset ++ word_bytes entry.segment
 
 -- the address of an entry's word, counted from the image's first byte
 abbrev pub entry_address : Entry → ℕ

@@ -6,8 +6,12 @@ use Rattle.omf_image.specs.Words.{add_words}
 use Rattle.mz.specs.Header.{told_len, header_at}
 use Rattle.mz.specs.declared.fault.LoadFault.TheVariants.{DoesNotFit}
 use Rattle.mz.specs.File.{MzFile, Mz, file_image, header_of, entry_of}
-use Rattle.mz.specs.Loading.{Loaded, loaded, memory_len, loading}
+use Rattle.mz.specs.Loading.{Loaded, loaded, loading}
 use Rattle.mz.specs.Reading.{file_of, reading}
+
+-- the end of the memory that a real-mode address reaches
+abbrev pub memory_len : ℕ
+memory_len = 1048576
 
 -- the program fits into memory at paragraph P
 abbrev pub Fits : (paragraph : ℕ) → Program → Type 0

@@ -27,19 +27,15 @@ loaded paragraph file = record {
   registers = moved paragraph (header_registers file.header);
 }
 
--- the end of the memory that a real-mode address reaches
-abbrev pub memory_len : ℕ
-memory_len = 1048576
-
 -- how many bytes the program needs from the first of its image on: the image, and the extra paragraphs that the header
 -- asks for at least, counted from the end of the image's whole paragraphs
 abbrev pub needed_len : MzFile → ℕ
 needed_len file = max (length file.image) (16 * (length file.image / 16 + file.header.least_extra_paragraphs))
 
--- what loading a file at paragraph P answers
+-- what loading a file at paragraph P answers: it has to end where the memory does that a real-mode address reaches
 unfoldable pub loading : (paragraph : ℕ) → MzFile → Result Loaded LoadFault
 loading paragraph file =
-    if nat_le (16 * paragraph + needed_len file) memory_len then Ok (loaded paragraph file) else Err DoesNotFit
+    if nat_le (16 * paragraph + needed_len file) 1048576 then Ok (loaded paragraph file) else Err DoesNotFit
 
 -- the answer is that one, unless there was no memory for a program that fits
 abbrev pub Loads : Result Loaded LoadFault → Result Loaded LoadFault → Type 0

@@ -1,5 +1,5 @@
 -- What reading a file answers, and where the source then stands.
-use Rattle.std.specs.Prelude.{◌≡◌, ℕ, zero, suc, ◌+◌, ◌≤◌, ◌==◌, Bool, false, not, ◌&&◌, ◌||◌, nat_le, nat_lt}
+use Rattle.std.specs.Prelude.{◌≡◌, ℕ, zero, suc, ◌+◌, ◌≤◌, ◌==◌, not, ◌&&◌, ◌||◌, nat_le, nat_lt}
 use Rattle.std.specs.Prelude.{if◌then◌else◌, List, [], ◌∷◌, length, take, drop, Ok, Err, IfSome}
 use Rattle.std.specs.List.{list_all}
 use Rattle.std.specs.declared.option.Option.{Option}
@@ -21,30 +21,17 @@ entries_at (suc count) place bytes = entry_at place bytes ∷ entries_at count (
 -- what a file holds, by its header. The image goes from the header's end to the file's.
 unfoldable pub file_of : List ℕ → MzFile
 file_of bytes =
-    let header = header_at bytes in
-    record {
-      header = header;
-      entries = entries_at header.relocation_count header.relocation_table bytes;
-      image = drop (header_len header)
-          (take (told_len header) bytes);
-    }
-
--- whether a fault stands in a file
-unfoldable pub stands : MzFault → List ℕ → Bool
-stands Magic bytes = nat_le 2 (length bytes) && not (word_at bytes 0 == magic)
-stands Header bytes = nat_le 28 (length bytes) && not (is_accepted (header_at bytes))
-stands Truncated bytes = nat_lt (length bytes) 28 || nat_lt (length bytes) (told_len (header_at bytes))
-stands RelocationOutside bytes = not (list_all (is_inside (length (file_of bytes).image)) (file_of bytes).entries)
-stands Device bytes = false
-stands Memory bytes = false
+    let h = header_at bytes in
+    let entries = entries_at h.relocation_count h.relocation_table bytes in
+    record { header = h; entries = entries; image = drop (header_len h) (take (told_len h) bytes) }
 
 -- the first fault that stands in a file, or what it holds
 unfoldable pub reading : List ℕ → Result MzFile MzFault
 reading bytes =
-    if stands Magic bytes then Err Magic
-    else if stands Header bytes then Err Header
-    else if stands Truncated bytes then Err Truncated
-    else if stands RelocationOutside bytes then Err RelocationOutside
+    if nat_le 2 (length bytes) && not (word_at bytes 0 == magic) then Err Magic
+    else if nat_le 28 (length bytes) && not (is_accepted (header_at bytes)) then Err Header
+    else if nat_lt (length bytes) 28 || nat_lt (length bytes) (told_len (header_at bytes)) then Err Truncated
+    else if not (list_all (is_inside (length (file_of bytes).image)) (file_of bytes).entries) then Err RelocationOutside
     else Ok (file_of bytes)
 
 -- the answer is that one, unless the source failed or there was no memory

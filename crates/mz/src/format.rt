@@ -1,8 +1,10 @@
 //! The header of the file, and the entries of its relocation table.
 ghost use Rattle.std.specs.Prelude.{◌≡◌, ◌+◌, ◌*◌, ◌≤◌, length};
 ghost use Rattle.omf_image.specs.Words.{word_at};
-ghost use Rattle.mz.specs.Header.{header_at, header_bytes, entry_at, entry_bytes, entry_address, header_len};
-ghost use Rattle.mz.specs.Header.{told_len, has_table_inside, is_accepted, is_inside};
+ghost use Rattle.mz.specs.Header.{header_at, entry_at, entry_address, header_len};
+ghost use Rattle.mz.specs.inside.Format.{header_bytes, entry_bytes};
+ghost use Rattle.mz.specs.Header.{told_len, is_accepted, is_inside};
+ghost use Rattle.mz.specs.inside.Format.{has_table_inside};
 
 use byteorder::{ByteOrder, LittleEndian};
 

@@ -19,7 +19,7 @@ use Rattle.omf_image.specs.Words.{put_word, add_word, add_words}
 use Rattle.omf_image.specs.declared.faults.FixFault.{FixFault}
 use Rattle.omf_image.specs.declared.faults.FixFault.TheVariants as build
 use Rattle.mz.specs.File.{Mz, MzFile}
-use Rattle.mz.specs.Laws.{Fits, HoldsTheProgram, ReadsAsWritten, LoadsAsWritten, memory, moved, as_file}
+use Rattle.mz.specs.Laws.{HoldsTheProgram, ReadsAsWritten, LoadsAsWritten, memory, moved, as_file}
 use Rattle.mz.specs.Loading.{Loaded, loading}
 use Rattle.mz.specs.Reading.{reading}
 use Rattle.omf_text.specs.declared.fault.LinkFault.{LinkFault}

@@ -149,7 +149,7 @@ module _ {S : Type 0} (told : S → Option (List ℕ)) (failures : S → ℕ) wh
 
   reading_told : (bytes : List ℕ) (old new : Option (List ℕ)) (place : ℕ) (k : FaultKind) → old ≡ Some bytes → Reads (λ (m : Module). m) old new (Err (reading.Record place k)) → IsFaultOf bytes place k
   unfolding Reads
-  reading_told bytes old new place k is h = subst (λ o. IfSome o (λ b. IsFaultOf b place k)) is h.6
+  reading_told bytes old new place k is h = subst (λ o. IfSome o (λ b. IsFaultOf b place k)) is h.7
 
   record_stands : {A : Type 0} (names : Names) (olds news : List S) (inputs : List (List ℕ)) (fault : LinkFault A) → is_device fault ≡ false → AreTold told olds inputs → StopsAtRecord told failures olds news fault
       → StandsBehind names [] inputs fault

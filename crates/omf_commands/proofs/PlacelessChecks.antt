@@ -5,7 +5,8 @@ use Rattle.omf_record.specs.Records.{Placed}
 use Rattle.omf_module.specs.declared.fault.CheckFault.{CheckFault}
 use Rattle.omf_module.specs.Before.{along, first, last, entry}
 use Rattle.omf_module.specs.Tables.{Stretch, stretches, subrecords, frame_thread, target_thread, frame_used, target_used}
-use Rattle.omf_module.specs.Faults.{tables, segment_fault, group_items, data_fault, public_fault, start_fault, last_contents, subrecord_item, items, header_fault, fault, first_fault}
+use Rattle.omf_module.specs.Faults.{tables, segment_fault, group_items, data_fault, public_fault, start_fault, subrecord_item, items, header_fault, fault, first_fault}
+use Rattle.omf_module.specs.inside.Contents.{last_contents}
 use Rattle.omf_commands.proofs.Placeless.{unplaced, unplaced_said, placeless_stretch, along_same, map_along, map_last, is_some_map, none_of, names_same, segments_same, groups_same, externals_same, subrecords_same, stretches_same}
 
 tables_same : (before : List Placed) → tables (map unplaced before) ≡ tables before

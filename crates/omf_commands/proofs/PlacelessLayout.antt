@@ -9,10 +9,12 @@ use Rattle.omf_module.specs.declared.SymbolBase.TheVariants.{AtFrame, InSegment}
 use Rattle.omf_module.specs.declared.Standing.{Standing}
 use Rattle.omf_module.specs.declared.Standing.TheVariants.{Absolute, Relocatable}
 use Rattle.omf_module.specs.Module.{Module}
-use Rattle.omf_place.specs.Parts.{Site, module_sites, sites_from, sites}
+use Rattle.omf_place.specs.Parts.{Site, module_sites, sites}
+use Rattle.omf_place.specs.inside.Placing.{sites_from}
 use Rattle.omf_place.specs.Placed.{address_of, IsPlaced}
-use Rattle.omf_place.specs.Inputs.{Input, inputs_from}
-use Rattle.omf_place.specs.Tables.{group_frame, public_frame, in_segment, placed_public, publics_of, Grpdef, is_first_grpdef, placed_group, placed_groups}
+use Rattle.omf_place.specs.Parts.{Input, inputs_from}
+use Rattle.omf_place.specs.Tables.{group_frame, public_frame, in_segment, placed_public, publics_of, Grpdef, is_first_grpdef, placed_groups}
+use Rattle.omf_place.specs.inside.Steps.{placed_group}
 use Rattle.omf_place.specs.Layout.{Layout, layout_at}
 use Rattle.omf_place.specs.declared.names.Names.{Names}
 use Rattle.omf_place.specs.Faults.{IsLayout, IsOnlyLayout, placement_fault}

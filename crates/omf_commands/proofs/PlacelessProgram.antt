@@ -1,5 +1,5 @@
 -- A program doesn't tell where the records of its modules stand. A fault names a place, but whether there is one doesn't hang on it.
-use Rattle.std.proofs.Common.{◌≡◌, ℕ, ◌+◌, Bool, true, false, cond, List, [], ◌∷◌, ◌++◌, map, Option, None, Some, is_some, slice_get, refl, sym, ap, ap₂, ◌∙◌, option_map}
+use Rattle.std.proofs.Common.{◌≡◌, ℕ, ◌+◌, Bool, true, false, cond, List, [], ◌∷◌, ◌++◌, map, Option, None, Some, Result, Ok, Err, is_some, slice_get, refl, sym, ap, ap₂, ◌∙◌, option_map}
 use Rattle.std.proofs.Math.Path.{fun_ext}
 use Rattle.std.proofs.lemmas.List.{map-append}
 use Rattle.std.proofs.lemmas.List.Folds.{flat_map-map}
@@ -17,11 +17,17 @@ use Rattle.omf_image.specs.declared.faults.FixFault.{FixFault}
 use Rattle.omf_image.specs.declared.faults.FixFault.TheVariants.{At, TooManyRelocations, Memory}
 use Rattle.omf_image.specs.declared.faults.FixKind.{FixKind}
 use Rattle.omf_image.specs.declared.faults.FixKind.TheVariants.{CoversRelocated}
-use Rattle.omf_image.specs.Faults.{fixup_fault, fixups_fault, record_fault, records_fault, data_fault, or_else, first_of}
+use Rattle.omf_image.specs.Faults.{fixup_fault, fixups_fault, record_fault, records_fault, data_fault}
+use Rattle.omf_image.specs.inside.Stops.{or_else}
+use Rattle.std.specs.Option.{option_or}
 use Rattle.omf_image.specs.Located.{covers_word}
-use Rattle.omf_image.specs.Reference.{Found, Missing, Empty, Is}
-use Rattle.omf_image.specs.Records.{hits, stored_of, entry_start, meaning, patches_of, Entry, entries_from, entries, module_entries, fixup_patches, datum, record_relocations, relocations, program_byte, page_covered, written}
-use Rattle.omf_image.specs.Registers.{StartEntry, module_start, starts_from, starts, starts_fault, count_fault, program_fault, entry_at, is_stack, is_stack_segment, registers}
+use Rattle.omf_image.specs.Records.{hits, stored_of, entry_start, meaning, Entry, entries, fixup_patches, datum, record_relocations, relocations, program_byte, page_covered, written}
+use Rattle.omf_image.specs.inside.Lookups.{patches_of}
+use Rattle.omf_image.specs.inside.Entries.{entries_from, module_entries}
+use Rattle.omf_image.specs.Registers.{StartEntry, starts, starts_fault, program_fault, entry_at, registers}
+use Rattle.omf_image.specs.inside.Starts.{is_stack}
+use Rattle.omf_image.specs.inside.Entries.{module_start, starts_from}
+use Rattle.omf_image.specs.inside.Starts.{count_fault, is_stack_segment}
 use Rattle.omf_commands.proofs.Placeless.{placeless, placeless_fixup, placeless_data, placeless_start, is_some_map}
 
 -- ---- data
@@ -39,10 +45,9 @@ entries_same input (m ∷ ms) = ap₂ (λ xs ys. xs ++ ys) own (entries_same (in
 patches_same : (P : ℕ) (layout : Layout) (e : Entry) (x : ResolvedFixup) → fixup_patches P layout (placeless_entry e) (placeless_fixup x) ≡ fixup_patches P layout e x
 patches_same P layout e x = patches_for (meaning layout e x) (entry_start layout e) (hits x.offset (stored_of e.data_record))
   where
-    patches_for : (f : Found Resolved) (start : ℕ) (is : List ℕ) → patches_of P f (placeless_fixup x) start is ≡ patches_of P f x start is
-    patches_for Missing start is = refl
-    patches_for Empty start is = refl
-    patches_for (Is r) start is = refl
+    patches_for : (f : Result Resolved FixKind) (start : ℕ) (is : List ℕ) → patches_of P f (placeless_fixup x) start is ≡ patches_of P f x start is
+    patches_for (Err k) start is = refl
+    patches_for (Ok r) start is = refl
 
 datum_same : (P : ℕ) (layout : Layout) (e : Entry) → datum P layout (placeless_entry e) ≡ datum P layout e
 datum_same P layout e = simp (flat_map-map, patches_same)
@@ -73,7 +78,11 @@ fault_or : (kind : Option FixKind) (input place : ℕ) (rest : Option FixFault) 
 fault_or None input place rest = refl
 fault_or (Some k) input place rest = refl
 
-first_fault : (first rest : Option FixFault) → first_of (option_map placeless_fault first) (option_map placeless_fault rest) ≡ option_map placeless_fault (first_of first rest)
+fault_at : (kind : Option FixKind) (input place : ℕ) → option_map (λ k. At k input 0) kind ≡ option_map placeless_fault (option_map (λ k. At k input place) kind)
+fault_at None input place = refl
+fault_at (Some k) input place = refl
+
+first_fault : (first rest : Option FixFault) → option_or (option_map placeless_fault first) (option_map placeless_fault rest) ≡ option_map placeless_fault (option_or first rest)
 first_fault None rest = refl
 first_fault (Some f) rest = refl
 
@@ -117,7 +126,7 @@ starts_same input (m ∷ ms) = ap₂ (λ xs ys. xs ++ ys) (own m.start) (starts_
 
 starts_fault_same : (layout : Layout) (es : List StartEntry) → starts_fault layout (map placeless_start_entry es) ≡ option_map placeless_fault (starts_fault layout es)
 starts_fault_same layout [] = refl
-starts_fault_same layout (e ∷ []) = fault_or _ e.input e.start.place None
+starts_fault_same layout (e ∷ []) = fault_at _ e.input e.start.place
 starts_fault_same layout (e ∷ (f ∷ es)) = refl
 
 count_same : (layout : Layout) (modules : List Module) → count_fault layout (map placeless modules) ≡ option_map placeless_fault (count_fault layout modules)

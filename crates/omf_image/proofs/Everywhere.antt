@@ -1,5 +1,5 @@
 -- An image of the program at paragraph 0 serves every paragraph.
-use Rattle.std.proofs.Common.{◌≡◌, ℕ, ◌+◌, ◌<◌, ◌≤◌, Bool, true, false, eqb, eq-eqb, cond, fold, max, List, [], ◌∷◌, ◌++◌, map, length, None, inl, inr, arith, refl, ◌∙◌, sym, subst}
+use Rattle.std.proofs.Common.{◌≡◌, ℕ, ◌+◌, ◌<◌, ◌≤◌, Bool, true, false, eqb, eq-eqb, cond, fold, max, List, [], ◌∷◌, ◌++◌, map, length, None, inl, inr, arith, refl, ◌∙◌, sym, subst, get_or}
 use Rattle.std.proofs.lemmas.List.{append_assoc, append-nil}
 use Rattle.std.proofs.lemmas.List.Elements.{recursion_from_All}
 use Rattle.std.proofs.lemmas.Bool.{cond-true, cond-false, ne_eqb, true≢false, cases_lt, cases_eq, eqb-true}
@@ -7,10 +7,12 @@ use Rattle.std.specs.List.{AllByRecursion, list_any}
 use Rattle.omf_module.specs.Module.{Module}
 use Rattle.omf_place.specs.Layout.{Layout}
 use Rattle.omf_image.specs.Located.{Datum, covers}
-use Rattle.omf_image.specs.Records.{bytes_of, Entry, entries, entry_start, entry_end, written, patches, HoldsEverywhere, relocated_words, relocations}
+use Rattle.omf_image.specs.Words.{add_words}
+use Rattle.omf_image.specs.Records.{program_byte, bytes_of, Entry, entries, entry_start, entry_end, written, patches, relocations}
+use Rattle.omf_image.specs.inside.Leading.{relocated_words}
 use Rattle.omf_image.specs.inside.WellPlaced.{WellPlaced, AllWellPlaced, AllInside, IsImage}
 use Rattle.omf_image.specs.Faults.{data_fault}
-use Rattle.omf_image.specs.Patch.{relocated_places}
+use Rattle.omf_image.specs.inside.Patches.{relocated_places}
 use Rattle.omf_image.proofs.Law.{length-patched_all}
 use Rattle.omf_image.proofs.Hits.{SpacedBy, spaced_filter}
 use Rattle.omf_image.proofs.Moved.{AllApart, AllWordsInside}
@@ -150,7 +152,8 @@ sound_relocations layout modules well inside none =
       back = λ r k. filter_has p 0 layout.size r (omega arith) (omega (arith, room r (inner r k), within)) (any_from (λ w. eqb r w) words r k (eq-eqb r r refl));
     }
 
-pub everywhere : (layout : Layout) (modules : List Module) (image : List ℕ) → AllWellPlaced modules → AllInside layout modules → data_fault layout modules ≡ None → IsImage layout modules image → HoldsEverywhere layout modules image (relocations layout modules)
+pub everywhere : (layout : Layout) (modules : List Module) (image : List ℕ) → AllWellPlaced modules → AllInside layout modules → data_fault layout modules ≡ None → IsImage layout modules image
+    → (P a : ℕ) → a < layout.size → get_or (add_words P (relocations layout modules) image) a 0 ≡ program_byte P layout modules a
 everywhere layout modules image well inside none is P a h =
     let s = sound_relocations layout modules well inside none in
     program_moves P layout modules image (relocations layout modules) well none is.sized is.bytes

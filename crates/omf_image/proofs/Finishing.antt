@@ -9,12 +9,16 @@ use Rattle.omf_place.specs.Layout.{Layout}
 use Rattle.omf_image.specs.declared.faults.FixFault.{FixFault}
 use Rattle.omf_image.specs.declared.faults.FixFault.TheVariants.{TooManyRelocations}
 use Rattle.omf_image.specs.Words.{add_words}
-use Rattle.omf_image.specs.Located.{covers, byte_of, last_or, in_page}
-use Rattle.omf_image.specs.Records.{datum, program_byte, entries, relocations, relocated_words, written, bytes_of, entry_start}
+use Rattle.omf_image.specs.Located.{covers, byte_of, in_page}
+use Rattle.omf_image.specs.inside.Leading.{last_or}
+use Rattle.omf_image.specs.Records.{datum, program_byte, entries, relocations, written, bytes_of, entry_start}
+use Rattle.omf_image.specs.inside.Leading.{relocated_words}
 use Rattle.omf_image.specs.inside.WellPlaced.{WellPlaced, AllWellPlaced, AllInside, LiesInContent}
-use Rattle.omf_image.specs.Faults.{data_fault, first_of}
+use Rattle.omf_image.specs.Faults.{data_fault}
+use Rattle.std.specs.Option.{option_or}
 use Rattle.omf_image.specs.declared.start.Registers.{Registers}
-use Rattle.omf_image.specs.Registers.{starts, starts_fault, count_fault, program_fault, registers, moved}
+use Rattle.omf_image.specs.Registers.{starts, starts_fault, program_fault, registers, moved}
+use Rattle.omf_image.specs.inside.Starts.{count_fault}
 use Rattle.omf_image.specs.inside.Pages.{Paged, IsBlank}
 use Rattle.omf_image.specs.Program.{Program}
 use Rattle.omf_image.specs.inside.Ready.{IsReady, IsEntryReady, IsFixupReady}
@@ -100,8 +104,8 @@ program_is layout modules s end items start ready whole l ends none at e few =
     let is = flags_are layout modules s items whole l e in
     let clean = no_fault layout modules s l in
     let count : count_fault layout modules ≡ None = cond-false (ltb 65535 (length (relocations layout modules))) (Some TooManyRelocations) None (le-ltb 65535 (length (relocations layout modules)) (omega (arith, few, ap length is))) in (
-      ap (λ (o : Option FixFault). first_of o (first_of (starts_fault layout (starts modules)) (count_fault layout modules))) clean
-          ∙ ap (λ (o : Option FixFault). first_of o (count_fault layout modules)) none ∙ count,
+      ap (λ (o : Option FixFault). option_or o (option_or (starts_fault layout (starts modules)) (count_fault layout modules))) clean
+          ∙ ap (λ (o : Option FixFault). option_or o (count_fault layout modules)) none ∙ count,
       record {
         sized = whole.sized;
         written = ends;
@@ -118,17 +122,17 @@ program_is layout modules s end items start ready whole l ends none at e few =
 -- ---- the faults in order
 pub data_first : (layout : Layout) (modules : List Module) (f : FixFault) → data_fault layout modules ≡ Some f → program_fault layout modules ≡ Some f
 unfolding program_fault
-data_first layout modules f h = ap (λ (o : Option FixFault). first_of o (first_of (starts_fault layout (starts modules)) (count_fault layout modules))) h
+data_first layout modules f h = ap (λ (o : Option FixFault). option_or o (option_or (starts_fault layout (starts modules)) (count_fault layout modules))) h
 
 pub start_second : (layout : Layout) (modules : List Module) (f : FixFault) → data_fault layout modules ≡ None → starts_fault layout (starts modules) ≡ Some f → program_fault layout modules ≡ Some f
 unfolding program_fault
 start_second layout modules f h k =
-    ap (λ (o : Option FixFault). first_of o (first_of (starts_fault layout (starts modules)) (count_fault layout modules))) h
-    ∙ ap (λ (o : Option FixFault). first_of o (count_fault layout modules)) k
+    ap (λ (o : Option FixFault). option_or o (option_or (starts_fault layout (starts modules)) (count_fault layout modules))) h
+    ∙ ap (λ (o : Option FixFault). option_or o (count_fault layout modules)) k
 
 pub count_last : (layout : Layout) (modules : List Module) → data_fault layout modules ≡ None → starts_fault layout (starts modules) ≡ None → 65535 < length (relocations layout modules) → program_fault layout modules ≡ Some TooManyRelocations
 unfolding program_fault
 count_last layout modules h k l =
-    ap (λ (o : Option FixFault). first_of o (first_of (starts_fault layout (starts modules)) (count_fault layout modules))) h
-    ∙ ap (λ (o : Option FixFault). first_of o (count_fault layout modules)) k
+    ap (λ (o : Option FixFault). option_or o (option_or (starts_fault layout (starts modules)) (count_fault layout modules))) h
+    ∙ ap (λ (o : Option FixFault). option_or o (count_fault layout modules)) k
     ∙ cond-true (ltb 65535 (length (relocations layout modules))) (Some TooManyRelocations) None (lt-ltb 65535 (length (relocations layout modules)) l)

@@ -12,11 +12,13 @@ use Rattle.omf_place.specs.Layout.{Layout}
 use Rattle.omf_image.specs.declared.faults.FixFault.{FixFault}
 use Rattle.omf_image.specs.declared.faults.FixFault.TheVariants.{At, TooManyRelocations, Memory}
 use Rattle.omf_image.specs.declared.faults.FixKind.TheVariants.{CoversRelocated}
-use Rattle.omf_image.specs.Patch.{relocated_places}
-use Rattle.omf_image.specs.Located.{Datum, covers, byte_of, last_or, in_page, covers_word}
+use Rattle.omf_image.specs.inside.Patches.{relocated_places}
+use Rattle.omf_image.specs.Located.{Datum, covers, byte_of, in_page, covers_word}
+use Rattle.omf_image.specs.inside.Leading.{last_or}
 use Rattle.omf_image.specs.Records.{Entry, entry_start, bytes_of, datum, patches, record_relocations}
 use Rattle.omf_image.specs.inside.WellPlaced.{WellPlaced}
-use Rattle.omf_image.specs.Faults.{fixups_fault, record_fault, records_fault, first_of, data_fault}
+use Rattle.omf_image.specs.Faults.{fixups_fault, record_fault, records_fault, data_fault}
+use Rattle.std.specs.Option.{option_or}
 use Rattle.omf_image.specs.inside.States.{State, begun, Holds}
 use Rattle.omf_image.specs.declared.patch.Patch.{Patch}
 use Rattle.omf_image.specs.Building.{Answers}
@@ -90,12 +92,12 @@ leads_on layout modules base now e rest well whole inside l clean none h =
           ∙ l.words a;
       so_far = l.so_far ++ mine;
       listed = λ a. flags a ∙ ap (λ (b : Bool). b || list_any (λ w. eqb a w) mine) (l.listed a) ∙ sym (list_any-append (λ w. eqb a w) l.so_far mine);
-      fault = ap (λ (o : Option FixFault). first_of o (records_fault layout (l.so_far ++ mine) rest)) (sym (record_clean layout e l.so_far clean none)) ∙ l.fault;
+      fault = ap (λ (o : Option FixFault). option_or o (records_fault layout (l.so_far ++ mine) rest)) (sym (record_clean layout e l.so_far clean none)) ∙ l.fault;
     }
 
 -- the first record that is left has a fault
 pub leads_to_fault : (layout : Layout) (modules : List Module) (base : State) (e : Entry) (rest : List Entry) (f : FixFault) → (l : Leads layout modules base (e ∷ rest)) → record_fault layout l.so_far e ≡ Some f → data_fault layout modules ≡ Some f
-leads_to_fault layout modules base e rest f l h = sym l.fault ∙ ap (λ (o : Option FixFault). first_of o (records_fault layout (l.so_far ++ record_relocations layout e) rest)) h
+leads_to_fault layout modules base e rest f l h = sym l.fault ∙ ap (λ (o : Option FixFault). option_or o (records_fault layout (l.so_far ++ record_relocations layout e) rest)) h
 
 pub covers_fault : (layout : Layout) (e : Entry) (words : List ℕ) → covers_word (datum 0 layout e) words ≡ true → record_fault layout words e ≡ Some (At CoversRelocated e.input e.data_record.place)
 covers_fault layout e words h = cond-true (covers_word (datum 0 layout e) words) (Some (At CoversRelocated e.input e.data_record.place)) (fixups_fault layout e [] e.data_record.fixups) h

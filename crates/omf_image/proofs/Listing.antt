@@ -1,16 +1,16 @@
 -- The data records of modules, one after the other.
-use Rattle.std.proofs.Common.{◌≡◌, ℕ, ◌+◌, ◌<◌, List, [], ◌∷◌, ◌++◌, map, drop, length, get_or, slice_get, Option, Some, None, Ok, All, ap, ◌∙◌, sym, arith, subst}
+use Rattle.std.proofs.Common.{◌≡◌, ℕ, ◌+◌, ◌<◌, List, [], ◌∷◌, ◌++◌, map, drop, length, get_or, slice_get, Some, None, option_map, Ok, All, ap, ◌∙◌, sym, arith, subst}
 use Rattle.std.proofs.lemmas.List.{get_or_default, length-append, length-map, get_or-map, get_or_append_left, get_or-append-add}
 use Rattle.std.proofs.lemmas.Option.{get_or_from_slice_get}
 use Rattle.omf_module.specs.Module.{DataRecord, Module}
-use Rattle.omf_image.specs.Records.{Entry, module_entries, entries_from}
+use Rattle.omf_image.specs.Records.{Entry}
+use Rattle.omf_image.specs.inside.Entries.{module_entries, entries_from}
 use Rattle.omf_module.specs.declared.Start.{Start}
 use Rattle.omf_place.specs.Layout.{Layout}
-use Rattle.omf_image.specs.declared.faults.FixKind.{FixKind}
 use Rattle.omf_image.specs.declared.faults.FixKind.TheVariants.{TwoStarts}
 use Rattle.omf_image.specs.declared.faults.FixFault.TheVariants.{At}
-use Rattle.omf_image.specs.Faults.{or_else}
-use Rattle.omf_image.specs.Registers.{StartEntry, module_start, starts_from, starts, starts_fault, start_meaning, entry_at}
+use Rattle.omf_image.specs.Registers.{StartEntry, starts, starts_fault, start_meaning, entry_at}
+use Rattle.omf_image.specs.inside.Entries.{module_start, starts_from}
 use Rattle.omf_image.specs.inside.Starts.{FindsStart, GivesEntry}
 use Rattle.omf_image.proofs.Meaning.{drop_more}
 
@@ -60,7 +60,7 @@ pub one_start : (layout : Layout) (ms : List Module) (f : ℕ × Start) (m : Mod
 one_start layout ms f m entry is one none gives =
     let e : StartEntry = record { input = f.0; module' = m; start = f.1 } in
     let only : starts ms ≡ e ∷ [] = one.1 m is ∙ ap (λ (es : List StartEntry). e ∷ es) none in (
-      ap (starts_fault layout) only ∙ ap (λ (k : Option FixKind). or_else k (e.input, e.start.place) None) gives.0,
+      ap (starts_fault layout) only ∙ ap (option_map (λ k. At k e.input e.start.place)) gives.0,
       gives.1 ∙ sym (ap (entry_at 0 layout) only),
     )
 

@@ -1,5 +1,5 @@
 -- A fix-up whose frame and target are found.
-use Rattle.std.proofs.Common.{◌≡◌, ℕ, ◌+◌, ◌<◌, ◌≤◌, Bool, true, false, not, List, [], ◌∷◌, ◌++◌, map, flat_map, take, drop, length, get_or, Option, Some, None, Err, add-one, refl, ap, ◌∙◌, sym, arith, subst}
+use Rattle.std.proofs.Common.{◌≡◌, ℕ, ◌+◌, ◌<◌, ◌≤◌, Bool, true, false, not, List, [], ◌∷◌, ◌++◌, map, flat_map, take, drop, length, get_or, Option, Some, None, Err, add-one, refl, ap, ◌∙◌, sym, arith, subst, Ok}
 use Rattle.std.specs.Prelude.{IsErrAnd, MatchResult, Result}
 use Rattle.std.proofs.lemmas.Result.{err_from_is_err_and}
 use Rattle.std.specs.List.{zip}
@@ -14,10 +14,12 @@ use Rattle.omf_image.specs.declared.faults.FixKind.{FixKind}
 use Rattle.omf_image.specs.declared.faults.FixKind.TheVariants.{Mixed, OutOfFrame, ShortTooFar, OverlapRelocated}
 use Rattle.omf_image.specs.declared.patch.Patch.{Patch}
 use Rattle.omf_image.specs.declared.reference.Resolved.{Resolved}
-use Rattle.omf_image.specs.Reference.{Found, Is}
-use Rattle.omf_image.specs.Records.{Entry, entry_start, meaning, patches_on, patches_of, fixup_patches, hits, stored_of}
+use Rattle.omf_image.specs.Records.{Entry, entry_start, meaning, patches_on, fixup_patches, hits, stored_of}
+use Rattle.omf_image.specs.inside.Lookups.{patches_of}
 use Rattle.omf_image.specs.inside.WellPlaced.{LiesInContent}
-use Rattle.omf_image.specs.Faults.{first_kind, first_test, resolved_fault, fixup_fault, or_else, fixups_fault, first_of}
+use Rattle.omf_image.specs.Faults.{first_kind, first_test, resolved_fault, fixup_fault, fixups_fault}
+use Rattle.omf_image.specs.inside.Stops.{or_else}
+use Rattle.std.specs.Option.{option_or}
 use Rattle.omf_image.specs.declared.faults.FixFault.{FixFault}
 use Rattle.omf_image.specs.declared.faults.Stop.{Stop}
 use Rattle.omf_image.specs.declared.faults.Stop.TheVariants as stop
@@ -40,20 +42,20 @@ first_four false false false true h k = refl
 first_four false false false false h k = cc
 
 -- at what the code found
-pub fault_on : (layout : Layout) (e : Entry) (x : ResolvedFixup) (r : Resolved) (start : ℕ) (is : List ℕ) (earlier : List Patch) → meaning layout e x ≡ Is r → start ≡ entry_start layout e → is ≡ hits x.offset (stored_of e.data_record)
+pub fault_on : (layout : Layout) (e : Entry) (x : ResolvedFixup) (r : Resolved) (start : ℕ) (is : List ℕ) (earlier : List Patch) → meaning layout e x ≡ Ok r → start ≡ entry_start layout e → is ≡ hits x.offset (stored_of e.data_record)
     → fixup_fault layout e earlier x ≡ first_test r x.self_relative x.location start is earlier
 fault_on layout e x r start is earlier m s h =
     let at = entry_start layout e in
     let found = hits x.offset (stored_of e.data_record) in
-    ap (λ (f : Found Resolved). resolved_fault f (λ q. first_test q x.self_relative x.location at found earlier)) m
+    ap (λ (f : Result Resolved FixKind). resolved_fault f (λ q. first_test q x.self_relative x.location at found earlier)) m
     ∙ ap (λ (n : ℕ). first_test r x.self_relative x.location n found earlier) (sym s)
     ∙ ap (λ (l : List ℕ). first_test r x.self_relative x.location start l earlier) (sym h)
 
-pub patches_found : (layout : Layout) (e : Entry) (x : ResolvedFixup) (r : Resolved) (start : ℕ) (is : List ℕ) → meaning layout e x ≡ Is r → start ≡ entry_start layout e → is ≡ hits x.offset (stored_of e.data_record)
+pub patches_found : (layout : Layout) (e : Entry) (x : ResolvedFixup) (r : Resolved) (start : ℕ) (is : List ℕ) → meaning layout e x ≡ Ok r → start ≡ entry_start layout e → is ≡ hits x.offset (stored_of e.data_record)
     → fixup_patches 0 layout e x ≡ patches_on 0 r x.self_relative x.location start is
 patches_found layout e x r start is m s h =
     let found = hits x.offset (stored_of e.data_record) in
-    ap (λ (f : Found Resolved). patches_of 0 f x (entry_start layout e) found) m
+    ap (λ (f : Result Resolved FixKind). patches_of 0 f x (entry_start layout e) found) m
     ∙ ap (λ (n : ℕ). patches_on 0 r x.self_relative x.location n found) (sym s)
     ∙ ap (patches_on 0 r x.self_relative x.location start) (sym h)
 
@@ -64,17 +66,17 @@ gives_fault layout e earlier x r k holds h f =
     subst (λ q. FixupGives layout e earlier x q holds) (sym (p.1 ∙ ap Err p.2)) f
 
 -- what a look-up lacks is the fault of a reference
-pub lacks_fault : (lacks : Missing) (m : Found Resolved) (test : Resolved → Option FixKind) → found (Err lacks) ≡ m → resolved_fault m test ≡ Some (missing_fault lacks)
-lacks_fault Public m test e = ap (λ (f : Found Resolved). resolved_fault f test) (sym e)
-lacks_fault Members m test e = ap (λ (f : Found Resolved). resolved_fault f test) (sym e)
+pub lacks_fault : (lacks : Missing) (m : Result Resolved FixKind) (test : Resolved → Option FixKind) → found (Err lacks) ≡ m → resolved_fault m test ≡ Some (missing_fault lacks)
+lacks_fault Public m test e = ap (λ (f : Result Resolved FixKind). resolved_fault f test) (sym e)
+lacks_fault Members m test e = ap (λ (f : Result Resolved FixKind). resolved_fault f test) (sym e)
 
 pub fixup_lacks : (layout : Layout) (e : Entry) (x : ResolvedFixup) (r : Result Resolved FixKind) (lacks : Missing) → IsErrAnd r (λ k. k ≡ missing_fault lacks) → found (Err lacks) ≡ meaning layout e x
-    → MatchResult r (λ q. meaning layout e x ≡ Is q) (λ kind. (earlier : List Patch) → fixup_fault layout e earlier x ≡ Some kind)
+    → MatchResult r (λ q. meaning layout e x ≡ Ok q) (λ kind. (earlier : List Patch) → fixup_fault layout e earlier x ≡ Some kind)
 fixup_lacks layout e x r lacks h m =
     let p = err_from_is_err_and r h in
-    subst (λ q. MatchResult q (λ q. meaning layout e x ≡ Is q) (λ kind. (earlier : List Patch) → fixup_fault layout e earlier x ≡ Some kind)) (sym (p.1 ∙ ap Err p.2)) (λ earlier. lacks_fault lacks _ _ m)
+    subst (λ q. MatchResult q (λ q. meaning layout e x ≡ Ok q) (λ kind. (earlier : List Patch) → fixup_fault layout e earlier x ≡ Some kind)) (sym (p.1 ∙ ap Err p.2)) (λ earlier. lacks_fault lacks _ _ m)
 
-pub start_lacks : (m : Found Resolved) (r : Result (ℕ × ℕ) FixKind) (lacks : Missing) → IsErrAnd r (λ k. k ≡ missing_fault lacks) → found (Err lacks) ≡ m → GivesEntry m r
+pub start_lacks : (m : Result Resolved FixKind) (r : Result (ℕ × ℕ) FixKind) (lacks : Missing) → IsErrAnd r (λ k. k ≡ missing_fault lacks) → found (Err lacks) ≡ m → GivesEntry m r
 start_lacks m r lacks h e =
     let p = err_from_is_err_and r h in
     subst (GivesEntry m) (sym (p.1 ∙ ap Err p.2)) (lacks_fault lacks m _ e)
@@ -123,11 +125,11 @@ fixups_stop K holds layout e xs i d (stop.Kind k) earlier fault h some at =
 fixups_stop K holds layout e xs i d stop.Memory earlier fault h some at = tt
 
 -- some fix-ups, and then the rest
-or_first : (o : Option FixKind) (at : ℕ × ℕ) (a b : Option FixFault) → or_else o at (first_of a b) ≡ first_of (or_else o at a) b
+or_first : (o : Option FixKind) (at : ℕ × ℕ) (a b : Option FixFault) → or_else o at (option_or a b) ≡ option_or (or_else o at a) b
 or_first None at a b = refl
 or_first (Some k) at a b = refl
 
-pub fixups_parts : (layout : Layout) (e : Entry) (earlier : List Patch) (xs ys : List ResolvedFixup) → fixups_fault layout e earlier (xs ++ ys) ≡ first_of (fixups_fault layout e earlier xs) (fixups_fault layout e (earlier ++ flat_map (fixup_patches 0 layout e) xs) ys)
+pub fixups_parts : (layout : Layout) (e : Entry) (earlier : List Patch) (xs ys : List ResolvedFixup) → fixups_fault layout e earlier (xs ++ ys) ≡ option_or (fixups_fault layout e earlier xs) (fixups_fault layout e (earlier ++ flat_map (fixup_patches 0 layout e) xs) ys)
 fixups_parts layout e earlier [] ys = ap (λ (ps : List Patch). fixups_fault layout e ps ys) (sym (append-nil earlier))
 fixups_parts layout e earlier (x ∷ xs) ys =
     let f : ResolvedFixup → List Patch = fixup_patches 0 layout e in
@@ -135,17 +137,17 @@ fixups_parts layout e earlier (x ∷ xs) ys =
     let first = fixups_fault layout e (earlier ++ f x) xs in
     ap (or_else o (e.input, x.place)) (fixups_parts layout e (earlier ++ f x) xs ys)
     ∙ or_first o (e.input, x.place) first (fixups_fault layout e ((earlier ++ f x) ++ flat_map f xs) ys)
-    ∙ ap (λ (ps : List Patch). first_of (or_else o (e.input, x.place) first) (fixups_fault layout e ps ys)) (append_assoc earlier (f x) (flat_map f xs))
+    ∙ ap (λ (ps : List Patch). option_or (or_else o (e.input, x.place) first) (fixups_fault layout e ps ys)) (append_assoc earlier (f x) (flat_map f xs))
 
 pub fixups_left : (layout : Layout) (e : Entry) (xs : List ResolvedFixup) (n : ℕ) → fixups_fault layout e [] (take n xs) ≡ None → fixups_fault layout e (flat_map (fixup_patches 0 layout e) (take n xs)) (drop n xs) ≡ fixups_fault layout e [] xs
 fixups_left layout e xs n none =
     let rest = fixups_fault layout e (flat_map (fixup_patches 0 layout e) (take n xs)) (drop n xs) in
-    ap (λ (o : Option FixFault). first_of o rest) (sym none) ∙ sym (fixups_parts layout e [] (take n xs) (drop n xs)) ∙ ap (fixups_fault layout e []) (take-append-drop n xs)
+    ap (λ (o : Option FixFault). option_or o rest) (sym none) ∙ sym (fixups_parts layout e [] (take n xs) (drop n xs)) ∙ ap (fixups_fault layout e []) (take-append-drop n xs)
 
 pub fixups_first : (layout : Layout) (e : Entry) (xs : List ResolvedFixup) (n : ℕ) (f : FixFault) → fixups_fault layout e [] (take n xs) ≡ Some f → fixups_fault layout e [] xs ≡ Some f
 fixups_first layout e xs n f some =
     let rest = fixups_fault layout e (flat_map (fixup_patches 0 layout e) (take n xs)) (drop n xs) in
-    ap (fixups_fault layout e []) (sym (take-append-drop n xs)) ∙ fixups_parts layout e [] (take n xs) (drop n xs) ∙ ap (λ (o : Option FixFault). first_of o rest) some
+    ap (fixups_fault layout e []) (sym (take-append-drop n xs)) ∙ fixups_parts layout e [] (take n xs) (drop n xs) ∙ ap (λ (o : Option FixFault). option_or o rest) some
 
 pub patches_left : {X Y : Type 0} (f : X → List Y) (xs : List X) (n : ℕ) → flat_map f (take n xs) ++ flat_map f (drop n xs) ≡ flat_map f xs
 patches_left f xs n = sym (flat_map-append f (take n xs) (drop n xs)) ∙ ap (flat_map f) (take-append-drop n xs)

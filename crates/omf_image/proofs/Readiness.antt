@@ -22,8 +22,10 @@ use Rattle.omf_place.specs.Bounded.{LiesInside, ArePlacesOf, IsBounded}
 use Rattle.omf_place.specs.Layout.{Layout, places_of, part_start, segment_frame}
 use Rattle.omf_image.specs.Position.{position}
 use Rattle.omf_image.specs.Value.{real_address}
-use Rattle.omf_image.specs.Records.{Entry, module_entries, entries_from, bytes_of}
-use Rattle.omf_image.specs.Registers.{StartEntry, module_start, starts_from}
+use Rattle.omf_image.specs.Records.{Entry, bytes_of}
+use Rattle.omf_image.specs.inside.Entries.{module_entries, entries_from}
+use Rattle.omf_image.specs.Registers.{StartEntry}
+use Rattle.omf_image.specs.inside.Entries.{module_start, starts_from}
 use Rattle.omf_image.specs.inside.Ready.{IsTargetThere, IsFrameThere, IsFixupReady, IsEntryReady, IsStartReady, IsReady}
 use Rattle.omf_image.proofs.Listing.{entry_of}
 

@@ -1,5 +1,5 @@
 -- Where no fault stands, the program at paragraph P is the one at 0 with P added to its relocated words.
-use Rattle.std.proofs.Common.{◌≡◌, ℕ, lit<, ◌+◌, ◌-◌, ◌<◌, ◌≤◌, Bool, true, false, not, ◌||◌, cond, List, [], ◌∷◌, ◌++◌, map, flat_map, length, get_or, Option, Some, None, inl, inr, arith, refl, ap, ◌∙◌, sym, subst}
+use Rattle.std.proofs.Common.{◌≡◌, ℕ, lit<, ◌+◌, ◌-◌, ◌<◌, ◌≤◌, Bool, true, false, not, ◌||◌, cond, List, [], ◌∷◌, ◌++◌, map, flat_map, length, get_or, Option, Some, None, Result, Ok, Err, inl, inr, arith, refl, ap, ◌∙◌, sym, subst}
 use Rattle.std.proofs.lemmas.List.{append_assoc, append-nil, map-append, length-map}
 use Rattle.std.proofs.lemmas.List.Elements.{recursion_from_All}
 use Rattle.std.proofs.lemmas.Bool.{or_parts, and_parts}
@@ -12,17 +12,21 @@ use Rattle.omf_place.specs.Layout.{Layout}
 use Rattle.omf_image.specs.Words.{add_words}
 use Rattle.omf_image.specs.declared.patch.Patch.{Patch}
 use Rattle.omf_image.specs.declared.patch.Patch.TheVariants.{Byte, Word, Relocated}
-use Rattle.omf_image.specs.Patch.{patched_all, relocated_places, clear, all_clear}
+use Rattle.omf_image.specs.Patch.{patched_all, clear, all_clear}
+use Rattle.omf_image.specs.inside.Patches.{relocated_places}
 use Rattle.omf_image.specs.Located.{Datum, covers, covers_word, located}
 use Rattle.omf_image.specs.declared.reference.Resolved.{Resolved}
-use Rattle.omf_image.specs.Reference.{Found, Missing, Empty, Is}
 use Rattle.omf_image.specs.Value.{patches_at}
 use Rattle.omf_record.specs.Numbers.{location_width}
-use Rattle.omf_image.specs.Records.{hits, bytes_of, stored_of, Entry, entries, entry_start, meaning, patches_on, patches_of, fixup_patches, patches, datum, program_byte, record_relocations, relocated_words}
+use Rattle.omf_image.specs.Records.{hits, bytes_of, stored_of, Entry, entries, entry_start, meaning, patches_on, fixup_patches, patches, datum, program_byte, record_relocations}
+use Rattle.omf_image.specs.inside.Lookups.{patches_of}
+use Rattle.omf_image.specs.inside.Leading.{relocated_words}
 use Rattle.omf_image.specs.inside.WellPlaced.{LiesInContent, WellPlaced, AllWellPlaced}
 use Rattle.omf_image.specs.declared.faults.FixKind.{FixKind}
 use Rattle.omf_image.specs.declared.faults.FixFault.{FixFault}
-use Rattle.omf_image.specs.Faults.{is_mixed, out_of_frame, too_far, first_test, resolved_fault, fixup_fault, or_else, fixups_fault, record_fault, first_of, records_fault, data_fault}
+use Rattle.omf_image.specs.Faults.{is_mixed, out_of_frame, too_far, first_test, resolved_fault, fixup_fault, fixups_fault, record_fault, records_fault, data_fault}
+use Rattle.omf_image.specs.inside.Stops.{or_else}
+use Rattle.std.specs.Option.{option_or}
 use Rattle.omf_image.proofs.Law.{at_paragraph, AllClear, AllInside, sides, law, length-patched_all}
 use Rattle.omf_image.proofs.Moved.{AllApart, AllWordsInside, ApartWords}
 use Rattle.omf_image.proofs.Values.{patches_stay}
@@ -43,7 +47,7 @@ pub none_or_else : (o : Option FixKind) (at : ℕ × ℕ) (rest : Option FixFaul
 none_or_else None at rest h = (refl, h)
 none_or_else (Some k) at rest h = cc
 
-none_first : (o rest : Option FixFault) → first_of o rest ≡ None → (o ≡ None) × (rest ≡ None)
+none_first : (o rest : Option FixFault) → option_or o rest ≡ None → (o ≡ None) × (rest ≡ None)
 none_first None rest h = (refl, h)
 none_first (Some k) rest h = cc
 
@@ -58,7 +62,7 @@ stay_list P r x start (i ∷ is) h =
     ∙ sym (map-append (at_paragraph P) (f 0 i) (flat_map (f 0) is))
 
 -- what a fix-up without a fault gives
-record Sound (P : ℕ) (layout : Layout) (e : Entry) (earlier : List Patch) (x : ResolvedFixup) (m : Found Resolved) : Type 0 where
+record Sound (P : ℕ) (layout : Layout) (e : Entry) (earlier : List Patch) (x : ResolvedFixup) (m : Result Resolved FixKind) : Type 0 where
   stays : patches_of P m x (entry_start layout e) (hits x.offset (stored_of e.data_record)) ≡ map (at_paragraph P) (patches_of 0 m x (entry_start layout e) (hits x.offset (stored_of e.data_record)))
   itself : AllClear (patches_of 0 m x (entry_start layout e) (hits x.offset (stored_of e.data_record)))
   inside : Within 0 (length (stored_of e.data_record)) (patches_of 0 m x (entry_start layout e) (hits x.offset (stored_of e.data_record)))
@@ -78,10 +82,9 @@ hits_room d x lies i h =
     let g = (lies i (location_width x.location - 1) at.0 at.1 (omega arith)).0 in
     omega (arith, g)
 
-sound : (P : ℕ) (layout : Layout) (e : Entry) (earlier : List Patch) (x : ResolvedFixup) (m : Found Resolved) → LiesInContent e.data_record x → resolved_fault m (λ r. first_test r x.self_relative x.location (entry_start layout e) (hits x.offset (stored_of e.data_record)) earlier) ≡ None → Sound P layout e earlier x m
-sound P layout e earlier x Missing lies h = cc
-sound P layout e earlier x Empty lies h = cc
-sound P layout e earlier x (Is r) lies h =
+sound : (P : ℕ) (layout : Layout) (e : Entry) (earlier : List Patch) (x : ResolvedFixup) (m : Result Resolved FixKind) → LiesInContent e.data_record x → resolved_fault m (λ r. first_test r x.self_relative x.location (entry_start layout e) (hits x.offset (stored_of e.data_record)) earlier) ≡ None → Sound P layout e earlier x m
+sound P layout e earlier x (Err k) lies h = cc
+sound P layout e earlier x (Ok r) lies h =
     let is = hits x.offset (stored_of e.data_record) in
     let start = entry_start layout e in
     let one = none_cond (is_mixed x.self_relative x.location r) _ _ h in

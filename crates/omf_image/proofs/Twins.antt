@@ -16,7 +16,8 @@ use Rattle.omf_image.specs.declared.faults.FixKind.TheVariants.{Mixed, OutOfFram
 use Rattle.omf_image.specs.declared.patch.Patch.{Patch}
 use Rattle.omf_image.specs.declared.patch.Patch.TheVariants.{Byte, Word, Relocated}
 use Rattle.omf_image.specs.declared.reference.Resolved.{Resolved}
-use Rattle.omf_image.specs.Patch.{patched_all, patch_start, patch_end, is_relocated, all_clear}
+use Rattle.omf_image.specs.Patch.{patched_all, all_clear}
+use Rattle.omf_image.specs.inside.Patches.{patch_start, patch_end, is_relocated}
 use Rattle.omf_image.specs.inside.Marks.{touches, touches_relocated}
 use Rattle.omf_image.specs.Reference.{frame'}
 use Rattle.omf_image.specs.Value.{modulo, from_frame, base_patch, patches_at}

@@ -1,11 +1,13 @@
 -- What linking makes of modules and their layout.
-use Rattle.std.specs.Prelude.{◌≡◌, ℕ, ◌+◌, ◌≤◌, false, All, List, length, get_or, Option, Some, None, Result, Ok, Err}
+use Rattle.std.specs.Prelude.{◌≡◌, ℕ, ◌+◌, ◌≤◌, ◌<◌, false, All, List, length, get_or, Option, Some, None, Result, Ok}
+use Rattle.std.specs.Prelude.{Err}
 use Rattle.omf_module.specs.Module.{Module}
 use Rattle.omf_place.specs.Layout.{Layout}
 use Rattle.omf_image.specs.declared.faults.FixFault.{FixFault}
 use Rattle.omf_image.specs.declared.faults.FixFault.TheVariants.{At, TooManyRelocations, Memory}
 use Rattle.omf_image.specs.Program.{Program}
-use Rattle.omf_image.specs.Records.{HoldsEverywhere, page_covered, relocations, written}
+use Rattle.omf_image.specs.Words.{add_words}
+use Rattle.omf_image.specs.Records.{page_covered, program_byte, relocations, written}
 use Rattle.omf_image.specs.Registers.{registers, moved, program_fault}
 
 -- At each paragraph P the image with P added to the words at the relocations is the located program, and the registers
@@ -14,7 +16,8 @@ use Rattle.omf_image.specs.Registers.{registers, moved, program_fault}
 pub record IsProgramOf (layout : Layout) (modules : List Module) (p : Program) : Type 0 where
   pub sized : length p.image ≡ layout.size
   pub written : p.written ≡ written layout modules
-  pub everywhere : HoldsEverywhere layout modules p.image p.relocations
+  pub everywhere : (P a : ℕ) → a < layout.size
+      → get_or (add_words P p.relocations p.image) a 0 ≡ program_byte P layout modules a
   pub listed : p.relocations ≡ relocations layout modules
   pub below : All (λ r. r + 2 ≤ p.written) p.relocations
   pub at_zero : registers 0 layout modules ≡ p.registers

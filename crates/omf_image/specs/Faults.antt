@@ -1,8 +1,9 @@
 -- The faults of data and fix-ups, the first in order.
 use Rattle.std.specs.Prelude.{ℕ, ◌+◌, ◌*◌, ℤ, pos, ◌-ℤ◌, ◌+ℤ◌, int_le, Bool, true, false, not, ◌&&◌, ◌||◌, cond}
-use Rattle.std.specs.Prelude.{nat_le, nat_lt, List, [], ◌∷◌, ◌++◌, Option, Some, None}
+use Rattle.std.specs.Prelude.{nat_le, nat_lt, List, [], ◌∷◌, ◌++◌, Option, Some, None, Result, Ok, Err}
 use Rattle.std.specs.Int.{cast_signed, w16}
 use Rattle.std.specs.List.{list_all}
+use Rattle.std.specs.Option.{option_map, option_or}
 use Rattle.omf_record.specs.declared.fixups.Location.{Location}
 use Rattle.omf_record.specs.declared.fixups.Location.TheVariants.{LowByte, Base}
 use Rattle.omf_module.specs.declared.ResolvedFixup.{ResolvedFixup}
@@ -11,7 +12,7 @@ use Rattle.omf_place.specs.declared.layout.Base.{Base as Frame}
 use Rattle.omf_place.specs.declared.layout.Base.TheVariants.{Relocatable as Moving, Absolute as Fixed}
 use Rattle.omf_place.specs.Layout.{Layout}
 use Rattle.omf_image.specs.declared.faults.FixKind.{FixKind}
-use Rattle.omf_image.specs.declared.faults.FixKind.TheVariants.{CoversRelocated, Unresolved, EmptyGroup, Mixed}
+use Rattle.omf_image.specs.declared.faults.FixKind.TheVariants.{CoversRelocated, Mixed}
 use Rattle.omf_image.specs.declared.faults.FixKind.TheVariants.{OutOfFrame, ShortTooFar, OverlapRelocated}
 use Rattle.omf_image.specs.declared.faults.FixFault.{FixFault}
 use Rattle.omf_image.specs.declared.faults.FixFault.TheVariants.{At}
@@ -20,7 +21,7 @@ use Rattle.omf_image.specs.declared.reference.Position.{Position}
 use Rattle.omf_image.specs.declared.reference.Position.TheVariants.{Relocatable, Absolute}
 use Rattle.omf_image.specs.declared.reference.Resolved.{Resolved}
 use Rattle.omf_image.specs.Patch.{all_clear}
-use Rattle.omf_image.specs.Reference.{Found, Missing, Empty, Is, frame'}
+use Rattle.omf_image.specs.Reference.{frame'}
 use Rattle.omf_image.specs.Value.{real_address, real_frame}
 use Rattle.omf_image.specs.Located.{covers_word}
 use Rattle.omf_image.specs.Records.{hits, stored_of, Entry, entries, entry_start, meaning, patches_on, fixup_patches}
@@ -78,8 +79,7 @@ fits_short distance = int_le (pos 0) (distance +ℤ pos 128) && int_le (distance
 abbrev pub too_far : (self_relative : Bool) → Location → Resolved → (positions : List ℕ) → (start : ℕ) → Bool
 too_far true LowByte reference positions start =
     not (list_all (λ i. fits_short (short_distance reference (start + i))) positions)
-too_far true _ reference positions start = false
-too_far false location reference positions start = false
+too_far _ _ reference positions start = false
 
 -- the kind of the first test that is true
 abbrev pub first_kind : (tests : List (Bool × FixKind)) → Option FixKind
@@ -97,10 +97,9 @@ first_test reference self_relative location start positions earlier =
     ∷ (not (all_clear earlier (patches_on 0 reference self_relative location start positions)), OverlapRelocated) ∷ [])
 
 -- the fault of a reference: that nothing was found for it, or that of what was found
-abbrev pub resolved_fault : Found Resolved → (Resolved → Option FixKind) → Option FixKind
-resolved_fault Missing fault = Some Unresolved
-resolved_fault Empty fault = Some EmptyGroup
-resolved_fault (Is reference) fault = fault reference
+abbrev pub resolved_fault : Result Resolved FixKind → (Resolved → Option FixKind) → Option FixKind
+resolved_fault (Ok reference) fault = fault reference
+resolved_fault (Err kind) fault = Some kind
 
 -- the fault of a fix-up after earlier patches of its data record
 abbrev pub fixup_fault : Layout → Entry → (earlier : List Patch) → ResolvedFixup → Option FixKind
@@ -108,16 +107,11 @@ fixup_fault layout entry earlier fixup =
     resolved_fault (meaning layout entry fixup) (λ reference. first_test reference fixup.self_relative fixup.location
     (entry_start layout entry) (hits fixup.offset (stored_of entry.data_record)) earlier)
 
--- a fault of this kind at an input and a place in it; the rest where there is none
-abbrev pub or_else : Option FixKind → (at : ℕ × ℕ) → (rest : Option FixFault) → Option FixFault
-or_else None at rest = rest
-or_else (Some kind) at rest = Some (At kind at.0 at.1)
-
 -- the first fault of the fix-ups of a data record, after earlier patches of it
 abbrev pub fixups_fault : Layout → Entry → (earlier : List Patch) → List ResolvedFixup → Option FixFault
 fixups_fault layout entry earlier [] = None
 fixups_fault layout entry earlier (fixup ∷ fixups) =
-    or_else (fixup_fault layout entry earlier fixup) (entry.input, fixup.place)
+    option_or (option_map (λ kind. At kind entry.input fixup.place) (fixup_fault layout entry earlier fixup))
     (fixups_fault layout entry (earlier ++ fixup_patches 0 layout entry fixup) fixups)
 
 -- the first fault of a data record, after earlier relocated words
@@ -127,16 +121,11 @@ record_fault layout words entry =
     (Some (At CoversRelocated entry.input entry.data_record.place))
     (fixups_fault layout entry [] entry.data_record.fixups)
 
--- the first of two faults
-abbrev pub first_of : Option FixFault → Option FixFault → Option FixFault
-first_of None rest = rest
-first_of (Some fault) rest = Some fault
-
 -- the first fault of the data records, after earlier relocated words
 abbrev pub records_fault : Layout → (words : List ℕ) → List Entry → Option FixFault
 records_fault layout words [] = None
 records_fault layout words (entry ∷ later) =
-    first_of (record_fault layout words entry) (records_fault layout (words ++ record_relocations layout entry) later)
+    option_or (record_fault layout words entry) (records_fault layout (words ++ record_relocations layout entry) later)
 
 -- the first fault of all data records
 abbrev pub data_fault : Layout → List Module → Option FixFault

@@ -1,5 +1,5 @@
 -- Data at their addresses, and the byte that they give to each address (TIS OMF 1.1, LEDATA and LIDATA).
-use Rattle.std.specs.Prelude.{ℕ, ◌+◌, ◌-◌, ◌*◌, Bool, ◌&&◌, ◌||◌, nat_le, nat_lt, List, [], ◌∷◌, map, filter, length}
+use Rattle.std.specs.Prelude.{ℕ, ◌+◌, ◌-◌, ◌*◌, Bool, ◌&&◌, ◌||◌, nat_le, nat_lt, List, map, filter, fold, length}
 use Rattle.std.specs.Prelude.{get_or}
 use Rattle.std.specs.List.{list_any}
 
@@ -16,14 +16,9 @@ covers address datum = nat_le datum.start address && nat_lt address (datum.start
 abbrev pub byte_of : (address : ℕ) → Datum → ℕ
 byte_of address datum = get_or datum.bytes (address - datum.start) 0
 
--- the last of the numbers, or another one where there is none
-abbrev pub last_or : (other : ℕ) → List ℕ → ℕ
-last_or other [] = other
-last_or other (number ∷ numbers) = last_or number numbers
-
 -- the byte at an address: that of the last datum that covers it, else 0
 abbrev pub located : List Datum → (address : ℕ) → ℕ
-located data' address = last_or 0 (map (byte_of address) (filter (covers address) data'))
+located data' address = fold (λ earlier byte. byte) 0 (map (byte_of address) (filter (covers address) data'))
 
 -- it covers a byte of one of the words
 abbrev pub covers_word : Datum → (words : List ℕ) → Bool
@@ -31,6 +26,5 @@ covers_word datum words = list_any (λ w. covers w datum || covers (w + 1) datum
 
 -- it covers a byte of the page of 4,096 bytes with this number
 abbrev pub in_page : (page : ℕ) → Datum → Bool
-in_page page datum =
-    nat_lt 0 (length datum.bytes)
-    && (nat_lt datum.start (4096 * (page + 1)) && nat_lt (4096 * page) (datum.start + length datum.bytes))
+in_page page d =
+    nat_lt 0 (length d.bytes) && (nat_lt d.start (4096 * (page + 1)) && nat_lt (4096 * page) (d.start + length d.bytes))

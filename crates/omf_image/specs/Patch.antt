@@ -1,6 +1,6 @@
 -- What fix-ups add to the bytes of a data record. A patch is a byte or a word to be added at a place;
 -- a Relocated word is a relocatable frame.
-use Rattle.std.specs.Prelude.{ℕ, ◌+◌, Bool, true, false, not, ◌||◌, nat_le, List, [], ◌∷◌}
+use Rattle.std.specs.Prelude.{ℕ, ◌+◌, Bool, not, ◌||◌, nat_le, List, fold, Option, Some, None, is_some}
 use Rattle.std.specs.List.{list_all}
 use Rattle.omf_image.specs.declared.patch.Patch.{Patch}
 use Rattle.omf_image.specs.declared.patch.Patch.TheVariants.{Byte, Word, Relocated}
@@ -14,39 +14,24 @@ patched (Relocated place value) data' = add_word value place data'
 
 -- with patches added one after the other
 abbrev pub patched_all : List Patch → (data' : List ℕ) → List ℕ
-patched_all [] data' = data'
-patched_all (patch ∷ patches) data' = patched_all patches (patched patch data')
+patched_all patches data' = fold (λ sum patch. patched patch sum) data' patches
 
--- the places of the relocated words
-abbrev pub relocated_places : List Patch → List ℕ
-relocated_places [] = []
-relocated_places (Byte place value ∷ patches) = relocated_places patches
-relocated_places (Word place value ∷ patches) = relocated_places patches
-relocated_places (Relocated place value ∷ patches) = place ∷ relocated_places patches
+-- the place of a relocated word
+abbrev pub relocated_place : Patch → Option ℕ
+relocated_place (Relocated place value) = Some place
+relocated_place _ = None
 
--- whether a patch is a relocated word
-abbrev pub is_relocated : Patch → Bool
-is_relocated (Relocated place value) = true
-is_relocated (Byte place value) = false
-is_relocated (Word place value) = false
-
--- the place of its first byte
-abbrev pub patch_start : Patch → ℕ
-patch_start (Byte place value) = place
-patch_start (Word place value) = place
-patch_start (Relocated place value) = place
-
--- the place behind its last byte
-abbrev pub patch_end : Patch → ℕ
-patch_end (Byte place value) = place + 1
-patch_end (Word place value) = place + 2
-patch_end (Relocated place value) = place + 2
+-- the places of its first byte and behind its last
+abbrev pub patch_ends : Patch → ℕ × ℕ
+patch_ends (Byte place value) = (place, place + 1)
+patch_ends (Word place value) = (place, place + 2)
+patch_ends (Relocated place value) = (place, place + 2)
 
 -- they share no byte of a relocated word of either
 abbrev pub clear : Patch → Patch → Bool
 clear first second =
-    not (is_relocated first || is_relocated second)
-    || (nat_le (patch_end first) (patch_start second) || nat_le (patch_end second) (patch_start first))
+    not (is_some (relocated_place first) || is_some (relocated_place second))
+    || (nat_le (patch_ends first).1 (patch_ends second).0 || nat_le (patch_ends second).1 (patch_ends first).0)
 
 -- each of the first is clear of each of the second
 abbrev pub all_clear : List Patch → List Patch → Bool

@@ -20,7 +20,4 @@ pub record IsProgram (p : Program) : Type 0 where
   pub few : length p.relocations ≤ 65535
   pub short : length p.image ≤ 1048560
   pub image : All (λ b. b < 256) p.image
-  pub cs : p.registers.cs < 65536
-  pub ip : p.registers.ip < 65536
-  pub ss : p.registers.ss < 65536
-  pub sp : p.registers.sp < 65536
+  pub words : (p.registers.cs < 65536) × (p.registers.ip < 65536) × (p.registers.ss < 65536) × (p.registers.sp < 65536)

@@ -1,28 +1,29 @@
 -- The program that modules stand for at a load paragraph (TIS OMF 1.1, LEDATA, LIDATA and FIXUPP).
-use Rattle.std.specs.Prelude.{◌≡◌, ℕ, Bool, ◌+◌, ◌<◌, ◌==◌, if◌then◌else◌, max, fold, List, [], ◌∷◌, ◌++◌}
-use Rattle.std.specs.Prelude.{map, filter, flat_map, length, get_or}
-use Rattle.std.specs.List.{range_with_len, list_any}
-use Rattle.omf_record.specs.Expansion.{bytes, places}
+use Rattle.std.specs.Prelude.{ℕ, Bool, ◌+◌, ◌==◌, if◌then◌else◌, max, fold, List, [], map, filter, flat_map, length}
+use Rattle.std.specs.Prelude.{get_or, Result}
+use Rattle.std.specs.List.{enumerate_from, filter_map, range_with_len, list_any}
+use Rattle.std.specs.Option.{option_map_or}
+use Rattle.std.specs.Result.{result_ok}
 use Rattle.omf_record.specs.declared.fixups.Location.{Location}
 use Rattle.omf_module.specs.declared.ResolvedFixup.{ResolvedFixup}
 use Rattle.omf_module.specs.Module.{DataRecord, Module}
 use Rattle.omf_place.specs.Layout.{Layout}
+use Rattle.omf_image.specs.declared.faults.FixKind.{FixKind}
 use Rattle.omf_image.specs.declared.patch.Patch.{Patch}
 use Rattle.omf_image.specs.declared.reference.Resolved.{Resolved}
-use Rattle.omf_image.specs.Words.{add_words}
-use Rattle.omf_image.specs.Patch.{patched_all, relocated_places}
+use Rattle.omf_image.specs.Patch.{patched_all, relocated_place}
 use Rattle.omf_image.specs.Position.{segment_position}
-use Rattle.omf_image.specs.Reference.{Found, Missing, Empty, Is, resolved}
+use Rattle.omf_image.specs.Reference.{resolved}
 use Rattle.omf_image.specs.Value.{real_address, patches_at}
 use Rattle.omf_image.specs.Located.{Datum, located, in_page}
 
 -- the expanded bytes of a data record
 abbrev pub bytes_of : DataRecord → List ℕ
-bytes_of data_record = bytes data_record.pairs
+bytes_of data_record = map (λ p. p.1) data_record.pairs
 
 -- the place at which each of them was stored
 abbrev pub stored_of : DataRecord → List ℕ
-stored_of data_record = places data_record.pairs
+stored_of data_record = map (λ p. p.0) data_record.pairs
 
 -- the positions whose byte was stored at the place offset
 abbrev pub hits : (offset : ℕ) → (stored : List ℕ) → List ℕ
@@ -34,27 +35,18 @@ pub record Entry : Type 0 where
   pub module' : Module
   pub data_record : DataRecord
 
--- the data records of a module
-abbrev pub module_entries : (input : ℕ) → Module → List Entry
-module_entries input module' =
-    map (λ d. record { input = input; module' = module'; data_record = d }) module'.data_records
-
--- those of modules whose inputs count up from a first one
-abbrev pub entries_from : (input : ℕ) → List Module → List Entry
-entries_from input [] = []
-entries_from input (module' ∷ modules) = module_entries input module' ++ entries_from (input + 1) modules
-
 -- all data records, in order of modules and records
 abbrev pub entries : List Module → List Entry
-entries modules = entries_from 0 modules
+entries modules =
+    flat_map (λ (m : ℕ × Module). map (λ d. record { input = m.0; module' = m.1; data_record = d }) m.1.data_records)
+    (enumerate_from 0 modules)
 
 -- the address of its first byte
 abbrev pub entry_start : Layout → Entry → ℕ
-entry_start layout entry =
-    real_address 0 (segment_position layout entry.input entry.data_record.segment) + entry.data_record.offset
+entry_start layout e = real_address 0 (segment_position layout e.input e.data_record.segment) + e.data_record.offset
 
 -- what the frame and the target of a fix-up stand for
-abbrev pub meaning : Layout → Entry → ResolvedFixup → Found Resolved
+abbrev pub meaning : Layout → Entry → ResolvedFixup → Result Resolved FixKind
 meaning layout entry fixup =
     resolved layout entry.input entry.module' entry.data_record.segment fixup.frame fixup.target fixup.displacement
 
@@ -65,18 +57,12 @@ abbrev pub patches_on : (P : ℕ) → Resolved → (self_relative : Bool) → Lo
 patches_on P reference self_relative location start positions =
     flat_map (λ i. patches_at P reference self_relative location i (start + i)) positions
 
--- what a fix-up adds for what was found
-abbrev pub patches_of : (P : ℕ) → Found Resolved → ResolvedFixup → (start : ℕ) → (positions : List ℕ) → List Patch
-patches_of P Missing fixup start positions = []
-patches_of P Empty fixup start positions = []
-patches_of P (Is reference) fixup start positions =
-    patches_on P reference fixup.self_relative fixup.location start positions
-
 -- what a fix-up adds, at each of its hits
 abbrev pub fixup_patches : (P : ℕ) → Layout → Entry → ResolvedFixup → List Patch
 fixup_patches P layout entry fixup =
-    patches_of P (meaning layout entry fixup) fixup (entry_start layout entry)
-    (hits fixup.offset (stored_of entry.data_record))
+    let positions = hits fixup.offset (stored_of entry.data_record) in
+    option_map_or (λ r. patches_on P r fixup.self_relative fixup.location (entry_start layout entry) positions)
+    (result_ok (meaning layout entry fixup)) []
 
 -- what all fix-ups of a data record add, in order
 abbrev pub patches : (P : ℕ) → Layout → Entry → List Patch
@@ -84,10 +70,8 @@ patches P layout entry = flat_map (fixup_patches P layout entry) entry.data_reco
 
 -- the data after each of its fix-ups in order
 abbrev pub datum : (P : ℕ) → Layout → Entry → Datum
-datum P layout entry = record {
-  start = entry_start layout entry;
-  bytes = patched_all (patches P layout entry) (bytes_of entry.data_record);
-}
+datum P layout e =
+    record { start = entry_start layout e; bytes = patched_all (patches P layout e) (bytes_of e.data_record) }
 
 -- the byte of the program at an address, loaded at paragraph P. It stands at 16 P + address
 abbrev pub program_byte : (P : ℕ) → Layout → List Module → (address : ℕ) → ℕ
@@ -96,16 +80,13 @@ program_byte P layout modules = located (map (datum P layout) (entries modules))
 -- the addresses of the relocated words of a data record
 abbrev pub record_relocations : Layout → Entry → List ℕ
 record_relocations layout entry =
-    map (λ i. entry_start layout entry + i) (relocated_places (patches 0 layout entry))
-
--- and of all
-abbrev pub relocated_words : Layout → List Module → List ℕ
-relocated_words layout modules = flat_map (record_relocations layout) (entries modules)
+    map (λ i. entry_start layout entry + i) (filter_map relocated_place (patches 0 layout entry))
 
 -- the addresses at which a relocated word begins, rising
 abbrev pub relocations : Layout → List Module → List ℕ
 relocations layout modules =
-    filter (λ a. list_any (λ w. a == w) (relocated_words layout modules)) (range_with_len 0 layout.size)
+    let words = flat_map (record_relocations layout) (entries modules) in
+    filter (λ a. list_any (λ w. a == w) words) (range_with_len 0 layout.size)
 
 -- one more than the greatest address that a data record covers, or 0 where it has no byte
 abbrev pub entry_end : Layout → Entry → ℕ
@@ -121,9 +102,3 @@ written layout modules = fold max 0 (map (entry_end layout) (entries modules))
 -- data covers a byte of the page
 abbrev pub page_covered : Layout → List Module → (page : ℕ) → Bool
 page_covered layout modules page = list_any (in_page page) (map (datum 0 layout) (entries modules))
-
--- at each paragraph P the image with P added to the listed words is the program
-abbrev pub HoldsEverywhere : Layout → List Module → (image relocations : List ℕ) → Type 0
-HoldsEverywhere layout modules image relocations =
-    (P a : ℕ) → a < layout.size
-    → get_or (add_words P relocations image) a 0 ≡ program_byte P layout modules a

@@ -2,7 +2,7 @@
 use Rattle.std.specs.Prelude.{ℕ, ◌+◌, ◌*◌, ◌%◌, ℤ, pos, ◌-ℤ◌, unsigned_abs, Bool, true, false, List, [], ◌∷◌}
 use Rattle.std.specs.Int.{int_rem_euclid}
 use Rattle.omf_record.specs.declared.fixups.Location.{Location}
-use Rattle.omf_record.specs.declared.fixups.Location.TheVariants.{LowByte, Offset, Base, Pointer, LoaderOffset}
+use Rattle.omf_record.specs.declared.fixups.Location.TheVariants.{LowByte, Base, Pointer}
 use Rattle.omf_image.specs.declared.reference.Position.{Position}
 use Rattle.omf_image.specs.declared.reference.Position.TheVariants.{Relocatable, Absolute}
 use Rattle.omf_image.specs.declared.patch.Patch.{Patch}
@@ -28,13 +28,11 @@ real_frame P (Fixed number) = number
 
 -- the target's distance from the start of the frame
 abbrev pub from_frame : (P : ℕ) → Resolved → ℤ
-from_frame P reference =
-    pos (real_address P reference.target + reference.displacement) -ℤ pos (16 * real_frame P (frame' reference))
+from_frame P r = pos (real_address P r.target + r.displacement) -ℤ pos (16 * real_frame P (frame' r))
 
 -- the target's distance from an address of the program
 abbrev pub from_address : (P : ℕ) → Resolved → (address : ℕ) → ℤ
-from_address P reference address =
-    pos (real_address P reference.target + reference.displacement) -ℤ pos (16 * P + address)
+from_address P r address = pos (real_address P r.target + r.displacement) -ℤ pos (16 * P + address)
 
 -- the frame, put at a place; a relocatable one is a relocated word
 abbrev pub base_patch : (P place : ℕ) → Frame → Patch
@@ -45,11 +43,10 @@ base_patch P place (Fixed number) = Word place (real_frame P (Fixed number) % 65
 -- distance counts from the location's end.
 abbrev pub patches_at : (P : ℕ) → Resolved → (self_relative : Bool) → Location → (place address : ℕ) → List Patch
 patches_at P reference false LowByte place address = Byte place (modulo 256 (from_frame P reference)) ∷ []
-patches_at P reference false Offset place address = Word place (modulo 65536 (from_frame P reference)) ∷ []
-patches_at P reference false LoaderOffset place address = Word place (modulo 65536 (from_frame P reference)) ∷ []
 patches_at P reference false Base place address = base_patch P place (frame' reference) ∷ []
 patches_at P reference false Pointer place address =
     Word place (modulo 65536 (from_frame P reference)) ∷ base_patch P (place + 2) (frame' reference) ∷ []
+patches_at P reference false _ place address = Word place (modulo 65536 (from_frame P reference)) ∷ []
 patches_at P reference true LowByte place address =
     Byte place (modulo 256 (from_address P reference (address + 1))) ∷ []
 patches_at P reference true _ place address = Word place (modulo 65536 (from_address P reference (address + 2))) ∷ []

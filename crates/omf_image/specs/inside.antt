@@ -1,4 +1,6 @@
 -- How the code sees what it works on: no public contract cites any of it.
+pub mod Patches
+pub mod Entries
 pub mod Lookups
 pub mod WellPlaced
 pub mod Pages

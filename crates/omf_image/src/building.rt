@@ -4,7 +4,8 @@ ghost use Rattle.std.specs.Prelude.{◌≡◌, ◌<◌, ◌≤◌, ◌^◌, ◌+
 ghost use Rattle.std.specs.Prelude.{replicate, OnOk, IfOk};
 ghost use Rattle.std.specs.List.{range_with_len};
 ghost use Rattle.omf_module.specs.Module.{Module as PlainModule};
-ghost use Rattle.omf_image.specs.Records.{Entry, entries, module_entries};
+ghost use Rattle.omf_image.specs.Records.{Entry, entries};
+ghost use Rattle.omf_image.specs.inside.Entries.{module_entries};
 ghost use Rattle.omf_image.specs.Faults.{data_fault};
 ghost use Rattle.omf_image.specs.inside.Pages.{IsBlank};
 ghost use Rattle.omf_image.specs.inside.Ready.{IsEntryReady};

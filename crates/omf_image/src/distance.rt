@@ -6,7 +6,7 @@ ghost use Rattle.omf_image.specs.Value.{modulo, real_address, real_frame, from_f
 ghost use Rattle.omf_image.specs.Value.{patches_at};
 ghost use Rattle.omf_image.specs.Faults.{is_mixed, in_frame, target_in_frame, fits_short, short_distance};
 ghost use Rattle.omf_record.specs.Numbers.{location_width};
-ghost use Rattle.omf_image.specs.Patch.{patch_end};
+ghost use Rattle.omf_image.specs.inside.Patches.{patch_end};
 ghost use Rattle.omf_image.specs.inside.Lookups.{listed, EndsBy};
 
 use crate::patch::Patch;

@@ -1,7 +1,8 @@
 //! How far the data of a program reaches.
 
 ghost use Rattle.std.specs.Prelude.{◌≡◌, ◌≤◌, All, fold, map, max};
-ghost use Rattle.omf_image.specs.Records.{entries, module_entries, entry_end, written};
+ghost use Rattle.omf_image.specs.Records.{entries, entry_end, written};
+ghost use Rattle.omf_image.specs.inside.Entries.{module_entries};
 ghost use Rattle.omf_image.specs.inside.Ready.{IsEntryReady};
 
 use crate::adding::data_address;

@@ -3,7 +3,6 @@
 ghost use Rattle.std.specs.Prelude.{◌≡◌, ◌<◌, ◌≤◌, ◌+◌, ◌++◌, ℕ, List, Some, None, length, slice_index, MatchResult};
 ghost use Rattle.omf_record.specs.Numbers.{location_width};
 ghost use Rattle.omf_image.specs.declared.patch.Patch.{Patch};
-ghost use Rattle.omf_image.specs.Reference.{Is};
 ghost use Rattle.omf_image.specs.Records.{meaning, patches_on, fixup_patches};
 ghost use Rattle.omf_image.specs.Faults.{first_test, fixup_fault};
 ghost use Rattle.omf_image.specs.inside.Ready.{IsFixupReady};
@@ -27,7 +26,7 @@ pub fn resolve_fixup<A: Allocator + Copy>(
     requires placed { IsPlacedData placed.now }
     requires fixup { IsFixupReady placed.now.layout.now (entry_seen placed.now) fixup.now }
     ensures { MatchResult result
-        (λ r. meaning placed.now.layout.now (entry_seen placed.now) fixup.now ≡ Is r)
+        (λ r. meaning placed.now.layout.now (entry_seen placed.now) fixup.now ≡ Ok r)
         (λ kind. (earlier : List Patch) → fixup_fault placed.now.layout.now (entry_seen placed.now) earlier fixup.now
         ≡ Some kind) }
 {

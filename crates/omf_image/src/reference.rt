@@ -1,10 +1,12 @@
 //! What the frame and the target of a reference stand for.
 
 ghost use Rattle.std.specs.Prelude.{◌≡◌, ◌<◌, length};
+ghost use Rattle.std.specs.Option.{ok_or};
 ghost use Rattle.omf_place.specs.Layout.{places_of};
+ghost use Rattle.omf_image.specs.declared.faults.FixKind.TheVariants.{Unresolved};
 ghost use Rattle.omf_module.specs.Seen.{external_seen};
 ghost use Rattle.omf_image.specs.Position.{position, segment_position, external_position};
-ghost use Rattle.omf_image.specs.Reference.{resolved, target_of, frame_of, own_frame, found_public};
+ghost use Rattle.omf_image.specs.Reference.{resolved, target_of, frame_of, own_frame};
 ghost use Rattle.omf_image.specs.inside.Lookups.{found, framed_by};
 ghost use Rattle.omf_image.specs.inside.Ready.{IsTargetThere, IsFrameThere};
 
@@ -69,7 +71,7 @@ fn external_position<A: Allocator + Copy>(
     input: usize,
     external: ExternalSymbol<'_>,
 ) -> Result<Position, Missing>
-    ensures { found result ≡ found_public (external_position layout.now input (external_seen external.entry)) }
+    ensures { found result ≡ ok_or (external_position layout.now input (external_seen external.entry)) Unresolved }
 {
     let meant = if external.local {
         layout.local_public(input, external.name)

@@ -3,8 +3,10 @@
 ghost use Rattle.std.specs.Prelude.{◌≡◌, ◌<◌, ◌≤◌, All, Some, None, false, length, slice_get};
 ghost use Rattle.std.specs.Option.{option_map_or};
 ghost use Rattle.omf_image.specs.inside.Ready.{IsStartReady};
-ghost use Rattle.omf_image.specs.Registers.{starts, start_meaning, starts_fault, entry_of, entry_at, is_stack};
-ghost use Rattle.omf_image.specs.Registers.{is_stack_segment, stack, stack_of, registers};
+ghost use Rattle.omf_image.specs.Registers.{starts, start_meaning, starts_fault, entry_of, entry_at};
+ghost use Rattle.omf_image.specs.inside.Starts.{is_stack};
+ghost use Rattle.omf_image.specs.Registers.{stack, stack_of, registers};
+ghost use Rattle.omf_image.specs.inside.Starts.{is_stack_segment};
 ghost use Rattle.omf_image.specs.Building.{Answers};
 ghost use Rattle.omf_image.specs.inside.Starts.{GivesEntry, FindsStart};
 

@@ -23,8 +23,9 @@ use Rattle.omf_module.specs.declared.fault.ModuleFault.{ModuleFault}
 use Rattle.omf_module.specs.declared.fault.ModuleFault.TheVariants as fault
 use Rattle.omf_module.specs.Module.{Module}
 use Rattle.omf_module.specs.inside.Running.{State, state_of, step, module_in}
-use Rattle.omf_module.specs.Bytes.{StopsAt}
-use Rattle.omf_module.specs.Reading.{Took, Reads}
+use Rattle.omf_module.specs.inside.Behind.{StopsAt}
+use Rattle.omf_module.specs.Reading.{Reads}
+use Rattle.omf_module.specs.inside.Behind.{Took}
 use Rattle.omf_module.specs.inside.Reading.{TakesRecord, IsRecordFault}
 use Rattle.omf_module.specs.inside.ModuleFaults.{read_fault}
 use Rattle.omf_module.specs.Sound.{IsSound}
@@ -41,26 +42,26 @@ always (Some x) = tt
 
 pub no_memory : (a : Option (List ℕ)) → reads a a (Err fault.Memory)
 unfolding Reads
-no_memory a = ([], [], a, begun a, inl (Keeps-refl a))
+no_memory a = ([], [], a, (begun a).beginning, (begun a).taken, inl (Keeps-refl a))
 
 -- behind a sound beginning
 module _ (rs : List Placed) (front : List ℕ) (a b c : Option (List ℕ)) (t : Took rs front a b) where
   pub no_end : (place : ℕ) → place ≡ length front → IfSome b (λ bytes. frame_at place bytes ≡ Ok None) → TakesWhole b c → reads a c (Err (fault.Record place kind.NoEnd))
   unfolding Reads
-  no_end place at none stands = (rs, front, b, t, at, stands, stops rs front a b place kind.NoEnd t at (IfSome_then b {Q = (λ rest. StopsAt place rest kind.NoEnd)} none (λ x e. (NoEnd, e, refl))))
+  no_end place at none stands = (rs, front, b, t.beginning, t.taken, at, stands, stops rs front a b place kind.NoEnd t at (IfSome_then b {Q = (λ rest. StopsAt place rest kind.NoEnd)} none (λ x e. (NoEnd, e, refl))))
 
   pub frame_stopped : (place : ℕ) (e : FrameFault) → place ≡ length front → IsAt {A = Option lent.Frame} place (Err e) → IfSome b (λ bytes. Gives plain_frame (Err e) (frame_at place bytes)) → framing_of.TakesRecord {A = Option lent.Frame} b c (Err e)
       → reads a c (Err (read_fault e))
   unfolding Reads
-  frame_stopped place (frame.Device p) at h exact stands = (rs, front, b, t, h.0 ∙ at, stands, always a)
+  frame_stopped place (frame.Device p) at h exact stands = (rs, front, b, t.beginning, t.taken, h.0 ∙ at, stands, always a)
   frame_stopped place (frame.Framing p framing.ZeroLength) at h exact stands =
-      (rs, front, b, t, h.0 ∙ at, stands, stops rs front a b p kind.ZeroLength t (h.0 ∙ at) (IfSome_then b {Q = (λ rest. StopsAt p rest kind.ZeroLength)} exact (λ x e. (Framing framing.ZeroLength, ap (λ n. frame_at n x) h.0 ∙ e, refl))))
+      (rs, front, b, t.beginning, t.taken, h.0 ∙ at, stands, stops rs front a b p kind.ZeroLength t (h.0 ∙ at) (IfSome_then b {Q = (λ rest. StopsAt p rest kind.ZeroLength)} exact (λ x e. (Framing framing.ZeroLength, ap (λ n. frame_at n x) h.0 ∙ e, refl))))
   frame_stopped place (frame.Framing p framing.Truncated) at h exact stands =
-      (rs, front, b, t, h.0 ∙ at, stands, stops rs front a b p kind.Truncated t (h.0 ∙ at) (IfSome_then b {Q = (λ rest. StopsAt p rest kind.Truncated)} exact (λ x e. (Framing framing.Truncated, ap (λ n. frame_at n x) h.0 ∙ e, refl))))
+      (rs, front, b, t.beginning, t.taken, h.0 ∙ at, stands, stops rs front a b p kind.Truncated t (h.0 ∙ at) (IfSome_then b {Q = (λ rest. StopsAt p rest kind.Truncated)} exact (λ x e. (Framing framing.Truncated, ap (λ n. frame_at n x) h.0 ∙ e, refl))))
   frame_stopped place (frame.Framing p framing.Closing) at h exact stands =
-      (rs, front, b, t, h.0 ∙ at, stands, stops rs front a b p kind.Closing t (h.0 ∙ at) (IfSome_then b {Q = (λ rest. StopsAt p rest kind.Closing)} exact (λ x e. (Framing framing.Closing, ap (λ n. frame_at n x) h.0 ∙ e, refl))))
+      (rs, front, b, t.beginning, t.taken, h.0 ∙ at, stands, stops rs front a b p kind.Closing t (h.0 ∙ at) (IfSome_then b {Q = (λ rest. StopsAt p rest kind.Closing)} exact (λ x e. (Framing framing.Closing, ap (λ n. frame_at n x) h.0 ∙ e, refl))))
   frame_stopped place (frame.Framing p framing.InputTooLong) at h exact stands =
-      (rs, front, b, t, h.0 ∙ at, stands, stops rs front a b p kind.InputTooLong t (h.0 ∙ at) (IfSome_then b {Q = (λ rest. StopsAt p rest kind.InputTooLong)} exact (λ x e. (Framing framing.InputTooLong, ap (λ n. frame_at n x) h.0 ∙ e, refl))))
+      (rs, front, b, t.beginning, t.taken, h.0 ∙ at, stands, stops rs front a b p kind.InputTooLong t (h.0 ∙ at) (IfSome_then b {Q = (λ rest. StopsAt p rest kind.InputTooLong)} exact (λ x e. (Framing framing.InputTooLong, ap (λ n. frame_at n x) h.0 ∙ e, refl))))
   frame_stopped place frame.Memory at h exact stands = absurd h
   frame_stopped place frame.Failed at h exact stands = absurd h
 
@@ -78,12 +79,12 @@ module _ (rs : List Placed) (front : List ℕ) (a b c : Option (List ℕ)) (t : 
 
     kind_refuses : (k : FaultKind) → IsRecordFault f.kind f.body f.place s k → reads a c (Err (fault.Record f.place k))
     unfolding Reads
-    kind_refuses kind.Type h = (rs, front, b, t, at, stands, stops rs front a b f.place kind.Type t at (IfSome_then b {Q = (λ rest. StopsAt f.place rest kind.Type)} exact (λ x e. (OtherType, (f, e, h), refl))))
-    kind_refuses (kind.Body i) h = (rs, front, b, t, at, stands, stops rs front a b f.place (kind.Body i) t at (IfSome_then b {Q = (λ rest. StopsAt f.place rest (kind.Body i))} exact (λ x e. (WrongBody i, (f, e, h.0, h.1), refl))))
+    kind_refuses kind.Type h = (rs, front, b, t.beginning, t.taken, at, stands, stops rs front a b f.place kind.Type t at (IfSome_then b {Q = (λ rest. StopsAt f.place rest kind.Type)} exact (λ x e. (OtherType, (f, e, h), refl))))
+    kind_refuses (kind.Body i) h = (rs, front, b, t.beginning, t.taken, at, stands, stops rs front a b f.place (kind.Body i) t at (IfSome_then b {Q = (λ rest. StopsAt f.place rest (kind.Body i))} exact (λ x e. (WrongBody i, (f, e, h.0, h.1), refl))))
     kind_refuses (kind.Check g) h =
         let r = here h.0 in
         let first = err_of rs r t.beginning.sound g (stepped h.0 (Err g) h.2) in
-        (rs, front, b, t, at, stands, refused rs front a b c r bytes t at below (same_kind h.0 h.1.0) h.1.1 taken g first)
+        (rs, front, b, t.beginning, t.taken, at, stands, refused rs front a b c r bytes t at below (same_kind h.0 h.1.0) h.1.1 taken g first)
     kind_refuses kind.Device h = absurd h
     kind_refuses kind.ZeroLength h = absurd h
     kind_refuses kind.Truncated h = absurd h
@@ -93,7 +94,7 @@ module _ (rs : List Placed) (front : List ℕ) (a b c : Option (List ℕ)) (t : 
 
     no_more : reads a c (Err fault.Memory)
     unfolding Reads
-    no_more = (rs, front, b, t, inr stands)
+    no_more = (rs, front, b, t.beginning, t.taken, inr stands)
 
     pub refuses : (u : State) (e : ModuleFault) → TakesRecord f.kind f.body f.place s u (Err e) → reads a c (Err e)
     refuses u fault.Memory h = no_more

@@ -7,7 +7,8 @@ use Rattle.omf_module.specs.declared.fault.CheckFault.{CheckFault}
 use Rattle.omf_module.specs.declared.fault.FaultKind.{FaultKind}
 use Rattle.omf_module.specs.declared.fault.FaultKind.TheVariants as kind
 use Rattle.omf_module.specs.Faults.{fault, first_fault}
-use Rattle.omf_module.specs.Bytes.{ModuleBytes, FaultBehind, ReadingFault, reading_kind}
+use Rattle.omf_module.specs.Bytes.{ModuleBytes, ReadingFault, reading_kind}
+use Rattle.omf_module.specs.inside.Behind.{FaultBehind}
 use Rattle.omf_module.proofs.Whole.{no_fault_at}
 
 some_is : (o : Option CheckFault) (a b : CheckFault) → o ≡ Some a → o ≡ Some b → a ≡ b

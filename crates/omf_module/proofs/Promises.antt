@@ -7,9 +7,11 @@ use Rattle.std.proofs.lemmas.List.{append-nil}
 use Rattle.std.proofs.lemmas.Bool.Decides.{nat_tests}
 use Rattle.omf_record.specs.Record.{Record, Public, External as ExternalName, Theadr, Coment, Modend, Extdef, Pubdef, Linnum, Lnames, Segdef, Grpdef, Fixupp, Ledata, Lidata}
 use Rattle.omf_record.specs.Language.{each}
-use Rattle.omf_record.specs.Body.{Body, PublicText, BaseText, LengthText, AbsoluteText}
+use Rattle.omf_record.specs.Body.{Body, BaseText, LengthText, AbsoluteText}
+use Rattle.omf_record.specs.inside.Fields.{PublicText}
 use Rattle.omf_record.specs.Numbers.{location_width, segment_len}
-use Rattle.omf_record.specs.Expansion.{stored_from, expansion, contents, AreCopies}
+use Rattle.omf_record.specs.Expansion.{expansion, contents, AreCopies}
+use Rattle.omf_record.specs.inside.Fields.{stored_from}
 use Rattle.omf_record.specs.declared.segments.SegmentDefinition.{SegmentDefinition}
 use Rattle.omf_record.specs.declared.segments.SegmentLength.{SegmentLength}
 use Rattle.omf_record.specs.declared.segments.SegmentLength.TheVariants as lengths
@@ -38,8 +40,10 @@ use Rattle.omf_module.specs.declared.ResolvedFixup.{ResolvedFixup}
 use Rattle.omf_module.specs.declared.Start.{Start}
 use Rattle.omf_module.specs.Module.{Segment, Group, ExternalSymbol, PublicSymbol, DataRecord, Module}
 use Rattle.omf_module.specs.Before.{first, entry}
-use Rattle.omf_module.specs.Tables.{frame_used, target_used, name_at, standing_of, segment_of, group_of, base_of, public_of, external_of, frame_of, target_of, fixup_of, start_of}
-use Rattle.omf_module.specs.Faults.{number, header_fault, segment_fault, when, ◌⊓◌, is_beyond, misses, Tables, is_absolute, component_fault, data_fault, public_fault, frame_fault, target_fault, holds_base, lies_in, place_fault, relative_fault, fixup_fault, location_fault, start_fault}
+use Rattle.omf_module.specs.Tables.{frame_used, target_used, name_at, standing_of, base_of, frame_of, target_of, fixup_of, start_of}
+use Rattle.omf_module.specs.inside.Entries.{segment_of, group_of, public_of, external_of}
+use Rattle.omf_module.specs.Faults.{number, header_fault, segment_fault, when, ◌⊓◌, is_beyond, misses, Tables, is_absolute, component_fault, data_fault, public_fault, frame_fault, target_fault, holds_base, place_fault, relative_fault, fixup_fault, location_fault, start_fault}
+use Rattle.omf_module.specs.inside.Contents.{lies_in}
 use Rattle.omf_module.specs.inside.Running.{State, state_of, checked, slot, group_fault, add_to_last, add_data, module_in, later, step, step_record, step_subrecord, step_subrecords, ◌>>=◌}
 use Rattle.omf_module.specs.Sound.{IsShort, FrameMeans, TargetMeans, BaseMeans, IsPart, IsMember, FixupFits, StartFits, SegmentFits, IsStanding}
 use Rattle.omf_record.proofs.Expanded.{length-stored}

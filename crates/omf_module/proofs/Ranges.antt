@@ -1,7 +1,8 @@
 -- Numbers in a row, and bytes with their stored places.
 use Rattle.std.proofs.Common.{◌≡◌, ℕ, zero, suc, ◌+◌, ◌≤◌, List, [], ◌∷◌, ◌++◌, length, take, refl, sym, ap, ◌∙◌, arith, add-zero, zero-add, append_assoc}
 use Rattle.std.specs.List.{range_with_len, zip}
-use Rattle.omf_record.specs.Expansion.{stored_from, places, bytes}
+use Rattle.omf_record.specs.Expansion.{places, bytes}
+use Rattle.omf_record.specs.inside.Fields.{stored_from}
 
 pub range_push : (a n : ℕ) → range_with_len a (n + 1) ≡ range_with_len a n ++ (a + n) ∷ []
 range_push a zero = simp add-zero

@@ -16,7 +16,8 @@ use Rattle.omf_module.specs.Before.{along, along_from, first}
 use Rattle.omf_module.specs.Tables.{stretches, subrecords, fixups, frame_thread, target_thread, data_record, fixup_in}
 use Rattle.omf_record.specs.Numbers.{thread_number}
 use Rattle.omf_record.specs.Records.{Placed}
-use Rattle.omf_module.specs.Faults.{tables, subrecord_item, last_contents}
+use Rattle.omf_module.specs.Faults.{tables, subrecord_item}
+use Rattle.omf_module.specs.inside.Contents.{last_contents}
 use Rattle.omf_module.specs.inside.Running.{State, state_of, checked, step_subrecord, step_subrecords, step_record, thread_numbers, add_to_last, ◌>>=◌}
 use Rattle.std.proofs.lemmas.List.Elements.{filter_map-append}
 use Rattle.omf_module.proofs.Lists.{along_push, last_append}

@@ -13,8 +13,9 @@ use Rattle.omf_module.specs.declared.fault.CheckFault.{CheckFault}
 use Rattle.omf_module.specs.declared.fault.FaultKind.{FaultKind}
 use Rattle.omf_module.specs.declared.fault.FaultKind.TheVariants as kind
 use Rattle.omf_module.specs.Faults.{fault, first_fault}
-use Rattle.omf_module.specs.Bytes.{ModuleBytes, StopsAt, ReadingFault}
-use Rattle.omf_module.specs.Reading.{Took}
+use Rattle.omf_module.specs.Bytes.{ModuleBytes, ReadingFault}
+use Rattle.omf_module.specs.inside.Behind.{StopsAt}
+use Rattle.omf_module.specs.inside.Behind.{Took}
 
 pub begun : (a : Option (List ℕ)) → Took [] [] a a
 begun a = record { beginning = record { records = (refl, tt); open' = tt; sound = refl }; taken = Consumes-nil a }

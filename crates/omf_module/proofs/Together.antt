@@ -2,9 +2,10 @@
 use Rattle.std.proofs.Common.{◌≡◌, ℕ, ◌+◌, ◌≤◌, Bool, true, false, List, [], ◌∷◌, length, refl, arith, inl, inr}
 use Rattle.std.proofs.lemmas.Bool.Decides.{nat_tests}
 use Rattle.omf_record.specs.Record.{Block}
-use Rattle.omf_record.specs.Expansion.{stored_from, expansion, places, contents, LiesInOne, StandTogether, StandWhole}
+use Rattle.omf_record.specs.Expansion.{expansion, places, contents, LiesInOne, StandTogether, StandWhole}
+use Rattle.omf_record.specs.inside.Fields.{stored_from}
 use Rattle.omf_record.proofs.Together.{together, together-stored, whole, whole-stored}
-use Rattle.omf_module.specs.Faults.{lies_within, lies_in}
+use Rattle.omf_module.specs.inside.Contents.{lies_within, lies_in}
 
 within_is : (at width : ℕ) (c : ℕ × ℕ) → lies_within at width c ≡ true → (c.0 ≤ at) × (at + width ≤ c.0 + c.1)
 within_is at width c e = (grind (arith, nat_tests), grind (arith, nat_tests))

@@ -42,18 +42,10 @@ RefusedAt before place bytes found =
     (r : Placed) × (front : List ℕ) × (rest : List ℕ) × (bytes ≡ front ++ rest) × AreRecords place (r ∷ []) front
     × (check : CheckFault) × (found ≡ kind.Check check) × (fault before r.says ≡ Some check)
 
--- none begins there
-abbrev pub StopsAt : (place : ℕ) → List ℕ → FaultKind → Type 0
-StopsAt place bytes found = (why : NoRecord) × NoRecordAt place bytes why × (found ≡ reading_kind why)
-
--- the fault of what stands behind these records
-abbrev pub FaultBehind : (before : List Placed) → (place : ℕ) → List ℕ → FaultKind → Type 0
-FaultBehind before place bytes found = RefusedAt before place bytes found ⊎ StopsAt place bytes found
-
 -- The fault of reading bytes as a module, and its place: the bytes begin with records that no check refuses and that
 -- don't end a module, and behind them, at this place, a check refuses the next record, or none begins.
 abbrev pub ReadingFault : List ℕ → (place : ℕ) → FaultKind → Type 0
 ReadingFault bytes place found =
     (rs : List Placed) × (front : List ℕ) × (rest : List ℕ) × (bytes ≡ front ++ rest) × Beginning rs front
-    × (place ≡ length front)
-    × FaultBehind rs place rest found
+    × (place ≡ length front) × (RefusedAt rs place rest found
+    ⊎ ((why : NoRecord) × NoRecordAt place rest why × (found ≡ reading_kind why)))

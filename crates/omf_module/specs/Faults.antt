@@ -2,7 +2,7 @@
 use Rattle.std.specs.Prelude.{ℕ, ◌+◌, ◌==◌, Bool, true, false, not, ◌||◌, ◌&&◌, if◌then◌else◌, nat_le, nat_lt, List, []}
 use Rattle.std.specs.Prelude.{◌∷◌, ◌++◌, length, map, Option, None, Some, option_map}
 use Rattle.std.specs.List.{list_any}
-use Rattle.omf_record.specs.Record.{Record, Theadr, Coment, Modend, Extdef, Pubdef, Linnum, Lnames, Segdef, Grpdef}
+use Rattle.omf_record.specs.Record.{Record, Theadr, Modend, Pubdef, Segdef, Grpdef}
 use Rattle.omf_record.specs.Record.{Fixupp, Ledata, Lidata}
 use Rattle.omf_record.specs.Expansion.{expansion}
 use Rattle.omf_record.specs.Numbers.{location_width}
@@ -15,7 +15,7 @@ use Rattle.omf_record.specs.declared.segments.SegmentDefinition.{SegmentDefiniti
 use Rattle.omf_record.specs.declared.externals.PublicBase.{PublicBase}
 use Rattle.omf_record.specs.declared.externals.PublicBase.TheVariants.{AtFrame, InSegment}
 use Rattle.omf_record.specs.declared.fixups.Location.{Location}
-use Rattle.omf_record.specs.declared.fixups.Location.TheVariants.{LowByte, Offset, Base, Pointer, LoaderOffset}
+use Rattle.omf_record.specs.declared.fixups.Location.TheVariants.{Base, Pointer}
 use Rattle.omf_record.specs.declared.fixups.Fixup.{Fixup}
 use Rattle.omf_record.specs.declared.fixups.Subrecord.{Subrecord}
 use Rattle.omf_record.specs.declared.fixups.Subrecord.TheVariants as sub
@@ -116,8 +116,7 @@ frame_fault tables None = Some ThreadNotSet
 frame_fault tables (Some (by.Segment index)) = when (misses tables.segments index) SegmentIndex
 frame_fault tables (Some (by.Group index)) = when (misses tables.groups index) GroupIndex
 frame_fault tables (Some (by.External index)) = when (misses tables.externals index) ExternalIndex
-frame_fault tables (Some by.Location) = None
-frame_fault tables (Some by.Target) = None
+frame_fault tables (Some _) = None
 
 -- a target in use; none: its thread isn't set
 abbrev pub target_fault : Tables → Option TargetMethod → Option CheckFault
@@ -128,25 +127,16 @@ target_fault tables (Some (to.External index)) = when (misses tables.externals i
 
 -- a base can't be relative to itself
 abbrev pub holds_base : Location → Bool
-holds_base LowByte = false
-holds_base Offset = false
 holds_base Base = true
 holds_base Pointer = true
-holds_base LoaderOffset = false
+holds_base _ = false
 
--- so many stored places from `at` on lie wholly in the content
-abbrev pub lies_within : (at width : ℕ) → (content : ℕ × ℕ) → Bool
-lies_within at width content = nat_le content.0 at && nat_le (at + width) (content.0 + content.1)
-
--- in one of the contents
-abbrev pub lies_in : List (ℕ × ℕ) → (at width : ℕ) → Bool
-lies_in contents at width = list_any (lies_within at width) contents
-
--- the location against the contents of the last data record before it
+-- the location against the contents of the last data record before it: it lies wholly in one of them
 abbrev pub place_fault : Option (List (ℕ × ℕ)) → Fixup → Option CheckFault
 place_fault None fixup = Some FixupBeforeData
 place_fault (Some contents) fixup =
-    when (not (lies_in contents fixup.offset (location_width fixup.location))) FixupPlace
+    let end = fixup.offset + location_width fixup.location in
+    when (not (list_any (λ c. nat_le c.0 fixup.offset && nat_le end (c.0 + c.1)) contents)) FixupPlace
 
 -- a fix-up that is relative to its own location
 abbrev pub relative_fault : Fixup → Option CheckFault
@@ -160,12 +150,8 @@ fixup_fault tables frame target contents fixup =
 
 -- a start has no location
 abbrev pub location_fault : Option FrameMethod → Option CheckFault
-location_fault None = None
-location_fault (Some (by.Segment index)) = None
-location_fault (Some (by.Group index)) = None
-location_fault (Some (by.External index)) = None
 location_fault (Some by.Location) = Some FrameOfLocation
-location_fault (Some by.Target) = None
+location_fault _ = None
 
 -- a start by the methods that it uses: the smallest of its faults
 abbrev pub start_fault : Tables → Option FrameMethod → Option TargetMethod → Option CheckFault
@@ -174,25 +160,15 @@ start_fault tables frame target = frame_fault tables frame ⊓ target_fault tabl
 -- ---- the items of a record, in order, each with the smallest fault that stands there: the name and each component of
 -- GRPDEF, each subrecord of FIXUPP, and any other record as a whole
 
--- the contents of the last data record
-abbrev pub last_contents : List Placed → Option (List (ℕ × ℕ))
-last_contents records = option_map (λ (data' : Stretch). data'.contents) (last (stretches records))
-
 -- a subrecord, with those before it in all FIXUPP records: only a fix-up can be at fault
 abbrev pub subrecord_item : Tables → Option (List (ℕ × ℕ)) → List Subrecord → Subrecord → Option CheckFault
-subrecord_item tables contents before (sub.SetFrame _ method) = None
-subrecord_item tables contents before (sub.SetTarget _ method) = None
 subrecord_item tables contents before (sub.Fixup fixup) =
     fixup_fault tables (frame_used (frame_thread before) fixup.reference.frame)
     (target_used (target_thread before) fixup.reference.target) contents fixup
+subrecord_item tables contents before _ = None
 
 -- the items of a record after these
 abbrev pub items : List Placed → Record → List (Option CheckFault)
-items before (Theadr name) = []
-items before (Coment kind class bytes) = []
-items before (Extdef local listed) = []
-items before (Linnum group segment lines) = []
-items before (Lnames listed) = []
 items before (Segdef definition) = segment_fault (tables before) definition ∷ []
 items before (Grpdef name components) = group_items (tables before) name components
 items before (Pubdef local base listed) = public_fault (tables before) base ∷ []
@@ -200,13 +176,12 @@ items before (Ledata segment offset bytes) = data_fault (entry (segments before)
 items before (Lidata segment offset blocks) =
     data_fault (entry (segments before) segment) offset (length (expansion blocks)) ∷ []
 items before (Fixupp subs) =
-    along
-    (λ earlier subrecord. subrecord_item (tables before) (last_contents before) (subrecords before ++ earlier) subrecord
-    ∷ []) subs
-items before (Modend main None) = []
+    let contents = option_map (λ (data' : Stretch). data'.contents) (last (stretches before)) in
+    along (λ earlier s. subrecord_item (tables before) contents (subrecords before ++ earlier) s ∷ []) subs
 items before (Modend main (Some reference)) =
     start_fault (tables before) (frame_used (frame_thread (subrecords before)) reference.frame)
     (target_used (target_thread (subrecords before)) reference.target) ∷ []
+items before _ = []
 
 -- some record has been read
 abbrev pub begun : List Placed → Bool

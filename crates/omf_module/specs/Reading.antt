@@ -1,9 +1,9 @@
 -- What reading a module answers, and where the source then stands.
-use Rattle.std.specs.Prelude.{◌≡◌, ℕ, List, length, Some, Ok, Err, IfSome}
+use Rattle.std.specs.Prelude.{◌≡◌, ℕ, List, length, Some, Ok, Err, IfSome, ◌⊎◌}
 use Rattle.std.specs.declared.option.Option.{Option}
 use Rattle.std.specs.declared.result.Result.{Result}
 use Rattle.std.specs.Io.KnownBytes.{Consumes, Keeps}
-use Rattle.omf_frame.specs.Reading.{TakesWhole, TakesNoneOrWhole, TakesPart}
+use Rattle.omf_frame.specs.Reading.{TakesWhole, TakesPart}
 use Rattle.omf_record.specs.Records.{Placed}
 use Rattle.omf_module.specs.declared.fault.FaultKind.{FaultKind}
 use Rattle.omf_module.specs.declared.fault.FaultKind.TheVariants as kind
@@ -14,67 +14,34 @@ use Rattle.omf_module.specs.Tables.{module_of}
 use Rattle.omf_module.specs.Bytes.{Beginning, ModuleBytes, ReadingFault}
 
 -- how many calls of the source failed
-abbrev pub device_failures : FaultKind → ℕ
-device_failures kind.Device = 1
-device_failures kind.ZeroLength = 0
-device_failures kind.Truncated = 0
-device_failures kind.Closing = 0
-device_failures kind.Type = 0
-device_failures (kind.Body at) = 0
-device_failures (kind.Check fault) = 0
-device_failures kind.NoEnd = 0
-device_failures kind.InputTooLong = 0
-
--- the same of an answer
 abbrev pub failures_in : {A : Type 0} → Result A ModuleFault → ℕ
-failures_in (Ok answer) = 0
-failures_in (Err fault.Memory) = 0
-failures_in (Err (fault.Record place kind)) = device_failures kind
+failures_in (Err (fault.Record place kind.Device)) = 1
+failures_in _ = 0
 
 -- What is taken of the record at fault: the whole of it, all that is left of one that is cut off, of one of length 0
--- its
--- three bytes; at the limit nothing, and where the source failed not all of it.
+-- its three bytes; at the limit nothing, and where the source failed not all of it.
 abbrev pub TakesFaulty : Option (List ℕ) → Option (List ℕ) → FaultKind → Type 0
 TakesFaulty old new kind.Device = TakesPart old new
-TakesFaulty old new kind.ZeroLength = TakesWhole old new
-TakesFaulty old new kind.Truncated = TakesWhole old new
-TakesFaulty old new kind.Closing = TakesWhole old new
-TakesFaulty old new kind.Type = TakesWhole old new
-TakesFaulty old new (kind.Body at) = TakesWhole old new
-TakesFaulty old new (kind.Check fault) = TakesWhole old new
-TakesFaulty old new kind.NoEnd = TakesWhole old new
 TakesFaulty old new kind.InputTooLong = Keeps old new
+TakesFaulty old new _ = TakesWhole old new
 
 -- a fault other than the source's own is the reading fault of the bytes
 abbrev pub IsFaultOf : List ℕ → ℕ → FaultKind → Type 0
 IsFaultOf bytes place kind.Device = Unit {0}
-IsFaultOf bytes place kind.ZeroLength = ReadingFault bytes place kind.ZeroLength
-IsFaultOf bytes place kind.Truncated = ReadingFault bytes place kind.Truncated
-IsFaultOf bytes place kind.Closing = ReadingFault bytes place kind.Closing
-IsFaultOf bytes place kind.Type = ReadingFault bytes place kind.Type
-IsFaultOf bytes place (kind.Body at) = ReadingFault bytes place (kind.Body at)
-IsFaultOf bytes place (kind.Check fault) = ReadingFault bytes place (kind.Check fault)
-IsFaultOf bytes place kind.NoEnd = ReadingFault bytes place kind.NoEnd
-IsFaultOf bytes place kind.InputTooLong = ReadingFault bytes place kind.InputTooLong
-
--- records that are the sound beginning of a module were taken
-pub record Took (rs : List Placed) (front : List ℕ) (old new : Option (List ℕ)) : Type 0 where
-  pub beginning : Beginning rs front
-  pub taken : Consumes old new front
+IsFaultOf bytes place found = ReadingFault bytes place found
 
 -- What is told of the source before and after, and the answer: the module of the records of a whole sound module,
--- having
--- taken exactly its bytes; else a fault of the record behind those that were taken.
+-- having taken exactly its bytes; else a fault of the record behind those that were taken.
 unfoldable pub Reads : {A : Type 0} → (A → Module) → Option (List ℕ) → Option (List ℕ) → Result A ModuleFault → Type 0
 Reads view old new (Ok module') =
     (rs : List Placed) × (front : List ℕ) × ModuleBytes rs front × Consumes old new front
     × (view module' ≡ module_of rs)
 Reads view old new (Err fault.Memory) =
-    (rs : List Placed) × (front : List ℕ) × (mid : Option (List ℕ)) × Took rs front old mid × TakesNoneOrWhole mid new
+    (rs : List Placed) × (front : List ℕ) × (mid : Option (List ℕ)) × Beginning rs front × Consumes old mid front
+    × (Keeps mid new ⊎ TakesWhole mid new)
 Reads view old new (Err (fault.Record place kind)) =
-    (rs : List Placed) × (front : List ℕ) × (mid : Option (List ℕ)) × Took rs front old mid × (place ≡ length front)
-    × TakesFaulty mid new kind
-    × IfSome old (λ bytes. IsFaultOf bytes place kind)
+    (rs : List Placed) × (front : List ℕ) × (mid : Option (List ℕ)) × Beginning rs front × Consumes old mid front
+    × (place ≡ length front) × TakesFaulty mid new kind × IfSome old (λ bytes. IsFaultOf bytes place kind)
 
 -- The answer is this module, and these bytes are left, unless memory or the source failed.
 abbrev pub IsModule : {A : Type 0} → (A → Module) → Module → (rest : List ℕ) → (new : Option (List ℕ))

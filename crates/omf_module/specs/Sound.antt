@@ -63,8 +63,7 @@ module _ (segments : List Segment) (groups : List Group) (externals : List Exter
   IsMember index = (segment : Segment) × IsPart index segment
 
   -- From each hit of a fix-up on, the bytes of its location were stored one after the other, and each byte that was
-  -- stored
-  -- at one of the places of its location stands in such a run of them; a base isn't relative to itself.
+  -- stored at one of the places of its location stands in such a run of them; a base isn't relative to itself.
   pub record FixupFits (data' : DataRecord) (fixup : ResolvedFixup) : Type 0 where
     pub frame : FrameMeans fixup.frame
     pub target : TargetMeans fixup.target

@@ -3,9 +3,9 @@ use Rattle.std.specs.Prelude.{ℕ, Bool, zero, suc, ◌-◌, if◌then◌else◌
 use Rattle.std.specs.Prelude.{None, Some, unwrap_or}
 use Rattle.std.specs.Option.{option_to_list}
 use Rattle.std.specs.List.{flat_map, filter_map, enumerate_from}
-use Rattle.omf_record.specs.Record.{Record, Public, External as ExternalName, Modend, Extdef, Pubdef, Lnames, Segdef}
+use Rattle.omf_record.specs.Record.{Record, Modend, Extdef, Pubdef, Lnames, Segdef}
 use Rattle.omf_record.specs.Record.{Grpdef, Fixupp, Ledata, Lidata}
-use Rattle.omf_record.specs.Expansion.{stored_from, expansion, contents}
+use Rattle.omf_record.specs.Expansion.{expansion, contents}
 use Rattle.omf_record.specs.Numbers.{thread_number, segment_len}
 use Rattle.omf_record.specs.Records.{Placed}
 use Rattle.omf_record.specs.declared.segments.SegmentDefinition.{SegmentDefinition}
@@ -62,11 +62,9 @@ name_at names index = unwrap_or (entry names index) []
 -- how the parts of a segment combine
 abbrev pub kind_of : Combination → Kind
 kind_of combine.Private = kinds.Private
-kind_of combine.Public2 = kinds.Public
-kind_of combine.Public4 = kinds.Public
 kind_of combine.Stack = kinds.Stack
 kind_of combine.Common = kinds.Common
-kind_of combine.Public7 = kinds.Public
+kind_of _ = kinds.Public
 
 -- where a segment stands
 abbrev pub standing_of : Alignment → Combination → Standing
@@ -77,18 +75,15 @@ standing_of align.Paragraph combination = Relocatable 16 (kind_of combination)
 standing_of align.Page combination = Relocatable 256 (kind_of combination)
 standing_of align.DoubleWord combination = Relocatable 4 (kind_of combination)
 
--- a segment by its definition, with the names before it
-abbrev pub segment_of : List (List ℕ) → SegmentDefinition → Segment
-segment_of names definition = record {
-  name = name_at names definition.name;
-  class = name_at names definition.class;
-  length = segment_len definition.length;
-  standing = standing_of definition.alignment definition.combination;
-}
-
--- the segment that a record defines
+-- the segment that a record defines, with the names before it
 abbrev pub segments_in : List (List ℕ) → Record → List Segment
-segments_in names (Segdef definition) = segment_of names definition ∷ []
+segments_in names (Segdef definition) =
+    record {
+      name = name_at names definition.name;
+      class = name_at names definition.class;
+      length = segment_len definition.length;
+      standing = standing_of definition.alignment definition.combination;
+    } ∷ []
 segments_in names _ = []
 
 -- the segments that these records define, each with the names before it
@@ -97,13 +92,10 @@ segments records = along (λ before (placed : Placed). segments_in (names before
 
 -- ---- 9AH GRPDEF: Group Definition Record
 
--- a part of a group by its definition, with the names before it; its members count from 0
-abbrev pub group_of : List (List ℕ) → ℕ → List ℕ → Group
-group_of names name components = record { name = name_at names name; members = map (λ index. index - 1) components }
-
--- the part of a group that a record defines
+-- the part of a group that a record defines, with the names before it; its members count from 0
 abbrev pub groups_in : List (List ℕ) → Record → List Group
-groups_in names (Grpdef name components) = group_of names name components ∷ []
+groups_in names (Grpdef name components) =
+    record { name = name_at names name; members = map (λ index. index - 1) components } ∷ []
 groups_in names _ = []
 
 -- the parts of groups that these records define, each with the names before it
@@ -113,13 +105,9 @@ groups records = along (λ before (placed : Placed). groups_in (names before) pl
 -- ---- 8CH EXTDEF and B4H LEXTDEF: (Local) External Names Definition Record; 90H PUBDEF and B6H LPUBDEF: (Local) Public
 -- Names Definition Record
 
--- an external by its name
-abbrev pub external_of : Bool → ExternalName → ExternalSymbol
-external_of local external = record { name = external.name; local = local }
-
 -- the externals that a record lists
 abbrev pub externals_in : Record → List ExternalSymbol
-externals_in (Extdef local listed) = map (external_of local) listed
+externals_in (Extdef local listed) = map (λ external. record { name = external.name; local = local }) listed
 externals_in _ = []
 
 -- the externals that these records list
@@ -136,14 +124,10 @@ abbrev pub base_of : PublicBase → SymbolBase
 base_of (public_base.AtFrame group frame) = AtFrame frame
 base_of (public_base.InSegment group segment) = InSegment (segment - 1) (group_at group)
 
--- a public symbol by its definition
-abbrev pub public_of : Bool → PublicBase → Public → PublicSymbol
-public_of local base public_symbol =
-    record { name = public_symbol.name; base = base_of base; offset = public_symbol.offset; local = local }
-
 -- the public symbols that a record defines
 abbrev pub publics_in : Record → List PublicSymbol
-publics_in (Pubdef local base listed) = map (public_of local base) listed
+publics_in (Pubdef local base listed) =
+    map (λ p. record { name = p.name; base = base_of base; offset = p.offset; local = local }) listed
 publics_in _ = []
 
 -- the public symbols that these records define
@@ -161,24 +145,17 @@ pub record Stretch : Type 0 where
   pub pairs : List (ℕ × ℕ)
   pub contents : List (ℕ × ℕ)
 
+-- data by what a record says, whose segment counts from 1
+abbrev pub stretch : (place segment offset : ℕ) → (pairs contents : List (ℕ × ℕ)) → Stretch
+stretch place segment offset pairs contents =
+    record { place = place; segment = segment - 1; offset = offset; pairs = pairs; contents = contents }
+
 -- the data that a record at this place gives
 abbrev pub stretches_in : ℕ → Record → List Stretch
 stretches_in place (Ledata segment offset bytes) =
-    record {
-      place = place;
-      segment = segment - 1;
-      offset = offset;
-      pairs = stored_from 0 bytes;
-      contents = (0, length bytes) ∷ [];
-    } ∷ []
+    stretch place segment offset (enumerate_from 0 bytes) ((0, length bytes) ∷ []) ∷ []
 stretches_in place (Lidata segment offset blocks) =
-    record {
-      place = place;
-      segment = segment - 1;
-      offset = offset;
-      pairs = expansion blocks;
-      contents = contents blocks;
-    } ∷ []
+    stretch place segment offset (expansion blocks) (contents blocks) ∷ []
 stretches_in place _ = []
 
 -- the data of these records
@@ -199,14 +176,12 @@ subrecords records = flat_map (λ (placed : Placed). subrecords_in placed.says) 
 -- what a subrecord sets the frame thread of this number to
 abbrev pub frame_set : ℕ → Subrecord → Option FrameMethod
 frame_set number (sub.SetFrame thread method) = if thread_number thread == number then Some method else None
-frame_set number (sub.SetTarget _ method) = None
-frame_set number (sub.Fixup fixup) = None
+frame_set number _ = None
 
 -- what a subrecord sets the target thread of this number to
 abbrev pub target_set : ℕ → Subrecord → Option TargetMethod
-target_set number (sub.SetFrame _ method) = None
 target_set number (sub.SetTarget thread method) = if thread_number thread == number then Some method else None
-target_set number (sub.Fixup fixup) = None
+target_set number _ = None
 
 -- the thread in force after these subrecords: the last one of that kind and number
 abbrev pub frame_thread : List Subrecord → ℕ → Option FrameMethod
@@ -253,16 +228,14 @@ fixup_of place fixup (Some frame) (Some target) = Some (record {
   target = target_of target;
   displacement = unwrap_or fixup.reference.displacement 0;
 })
-fixup_of place fixup (Some frame) None = None
-fixup_of place fixup None target = None
+fixup_of place fixup _ _ = None
 
 -- the fix-up of a subrecord, with the subrecords before it
 abbrev pub fixup_in : ℕ → List Subrecord → Subrecord → Option ResolvedFixup
 fixup_in place before (sub.Fixup fixup) =
     fixup_of place fixup (frame_used (frame_thread before) fixup.reference.frame)
     (target_used (target_thread before) fixup.reference.target)
-fixup_in place before (sub.SetFrame _ method) = None
-fixup_in place before (sub.SetTarget _ method) = None
+fixup_in place before _ = None
 
 -- the fix-ups of a record, with the subrecords before it
 abbrev pub fixups_in : List Subrecord → Placed → List ResolvedFixup
@@ -273,8 +246,7 @@ fixups_in before placed =
 -- all fix-ups, each with how many data records stand before it: the last of these is the one that it is on
 abbrev pub fixups : List Placed → List (ℕ × ResolvedFixup)
 fixups records =
-    along
-    (λ before placed. map (λ fixup. (length (stretches before), fixup)) (fixups_in (subrecords before) placed)) records
+    along (λ before placed. map (λ x. (length (stretches before), x)) (fixups_in (subrecords before) placed)) records
 
 -- those that are on the data record of this number, which counts from 1
 abbrev pub fixups_on : ℕ → List (ℕ × ResolvedFixup) → List ResolvedFixup
@@ -283,14 +255,9 @@ fixups_on number fixups =
 
 -- a data record: data with its number, and the fix-ups on it
 abbrev pub data_record : List (ℕ × ResolvedFixup) → ℕ × Stretch → DataRecord
-data_record fixups data' =
-    record {
-      place = data'.1.place;
-      segment = data'.1.segment;
-      offset = data'.1.offset;
-      pairs = data'.1.pairs;
-      fixups = fixups_on data'.0 fixups;
-    }
+data_record fixups d =
+    let s = d.1 in
+    record { place = s.place; segment = s.segment; offset = s.offset; pairs = s.pairs; fixups = fixups_on d.0 fixups }
 
 -- the data records of these records
 abbrev pub data_records : List Placed → List DataRecord
@@ -298,14 +265,9 @@ data_records records = map (data_record (fixups records)) (enumerate_from 1 (str
 
 -- a start by the methods that it uses; there is none where a thread isn't set
 abbrev pub start_of : ℕ → Reference → Option FrameMethod → Option TargetMethod → Option Start
-start_of place reference (Some frame) (Some target) = Some (record {
-  place = place;
-  frame = frame_of frame;
-  target = target_of target;
-  displacement = unwrap_or reference.displacement 0;
-})
-start_of place reference (Some frame) None = None
-start_of place reference None target = None
+start_of place r (Some f) (Some t) =
+    Some (record { place = place; frame = frame_of f; target = target_of t; displacement = unwrap_or r.displacement 0 })
+start_of place reference _ _ = None
 
 -- the start of a MODEND record, with the subrecords before it
 abbrev pub start_in : List Subrecord → ℕ → Record → Option Start
@@ -317,8 +279,7 @@ start_in before place _ = None
 -- the last start of these records
 abbrev pub start : List Placed → Option Start
 start records =
-    last
-    (along (λ before (placed : Placed). option_to_list (start_in (subrecords before) placed.place placed.says)) records)
+    last (along (λ before (p : Placed). option_to_list (start_in (subrecords before) p.place p.says)) records)
 
 -- what these records say as a module
 abbrev pub module_of : List Placed → Module

@@ -1,4 +1,6 @@
 -- How the code sees what it works on: no public contract cites any of it.
+pub mod Entries
+pub mod Behind
 pub mod Running
 pub mod Store
 pub mod Contents

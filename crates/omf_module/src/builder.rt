@@ -26,6 +26,7 @@ ghost use Rattle.omf_record.specs.Expansion.{expansion, blocks_len, data_len};
 ghost use Rattle.omf_record.specs.declared.fixups.Subrecord.TheVariants as sub;
 ghost use Rattle.omf_module.specs.Before.{first, entry};
 ghost use Rattle.omf_module.specs.Tables as tables;
+ghost use Rattle.omf_module.specs.inside.Entries as defined;
 ghost use Rattle.omf_module.specs.Faults as faults;
 ghost use Rattle.omf_module.specs.inside.Running as running;
 ghost use Rattle.omf_module.specs.Sound.{IsSound};
@@ -115,7 +116,7 @@ fn add_externals<A: Allocator + Copy>(
         (store.new
         ≡ record store.old {
           externals = store.old.externals
-              ++ map (tables.external_of local) (map external_view names.now);
+              ++ map (defined.external_of local) (map external_view names.now);
         }) }
 {
     for external in names {
@@ -135,7 +136,7 @@ fn add_publics<A: Allocator + Copy>(
         (store.new
         ≡ record store.old {
           publics = store.old.publics
-              ++ map (tables.public_of local base) (map public_view publics.now);
+              ++ map (defined.public_of local base) (map public_view publics.now);
         }) }
 {
     let base = base_of(base);

@@ -3,7 +3,7 @@ ghost use Rattle.std.specs.Prelude.{◌≡◌, ◌+◌, ◌++◌, ◌<◌, ◌�
 ghost use Rattle.omf_record.specs.Record.{blocks_of};
 ghost use Rattle.omf_record.specs.View.{block_view};
 ghost use Rattle.omf_record.specs.Expansion.{all_stored_len, all_contents_at, blocks_len, contents};
-ghost use Rattle.omf_module.specs.Faults as faults;
+ghost use Rattle.omf_module.specs.inside.Contents as spans;
 ghost use Rattle.omf_module.specs.inside.Contents.{pair};
 
 use omf_record::Block;
@@ -18,14 +18,14 @@ pub struct Content {
 
 /// Whether so many stored places from one on lie wholly in a content.
 fn lies_within(content: Content, at: usize, width: usize) -> bool
-    ensures { result ≡ faults.lies_within at width (pair content) }
+    ensures { result ≡ spans.lies_within at width (pair content) }
 {
     content.place <= at && width <= content.len && at - content.place <= content.len - width
 }
 
 /// Whether so many stored places from one on lie wholly in one of the contents.
 pub fn lies_in(contents: &[Content], at: usize, width: usize) -> bool
-    ensures { result ≡ faults.lies_in (map pair contents.now) at width }
+    ensures { result ≡ spans.lies_in (map pair contents.now) at width }
 {
     for content in contents {
         if lies_within(*content, at, width) {

@@ -2,6 +2,7 @@
 ghost use Rattle.std.specs.Prelude.{◌≡◌, ◌-◌, ℕ, ◌∷◌, [], List, length, map, slice_get, OnOk, IfOk};
 ghost use Rattle.std.specs.List.{AllByRecursion};
 ghost use Rattle.omf_module.specs.Tables as tables;
+ghost use Rattle.omf_module.specs.inside.Entries as defined;
 ghost use Rattle.omf_module.specs.inside.Store as stored;
 ghost use Rattle.omf_module.specs.inside.Store.{elements};
 ghost use Rattle.omf_module.specs.inside.Running.{add_to_last};
@@ -105,7 +106,7 @@ fn standing_of(alignment: Alignment, combination: Combination) -> Standing
 /// The entry of a segment, with the names so far.
 pub fn segment_entry(names: &[Piece], definition: &SegmentDefinition) -> SegmentEntry
     ensures says { (bytes : List ℕ) → stored.segment bytes result
-        ≡ tables.segment_of (map (elements bytes) names.now) definition.now }
+        ≡ defined.segment_of (map (elements bytes) names.now) definition.now }
     ensures inside { (bytes : List ℕ) → AllByRecursion (stored.IsIn bytes) names.now
         → stored.SegmentIsIn bytes result }
 {
@@ -125,7 +126,7 @@ pub fn group_entry<A: Allocator + Copy>(
     components: &[u16],
 ) -> Result<GroupEntry<A>, AllocError>
     ensures says { IfOk result (λ group. (bytes : List ℕ) → stored.group bytes group
-        ≡ tables.group_of (map (elements bytes) names.now) name components.now) }
+        ≡ defined.group_of (map (elements bytes) names.now) name components.now) }
     ensures inside { IfOk result (λ group. (bytes : List ℕ) → AllByRecursion (stored.IsIn bytes) names.now
         → stored.GroupIsIn bytes group) }
 {

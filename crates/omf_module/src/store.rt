@@ -19,10 +19,11 @@ ghost use Rattle.std.specs.Prelude.{
   nat_lt,
 };
 ghost use Rattle.omf_record.specs.View.{block_view};
-ghost use Rattle.omf_record.specs.Expansion.{stored_from, capped, expansion, blocks_len};
+ghost use Rattle.omf_record.specs.Expansion.{capped, expansion, blocks_len};
+ghost use Rattle.omf_record.specs.inside.Fields.{stored_from};
 ghost use Rattle.omf_record.specs.Numbers.{segment_len};
 ghost use Rattle.omf_module.specs.Before.{first, entry};
-ghost use Rattle.omf_module.specs.Tables as tables;
+ghost use Rattle.omf_module.specs.inside.Entries as defined;
 ghost use Rattle.omf_module.specs.Faults as faults;
 ghost use Rattle.omf_module.specs.Seen.{segment_seen, group_seen, external_seen, public_seen, data_seen};
 ghost use Rattle.omf_module.specs.inside.Running.{add_to_last};
@@ -233,7 +234,7 @@ impl<A: Allocator + Copy> Store<A> {
         ensures { OnOk result
             (self.new
             ≡ record self.old {
-              segments = self.old.segments ++ tables.segment_of self.old.names definition.now
+              segments = self.old.segments ++ defined.segment_of self.old.names definition.now
                   ∷ [];
             }) }
     {
@@ -246,7 +247,7 @@ impl<A: Allocator + Copy> Store<A> {
     pub fn push_group(&mut self, alloc: A, name: u16, components: &[u16]) -> Result<(), AllocError>
         ensures { OnOk result
             (self.new
-            ≡ record self.old { groups = self.old.groups ++ tables.group_of self.old.names name components.now ∷ [] }) }
+            ≡ record self.old { groups = self.old.groups ++ defined.group_of self.old.names name components.now ∷ [] }) }
     {
         let group = group_entry(alloc, &self.names, name, components)?;
         self.groups.push(group)?;

@@ -10,7 +10,7 @@ use Rattle.omf_module.specs.declared.Standing.TheVariants.{Absolute, Relocatable
 use Rattle.omf_module.specs.declared.lookups.Segment as held_segment
 use Rattle.omf_module.specs.Module.{Segment}
 use Rattle.omf_module.specs.Seen.{segment_seen}
-use Rattle.omf_place.specs.Parts.{joins}
+use Rattle.omf_place.specs.inside.Placing.{joins}
 use denote.Enum.Bare.{sameb}
 use Rattle.omf_order.specs.contracts.openings.Joining.{the_type}
 use Rattle.omf_order.specs.declared.openings.Joining.{Joining}
@@ -48,7 +48,10 @@ standings_join (Relocatable a Common) (Absolute f o) e = refl
 
 none_join : (s t : Standing) → is_private (kind_of s) ≡ true → joins s t ≡ false
 none_join (Absolute f o) t e = refl
-none_join (Relocatable a j) (Absolute f o) e = refl
+none_join (Relocatable a Private) (Absolute f o) e = refl
+none_join (Relocatable a Public) (Absolute f o) e = cc
+none_join (Relocatable a Stack) (Absolute f o) e = cc
+none_join (Relocatable a Common) (Absolute f o) e = cc
 none_join (Relocatable a Private) (Relocatable b k) e = refl
 none_join (Relocatable a Public) (Relocatable b k) e = cc
 none_join (Relocatable a Stack) (Relocatable b k) e = cc

@@ -7,7 +7,7 @@ use Rattle.std.specs.Option.{option_map_or}
 use Rattle.omf_module.specs.Module.{Module, Segment}
 use Rattle.omf_module.specs.Sound.{IsSound, SegmentFits}
 use Rattle.omf_place.specs.declared.names.Names.{Names}
-use Rattle.omf_place.specs.Parts.{is_relocatable}
+use Rattle.omf_place.specs.inside.Placing.{is_relocatable}
 use Rattle.omf_order.specs.declared.order.Order.{Order}
 use Rattle.omf_order.specs.declared.order.Order.TheVariants.{Meeting, Dosseg, Listed}
 use Rattle.omf_order.specs.Segments.{placed, placed_in, grouped}

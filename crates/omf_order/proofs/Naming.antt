@@ -4,7 +4,7 @@ use Rattle.std.specs.Prelude.{codes}
 use Rattle.std.specs.List.{AllByRecursion, enumerate_from, range_with_len}
 use Rattle.omf_module.specs.Module.{Module, Segment}
 use Rattle.omf_module.specs.Sound.{IsSound, SegmentFits}
-use Rattle.omf_place.specs.Parts.{is_relocatable}
+use Rattle.omf_place.specs.inside.Placing.{is_relocatable}
 use Rattle.omf_order.specs.declared.order.Order.{Order}
 use Rattle.omf_order.specs.declared.order.Order.TheVariants.{Meeting, Dosseg, Listed}
 use Rattle.omf_order.specs.Segments.{placed, placed_in, grouped}

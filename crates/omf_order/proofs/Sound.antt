@@ -18,7 +18,8 @@ use Rattle.omf_module.specs.Before.{along_from, entry, first}
 use Rattle.omf_module.specs.Bytes.{ModuleBytes}
 use Rattle.omf_module.specs.Faults.{begun, component_fault, fault, header_fault, is_absolute, is_beyond, items, when, ◌⊓◌}
 use Rattle.omf_module.specs.Module.{Segment}
-use Rattle.omf_module.specs.Tables.{groups, groups_in, names, names_in, segments, segments_in, segment_of, standing_of}
+use Rattle.omf_module.specs.Tables.{groups, groups_in, names, names_in, segments, segments_in, standing_of}
+use Rattle.omf_module.specs.inside.Entries.{segment_of}
 use Rattle.omf_module.proofs.Lists.{along_push, flat_map_push}
 use Rattle.omf_module.proofs.Growing.{begun_push}
 use Rattle.omf_order.specs.Parts.{Part}

@@ -1,13 +1,14 @@
 -- The segments of a program that are placed, which of them combine, and which are in the group DGROUP.
-use Rattle.std.specs.Prelude.{ℕ, Bool, ◌&&◌, List, [], filter, if◌then◌else◌, slice_get, codes}
+use Rattle.std.specs.Prelude.{ℕ, Bool, not, ◌&&◌, List, [], filter, if◌then◌else◌, slice_get, codes}
 use Rattle.std.specs.List.{filter_map, flat_map}
 use Rattle.std.specs.Str.{bytes_eq}
+use Rattle.omf_module.specs.Faults.{is_absolute}
 use Rattle.omf_module.specs.Module.{Module, Segment, Group}
-use Rattle.omf_place.specs.Parts.{is_relocatable, joins}
+use Rattle.omf_place.specs.Parts.{kind_in, are_joined}
 
 -- those of a module that aren't absolute
 abbrev pub placed_in : Module → List Segment
-placed_in module' = filter (λ s. is_relocatable s.standing) module'.segments
+placed_in module' = filter (λ s. not (is_absolute s.standing)) module'.segments
 
 -- those of a program, in order of modules and of definition
 abbrev pub placed : List Module → List Segment
@@ -36,4 +37,4 @@ same_class a b = bytes_eq a.class b.class
 
 -- two segments are parts of one combined segment: name, class and kind agree, and the kind isn't private
 abbrev pub combine : Segment → Segment → Bool
-combine a b = joins a.standing b.standing && (bytes_eq a.name b.name && same_class a b)
+combine a b = are_joined (kind_in a.standing) (kind_in b.standing) && (bytes_eq a.name b.name && same_class a b)

@@ -4,7 +4,7 @@ ghost use Rattle.std.specs.Prelude.{◌≡◌, ◌++◌, ◌<◌, IfOk, OnOk, le
 ghost use Rattle.std.specs.List.{AllByRecursion, filter_map};
 ghost use Rattle.std.specs.Str.{bytes_eq};
 ghost use Rattle.omf_module.specs.Seen.{group_seen};
-ghost use Rattle.omf_place.specs.Parts.{is_relocatable};
+ghost use Rattle.omf_place.specs.inside.Placing.{is_relocatable};
 ghost use Rattle.omf_order.specs.Segments.{dgroup, placed, placed_in, grouped, grouped_in, members};
 ghost use Rattle.omf_order.specs.inside.Held.{segments_view};
 

@@ -14,8 +14,10 @@ use Rattle.omf_place.specs.declared.scopes.Entry as held
 use Rattle.omf_place.specs.Faults.{DuplicatePublic, duplicate_in}
 use Rattle.omf_place.specs.inside.HeldNames.{HoldsAll, IsOwner, Scopes, entry_view, scopes_of, table_of, with_entry}
 use Rattle.omf_place.specs.Named.{value_where}
-use Rattle.omf_place.specs.Names.{Table, agrees, empty, means, spelled}
-use Rattle.omf_place.specs.Scopes.{Entry, clashes, local_tables, owned_by, repeats, same_owner, table}
+use Rattle.omf_place.specs.Names.{Table, agrees, means, spelled}
+use Rattle.omf_place.specs.inside.Steps.{empty}
+use Rattle.omf_place.specs.Scopes.{Entry, clashes, local_tables, table}
+use Rattle.omf_place.specs.inside.Steps.{owned_by, repeats, same_owner}
 use Rattle.omf_place.proofs.Finds.{find-here, find-more}
 use Rattle.omf_place.proofs.GreatestAt.{All-at}
 use Rattle.omf_place.proofs.InputLists.{map_take}

@@ -4,10 +4,12 @@ use Rattle.std.proofs.lemmas.Bool.{ltb-true}
 use Rattle.std.specs.Option.{option_or}
 use Rattle.omf_module.specs.Module.{Module}
 use Rattle.omf_place.specs.declared.names.Names.{Names}
-use Rattle.omf_place.specs.Faults.{PlacementFault, IsFirstFault, IsOnlyLayout, later_fault, placement_fault, segment_fault, size_fault, ProgramTooLarge}
+use Rattle.omf_place.specs.Faults.{PlacementFault, IsFirstFault, IsOnlyLayout, placement_fault, segment_fault, ProgramTooLarge}
+use Rattle.omf_place.specs.inside.Steps.{later_fault, size_fault}
 use Rattle.omf_place.specs.Layout.{Layout, layout_at}
 use Rattle.omf_place.specs.Parts.{sites}
-use Rattle.omf_place.specs.Placed.{IsPlaced, IsOnlyPlacement}
+use Rattle.omf_place.specs.Placed.{IsPlaced}
+use Rattle.omf_place.specs.inside.Placing.{IsOnlyPlacement}
 
 or_first : {X : Type 0} (a b c : Option X) (f : X) → option_or a b ≡ Some f → option_or a (option_or b c) ≡ Some f
 or_first None b c f e = ap (λ o. option_or o c) e

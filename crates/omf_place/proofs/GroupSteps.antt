@@ -16,7 +16,8 @@ use Rattle.omf_place.specs.declared.groups.Grpdef as held
 use Rattle.omf_place.specs.declared.groups.Reach.{Reach}
 use Rattle.omf_place.specs.inside.Groups.{GroupReach, entry_in, entry_with, grpdef_view, join, reach_of_span, reached}
 use Rattle.omf_place.specs.Parts.{Site, sites}
-use Rattle.omf_place.specs.Tables.{Grpdef, group_frame, group_span, grpdefs, placed_group, span}
+use Rattle.omf_place.specs.Tables.{Grpdef, group_frame, group_span, grpdefs, span}
+use Rattle.omf_place.specs.inside.Steps.{placed_group}
 use Rattle.omf_place.proofs.LinkGroups.{join_reaches, span-append}
 
 abbrev same : List ℕ → Grpdef → Bool

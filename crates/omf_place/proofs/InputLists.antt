@@ -1,8 +1,9 @@
 -- The modules with their sites, one after the other.
 use Rattle.std.proofs.Common.{◌≡◌, ℕ, zero, suc, ◌+◌, ◌≤◌, List, [], ◌∷◌, ◌++◌, map, length, take, drop, Some, slice_get, refl, ap, sym, ◌∙◌, arith, add-one, append_assoc, length-append}
 use Rattle.omf_module.specs.Module.{Module}
-use Rattle.omf_place.specs.Parts.{Site, module_sites, sites_from, sites}
-use Rattle.omf_place.specs.Inputs.{inputs_from}
+use Rattle.omf_place.specs.Parts.{Site, module_sites, sites}
+use Rattle.omf_place.specs.inside.Placing.{sites_from}
+use Rattle.omf_place.specs.Parts.{inputs_from}
 use Rattle.omf_place.proofs.SiteLists.{length-module_sites, sites_from-more}
 
 inputs_from-suc : (p i k : ℕ) (ms : List Module) (m : Module) (q j : ℕ) → slice_get ms k ≡ Some m → q ≡ p + length (sites_from p i (take k ms)) → j ≡ i + k →

@@ -4,7 +4,7 @@ use Rattle.std.proofs.lemmas.List.{length-map}
 use Rattle.omf_module.specs.Module.{Module}
 use Rattle.omf_place.specs.declared.sites.Site as stored
 use Rattle.omf_place.specs.declared.stands.Stand.{Stand}
-use Rattle.omf_place.specs.Inputs.{Input, inputs_from}
+use Rattle.omf_place.specs.Parts.{Input, inputs_from}
 use Rattle.omf_place.specs.inside.Program.{addresses_of, AreStands}
 use Rattle.omf_place.specs.Parts.{module_sites, sites}
 use Rattle.omf_place.specs.inside.Sites.{site, sites_view}

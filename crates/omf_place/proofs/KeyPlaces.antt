@@ -10,7 +10,8 @@ use Rattle.omf_module.specs.declared.Standing.{Standing}
 use Rattle.omf_module.specs.declared.Standing.TheVariants.{Absolute, Relocatable}
 use Rattle.omf_place.specs.declared.order.Joining.{Joining}
 use Rattle.omf_place.specs.declared.order.Joining.TheVariants as joining
-use Rattle.omf_place.specs.Parts.{Site, combines, joins, joins_kind, same_class, rank, is_part}
+use Rattle.omf_place.specs.Parts.{Site, combines, same_class, rank, is_part}
+use Rattle.omf_place.specs.inside.Placing.{joins, joins_kind}
 use Rattle.std.specs.Borrow.{Bor}
 use denote.Enum.Bare.{sameb}
 use Rattle.omf_place.specs.contracts.order.Joining.{the_type}

@@ -1,17 +1,18 @@
 -- The first part of a combined segment is the first of its own.
-use Rattle.std.proofs.Common.{◌≡◌, ℕ, zero, suc, ◌+◌, ◌<◌, Bool, true, false, ◌&&◌, ◌||◌, eqb, eq-eqb, inl, inr, ◌⊎◌, List, [], ◌∷◌, length, get_or, Some, slice_get, refl, ap, sym, ◌∙◌, arith, subst}
+use Rattle.std.proofs.Common.{◌≡◌, ℕ, zero, suc, ◌+◌, ◌<◌, Bool, true, false, ◌&&◌, ◌||◌, eqb, eq-eqb, inl, inr, ◌⊎◌, List, [], ◌∷◌, length, get_or, Some, None, slice_get, refl, ap, sym, ◌∙◌, arith, subst}
 use Rattle.std.specs.List.{position_or_len}
 use Rattle.std.specs.Str.{bytes_eq}
 use Rattle.std.proofs.lemmas.List.Sums.{position_or_len_is, fails_before_first, passes_at_first}
 use Rattle.std.proofs.lemmas.Slice.Eq.{bytes_eq-Decides}
-use Rattle.std.proofs.lemmas.Bool.{eqb-true, cases_lt}
+use Rattle.std.proofs.lemmas.Bool.{eqb-true, cases_lt, false≢true}
 use Rattle.std.proofs.lemmas.Option.{slice_get-get_or, get_or_from_slice_get, slice_get_within}
 use Rattle.omf_place.specs.inside.Numbered.{IsNumberedFrom}
 use Rattle.omf_module.specs.declared.Kind.{Kind}
-use Rattle.omf_module.specs.declared.Kind.TheVariants.{Public, Stack, Common}
+use Rattle.omf_module.specs.declared.Kind.TheVariants.{Private, Public, Stack, Common}
 use Rattle.omf_module.specs.declared.Standing.{Standing}
-use Rattle.omf_module.specs.declared.Standing.TheVariants.{Relocatable}
-use Rattle.omf_place.specs.Parts.{Site, combines, joins, joins_kind, same_class, rank}
+use Rattle.omf_module.specs.declared.Standing.TheVariants.{Absolute, Relocatable}
+use Rattle.omf_place.specs.Parts.{Site, are_joined, combines, same_class, rank}
+use Rattle.omf_place.specs.inside.Placing.{joins, joins_kind}
 
 joins_kind-same : (j k : Kind) → joins_kind j k ≡ true → j ≡ k
 joins_kind-same Public Public e = refl
@@ -19,9 +20,18 @@ joins_kind-same Stack Stack e = refl
 joins_kind-same Common Common e = refl
 joins_kind-same j k e = cc
 
+-- a part never combines with an absolute segment
+pub alone : (k : Kind) → are_joined (Some k) None ≡ true → ⊥
+alone Private e = false≢true e
+alone Public e = false≢true e
+alone Stack e = false≢true e
+alone Common e = false≢true e
+
 joins-trans : (s t u : Standing) → joins s t ≡ true → joins t u ≡ true → joins s u ≡ true
 joins-trans (Relocatable a i) (Relocatable b j) (Relocatable c k) e f = subst (λ z. joins_kind i z ≡ true) (joins_kind-same j k f) e
-joins-trans s t u e f = cc
+joins-trans (Relocatable a i) (Relocatable b j) (Absolute frame offset) e f = absurd (alone j f)
+joins-trans (Relocatable a i) (Absolute frame offset) u e f = absurd (alone i e)
+joins-trans (Absolute frame offset) t u e f = absurd (false≢true e)
 
 pub and_both : (p q : Bool) → (p && q) ≡ true → (p ≡ true) × (q ≡ true)
 and_both true q e = (refl, e)

@@ -13,12 +13,13 @@ use Rattle.omf_module.specs.Sound.{IsMember, GroupFits}
 use Rattle.omf_place.specs.declared.groups.Reach.{Reach}
 use Rattle.omf_place.specs.declared.inputs.Input as held
 use Rattle.omf_place.specs.declared.stands.Stand.{Stand}
-use Rattle.omf_place.specs.Inputs.{Input}
+use Rattle.omf_place.specs.Parts.{Input}
 use Rattle.omf_place.specs.inside.Program.{IsPlacedInput, RowIs, input_view}
 use Rattle.omf_place.specs.Parts.{Site}
 use Rattle.omf_place.specs.inside.Groups.{GroupReach, widened, no_stand, reach_in, join, reach_of_span, reached}
 use Rattle.omf_place.specs.inside.Stands.{stand_of}
-use Rattle.omf_place.specs.Tables.{Grpdef, Span, components, grpdefs_of, span, widen, segment_start, segment_end}
+use Rattle.omf_place.specs.Tables.{Grpdef, Span, grpdefs_of, span, widen, segment_start, segment_end}
+use Rattle.omf_place.specs.inside.Steps.{components}
 use Rattle.omf_place.proofs.KeyPlaces.{map_congr, map_two}
 use Rattle.omf_place.proofs.Walks.{All-map}
 use Rattle.omf_place.proofs.LinkRows.{row_at}

@@ -10,7 +10,7 @@ use Rattle.omf_module.specs.Sound.{GroupFits, IsMember, SegmentFits}
 use Rattle.omf_place.specs.declared.inputs.Input as held
 use Rattle.omf_place.specs.declared.spans.SegmentSpan.{SegmentSpan}
 use Rattle.omf_place.specs.declared.stands.Stand.{Stand}
-use Rattle.omf_place.specs.Inputs.{Input, inputs_from, inputs}
+use Rattle.omf_place.specs.Parts.{Input, inputs_from, inputs}
 use Rattle.omf_place.specs.Parts.{Site, sites}
 use Rattle.omf_place.specs.Placed.{IsPlaced, address_of}
 use Rattle.omf_place.specs.inside.Numbered.{IsNumberedFrom}

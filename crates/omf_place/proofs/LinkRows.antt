@@ -4,7 +4,7 @@ use Rattle.std.specs.List.{AllByRecursion, flat_map}
 use Rattle.omf_module.specs.declared.Standing.{Standing}
 use Rattle.omf_module.specs.declared.Standing.TheVariants.{Absolute, Relocatable}
 use Rattle.omf_module.specs.Module.{Module, Segment}
-use Rattle.omf_place.specs.Inputs.{Input, inputs_from, inputs}
+use Rattle.omf_place.specs.Parts.{Input, inputs_from, inputs}
 use Rattle.omf_place.specs.Parts.{Site, module_sites}
 use Rattle.omf_place.specs.inside.Program.{RowIs}
 use Rattle.omf_place.specs.inside.Rows.{placed_row}

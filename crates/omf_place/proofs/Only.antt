@@ -6,19 +6,21 @@ use Rattle.std.proofs.lemmas.Bool.{cases_lt, eqb-true}
 use Rattle.std.proofs.lemmas.List.{ext_get_or}
 use Rattle.omf_module.specs.declared.Standing.{Standing}
 use Rattle.omf_module.specs.declared.Standing.TheVariants.{Absolute, Relocatable}
-use Rattle.omf_place.specs.Parts.{Site, inserted, sorted, parts, placement_order, is_part, is_relocatable, combines, joins, rank, before}
-use Rattle.omf_place.specs.Placed.{IsNextStart, FollowFrom, StandsAside, IsPlaced, IsOnlyPlacement, address_of, is_unit, is_common, leads, unit_alignment, unit_length}
+use Rattle.omf_place.specs.Parts.{Site, inserted, sorted, placement_order, is_part, combines, rank, before}
+use Rattle.omf_place.specs.inside.Placing.{parts, is_relocatable, joins}
+use Rattle.omf_place.specs.Placed.{IsNextStart, FollowFrom, StandsAside, IsPlaced, address_of, is_unit, is_common, leads, unit_alignment, unit_length}
+use Rattle.omf_place.specs.inside.Placing.{IsOnlyPlacement}
 use Rattle.omf_place.specs.inside.Numbered.{IsNumberedFrom}
 use Rattle.omf_place.specs.inside.Walk.{IsUnitBounded, units}
 use Rattle.omf_place.proofs.Walks.{All-get, All-filter, All-map}
-use Rattle.omf_place.proofs.Leaders.{leader, at_own, one_place, position_at, and_both, or_either, or_right}
+use Rattle.omf_place.proofs.Leaders.{alone, leader, at_own, one_place, position_at, and_both, or_either, or_right}
 
 next-le : (e n x y : ℕ) → 0 < n → IsNextStart e n x → IsNextStart e n y → x < y → ⊥
 next-le e n x y pos f g h =
     let q : x / n < y / n = elim (cases_lt (x / n) (y / n))
-    [ inl p ↦ p | inr p ↦ absurd (let m = mul-le-mul_left n p in omega (arith, m, f.aligned, g.aligned)) ] in
+    [ inl p ↦ p | inr p ↦ absurd (let m = mul-le-mul_left n p in omega (arith, m, f.0, g.0)) ] in
     let m : n * (x / n + 1) ≤ n * (y / n) = mul-le-mul_left n (omega arith) in
-    omega (arith, f.aligned, g.aligned, f.above, g.near, m)
+    omega (arith, f.0, g.0, f.1, g.2, m)
 
 next-unique : (e n x y : ℕ) → 0 < n → IsNextStart e n x → IsNextStart e n y → x ≡ y
 next-unique e n x y pos f g =
@@ -59,7 +61,7 @@ of_unit ss P all a at part unit =
 -- what combines with a part is one
 part_joined : (s t : Standing) → joins s t ≡ true → is_relocatable t ≡ true
 part_joined (Relocatable a j) (Relocatable b k) e = refl
-part_joined (Relocatable a j) (Absolute b k) e = cc
+part_joined (Relocatable a j) (Absolute b k) e = absurd (alone j e)
 part_joined (Absolute a j) t e = cc
 
 pub part_combined : (ss : List Site) (a b : Site) → slice_get ss a.position ≡ Some a → slice_get ss b.position ≡ Some b → is_part a ≡ true → combines a b ≡ true → is_part b ≡ true

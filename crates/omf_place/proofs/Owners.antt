@@ -5,12 +5,13 @@ use Rattle.std.specs.List.{AllByRecursion}
 use Rattle.std.specs.Option.{option_map, option_to_list}
 use Rattle.omf_module.specs.Module.{PublicSymbol}
 use Rattle.omf_module.specs.Module.{Module}
-use Rattle.omf_place.specs.Inputs.{inputs}
+use Rattle.omf_place.specs.Parts.{inputs}
 use Rattle.omf_place.specs.declared.layout.PublicPlace.{PublicPlace}
 use Rattle.omf_place.specs.declared.scopes.Entry as held
 use Rattle.omf_place.specs.inside.HeldNames.{IsOwner, entry_view}
 use Rattle.omf_place.specs.Scopes.{Entry}
-use Rattle.omf_place.specs.Tables.{placed_public, placed_publics, public_entry, publics_of}
+use Rattle.omf_place.specs.Tables.{placed_public, placed_publics, publics_of}
+use Rattle.omf_place.specs.inside.Steps.{public_entry}
 use Rattle.omf_place.proofs.KeyPlaces.{All-make}
 use Rattle.omf_place.proofs.LinkRows.{All-flat, All-mapped_back}
 use Rattle.omf_place.proofs.LinkProgram.{indexed_from}

@@ -5,7 +5,8 @@ use Rattle.std.proofs.lemmas.List.{length-map}
 use Rattle.std.proofs.lemmas.Option.{slice_get-map, get_or_from_slice_get}
 use Rattle.std.specs.Option.{option_map}
 use Rattle.omf_module.specs.declared.Standing.TheVariants.{Absolute, Relocatable}
-use Rattle.omf_place.specs.Parts.{Site, rank, parts, placement_order, is_part, is_relocatable, before}
+use Rattle.omf_place.specs.Parts.{Site, rank, placement_order, is_part, before}
+use Rattle.omf_place.specs.inside.Placing.{parts, is_relocatable}
 use Rattle.omf_place.specs.Placed.{IsNextStart, FollowFrom, StandsAside, IsPlaced, address_of, is_unit, is_common, leads, unit_alignment, unit_length}
 use Rattle.omf_place.specs.inside.Numbered.{IsNumberedFrom}
 use Rattle.omf_place.specs.inside.Walk.{units, settled, settled_at}

@@ -2,7 +2,8 @@
 use Rattle.std.proofs.Common.{◌≡◌, ℕ, zero, suc, ◌+◌, List, [], ◌∷◌, ◌++◌, length, take, Some, slice_get, refl, ap, sym, ◌∙◌, arith, add-one, ◌≤◌, length-append, append_assoc, subst, append-nil, All}
 use Rattle.std.proofs.lemmas.Option.{get_or_from_slice_get, slice_get_within}
 use Rattle.omf_module.specs.Module.{Module, Segment}
-use Rattle.omf_place.specs.Parts.{Site, module_sites, sites_from, sites}
+use Rattle.omf_place.specs.Parts.{Site, module_sites, sites}
+use Rattle.omf_place.specs.inside.Placing.{sites_from}
 use Rattle.std.specs.List.{AllByRecursion}
 use Rattle.omf_place.specs.inside.Numbered.{IsNumberedFrom}
 

@@ -12,7 +12,7 @@ use Rattle.omf_place.specs.Parts.{rank, placement_order}
 use Rattle.omf_place.specs.Placed.{leads}
 use Rattle.omf_place.specs.inside.Small.{IsSmall}
 use Rattle.omf_place.specs.inside.Spans.{AreSpans, addresses_in}
-use Rattle.omf_place.specs.Faults.{is_long_segment}
+use Rattle.omf_place.specs.inside.Steps.{is_long_segment}
 use Rattle.omf_place.proofs.Measuring.{map_at}
 use Rattle.omf_place.proofs.SiteLists.{take-all}
 use Rattle.omf_place.proofs.Walks.{filter-push, met, met-within_at, met-leads, take-push}

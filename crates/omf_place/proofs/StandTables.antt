@@ -6,7 +6,7 @@ use Rattle.omf_module.specs.declared.Standing.TheVariants.{Absolute, Relocatable
 use Rattle.omf_place.specs.declared.sites.Site as stored
 use Rattle.omf_place.specs.declared.spans.SegmentSpan.{SegmentSpan}
 use Rattle.omf_place.specs.inside.Sites.{site, sites_view}
-use Rattle.omf_place.specs.Parts.{is_relocatable}
+use Rattle.omf_place.specs.inside.Placing.{is_relocatable}
 use Rattle.omf_place.specs.inside.Spans.{AreSpans, addresses_in, span_of}
 use Rattle.omf_place.specs.declared.stands.Stand.{Stand}
 use Rattle.omf_place.specs.inside.Stands.{IsFramed, StartsLow, stand_by, stand_of}

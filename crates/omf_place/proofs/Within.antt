@@ -1,6 +1,6 @@
 -- Parts lie inside the program.
 use Rattle.std.proofs.Common.{◌≡◌, ℕ, ◌+◌, ◌≤◌, Bool, true, false, cond, not, ◌||◌, eqb, inl, inr, List, [], ◌∷◌, length, filter, get_or, Some, slice_get, refl, ap, sym, ◌∙◌, arith}
-use Rattle.std.proofs.lemmas.Bool.{eqb-true, cases_lt}
+use Rattle.std.proofs.lemmas.Bool.{eqb-true, cases_lt, false≢true}
 use Rattle.std.proofs.lemmas.Option.{slice_get-get_or}
 use Rattle.std.proofs.lemmas.List.{get_or_past}
 use Rattle.std.specs.List.{AllByRecursion}
@@ -9,14 +9,15 @@ use Rattle.omf_module.specs.declared.Kind.TheVariants.{Public, Stack, Common}
 use Rattle.omf_module.specs.declared.Standing.{Standing}
 use Rattle.omf_module.specs.declared.Standing.TheVariants.{Absolute, Relocatable}
 use Rattle.omf_module.specs.Sound.{SegmentFits, IsStanding}
-use Rattle.omf_place.specs.Parts.{Site, combines, joins, joins_kind, rank, is_part, is_relocatable}
-use Rattle.omf_place.specs.Placed.{IsPlaced, FollowFrom, StandsAside, greatest, members, leads, is_unit, is_common, has_kind, is_kind_common, unit_length, address_of}
+use Rattle.omf_place.specs.Parts.{Site, combines, kind_in, are_joined, rank, is_part}
+use Rattle.omf_place.specs.inside.Placing.{joins, joins_kind, is_relocatable, is_kind_common}
+use Rattle.omf_place.specs.Placed.{IsPlaced, FollowFrom, StandsAside, greatest, members, leads, is_unit, is_common, unit_length, address_of}
 use Rattle.omf_place.specs.inside.Numbered.{IsNumberedFrom}
 use Rattle.omf_place.specs.Tables.{segment_start, segment_end}
 use Rattle.omf_place.specs.inside.Walk.{units}
 use Rattle.omf_place.proofs.Bounds.{most-each, most-within}
 use Rattle.omf_place.proofs.CombinedParts.{combines-symm}
-use Rattle.omf_place.proofs.Leaders.{leader, or_either, or_right, and_both, combines-itself, at_own, position_at}
+use Rattle.omf_place.proofs.Leaders.{alone, leader, or_either, or_right, and_both, combines-itself, at_own, position_at}
 use Rattle.omf_place.proofs.Only.{All-unfilter, of_unit, part_combined}
 use Rattle.omf_place.proofs.SiteLists.{one_place}
 use Rattle.omf_place.proofs.Walks.{All-get, All-map, numbered_found}
@@ -31,7 +32,7 @@ follow-above : (ss : List Site) (A : List ℕ) (e : ℕ) (us : List Site) (s : �
 follow-above ss A e [] s f = omega (arith, f)
 follow-above ss A e (u ∷ us) s f =
     let h = follow-above ss A (address_of A u + unit_length ss u) us s f.1 in
-    let n = f.0.above in omega (arith, h, n)
+    let n = f.0.1 in omega (arith, h, n)
 
 follow-within : (ss : List Site) (A : List ℕ) (e : ℕ) (us : List Site) (s : ℕ) → FollowFrom ss A e us s → AllByRecursion (λ u. address_of A u + unit_length ss u ≤ s) us
 follow-within ss A e [] s f = tt
@@ -43,9 +44,10 @@ common_kinds Stack Stack e = refl
 common_kinds Common Common e = refl
 common_kinds j k e = cc
 
-common_joined : (s t : Standing) → joins s t ≡ true → has_kind is_kind_common s ≡ has_kind is_kind_common t
+common_joined : (s t : Standing) → joins s t ≡ true → are_joined (kind_in s) (Some Common) ≡ are_joined (kind_in t) (Some Common)
 common_joined (Relocatable a j) (Relocatable b k) e = common_kinds j k e
-common_joined s t e = cc
+common_joined (Relocatable a j) (Absolute frame offset) e = absurd (alone j e)
+common_joined (Absolute frame offset) t e = absurd (false≢true e)
 
 module _ (ss : List Site) (A : List ℕ) (size : ℕ) (numbered : IsNumberedFrom 0 ss) (placed : IsPlaced ss A size) where
   greatest-each : (f : Site → ℕ) (a b : Site) → slice_get ss b.position ≡ Some b → combines a b ≡ true → f b ≤ greatest f (members ss a)

@@ -39,10 +39,10 @@ two_placed : IsPlaced (sites two) (0 ∷ 18 ∷ 22 ∷ []) 24
 two_placed = record {
   each = refl;
   units = (
-    record { aligned = refl; above = lit≤ tt; near = lit< tt },
+    (refl, lit≤ tt, lit< tt),
     (
-      record { aligned = refl; above = lit≤ tt; near = lit< tt },
-      (record { aligned = refl; above = lit≤ tt; near = lit< tt }, refl),
+      (refl, lit≤ tt, lit< tt),
+      ((refl, lit≤ tt, lit< tt), refl),
     ),
   );
   others = ((λ e. cc), ((λ e. cc), ((λ e. cc), tt)));

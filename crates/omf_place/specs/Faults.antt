@@ -1,12 +1,14 @@
 -- The first fault of placement.
-use Rattle.std.specs.Prelude.{◌≡◌, ℕ, ◌+◌, ◌*◌, ◌/◌, Bool, nat_lt, List, find, Option, Some, None, false, if◌then◌else◌}
+use Rattle.std.specs.Prelude.{◌≡◌, ℕ, ◌+◌, ◌*◌, ◌/◌, Bool, nat_lt, List, find, take, Option, Some, None, false}
+use Rattle.std.specs.Prelude.{if◌then◌else◌}
+use Rattle.std.specs.List.{enumerate_from, list_any}
 use Rattle.std.specs.Option.{option_map, option_map_or, option_or}
 use Rattle.omf_module.specs.Module.{Module}
 use Rattle.omf_place.specs.Parts.{Site, sites}
-use Rattle.omf_place.specs.Placed.{IsPlaced, IsOnlyPlacement}
+use Rattle.omf_place.specs.Placed.{IsPlaced}
 use Rattle.omf_place.specs.Tables.{segment_frame, segment_end, leaders, group_span, grpdefs, placed_publics}
 use Rattle.omf_place.specs.Layout.{Layout, layout_at}
-use Rattle.omf_place.specs.Scopes.{Entry, first_clash}
+use Rattle.omf_place.specs.Scopes.{Entry, clashes}
 use Rattle.omf_place.specs.declared.layout.PublicPlace.{PublicPlace}
 use Rattle.omf_place.specs.declared.names.Names.{Names}
 
@@ -21,22 +23,15 @@ pub data PlacementFault : Type 0 where
 abbrev pub is_too_long : (frame end : ℕ) → Bool
 is_too_long frame end = nat_lt (16 * frame + 65536) end
 
--- fault 22: the first combined segment that is too long, in the order of placement
-abbrev pub is_long_segment : List Site → List ℕ → Site → Bool
-is_long_segment ss addresses a = is_too_long (segment_frame ss addresses a) (segment_end ss addresses a)
-
--- the fault of the first combined segment that is too long, by the name of its first part
+-- fault 22: the first combined segment that is too long, in the order of placement, by the name of its first part
 abbrev pub segment_fault : List Site → List ℕ → Option PlacementFault
-segment_fault ss addresses =
-    option_map (λ a. SegmentTooLong a.segment.name) (find (is_long_segment ss addresses) (leaders ss))
-
--- fault 23
-abbrev pub size_fault : ℕ → Option PlacementFault
-size_fault size = if nat_lt 1048560 size then Some ProgramTooLarge else None
+segment_fault ss addresses = option_map (λ a. SegmentTooLong a.segment.name)
+    (find (λ a. is_too_long (segment_frame ss addresses a) (segment_end ss addresses a)) (leaders ss))
 
 -- fault 25: the first public whose name an earlier one has, or an earlier local one of its module where it is local
 abbrev pub duplicate_in : Names → List (Entry PublicPlace) → Option PlacementFault
-duplicate_in names publics = option_map (λ p. DuplicatePublic p.1.name) (first_clash names publics)
+duplicate_in names publics = option_map (λ p. DuplicatePublic p.1.name)
+    (find (λ p. list_any (λ earlier. clashes names earlier p.1) (take p.0 publics)) (enumerate_from 0 publics))
 
 module _ (program : List Module) (addresses : List ℕ) where
   -- a group, by its name, ends more than 65,536 above its frame
@@ -47,16 +42,12 @@ module _ (program : List Module) (addresses : List ℕ) where
   abbrev pub group_fault : Option PlacementFault
   group_fault = option_map (λ g. GroupTooLong g.name) (find (λ g. is_long_group g.name) (grpdefs program))
 
--- of 24 and 25 the first
-abbrev pub later_fault : Names → List Module → (addresses : List ℕ) → Option PlacementFault
-later_fault names program addresses =
-    option_or (group_fault program addresses) (duplicate_in names (placed_publics program addresses))
-
--- the first in order of number
+-- the first in order of number; fault 23 is that of the size
 abbrev pub placement_fault : Names → List Module → (addresses : List ℕ) → (size : ℕ) → Option PlacementFault
 placement_fault names program addresses size =
     option_or (segment_fault (sites program) addresses)
-    (option_or (size_fault size) (later_fault names program addresses))
+    (option_or (if nat_lt 1048560 size then Some ProgramTooLarge else None)
+    (option_or (group_fault program addresses) (duplicate_in names (placed_publics program addresses))))
 
 -- under a choice of which names of publics agree a layout is that of a program where its parts start by the rules and
 -- no fault stands
@@ -70,9 +61,9 @@ abbrev pub IsOnlyLayout : Names → List Module → Layout → Type 0
 IsOnlyLayout names program layout =
     IsLayout names program layout × ((other : Layout) → IsLayout names program other → other ≡ layout)
 
--- the first fault of a program
+-- the first fault of a program, whose parts start at these addresses alone
 abbrev pub IsFirstFault : Names → List Module → PlacementFault → Type 0
 IsFirstFault names program fault =
     (addresses : List ℕ) × (size : ℕ) × IsPlaced (sites program) addresses size ×
-    IsOnlyPlacement (sites program) addresses size
+    ((others : List ℕ) (end : ℕ) → IsPlaced (sites program) others end → (others ≡ addresses) × (end ≡ size))
     × (placement_fault names program addresses size ≡ Some fault)

@@ -2,8 +2,8 @@
 use Rattle.std.specs.Prelude.{ℕ, List, [], get_or, length, map, Option, None}
 use Rattle.omf_module.specs.Module.{Module}
 use Rattle.omf_place.specs.Parts.{sites}
-use Rattle.omf_place.specs.Inputs.{Input, inputs}
-use Rattle.omf_place.specs.Names.{Table, empty, means}
+use Rattle.omf_place.specs.Parts.{Input, inputs}
+use Rattle.omf_place.specs.Names.{Table, means}
 use Rattle.omf_place.specs.Scopes.{local_tables, table}
 use Rattle.omf_place.specs.Tables.{placed, leaders, combined_segment, group_frame as frame_of_group, placed_groups}
 use Rattle.omf_place.specs.Tables.{placed_publics}
@@ -84,4 +84,4 @@ public layout name = means layout.publics name
 
 -- what it means in one module alone
 abbrev pub local_public : Layout → (input : ℕ) → (name : List ℕ) → Option PublicPlace
-local_public layout input name = means (get_or layout.locals input (empty Exact)) name
+local_public layout input name = means (get_or layout.locals input (record { names = Exact; entries = [] })) name

@@ -1,6 +1,5 @@
 pub mod Parts
 pub mod Placed
-pub mod Inputs
 pub mod Named
 pub mod Names
 pub mod Scopes

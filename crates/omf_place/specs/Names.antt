@@ -1,5 +1,5 @@
 -- Which names of publics and externals agree, and what a name means.
-use Rattle.std.specs.Prelude.{ℕ, Bool, List, [], map, Option}
+use Rattle.std.specs.Prelude.{ℕ, Bool, List, map, Option}
 use Rattle.std.specs.Char.{to_ascii_lowercase}
 use Rattle.std.specs.Str.{bytes_eq}
 use Rattle.omf_place.specs.Named.{value_where}
@@ -27,7 +27,3 @@ pub record Table (V : Type 0) : Type 0 where
 -- the value of the first entry whose name agrees: where no two agree, of the only one
 abbrev pub means : {V : Type 0} → Table V → (name : List ℕ) → Option V
 means t name = value_where (agrees t.names name) t.entries
-
--- a table without names
-abbrev pub empty : {V : Type 0} → Names → Table V
-empty names = record { names = names; entries = [] }

@@ -1,12 +1,12 @@
 -- Where the parts start (TIS OMF 1.1, SEGDEF, the alignment): a relation between the segments and their addresses.
 use Rattle.std.specs.Prelude.{◌≡◌, ℕ, ◌+◌, ◌*◌, ◌%◌, ◌<◌, ◌≤◌, max, Bool, true, false, ◌==◌, ◌||◌, not, List, [], ◌∷◌}
+use Rattle.std.specs.Prelude.{Some}
 use Rattle.std.specs.Prelude.{length, filter, fold, slice_index, if◌then◌else◌}
-use Rattle.omf_module.specs.declared.Kind.{Kind}
 use Rattle.omf_module.specs.declared.Kind.TheVariants.{Stack, Common}
 use Rattle.omf_module.specs.declared.Standing.{Standing}
 use Rattle.omf_module.specs.declared.Standing.TheVariants.{Absolute, Relocatable}
 use Rattle.std.specs.List.{AllByRecursion}
-use Rattle.omf_place.specs.Parts.{Site, combines, rank, placement_order}
+use Rattle.omf_place.specs.Parts.{Site, kind_in, are_joined, combines, rank, placement_order}
 
 -- the greatest of what is asked of each; 0 of none
 abbrev pub greatest : {X : Type 0} → (X → ℕ) → List X → ℕ
@@ -17,28 +17,13 @@ abbrev pub alignment_of : Standing → ℕ
 alignment_of (Absolute frame offset) = 1
 alignment_of (Relocatable alignment kind) = alignment
 
--- a part whose kind passes a test
-abbrev pub has_kind : (Kind → Bool) → Standing → Bool
-has_kind test (Absolute frame offset) = false
-has_kind test (Relocatable alignment kind) = test kind
-
--- the kind of common segments
-abbrev pub is_kind_common : Kind → Bool
-is_kind_common Common = true
-is_kind_common k = false
-
--- the kind of stack segments
-abbrev pub is_kind_stack : Kind → Bool
-is_kind_stack Stack = true
-is_kind_stack k = false
-
 -- a part of a common segment
 abbrev pub is_common : Site → Bool
-is_common a = has_kind is_kind_common a.segment.standing
+is_common a = are_joined (kind_in a.segment.standing) (Some Common)
 
 -- a part of a stack segment
 abbrev pub is_stack : Site → Bool
-is_stack a = has_kind is_kind_stack a.segment.standing
+is_stack a = are_joined (kind_in a.segment.standing) (Some Stack)
 
 -- the parts of the combined segment of a
 abbrev pub members : List Site → Site → List Site
@@ -64,10 +49,8 @@ abbrev pub unit_length : List Site → Site → ℕ
 unit_length ss a = if is_common a then greatest (λ b. b.segment.length) (members ss a) else a.segment.length
 
 -- a multiple of the alignment, not below the end before it, and less than one alignment above that end
-pub record IsNextStart (end alignment start : ℕ) : Type 0 where
-  pub aligned : start % alignment ≡ 0
-  pub above : end ≤ start
-  pub near : start < end + alignment
+abbrev pub IsNextStart : (end alignment start : ℕ) → Type 0
+IsNextStart end alignment start = (start % alignment ≡ 0) × (end ≤ start) × (start < end + alignment)
 
 -- addresses has the address of each segment's first byte, by position
 abbrev pub address_of : List ℕ → Site → ℕ
@@ -92,8 +75,3 @@ pub record IsPlaced (ss : List Site) (addresses : List ℕ) (size : ℕ) : Type 
   pub each : length addresses ≡ length ss
   pub units : FollowFrom ss addresses 0 (filter (is_unit ss) (placement_order ss)) size
   pub others : AllByRecursion (λ a. StandsAside ss addresses a a.segment.standing) ss
-
--- and no other addresses and size stand in the relation
-abbrev pub IsOnlyPlacement : List Site → List ℕ → ℕ → Type 0
-IsOnlyPlacement ss addresses size =
-    (others : List ℕ) (end : ℕ) → IsPlaced ss others end → (others ≡ addresses) × (end ≡ size)

@@ -12,7 +12,7 @@ use Rattle.omf_module.specs.declared.SymbolBase.{SymbolBase}
 use Rattle.omf_module.specs.Module.{Module, PublicSymbol}
 use Rattle.omf_place.specs.Parts.{Site, sites, rank, placement_order}
 use Rattle.omf_place.specs.Placed.{greatest, members, leads, address_of}
-use Rattle.omf_place.specs.Inputs.{Input, inputs}
+use Rattle.omf_place.specs.Parts.{Input, inputs}
 use Rattle.omf_place.specs.Scopes.{Entry}
 use Rattle.omf_place.specs.declared.layout.Address.TheVariants as address
 use Rattle.omf_place.specs.declared.layout.Base.{Base}
@@ -62,18 +62,12 @@ pub record Grpdef : Type 0 where
   pub name : List ℕ
   pub sites : List Site
 
--- the sites of a GRPDEF's components, by their indexes in the module
-abbrev pub components : List Site → List ℕ → List Site
-components row members = flat_map (λ k. option_to_list (slice_get row k)) members
-
 -- the GRPDEFs of a module
 abbrev pub grpdefs_of : Input → List Grpdef
-grpdefs_of n = map (λ e. record {
-  input = n.input;
-  group = e.0;
-  name = e.1.name;
-  sites = components n.sites e.1.members;
-}) (enumerate_from 0 n.says.groups)
+grpdefs_of n =
+    let components : List ℕ → List Site = λ members. flat_map (λ k. option_to_list (slice_get n.sites k)) members in
+    map (λ g. record { input = n.input; group = g.0; name = g.1.name; sites = components g.1.members })
+    (enumerate_from 0 n.says.groups)
 
 -- those of a program, in order of inputs and records
 abbrev pub grpdefs : List Module → List Grpdef
@@ -93,10 +87,6 @@ widen (Some s) start end = Some (record { start = min s.start start; end = max s
 abbrev pub span : List Site → (addresses : List ℕ) → List Site → Option Span
 span ss addresses parts = fold (λ s a. widen s (segment_start ss addresses a) (segment_end ss addresses a)) None parts
 
--- a local public is one of its module alone
-abbrev pub public_entry : (input : ℕ) → PublicSymbol → PublicPlace → Entry PublicPlace
-public_entry input p placed = record { owner = then_some p.local input; name = p.name; value = placed }
-
 module _ (program : List Module) (addresses : List ℕ) where
   -- All GRPDEFs of one name are one group.
   abbrev pub group_span : List ℕ → Option Span
@@ -112,13 +102,10 @@ module _ (program : List Module) (addresses : List ℕ) where
   is_first_grpdef g = option_map_or (λ f. f.input == g.input && f.group == g.group)
       (find (λ f. bytes_eq g.name f.name) (grpdefs program)) false
 
-  -- a group, by its first GRPDEF
-  abbrev pub placed_group : Grpdef → GroupPlace
-  placed_group g = record { frame = group_frame g.name; input = g.input; group = g.group }
-
-  -- the groups in order of first meeting
+  -- the groups in order of first meeting, each by its first GRPDEF
   abbrev pub placed_groups : List GroupPlace
-  placed_groups = map placed_group (filter is_first_grpdef (grpdefs program))
+  placed_groups = map (λ (g : Grpdef). record { frame = group_frame g.name; input = g.input; group = g.group })
+      (filter is_first_grpdef (grpdefs program))
 
   -- a public of a part has the frame of its group, where it has a group, and else that of its segment
   abbrev pub public_frame : Module → Site → Option ℕ → Option Base
@@ -140,10 +127,11 @@ module _ (program : List Module) (addresses : List ℕ) where
   placed_public n offset (InSegment segment group) =
       option_map (λ a. in_segment n.says group offset a a.segment.standing) (slice_get n.sites segment)
 
-  -- the publics of a module
+  -- the publics of a module, where a local one is one of its module alone
   abbrev pub publics_of : Input → List (Entry PublicPlace)
-  publics_of n = flat_map
-      (λ p. option_to_list (option_map (public_entry n.input p) (placed_public n p.offset p.base))) n.says.publics
+  publics_of n = flat_map (λ (p : PublicSymbol). option_to_list (option_map (λ placed.
+      record { owner = then_some p.local n.input; name = p.name; value = placed })
+      (placed_public n p.offset p.base))) n.says.publics
 
   -- the publics, local ones too, in order of inputs and records
   abbrev pub placed_publics : List (Entry PublicPlace)

@@ -1,4 +1,6 @@
 -- How the code sees what it works on: no public contract cites any of it.
+pub mod Placing
+pub mod Steps
 pub mod Numbered
 pub mod Sites
 pub mod Keys

@@ -2,7 +2,7 @@
 
 ghost use Rattle.std.specs.Prelude.{◌≡◌, ◌+◌, ◌≤◌, IfOk, drop, length, map, take};
 ghost use Rattle.std.specs.List.{AllByRecursion};
-ghost use Rattle.omf_place.specs.Inputs.{inputs};
+ghost use Rattle.omf_place.specs.Parts.{inputs};
 ghost use Rattle.omf_place.specs.inside.Program.{addresses_of, AreStands, HasStands, IsSoundInput, input_view};
 ghost use Rattle.omf_place.specs.Parts.{sites as sites_of};
 ghost use Rattle.omf_place.specs.inside.Sites.{sites_view};

@@ -1,7 +1,8 @@
 //! The tables of a layout.
 
 ghost use Rattle.std.specs.Prelude.{◌≡◌, ◌≤◌, None, Some, IfErr, IfOk, IfSome, OnOk, length, map};
-ghost use Rattle.omf_place.specs.Faults.{duplicate_in, group_fault, later_fault};
+ghost use Rattle.omf_place.specs.Faults.{duplicate_in, group_fault};
+ghost use Rattle.omf_place.specs.inside.Steps.{later_fault};
 ghost use Rattle.omf_place.specs.Layout.{layout_at};
 ghost use Rattle.omf_place.specs.Parts.{sites};
 ghost use Rattle.omf_place.specs.Said.{said};

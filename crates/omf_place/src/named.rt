@@ -2,7 +2,8 @@
 
 ghost use Rattle.std.specs.Prelude.{◌≡◌, IfOk, None, is_some, true, false};
 ghost use Rattle.omf_place.specs.inside.HeldNames.{exact_table, folded_table, with_entry};
-ghost use Rattle.omf_place.specs.Names.{empty, means};
+ghost use Rattle.omf_place.specs.Names.{means};
+ghost use Rattle.omf_place.specs.inside.Steps.{empty};
 
 use crate::folded::FoldedName;
 use crate::names::Names;

@@ -2,7 +2,7 @@
 
 ghost use Rattle.std.specs.Prelude.{◌≡◌, IfOk, length, map};
 ghost use Rattle.omf_place.specs.Rows.{row_view};
-ghost use Rattle.omf_place.specs.Inputs.{inputs};
+ghost use Rattle.omf_place.specs.Parts.{inputs};
 ghost use Rattle.omf_place.specs.Layout.{module_places};
 ghost use Rattle.omf_place.specs.inside.OfProgram.{IsPlacedProgram, of_program};
 ghost use Rattle.omf_place.specs.inside.Rows.{placed_row};

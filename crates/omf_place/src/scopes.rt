@@ -6,9 +6,10 @@ ghost use Rattle.std.specs.List.{AllByRecursion};
 ghost use Rattle.omf_place.specs.Faults.{duplicate_in};
 ghost use Rattle.omf_place.specs.inside.HeldNames.{IsModuleOf, IsOwner, entry_view, local_table, scopes_of, table_of};
 ghost use Rattle.omf_place.specs.inside.HeldNames.{with_entry};
-ghost use Rattle.omf_place.specs.Names.{empty, means};
+ghost use Rattle.omf_place.specs.Names.{means};
+ghost use Rattle.omf_place.specs.inside.Steps.{empty};
 ghost use Rattle.omf_place.specs.Said.{said};
-ghost use Rattle.omf_place.specs.Scopes.{same_owner};
+ghost use Rattle.omf_place.specs.inside.Steps.{same_owner};
 
 use crate::faults::{PlaceFault, duplicate_public};
 use crate::layout::PublicPlace;

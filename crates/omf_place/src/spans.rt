@@ -3,7 +3,7 @@
 ghost use Rattle.std.specs.Prelude.{◌≡◌, ◌+◌, ◌*◌, ◌/◌, ◌<◌, ◌^◌, ◌&&◌, nat_eq, nat_lt, IfOk, find, length, map};
 ghost use Rattle.std.specs.List.{AllByRecursion};
 ghost use Rattle.std.specs.Option.{option_map};
-ghost use Rattle.omf_place.specs.Faults.{is_long_segment};
+ghost use Rattle.omf_place.specs.inside.Steps.{is_long_segment};
 ghost use Rattle.omf_place.specs.inside.Keys.{segment_place};
 ghost use Rattle.omf_place.specs.inside.Numbered.{IsNumberedFrom};
 ghost use Rattle.omf_place.specs.Parts.{rank, placement_order};

@@ -3,7 +3,8 @@ use Rattle.std.proofs.Common.{◌≡◌, ℕ, zero, suc, ◌+◌, ◌<◌, List,
 use Rattle.std.specs.List.{AllByRecursion}
 use Rattle.omf_record.specs.Record.{Block, blocks_of}
 use Rattle.omf_record.specs.Canonical as canon
-use Rattle.omf_record.specs.Expansion.{stored_from, expansions_at, expansion, places, bytes, AreCopies}
+use Rattle.omf_record.specs.Expansion.{expansions_at, expansion, places, bytes, AreCopies}
+use Rattle.omf_record.specs.inside.Fields.{stored_from}
 use Rattle.omf_record.proofs.Places.{all_of_blocks}
 
 -- each byte stands at its place of the text

@@ -7,7 +7,8 @@ use Rattle.std.proofs.lemmas.List.{length-append, length-map, length-take-le, ma
 use Rattle.std.proofs.Math.Seq.{take-append-add}
 use borrow.Rule.Slice.PartMut.{put_mid, post_of}
 use Rattle.omf_record.specs.Record.{Block, Content, Nested, Blocks, End, More, blocks_of}
-use Rattle.omf_record.specs.Expansion.{stored_from, copies, stored_len, expansion_at, expansions_at, expansion, places, bytes, capped}
+use Rattle.omf_record.specs.Expansion.{copies, stored_len, expansion_at, expansions_at, expansion, places, bytes, capped}
+use Rattle.omf_record.specs.inside.Fields.{stored_from}
 use Rattle.omf_record.specs.inside.Expansion.{repeat_of, once_at, expanded_len, all_expanded_len}
 use Rattle.omf_record.proofs.Repetition.{length-copies, map-copies}
 

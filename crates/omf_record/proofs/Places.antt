@@ -3,7 +3,8 @@ use Rattle.std.proofs.Common.{◌≡◌, ℕ, zero, suc, ◌+◌, ◌<◌, ◌�
 use Rattle.std.specs.List.{AllByRecursion}
 use Rattle.omf_record.specs.Record.{Block, Content, Nested, Blocks, End, More}
 use Rattle.omf_record.specs.Canonical as canon
-use Rattle.omf_record.specs.Expansion.{stored_from, copies, stored_len, all_stored_len, expansion_at, expansions_at, places}
+use Rattle.omf_record.specs.Expansion.{copies, stored_len, all_stored_len, expansion_at, expansions_at, places}
+use Rattle.omf_record.specs.inside.Fields.{stored_from}
 use Rattle.omf_record.proofs.Stored.{length-block, length-blocks}
 
 pub all-append : {X : Type 0} (P : X → Type 0) (xs ys : List X) → AllByRecursion P xs → AllByRecursion P ys → AllByRecursion P (xs ++ ys)

@@ -4,7 +4,8 @@ use Rattle.std.proofs.lemmas.Bool.{cases_lt}
 use Rattle.std.proofs.lemmas.List.{length-append, get_or_append_left, get_or-append-add, map-append}
 use Rattle.std.proofs.lemmas.List.{length-map}
 use Rattle.omf_record.specs.Record.{Block, Content, Nested, Blocks, End, More, blocks_of}
-use Rattle.omf_record.specs.Expansion.{stored_from, copies, stored_len, all_stored_len, expansion_at, expansions_at, expansion, places, contents_at, all_contents_at, contents, LiesInOne, StandTogether, StandWhole}
+use Rattle.omf_record.specs.Expansion.{copies, stored_len, all_stored_len, expansion_at, expansions_at, expansion, places, contents_at, all_contents_at, contents, LiesInOne, StandTogether, StandWhole}
+use Rattle.omf_record.specs.inside.Fields.{stored_from}
 use Rattle.omf_record.proofs.Expanded.{length_stored, place-at}
 use Rattle.omf_record.proofs.Places.{all_copies, Between, between-block, between-blocks, between-at}
 use Rattle.omf_record.proofs.Searched.{lies_either, content_within, contents_within}

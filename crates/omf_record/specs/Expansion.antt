@@ -1,13 +1,9 @@
 -- What repeated data stands for: each byte with the place at which it is stored (TIS OMF 1.1, LIDATA).
 use Rattle.std.specs.Prelude.{◌≡◌, ℕ, zero, suc, ◌+◌, ◌-◌, ◌<◌, ◌≤◌, List, [], ◌∷◌, ◌++◌, length, get_or, map}
 use Rattle.std.specs.Prelude.{min, ◌⊎◌}
+use Rattle.std.specs.List.{enumerate_from}
 use Rattle.omf_record.specs.Record.{Block, Content, Nested, Blocks, End, More, blocks_of, Record, Theadr, Coment}
 use Rattle.omf_record.specs.Record.{Modend, Extdef, Pubdef, Linnum, Lnames, Segdef, Grpdef, Fixupp, Ledata, Lidata}
-
--- bytes with their places, the first of which is given
-abbrev pub stored_from : ℕ → List ℕ → List (ℕ × ℕ)
-stored_from place [] = []
-stored_from place (b ∷ bytes) = (place, b) ∷ stored_from (place + 1) bytes
 
 -- a list so many times, one copy behind the other
 abbrev pub copies : {A : Type 0} → ℕ → List A → List A
@@ -28,7 +24,7 @@ abbrev mutual
 abbrev mutual
   -- the expansion of a block that is stored at a place
   pub expansion_at : ℕ → Block → List (ℕ × ℕ)
-  expansion_at place (Content repeat bytes) = copies repeat (stored_from (place + 5) bytes)
+  expansion_at place (Content repeat bytes) = copies repeat (enumerate_from (place + 5) bytes)
   expansion_at place (Nested repeat blocks) = copies repeat (expansions_at (place + 4) blocks)
 
   -- the expansions of blocks, the first of which is stored at a place

@@ -2,7 +2,8 @@
 
 ghost use Rattle.std.specs.Prelude.{◌≡◌, ◌≢◌, ◌<◌, ◌≤◌, ◌↔◌, ◌/◌, ◌%◌, Bool, ℕ, List, IsTrue, Option};
 ghost use Rattle.omf_record.specs.Canonical as canon;
-ghost use Rattle.omf_record.specs.Numbers.{location_width, thread_number, frame_number, target_number, absent};
+ghost use Rattle.omf_record.specs.Numbers.{location_width, thread_number};
+ghost use Rattle.omf_record.specs.inside.Fields.{frame_number, target_number, absent};
 ghost use Rattle.omf_record.specs.Numbers.{location_number};
 ghost use Rattle.omf_record.specs.Types.{Reference, Subrecord};
 ghost use Rattle.omf_record.specs.inside.Ends as ends;

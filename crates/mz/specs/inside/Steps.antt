@@ -1,5 +1,6 @@
 -- The steps of reading: bytes up to a length, the header, the rest of the file.
-use Rattle.std.specs.Prelude.{◌≡◌, ℕ, ◌<◌, ◌≤◌, ◌==◌, ◌⊎◌, not, ◌&&◌, nat_le, nat_lt, if◌then◌else◌, List, ◌++◌}
+use Rattle.std.specs.Prelude.{◌≡◌, ℕ, ◌<◌, ◌≤◌, ◌==◌, ◌⊎◌, Bool, false, not, ◌&&◌, ◌||◌, nat_le, nat_lt, if◌then◌else◌}
+use Rattle.std.specs.Prelude.{List, ◌++◌}
 use Rattle.std.specs.Prelude.{length, drop, Ok, Err}
 use Rattle.std.specs.List.{list_all}
 use Rattle.std.specs.declared.option.Option.{Option}
@@ -9,9 +10,9 @@ use Rattle.omf_image.specs.Words.{word_at}
 use Rattle.mz.specs.declared.format.Header.{Header as HeaderWords}
 use Rattle.mz.specs.declared.fault.MzFault.{MzFault}
 use Rattle.mz.specs.declared.fault.MzFault.TheVariants.{Magic, Header, Truncated, RelocationOutside, Device, Memory}
-use Rattle.mz.specs.Header.{magic, header_at, header_len, is_accepted, is_inside}
+use Rattle.mz.specs.Header.{magic, header_at, header_len, told_len, is_accepted, is_inside}
 use Rattle.mz.specs.File.{MzFile}
-use Rattle.mz.specs.Reading.{entries_at}
+use Rattle.mz.specs.Reading.{entries_at, file_of}
 
 -- bytes were read behind these, up to this length or to the end
 pub record ReadsOn (len : ℕ) (old new : Option (List ℕ)) (before after : List ℕ) : Type 0 where
@@ -24,6 +25,14 @@ pub record ReadsOn (len : ℕ) (old new : Option (List ℕ)) (before after : Lis
 -- the source failed, or there was no memory
 abbrev pub Stops : MzFault → Type 0
 Stops e = (e ≡ Device) ⊎ (e ≡ Memory)
+
+-- whether a fault stands in a file
+unfoldable pub stands : MzFault → List ℕ → Bool
+stands Magic bytes = nat_le 2 (length bytes) && not (word_at bytes 0 == magic)
+stands Header bytes = nat_le 28 (length bytes) && not (is_accepted (header_at bytes))
+stands Truncated bytes = nat_lt (length bytes) 28 || nat_lt (length bytes) (told_len (header_at bytes))
+stands RelocationOutside bytes = not (list_all (is_inside (length (file_of bytes).image)) (file_of bytes).entries)
+stands _ bytes = false
 
 -- the header in the first bytes of a file, 28 or all that there are
 abbrev pub header_in : List ℕ → Result HeaderWords MzFault

@@ -1,10 +1,10 @@
 -- How a state while data records are laid leads to the whole program, by the records that are left.
-use Rattle.std.specs.Prelude.{◌≡◌, ℕ, ◌≤◌, ◌==◌, ◌||◌, Bool, false, List, map, filter, flat_map, length, get_or}
+use Rattle.std.specs.Prelude.{◌≡◌, ℕ, ◌≤◌, ◌==◌, ◌||◌, Bool, false, List, map, filter, flat_map, fold, length, get_or}
 use Rattle.std.specs.List.{list_any}
 use Rattle.omf_module.specs.Module.{Module}
 use Rattle.omf_place.specs.Layout.{Layout}
-use Rattle.omf_image.specs.Located.{covers, byte_of, last_or, in_page}
-use Rattle.omf_image.specs.Records.{Entry, datum, program_byte, page_covered, record_relocations, relocated_words}
+use Rattle.omf_image.specs.Located.{covers, byte_of, in_page}
+use Rattle.omf_image.specs.Records.{Entry, entries, datum, program_byte, page_covered, record_relocations}
 use Rattle.omf_image.specs.Faults.{records_fault, data_fault}
 use Rattle.omf_image.specs.inside.States.{State}
 
@@ -17,6 +17,14 @@ pub record IsWhole (layout : Layout) (s : State) : Type 0 where
   pub sized : length s.image ≡ layout.size
   pub words : length s.words ≡ length s.image
   pub small : layout.size ≤ 1048560
+
+-- the last of the numbers, or another one where there is none
+abbrev pub last_or : (other : ℕ) → List ℕ → ℕ
+last_or other numbers = fold (λ earlier number. number) other numbers
+
+-- the relocated words of all data records
+abbrev pub relocated_words : Layout → List Module → List ℕ
+relocated_words layout modules = flat_map (record_relocations layout) (entries modules)
 
 -- what the state holds and what the rest of the data records brings is the program
 pub record Leads (layout : Layout) (modules : List Module) (now : State) (rest : List Entry) : Type 0 where

@@ -1,20 +1,26 @@
 -- The look-ups' answers as the definitions have them.
 use Rattle.std.specs.Prelude.{ℕ, ◌≤◌, Result, Ok, Err, Option, Some, None, List, [], ◌∷◌}
+use Rattle.std.specs.Option.{option_map_or}
+use Rattle.std.specs.Result.{result_ok}
 use Rattle.omf_module.specs.declared.FixupFrame.{FixupFrame}
 use Rattle.omf_module.specs.declared.FixupFrame.TheVariants.{OfSegment, OfGroup, OfExternal, OfLocation, OfTarget}
 use Rattle.omf_module.specs.declared.FixupTarget.{FixupTarget}
 use Rattle.omf_module.specs.declared.FixupTarget.TheVariants as fixup_target
+use Rattle.omf_module.specs.declared.ResolvedFixup.{ResolvedFixup}
 use Rattle.omf_image.specs.declared.reference.Missing.{Missing}
 use Rattle.omf_image.specs.declared.reference.Missing.TheVariants.{Public, Members}
 use Rattle.omf_image.specs.declared.patch.Patch.{Patch}
-use Rattle.omf_image.specs.Patch.{patch_end}
-use Rattle.omf_image.specs.Reference.{Found, Missing as NoPublic, Empty, Is}
+use Rattle.omf_image.specs.inside.Patches.{patch_end}
+use Rattle.omf_image.specs.declared.faults.FixKind.{FixKind}
+use Rattle.omf_image.specs.declared.faults.FixKind.TheVariants.{Unresolved, EmptyGroup}
+use Rattle.omf_image.specs.declared.reference.Resolved.{Resolved}
+use Rattle.omf_image.specs.Records.{patches_on}
 
 -- what a look-up answers
-abbrev pub found : {A : Type 0} → Result A Missing → Found A
-found (Ok a) = Is a
-found (Err Public) = NoPublic
-found (Err Members) = Empty
+abbrev pub found : {A : Type 0} → Result A Missing → Result A FixKind
+found (Ok a) = Ok a
+found (Err Public) = Err Unresolved
+found (Err Members) = Err EmptyGroup
 
 -- the target whose frame a method names; here is the segment of the data record
 abbrev pub framed_by : (here : ℕ) → FixupTarget → FixupFrame → FixupTarget
@@ -23,6 +29,12 @@ framed_by here target (OfGroup group) = fixup_target.Group group
 framed_by here target (OfExternal external) = fixup_target.External external
 framed_by here target OfLocation = fixup_target.Segment here
 framed_by here target OfTarget = target
+
+-- what a fix-up adds for what was found
+abbrev pub patches_of : (P : ℕ) → Result Resolved FixKind → ResolvedFixup → (start : ℕ) → (positions : List ℕ)
+    → List Patch
+patches_of P reference fixup start positions =
+    option_map_or (λ r. patches_on P r fixup.self_relative fixup.location start positions) (result_ok reference) []
 
 -- a patch and perhaps a second one
 abbrev pub listed : Patch → Option Patch → List Patch

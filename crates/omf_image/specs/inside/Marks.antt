@@ -2,7 +2,7 @@
 use Rattle.std.specs.Prelude.{◌≡◌, ℕ, ◌<◌, Bool, false, ◌&&◌, nat_le, nat_lt, List, length, get_or}
 use Rattle.std.specs.List.{list_any}
 use Rattle.omf_image.specs.declared.patch.Patch.{Patch}
-use Rattle.omf_image.specs.Patch.{is_relocated, patch_start, patch_end}
+use Rattle.omf_image.specs.inside.Patches.{is_relocated, patch_start, patch_end}
 
 -- a patch has a byte at a place of the data
 abbrev pub touches : (place : ℕ) → Patch → Bool

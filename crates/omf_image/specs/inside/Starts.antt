@@ -1,17 +1,41 @@
 -- What the look-up of a start answers.
 use Rattle.std.specs.Prelude.{◌≡◌, ℕ, ◌+◌, ◌<◌, List, [], ◌∷◌, drop, length, get_or, Option, Some, None, Result, Ok}
-use Rattle.std.specs.Prelude.{Err}
+use Rattle.std.specs.Prelude.{false}
+use Rattle.std.specs.Prelude.{Err, Bool, cond, nat_lt, slice_get}
+use Rattle.std.specs.Option.{option_map_or, option_and_then}
+use Rattle.omf_module.specs.declared.Kind.TheVariants.{Stack}
+use Rattle.omf_module.specs.declared.Standing.{Standing}
 use Rattle.omf_module.specs.declared.Start.{Start}
 use Rattle.omf_module.specs.Module.{Module}
+use Rattle.omf_place.specs.declared.layout.Combined.{Combined}
+use Rattle.omf_place.specs.Layout.{Layout}
+use Rattle.omf_place.specs.Parts.{kind_in, are_joined}
+use Rattle.omf_image.specs.declared.faults.FixFault.{FixFault}
+use Rattle.omf_image.specs.declared.faults.FixFault.TheVariants.{TooManyRelocations}
 use Rattle.omf_image.specs.declared.faults.FixKind.{FixKind}
 use Rattle.omf_image.specs.declared.reference.Resolved.{Resolved}
-use Rattle.omf_image.specs.Reference.{Found}
-use Rattle.omf_image.specs.Registers.{starts_from, start_kind, entry_of}
+use Rattle.omf_image.specs.Records.{relocations}
+use Rattle.omf_image.specs.Registers.{start_kind, entry_of}
+use Rattle.omf_image.specs.inside.Entries.{starts_from}
 
 -- CS and IP, or the start's fault
-abbrev pub GivesEntry : Found Resolved → Result (ℕ × ℕ) FixKind → Type 0
+abbrev pub GivesEntry : Result Resolved FixKind → Result (ℕ × ℕ) FixKind → Type 0
 GivesEntry found (Ok entry) = (start_kind found ≡ None) × (entry ≡ entry_of 0 found)
 GivesEntry found (Err kind) = start_kind found ≡ Some kind
+
+-- more relocated words than the format holds
+abbrev pub count_fault : Layout → List Module → Option FixFault
+count_fault layout modules = cond (nat_lt 65535 (length (relocations layout modules))) (Some TooManyRelocations) None
+
+-- a relocatable segment of the kind stack
+abbrev pub is_stack : Standing → Bool
+is_stack standing = are_joined (kind_in standing) (Some Stack)
+
+-- a combined segment is a stack if its first part is
+abbrev pub is_stack_segment : List Module → Combined → Bool
+is_stack_segment modules combined =
+    option_map_or (λ s. is_stack s.standing)
+    (option_and_then (λ m. slice_get m.segments combined.segment) (slice_get modules combined.input)) false
 
 -- the first start of the modules from an input on
 abbrev pub FindsStart : List Module → (from : ℕ) → Option (ℕ × Start) → Type 0

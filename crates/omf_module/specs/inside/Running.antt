@@ -4,7 +4,8 @@ use Rattle.std.specs.Prelude.{slice_index_or, slice_set}
 use Rattle.std.specs.Option.{option_to_list}
 use Rattle.omf_record.specs.Record.{Record, Theadr, Coment, Modend, Extdef, Pubdef, Linnum, Lnames, Segdef, Grpdef}
 use Rattle.omf_record.specs.Record.{Fixupp, Ledata, Lidata}
-use Rattle.omf_record.specs.Expansion.{stored_from, expansion, contents}
+use Rattle.omf_record.specs.Expansion.{expansion, contents}
+use Rattle.omf_record.specs.inside.Fields.{stored_from}
 use Rattle.omf_record.specs.Numbers.{thread_number}
 use Rattle.omf_record.specs.Records.{Placed}
 use Rattle.omf_record.specs.declared.fixups.FrameMethod.{FrameMethod}
@@ -16,10 +17,12 @@ use Rattle.omf_module.specs.declared.ResolvedFixup.{ResolvedFixup}
 use Rattle.omf_module.specs.declared.Start.{Start}
 use Rattle.omf_module.specs.Module.{PublicSymbol, DataRecord, Module}
 use Rattle.omf_module.specs.Before.{first, entry}
-use Rattle.omf_module.specs.Tables.{segment_of, group_of, external_of, public_of, subrecords, frame_thread}
+use Rattle.omf_module.specs.Tables.{subrecords, frame_thread}
+use Rattle.omf_module.specs.inside.Entries.{segment_of, group_of, external_of, public_of}
 use Rattle.omf_module.specs.Tables.{target_thread, frame_used, target_used, fixup_of, start_of, data_records, publics}
 use Rattle.omf_module.specs.Tables.{start}
-use Rattle.omf_module.specs.Faults.{Tables, tables, group_items, begun, last_contents, header_fault, segment_fault}
+use Rattle.omf_module.specs.Faults.{Tables, tables, group_items, begun, header_fault, segment_fault}
+use Rattle.omf_module.specs.inside.Contents.{last_contents}
 use Rattle.omf_module.specs.Faults.{public_fault, data_fault, fixup_fault, start_fault}
 
 pub record State : Type 0 where

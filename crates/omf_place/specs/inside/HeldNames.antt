@@ -1,6 +1,7 @@
 -- Names and their tables as the code holds them.
 use Rattle.std.specs.Prelude.{◌≡◌, ℕ, ◌<◌, List, [], ◌∷◌, ◌++◌, get_or, length, map, Option, Some, None, IfSome, Vec}
-use Rattle.omf_place.specs.Names.{Table, empty, folded}
+use Rattle.omf_place.specs.Names.{Table, folded}
+use Rattle.omf_place.specs.inside.Steps.{empty}
 use Rattle.omf_place.specs.Scopes.{Entry, local_tables, table}
 use Rattle.omf_place.specs.declared.folded.FoldedName.{FoldedName}
 use Rattle.omf_place.specs.declared.folded.FoldedName.TheVariants.{Held, Asked}

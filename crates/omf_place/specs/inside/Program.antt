@@ -5,7 +5,7 @@ use Rattle.omf_module.specs.Module.{Module, Segment}
 use Rattle.omf_module.specs.Sound.{IsSound}
 use Rattle.omf_place.specs.declared.inputs.Input as held
 use Rattle.omf_place.specs.declared.stands.Stand.{Stand}
-use Rattle.omf_place.specs.Inputs.{Input, inputs}
+use Rattle.omf_place.specs.Parts.{Input, inputs}
 use Rattle.omf_place.specs.Parts.{Site, sites}
 use Rattle.omf_place.specs.inside.Sites.{sites_view}
 use Rattle.omf_place.specs.inside.Stands.{stand_of}

@@ -1,7 +1,8 @@
 -- The copies that a block expands to, and how many bytes those are.
 use Rattle.std.specs.Prelude.{ℕ, ◌+◌, ◌*◌, List, length}
 use Rattle.omf_record.specs.Record.{Block, Content, Nested, Blocks, End, More}
-use Rattle.omf_record.specs.Expansion.{stored_from, expansions_at}
+use Rattle.omf_record.specs.Expansion.{expansions_at}
+use Rattle.omf_record.specs.inside.Fields.{stored_from}
 
 -- how often a block repeats its content or its blocks
 abbrev pub repeat_of : Block → ℕ

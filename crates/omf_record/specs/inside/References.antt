@@ -3,8 +3,9 @@ use Rattle.std.proofs.Common.{◌≡◌, ◌≢◌, ℕ, ◌+◌, ◌*◌, ◌/�
 use Rattle.std.proofs.Common.{subst, arith}
 use Rattle.std.proofs.lemmas.Bool.{eqb-true, eqb-false}
 use Rattle.omf_record.specs.Language.{Joined, Index, Word, optional}
-use Rattle.omf_record.specs.Body.{bits, FrameBits, TargetBits, FrameText, TargetText, FixData, ReferenceText}
-use Rattle.omf_record.specs.Numbers.{absent}
+use Rattle.omf_record.specs.Body.{bits, FrameBits, TargetBits, FrameText, TargetText, ReferenceText}
+use Rattle.omf_record.specs.inside.Fields.{FixData}
+use Rattle.omf_record.specs.inside.Fields.{absent}
 use Rattle.omf_record.specs.Canonical as canon
 use Rattle.omf_record.specs.inside.Format.{Format, IsMade, Lawful, Completes, free}
 use Rattle.omf_record.specs.inside.FormatLaws.{both, both_lawful, both_blank, behind, when, when_lawful, when_blank}

@@ -3,7 +3,8 @@ use Rattle.std.proofs.Common.{◌≡◌, ℕ, ◌/◌, ◌%◌, ◌<◌, cond, e
 use Rattle.std.proofs.Common.{subst, ◌∙◌, append-nil, arith}
 use Rattle.std.proofs.lemmas.Bool.{eqb-true, eqb-false}
 use Rattle.omf_record.specs.Language.{Joined, Word, Index}
-use Rattle.omf_record.specs.Body.{bits, AbsoluteText, LengthText, Acbp, SegmentText}
+use Rattle.omf_record.specs.Body.{bits, AbsoluteText, LengthText, Acbp}
+use Rattle.omf_record.specs.inside.Fields.{SegmentText}
 use Rattle.omf_record.specs.Numbers.{alignment_number, combination_number, big}
 use Rattle.omf_record.specs.Canonical as canon
 use Rattle.omf_record.specs.inside.Format.{join, Format, Lawful, Completes, IsMade, free}

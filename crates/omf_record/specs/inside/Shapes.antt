@@ -4,7 +4,8 @@ use Rattle.std.proofs.Common.{arith}
 use Rattle.omf_record.specs.Language.{Index}
 use Rattle.omf_record.specs.Record as says
 use Rattle.omf_record.specs.View.{external_view, public_view}
-use Rattle.omf_record.specs.Body.{ExternalText, PublicText, LineText, ComponentText, BaseText}
+use Rattle.omf_record.specs.Body.{BaseText}
+use Rattle.omf_record.specs.inside.Fields.{ExternalText, PublicText, LineText, ComponentText}
 use Rattle.omf_record.specs.Canonical as canon
 use Rattle.omf_record.specs.inside.Format.{join, Format, Lawful, IsFilled, IsMade, Splits, free}
 use Rattle.omf_record.specs.inside.FormatLaws.{both, both_lawful, both_filled, made_lawful, made_filled, behind}

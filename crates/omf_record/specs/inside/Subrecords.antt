@@ -3,8 +3,10 @@ use Rattle.std.proofs.Common.{◌≡◌, ◌≢◌, ℕ, ◌+◌, ◌-◌, ◌*�
 use Rattle.std.proofs.Common.{Some, None, refl, sym, ap, subst, ◌∙◌, append-nil, arith}
 use Rattle.std.proofs.lemmas.Bool.{eqb-true, eqb-false, ltb-true, ltb-false, lt-ltb}
 use Rattle.omf_record.specs.Language.{Joined, Byte, Index, One}
-use Rattle.omf_record.specs.Body.{bits, FrameIndex, TargetIndex, ReferenceText, SubrecordText}
-use Rattle.omf_record.specs.Numbers.{bit, thread_number, frame_number, target_number, location_number}
+use Rattle.omf_record.specs.Body.{bits, ReferenceText, SubrecordText}
+use Rattle.omf_record.specs.inside.Fields.{FrameIndex, TargetIndex}
+use Rattle.omf_record.specs.Numbers.{bit, thread_number, location_number}
+use Rattle.omf_record.specs.inside.Fields.{frame_number, target_number}
 use Rattle.omf_record.specs.Canonical as canon
 use Rattle.omf_record.specs.inside.Format.{join, Format, Lawful, Completes, IsFilled, IsMade, free}
 use Rattle.omf_record.specs.inside.FormatLaws.{both, both_lawful, both_blank, behind, when_lawful, when_blank}

@@ -4,7 +4,8 @@ use Rattle.std.proofs.lemmas.Result.{err_from_is_err_and}
 use Rattle.mz.specs.declared.format.Entry.{Entry}
 use Rattle.omf_image.specs.Words.{add_words}
 use Rattle.mz.specs.Header.{entry_address}
-use Rattle.mz.specs.Loading.{memory_len, needed_len}
+use Rattle.mz.specs.Loading.{needed_len}
+use Rattle.mz.specs.Laws.{memory_len}
 use Rattle.mz.proofs.Placing.{does_not_fit, no_memory, loads_as}
 use Rattle.mz.proofs.loading.load.Goals as goal
 

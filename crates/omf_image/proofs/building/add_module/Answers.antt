@@ -1,6 +1,7 @@
 use Rattle.std.proofs.Common.{◌+◌, ◌++◌, List, subst, arith, drop}
 use Rattle.omf_module.specs.Seen.{data_seen}
-use Rattle.omf_image.specs.Records.{Entry, module_entries}
+use Rattle.omf_image.specs.Records.{Entry}
+use Rattle.omf_image.specs.inside.Entries.{module_entries}
 use Rattle.omf_image.specs.inside.Ready.{IsEntryReady}
 use Rattle.omf_image.specs.inside.States.{state}
 use Rattle.omf_image.specs.inside.Leading.{Leads}

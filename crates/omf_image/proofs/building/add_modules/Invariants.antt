@@ -1,5 +1,6 @@
 use Rattle.std.proofs.Common.{drop, All}
-use Rattle.omf_image.specs.Records.{entries, entries_from}
+use Rattle.omf_image.specs.Records.{entries}
+use Rattle.omf_image.specs.inside.Entries.{entries_from}
 use Rattle.omf_image.specs.inside.Ready.{IsEntryReady}
 use Rattle.omf_image.specs.inside.States.{state}
 use Rattle.omf_image.specs.inside.Leading.{IsWhole, Leads}

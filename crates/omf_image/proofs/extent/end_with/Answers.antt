@@ -3,7 +3,8 @@ use Rattle.std.proofs.lemmas.Bool.{eqb-true, eqb-false}
 use Rattle.omf_module.specs.Module.{DataRecord, Module}
 use Rattle.omf_module.specs.Seen.{data_seen}
 use Rattle.omf_place.specs.Layout.{Layout}
-use Rattle.omf_image.specs.Records.{Entry, module_entries, entry_start, entry_end, bytes_of}
+use Rattle.omf_image.specs.Records.{Entry, entry_start, entry_end, bytes_of}
+use Rattle.omf_image.specs.inside.Entries.{module_entries}
 use Rattle.omf_image.specs.inside.Ready.{IsEntryReady}
 use Rattle.omf_image.proofs.Meaning.{second_of_zip}
 use Rattle.omf_image.proofs.Listing.{entry_of, all_at, entry_next}

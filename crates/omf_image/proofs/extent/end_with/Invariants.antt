@@ -1,5 +1,6 @@
 use Rattle.std.proofs.Common.{◌≡◌, map, fold, max, drop}
-use Rattle.omf_image.specs.Records.{module_entries, entry_end}
+use Rattle.omf_image.specs.Records.{entry_end}
+use Rattle.omf_image.specs.inside.Entries.{module_entries}
 use Rattle.omf_image.proofs.extent.end_with.Given as goal
 
 abbrev pub invariant-loop-index : goal.invariant-loop-index

@@ -1,5 +1,6 @@
 use Rattle.std.proofs.Common.{◌≡◌, map, fold, max, drop, All}
-use Rattle.omf_image.specs.Records.{entries_from, entry_end, written}
+use Rattle.omf_image.specs.Records.{entry_end, written}
+use Rattle.omf_image.specs.inside.Entries.{entries_from}
 use Rattle.omf_image.specs.inside.Ready.{IsEntryReady}
 use Rattle.omf_image.proofs.extent.written.Given as goal
 

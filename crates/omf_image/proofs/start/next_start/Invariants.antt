@@ -1,5 +1,5 @@
 use Rattle.std.proofs.Common.{◌≡◌, drop}
-use Rattle.omf_image.specs.Registers.{starts_from}
+use Rattle.omf_image.specs.inside.Entries.{starts_from}
 use Rattle.omf_image.proofs.start.next_start.Given as goal
 
 abbrev pub invariant-loop-input : goal.invariant-loop-input

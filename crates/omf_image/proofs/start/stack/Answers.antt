@@ -1,6 +1,7 @@
 use Rattle.std.proofs.Common.{◌≡◌, ◌∙◌, ◌+◌, ◌-◌, ◌*◌, ◌/◌, ◌%◌, ℕ, Bool, Some, cond, find, drop, sym, ap, arith}
 use Rattle.omf_place.specs.declared.layout.Combined.{Combined}
-use Rattle.omf_image.specs.Registers.{is_stack_segment, stack_of}
+use Rattle.omf_image.specs.Registers.{stack_of}
+use Rattle.omf_image.specs.inside.Starts.{is_stack_segment}
 use Rattle.omf_image.proofs.Listing.{item_next}
 use Rattle.omf_image.proofs.start.stack.Goals as goal
 

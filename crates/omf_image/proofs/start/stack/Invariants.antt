@@ -1,5 +1,5 @@
 use Rattle.std.proofs.Common.{◌≡◌, find, drop}
-use Rattle.omf_image.specs.Registers.{is_stack_segment}
+use Rattle.omf_image.specs.inside.Starts.{is_stack_segment}
 use Rattle.omf_image.proofs.start.stack.Given as goal
 
 abbrev pub invariant-loop-index : goal.invariant-loop-index

@@ -2,7 +2,7 @@ use Rattle.std.proofs.Common.{◌≡◌, ◌-◌, ℕ, List, length, Some}
 use Rattle.omf_record.specs.Records.{Placed}
 use Rattle.omf_module.specs.inside.Running.{state_of}
 use Rattle.omf_module.specs.inside.Building.{state}
-use Rattle.omf_module.specs.Reading.{Took}
+use Rattle.omf_module.specs.inside.Behind.{Took}
 use Rattle.omf_module.proofs.reading.read_records.Given as goal
 
 abbrev pub invariant-loop-frame : goal.invariant-loop-frame

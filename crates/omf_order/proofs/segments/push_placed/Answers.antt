@@ -1,7 +1,7 @@
 use Rattle.std.proofs.Common.{◌∙◌, ap, sym}
 use Rattle.omf_module.specs.Module.{Segment}
 use Rattle.omf_module.specs.Seen.{segment_seen}
-use Rattle.omf_place.specs.Parts.{is_relocatable}
+use Rattle.omf_place.specs.inside.Placing.{is_relocatable}
 use Rattle.omf_order.specs.inside.Held.{segments_view}
 use Rattle.omf_order.proofs.Lists.{filter-added, filter-kept}
 use Rattle.omf_order.proofs.segments.push_placed.Goals as goal

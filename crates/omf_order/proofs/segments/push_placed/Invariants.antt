@@ -1,6 +1,6 @@
 use Rattle.std.proofs.Common.{◌≡◌, ◌++◌, take, filter}
 use Rattle.omf_module.specs.Module.{Segment}
-use Rattle.omf_place.specs.Parts.{is_relocatable}
+use Rattle.omf_place.specs.inside.Placing.{is_relocatable}
 use Rattle.omf_order.specs.inside.Held.{segments_view}
 use Rattle.omf_order.proofs.segments.push_placed.Given as goal
 

@@ -1,7 +1,8 @@
 use Rattle.std.proofs.Common.{◌∙◌, ap, sym, map, [], None}
 use Rattle.omf_place.specs.declared.groups.Grpdef as held
 use Rattle.omf_place.specs.Parts.{sites}
-use Rattle.omf_place.specs.Tables.{grpdefs, is_first_grpdef, placed_group}
+use Rattle.omf_place.specs.Tables.{grpdefs, is_first_grpdef}
+use Rattle.omf_place.specs.inside.Steps.{placed_group}
 use Rattle.omf_place.specs.inside.Groups.{GroupReach, grpdef_view}
 use Rattle.omf_place.specs.inside.Program.{addresses_of}
 use Rattle.omf_place.proofs.GroupSteps.{at, found, placed_is, viewed}

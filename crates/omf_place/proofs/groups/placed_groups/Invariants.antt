@@ -1,5 +1,6 @@
 use Rattle.std.proofs.Common.{◌≡◌, take, filter, map}
-use Rattle.omf_place.specs.Tables.{grpdefs, is_first_grpdef, placed_group}
+use Rattle.omf_place.specs.Tables.{grpdefs, is_first_grpdef}
+use Rattle.omf_place.specs.inside.Steps.{placed_group}
 use Rattle.omf_place.specs.inside.OfProgram.{of_program}
 use Rattle.omf_place.proofs.groups.placed_groups.Given as goal
 

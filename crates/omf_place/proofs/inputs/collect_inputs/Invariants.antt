@@ -1,6 +1,6 @@
 use Rattle.std.proofs.Common.{◌≡◌, take, map}
 use Rattle.std.specs.List.{AllByRecursion}
-use Rattle.omf_place.specs.Inputs.{inputs_from}
+use Rattle.omf_place.specs.Parts.{inputs_from}
 use Rattle.omf_place.specs.inside.Program.{addresses_of, HasStands, IsSoundInput, input_view}
 use Rattle.omf_place.specs.inside.Sites.{sites_view}
 use Rattle.omf_place.proofs.InputLists.{start_of}

@@ -2,7 +2,7 @@ use Rattle.std.proofs.Common.{◌≡◌, ℕ, List, Some, None, IfErr, IfOk, IfS
 use Rattle.std.specs.List.{AllByRecursion}
 use Rattle.omf_place.specs.declared.spans.SegmentSpan.{SegmentSpan}
 use Rattle.omf_place.specs.declared.stands.Stand.{Stand}
-use Rattle.omf_place.specs.Faults.{later_fault}
+use Rattle.omf_place.specs.inside.Steps.{later_fault}
 use Rattle.omf_place.specs.Layout.{layout_at}
 use Rattle.omf_place.specs.Parts.{sites}
 use Rattle.omf_place.specs.Said.{said}

@@ -1,5 +1,6 @@
 use Rattle.std.proofs.Common.{ℕ, List, map, subst, sym, ap, ◌∙◌}
-use Rattle.omf_place.specs.Placed.{IsPlaced, IsOnlyPlacement}
+use Rattle.omf_place.specs.Placed.{IsPlaced}
+use Rattle.omf_place.specs.inside.Placing.{IsOnlyPlacement}
 use Rattle.omf_place.specs.inside.Sites.{sites_view}
 use Rattle.omf_place.specs.inside.Small.{IsSmall}
 use Rattle.omf_place.specs.inside.Spans.{span_of}

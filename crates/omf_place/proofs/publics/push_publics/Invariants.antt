@@ -5,7 +5,8 @@ use Rattle.omf_module.specs.Module.{PublicSymbol}
 use Rattle.omf_place.specs.inside.HeldNames.{entry_view}
 use Rattle.omf_place.specs.inside.OfProgram.{of_program}
 use Rattle.omf_place.specs.inside.Program.{input_view}
-use Rattle.omf_place.specs.Tables.{placed_public, public_entry}
+use Rattle.omf_place.specs.Tables.{placed_public}
+use Rattle.omf_place.specs.inside.Steps.{public_entry}
 use Rattle.omf_place.proofs.publics.push_publics.Given as goal
 
 abbrev pub invariant-loop-index : goal.invariant-loop-index

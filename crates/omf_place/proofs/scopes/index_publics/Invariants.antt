@@ -1,7 +1,7 @@
 use Rattle.std.proofs.Common.{◌≡◌, map, take, find, None}
 use Rattle.std.specs.List.{enumerate_from}
 use Rattle.omf_place.specs.inside.HeldNames.{HoldsAll, entry_view}
-use Rattle.omf_place.specs.Scopes.{repeats}
+use Rattle.omf_place.specs.inside.Steps.{repeats}
 use Rattle.omf_place.proofs.scopes.index_publics.Given as goal
 
 abbrev pub invariant-loop-entry : goal.invariant-loop-entry

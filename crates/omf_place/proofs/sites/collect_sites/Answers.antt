@@ -2,7 +2,7 @@ use Rattle.std.proofs.Common.{length, ap, ◌∙◌, arith, refl, sym, subst}
 use Rattle.std.proofs.lemmas.Option.{slice_get_read}
 use Rattle.std.proofs.lemmas.List.{length-map}
 use Rattle.omf_place.proofs.SiteLists.{sites_from-more, numbered_sites, take-all}
-use Rattle.omf_place.specs.Parts.{sites_from}
+use Rattle.omf_place.specs.inside.Placing.{sites_from}
 use Rattle.omf_place.specs.inside.Numbered.{IsNumberedFrom}
 use Rattle.omf_place.specs.inside.Sites.{site}
 use Rattle.omf_place.proofs.sites.collect_sites.Goals as goal

@@ -1,5 +1,6 @@
 use Rattle.std.proofs.Common.{◌≡◌, take}
-use Rattle.omf_place.specs.Parts.{sites_from, Site}
+use Rattle.omf_place.specs.Parts.{Site}
+use Rattle.omf_place.specs.inside.Placing.{sites_from}
 use Rattle.std.specs.List.{AllByRecursion}
 use Rattle.omf_module.specs.Sound.{SegmentFits}
 use Rattle.omf_place.specs.inside.Sites.{sites_view}

@@ -1,5 +1,5 @@
 use Rattle.std.proofs.Common.{rules, sym, ◌∙◌, ◌&&◌, find, ap, Bool}
-use Rattle.omf_place.specs.Faults.{is_long_segment}
+use Rattle.omf_place.specs.inside.Steps.{is_long_segment}
 use Rattle.omf_place.specs.Parts.{Site, placement_order}
 use Rattle.omf_place.specs.Placed.{leads}
 use Rattle.omf_place.specs.inside.Sites.{sites_view}

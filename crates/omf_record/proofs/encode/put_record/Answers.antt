@@ -4,6 +4,10 @@ use Rattle.omf_record.specs.inside.PrimitiveLaws.{index, index_lawful}
 use Rattle.omf_record.proofs.Parts.{first_fails, second_written}
 use Rattle.omf_record.proofs.encode.put_record.Goals as goal
 
+pub returns-in-Extdef : goal.returns-in-Extdef
+unfolding Rattle.omf_record.specs.Body.Body Rattle.omf_record.specs.Canonical.canonical Rattle.omf_record.specs.View.view
+returns-in-Extdef g c = rw c.in-Extdef.is c.put-in-Extdef.ensures
+
 pub returns-in-Pubdef : goal.returns-in-Pubdef
 unfolding Rattle.omf_record.specs.Body.Body Rattle.omf_record.specs.Canonical.canonical Rattle.omf_record.specs.View.view
 returns-in-Pubdef g c = rw c.in-Pubdef.is c.put_both.ensures

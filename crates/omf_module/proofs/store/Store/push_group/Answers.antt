@@ -1,5 +1,5 @@
 use Rattle.std.proofs.Common.{◌≡◌, ◌++◌, ◌∷◌, [], map, ap, ◌∙◌}
-use Rattle.omf_module.specs.Tables.{group_of}
+use Rattle.omf_module.specs.inside.Entries.{group_of}
 use Rattle.omf_module.specs.inside.Store.{Kept, elements, group, IsConsistent}
 use Rattle.omf_module.proofs.Stored.{group_kept, group_in}
 use Rattle.omf_module.proofs.store.Store.push_group.Goals as goal

@@ -1,5 +1,5 @@
 use Rattle.std.proofs.Common.{◌≡◌, ◌++◌, ◌∷◌, [], map, ap, ◌∙◌}
-use Rattle.omf_module.specs.Tables.{segment_of}
+use Rattle.omf_module.specs.inside.Entries.{segment_of}
 use Rattle.omf_module.specs.inside.Store.{Kept, elements, segment, IsConsistent}
 use Rattle.omf_module.proofs.Stored.{segment_kept, segment_in}
 use Rattle.omf_module.proofs.store.Store.push_segment.Goals as goal

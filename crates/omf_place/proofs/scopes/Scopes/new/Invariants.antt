@@ -1,5 +1,5 @@
 use Rattle.std.proofs.Common.{◌≡◌, replicate}
-use Rattle.omf_place.specs.Names.{empty}
+use Rattle.omf_place.specs.inside.Steps.{empty}
 use Rattle.omf_place.proofs.scopes.Scopes.new.Given as goal
 
 abbrev pub invariant-loop : goal.invariant-loop

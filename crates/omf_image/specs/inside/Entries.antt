@@ -1,0 +1,26 @@
+-- The data records and the starts of modules from an input on.
+use Rattle.std.specs.Prelude.{ℕ, List, map, flat_map, Option}
+use Rattle.std.specs.List.{enumerate_from}
+use Rattle.std.specs.Option.{option_map, option_to_list}
+use Rattle.omf_module.specs.declared.Start.{Start}
+use Rattle.omf_module.specs.Module.{Module}
+use Rattle.omf_image.specs.Records.{Entry}
+use Rattle.omf_image.specs.Registers.{StartEntry}
+
+-- the data records of a module
+abbrev pub module_entries : (input : ℕ) → Module → List Entry
+module_entries input module' =
+    map (λ d. record { input = input; module' = module'; data_record = d }) module'.data_records
+
+-- those of modules whose inputs count up from a first one
+abbrev pub entries_from : (input : ℕ) → List Module → List Entry
+entries_from input modules = flat_map (λ m. module_entries m.0 m.1) (enumerate_from input modules)
+
+-- the start of a module, if it has one
+abbrev pub module_start : Option Start → (input : ℕ) → Module → List StartEntry
+module_start start input module' =
+    option_to_list (option_map (λ s. record { input = input; module' = module'; start = s }) start)
+
+-- the starts of modules whose inputs count up from a first one
+abbrev pub starts_from : (input : ℕ) → List Module → List StartEntry
+starts_from input modules = flat_map (λ m. module_start m.1.start m.0 m.1) (enumerate_from input modules)
