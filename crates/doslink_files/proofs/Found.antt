@@ -1,5 +1,6 @@
 -- Files that were read, one behind the other.
-use Rattle.std.proofs.Common.{◌≡◌, ℕ, suc, ◌+◌, ◌<◌, List, [], ◌∷◌, ◌++◌, length, map, take, get_or, Some, None, IfSome, refl, arith, sym, subst, ap, ◌∙◌}
+use Rattle.std.proofs.Common.{◌≡◌, ℕ, suc, ◌+◌, ◌<◌, List, [], ◌∷◌, ◌++◌, length, map, take, get_or, Some, None, IfSome}
+use Rattle.std.proofs.Common.{refl, arith, sym, subst, ap, ◌∙◌}
 use Rattle.std.proofs.lemmas.List.{get_or-map, length-map, map-append, take_more}
 use Rattle.std.specs.declared.option.Option.{Option}
 use Rattle.std.specs.Borrow.{Bor}
@@ -20,7 +21,8 @@ pub Each-next : {A : Type 0} (holds : List ℕ → List ℕ → Type 0) (names :
     → Each holds (map (λ n. n.now) (take (i + 1) names)) (contents new)
 Each-next holds names i d old new file h pushed each one =
     let named : map (λ n. n.now) (take i names) ++ (get_or names i d).now ∷ [] ≡ map (λ n. n.now) (take (i + 1) names) =
-    sym (ap (map (λ n. n.now)) (take_more names i d h) ∙ map-append (λ n. n.now) (take i names) (get_or names i d ∷ [])) in
+    sym (ap (map (λ n. n.now)) (take_more names i d h)
+    ∙ map-append (λ n. n.now) (take i names) (get_or names i d ∷ [])) in
     let grown : contents old ++ file.bytes.items ∷ [] ≡ contents new =
     sym (ap contents pushed ∙ map-append (λ f. f.bytes.items) old (file ∷ [])) in
     subst (λ ns. Each holds ns (contents new)) named

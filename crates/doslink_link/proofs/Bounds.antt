@@ -1,5 +1,6 @@
 -- The layout of what was linked is bounded.
-use Rattle.std.proofs.Common.{◌≡◌, ℕ, ◌≤◌, inl, inr, nat_lt, true, List, Result, Ok, Err, IfOk, Some, None, map, refl, sym, subst, ◌∙◌}
+use Rattle.std.proofs.Common.{◌≡◌, ℕ, ◌≤◌, inl, inr, nat_lt, true, List, Result, Ok, Err, IfOk, Some, None, map, refl}
+use Rattle.std.proofs.Common.{sym, subst, ◌∙◌}
 use Rattle.std.proofs.lemmas.Bool.{cases_lt, lt-ltb}
 use Rattle.std.specs.declared.option.Option.{Option}
 use Rattle.std.specs.Option.{option_or}
@@ -23,19 +24,23 @@ or_none (Some x) b e = cc
 size_fits : (size : ℕ) → size_fault size ≡ None → size ≤ 1048560
 size_fits size none = elim (cases_lt 1048560 size) [
   | inl h ↦ absurd (let test : nat_lt 1048560 size ≡ true = lt-ltb 1048560 size h in
-      let some : size_fault size ≡ Some ProgramTooLarge = rw test refl in let e : Some ProgramTooLarge ≡ None = sym some ∙ none in cc)
+      let some : size_fault size ≡ Some ProgramTooLarge = rw test refl in
+      let e : Some ProgramTooLarge ≡ None = sym some ∙ none in cc)
   | inr h ↦ h
 ]
 
 bounded_layout : (names : Names) (program : List Module) (layout : Layout) → IsOnlyLayout names program layout
     → IsBounded program layout
 bounded_layout names program layout ((addresses, placed, none, is), only) =
-    let first = or_none (segment_fault (sites program) addresses) (option_or (size_fault layout.size) (later_fault names program addresses)) none in
+    let first =
+    or_none (segment_fault (sites program) addresses)
+    (option_or (size_fault layout.size) (later_fault names program addresses)) none in
     let second = or_none (size_fault layout.size) (later_fault names program addresses) first.1 in
     bounded names program addresses layout.size placed first.0 (size_fits layout.size second.0) layout is
 
 pub bounded_report : {S A : Type 0} (told : S → Option (List ℕ)) (failures : S → ℕ) (names : Names) (olds news : List S)
-    (wold wnew : Option (List ℕ)) (r : Result (Report A) (LinkFault A)) → Links told failures names olds news wold wnew r
+    (wold wnew : Option (List ℕ)) (r : Result (Report A) (LinkFault A))
+    → Links told failures names olds news wold wnew r
     → IfOk r (λ report. IsBounded report.modules.items report.layout)
 bounded_report told failures names olds news wold wnew (Ok report) (lists, inputs, (is, file)) =
     subst (λ ms. IsBounded ms report.layout) (sym is.read)

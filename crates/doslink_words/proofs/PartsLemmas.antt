@@ -1,6 +1,7 @@
 -- What holds of loops over the parts of a directive.
 use Rattle.std.proofs.Common.{◌≡◌, ℕ, ◌+◌, ◌<◌, ◌≤◌, Bool, true, false, cond, List, [], ◌∷◌, ◌++◌, length, drop, get_or}
-use Rattle.std.proofs.Common.{Option, None, Result, Ok, Err, refl, sym, ap, ◌∙◌, ◌⊎◌, ◌-◌, arith, inl, inr, length-drop, not, subst, suc, take}
+use Rattle.std.proofs.Common.{Option, None, Result, Ok, Err, refl, sym, ap, ◌∙◌, ◌⊎◌, ◌-◌, arith, inl, inr, length-drop}
+use Rattle.std.proofs.Common.{not, subst, suc, take}
 use Rattle.std.specs.List.{onto_first, position_or_len}
 use Rattle.std.specs.Borrow.{Bor}
 use Rattle.std.proofs.lemmas.List.{drop-drop, get_or-map, length-map, map-append, take_all}
@@ -14,7 +15,9 @@ use Rattle.std.proofs.lemmas.List.{at_drop_more, at_drop_all}
 use Rattle.clap.specs.Words.{Text}
 use Rattle.doslink_words.specs.declared.faults.DirectiveFaultKind.{DirectiveFaultKind}
 use Rattle.doslink_words.specs.declared.tokens.Token.{Token}
-use Rattle.doslink_words.specs.Directives.{and_then, is_comma, one_name, option_meaning, option_of, parts, with_names, with_options, line_meaning, lines_meaning, on_line, order_item, says_nothing, tokens_meaning, with_items, FaultyLine, Means}
+use Rattle.doslink_words.specs.Directives.{and_then, is_comma, one_name, option_meaning, option_of, parts, with_names}
+use Rattle.doslink_words.specs.Directives.{with_options, line_meaning, lines_meaning, on_line, order_item, says_nothing}
+use Rattle.doslink_words.specs.Directives.{tokens_meaning, with_items, FaultyLine, Means}
 use Rattle.doslink_words.specs.Said.{Said, SaidItem, item_of, items_of}
 use Rattle.doslink_words.specs.Tokens.{Piece, Comma, texts, tokens}
 use Rattle.doslink_words.specs.inside.Tokens.{piece_of, pieces}
@@ -34,17 +37,21 @@ part_len = position_or_len is_comma
 take_one_more : (n : ℕ) (p : Piece) (ps : List Piece) → take (1 + n) (p ∷ ps) ≡ p ∷ take n ps
 take_one_more n p ps = let e : 1 + n ≡ suc n = omega arith in ap (λ (m : ℕ). take m (p ∷ ps)) e
 
-first_step : (b : Bool) (p : Piece) (ps : List Piece) (more : List (List Piece)) → parts ps ≡ take (part_len ps) ps ∷ more
-    → (rest : List (List Piece)) × (cond b ([] ∷ parts ps) (onto_first p (parts ps)) ≡ take (cond (not b) (1 + part_len ps) 0) (p ∷ ps) ∷ rest)
+first_step : (b : Bool) (p : Piece) (ps : List Piece) (more : List (List Piece))
+    → parts ps ≡ take (part_len ps) ps ∷ more
+    → (rest : List (List Piece))
+    × (cond b ([] ∷ parts ps) (onto_first p (parts ps)) ≡ take (cond (not b) (1 + part_len ps) 0) (p ∷ ps) ∷ rest)
 first_step true p ps more is = (parts ps, refl)
-first_step false p ps more is = (more, ap (onto_first p) is ∙ ap (λ (xs : List Piece). xs ∷ more) (sym (take_one_more (part_len ps) p ps)))
+first_step false p ps more is =
+    (more, ap (onto_first p) is ∙ ap (λ (xs : List Piece). xs ∷ more) (sym (take_one_more (part_len ps) p ps)))
 
 -- the first part stands before the first comma
 first_part : (ps : List Piece) → (more : List (List Piece)) × (parts ps ≡ take (part_len ps) ps ∷ more)
 first_part [] = ([], refl)
 first_part (p ∷ ps) = let before = first_part ps in first_step (is_comma p) p ps before.0 before.1
 
-last_step : (b : Bool) (p : Piece) (ps : List Piece) → (part_len ps ≡ length ps → parts ps ≡ ps ∷ []) → cond (not b) (1 + part_len ps) 0 ≡ length (p ∷ ps)
+last_step : (b : Bool) (p : Piece) (ps : List Piece) → (part_len ps ≡ length ps → parts ps ≡ ps ∷ [])
+    → cond (not b) (1 + part_len ps) 0 ≡ length (p ∷ ps)
     → cond b ([] ∷ parts ps) (onto_first p (parts ps)) ≡ (p ∷ ps) ∷ []
 last_step true p ps before e = absurd (omega (arith, e))
 last_step false p ps before e = ap (onto_first p) (before (omega (arith, e)))
@@ -64,7 +71,8 @@ pub record IsPart (ops : List Token) (start end : ℕ) (part : List Token) : Typ
   pub ends : end ≡ start + part_len (drop start (pieces ops))
   pub is : part ≡ take (end - start) (drop start ops)
 
-part_pieces : (ops : List Token) (start end : ℕ) (part : List Token) → IsPart ops start end part → pieces part ≡ take (part_len (drop start (pieces ops))) (drop start (pieces ops))
+part_pieces : (ops : List Token) (start end : ℕ) (part : List Token) → IsPart ops start end part
+    → pieces part ≡ take (part_len (drop start (pieces ops))) (drop start (pieces ops))
 part_pieces ops start end part here =
     let long : end - start ≡ part_len (drop start (pieces ops)) = omega (arith, here.ends) in
     ap pieces here.is ∙ (part_at ops start (end - start) ∙ ap (λ (n : ℕ). take n (drop start (pieces ops))) long)
@@ -73,16 +81,20 @@ rest_len : (ops : List Token) (start : ℕ) → length (drop start (pieces ops))
 rest_len ops start = length-drop start (pieces ops) ∙ ap (λ (n : ℕ). n - start) (length-map ops piece_of)
 
 -- the part and those behind it: any, none, and those behind the comma
-part_any : (ops : List Token) (start end : ℕ) (part : List Token) → IsPart ops start end part → (more : List (List Piece)) × (parts (drop start (pieces ops)) ≡ pieces part ∷ more)
+part_any : (ops : List Token) (start end : ℕ) (part : List Token) → IsPart ops start end part
+    → (more : List (List Piece)) × (parts (drop start (pieces ops)) ≡ pieces part ∷ more)
 part_any ops start end part here =
     let first = first_part (drop start (pieces ops)) in
     (first.0, first.1 ∙ ap (λ (p : List Piece). p ∷ first.0) (sym (part_pieces ops start end part here)))
 
-part_none : (ops : List Token) (start end : ℕ) (part : List Token) → IsPart ops start end part → end ≡ length ops → parts (drop start (pieces ops)) ≡ pieces part ∷ []
+part_none : (ops : List Token) (start end : ℕ) (part : List Token) → IsPart ops start end part → end ≡ length ops
+    → parts (drop start (pieces ops)) ≡ pieces part ∷ []
 part_none ops start end part here last =
     let rest = drop start (pieces ops) in
     let whole : part_len rest ≡ length rest = omega (arith, here.ends, here.within, last, rest_len ops start) in
-    last_part rest whole ∙ ap (λ (p : List Piece). p ∷ []) (sym (part_pieces ops start end part here ∙ take_all (part_len rest) rest (omega (arith, whole))))
+    last_part rest whole
+    ∙ ap (λ (p : List Piece). p ∷ [])
+    (sym (part_pieces ops start end part here ∙ take_all (part_len rest) rest (omega (arith, whole))))
 
 part_more : (ops : List Token) (start end : ℕ) (part : List Token) → IsPart ops start end part → end < length ops
     → parts (drop start (pieces ops)) ≡ pieces part ∷ parts (drop (end + 1) (pieces ops))
@@ -92,23 +104,29 @@ part_more ops start end part here more =
     let behind : start + (part_len rest + 1) ≡ end + 1 = omega (arith, here.ends) in
     slice_split_first is_comma rest Comma inside
     ∙ (ap (λ (p : List Piece). p ∷ parts (drop (part_len rest + 1) rest)) (sym (part_pieces ops start end part here))
-    ∙ ap (λ (ps : List Piece). pieces part ∷ parts ps) (drop-drop (part_len rest + 1) start (pieces ops) ∙ ap (λ (n : ℕ). drop n (pieces ops)) behind))
+    ∙ ap (λ (ps : List Piece). pieces part ∷ parts ps)
+    (drop-drop (part_len rest + 1) start (pieces ops) ∙ ap (λ (n : ℕ). drop n (pieces ops)) behind))
 
 -- where a part ends: at a comma, behind a token that is none, and behind the last
 module _ (ops : List Token) (end : ℕ) where
-  comma_at : (d : Token) → end < length ops → is_comma (get_or (pieces ops) end (piece_of d)) ≡ is_comma (piece_of (get_or ops end d))
+  comma_at : (d : Token) → end < length ops
+      → is_comma (get_or (pieces ops) end (piece_of d)) ≡ is_comma (piece_of (get_or ops end d))
   comma_at d inside = ap is_comma (get_or-map piece_of ops end d (piece_of d) inside)
 
   pieces_inside : end < length ops → end < length (pieces ops)
   pieces_inside inside = omega (arith, length-map ops piece_of)
 
-  pub ends_here : (d : Token) (r : Bool) → end < length ops → r ≡ is_comma (piece_of (get_or ops end d)) → r ≡ true → part_len (drop end (pieces ops)) ≡ 0
+  pub ends_here : (d : Token) (r : Bool) → end < length ops → r ≡ is_comma (piece_of (get_or ops end d)) → r ≡ true
+      → part_len (drop end (pieces ops)) ≡ 0
   ends_here d r inside is e =
-      prefix_len-drop_no (λ p. not (is_comma p)) (pieces ops) end (piece_of d) (pieces_inside inside) (ap not (comma_at d inside ∙ (sym is ∙ e)))
+      prefix_len-drop_no (λ p. not (is_comma p)) (pieces ops) end (piece_of d) (pieces_inside inside)
+      (ap not (comma_at d inside ∙ (sym is ∙ e)))
 
-  pub goes_on : (d : Token) (r : Bool) → end < length ops → r ≡ is_comma (piece_of (get_or ops end d)) → r ≡ false → part_len (drop end (pieces ops)) ≡ 1 + part_len (drop (end + 1) (pieces ops))
+  pub goes_on : (d : Token) (r : Bool) → end < length ops → r ≡ is_comma (piece_of (get_or ops end d)) → r ≡ false
+      → part_len (drop end (pieces ops)) ≡ 1 + part_len (drop (end + 1) (pieces ops))
   goes_on d r inside is e =
-      prefix_len-drop_yes (λ p. not (is_comma p)) (pieces ops) end (piece_of d) (pieces_inside inside) (ap not (comma_at d inside ∙ (sym is ∙ e)))
+      prefix_len-drop_yes (λ p. not (is_comma p)) (pieces ops) end (piece_of d) (pieces_inside inside)
+      (ap not (comma_at d inside ∙ (sym is ∙ e)))
 
   pub ends_last : length ops ≤ end → part_len (drop end (pieces ops)) ≡ 0
   ends_last done = prefix_len-drop_all (λ p. not (is_comma p)) (pieces ops) end (omega (arith, length-map ops piece_of))
@@ -116,114 +134,159 @@ module _ (ops : List Token) (end : ℕ) where
 -- ---- names
 
 module _ (ops : List Token) (start end : ℕ) (part : List Token) (here : IsPart ops start end part) where
-  pub names_fault : (had : List Text) (kind : DirectiveFaultKind) → one_name (pieces part) ≡ Err kind → with_names had (parts (drop start (pieces ops))) ≡ Err kind
+  pub names_fault : (had : List Text) (kind : DirectiveFaultKind) → one_name (pieces part) ≡ Err kind
+      → with_names had (parts (drop start (pieces ops))) ≡ Err kind
   names_fault had kind is =
       let any = part_any ops start end part here in
-      ap (with_names had) any.1 ∙ ap (λ (r : Result Text DirectiveFaultKind). and_then r (λ name. with_names (had ++ (name ∷ [])) any.0)) is
+      ap (with_names had) any.1
+      ∙ ap (λ (r : Result Text DirectiveFaultKind). and_then r (λ name. with_names (had ++ (name ∷ [])) any.0)) is
 
   pub names_more : (had : List Text) (name : Text) → end < length ops → one_name (pieces part) ≡ Ok name
-      → with_names had (parts (drop start (pieces ops))) ≡ with_names (had ++ (name ∷ [])) (parts (drop (end + 1) (pieces ops)))
+      → with_names had (parts (drop start (pieces ops)))
+      ≡ with_names (had ++ (name ∷ [])) (parts (drop (end + 1) (pieces ops)))
   names_more had name more is =
       ap (with_names had) (part_more ops start end part here more)
-      ∙ ap (λ (r : Result Text DirectiveFaultKind). and_then r (λ name. with_names (had ++ (name ∷ [])) (parts (drop (end + 1) (pieces ops))))) is
+      ∙ ap
+      (λ (r : Result Text DirectiveFaultKind).
+      and_then r (λ name. with_names (had ++ (name ∷ [])) (parts (drop (end + 1) (pieces ops))))) is
 
-  pub names_end : (had : List Text) (name : Text) → end ≡ length ops → one_name (pieces part) ≡ Ok name → with_names had (parts (drop start (pieces ops))) ≡ Ok (had ++ (name ∷ []))
+  pub names_end : (had : List Text) (name : Text) → end ≡ length ops → one_name (pieces part) ≡ Ok name
+      → with_names had (parts (drop start (pieces ops))) ≡ Ok (had ++ (name ∷ []))
   names_end had name last is =
-      ap (with_names had) (part_none ops start end part here last) ∙ ap (λ (r : Result Text DirectiveFaultKind). and_then r (λ name. Ok (had ++ (name ∷ [])))) is
+      ap (with_names had) (part_none ops start end part here last)
+      ∙ ap (λ (r : Result Text DirectiveFaultKind). and_then r (λ name. Ok (had ++ (name ∷ [])))) is
 
   -- ---- options
 
-  options_all : (line : ℕ) (said : Said) (more : List (List Piece)) (o : Text × Option Text) → parts (drop start (pieces ops)) ≡ pieces part ∷ more → option_of (pieces part) ≡ Ok o
-      → with_options line (parts (drop start (pieces ops))) said ≡ and_then (option_meaning line o.0 o.1 said) (with_options line more)
+  options_all : (line : ℕ) (said : Said) (more : List (List Piece)) (o : Text × Option Text)
+      → parts (drop start (pieces ops)) ≡ pieces part ∷ more → option_of (pieces part) ≡ Ok o
+      → with_options line (parts (drop start (pieces ops))) said
+      ≡ and_then (option_meaning line o.0 o.1 said) (with_options line more)
   options_all line said more o are is =
       ap (λ (ps : List (List Piece)). with_options line ps said) are
-      ∙ ap (λ (r : Result (Text × Option Text) DirectiveFaultKind). and_then r (λ o. and_then (option_meaning line o.0 o.1 said) (with_options line more))) is
+      ∙ ap
+      (λ (r : Result (Text × Option Text) DirectiveFaultKind).
+      and_then r (λ o. and_then (option_meaning line o.0 o.1 said) (with_options line more))) is
 
-  pub options_wrong : (line : ℕ) (said : Said) (kind : DirectiveFaultKind) → option_of (pieces part) ≡ Err kind → with_options line (parts (drop start (pieces ops))) said ≡ Err kind
+  pub options_wrong : (line : ℕ) (said : Said) (kind : DirectiveFaultKind) → option_of (pieces part) ≡ Err kind
+      → with_options line (parts (drop start (pieces ops))) said ≡ Err kind
   options_wrong line said kind is =
       let any = part_any ops start end part here in
       ap (λ (ps : List (List Piece)). with_options line ps said) any.1
-      ∙ ap (λ (r : Result (Text × Option Text) DirectiveFaultKind). and_then r (λ o. and_then (option_meaning line o.0 o.1 said) (with_options line any.0))) is
+      ∙ ap
+      (λ (r : Result (Text × Option Text) DirectiveFaultKind).
+      and_then r (λ o. and_then (option_meaning line o.0 o.1 said) (with_options line any.0))) is
 
-  pub options_fault : (line : ℕ) (said after : Said) (o : Text × Option Text) (r : Result Unit LineFault) (f : LineFault) (whole : Result Said DirectiveFaultKind) → option_of (pieces part) ≡ Ok o
-      → Follows (Err f) (option_meaning line o.0 o.1 said) after → r ≡ Err f → whole ≡ with_options line (parts (drop start (pieces ops))) said → Follows r whole after
+  pub options_fault : (line : ℕ) (said after : Said) (o : Text × Option Text) (r : Result Unit LineFault)
+      (f : LineFault) (whole : Result Said DirectiveFaultKind) → option_of (pieces part) ≡ Ok o
+      → Follows (Err f) (option_meaning line o.0 o.1 said) after → r ≡ Err f
+      → whole ≡ with_options line (parts (drop start (pieces ops))) said → Follows r whole after
   options_fault line said after o r Memory whole is follows e same = rw e tt
   options_fault line said after o r (Wrong kind) whole is follows e same =
       let any = part_any ops start end part here in
-      rw e (same ∙ (options_all line said any.0 o any.1 is ∙ ap (λ (m : Result Said DirectiveFaultKind). and_then m (with_options line any.0)) follows))
+      rw e
+      (same
+      ∙ (options_all line said any.0 o any.1 is
+      ∙ ap (λ (m : Result Said DirectiveFaultKind). and_then m (with_options line any.0)) follows))
 
-  pub options_more : (line : ℕ) (said next : Said) (o : Text × Option Text) → end < length ops → option_of (pieces part) ≡ Ok o → option_meaning line o.0 o.1 said ≡ Ok next
-      → with_options line (parts (drop start (pieces ops))) said ≡ with_options line (parts (drop (end + 1) (pieces ops))) next
+  pub options_more : (line : ℕ) (said next : Said) (o : Text × Option Text) → end < length ops
+      → option_of (pieces part) ≡ Ok o → option_meaning line o.0 o.1 said ≡ Ok next
+      → with_options line (parts (drop start (pieces ops))) said
+      ≡ with_options line (parts (drop (end + 1) (pieces ops))) next
   options_more line said next o more is means =
-      options_all line said _ o (part_more ops start end part here more) is ∙ ap (λ (m : Result Said DirectiveFaultKind). and_then m (with_options line (parts (drop (end + 1) (pieces ops))))) means
+      options_all line said _ o (part_more ops start end part here more) is
+      ∙ ap
+      (λ (m : Result Said DirectiveFaultKind). and_then m (with_options line (parts (drop (end + 1) (pieces ops)))))
+      means
 
-  pub options_end : (line : ℕ) (said next : Said) (o : Text × Option Text) → end ≡ length ops → option_of (pieces part) ≡ Ok o → option_meaning line o.0 o.1 said ≡ Ok next
+  pub options_end : (line : ℕ) (said next : Said) (o : Text × Option Text) → end ≡ length ops
+      → option_of (pieces part) ≡ Ok o → option_meaning line o.0 o.1 said ≡ Ok next
       → with_options line (parts (drop start (pieces ops))) said ≡ Ok next
   options_end line said next o last is means =
-      options_all line said [] o (part_none ops start end part here last) is ∙ ap (λ (m : Result Said DirectiveFaultKind). and_then m (with_options line [])) means
+      options_all line said [] o (part_none ops start end part here last) is
+      ∙ ap (λ (m : Result Said DirectiveFaultKind). and_then m (with_options line [])) means
 
 -- ---- the items of an order
 
-pub items_more : (had new : List OrderItem) (before middle after : List Token) (k n : Token) (item : OrderItem) → before ≡ k ∷ middle → middle ≡ n ∷ after
-    → order_item (piece_of k) (piece_of n) ≡ Ok (item_of item) → new ≡ had ++ (item ∷ []) → with_items (items_of had) (pieces before) ≡ with_items (items_of new) (pieces after)
+pub items_more : (had new : List OrderItem) (before middle after : List Token) (k n : Token) (item : OrderItem)
+    → before ≡ k ∷ middle → middle ≡ n ∷ after
+    → order_item (piece_of k) (piece_of n) ≡ Ok (item_of item) → new ≡ had ++ (item ∷ [])
+    → with_items (items_of had) (pieces before) ≡ with_items (items_of new) (pieces after)
 items_more had new before middle after k n item one two is put =
     ap (λ (ts : List Token). with_items (items_of had) (pieces ts)) (one ∙ ap (λ (ts : List Token). k ∷ ts) two)
-    ∙ (ap (λ (r : Result SaidItem DirectiveFaultKind). and_then r (λ item. with_items (items_of had ++ (item ∷ [])) (pieces after))) is
-    ∙ ap (λ (is : List SaidItem). with_items is (pieces after)) (sym (ap items_of put ∙ map-append item_of had (item ∷ []))))
+    ∙ (ap
+    (λ (r : Result SaidItem DirectiveFaultKind).
+    and_then r (λ item. with_items (items_of had ++ (item ∷ [])) (pieces after))) is
+    ∙ ap (λ (is : List SaidItem). with_items is (pieces after))
+    (sym (ap items_of put ∙ map-append item_of had (item ∷ []))))
 
 -- ---- faults
 
-pub follows_wrong : {A : Type 0} (r : Result Unit LineFault) (kind : DirectiveFaultKind) (meant : Result A DirectiveFaultKind) (after : A) → r ≡ Err (Wrong kind) → meant ≡ Err kind → Follows r meant after
+pub follows_wrong : {A : Type 0} (r : Result Unit LineFault) (kind : DirectiveFaultKind)
+    (meant : Result A DirectiveFaultKind) (after : A) → r ≡ Err (Wrong kind) → meant ≡ Err kind → Follows r meant after
 follows_wrong r kind meant after is e = rw is e
 
 -- ---- lines
 
-pub lines_more : (said next : Said) (all : List Text) (i : ℕ) (text : Text) → i < length all → get_or all i text ≡ text → line_meaning (i + 1) text said ≡ Ok next
+pub lines_more : (said next : Said) (all : List Text) (i : ℕ) (text : Text) → i < length all → get_or all i text ≡ text
+    → line_meaning (i + 1) text said ≡ Ok next
     → lines_meaning i (drop i all) said ≡ lines_meaning (i + 1) (drop (i + 1) all) next
 lines_more said next all i text inside here means =
     at_drop_more (λ (ls : List Text). lines_meaning i ls said) all i text inside
     ∙ (ap (λ (t : Text). lines_meaning i (t ∷ drop (i + 1) all) said) here
-    ∙ ap (λ (r : Result Said DirectiveFaultKind). on_line (i + 1) text r (lines_meaning (i + 1) (drop (i + 1) all))) means)
+    ∙ ap (λ (r : Result Said DirectiveFaultKind). on_line (i + 1) text r (lines_meaning (i + 1) (drop (i + 1) all)))
+    means)
 
-pub lines_fault : (said : Said) (all : List Text) (i : ℕ) (text : Text) (kind : DirectiveFaultKind) → i < length all → get_or all i text ≡ text → line_meaning (i + 1) text said ≡ Err kind
+pub lines_fault : (said : Said) (all : List Text) (i : ℕ) (text : Text) (kind : DirectiveFaultKind) → i < length all
+    → get_or all i text ≡ text → line_meaning (i + 1) text said ≡ Err kind
     → lines_meaning i (drop i all) said ≡ Err (record { line = i + 1; text = text; kind = kind })
 lines_fault said all i text kind inside here means =
     at_drop_more (λ (ls : List Text). lines_meaning i ls said) all i text inside
     ∙ (ap (λ (t : Text). lines_meaning i (t ∷ drop (i + 1) all) said) here
-    ∙ ap (λ (r : Result Said DirectiveFaultKind). on_line (i + 1) text r (lines_meaning (i + 1) (drop (i + 1) all))) means)
+    ∙ ap (λ (r : Result Said DirectiveFaultKind). on_line (i + 1) text r (lines_meaning (i + 1) (drop (i + 1) all)))
+    means)
 
 pub lines_end : (said : Said) (all : List Text) (i : ℕ) → length all ≤ i → lines_meaning i (drop i all) said ≡ Ok said
 lines_end said all i done = at_drop_all (λ (ls : List Text). lines_meaning i ls said) all i done
 
 -- ---- a line
 
-pub line_nothing : (line : ℕ) (text : Text) (said : Said) → says_nothing text ≡ true → line_meaning line text said ≡ Ok said
+pub line_nothing : (line : ℕ) (text : Text) (said : Said) → says_nothing text ≡ true
+    → line_meaning line text said ≡ Ok said
 unfolding line_meaning
 line_nothing line text said e =
-    ap (λ (b : Bool). cond b (Ok said) (option_map_or (tokens_meaning line said) (tokens Directives text) (Err UnclosedQuote))) e
+    ap (λ (b : Bool).
+    cond b (Ok said) (option_map_or (tokens_meaning line said) (tokens Directives text) (Err UnclosedQuote))) e
 
-pub line_tokens : (line : ℕ) (text : Text) (said : Said) (o : Option (List Piece)) → says_nothing text ≡ false → tokens Directives text ≡ o
+pub line_tokens : (line : ℕ) (text : Text) (said : Said) (o : Option (List Piece)) → says_nothing text ≡ false
+    → tokens Directives text ≡ o
     → line_meaning line text said ≡ option_map_or (tokens_meaning line said) o (Err UnclosedQuote)
 unfolding line_meaning
 line_tokens line text said o e is =
-    ap (λ (b : Bool). cond b (Ok said) (option_map_or (tokens_meaning line said) (tokens Directives text) (Err UnclosedQuote))) e
+    ap (λ (b : Bool).
+    cond b (Ok said) (option_map_or (tokens_meaning line said) (tokens Directives text) (Err UnclosedQuote))) e
     ∙ ap (λ (o : Option (List Piece)). option_map_or (tokens_meaning line said) o (Err UnclosedQuote)) is
 
 -- the tokens of a line couldn't be told
-pub split_follows : (line : ℕ) (text : Text) (said : Said) (r : Result Unit LineFault) (fault : SplitFault) → r ≡ Err (split_line_fault fault) → says_nothing text ≡ false
-    → (fault ≡ split_fault.Memory) ⊎ ((fault ≡ split_fault.UnclosedQuote) × (tokens Directives text ≡ None)) → Follows r (line_meaning line text said) said
+pub split_follows : (line : ℕ) (text : Text) (said : Said) (r : Result Unit LineFault) (fault : SplitFault)
+    → r ≡ Err (split_line_fault fault) → says_nothing text ≡ false
+    → (fault ≡ split_fault.Memory) ⊎ ((fault ≡ split_fault.UnclosedQuote) × (tokens Directives text ≡ None))
+    → Follows r (line_meaning line text said) said
 split_follows line text said r fault is other (inl memory) = rw (is, memory) tt
 split_follows line text said r fault is other (inr p) = rw (is, p.0) (line_tokens line text said None other p.1)
 
 -- ---- the fault of a line
 
-pub lines_stop : (said after : Said) (all : List Text) (i : ℕ) (text : Text) (f : LineFault) (fault : DirectiveFault) (whole : Result Said FaultyLine) → i < length all → get_or all i text ≡ text
-    → Follows (Err f) (line_meaning (i + 1) text said) after → IsFaultAt (i + 1) text f fault → whole ≡ lines_meaning i (drop i all) said → Means (Err fault) whole
+pub lines_stop : (said after : Said) (all : List Text) (i : ℕ) (text : Text) (f : LineFault) (fault : DirectiveFault)
+    (whole : Result Said FaultyLine) → i < length all → get_or all i text ≡ text
+    → Follows (Err f) (line_meaning (i + 1) text said) after → IsFaultAt (i + 1) text f fault
+    → whole ≡ lines_meaning i (drop i all) said → Means (Err fault) whole
 lines_stop said after all i text Memory fault whole inside here follows fits is = rw fits tt
 lines_stop said after all i text (Wrong kind) fault whole inside here follows fits is =
     let P : Result Said FaultyLine → Type 0 = λ w. Means (Err fault) w in
     subst P (sym (is ∙ lines_fault said all i text kind inside here follows)) fits
 
 -- a line that is read at its place
-pub line_here : (ls : List (Bor Text)) (i : ℕ) (d : Bor Text) → i < length ls → get_or (texts ls) i (get_or ls i d).now ≡ (get_or ls i d).now
+pub line_here : (ls : List (Bor Text)) (i : ℕ) (d : Bor Text) → i < length ls
+    → get_or (texts ls) i (get_or ls i d).now ≡ (get_or ls i d).now
 line_here ls i d inside = get_or-map (λ s. s.now) ls i d ((get_or ls i d).now) inside

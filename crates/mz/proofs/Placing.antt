@@ -14,13 +14,15 @@ use Rattle.mz.specs.Laws.{memory_len}
 
 pub does_not_fit : (P : ℕ) (f : MzFile) → memory_len < 16 * P + needed_len f → loading P f ≡ Err DoesNotFit
 unfolding loading
-does_not_fit P f h = cond-false (nat_le (16 * P + needed_len f) memory_len) _ _ (lt-leb (16 * P + needed_len f) memory_len h)
+does_not_fit P f h =
+    cond-false (nat_le (16 * P + needed_len f) memory_len) _ _ (lt-leb (16 * P + needed_len f) memory_len h)
 
 pub does_fit : (P : ℕ) (f : MzFile) → 16 * P + needed_len f ≤ memory_len → loading P f ≡ Ok (loaded P f)
 unfolding loading
 does_fit P f h = cond-true (nat_le (16 * P + needed_len f) memory_len) _ _ (le-leb (16 * P + needed_len f) memory_len h)
 
-pub no_memory : (r : Result Loaded LoadFault) (P : ℕ) (f : MzFile) (e : LoadFault) → 16 * P + needed_len f ≤ memory_len → r ≡ Err e → e ≡ Memory → Loads r (loading P f)
+pub no_memory : (r : Result Loaded LoadFault) (P : ℕ) (f : MzFile) (e : LoadFault) → 16 * P + needed_len f ≤ memory_len
+    → r ≡ Err e → e ≡ Memory → Loads r (loading P f)
 no_memory r P f e h x y =
     subst (λ (s : Result Loaded LoadFault). Loads s (loading P f)) (sym (x ∙ ap Err y))
     (subst (λ (s : Result Loaded LoadFault). Loads (Err Memory) s) (sym (does_fit P f h)) tt)
@@ -28,7 +30,10 @@ no_memory r P f e h x y =
 made : (P : ℕ) → Header → List ℕ → Loaded
 made P h bytes = record { bytes = bytes; registers = moved P (header_registers h) }
 
-pub loads_as : (P : ℕ) (f : MzFile) (h : Header) (bytes : List ℕ) → 16 * P + needed_len f ≤ memory_len → h ≡ f.header → bytes ≡ add_words P (map entry_address f.entries) f.image
+pub loads_as : (P : ℕ) (f : MzFile) (h : Header) (bytes : List ℕ) → 16 * P + needed_len f ≤ memory_len → h ≡ f.header
+    → bytes ≡ add_words P (map entry_address f.entries) f.image
     → loading P f ≡ Ok (record { bytes = bytes; registers = moved P (header_registers h) })
 unfolding loaded made
-loads_as P f h bytes fits x y = does_fit P f fits ∙ ap (λ (b : List ℕ). Ok (made P f.header b)) (sym y) ∙ ap (λ (k : Header). Ok (made P k bytes)) (sym x)
+loads_as P f h bytes fits x y =
+    does_fit P f fits ∙ ap (λ (b : List ℕ). Ok (made P f.header b)) (sym y)
+    ∙ ap (λ (k : Header). Ok (made P k bytes)) (sym x)

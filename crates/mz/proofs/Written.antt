@@ -1,10 +1,14 @@
 -- A file that was written is read as the program, and loads as the program moved.
-use Rattle.std.proofs.Common.{◌≡◌, ◌≢◌, ℕ, ◌+◌, ◌-◌, ◌*◌, ◌/◌, ◌%◌, ◌<◌, ◌≤◌, true, not, ◌==◌, cond, zero, suc, List, [], ◌∷◌, ◌++◌, map, set, take, drop, length, get_or, refl, subst, ap, ◌∙◌, sym, arith, inl, inr, Result, Ok, Err}
+use Rattle.std.proofs.Common.{◌≡◌, ◌≢◌, ℕ, ◌+◌, ◌-◌, ◌*◌, ◌/◌, ◌%◌, ◌<◌, ◌≤◌, true, not, ◌==◌, cond, zero, suc, List}
+use Rattle.std.proofs.Common.{[], ◌∷◌, ◌++◌, map, set, take, drop, length, get_or, refl, subst, ap, ◌∙◌, sym, arith}
+use Rattle.std.proofs.Common.{inl, inr, Result, Ok, Err}
 use Rattle.std.specs.Prelude.{nat_le}
 use Rattle.std.specs.List.{list_all, AllByRecursion}
-use Rattle.std.proofs.lemmas.List.{append_assoc, length-append, length-replicate, length-take-le, get_or-take, drop_at, get_or-append-add}
+use Rattle.std.proofs.lemmas.List.{append_assoc, length-append, length-replicate, length-take-le, get_or-take, drop_at}
+use Rattle.std.proofs.lemmas.List.{get_or-append-add}
 use Rattle.std.proofs.lemmas.List.Elements.{recursion_from_All}
-use Rattle.std.proofs.lemmas.Bool.{cases_Bool, eqb-true, eqb-false, cond-true, cond-false, and_from, or_right, le-leb, ne_eqb, not_from_false}
+use Rattle.std.proofs.lemmas.Bool.{cases_Bool, eqb-true, eqb-false, cond-true, cond-false, and_from, or_right, le-leb}
+use Rattle.std.proofs.lemmas.Bool.{ne_eqb, not_from_false}
 use Rattle.omf_image.specs.Registers.{moved as registers_moved}
 use Rattle.omf_image.specs.Words.{word_at, put_word, add_word, add_words}
 use Rattle.omf_image.specs.Program.{Program, IsProgram}
@@ -36,7 +40,8 @@ whole_pages len h = omega arith
 parted_pages : (len : ℕ) → len % 512 ≢ 0 → 512 * ((len + 511) / 512 - 1) + len % 512 ≡ len
 parted_pages len h = omega arith
 
-len_back : (len : ℕ) → cond (len % 512 == 0) (512 * ((len + 511) / 512)) (512 * ((len + 511) / 512 - 1) + len % 512) ≡ len
+len_back : (len : ℕ)
+    → cond (len % 512 == 0) (512 * ((len + 511) / 512)) (512 * ((len + 511) / 512 - 1) + len % 512) ≡ len
 len_back len = elim (cases_Bool (len % 512 == 0)) [
   | inl t ↦ cond-true (len % 512 == 0) _ _ t ∙ whole_pages len (eqb-true (len % 512) 0 t)
   | inr t ↦ cond-false (len % 512 == 0) _ _ t ∙ parted_pages len (eqb-false (len % 512) 0 t)
@@ -62,7 +67,8 @@ entries_back pre (r ∷ rs) post h =
     let tail = table rs ++ post in
     let four = entry_bytes e in
     let b = pre ++ (four ++ tail) in
-    let byte : (i k : ℕ) → k ≡ length pre + i → get_or b k 0 ≡ get_or (four ++ tail) i 0 = λ i k same. ap (λ (n : ℕ). get_or b n 0) same ∙ get_or-append-add pre (four ++ tail) i 0 in
+    let byte : (i k : ℕ) → k ≡ length pre + i → get_or b k 0 ≡ get_or (four ++ tail) i 0 =
+    λ i k same. ap (λ (n : ℕ). get_or b n 0) same ∙ get_or-append-add pre (four ++ tail) i 0 in
     let b0 = byte 0 (length pre) (omega arith) in
     let b1 = byte 1 (length pre + 1) (omega arith) in
     let b2 = byte 2 (length pre + 2) (omega arith) in
@@ -71,7 +77,9 @@ entries_back pre (r ∷ rs) post h =
     let high : word_at b (length pre + 2) ≡ r / 16 = omega (arith, b2, b3, h.0) in
     let longer : length (pre ++ four) ≡ length pre + 4 = length-append pre four in
     let behind : entries_at (length rs) (length pre + 4) b ≡ map entry_of rs =
-    ap (λ (n : ℕ). entries_at (length rs) n b) (sym longer) ∙ ap (entries_at (length rs) (length (pre ++ four))) (sym (append_assoc pre four tail)) ∙ entries_back (pre ++ four) rs post h.1 in
+    ap (λ (n : ℕ). entries_at (length rs) n b) (sym longer)
+    ∙ ap (entries_at (length rs) (length (pre ++ four))) (sym (append_assoc pre four tail))
+    ∙ entries_back (pre ++ four) rs post h.1 in
     ap (λ (x : ℕ). entry x (word_at b (length pre + 2)) ∷ entries_at (length rs) (length pre + 4) b) low
     ∙ ap (λ (x : ℕ). entry (r % 16) x ∷ entries_at (length rs) (length pre + 4) b) high
     ∙ ap (λ (l : List Entry). e ∷ l) behind
@@ -97,34 +105,105 @@ abbrev read_back : ℕ → ℕ
 read_back w = w % 256 + 256 * (w / 256 % 256)
 
 abbrev made : (x0 x1 x2 x3 x4 x5 x6 x7 x8 x9 x10 x11 x12 : ℕ) → Header
-made x0 x1 x2 x3 x4 x5 x6 x7 x8 x9 x10 x11 x12 = record { last_page_bytes = x0; pages = x1; relocation_count = x2; header_paragraphs = x3; least_extra_paragraphs = x4; greatest_extra_paragraphs = x5; ss = x6; sp = x7; checksum = x8; ip = x9; cs = x10; relocation_table = x11; overlay = x12 }
+made x0 x1 x2 x3 x4 x5 x6 x7 x8 x9 x10 x11 x12 = record {
+  last_page_bytes = x0;
+  pages = x1;
+  relocation_count = x2;
+  header_paragraphs = x3;
+  least_extra_paragraphs = x4;
+  greatest_extra_paragraphs = x5;
+  ss = x6;
+  sp = x7;
+  checksum = x8;
+  ip = x9;
+  cs = x10;
+  relocation_table = x11;
+  overlay = x12;
+}
 
 -- a header is read from its bytes
 header_back : (h : Header) (tail : List ℕ) → WordsFit h → header_at (header_bytes h ++ tail) ≡ h
 unfolding header_at
 header_back h tail fit =
-    ap (λ (x : ℕ). made x (read_back h.pages) (read_back h.relocation_count) (read_back h.header_paragraphs) (read_back h.least_extra_paragraphs) (read_back h.greatest_extra_paragraphs) (read_back h.ss) (read_back h.sp) (read_back h.checksum) (read_back h.ip) (read_back h.cs) (read_back h.relocation_table) (read_back h.overlay)) (word_back h.last_page_bytes fit.last_page_bytes)
-    ∙ ap (λ (x : ℕ). made h.last_page_bytes x (read_back h.relocation_count) (read_back h.header_paragraphs) (read_back h.least_extra_paragraphs) (read_back h.greatest_extra_paragraphs) (read_back h.ss) (read_back h.sp) (read_back h.checksum) (read_back h.ip) (read_back h.cs) (read_back h.relocation_table) (read_back h.overlay)) (word_back h.pages fit.pages)
-    ∙ ap (λ (x : ℕ). made h.last_page_bytes h.pages x (read_back h.header_paragraphs) (read_back h.least_extra_paragraphs) (read_back h.greatest_extra_paragraphs) (read_back h.ss) (read_back h.sp) (read_back h.checksum) (read_back h.ip) (read_back h.cs) (read_back h.relocation_table) (read_back h.overlay)) (word_back h.relocation_count fit.relocation_count)
-    ∙ ap (λ (x : ℕ). made h.last_page_bytes h.pages h.relocation_count x (read_back h.least_extra_paragraphs) (read_back h.greatest_extra_paragraphs) (read_back h.ss) (read_back h.sp) (read_back h.checksum) (read_back h.ip) (read_back h.cs) (read_back h.relocation_table) (read_back h.overlay)) (word_back h.header_paragraphs fit.header_paragraphs)
-    ∙ ap (λ (x : ℕ). made h.last_page_bytes h.pages h.relocation_count h.header_paragraphs x (read_back h.greatest_extra_paragraphs) (read_back h.ss) (read_back h.sp) (read_back h.checksum) (read_back h.ip) (read_back h.cs) (read_back h.relocation_table) (read_back h.overlay)) (word_back h.least_extra_paragraphs fit.least_extra_paragraphs)
-    ∙ ap (λ (x : ℕ). made h.last_page_bytes h.pages h.relocation_count h.header_paragraphs h.least_extra_paragraphs x (read_back h.ss) (read_back h.sp) (read_back h.checksum) (read_back h.ip) (read_back h.cs) (read_back h.relocation_table) (read_back h.overlay)) (word_back h.greatest_extra_paragraphs fit.greatest_extra_paragraphs)
-    ∙ ap (λ (x : ℕ). made h.last_page_bytes h.pages h.relocation_count h.header_paragraphs h.least_extra_paragraphs h.greatest_extra_paragraphs x (read_back h.sp) (read_back h.checksum) (read_back h.ip) (read_back h.cs) (read_back h.relocation_table) (read_back h.overlay)) (word_back h.ss fit.ss)
-    ∙ ap (λ (x : ℕ). made h.last_page_bytes h.pages h.relocation_count h.header_paragraphs h.least_extra_paragraphs h.greatest_extra_paragraphs h.ss x (read_back h.checksum) (read_back h.ip) (read_back h.cs) (read_back h.relocation_table) (read_back h.overlay)) (word_back h.sp fit.sp)
-    ∙ ap (λ (x : ℕ). made h.last_page_bytes h.pages h.relocation_count h.header_paragraphs h.least_extra_paragraphs h.greatest_extra_paragraphs h.ss h.sp x (read_back h.ip) (read_back h.cs) (read_back h.relocation_table) (read_back h.overlay)) (word_back h.checksum fit.checksum)
-    ∙ ap (λ (x : ℕ). made h.last_page_bytes h.pages h.relocation_count h.header_paragraphs h.least_extra_paragraphs h.greatest_extra_paragraphs h.ss h.sp h.checksum x (read_back h.cs) (read_back h.relocation_table) (read_back h.overlay)) (word_back h.ip fit.ip)
-    ∙ ap (λ (x : ℕ). made h.last_page_bytes h.pages h.relocation_count h.header_paragraphs h.least_extra_paragraphs h.greatest_extra_paragraphs h.ss h.sp h.checksum h.ip x (read_back h.relocation_table) (read_back h.overlay)) (word_back h.cs fit.cs)
-    ∙ ap (λ (x : ℕ). made h.last_page_bytes h.pages h.relocation_count h.header_paragraphs h.least_extra_paragraphs h.greatest_extra_paragraphs h.ss h.sp h.checksum h.ip h.cs x (read_back h.overlay)) (word_back h.relocation_table fit.relocation_table)
-    ∙ ap (λ (x : ℕ). made h.last_page_bytes h.pages h.relocation_count h.header_paragraphs h.least_extra_paragraphs h.greatest_extra_paragraphs h.ss h.sp h.checksum h.ip h.cs h.relocation_table x) (word_back h.overlay fit.overlay)
+    ap (λ (x : ℕ).
+    made x (read_back h.pages) (read_back h.relocation_count) (read_back h.header_paragraphs)
+    (read_back h.least_extra_paragraphs) (read_back h.greatest_extra_paragraphs) (read_back h.ss) (read_back h.sp)
+    (read_back h.checksum) (read_back h.ip) (read_back h.cs) (read_back h.relocation_table) (read_back h.overlay))
+    (word_back h.last_page_bytes fit.last_page_bytes)
+    ∙ ap
+    (λ (x : ℕ).
+    made h.last_page_bytes x (read_back h.relocation_count) (read_back h.header_paragraphs)
+    (read_back h.least_extra_paragraphs) (read_back h.greatest_extra_paragraphs) (read_back h.ss) (read_back h.sp)
+    (read_back h.checksum) (read_back h.ip) (read_back h.cs) (read_back h.relocation_table) (read_back h.overlay))
+    (word_back h.pages fit.pages)
+    ∙ ap
+    (λ (x : ℕ).
+    made h.last_page_bytes h.pages x (read_back h.header_paragraphs) (read_back h.least_extra_paragraphs)
+    (read_back h.greatest_extra_paragraphs) (read_back h.ss) (read_back h.sp) (read_back h.checksum) (read_back h.ip)
+    (read_back h.cs) (read_back h.relocation_table) (read_back h.overlay))
+    (word_back h.relocation_count fit.relocation_count)
+    ∙ ap
+    (λ (x : ℕ).
+    made h.last_page_bytes h.pages h.relocation_count x (read_back h.least_extra_paragraphs)
+    (read_back h.greatest_extra_paragraphs) (read_back h.ss) (read_back h.sp) (read_back h.checksum) (read_back h.ip)
+    (read_back h.cs) (read_back h.relocation_table) (read_back h.overlay))
+    (word_back h.header_paragraphs fit.header_paragraphs)
+    ∙ ap
+    (λ (x : ℕ).
+    made h.last_page_bytes h.pages h.relocation_count h.header_paragraphs x (read_back h.greatest_extra_paragraphs)
+    (read_back h.ss) (read_back h.sp) (read_back h.checksum) (read_back h.ip) (read_back h.cs)
+    (read_back h.relocation_table) (read_back h.overlay))
+    (word_back h.least_extra_paragraphs fit.least_extra_paragraphs)
+    ∙ ap
+    (λ (x : ℕ).
+    made h.last_page_bytes h.pages h.relocation_count h.header_paragraphs h.least_extra_paragraphs x (read_back h.ss)
+    (read_back h.sp) (read_back h.checksum) (read_back h.ip) (read_back h.cs) (read_back h.relocation_table)
+    (read_back h.overlay)) (word_back h.greatest_extra_paragraphs fit.greatest_extra_paragraphs)
+    ∙ ap
+    (λ (x : ℕ).
+    made h.last_page_bytes h.pages h.relocation_count h.header_paragraphs h.least_extra_paragraphs
+    h.greatest_extra_paragraphs x (read_back h.sp) (read_back h.checksum) (read_back h.ip) (read_back h.cs)
+    (read_back h.relocation_table) (read_back h.overlay)) (word_back h.ss fit.ss)
+    ∙ ap
+    (λ (x : ℕ).
+    made h.last_page_bytes h.pages h.relocation_count h.header_paragraphs h.least_extra_paragraphs
+    h.greatest_extra_paragraphs h.ss x (read_back h.checksum) (read_back h.ip) (read_back h.cs)
+    (read_back h.relocation_table) (read_back h.overlay)) (word_back h.sp fit.sp)
+    ∙ ap
+    (λ (x : ℕ).
+    made h.last_page_bytes h.pages h.relocation_count h.header_paragraphs h.least_extra_paragraphs
+    h.greatest_extra_paragraphs h.ss h.sp x (read_back h.ip) (read_back h.cs) (read_back h.relocation_table)
+    (read_back h.overlay)) (word_back h.checksum fit.checksum)
+    ∙ ap
+    (λ (x : ℕ).
+    made h.last_page_bytes h.pages h.relocation_count h.header_paragraphs h.least_extra_paragraphs
+    h.greatest_extra_paragraphs h.ss h.sp h.checksum x (read_back h.cs) (read_back h.relocation_table)
+    (read_back h.overlay)) (word_back h.ip fit.ip)
+    ∙ ap
+    (λ (x : ℕ).
+    made h.last_page_bytes h.pages h.relocation_count h.header_paragraphs h.least_extra_paragraphs
+    h.greatest_extra_paragraphs h.ss h.sp h.checksum h.ip x (read_back h.relocation_table) (read_back h.overlay))
+    (word_back h.cs fit.cs)
+    ∙ ap
+    (λ (x : ℕ).
+    made h.last_page_bytes h.pages h.relocation_count h.header_paragraphs h.least_extra_paragraphs
+    h.greatest_extra_paragraphs h.ss h.sp h.checksum h.ip h.cs x (read_back h.overlay))
+    (word_back h.relocation_table fit.relocation_table)
+    ∙ ap
+    (λ (x : ℕ).
+    made h.last_page_bytes h.pages h.relocation_count h.header_paragraphs h.least_extra_paragraphs
+    h.greatest_extra_paragraphs h.ss h.sp h.checksum h.ip h.cs h.relocation_table x) (word_back h.overlay fit.overlay)
 
-all_inside : (n : ℕ) (rs : List ℕ) → AllByRecursion (λ r. r + 2 ≤ n) rs → list_all (is_inside n) (map entry_of rs) ≡ true
+all_inside : (n : ℕ) (rs : List ℕ) → AllByRecursion (λ r. r + 2 ≤ n) rs
+    → list_all (is_inside n) (map entry_of rs) ≡ true
 all_inside n [] h = refl
 all_inside n (r ∷ rs) h =
     let e = entry_of r in
     let in_segment : e.offset ≢ 65535 = λ x. omega (arith, x) in
     let in_image : entry_address e + 2 ≤ n = omega (arith, h.0) in
     and_from (is_inside n e) (list_all (is_inside n) (map entry_of rs))
-    (and_from (not (e.offset == 65535)) (nat_le (entry_address e + 2) n) (not_from_false (e.offset == 65535) (ne_eqb e.offset 65535 in_segment)) (le-leb (entry_address e + 2) n in_image))
+    (and_from (not (e.offset == 65535)) (nat_le (entry_address e + 2) n)
+    (not_from_false (e.offset == 65535) (ne_eqb e.offset 65535 in_segment)) (le-leb (entry_address e + 2) n in_image))
     (all_inside n rs h.1)
 
 pub addresses_back : (rs : List ℕ) → map entry_address (map entry_of rs) ≡ rs
@@ -133,7 +212,8 @@ addresses_back (r ∷ rs) =
     let here : 16 * (r / 16) + r % 16 ≡ r = omega arith in
     ap (λ (a : ℕ). a ∷ map entry_address (map entry_of rs)) here ∙ ap (λ (l : List ℕ). r ∷ l) (addresses_back rs)
 
-low_enough : (n : ℕ) (rs : List ℕ) → n ≤ 1048560 → AllByRecursion (λ r. r + 2 ≤ n) rs → AllByRecursion (λ r. r < 1048576) rs
+low_enough : (n : ℕ) (rs : List ℕ) → n ≤ 1048560 → AllByRecursion (λ r. r + 2 ≤ n) rs
+    → AllByRecursion (λ r. r < 1048576) rs
 low_enough n [] k h = tt
 low_enough n (r ∷ rs) k h = (omega (arith, h.0), low_enough n rs k h.1)
 
@@ -156,9 +236,11 @@ add_word_front v w i xs h =
     ∙ ap (λ (l : List ℕ). set l (i + 1) (n % 65536 / 256)) (set_front w xs i (n % 65536 % 256) (omega (arith, h)))
     ∙ set_front w (set xs i (n % 65536 % 256)) (i + 1) (n % 65536 / 256) (omega (arith, h))
 
-add_words_front : (v w : ℕ) (rs xs : List ℕ) → AllByRecursion (λ r. r + 2 ≤ w) rs → add_words v rs (take w xs) ≡ take w (add_words v rs xs)
+add_words_front : (v w : ℕ) (rs xs : List ℕ) → AllByRecursion (λ r. r + 2 ≤ w) rs
+    → add_words v rs (take w xs) ≡ take w (add_words v rs xs)
 add_words_front v w [] xs h = refl
-add_words_front v w (r ∷ rs) xs h = ap (add_words v rs) (add_word_front v w r xs h.0) ∙ add_words_front v w rs (add_word v r xs) h.1
+add_words_front v w (r ∷ rs) xs h =
+    ap (add_words v rs) (add_word_front v w r xs h.0) ∙ add_words_front v w rs (add_word v r xs) h.1
 
 module _ (p : Program) (w : IsProgram p) where
   n : ℕ
@@ -186,11 +268,14 @@ module _ (p : Program) (w : IsProgram p) where
 
   in_two : written p ≡ head ++ (table p.relocations ++ (padding p ++ file_image p))
   unfolding written head
-  in_two = append_assoc (head ++ table p.relocations) (padding p) (file_image p) ∙ append_assoc head (table p.relocations) (padding p ++ file_image p)
+  in_two =
+      append_assoc (head ++ table p.relocations) (padding p) (file_image p)
+      ∙ append_assoc head (table p.relocations) (padding p ++ file_image p)
 
   header_is : header_at (written p) ≡ header_of p
   unfolding head
-  header_is = ap header_at in_two ∙ header_back (header_of p) (table p.relocations ++ (padding p ++ file_image p)) words_fit
+  header_is =
+      ap header_at in_two ∙ header_back (header_of p) (table p.relocations ++ (padding p ++ file_image p)) words_fit
 
   magic_is : word_at (written p) 0 ≡ magic
   unfolding written
@@ -203,9 +288,13 @@ module _ (p : Program) (w : IsProgram p) where
   unfolding front
   length-front =
       let m = length p.relocations in
-      let a : length (header_bytes (header_of p) ++ table p.relocations ++ padding p) ≡ length (header_bytes (header_of p) ++ table p.relocations) + length (padding p) = length-append (header_bytes (header_of p) ++ table p.relocations) (padding p) in
-      let b : length (header_bytes (header_of p) ++ table p.relocations) ≡ 28 + length (table p.relocations) = length-append (header_bytes (header_of p)) (table p.relocations) in
-      let c : length (padding p) ≡ 16 * paragraphs m - (28 + 4 * m) = length-replicate (16 * paragraphs m - (28 + 4 * m)) 0 in
+      let a : length (header_bytes (header_of p) ++ table p.relocations ++ padding p)
+      ≡ length (header_bytes (header_of p) ++ table p.relocations) + length (padding p) =
+      length-append (header_bytes (header_of p) ++ table p.relocations) (padding p) in
+      let b : length (header_bytes (header_of p) ++ table p.relocations) ≡ 28 + length (table p.relocations) =
+      length-append (header_bytes (header_of p)) (table p.relocations) in
+      let c : length (padding p) ≡ 16 * paragraphs m - (28 + 4 * m) =
+      length-replicate (16 * paragraphs m - (28 + 4 * m)) 0 in
       omega (arith, a, b, c, length-table p.relocations)
 
   length-image : length (file_image p) ≡ p.written
@@ -213,7 +302,9 @@ module _ (p : Program) (w : IsProgram p) where
 
   pub length-written : length (written p) ≡ file_len p
   unfolding written front
-  length-written = length-append front (file_image p) ∙ ap (λ (k : ℕ). k + length (file_image p)) length-front ∙ ap (λ (k : ℕ). 16 * paragraphs (length p.relocations) + k) length-image
+  length-written =
+      length-append front (file_image p) ∙ ap (λ (k : ℕ). k + length (file_image p)) length-front
+      ∙ ap (λ (k : ℕ). 16 * paragraphs (length p.relocations) + k) length-image
 
   image_is : drop (16 * paragraphs (length p.relocations)) (written p) ≡ file_image p
   unfolding written front
@@ -227,20 +318,30 @@ module _ (p : Program) (w : IsProgram p) where
 
   entries_are : entries_at (length p.relocations) 28 (written p) ≡ map entry_of p.relocations
   unfolding head
-  entries_are = ap (entries_at (length p.relocations) 28) in_two ∙ entries_back head p.relocations (padding p ++ file_image p) (low_enough p.written p.relocations (omega (arith, w.written, w.short)) below)
+  entries_are =
+      ap (entries_at (length p.relocations) 28) in_two
+      ∙ entries_back head p.relocations (padding p ++ file_image p)
+      (low_enough p.written p.relocations (omega (arith, w.written, w.short)) below)
 
   accepted : is_accepted (header_of p) ≡ true
   accepted =
       let h = header_of p in
       let told = told_len-header_of p in
-      and_from _ _ (and_from _ _ (and_from _ _ (and_from _ _ (le-leb 1 h.pages (omega arith)) (le-leb h.last_page_bytes 511 (omega arith)))
+      and_from _ _
+      (and_from _ _
+      (and_from _ _ (and_from _ _ (le-leb 1 h.pages (omega arith)) (le-leb h.last_page_bytes 511 (omega arith)))
       (le-leb 28 (header_len h) (omega arith))) (le-leb (header_len h) (told_len h) (omega arith)))
-      (or_right (h.relocation_count == 0) (has_table_inside h) (and_from _ _ (le-leb 28 h.relocation_table (omega arith)) (le-leb (h.relocation_table + 4 * h.relocation_count) (header_len h) (omega arith))))
+      (or_right (h.relocation_count == 0) (has_table_inside h)
+      (and_from _ _ (le-leb 28 h.relocation_table (omega arith))
+      (le-leb (h.relocation_table + 4 * h.relocation_count) (header_len h) (omega arith))))
 
   file_is : file_in (header_of p) (written p) ≡ Ok (as_file p)
   file_is =
       let h = header_of p in
-      let answer : List Entry → List ℕ → Result MzFile MzFault = λ es bs. cond (list_all (is_inside (length bs)) es) (Ok (record { header = h; entries = es; image = bs })) (Err RelocationOutside) in
+      let answer : List Entry → List ℕ → Result MzFile MzFault =
+      λ es bs.
+      cond (list_all (is_inside (length bs)) es) (Ok (record { header = h; entries = es; image = bs }))
+      (Err RelocationOutside) in
       ap (λ (es : List Entry). answer es (drop (header_len h) (written p))) entries_are
       ∙ ap (answer (map entry_of p.relocations)) image_is
       ∙ cond-true _ _ _ (all_inside (length (file_image p)) p.relocations inside)

@@ -16,24 +16,35 @@ use Rattle.omf_commands.specs.Linking.{IsBuildFault, IsFileOf, IsModulesFault}
 none_is : {X : Type 0} (o : Option X) (x : X) → o ≡ None → o ≡ Some x → ⊥
 none_is o x none some = true≢false (sym (ap is_some some) ∙ ap is_some none)
 
-pub placed_sound : (names : Names) (modules : List Module) (layout : Layout) (f : PlacementFault) → IsOnlyLayout names modules layout → IsFirstFault names modules f → ⊥
+pub placed_sound : (names : Names) (modules : List Module) (layout : Layout) (f : PlacementFault)
+    → IsOnlyLayout names modules layout → IsFirstFault names modules f → ⊥
 placed_sound names modules layout f only (addresses, size, placed, unique, stands) =
     let (others, also, none, is) = only.0 in
     let same = unique others layout.size also in
-    let sound : placement_fault names modules addresses size ≡ None = subst (λ n. placement_fault names modules addresses n ≡ None) same.1 (subst (λ l. placement_fault names modules l layout.size ≡ None) same.0 none) in
+    let sound : placement_fault names modules addresses size ≡ None =
+    subst (λ n. placement_fault names modules addresses n ≡ None) same.1
+    (subst (λ l. placement_fault names modules l layout.size ≡ None) same.0 none) in
     none_is _ f sound stands
 
-built_sound : (names : Names) (modules : List Module) (layout : Layout) (f : FixFault) → IsOnlyLayout names modules layout → program_fault layout modules ≡ None → IsBuildFault names modules f → ⊥
+built_sound : (names : Names) (modules : List Module) (layout : Layout) (f : FixFault)
+    → IsOnlyLayout names modules layout → program_fault layout modules ≡ None → IsBuildFault names modules f → ⊥
 built_sound names modules layout f only sound (other, also, stands) =
     none_is _ f sound (subst (λ l. program_fault l modules ≡ Some f) (only.1 other also.0) stands)
 
-pub exclusive : {A : Type 0} (names : Names) (modules : List Module) (file : List ℕ) (fault : LinkFault A) → IsFileOf names modules file → IsModulesFault names modules fault → ⊥
-exclusive names modules file (link.Program (program.SegmentTooLong name)) (l, p, linked, mz) h = placed_sound names modules l _ linked.is_layout h
-exclusive names modules file (link.Program program.ProgramTooLarge) (l, p, linked, mz) h = placed_sound names modules l _ linked.is_layout h
-exclusive names modules file (link.Program (program.GroupTooLong name)) (l, p, linked, mz) h = placed_sound names modules l _ linked.is_layout h
-exclusive names modules file (link.Program (program.DuplicatePublic name)) (l, p, linked, mz) h = placed_sound names modules l _ linked.is_layout h
-exclusive names modules file (link.Program program.TooManyRelocations) (l, p, linked, mz) h = built_sound names modules l _ linked.is_layout linked.sound h
-exclusive names modules file (link.Record input place f) (l, p, linked, mz) h = built_sound names modules l _ linked.is_layout linked.sound h.2
+pub exclusive : {A : Type 0} (names : Names) (modules : List Module) (file : List ℕ) (fault : LinkFault A)
+    → IsFileOf names modules file → IsModulesFault names modules fault → ⊥
+exclusive names modules file (link.Program (program.SegmentTooLong name)) (l, p, linked, mz) h =
+    placed_sound names modules l _ linked.is_layout h
+exclusive names modules file (link.Program program.ProgramTooLarge) (l, p, linked, mz) h =
+    placed_sound names modules l _ linked.is_layout h
+exclusive names modules file (link.Program (program.GroupTooLong name)) (l, p, linked, mz) h =
+    placed_sound names modules l _ linked.is_layout h
+exclusive names modules file (link.Program (program.DuplicatePublic name)) (l, p, linked, mz) h =
+    placed_sound names modules l _ linked.is_layout h
+exclusive names modules file (link.Program program.TooManyRelocations) (l, p, linked, mz) h =
+    built_sound names modules l _ linked.is_layout linked.sound h
+exclusive names modules file (link.Record input place f) (l, p, linked, mz) h =
+    built_sound names modules l _ linked.is_layout linked.sound h.2
 exclusive names modules file (link.Device input place) made h = h
 exclusive names modules file (link.File f) made h = h
 exclusive names modules file link.Output made h = h

@@ -1,5 +1,6 @@
 -- The steps of a link, put together from what each of them answers.
-use Rattle.std.proofs.Common.{◌≡◌, ℕ, ◌+◌, ◌*◌, ◌≤◌, List, [], ◌∷◌, length, map, None, Some, IfSome, Ok, Err, refl, sym, subst, ◌∙◌, append-nil, inl, inr, arith}
+use Rattle.std.proofs.Common.{◌≡◌, ℕ, ◌+◌, ◌*◌, ◌≤◌, List, [], ◌∷◌, length, map, None, Some, IfSome, Ok, Err, refl, sym}
+use Rattle.std.proofs.Common.{subst, ◌∙◌, append-nil, inl, inr, arith}
 use Rattle.std.proofs.lemmas.List.{length-set, length-take-le, get_or-take}
 use Rattle.std.specs.declared.option.Option.{Option}
 use Rattle.std.specs.Io.KnownBytes.{Keeps}
@@ -33,14 +34,17 @@ use Rattle.omf_commands.specs.inside.Faults.{place_fault, fix_fault}
 
 -- ---- the modules
 
-pub place_refused : {A : Type 0} (names : Names) (modules : List Module) (e : PlaceFault A) → IfSome (said e) (IsFirstFault names modules) → LinksModules names modules (Err (place_fault e))
+pub place_refused : {A : Type 0} (names : Names) (modules : List Module) (e : PlaceFault A)
+    → IfSome (said e) (IsFirstFault names modules) → LinksModules names modules (Err (place_fault e))
 place_refused names modules place.Memory h = tt
 place_refused names modules (place.SegmentTooLong name) h = h
 place_refused names modules place.ProgramTooLarge h = h
 place_refused names modules (place.GroupTooLong name) h = h
 place_refused names modules (place.DuplicatePublic name) h = h
 
-pub build_refused : (A : Type 0) (names : Names) (modules : List Module) (layout : Layout) (e : FixFault) → IsOnlyLayout names modules layout → Builds layout modules (Err e) → LinksModules {A = A} names modules (Err (fix_fault e))
+pub build_refused : (A : Type 0) (names : Names) (modules : List Module) (layout : Layout) (e : FixFault)
+    → IsOnlyLayout names modules layout → Builds layout modules (Err e)
+    → LinksModules {A = A} names modules (Err (fix_fault e))
 build_refused A names modules layout (build.At k input place) only h = (k, refl, (layout, only, h))
 build_refused A names modules layout build.TooManyRelocations only h = (layout, only, h)
 build_refused A names modules layout build.Memory only h = tt
@@ -53,31 +57,44 @@ length-add_word value i bytes = length-set _ (i + 1) _ ∙ length-set bytes i _
 
 length-add_words : (value : ℕ) (places bytes : List ℕ) → length (add_words value places bytes) ≡ length bytes
 length-add_words value [] bytes = refl
-length-add_words value (i ∷ is) bytes = length-add_words value is (add_word value i bytes) ∙ length-add_word value i bytes
+length-add_words value (i ∷ is) bytes =
+    length-add_words value is (add_word value i bytes) ∙ length-add_word value i bytes
 
-holds_moved : (names : Names) (modules : List Module) (layout : Layout) (p : Program) (P : ℕ) → IsProgram p → IsLinked names modules layout p → HoldsProgram P layout modules (moved P p)
+holds_moved : (names : Names) (modules : List Module) (layout : Layout) (p : Program) (P : ℕ) → IsProgram p
+    → IsLinked names modules layout p → HoldsProgram P layout modules (moved P p)
 holds_moved names modules layout p P limits linked =
     let whole = add_words P p.relocations p.image in
     let long : p.written ≤ length whole = omega (arith, length-add_words P p.relocations p.image, limits.written) in
     let same : p.written ≡ written layout modules = linked.program.written in
     record {
       size = length-take-le p.written whole long ∙ same;
-      bytes = λ a h. get_or-take p.written whole a 0 (omega (arith, h, same)) ∙ linked.program.everywhere P a (omega (arith, h, same, limits.written, linked.program.sized));
+      bytes =
+          λ a h.
+          get_or-take p.written whole a 0 (omega (arith, h, same))
+          ∙ linked.program.everywhere P a (omega (arith, h, same, limits.written, linked.program.sized));
       registers = linked.program.at_each P;
     }
 
-pub holds_program : (names : Names) (modules : List Module) (layout : Layout) (p : Program) (file : List ℕ) → ReadsAsWritten → HoldsTheProgram → LoadsAsWritten → IsLinked names modules layout p → Mz p file
+pub holds_program : (names : Names) (modules : List Module) (layout : Layout) (p : Program) (file : List ℕ)
+    → ReadsAsWritten → HoldsTheProgram → LoadsAsWritten → IsLinked names modules layout p → Mz p file
     → HoldsAtEachParagraph names modules file
 holds_program names modules layout p file reads holds loads linked mz = (layout, linked.is_layout, at)
   where
-    at : (P : ℕ) → HoldsProgram P layout modules (memory P file) × (16 * P + layout.size ≤ 1048576 → (mz : MzFile) × (l : Loaded) × (reading file ≡ Ok mz) × (loading P mz ≡ Ok l) × HoldsProgram P layout modules l)
+    at : (P : ℕ)
+        → HoldsProgram P layout modules (memory P file)
+        × (16 * P + layout.size ≤ 1048576
+        → (mz : MzFile) × (l : Loaded) × (reading file ≡ Ok mz) × (loading P mz ≡ Ok l)
+        × HoldsProgram P layout modules l)
     at P =
         let same : length p.image ≡ layout.size = linked.program.sized in
         let whole = append-nil file in
         let loaded : memory P file ≡ moved P p = subst (λ b. memory P b ≡ moved P p) whole (holds p file [] mz P) in
         let read = subst (λ b. reading b ≡ Ok (as_file p)) whole (reads p file [] mz) in
-        let here = holds_moved names modules layout p P mz.0 linked in
-        (subst (HoldsProgram P layout modules) (sym loaded) here, λ fits. (as_file p, moved P p, read, loads p mz.0 P (subst (λ n. 16 * P + n ≤ 1048576) (sym same) fits), here))
+        let here = holds_moved names modules layout p P mz.0 linked in (
+          subst (HoldsProgram P layout modules) (sym loaded) here,
+          λ fits.
+              (as_file p, moved P p, read, loads p mz.0 P (subst (λ n. 16 * P + n ≤ 1048576) (sym same) fits), here),
+        )
 
 -- ---- what a link answers
 
@@ -86,7 +103,8 @@ kept None = tt
 kept (Some x) = refl
 
 module _ {S : Type 0} (told : S → Option (List ℕ)) (failures : S → ℕ) where
-  pub not_read : {A : Type 0} (names : Names) (olds news : List S) (w : Option (List ℕ)) (e : LinkFault A) → IsInputFault told failures olds news e
+  pub not_read : {A : Type 0} (names : Names) (olds news : List S) (w : Option (List ℕ)) (e : LinkFault A)
+      → IsInputFault told failures olds news e
       → Links told failures names olds news w w (Err e)
   not_read names olds news w link.Memory h = (h, kept w)
   not_read names olds news w (link.Device input place) h = (inl h, kept w)
@@ -95,20 +113,27 @@ module _ {S : Type 0} (told : S → Option (List ℕ)) (failures : S → ℕ) wh
   not_read names olds news w (link.Program f) h = absurd h
   not_read names olds news w (link.File f) h = absurd h
 
-  all_front : (lists : List (List Placed)) (olds news : List S) → AreInputs told failures lists olds news → ReadsFront told failures lists olds news [] []
+  all_front : (lists : List (List Placed)) (olds news : List S) → AreInputs told failures lists olds news
+      → ReadsFront told failures lists olds news [] []
   all_front lists olds news inputs = (olds, news, inputs, sym (append-nil olds), sym (append-nil news))
 
-  pub not_linked : {A : Type 0} (names : Names) (olds news : List S) (w : Option (List ℕ)) (lists : List (List Placed)) (modules : List Module) (e : LinkFault A) → AreInputs told failures lists olds news
-      → modules ≡ map module_of lists → LinksModules {A = A} names modules (Err e) → Links told failures names olds news w w (Err e)
-  not_linked names olds news w lists modules link.Memory inputs is h = (inr (lists, [], all_front lists olds news inputs), kept w)
+  pub not_linked : {A : Type 0} (names : Names) (olds news : List S) (w : Option (List ℕ)) (lists : List (List Placed))
+      (modules : List Module) (e : LinkFault A) → AreInputs told failures lists olds news
+      → modules ≡ map module_of lists → LinksModules {A = A} names modules (Err e)
+      → Links told failures names olds news w w (Err e)
+  not_linked names olds news w lists modules link.Memory inputs is h =
+      (inr (lists, [], all_front lists olds news inputs), kept w)
   not_linked names olds news w lists modules (link.Device input place) inputs is h = absurd h
-  not_linked {A} names olds news w lists modules (link.Record input place f) inputs is h = (inr (lists, inputs, subst (λ ms. IsModulesFault {A = A} names ms (link.Record input place f)) is h), kept w)
+  not_linked {A} names olds news w lists modules (link.Record input place f) inputs is h =
+      (inr (lists, inputs, subst (λ ms. IsModulesFault {A = A} names ms (link.Record input place f)) is h), kept w)
   not_linked names olds news w lists modules link.Output inputs is h = absurd h
-  not_linked {A} names olds news w lists modules (link.Program f) inputs is h = (inr (lists, inputs, subst (λ ms. IsModulesFault {A = A} names ms (link.Program f)) is h), kept w)
+  not_linked {A} names olds news w lists modules (link.Program f) inputs is h =
+      (inr (lists, inputs, subst (λ ms. IsModulesFault {A = A} names ms (link.Program f)) is h), kept w)
   not_linked names olds news w lists modules (link.File f) inputs is h = absurd h
 
 -- placing and building write nothing
-pub unwritten : (T : Type 0) {A : Type 0} (names : Names) (modules : List Module) (n : ℕ) (e : LinkFault A) → LinksModules {A = A} names modules (Err e) → n ≡ n + sink_failures {T = T} (Err e)
+pub unwritten : (T : Type 0) {A : Type 0} (names : Names) (modules : List Module) (n : ℕ) (e : LinkFault A)
+    → LinksModules {A = A} names modules (Err e) → n ≡ n + sink_failures {T = T} (Err e)
 unwritten T names modules n link.Memory h = omega arith
 unwritten T names modules n (link.Device input place) h = absurd h
 unwritten T names modules n (link.Record input place f) h = omega arith

@@ -1,5 +1,6 @@
 -- Modules have one file.
-use Rattle.std.proofs.Common.{◌≡◌, ℕ, zero, suc, ◌+◌, ◌*◌, ◌/◌, ◌%◌, ◌<◌, List, [], ◌∷◌, get_or, set, refl, sym, ap, ap₂, subst, ◌∙◌, arith}
+use Rattle.std.proofs.Common.{◌≡◌, ℕ, zero, suc, ◌+◌, ◌*◌, ◌/◌, ◌%◌, ◌<◌, List, [], ◌∷◌, get_or, set, refl, sym, ap}
+use Rattle.std.proofs.Common.{ap₂, subst, ◌∙◌, arith}
 use Rattle.std.specs.List.{AllByRecursion}
 use Rattle.std.proofs.lemmas.List.{ext_get_or, set-get_or}
 use Rattle.std.proofs.lemmas.List.Elements.{recursion_from_All}
@@ -31,7 +32,8 @@ zero_word i bytes small =
     let b : y < 256 = is_byte bytes (i + 1) small in
     let low : (x + 256 * y + 0) % 65536 % 256 ≡ x = omega (arith, a, b) in
     let high : (x + 256 * y + 0) % 65536 / 256 ≡ y = omega (arith, a, b) in
-    ap₂ (λ u v. set (set bytes i u) (i + 1) v) low high ∙ (ap (λ l. set l (i + 1) y) (set-get_or bytes i 0) ∙ set-get_or bytes (i + 1) 0)
+    ap₂ (λ u v. set (set bytes i u) (i + 1) v) low high
+    ∙ (ap (λ l. set l (i + 1) y) (set-get_or bytes i 0) ∙ set-get_or bytes (i + 1) 0)
 
 zero_words : (places bytes : List ℕ) → AreBytes bytes → add_words 0 places bytes ≡ bytes
 zero_words [] bytes small = refl
@@ -39,17 +41,23 @@ zero_words (i ∷ is) bytes small = ap (add_words 0 is) (zero_word i bytes small
 
 -- a file doesn't tell which pages of the image were made
 abbrev parts : List ℕ → ℕ → List ℕ → Registers → Program
-parts image end relocations r = record { image = image; written = end; relocations = relocations; registers = r; made = [] }
+parts image end relocations r =
+    record { image = image; written = end; relocations = relocations; registers = r; made = [] }
 
 written_parts : (p : Program) → written p ≡ written (parts p.image p.written p.relocations p.registers)
 unfolding written
 written_parts p = refl
 
-image_byte : (names : Names) (modules : List Module) (layout : Layout) (p : Program) → IsLinked names modules layout p → IsProgram p → (i : ℕ) → i < layout.size → get_or p.image i 0 ≡ program_byte 0 layout modules i
+image_byte : (names : Names) (modules : List Module) (layout : Layout) (p : Program) → IsLinked names modules layout p
+    → IsProgram p → (i : ℕ) → i < layout.size → get_or p.image i 0 ≡ program_byte 0 layout modules i
 image_byte names modules layout p linked limits i h =
-    ap (λ l. get_or l i 0) (sym (zero_words p.relocations p.image (recursion_from_All (λ b. b < 256) p.image limits.image))) ∙ linked.program.everywhere 0 i h
+    ap (λ l. get_or l i 0)
+    (sym (zero_words p.relocations p.image (recursion_from_All (λ b. b < 256) p.image limits.image)))
+    ∙ linked.program.everywhere 0 i h
 
-same_written : (names : Names) (modules : List Module) (layout : Layout) (p q : Program) → IsLinked names modules layout p → IsLinked names modules layout q → IsProgram p → IsProgram q → written p ≡ written q
+same_written : (names : Names) (modules : List Module) (layout : Layout) (p q : Program)
+    → IsLinked names modules layout p → IsLinked names modules layout q → IsProgram p → IsProgram q
+    → written p ≡ written q
 same_written names modules layout p q a b m n =
     let long = a.program.sized ∙ sym b.program.sized in
     let image : p.image ≡ q.image = ext_get_or 0 p.image q.image long (λ i h.
@@ -62,7 +70,8 @@ same_written names modules layout p q a b m n =
     ∙ (ap₂ (λ x y. written (parts x p.written y p.registers)) image relocations
     ∙ (ap₂ (λ n r. written (parts q.image n q.relocations r)) ends registers ∙ sym (written_parts q)))
 
-pub same_file : (names : Names) (modules : List Module) (file other : List ℕ) → IsFileOf names modules file → IsFileOf names modules other → file ≡ other
+pub same_file : (names : Names) (modules : List Module) (file other : List ℕ) → IsFileOf names modules file
+    → IsFileOf names modules other → file ≡ other
 same_file names modules file other (layout, p, a, m) (layout', q, b, n) =
     let same : layout' ≡ layout = a.is_layout.1 layout' b.is_layout.0 in
     let b' = subst (λ l. IsLinked names modules l q) same b in

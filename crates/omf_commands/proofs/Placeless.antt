@@ -1,5 +1,7 @@
 -- What records say as a module doesn't tell where they stand, but for the places of its data, fix-ups and start.
-use Rattle.std.proofs.Common.{◌≡◌, ℕ, ◌+◌, ◌==◌, true, false, if◌then◌else◌, List, [], ◌∷◌, ◌++◌, length, map, Option, None, Some, is_some, true≢false, refl, sym, ap, ap₂, ◌∙◌, option_map, option_to_list, flat_map}
+use Rattle.std.proofs.Common.{◌≡◌, ℕ, ◌+◌, ◌==◌, true, false, if◌then◌else◌, List, [], ◌∷◌, ◌++◌, length, map, Option}
+use Rattle.std.proofs.Common.{None, Some, is_some, true≢false, refl, sym, ap, ap₂, ◌∙◌, option_map, option_to_list}
+use Rattle.std.proofs.Common.{flat_map}
 use Rattle.std.proofs.Math.Path.{fun_ext}
 use Rattle.std.proofs.lemmas.List.{map-append, length-map}
 use Rattle.std.proofs.lemmas.List.Folds.{flat_map-map}
@@ -18,7 +20,11 @@ use Rattle.omf_module.specs.declared.Start.{Start}
 use Rattle.omf_module.specs.Module.{DataRecord, Module}
 use Rattle.omf_module.specs.Before.{along_from, along, last}
 use Rattle.omf_module.specs.inside.Running.{later}
-use Rattle.omf_module.specs.Tables.{Stretch, names, names_in, segments, segments_in, groups, groups_in, externals, externals_in, publics, publics_in, stretches, stretches_in, subrecords, subrecords_in, fixup_of, fixup_in, fixups_in, fixups, fixups_on, data_records, start_of, start_in, start, frame_thread, target_thread, frame_used, target_used, module_of}
+use Rattle.omf_module.specs.Tables.{Stretch, names, names_in, segments, segments_in, groups, groups_in, externals}
+use Rattle.omf_module.specs.Tables.{externals_in, publics, publics_in, stretches, stretches_in, subrecords}
+use Rattle.omf_module.specs.Tables.{subrecords_in, fixup_of, fixup_in, fixups_in, fixups, fixups_on, data_records}
+use Rattle.omf_module.specs.Tables.{start_of, start_in, start, frame_thread, target_thread, frame_used, target_used}
+use Rattle.omf_module.specs.Tables.{module_of}
 use Rattle.omf_module.proofs.Lists.{last_append}
 
 -- ---- without places
@@ -30,8 +36,11 @@ abbrev pub unplaced : Placed → Placed
 unplaced r = unplaced_record r.says
 
 -- records that say the same are the same
-pub unplaced_said : (rs others : List Placed) → map (λ (r : Placed). r.says) rs ≡ map (λ (r : Placed). r.says) others → map unplaced rs ≡ map unplaced others
-unplaced_said rs others same = sym (map-map unplaced_record (λ (r : Placed). r.says) rs) ∙ (ap (map unplaced_record) same ∙ map-map unplaced_record (λ (r : Placed). r.says) others)
+pub unplaced_said : (rs others : List Placed) → map (λ (r : Placed). r.says) rs ≡ map (λ (r : Placed). r.says) others
+    → map unplaced rs ≡ map unplaced others
+unplaced_said rs others same =
+    sym (map-map unplaced_record (λ (r : Placed). r.says) rs)
+    ∙ (ap (map unplaced_record) same ∙ map-map unplaced_record (λ (r : Placed). r.says) others)
 
 abbrev pub placeless_fixup : ResolvedFixup → ResolvedFixup
 placeless_fixup x = record x { place = 0 }
@@ -50,28 +59,38 @@ placeless m = record m { data_records = map placeless_data m.data_records; start
 
 -- ---- lists
 
-pub along_same : {X A B : Type 0} (v : X → A) (h : List A → A → List B) (f : List X → X → List B) → ((before : List X) (x : X) → h (map v before) (v x) ≡ f before x) →
+pub along_same : {X A B : Type 0} (v : X → A) (h : List A → A → List B) (f : List X → X → List B) →
+    ((before : List X) (x : X) → h (map v before) (v x) ≡ f before x) →
     (before xs : List X) → along_from (map v before) h (map v xs) ≡ along_from before f xs
 along_same v h f same before [] = refl
 along_same v h f same before (x ∷ xs) =
-    ap₂ (λ ys zs. ys ++ zs) (same before x) (ap (λ b. along_from b h (map v xs)) (sym (map-append v before (x ∷ []))) ∙ along_same v h f same (before ++ x ∷ []) xs)
+    ap₂ (λ ys zs. ys ++ zs) (same before x)
+    (ap (λ b. along_from b h (map v xs)) (sym (map-append v before (x ∷ [])))
+    ∙ along_same v h f same (before ++ x ∷ []) xs)
 
-pub map_along : {X A B : Type 0} (g : A → B) (f : List X → X → List A) (before xs : List X) → along_from before (λ b x. map g (f b x)) xs ≡ map g (along_from before f xs)
+pub map_along : {X A B : Type 0} (g : A → B) (f : List X → X → List A) (before xs : List X)
+    → along_from before (λ b x. map g (f b x)) xs ≡ map g (along_from before f xs)
 map_along g f before [] = refl
-map_along g f before (x ∷ xs) = ap (λ ys. map g (f before x) ++ ys) (map_along g f (before ++ x ∷ []) xs) ∙ sym (map-append g (f before x) (along_from (before ++ x ∷ []) f xs))
+map_along g f before (x ∷ xs) =
+    ap (λ ys. map g (f before x) ++ ys) (map_along g f (before ++ x ∷ []) xs)
+    ∙ sym (map-append g (f before x) (along_from (before ++ x ∷ []) f xs))
 
-map_flat : {X A B : Type 0} (g : A → B) (f : X → List A) (xs : List X) → flat_map (λ x. map g (f x)) xs ≡ map g (flat_map f xs)
+map_flat : {X A B : Type 0} (g : A → B) (f : X → List A) (xs : List X)
+    → flat_map (λ x. map g (f x)) xs ≡ map g (flat_map f xs)
 map_flat g f [] = refl
 map_flat g f (x ∷ xs) = ap (λ ys. map g (f x) ++ ys) (map_flat g f xs) ∙ sym (map-append g (f x) (flat_map f xs))
 
-map_enumerate : {A B : Type 0} (f : A → B) (n : ℕ) (xs : List A) → enumerate_from n (map f xs) ≡ map (λ e. (e.0, f e.1)) (enumerate_from n xs)
+map_enumerate : {A B : Type 0} (f : A → B) (n : ℕ) (xs : List A)
+    → enumerate_from n (map f xs) ≡ map (λ e. (e.0, f e.1)) (enumerate_from n xs)
 map_enumerate f n [] = refl
 map_enumerate f n (x ∷ xs) = ap (λ es. (n, f x) ∷ es) (map_enumerate f (n + 1) xs)
 
 pub map_last : {A B : Type 0} (f : A → B) (xs : List A) → last (map f xs) ≡ option_map f (last xs)
 map_last f [] = refl
 map_last f (x ∷ xs) =
-    last_append (f x ∷ []) (map f xs) ∙ (ap (λ o. later o (Some (f x))) (map_last f xs) ∙ (map_later (last xs) ∙ ap (option_map f) (sym (last_append (x ∷ []) xs))))
+    last_append (f x ∷ []) (map f xs)
+    ∙ (ap (λ o. later o (Some (f x))) (map_last f xs)
+    ∙ (map_later (last xs) ∙ ap (option_map f) (sym (last_append (x ∷ []) xs))))
   where
     map_later : (o : Option _) → later (option_map f o) (Some (f x)) ≡ option_map f (later o (Some x))
     map_later None = refl
@@ -93,10 +112,14 @@ pub names_same : (rs : List Placed) → names (map unplaced rs) ≡ names rs
 names_same rs = flat_map-map (λ (r : Placed). names_in r.says) unplaced rs
 
 pub segments_same : (rs : List Placed) → segments (map unplaced rs) ≡ segments rs
-segments_same rs = along_same unplaced _ (λ before (r : Placed). segments_in (names before) r.says) (λ before r. ap (λ ns. segments_in ns r.says) (names_same before)) [] rs
+segments_same rs =
+    along_same unplaced _ (λ before (r : Placed). segments_in (names before) r.says)
+    (λ before r. ap (λ ns. segments_in ns r.says) (names_same before)) [] rs
 
 pub groups_same : (rs : List Placed) → groups (map unplaced rs) ≡ groups rs
-groups_same rs = along_same unplaced _ (λ before (r : Placed). groups_in (names before) r.says) (λ before r. ap (λ ns. groups_in ns r.says) (names_same before)) [] rs
+groups_same rs =
+    along_same unplaced _ (λ before (r : Placed). groups_in (names before) r.says)
+    (λ before r. ap (λ ns. groups_in ns r.says) (names_same before)) [] rs
 
 pub externals_same : (rs : List Placed) → externals (map unplaced rs) ≡ externals rs
 externals_same rs = flat_map-map (λ (r : Placed). externals_in r.says) unplaced rs
@@ -115,7 +138,8 @@ stretch_same place _ = refl
 pub stretches_same : (rs : List Placed) → stretches (map unplaced rs) ≡ map placeless_stretch (stretches rs)
 stretches_same rs =
     flat_map-map (λ (r : Placed). stretches_in r.place r.says) unplaced rs
-    ∙ (ap (λ f. flat_map f rs) (fun_ext (λ (r : Placed). stretch_same r.place r.says)) ∙ map_flat placeless_stretch (λ (r : Placed). stretches_in r.place r.says) rs)
+    ∙ (ap (λ f. flat_map f rs) (fun_ext (λ (r : Placed). stretch_same r.place r.says))
+    ∙ map_flat placeless_stretch (λ (r : Placed). stretches_in r.place r.says) rs)
 
 -- ---- fix-ups and data
 
@@ -125,15 +149,21 @@ fixup_of_same place x (Some frame) (Some target) = refl
 fixup_of_same place x (Some frame) None = refl
 fixup_of_same place x None target = refl
 
-fixup_same : (place : ℕ) (before : List Subrecord) (x : Subrecord) → option_to_list (fixup_in 0 before x) ≡ map placeless_fixup (option_to_list (fixup_in place before x))
-fixup_same place before (sub.Fixup x) = fixup_of_same place x (frame_used (frame_thread before) x.reference.frame) (target_used (target_thread before) x.reference.target)
+fixup_same : (place : ℕ) (before : List Subrecord) (x : Subrecord)
+    → option_to_list (fixup_in 0 before x) ≡ map placeless_fixup (option_to_list (fixup_in place before x))
+fixup_same place before (sub.Fixup x) =
+    fixup_of_same place x (frame_used (frame_thread before) x.reference.frame)
+    (target_used (target_thread before) x.reference.target)
 fixup_same place before (sub.SetFrame t method) = refl
 fixup_same place before (sub.SetTarget t method) = refl
 
-fixups_in_same : (before : List Subrecord) (r : Placed) → fixups_in before (unplaced r) ≡ map placeless_fixup (fixups_in before r)
+fixups_in_same : (before : List Subrecord) (r : Placed)
+    → fixups_in before (unplaced r) ≡ map placeless_fixup (fixups_in before r)
 fixups_in_same before r =
-    ap (λ f. along f (subrecords_in r.says)) (fun_ext (λ earlier. fun_ext (λ x. fixup_same r.place (before ++ earlier) x)))
-    ∙ map_along placeless_fixup (λ earlier x. option_to_list (fixup_in r.place (before ++ earlier) x)) [] (subrecords_in r.says)
+    ap (λ f. along f (subrecords_in r.says))
+    (fun_ext (λ earlier. fun_ext (λ x. fixup_same r.place (before ++ earlier) x)))
+    ∙ map_along placeless_fixup (λ earlier x. option_to_list (fixup_in r.place (before ++ earlier) x)) []
+    (subrecords_in r.says)
 
 abbrev placeless_numbered : ℕ × ResolvedFixup → ℕ × ResolvedFixup
 placeless_numbered x = (x.0, placeless_fixup x.1)
@@ -141,20 +171,30 @@ placeless_numbered x = (x.0, placeless_fixup x.1)
 abbrev numbered_fixups : List Placed → Placed → List (ℕ × ResolvedFixup)
 numbered_fixups before r = map (λ x. (length (stretches before), x)) (fixups_in (subrecords before) r)
 
-numbered_same : (before : List Placed) (r : Placed) → numbered_fixups (map unplaced before) (unplaced r) ≡ map placeless_numbered (numbered_fixups before r)
-numbered_same before r = rw (stretches_same before, length-map, subrecords_same before, fixups_in_same (subrecords before) r) (simp map-map)
+numbered_same : (before : List Placed) (r : Placed)
+    → numbered_fixups (map unplaced before) (unplaced r) ≡ map placeless_numbered (numbered_fixups before r)
+numbered_same before r =
+    rw (stretches_same before, length-map, subrecords_same before, fixups_in_same (subrecords before) r) (simp map-map)
 
 fixups_same : (rs : List Placed) → fixups (map unplaced rs) ≡ map placeless_numbered (fixups rs)
-fixups_same rs = along_same unplaced numbered_fixups (λ b r. map placeless_numbered (numbered_fixups b r)) numbered_same [] rs ∙ map_along placeless_numbered numbered_fixups [] rs
+fixups_same rs =
+    along_same unplaced numbered_fixups (λ b r. map placeless_numbered (numbered_fixups b r)) numbered_same [] rs
+    ∙ map_along placeless_numbered numbered_fixups [] rs
 
-fixups_on_same : (n : ℕ) (xs : List (ℕ × ResolvedFixup)) → fixups_on n (map placeless_numbered xs) ≡ map placeless_fixup (fixups_on n xs)
+fixups_on_same : (n : ℕ) (xs : List (ℕ × ResolvedFixup))
+    → fixups_on n (map placeless_numbered xs) ≡ map placeless_fixup (fixups_on n xs)
 fixups_on_same n [] = refl
 fixups_on_same n (x ∷ xs) =
-    elim (x.0 == n) as (λ b. cons_option (if b then Some (placeless_fixup x.1) else None) (fixups_on n (map placeless_numbered xs)) ≡ map placeless_fixup (cons_option (if b then Some x.1 else None) (fixups_on n xs)))
+    elim (x.0
+    == n) as (λ b.
+    cons_option (if b then Some (placeless_fixup x.1) else None) (fixups_on n (map placeless_numbered xs))
+    ≡ map placeless_fixup (cons_option (if b then Some x.1 else None) (fixups_on n xs)))
     [ true ↦ ap (λ ys. placeless_fixup x.1 ∷ ys) (fixups_on_same n xs) | false ↦ fixups_on_same n xs ]
 
 data_records_same : (rs : List Placed) → data_records (map unplaced rs) ≡ map placeless_data (data_records rs)
-data_records_same rs = rw (fixups_same rs, stretches_same rs, map_enumerate placeless_stretch 1 (stretches rs)) (simp (map-map, fixups_on_same))
+data_records_same rs =
+    rw (fixups_same rs, stretches_same rs, map_enumerate placeless_stretch 1 (stretches rs))
+    (simp (map-map, fixups_on_same))
 
 -- ---- the start
 
@@ -164,8 +204,10 @@ start_of_same place r (Some frame) (Some target) = refl
 start_of_same place r (Some frame) None = refl
 start_of_same place r None target = refl
 
-start_in_same : (before : List Subrecord) (place : ℕ) (r : Record) → option_to_list (start_in before 0 r) ≡ map placeless_start (option_to_list (start_in before place r))
-start_in_same before place (Modend main (Some r)) = start_of_same place r (frame_used (frame_thread before) r.frame) (target_used (target_thread before) r.target)
+start_in_same : (before : List Subrecord) (place : ℕ) (r : Record)
+    → option_to_list (start_in before 0 r) ≡ map placeless_start (option_to_list (start_in before place r))
+start_in_same before place (Modend main (Some r)) =
+    start_of_same place r (frame_used (frame_thread before) r.frame) (target_used (target_thread before) r.target)
 start_in_same before place _ = refl
 
 abbrev starts_in : List Placed → Placed → List Start
@@ -174,13 +216,16 @@ starts_in before r = option_to_list (start_in (subrecords before) r.place r.says
 start_same : (rs : List Placed) → start (map unplaced rs) ≡ option_map placeless_start (start rs)
 start_same rs =
     ap last (along_same unplaced starts_in (λ b r. map placeless_start (starts_in b r))
-    (λ b r. ap (λ xs. option_to_list (start_in xs 0 r.says)) (subrecords_same b) ∙ start_in_same (subrecords b) r.place r.says) [] rs ∙ map_along placeless_start starts_in [] rs)
+    (λ b r.
+    ap (λ xs. option_to_list (start_in xs 0 r.says)) (subrecords_same b) ∙ start_in_same (subrecords b) r.place r.says)
+    [] rs ∙ map_along placeless_start starts_in [] rs)
     ∙ map_last placeless_start (along starts_in rs)
 
 -- ---- the module
 
 pub module_of_unplaced : (rs : List Placed) → module_of (map unplaced rs) ≡ placeless (module_of rs)
-module_of_unplaced rs = rw (segments_same rs, groups_same rs, externals_same rs, publics_same rs, data_records_same rs, start_same rs)
+module_of_unplaced rs =
+    rw (segments_same rs, groups_same rs, externals_same rs, publics_same rs, data_records_same rs, start_same rs)
 
 -- ---- modules that differ by places alone
 
@@ -188,5 +233,6 @@ abbrev pub Alike : (modules others : List Module) → Type 0
 Alike modules others = map placeless modules ≡ map placeless others
 
 -- what doesn't read places is the same for them
-pub kept : {X : Type 0} (of : List Module → X) → ((modules : List Module) → of (map placeless modules) ≡ of modules) → (modules others : List Module) → Alike modules others → of modules ≡ of others
+pub kept : {X : Type 0} (of : List Module → X) → ((modules : List Module) → of (map placeless modules) ≡ of modules)
+    → (modules others : List Module) → Alike modules others → of modules ≡ of others
 kept of keeps modules others same = sym (keeps modules) ∙ (ap of same ∙ keeps others)

@@ -17,7 +17,8 @@ use Rattle.omf_commands.specs.Linking.{IsFileOf, IsLinked}
 use Rattle.omf_commands.proofs.OneFile.{same_file}
 use Rattle.omf_commands.proofs.Placeless.{placeless, unplaced_record, module_of_unplaced, none_of, Alike, kept}
 use Rattle.omf_commands.proofs.PlacelessLayout.{only_layout_of}
-use Rattle.omf_commands.proofs.PlacelessProgram.{byte_same, pages_same, written_same, relocations_same, faulty_same, registers_same}
+use Rattle.omf_commands.proofs.PlacelessProgram.{byte_same, pages_same, written_same, relocations_same, faulty_same}
+use Rattle.omf_commands.proofs.PlacelessProgram.{registers_same}
 
 -- records that say the same are the same modules but for places
 says_module : List Record → Module
@@ -28,16 +29,22 @@ unfolding says_module
 module_said rs = sym (module_of_unplaced rs) ∙ ap module_of (sym (map-map _ _ rs))
 
 modules_said : (lists : List (List Placed)) → map placeless (map module_of lists) ≡ map says_module (map says_of lists)
-modules_said lists = map-map placeless module_of lists ∙ (ap (λ f. map f lists) (fun_ext module_said) ∙ sym (map-map says_module says_of lists))
+modules_said lists =
+    map-map placeless module_of lists
+    ∙ (ap (λ f. map f lists) (fun_ext module_said) ∙ sym (map-map says_module says_of lists))
 
-alike : (lists others : List (List Placed)) → map says_of lists ≡ map says_of others → Alike (map module_of lists) (map module_of others)
+alike : (lists others : List (List Placed)) → map says_of lists ≡ map says_of others
+    → Alike (map module_of lists) (map module_of others)
 alike lists others same = modules_said lists ∙ (ap (map says_module) same ∙ sym (modules_said others))
 
-program_of : (modules others : List Module) (layout : Layout) (p : Program) → Alike modules others → IsProgramOf layout modules p → IsProgramOf layout others p
+program_of : (modules others : List Module) (layout : Layout) (p : Program) → Alike modules others
+    → IsProgramOf layout modules p → IsProgramOf layout others p
 program_of modules others layout p same made = record {
   sized = made.sized;
   written = made.written ∙ kept (written layout) (written_same layout) modules others same;
-  everywhere = λ P a below. made.everywhere P a below ∙ kept (λ ms. program_byte P layout ms a) (byte_same P layout a) modules others same;
+  everywhere =
+      λ P a below.
+      made.everywhere P a below ∙ kept (λ ms. program_byte P layout ms a) (byte_same P layout a) modules others same;
   listed = made.listed ∙ kept (relocations layout) (relocations_same layout) modules others same;
   below = made.below;
   at_zero = sym (kept (registers 0 layout) (registers_same 0 layout) modules others same) ∙ made.at_zero;
@@ -45,15 +52,29 @@ program_of modules others layout p same made = record {
   pages = λ k. made.pages k ∙ kept (λ ms. page_covered layout ms k) (pages_same layout k) modules others same;
 }
 
-linked_of : (names : Names) (modules others : List Module) (layout : Layout) (p : Program) → Alike modules others → IsLinked names modules layout p → IsLinked names others layout p
+linked_of : (names : Names) (modules others : List Module) (layout : Layout) (p : Program) → Alike modules others
+    → IsLinked names modules layout p → IsLinked names others layout p
 linked_of names modules others layout p same linked = record {
   is_layout = only_layout_of names modules others layout same linked.is_layout;
-  sound = none_of (program_fault layout others) (sym (kept (λ ms. is_some (program_fault layout ms)) (faulty_same layout) modules others same) ∙ ap is_some linked.sound);
+  sound =
+      none_of (program_fault layout others)
+      (sym (kept (λ ms. is_some (program_fault layout ms)) (faulty_same layout) modules others same)
+      ∙ ap is_some linked.sound);
   program = program_of modules others layout p same linked.program;
 }
 
-pub file_of_said : (names : Names) (lists others : List (List Placed)) (file : List ℕ) → map says_of lists ≡ map says_of others → IsFileOf names (map module_of lists) file → IsFileOf names (map module_of others) file
-file_of_said names lists others file same (layout, p, linked, mz) = (layout, p, linked_of names (map module_of lists) (map module_of others) layout p (alike lists others same) linked, mz)
+pub file_of_said : (names : Names) (lists others : List (List Placed)) (file : List ℕ)
+    → map says_of lists ≡ map says_of others → IsFileOf names (map module_of lists) file
+    → IsFileOf names (map module_of others) file
+file_of_said names lists others file same (layout, p, linked, mz) = (
+  layout,
+  p,
+  linked_of names (map module_of lists) (map module_of others) layout p (alike lists others same) linked,
+  mz,
+)
 
-pub one_file_of_said : (names : Names) (lists others : List (List Placed)) (file other : List ℕ) → map says_of lists ≡ map says_of others → IsFileOf names (map module_of lists) file → IsFileOf names (map module_of others) other → file ≡ other
-one_file_of_said names lists others file other same a b = same_file names (map module_of others) file other (file_of_said names lists others file same a) b
+pub one_file_of_said : (names : Names) (lists others : List (List Placed)) (file other : List ℕ)
+    → map says_of lists ≡ map says_of others → IsFileOf names (map module_of lists) file
+    → IsFileOf names (map module_of others) other → file ≡ other
+one_file_of_said names lists others file other same a b =
+    same_file names (map module_of others) file other (file_of_said names lists others file same a) b

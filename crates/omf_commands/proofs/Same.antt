@@ -4,7 +4,8 @@ use Rattle.std.specs.declared.option.Option.{Option}
 use Rattle.std.specs.Prelude.{MatchOption, codes}
 use Rattle.std.proofs.lemmas.Option.{same_Some}
 use Rattle.omf_module.specs.Module.{Module}
-use Rattle.omf_place.specs.Faults.{PlacementFault, SegmentTooLong, ProgramTooLarge, GroupTooLong, DuplicatePublic, IsFirstFault, placement_fault}
+use Rattle.omf_place.specs.Faults.{PlacementFault, SegmentTooLong, ProgramTooLarge, GroupTooLong, DuplicatePublic}
+use Rattle.omf_place.specs.Faults.{IsFirstFault, placement_fault}
 use Rattle.omf_place.specs.declared.names.Names.{Names}
 use Rattle.omf_image.specs.declared.faults.FixFault.{FixFault}
 use Rattle.omf_image.specs.declared.faults.FixFault.TheVariants as build
@@ -61,44 +62,58 @@ same_told link.Memory other same = ap telling same
 
 -- ---- two faults of the same modules are one
 
-one_placing : (names : Names) (modules : List Module) (f g : PlacementFault) → IsFirstFault names modules f → IsFirstFault names modules g → f ≡ g
+one_placing : (names : Names) (modules : List Module) (f g : PlacementFault) → IsFirstFault names modules f
+    → IsFirstFault names modules g → f ≡ g
 one_placing names modules f g (addresses, size, placed, unique, stands) (others, end, also, _, other) =
     let same = unique others end also in
-    let here : placement_fault names modules addresses size ≡ Some g = subst (λ n. placement_fault names modules addresses n ≡ Some g) same.1 (subst (λ l. placement_fault names modules l end ≡ Some g) same.0 other) in
+    let here : placement_fault names modules addresses size ≡ Some g =
+    subst (λ n. placement_fault names modules addresses n ≡ Some g) same.1
+    (subst (λ l. placement_fault names modules l end ≡ Some g) same.0 other) in
     same_Some f g (sym stands ∙ here)
 
-one_building : (names : Names) (modules : List Module) (f g : FixFault) → IsBuildFault names modules f → IsBuildFault names modules g → f ≡ g
+one_building : (names : Names) (modules : List Module) (f g : FixFault) → IsBuildFault names modules f
+    → IsBuildFault names modules g → f ≡ g
 one_building names modules f g (layout, only, stands) (other, also, there) =
     same_Some f g (sym stands ∙ subst (λ l. program_fault l modules ≡ Some g) (only.1 other also.0) there)
 
 -- this is said of modules by a fault of them together
 abbrev Says : Names → List Module → Option PlacementFault → Type 0
-Says names modules said = MatchOption said (IsBuildFault names modules build.TooManyRelocations) (IsFirstFault names modules)
+Says names modules said =
+    MatchOption said (IsBuildFault names modules build.TooManyRelocations) (IsFirstFault names modules)
 
-one_said : (names : Names) (modules : List Module) (f g : Option PlacementFault) → Says names modules f → Says names modules g → f ≡ g
+one_said : (names : Names) (modules : List Module) (f g : Option PlacementFault) → Says names modules f
+    → Says names modules g → f ≡ g
 one_said names modules None None h k = refl
 one_said names modules (Some f) (Some g) h k = ap Some (one_placing names modules f g h k)
 one_said names modules None (Some g) h k = absurd (placed_sound names modules h.0 g h.1 k)
 one_said names modules (Some f) None h k = absurd (placed_sound names modules k.0 f k.1 h)
 
 -- a fault of them together is none of a record
-none_of_record : (names : Names) (modules : List Module) (f : Option PlacementFault) (k : FixKind) (input place : ℕ) → Says names modules f → IsBuildFault names modules (build.At k input place) → ⊥
+none_of_record : (names : Names) (modules : List Module) (f : Option PlacementFault) (k : FixKind) (input place : ℕ)
+    → Says names modules f → IsBuildFault names modules (build.At k input place) → ⊥
 none_of_record names modules (Some f) k input place h also = placed_sound names modules also.0 f also.1 h
 none_of_record names modules None k input place h also =
-    let same : build.TooManyRelocations ≡ build.At k input place = one_building names modules build.TooManyRelocations (build.At k input place) h also in cc
+    let same : build.TooManyRelocations ≡ build.At k input place =
+    one_building names modules build.TooManyRelocations (build.At k input place) h also in cc
 
-pub one_modules_fault : {A : Type 0} (names : Names) (modules : List Module) (fault other : LinkFault A) → IsModulesFault names modules fault → IsModulesFault names modules other → SameFault fault other
-one_modules_fault names modules (link.Program f) (link.Program g) h k = one_said names modules (program_said f) (program_said g) h k
-one_modules_fault names modules (link.Program f) (link.Record m at g) h k = absurd (none_of_record names modules (program_said f) k.0 m at h k.2)
+pub one_modules_fault : {A : Type 0} (names : Names) (modules : List Module) (fault other : LinkFault A)
+    → IsModulesFault names modules fault → IsModulesFault names modules other → SameFault fault other
+one_modules_fault names modules (link.Program f) (link.Program g) h k =
+    one_said names modules (program_said f) (program_said g) h k
+one_modules_fault names modules (link.Program f) (link.Record m at g) h k =
+    absurd (none_of_record names modules (program_said f) k.0 m at h k.2)
 one_modules_fault names modules (link.Program f) (link.Device m at) h k = absurd k
 one_modules_fault names modules (link.Program f) (link.File g) h k = absurd k
 one_modules_fault names modules (link.Program f) link.Output h k = absurd k
 one_modules_fault names modules (link.Program f) link.Memory h k = absurd k
-one_modules_fault names modules (link.Record n place f) (link.Program g) h k = absurd (none_of_record names modules (program_said g) h.0 n place k h.2)
+one_modules_fault names modules (link.Record n place f) (link.Program g) h k =
+    absurd (none_of_record names modules (program_said g) h.0 n place k h.2)
 one_modules_fault {A} names modules (link.Record n place f) (link.Record m at g) h k =
-    let first : link.Record n place f ≡ fix_fault {A = A} (build.At h.0 n place) = ap (λ x. link.Record n place x) h.1 in
+    let first : link.Record n place f ≡ fix_fault {A = A} (build.At h.0 n place) =
+    ap (λ x. link.Record n place x) h.1 in
     let second : link.Record m at g ≡ fix_fault {A = A} (build.At k.0 m at) = ap (λ x. link.Record m at x) k.1 in
-    first ∙ ap (fix_fault {A = A}) (one_building names modules (build.At h.0 n place) (build.At k.0 m at) h.2 k.2) ∙ sym second
+    first ∙ ap (fix_fault {A = A}) (one_building names modules (build.At h.0 n place) (build.At k.0 m at) h.2 k.2)
+    ∙ sym second
 one_modules_fault names modules (link.Record n place f) (link.Device m at) h k = absurd k
 one_modules_fault names modules (link.Record n place f) (link.File g) h k = absurd k
 one_modules_fault names modules (link.Record n place f) link.Output h k = absurd k

@@ -1,5 +1,6 @@
 -- A data record at a paragraph is the one at paragraph 0 with the paragraph added to its relocated words.
-use Rattle.std.proofs.Common.{◌≡◌, ◌⊎◌, ℕ, ◌+◌, ◌%◌, ◌≤◌, true, leb, List, [], ◌∷◌, map, length, get_or, inl, inr, arith, refl, ap, ◌∙◌, sym, subst}
+use Rattle.std.proofs.Common.{◌≡◌, ◌⊎◌, ℕ, ◌+◌, ◌%◌, ◌≤◌, true, leb, List, [], ◌∷◌, map, length, get_or, inl, inr}
+use Rattle.std.proofs.Common.{arith, refl, ap, ◌∙◌, sym, subst}
 use Rattle.std.proofs.lemmas.List.{length-set}
 use Rattle.std.proofs.lemmas.Bool.{and_parts, or_cases, leb-true}
 use Rattle.std.specs.List.{list_all}
@@ -33,12 +34,16 @@ sides i v q h = elim (or_cases (leb (i + 2) (patch_start q)) (leb (patch_end q) 
 ]
 
 -- an addition to a relocated word passes a patch that is clear of it
-pass : (P i v : ℕ) (q : Patch) (xs : List ℕ) → (i + 2 ≤ patch_start q) ⊎ (patch_end q ≤ i) → patched q (add_word P i xs) ≡ add_word P i (patched q xs)
-pass P i v (Byte j w) xs h = add_byte-add_word w j P i xs (elim h [ inl l ↦ inr (omega arith) | inr r ↦ inl (omega arith) ])
+pass : (P i v : ℕ) (q : Patch) (xs : List ℕ) → (i + 2 ≤ patch_start q) ⊎ (patch_end q ≤ i)
+    → patched q (add_word P i xs) ≡ add_word P i (patched q xs)
+pass P i v (Byte j w) xs h =
+    add_byte-add_word w j P i xs (elim h [ inl l ↦ inr (omega arith) | inr r ↦ inl (omega arith) ])
 pass P i v (Word j w) xs h = add_word-comm w j P i xs (elim h [ inl l ↦ inr (omega arith) | inr r ↦ inl (omega arith) ])
-pass P i v (Relocated j w) xs h = add_word-comm w j P i xs (elim h [ inl l ↦ inr (omega arith) | inr r ↦ inl (omega arith) ])
+pass P i v (Relocated j w) xs h =
+    add_word-comm w j P i xs (elim h [ inl l ↦ inr (omega arith) | inr r ↦ inl (omega arith) ])
 
-pass_all : (P i v : ℕ) (qs : List Patch) (xs : List ℕ) → list_all (clear (Relocated i v)) qs ≡ true → patched_all qs (add_word P i xs) ≡ add_word P i (patched_all qs xs)
+pass_all : (P i v : ℕ) (qs : List Patch) (xs : List ℕ) → list_all (clear (Relocated i v)) qs ≡ true
+    → patched_all qs (add_word P i xs) ≡ add_word P i (patched_all qs xs)
 pass_all P i v [] xs h = refl
 pass_all P i v (q ∷ qs) xs h =
     let both = and_parts (clear (Relocated i v) q) (list_all (clear (Relocated i v)) qs) h in
@@ -57,10 +62,12 @@ pub length-patched_all : (ps : List Patch) (xs : List ℕ) → length (patched_a
 length-patched_all [] xs = refl
 length-patched_all (p ∷ ps) xs = length-patched_all ps (patched p xs) ∙ length-patched p xs
 
-inside_still : (p : Patch) (ps : List Patch) (xs : List ℕ) → AllInside (length xs) ps → AllInside (length (patched p xs)) ps
+inside_still : (p : Patch) (ps : List Patch) (xs : List ℕ) → AllInside (length xs) ps
+    → AllInside (length (patched p xs)) ps
 inside_still p ps xs h = subst (λ (n : ℕ). AllInside n ps) (sym (length-patched p xs)) h
 
-pub law : (P : ℕ) (ps : List Patch) (xs : List ℕ) → AllClear ps → AllInside (length xs) ps → patched_all (map (at_paragraph P) ps) xs ≡ add_words P (relocated_places ps) (patched_all ps xs)
+pub law : (P : ℕ) (ps : List Patch) (xs : List ℕ) → AllClear ps → AllInside (length xs) ps
+    → patched_all (map (at_paragraph P) ps) xs ≡ add_words P (relocated_places ps) (patched_all ps xs)
 law P [] xs clear inside = refl
 law P (Byte i v ∷ ps) xs clear inside = law P ps (add_byte v i xs) clear.1 (inside_still (Byte i v) ps xs inside.1)
 law P (Word i v ∷ ps) xs clear inside = law P ps (add_word v i xs) clear.1 (inside_still (Word i v) ps xs inside.1)

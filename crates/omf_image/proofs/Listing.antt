@@ -1,6 +1,8 @@
 -- The data records of modules, one after the other.
-use Rattle.std.proofs.Common.{◌≡◌, ℕ, ◌+◌, ◌<◌, List, [], ◌∷◌, ◌++◌, map, drop, length, get_or, slice_get, Some, None, option_map, Ok, All, ap, ◌∙◌, sym, arith, subst}
-use Rattle.std.proofs.lemmas.List.{get_or_default, length-append, length-map, get_or-map, get_or_append_left, get_or-append-add}
+use Rattle.std.proofs.Common.{◌≡◌, ℕ, ◌+◌, ◌<◌, List, [], ◌∷◌, ◌++◌, map, drop, length, get_or, slice_get, Some, None}
+use Rattle.std.proofs.Common.{option_map, Ok, All, ap, ◌∙◌, sym, arith, subst}
+use Rattle.std.proofs.lemmas.List.{get_or_default, length-append, length-map, get_or-map, get_or_append_left}
+use Rattle.std.proofs.lemmas.List.{get_or-append-add}
 use Rattle.std.proofs.lemmas.Option.{get_or_from_slice_get}
 use Rattle.omf_module.specs.Module.{DataRecord, Module}
 use Rattle.omf_image.specs.Records.{Entry}
@@ -18,29 +20,38 @@ pub all_left : {X : Type 0} (P : X → Type 0) (xs ys : List X) → All P (xs ++
 all_left P xs ys h k d l = subst P (get_or_append_left xs ys d k l) (h k d (omega (arith, length-append xs ys)))
 
 pub all_right : {X : Type 0} (P : X → Type 0) (xs ys : List X) → All P (xs ++ ys) → All P ys
-all_right P xs ys h k d l = subst P (get_or-append-add xs ys k d) (h (length xs + k) d (omega (arith, length-append xs ys)))
+all_right P xs ys h k d l =
+    subst P (get_or-append-add xs ys k d) (h (length xs + k) d (omega (arith, length-append xs ys)))
 
 abbrev pub entry_of : ℕ → Module → DataRecord → Entry
 entry_of n m d = record { input = n; module' = m; data_record = d }
 
-pub all_at : {X Y : Type 0} (P : Y → Type 0) (f : X → Y) (xs : List X) (i : ℕ) (x : X) → All P (map f xs) → i < length xs → slice_get xs i ≡ Some x → P (f x)
+pub all_at : {X Y : Type 0} (P : Y → Type 0) (f : X → Y) (xs : List X) (i : ℕ) (x : X) → All P (map f xs)
+    → i < length xs → slice_get xs i ≡ Some x → P (f x)
 all_at P f xs i x h l e =
     subst P (get_or-map f xs i x (f x) l ∙ ap f (get_or_from_slice_get xs i x x e)) (h i (f x) (simp length-map l))
 
-pub entry_next : (n : ℕ) (m : Module) (i : ℕ) (d : DataRecord) → i < length m.data_records → slice_get m.data_records i ≡ Some d → drop i (module_entries n m) ≡ entry_of n m d ∷ drop (i + 1) (module_entries n m)
+pub entry_next : (n : ℕ) (m : Module) (i : ℕ) (d : DataRecord) → i < length m.data_records
+    → slice_get m.data_records i ≡ Some d
+    → drop i (module_entries n m) ≡ entry_of n m d ∷ drop (i + 1) (module_entries n m)
 entry_next n m i d l e =
     drop_more (module_entries n m) i (entry_of n m d) (simp length-map l)
-    ∙ ap (λ (x : Entry). x ∷ drop (i + 1) (module_entries n m)) (get_or-map (entry_of n m) m.data_records i d (entry_of n m d) l ∙ ap (entry_of n m) (get_or_from_slice_get m.data_records i d d e))
+    ∙ ap (λ (x : Entry). x ∷ drop (i + 1) (module_entries n m))
+    (get_or-map (entry_of n m) m.data_records i d (entry_of n m d) l
+    ∙ ap (entry_of n m) (get_or_from_slice_get m.data_records i d d e))
 
-pub module_next : (ms : List Module) (i : ℕ) (m : Module) → i < length ms → m ≡ get_or ms i m → entries_from i (drop i ms) ≡ module_entries i m ++ entries_from (i + 1) (drop (i + 1) ms)
+pub module_next : (ms : List Module) (i : ℕ) (m : Module) → i < length ms → m ≡ get_or ms i m
+    → entries_from i (drop i ms) ≡ module_entries i m ++ entries_from (i + 1) (drop (i + 1) ms)
 module_next ms i m l e =
     ap (entries_from i) (drop_more ms i m l)
     ∙ ap (λ (x : Module). module_entries i x ++ entries_from (i + 1) (drop (i + 1) ms)) (sym e)
 
-pub item_next : {X : Type 0} (xs : List X) (i : ℕ) (x : X) → i < length xs → slice_get xs i ≡ Some x → drop i xs ≡ x ∷ drop (i + 1) xs
+pub item_next : {X : Type 0} (xs : List X) (i : ℕ) (x : X) → i < length xs → slice_get xs i ≡ Some x
+    → drop i xs ≡ x ∷ drop (i + 1) xs
 item_next xs i x l e = drop_more xs i x l ∙ ap (λ y. y ∷ drop (i + 1) xs) (get_or_from_slice_get xs i x x e)
 
-pub start_next : (ms : List Module) (i : ℕ) (m : Module) → i < length ms → m ≡ get_or ms i m → starts_from i (drop i ms) ≡ module_start m.start i m ++ starts_from (i + 1) (drop (i + 1) ms)
+pub start_next : (ms : List Module) (i : ℕ) (m : Module) → i < length ms → m ≡ get_or ms i m
+    → starts_from i (drop i ms) ≡ module_start m.start i m ++ starts_from (i + 1) (drop (i + 1) ms)
 start_next ms i m l e =
     ap (starts_from i) (drop_more ms i m l)
     ∙ ap (λ (x : Module). module_start x.start i x ++ starts_from (i + 1) (drop (i + 1) ms)) (sym e)
@@ -50,11 +61,13 @@ all_head P x xs h = h 0 x (omega arith)
 
 some_item : (ms : List Module) (i : ℕ) → i < length ms → (m : Module) × (m ≡ get_or ms i m)
 some_item ms i l =
-    let d : Module = record { segments = []; groups = []; externals = []; publics = []; data_records = []; start = None } in
+    let d : Module =
+    record { segments = []; groups = []; externals = []; publics = []; data_records = []; start = None } in
     (get_or ms i d, get_or_default ms i d (get_or ms i d) l)
 
 -- the only one
-pub one_start : (layout : Layout) (ms : List Module) (f : ℕ × Start) (m : Module) (entry : ℕ × ℕ) → m ≡ get_or ms f.0 m → FindsStart ms 0 (Some f) → FindsStart ms (f.0 + 1) None
+pub one_start : (layout : Layout) (ms : List Module) (f : ℕ × Start) (m : Module) (entry : ℕ × ℕ) → m ≡ get_or ms f.0 m
+    → FindsStart ms 0 (Some f) → FindsStart ms (f.0 + 1) None
     → GivesEntry (start_meaning layout (record { input = f.0; module' = m; start = f.1 })) (Ok entry)
     → (starts_fault layout (starts ms) ≡ None) × (entry ≡ entry_at 0 layout (starts ms))
 one_start layout ms f m entry is one none gives =
@@ -64,7 +77,8 @@ one_start layout ms f m entry is one none gives =
       gives.1 ∙ sym (ap (entry_at 0 layout) only),
     )
 
-pub two_starts : (layout : Layout) (ms : List Module) (f g : ℕ × Start) → FindsStart ms 0 (Some f) → FindsStart ms (f.0 + 1) (Some g) → starts_fault layout (starts ms) ≡ Some (At TwoStarts g.0 g.1.place)
+pub two_starts : (layout : Layout) (ms : List Module) (f g : ℕ × Start) → FindsStart ms 0 (Some f)
+    → FindsStart ms (f.0 + 1) (Some g) → starts_fault layout (starts ms) ≡ Some (At TwoStarts g.0 g.1.place)
 two_starts layout ms f g one two =
     let m = some_item ms f.0 one.0 in
     let n = some_item ms g.0 two.0 in

@@ -1,5 +1,6 @@
 -- The numbers of a list, and the tests that find them.
-use Rattle.std.proofs.Common.{◌≡◌, ◌⊎◌, ℕ, zero, suc, ◌+◌, ◌<◌, ◌≤◌, Bool, true, false, cond, List, [], ◌∷◌, ◌++◌, map, filter, length, get_or, inl, inr, arith, refl, ap, ◌∙◌, sym}
+use Rattle.std.proofs.Common.{◌≡◌, ◌⊎◌, ℕ, zero, suc, ◌+◌, ◌<◌, ◌≤◌, Bool, true, false, cond, List, [], ◌∷◌, ◌++◌, map}
+use Rattle.std.proofs.Common.{filter, length, get_or, inl, inr, arith, refl, ap, ◌∙◌, sym}
 use Rattle.std.specs.List.{list_any, range_with_len}
 use Rattle.std.proofs.lemmas.Bool.{true≢false, cases_eq, or_cases, or_left, or_right}
 
@@ -19,7 +20,8 @@ In-right r (x ∷ xs) ys h = inr (In-right r xs ys h)
 
 pub In-cases : (r : ℕ) (xs ys : List ℕ) → In r (xs ++ ys) → In r xs ⊎ In r ys
 In-cases r [] ys h = inr h
-In-cases r (x ∷ xs) ys h = elim h [ inl e ↦ inl (inl e) | inr k ↦ elim (In-cases r xs ys k) [ inl l ↦ inl (inr l) | inr l ↦ inr l ] ]
+In-cases r (x ∷ xs) ys h =
+    elim h [ inl e ↦ inl (inl e) | inr k ↦ elim (In-cases r xs ys k) [ inl l ↦ inl (inr l) | inr l ↦ inr l ] ]
 
 -- in a list whose numbers a sum was added to
 pub In-map : (n r : ℕ) (xs : List ℕ) → In r (map (λ w. n + w) xs) → (w : ℕ) × In w xs × (r ≡ n + w)
@@ -33,11 +35,17 @@ In-map-from n w (x ∷ xs) h = elim h [ inl e ↦ inl (ap (λ (v : ℕ). n + v) 
 -- a test that some number passes
 pub any_in : (f : ℕ → Bool) (ws : List ℕ) → list_any f ws ≡ true → (w : ℕ) × In w ws × (f w ≡ true)
 any_in f [] h = absurd (true≢false (sym h))
-any_in f (w ∷ ws) h = elim (or_cases (f w) (list_any f ws) h) [ inl t ↦ (w, inl refl, t) | inr t ↦ let g = any_in f ws t in (g.0, inr g.1, g.2) ]
+any_in f (w ∷ ws) h = elim (or_cases (f w) (list_any f ws) h) [
+  | inl t ↦ (w, inl refl, t)
+  | inr t ↦ let g = any_in f ws t in (g.0, inr g.1, g.2)
+]
 
 pub any_from : (f : ℕ → Bool) (ws : List ℕ) (w : ℕ) → In w ws → f w ≡ true → list_any f ws ≡ true
 any_from f [] w h t = absurd h
-any_from f (v ∷ ws) w h t = elim h [ inl e ↦ or_left (f v) (list_any f ws) (ap f (sym e) ∙ t) | inr k ↦ or_right (f v) (list_any f ws) (any_from f ws w k t) ]
+any_from f (v ∷ ws) w h t = elim h [
+  | inl e ↦ or_left (f v) (list_any f ws) (ap f (sym e) ∙ t)
+  | inr k ↦ or_right (f v) (list_any f ws) (any_from f ws w k t)
+]
 
 -- numbers of a range that pass a test
 in_cond : (b : Bool) (x : ℕ) (xs : List ℕ) (j : ℕ) → In j (cond b (x ∷ xs) xs) → ((j ≡ x) × (b ≡ true)) ⊎ In j xs
@@ -62,11 +70,13 @@ filter_has p a (suc n) j h l t =
       | inr e ↦ rest (p a) (filter_has p (a + 1) n j (omega (arith, h, e)) (omega (arith, l)) t)
     ]
   where
-    first : (b : Bool) → b ≡ true → a ≡ j → In j (cond b (a ∷ filter p (range_with_len (a + 1) n)) (filter p (range_with_len (a + 1) n)))
+    first : (b : Bool) → b ≡ true → a ≡ j
+        → In j (cond b (a ∷ filter p (range_with_len (a + 1) n)) (filter p (range_with_len (a + 1) n)))
     first true u e = inl (sym e)
     first false u e = cc
 
-    rest : (b : Bool) → In j (filter p (range_with_len (a + 1) n)) → In j (cond b (a ∷ filter p (range_with_len (a + 1) n)) (filter p (range_with_len (a + 1) n)))
+    rest : (b : Bool) → In j (filter p (range_with_len (a + 1) n))
+        → In j (cond b (a ∷ filter p (range_with_len (a + 1) n)) (filter p (range_with_len (a + 1) n)))
     rest true i = inr i
     rest false i = i
 

@@ -1,5 +1,7 @@
--- Sound modules and a layout of them are ready: what fix-ups and starts name is there, and data lies inside the program.
-use Rattle.std.proofs.Common.{◌≡◌, ℕ, suc, ◌+◌, ◌<◌, ◌≤◌, false, List, [], ◌∷◌, length, All, Option, Some, None, IfSome, slice_get, refl, subst, arith}
+-- Sound modules and a layout of them are ready: what fix-ups and starts name is there, and data lies inside the
+-- program.
+use Rattle.std.proofs.Common.{◌≡◌, ℕ, suc, ◌+◌, ◌<◌, ◌≤◌, false, List, [], ◌∷◌, length, All, Option, Some, None, IfSome}
+use Rattle.std.proofs.Common.{slice_get, refl, subst, arith}
 use Rattle.std.proofs.lemmas.List.{length-map}
 use Rattle.std.proofs.lemmas.List.Elements.{All-nil, All-append, All-cons, All-map, All-weaker}
 use Rattle.std.proofs.lemmas.Option.{slice_get_within, get_or_from_slice_get}
@@ -33,7 +35,8 @@ all_get : {X : Type 0} (P : X → Type 0) (xs : List X) (k : ℕ) (x : X) → Al
 all_get P xs k x h e = subst P (get_or_from_slice_get xs k x x e) (h k x (slice_get_within xs k x e))
 
 -- a part's address, with its length, lies inside the program
-part_inside : (size n : ℕ) (st : Standing) (a : Address) (f : Base) → is_absolute st ≡ false → LiesInside size n st a → real_address 0 (position a (Some f)) + n ≤ size
+part_inside : (size n : ℕ) (st : Standing) (a : Address) (f : Base) → is_absolute st ≡ false → LiesInside size n st a
+    → real_address 0 (position a (Some f)) + n ≤ size
 part_inside size n (Absolute frame offset) a f e h = cc
 part_inside size n (Relocatable alignment kind) (address.Relocatable a) (base.Relocatable f) e h = omega (arith, h)
 part_inside size n (Relocatable alignment kind) (address.Relocatable a) (base.Absolute f) e h = omega (arith, h)
@@ -52,64 +55,94 @@ module _ (ms : List Module) (layout : Layout) (bounded : IsBounded ms layout) wh
     target_there (fixup_target.Group g) h = let e = places.groups in omega (arith, h, e)
     target_there (fixup_target.External e) h = h
 
-    frame_there : (here : ℕ) (f : FixupFrame) → FrameMeans m.segments m.groups m.externals f → (f ≡ OfLocation → here < length (places_of layout k).segments) → IsFrameThere layout k m here f
+    frame_there : (here : ℕ) (f : FixupFrame) → FrameMeans m.segments m.groups m.externals f
+        → (f ≡ OfLocation → here < length (places_of layout k).segments) → IsFrameThere layout k m here f
     frame_there here (OfSegment s) h l = let e = places.segments in omega (arith, h, e)
     frame_there here (OfGroup g) h l = let e = places.groups in omega (arith, h, e)
     frame_there here (OfExternal e) h l = h
     frame_there here OfLocation h l = l refl
     frame_there here OfTarget h l = tt
 
-    fixup_ready : (d : DataRecord) (x : ResolvedFixup) → d.segment < length (places_of layout k).segments → FixupFits m.segments m.groups m.externals d x → IsFixupReady layout (entry_of k m d) x
-    fixup_ready d x h fits = record { target = target_there x.target fits.target; frame = frame_there d.segment x.frame fits.frame (λ e. h); lies = fits.together; whole = fits.whole }
+    fixup_ready : (d : DataRecord) (x : ResolvedFixup) → d.segment < length (places_of layout k).segments
+        → FixupFits m.segments m.groups m.externals d x → IsFixupReady layout (entry_of k m d) x
+    fixup_ready d x h fits = record {
+      target = target_there x.target fits.target;
+      frame = frame_there d.segment x.frame fits.frame (λ e. h);
+      lies = fits.together;
+      whole = fits.whole;
+    }
 
     entry_ready : (d : DataRecord) → DataFits m.segments m.groups m.externals d → IsEntryReady layout (entry_of k m d)
     entry_ready d fits =
         let here : d.segment < length (places_of layout k).segments =
-        (let w = slice_get_within m.segments d.segment fits.segment fits.is_part.0 in let e = places.segments in omega (arith, w, e)) in
+        (let w = slice_get_within m.segments d.segment fits.segment fits.is_part.0 in
+        let e = places.segments in omega (arith, w, e)) in
         let p = places.each d.segment fits.segment fits.is_part.0 in
-        let low = part_inside layout.size fits.segment.length fits.segment.standing (part_start layout k d.segment) (segment_frame layout k d.segment) fits.is_part.1 p.inside in
+        let low =
+        part_inside layout.size fits.segment.length fits.segment.standing (part_start layout k d.segment)
+        (segment_frame layout k d.segment) fits.is_part.1 p.inside in
         let count : length (bytes_of d) ≡ length d.pairs = length-map d.pairs (λ (p : ℕ × ℕ). p.1) in
         let inner = fits.inside in
         record {
           input = input_there;
           segment = here;
           inside = omega (arith, low, count, inner);
-          fixups = All-weaker (FixupFits m.segments m.groups m.externals d) (IsFixupReady layout (entry_of k m d)) (λ x h. fixup_ready d x here h) d.fixups fits.fixups;
+          fixups =
+              All-weaker (FixupFits m.segments m.groups m.externals d) (IsFixupReady layout (entry_of k m d))
+              (λ x h. fixup_ready d x here h) d.fixups fits.fixups;
           copies = fits.copies;
         }
 
     module_ready : IsSound m → All (IsEntryReady layout) (module_entries k m)
     module_ready sound = All-map (IsEntryReady layout) (entry_of k m) m.data_records
-        (All-weaker (DataFits m.segments m.groups m.externals) (λ d. IsEntryReady layout (entry_of k m d)) entry_ready m.data_records sound.data_records)
+        (All-weaker (DataFits m.segments m.groups m.externals) (λ d. IsEntryReady layout (entry_of k m d)) entry_ready
+        m.data_records sound.data_records)
 
-    start_ready : (o : Option Start) → IfSome o (StartFits m.segments m.groups m.externals) → All (IsStartReady layout) (module_start o k m)
+    start_ready : (o : Option Start) → IfSome o (StartFits m.segments m.groups m.externals)
+        → All (IsStartReady layout) (module_start o k m)
     start_ready None h = All-nil (IsStartReady layout)
     start_ready (Some s) h = All-cons (IsStartReady layout) (record { input = k; module' = m; start = s }) []
-        (record { input = input_there; target = target_there s.target h.target; frame = frame_there 0 s.frame h.frame (λ e. absurd (h.no_location e)) })
+        (record {
+          input = input_there;
+          target = target_there s.target h.target;
+          frame = frame_there 0 s.frame h.frame (λ e. absurd (h.no_location e));
+        })
         (All-nil (IsStartReady layout))
 
   -- what holds of each module's part holds of all
-  entries_all : (P : Entry → Type 0) (n : ℕ) (xs : List Module) → ((k : ℕ) (m : Module) → slice_get xs k ≡ Some m → All P (module_entries (n + k) m)) → All P (entries_from n xs)
+  entries_all : (P : Entry → Type 0) (n : ℕ) (xs : List Module)
+      → ((k : ℕ) (m : Module) → slice_get xs k ≡ Some m → All P (module_entries (n + k) m)) → All P (entries_from n xs)
   entries_all P n [] h = All-nil P
   entries_all P n (x ∷ xs) h =
       let here : n + 0 ≡ n = omega arith in
-      All-append P (module_entries n x) (entries_from (n + 1) xs) (subst (λ j. All P (module_entries j x)) here (h 0 x refl))
-      (entries_all P (n + 1) xs (λ k m e. let next : n + suc k ≡ n + 1 + k = omega arith in subst (λ j. All P (module_entries j m)) next (h (suc k) m e)))
+      All-append P (module_entries n x) (entries_from (n + 1) xs)
+      (subst (λ j. All P (module_entries j x)) here (h 0 x refl))
+      (entries_all P (n + 1) xs
+      (λ k m e.
+      let next : n + suc k ≡ n + 1 + k = omega arith in subst (λ j. All P (module_entries j m)) next (h (suc k) m e)))
 
-  starts_all : (P : StartEntry → Type 0) (n : ℕ) (xs : List Module) → ((k : ℕ) (m : Module) → slice_get xs k ≡ Some m → All P (module_start m.start (n + k) m)) → All P (starts_from n xs)
+  starts_all : (P : StartEntry → Type 0) (n : ℕ) (xs : List Module)
+      → ((k : ℕ) (m : Module) → slice_get xs k ≡ Some m → All P (module_start m.start (n + k) m))
+      → All P (starts_from n xs)
   starts_all P n [] h = All-nil P
   starts_all P n (x ∷ xs) h =
       let here : n + 0 ≡ n = omega arith in
-      All-append P (module_start x.start n x) (starts_from (n + 1) xs) (subst (λ j. All P (module_start x.start j x)) here (h 0 x refl))
-      (starts_all P (n + 1) xs (λ k m e. let next : n + suc k ≡ n + 1 + k = omega arith in subst (λ j. All P (module_start m.start j m)) next (h (suc k) m e)))
+      All-append P (module_start x.start n x) (starts_from (n + 1) xs)
+      (subst (λ j. All P (module_start x.start j x)) here (h 0 x refl))
+      (starts_all P (n + 1) xs
+      (λ k m e.
+      let next : n + suc k ≡ n + 1 + k = omega arith in
+      subst (λ j. All P (module_start m.start j m)) next (h (suc k) m e)))
 
 pub ready : (ms : List Module) (layout : Layout) → All IsSound ms → IsBounded ms layout → IsReady layout ms
 ready ms layout sound bounded = record {
   small = bounded.size;
   records = entries_all ms layout bounded (IsEntryReady layout) 0 ms (λ k m e.
       let same : k ≡ 0 + k = omega arith in
-      subst (λ j. All (IsEntryReady layout) (module_entries j m)) same (module_ready ms layout bounded k m e (all_get IsSound ms k m sound e)));
+      subst (λ j. All (IsEntryReady layout) (module_entries j m)) same
+      (module_ready ms layout bounded k m e (all_get IsSound ms k m sound e)));
   starts = starts_all ms layout bounded (IsStartReady layout) 0 ms (λ k m e.
       let same : k ≡ 0 + k = omega arith in
-      subst (λ j. All (IsStartReady layout) (module_start m.start j m)) same (start_ready ms layout bounded k m e m.start (let s = all_get IsSound ms k m sound e in s.start)));
+      subst (λ j. All (IsStartReady layout) (module_start m.start j m)) same
+      (start_ready ms layout bounded k m e m.start (let s = all_get IsSound ms k m sound e in s.start)));
 }

@@ -1,5 +1,7 @@
 -- Where no fault stands, the program at paragraph P is the one at 0 with P added to its relocated words.
-use Rattle.std.proofs.Common.{◌≡◌, ℕ, lit<, ◌+◌, ◌-◌, ◌<◌, ◌≤◌, Bool, true, false, not, ◌||◌, cond, List, [], ◌∷◌, ◌++◌, map, flat_map, length, get_or, Option, Some, None, Result, Ok, Err, inl, inr, arith, refl, ap, ◌∙◌, sym, subst}
+use Rattle.std.proofs.Common.{◌≡◌, ℕ, lit<, ◌+◌, ◌-◌, ◌<◌, ◌≤◌, Bool, true, false, not, ◌||◌, cond, List, [], ◌∷◌, ◌++◌}
+use Rattle.std.proofs.Common.{map, flat_map, length, get_or, Option, Some, None, Result, Ok, Err, inl, inr, arith, refl}
+use Rattle.std.proofs.Common.{ap, ◌∙◌, sym, subst}
 use Rattle.std.proofs.lemmas.List.{append_assoc, append-nil, map-append, length-map}
 use Rattle.std.proofs.lemmas.List.Elements.{recursion_from_All}
 use Rattle.std.proofs.lemmas.Bool.{or_parts, and_parts}
@@ -18,13 +20,15 @@ use Rattle.omf_image.specs.Located.{Datum, covers, covers_word, located}
 use Rattle.omf_image.specs.declared.reference.Resolved.{Resolved}
 use Rattle.omf_image.specs.Value.{patches_at}
 use Rattle.omf_record.specs.Numbers.{location_width}
-use Rattle.omf_image.specs.Records.{hits, bytes_of, stored_of, Entry, entries, entry_start, meaning, patches_on, fixup_patches, patches, datum, program_byte, record_relocations}
+use Rattle.omf_image.specs.Records.{hits, bytes_of, stored_of, Entry, entries, entry_start, meaning, patches_on}
+use Rattle.omf_image.specs.Records.{fixup_patches, patches, datum, program_byte, record_relocations}
 use Rattle.omf_image.specs.inside.Lookups.{patches_of}
 use Rattle.omf_image.specs.inside.Leading.{relocated_words}
 use Rattle.omf_image.specs.inside.WellPlaced.{LiesInContent, WellPlaced, AllWellPlaced}
 use Rattle.omf_image.specs.declared.faults.FixKind.{FixKind}
 use Rattle.omf_image.specs.declared.faults.FixFault.{FixFault}
-use Rattle.omf_image.specs.Faults.{is_mixed, out_of_frame, too_far, first_test, resolved_fault, fixup_fault, fixups_fault, record_fault, records_fault, data_fault}
+use Rattle.omf_image.specs.Faults.{is_mixed, out_of_frame, too_far, first_test, resolved_fault, fixup_fault}
+use Rattle.omf_image.specs.Faults.{fixups_fault, record_fault, records_fault, data_fault}
 use Rattle.omf_image.specs.inside.Stops.{or_else}
 use Rattle.std.specs.Option.{option_or}
 use Rattle.omf_image.proofs.Law.{at_paragraph, AllClear, AllInside, sides, law, length-patched_all}
@@ -43,7 +47,8 @@ not-false : (b : Bool) → not b ≡ false → b ≡ true
 not-false true h = refl
 not-false false h = cc
 
-pub none_or_else : (o : Option FixKind) (at : ℕ × ℕ) (rest : Option FixFault) → or_else o at rest ≡ None → (o ≡ None) × (rest ≡ None)
+pub none_or_else : (o : Option FixKind) (at : ℕ × ℕ) (rest : Option FixFault) → or_else o at rest ≡ None
+    → (o ≡ None) × (rest ≡ None)
 none_or_else None at rest h = (refl, h)
 none_or_else (Some k) at rest h = cc
 
@@ -52,8 +57,10 @@ none_first None rest h = (refl, h)
 none_first (Some k) rest h = cc
 
 -- ---- one fix-up
-stay_list : (P : ℕ) (r : Resolved) (x : ResolvedFixup) (start : ℕ) (is : List ℕ) → is_mixed x.self_relative x.location r ≡ false
-    → patches_on P r x.self_relative x.location start is ≡ map (at_paragraph P) (patches_on 0 r x.self_relative x.location start is)
+stay_list : (P : ℕ) (r : Resolved) (x : ResolvedFixup) (start : ℕ) (is : List ℕ)
+    → is_mixed x.self_relative x.location r ≡ false
+    → patches_on P r x.self_relative x.location start is
+    ≡ map (at_paragraph P) (patches_on 0 r x.self_relative x.location start is)
 stay_list P r x start [] h = refl
 stay_list P r x start (i ∷ is) h =
     let f : ℕ → ℕ → List Patch = λ q j. patches_at q r x.self_relative x.location j (start + j) in
@@ -62,10 +69,13 @@ stay_list P r x start (i ∷ is) h =
     ∙ sym (map-append (at_paragraph P) (f 0 i) (flat_map (f 0) is))
 
 -- what a fix-up without a fault gives
-record Sound (P : ℕ) (layout : Layout) (e : Entry) (earlier : List Patch) (x : ResolvedFixup) (m : Result Resolved FixKind) : Type 0 where
-  stays : patches_of P m x (entry_start layout e) (hits x.offset (stored_of e.data_record)) ≡ map (at_paragraph P) (patches_of 0 m x (entry_start layout e) (hits x.offset (stored_of e.data_record)))
+record Sound (P : ℕ) (layout : Layout) (e : Entry) (earlier : List Patch) (x : ResolvedFixup)
+    (m : Result Resolved FixKind) : Type 0 where
+  stays : patches_of P m x (entry_start layout e) (hits x.offset (stored_of e.data_record))
+      ≡ map (at_paragraph P) (patches_of 0 m x (entry_start layout e) (hits x.offset (stored_of e.data_record)))
   itself : AllClear (patches_of 0 m x (entry_start layout e) (hits x.offset (stored_of e.data_record)))
-  inside : Within 0 (length (stored_of e.data_record)) (patches_of 0 m x (entry_start layout e) (hits x.offset (stored_of e.data_record)))
+  inside : Within 0 (length (stored_of e.data_record))
+      (patches_of 0 m x (entry_start layout e) (hits x.offset (stored_of e.data_record)))
   others : all_clear earlier (patches_of 0 m x (entry_start layout e) (hits x.offset (stored_of e.data_record))) ≡ true
 
 pub width_some : (l : Location) → 0 < location_width l
@@ -75,14 +85,20 @@ width_some Base = lit< tt
 width_some Pointer = lit< tt
 width_some LoaderOffset = lit< tt
 
-pub hits_room : (d : DataRecord) (x : ResolvedFixup) → LiesInContent d x → (i : ℕ) → In i (hits x.offset (stored_of d)) → i + location_width x.location ≤ length (stored_of d)
+pub hits_room : (d : DataRecord) (x : ResolvedFixup) → LiesInContent d x → (i : ℕ) → In i (hits x.offset (stored_of d))
+    → i + location_width x.location ≤ length (stored_of d)
 hits_room d x lies i h =
     let at = in_hits x.offset (stored_of d) i h in
     let w = width_some x.location in
     let g = (lies i (location_width x.location - 1) at.0 at.1 (omega arith)).0 in
     omega (arith, g)
 
-sound : (P : ℕ) (layout : Layout) (e : Entry) (earlier : List Patch) (x : ResolvedFixup) (m : Result Resolved FixKind) → LiesInContent e.data_record x → resolved_fault m (λ r. first_test r x.self_relative x.location (entry_start layout e) (hits x.offset (stored_of e.data_record)) earlier) ≡ None → Sound P layout e earlier x m
+sound : (P : ℕ) (layout : Layout) (e : Entry) (earlier : List Patch) (x : ResolvedFixup) (m : Result Resolved FixKind)
+    → LiesInContent e.data_record x
+    → resolved_fault m
+    (λ r.
+    first_test r x.self_relative x.location (entry_start layout e) (hits x.offset (stored_of e.data_record)) earlier)
+    ≡ None → Sound P layout e earlier x m
 sound P layout e earlier x (Err k) lies h = cc
 sound P layout e earlier x (Ok r) lies h =
     let is = hits x.offset (stored_of e.data_record) in
@@ -94,8 +110,12 @@ sound P layout e earlier x (Ok r) lies h =
     let four = none_cond (not (all_clear earlier mine)) _ _ three.1 in
     record {
       stays = stay_list P r x start is one.0;
-      itself = hits_clear r x.self_relative x.location start (length (stored_of e.data_record)) is (hits_spaced e.data_record x lies) (hits_room e.data_record x lies);
-      inside = hits_within r x.self_relative x.location start 0 (length (stored_of e.data_record)) is (λ i k. (omega arith, hits_room e.data_record x lies i k));
+      itself =
+          hits_clear r x.self_relative x.location start (length (stored_of e.data_record)) is
+          (hits_spaced e.data_record x lies) (hits_room e.data_record x lies);
+      inside =
+          hits_within r x.self_relative x.location start 0 (length (stored_of e.data_record)) is
+          (λ i k. (omega arith, hits_room e.data_record x lies i k));
       others = not-false (all_clear earlier mine) four.0;
     }
 
@@ -108,14 +128,20 @@ record SoundRecord (P : ℕ) (layout : Layout) (e : Entry) (earlier : List Patch
 append_nil_clear : (ps : List Patch) → AllClear ps → AllClear (ps ++ [])
 append_nil_clear ps h = subst AllClear (sym (append-nil ps)) h
 
-sound_fixups : (P : ℕ) (layout : Layout) (e : Entry) (earlier : List Patch) (xs : List ResolvedFixup) → AllByRecursion (LiesInContent e.data_record) xs → fixups_fault layout e earlier xs ≡ None → AllClear earlier → SoundRecord P layout e earlier xs
-sound_fixups P layout e earlier [] lies h before = record { stays = refl; apart = append_nil_clear earlier before; inside = tt }
+sound_fixups : (P : ℕ) (layout : Layout) (e : Entry) (earlier : List Patch) (xs : List ResolvedFixup)
+    → AllByRecursion (LiesInContent e.data_record) xs → fixups_fault layout e earlier xs ≡ None → AllClear earlier
+    → SoundRecord P layout e earlier xs
+sound_fixups P layout e earlier [] lies h before =
+    record { stays = refl; apart = append_nil_clear earlier before; inside = tt }
 sound_fixups P layout e earlier (x ∷ xs) lies h before =
     let mine : List Patch = fixup_patches 0 layout e x in
     let rest : List Patch = flat_map (fixup_patches 0 layout e) xs in
-    let both = none_or_else (fixup_fault layout e earlier x) (e.input, x.place) (fixups_fault layout e (earlier ++ mine) xs) h in
+    let both =
+    none_or_else (fixup_fault layout e earlier x) (e.input, x.place) (fixups_fault layout e (earlier ++ mine) xs) h in
     let first = sound P layout e earlier x (meaning layout e x) lies.0 both.0 in
-    let others = sound_fixups P layout e (earlier ++ mine) xs lies.1 both.1 (clear_append earlier mine before first.itself first.others) in
+    let others =
+    sound_fixups P layout e (earlier ++ mine) xs lies.1 both.1
+    (clear_append earlier mine before first.itself first.others) in
     record {
       stays =
           ap (λ (l : List Patch). l ++ flat_map (fixup_patches P layout e) xs) first.stays
@@ -134,10 +160,13 @@ abbrev pub piece : Layout → Entry → Piece
 piece layout e = record { datum = datum 0 layout e; words = relocated_places (patches 0 layout e) }
 
 -- relocated words are apart and inside
-word_apart : (i v : ℕ) (ps : List Patch) → list_all (clear (Relocated i v)) ps ≡ true → (s : ℕ) → In s (relocated_places ps) → ApartWords i s
+word_apart : (i v : ℕ) (ps : List Patch) → list_all (clear (Relocated i v)) ps ≡ true → (s : ℕ)
+    → In s (relocated_places ps) → ApartWords i s
 word_apart i v [] h s k = absurd k
-word_apart i v (Byte j w ∷ ps) h s k = word_apart i v ps (and_parts (clear (Relocated i v) (Byte j w)) (list_all (clear (Relocated i v)) ps) h).1 s k
-word_apart i v (Word j w ∷ ps) h s k = word_apart i v ps (and_parts (clear (Relocated i v) (Word j w)) (list_all (clear (Relocated i v)) ps) h).1 s k
+word_apart i v (Byte j w ∷ ps) h s k =
+    word_apart i v ps (and_parts (clear (Relocated i v) (Byte j w)) (list_all (clear (Relocated i v)) ps) h).1 s k
+word_apart i v (Word j w ∷ ps) h s k =
+    word_apart i v ps (and_parts (clear (Relocated i v) (Word j w)) (list_all (clear (Relocated i v)) ps) h).1 s k
 word_apart i v (Relocated j w ∷ ps) h s k =
     let both = and_parts (clear (Relocated i v) (Relocated j w)) (list_all (clear (Relocated i v)) ps) h in
     elim k [
@@ -166,16 +195,24 @@ pub record SoundEntry (P : ℕ) (layout : Layout) (e : Entry) : Type 0 where
   pub apart : AllApart (relocated_places (patches 0 layout e))
   pub inside : AllWordsInside (length (datum 0 layout e).bytes) (relocated_places (patches 0 layout e))
 
-pub sound_entry : (P : ℕ) (layout : Layout) (e : Entry) → WellPlaced e.data_record → fixups_fault layout e [] e.data_record.fixups ≡ None → SoundEntry P layout e
+pub sound_entry : (P : ℕ) (layout : Layout) (e : Entry) → WellPlaced e.data_record
+    → fixups_fault layout e [] e.data_record.fixups ≡ None → SoundEntry P layout e
 sound_entry P layout e well h =
     let d = e.data_record in
     let s = sound_fixups P layout e [] d.fixups (recursion_from_All (LiesInContent d) d.fixups well) h tt in
-    let room : AllInside (length (bytes_of d)) (patches 0 layout e) = subst (λ (n : ℕ). AllInside n (patches 0 layout e)) (length-pairs d) (inside_from_within 0 (length (stored_of d)) (patches 0 layout e) s.inside) in
+    let room : AllInside (length (bytes_of d)) (patches 0 layout e) =
+    subst (λ (n : ℕ). AllInside n (patches 0 layout e)) (length-pairs d)
+    (inside_from_within 0 (length (stored_of d)) (patches 0 layout e) s.inside) in
     let made : List ℕ → Datum = λ bs. record { start = entry_start layout e; bytes = bs } in
     record {
-      moves = ap (λ (ps : List Patch). made (patched_all ps (bytes_of d))) s.stays ∙ ap made (law P (patches 0 layout e) (bytes_of d) s.apart room);
+      moves =
+          ap (λ (ps : List Patch). made (patched_all ps (bytes_of d))) s.stays
+          ∙ ap made (law P (patches 0 layout e) (bytes_of d) s.apart room);
       apart = words_apart (patches 0 layout e) s.apart;
-      inside = words_inside (length (datum 0 layout e).bytes) (patches 0 layout e) (subst (λ (n : ℕ). AllInside n (patches 0 layout e)) (sym (length-patched_all (patches 0 layout e) (bytes_of d))) room);
+      inside =
+          words_inside (length (datum 0 layout e).bytes) (patches 0 layout e)
+          (subst (λ (n : ℕ). AllInside n (patches 0 layout e))
+          (sym (length-patched_all (patches 0 layout e) (bytes_of d))) room);
     }
 
 -- ---- all data records
@@ -186,26 +223,38 @@ pub record SoundProgram (P : ℕ) (layout : Layout) (words : List ℕ) (es : Lis
   pub listed : all_addresses (map (piece layout) es) ≡ flat_map (record_relocations layout) es
   pub unmoved : map (datum 0 layout) es ≡ map datum_at_0 (map (piece layout) es)
 
-uncovered : (layout : Layout) (e : Entry) (words : List ℕ) → covers_word (datum 0 layout e) words ≡ false → (r : ℕ) → In r words → (covers r (datum 0 layout e) ≡ false) × (covers (r + 1) (datum 0 layout e) ≡ false)
+uncovered : (layout : Layout) (e : Entry) (words : List ℕ) → covers_word (datum 0 layout e) words ≡ false → (r : ℕ)
+    → In r words → (covers r (datum 0 layout e) ≡ false) × (covers (r + 1) (datum 0 layout e) ≡ false)
 uncovered layout e [] h r k = absurd k
 uncovered layout e (w ∷ words) h r k =
-    let both = or_parts (covers w (datum 0 layout e) || covers (w + 1) (datum 0 layout e)) (covers_word (datum 0 layout e) words) h in
+    let both =
+    or_parts (covers w (datum 0 layout e) || covers (w + 1) (datum 0 layout e)) (covers_word (datum 0 layout e) words)
+    h in
     elim k [
       | inl q ↦
-          let two = or_parts (covers w (datum 0 layout e)) (covers (w + 1) (datum 0 layout e)) both.0 in
-          (ap (λ (a : ℕ). covers a (datum 0 layout e)) q ∙ two.0, ap (λ (a : ℕ). covers (a + 1) (datum 0 layout e)) q ∙ two.1)
+          let two = or_parts (covers w (datum 0 layout e)) (covers (w + 1) (datum 0 layout e)) both.0 in (
+            ap (λ (a : ℕ). covers a (datum 0 layout e)) q ∙ two.0,
+            ap (λ (a : ℕ). covers (a + 1) (datum 0 layout e)) q
+                ∙ two.1,
+          )
       | inr k' ↦ uncovered layout e words both.1 r k'
     ]
 
-pub sound_records : (P : ℕ) (layout : Layout) (words : List ℕ) (es : List Entry) → AllByRecursion (λ e. WellPlaced e.data_record) es → records_fault layout words es ≡ None → SoundProgram P layout words es
+pub sound_records : (P : ℕ) (layout : Layout) (words : List ℕ) (es : List Entry)
+    → AllByRecursion (λ e. WellPlaced e.data_record) es → records_fault layout words es ≡ None
+    → SoundProgram P layout words es
 sound_records P layout words [] well h = record { moves = refl; apart = tt; free = tt; listed = refl; unmoved = refl }
 sound_records P layout words (e ∷ es) well h =
-    let both = none_first (record_fault layout words e) (records_fault layout (words ++ record_relocations layout e) es) h in
-    let two = none_cond (covers_word (datum 0 layout e) words) _ (fixups_fault layout e [] e.data_record.fixups) both.0 in
+    let both =
+    none_first (record_fault layout words e) (records_fault layout (words ++ record_relocations layout e) es) h in
+    let two =
+    none_cond (covers_word (datum 0 layout e) words) _ (fixups_fault layout e [] e.data_record.fixups) both.0 in
     let here = sound_entry P layout e well.0 two.1 in
     let rest = sound_records P layout (words ++ record_relocations layout e) es well.1 both.1 in
     record {
-      moves = ap (λ (d : Datum). d ∷ map (datum P layout) es) here.moves ∙ ap (λ (ds : List Datum). datum_at P (piece layout e) ∷ ds) rest.moves;
+      moves =
+          ap (λ (d : Datum). d ∷ map (datum P layout) es) here.moves
+          ∙ ap (λ (ds : List Datum). datum_at P (piece layout e) ∷ ds) rest.moves;
       apart = (here.apart, here.inside, rest.apart);
       free = (uncovered layout e words two.0, rest.free);
       listed = ap (λ (l : List ℕ). record_relocations layout e ++ l) rest.listed;
@@ -215,13 +264,15 @@ sound_records P layout words (e ∷ es) well h =
 pub program_moves : (P : ℕ) (layout : Layout) (modules : List Module) (image rs : List ℕ) →
     AllWellPlaced modules → data_fault layout modules ≡ None →
     length image ≡ layout.size → ((a : ℕ) → a < layout.size → get_or image a 0 ≡ program_byte 0 layout modules a) →
-    AllApart rs → AllWordsInside layout.size rs → ((r : ℕ) → In r rs → In r (relocated_words layout modules)) → ((r : ℕ) → In r (relocated_words layout modules) → In r rs) →
+    AllApart rs → AllWordsInside layout.size rs → ((r : ℕ) → In r rs → In r (relocated_words layout modules)) →
+    ((r : ℕ) → In r (relocated_words layout modules) → In r rs) →
     (a : ℕ) → a < layout.size → get_or (add_words P rs image) a 0 ≡ program_byte P layout modules a
 program_moves P layout modules image rs well none n holds apart inside there back a h =
     let es = entries modules in
     let s = sound_records P layout [] es (recursion_from_All (λ e. WellPlaced e.data_record) es well) none in
     let ps : List Piece = map (piece layout) es in
-    image_moves P layout.size ps image rs s.apart s.free n (λ b k. holds b k ∙ ap (λ (ds : List Datum). located ds b) s.unmoved) apart inside
+    image_moves P layout.size ps image rs s.apart s.free n
+    (λ b k. holds b k ∙ ap (λ (ds : List Datum). located ds b) s.unmoved) apart inside
     (λ r k. subst (λ (l : List ℕ). In r l) (sym s.listed) (there r k))
     (λ r k. back r (subst (λ (l : List ℕ). In r l) s.listed k)) a h
     ∙ ap (λ (ds : List Datum). located ds a) (sym s.moves)

@@ -1,5 +1,6 @@
 -- What the reader answers, after each outcome of one more record.
-use Rattle.std.proofs.Common.{◌≡◌, ℕ, ◌+◌, ◌<◌, true, false, List, [], ◌∷◌, ◌++◌, length, None, Some, Ok, Err, Result, refl, sym, ap, subst, ◌∙◌, arith, length-append, inl, inr}
+use Rattle.std.proofs.Common.{◌≡◌, ℕ, ◌+◌, ◌<◌, true, false, List, [], ◌∷◌, ◌++◌, length, None, Some, Ok, Err, Result}
+use Rattle.std.proofs.Common.{refl, sym, ap, subst, ◌∙◌, arith, length-append, inl, inr}
 use Rattle.std.proofs.lemmas.Option.{IfSome_then}
 use Rattle.std.specs.declared.option.Option.{Option}
 use Rattle.std.specs.Prelude.{IfSome}
@@ -46,27 +47,87 @@ no_memory a = ([], [], a, (begun a).beginning, (begun a).taken, inl (Keeps-refl 
 
 -- behind a sound beginning
 module _ (rs : List Placed) (front : List ℕ) (a b c : Option (List ℕ)) (t : Took rs front a b) where
-  pub no_end : (place : ℕ) → place ≡ length front → IfSome b (λ bytes. frame_at place bytes ≡ Ok None) → TakesWhole b c → reads a c (Err (fault.Record place kind.NoEnd))
+  pub no_end : (place : ℕ) → place ≡ length front → IfSome b (λ bytes. frame_at place bytes ≡ Ok None) → TakesWhole b c
+      → reads a c (Err (fault.Record place kind.NoEnd))
   unfolding Reads
-  no_end place at none stands = (rs, front, b, t.beginning, t.taken, at, stands, stops rs front a b place kind.NoEnd t at (IfSome_then b {Q = (λ rest. StopsAt place rest kind.NoEnd)} none (λ x e. (NoEnd, e, refl))))
+  no_end place at none stands = (
+    rs,
+    front,
+    b,
+    t.beginning,
+    t.taken,
+    at,
+    stands,
+    stops rs front a b place kind.NoEnd t at
+        (IfSome_then b {Q = (λ rest. StopsAt place rest kind.NoEnd)} none (λ x e. (NoEnd, e, refl))),
+  )
 
-  pub frame_stopped : (place : ℕ) (e : FrameFault) → place ≡ length front → IsAt {A = Option lent.Frame} place (Err e) → IfSome b (λ bytes. Gives plain_frame (Err e) (frame_at place bytes)) → framing_of.TakesRecord {A = Option lent.Frame} b c (Err e)
+  pub frame_stopped : (place : ℕ) (e : FrameFault) → place ≡ length front → IsAt {A = Option lent.Frame} place (Err e)
+      → IfSome b (λ bytes. Gives plain_frame (Err e) (frame_at place bytes))
+      → framing_of.TakesRecord {A = Option lent.Frame} b c (Err e)
       → reads a c (Err (read_fault e))
   unfolding Reads
-  frame_stopped place (frame.Device p) at h exact stands = (rs, front, b, t.beginning, t.taken, h.0 ∙ at, stands, always a)
-  frame_stopped place (frame.Framing p framing.ZeroLength) at h exact stands =
-      (rs, front, b, t.beginning, t.taken, h.0 ∙ at, stands, stops rs front a b p kind.ZeroLength t (h.0 ∙ at) (IfSome_then b {Q = (λ rest. StopsAt p rest kind.ZeroLength)} exact (λ x e. (Framing framing.ZeroLength, ap (λ n. frame_at n x) h.0 ∙ e, refl))))
-  frame_stopped place (frame.Framing p framing.Truncated) at h exact stands =
-      (rs, front, b, t.beginning, t.taken, h.0 ∙ at, stands, stops rs front a b p kind.Truncated t (h.0 ∙ at) (IfSome_then b {Q = (λ rest. StopsAt p rest kind.Truncated)} exact (λ x e. (Framing framing.Truncated, ap (λ n. frame_at n x) h.0 ∙ e, refl))))
-  frame_stopped place (frame.Framing p framing.Closing) at h exact stands =
-      (rs, front, b, t.beginning, t.taken, h.0 ∙ at, stands, stops rs front a b p kind.Closing t (h.0 ∙ at) (IfSome_then b {Q = (λ rest. StopsAt p rest kind.Closing)} exact (λ x e. (Framing framing.Closing, ap (λ n. frame_at n x) h.0 ∙ e, refl))))
-  frame_stopped place (frame.Framing p framing.InputTooLong) at h exact stands =
-      (rs, front, b, t.beginning, t.taken, h.0 ∙ at, stands, stops rs front a b p kind.InputTooLong t (h.0 ∙ at) (IfSome_then b {Q = (λ rest. StopsAt p rest kind.InputTooLong)} exact (λ x e. (Framing framing.InputTooLong, ap (λ n. frame_at n x) h.0 ∙ e, refl))))
+  frame_stopped place (frame.Device p) at h exact stands =
+      (rs, front, b, t.beginning, t.taken, h.0 ∙ at, stands, always a)
+  frame_stopped place (frame.Framing p framing.ZeroLength) at h exact stands = (
+    rs,
+    front,
+    b,
+    t.beginning,
+    t.taken,
+    h.0
+        ∙ at,
+    stands,
+    stops rs front a b p kind.ZeroLength t (h.0 ∙ at)
+        (IfSome_then b {Q = (λ rest. StopsAt p rest kind.ZeroLength)} exact
+        (λ x e. (Framing framing.ZeroLength, ap (λ n. frame_at n x) h.0 ∙ e, refl))),
+  )
+  frame_stopped place (frame.Framing p framing.Truncated) at h exact stands = (
+    rs,
+    front,
+    b,
+    t.beginning,
+    t.taken,
+    h.0
+        ∙ at,
+    stands,
+    stops rs front a b p kind.Truncated t (h.0 ∙ at)
+        (IfSome_then b {Q = (λ rest. StopsAt p rest kind.Truncated)} exact
+        (λ x e. (Framing framing.Truncated, ap (λ n. frame_at n x) h.0 ∙ e, refl))),
+  )
+  frame_stopped place (frame.Framing p framing.Closing) at h exact stands = (
+    rs,
+    front,
+    b,
+    t.beginning,
+    t.taken,
+    h.0
+        ∙ at,
+    stands,
+    stops rs front a b p kind.Closing t (h.0 ∙ at)
+        (IfSome_then b {Q = (λ rest. StopsAt p rest kind.Closing)} exact
+        (λ x e. (Framing framing.Closing, ap (λ n. frame_at n x) h.0 ∙ e, refl))),
+  )
+  frame_stopped place (frame.Framing p framing.InputTooLong) at h exact stands = (
+    rs,
+    front,
+    b,
+    t.beginning,
+    t.taken,
+    h.0
+        ∙ at,
+    stands,
+    stops rs front a b p kind.InputTooLong t (h.0 ∙ at)
+        (IfSome_then b {Q = (λ rest. StopsAt p rest kind.InputTooLong)} exact
+        (λ x e. (Framing framing.InputTooLong, ap (λ n. frame_at n x) h.0 ∙ e, refl))),
+  )
   frame_stopped place frame.Memory at h exact stands = absurd h
   frame_stopped place frame.Failed at h exact stands = absurd h
 
   -- a frame, whose record is taken
-  module _ (f : Frame) (bytes : List ℕ) (at : f.place ≡ length front) (below : f.place < place_limit) (framed : Framed f.kind f.body bytes) (taken : Consumes b c bytes) (exact : IfSome b (λ rest. frame_at f.place rest ≡ Ok (Some f))) (stands : TakesWhole b c)
+  module _ (f : Frame) (bytes : List ℕ) (at : f.place ≡ length front) (below : f.place < place_limit)
+      (framed : Framed f.kind f.body bytes) (taken : Consumes b c bytes)
+      (exact : IfSome b (λ rest. frame_at f.place rest ≡ Ok (Some f))) (stands : TakesWhole b c)
       (s : State) (kept : s ≡ state_of rs) where
     abbrev here : Record → Placed
     here r = record { place = f.place; body = f.body; says = r }
@@ -79,12 +140,42 @@ module _ (rs : List Placed) (front : List ℕ) (a b c : Option (List ℕ)) (t : 
 
     kind_refuses : (k : FaultKind) → IsRecordFault f.kind f.body f.place s k → reads a c (Err (fault.Record f.place k))
     unfolding Reads
-    kind_refuses kind.Type h = (rs, front, b, t.beginning, t.taken, at, stands, stops rs front a b f.place kind.Type t at (IfSome_then b {Q = (λ rest. StopsAt f.place rest kind.Type)} exact (λ x e. (OtherType, (f, e, h), refl))))
-    kind_refuses (kind.Body i) h = (rs, front, b, t.beginning, t.taken, at, stands, stops rs front a b f.place (kind.Body i) t at (IfSome_then b {Q = (λ rest. StopsAt f.place rest (kind.Body i))} exact (λ x e. (WrongBody i, (f, e, h.0, h.1), refl))))
+    kind_refuses kind.Type h = (
+      rs,
+      front,
+      b,
+      t.beginning,
+      t.taken,
+      at,
+      stands,
+      stops rs front a b f.place kind.Type t at
+          (IfSome_then b {Q = (λ rest. StopsAt f.place rest kind.Type)} exact (λ x e. (OtherType, (f, e, h), refl))),
+    )
+    kind_refuses (kind.Body i) h = (
+      rs,
+      front,
+      b,
+      t.beginning,
+      t.taken,
+      at,
+      stands,
+      stops rs front a b f.place (kind.Body i) t at
+          (IfSome_then b {Q = (λ rest. StopsAt f.place rest (kind.Body i))} exact
+          (λ x e. (WrongBody i, (f, e, h.0, h.1), refl))),
+    )
     kind_refuses (kind.Check g) h =
         let r = here h.0 in
-        let first = err_of rs r t.beginning.sound g (stepped h.0 (Err g) h.2) in
-        (rs, front, b, t.beginning, t.taken, at, stands, refused rs front a b c r bytes t at below (same_kind h.0 h.1.0) h.1.1 taken g first)
+        let first = err_of rs r t.beginning.sound g (stepped h.0 (Err g) h.2) in (
+          rs,
+          front,
+          b,
+          t.beginning,
+          t.taken,
+          at,
+          stands,
+          refused rs front a b c r bytes t at below (same_kind h.0 h.1.0)
+              h.1.1 taken g first,
+        )
     kind_refuses kind.Device h = absurd h
     kind_refuses kind.ZeroLength h = absurd h
     kind_refuses kind.Truncated h = absurd h
@@ -100,7 +191,8 @@ module _ (rs : List Placed) (front : List ℕ) (a b c : Option (List ℕ)) (t : 
     refuses u fault.Memory h = no_more
     refuses u (fault.Record p k) h = subst (λ n. reads a c (Err (fault.Record n k))) (sym h.0) (kind_refuses k h.1)
 
-    pub ends : (u : State) (m : Module) → TakesRecord f.kind f.body f.place s u (Ok true) → m ≡ module_in u → reads a c (Ok m)
+    pub ends : (u : State) (m : Module) → TakesRecord f.kind f.body f.place s u (Ok true) → m ≡ module_in u
+        → reads a c (Ok m)
     unfolding Reads
     ends u m h e =
         let r = here h.0 in
@@ -118,10 +210,13 @@ module _ (rs : List Placed) (front : List ℕ) (a b c : Option (List ℕ)) (t : 
         let r = here h.0 in
         let says = same_kind h.0 h.1.0 in
         let p = ok_more rs r t.beginning.sound u (stepped h.0 (Ok u) h.3) in
-        subst (λ (v : State). IsSound (module_in v)) (sym p.0) (sound_module (rs ++ r ∷ []) (front ++ bytes) (whole rs front a b c r bytes t at below says h.1.1 taken h.2 p.1))
+        subst (λ (v : State). IsSound (module_in v)) (sym p.0)
+        (sound_module (rs ++ r ∷ []) (front ++ bytes)
+        (whole rs front a b c r bytes t at below says h.1.1 taken h.2 p.1))
 
     pub goes_on : (u : State) → TakesRecord f.kind f.body f.place s u (Ok false)
-        → (rs' : List Placed) × (front' : List ℕ) × Took rs' front' a c × (f.place + length f.body + 4 ≡ length front') × (u ≡ state_of rs')
+        → (rs' : List Placed) × (front' : List ℕ) × Took rs' front' a c × (f.place + length f.body + 4 ≡ length front')
+        × (u ≡ state_of rs')
     goes_on u h =
         let r = here h.0 in
         let says = same_kind h.0 h.1.0 in

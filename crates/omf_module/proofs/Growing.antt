@@ -3,14 +3,18 @@ use Rattle.std.proofs.Common.{◌≡◌, ℕ, Bool, true, List, [], ◌∷◌, �
 use Rattle.std.proofs.lemmas.List.{append-nil}
 use Rattle.std.specs.Option.{option_to_list, option_map}
 use Rattle.std.specs.List.{filter_map, enumerate_from}
-use Rattle.omf_record.specs.Record.{Record, Theadr, Coment, Modend, Extdef, Pubdef, Linnum, Lnames, Segdef, Grpdef, Ledata, Lidata, External as ExternalName, Public, Block}
+use Rattle.omf_record.specs.Record.{Record, Theadr, Coment, Modend, Extdef, Pubdef, Linnum, Lnames, Segdef, Grpdef}
+use Rattle.omf_record.specs.Record.{Ledata, Lidata, External as ExternalName, Public, Block}
 use Rattle.omf_record.specs.declared.externals.PublicBase.{PublicBase}
 use Rattle.omf_record.specs.declared.segments.SegmentDefinition.{SegmentDefinition}
 use Rattle.omf_record.specs.declared.fixups.Reference.{Reference}
 use Rattle.omf_record.specs.declared.externals.Line.{Line}
 use Rattle.omf_record.specs.Records.{Placed}
 use Rattle.omf_module.specs.Before.{first, last}
-use Rattle.omf_module.specs.Tables.{names, segments, groups, externals, publics, stretches, subrecords, fixups, start, Stretch, frame_thread, target_thread, names_in, segments_in, groups_in, externals_in, publics_in, subrecords_in, stretches_in, frame_set, target_set, data_record, fixups_in, start_in, frame_used, target_used}
+use Rattle.omf_module.specs.Tables.{names, segments, groups, externals, publics, stretches, subrecords, fixups, start}
+use Rattle.omf_module.specs.Tables.{Stretch, frame_thread, target_thread, names_in, segments_in, groups_in}
+use Rattle.omf_module.specs.Tables.{externals_in, publics_in, subrecords_in, stretches_in, frame_set, target_set}
+use Rattle.omf_module.specs.Tables.{data_record, fixups_in, start_in, frame_used, target_used}
 use Rattle.omf_module.specs.Faults.{begun, items}
 use Rattle.omf_module.specs.inside.Running.{State, state_of, checked, step_record, thread_numbers, slot, later}
 use Rattle.omf_module.proofs.FixupsOn.{new_data}
@@ -39,10 +43,17 @@ grown rs r = record {
     externals = externals rs ++ externals_in r.says;
   };
   publics = publics rs ++ publics_in r.says;
-  frame_threads = map (λ n. later (last (filter_map (frame_set n) (subrecords_in r.says))) (frame_thread (subrecords rs) n)) thread_numbers;
-  target_threads = map (λ n. later (last (filter_map (target_set n) (subrecords_in r.says))) (target_thread (subrecords rs) n)) thread_numbers;
-  data_records = map (data_record (fixups rs ++ map (λ x. (length (stretches rs), x)) (fixups_in (subrecords rs) r))) (enumerate_from 1 (stretches rs ++ stretches_in r.place r.says));
-  contents = option_map (λ (d : Stretch). d.contents) (later (last (stretches_in r.place r.says)) (last (stretches rs)));
+  frame_threads =
+      map (λ n. later (last (filter_map (frame_set n) (subrecords_in r.says))) (frame_thread (subrecords rs) n))
+      thread_numbers;
+  target_threads =
+      map (λ n. later (last (filter_map (target_set n) (subrecords_in r.says))) (target_thread (subrecords rs) n))
+      thread_numbers;
+  data_records =
+      map (data_record (fixups rs ++ map (λ x. (length (stretches rs), x)) (fixups_in (subrecords rs) r)))
+      (enumerate_from 1 (stretches rs ++ stretches_in r.place r.says));
+  contents =
+      option_map (λ (d : Stretch). d.contents) (later (last (stretches_in r.place r.says)) (last (stretches rs)));
   start = later (last (option_to_list (start_in (subrecords rs) r.place r.says))) (start rs);
 }
 
@@ -51,7 +62,10 @@ state_push rs r = simp (begun_push, flat_map_push, along_push, filter_map-append
 
 -- what one record leaves: its items' first fault, or what is kept with it
 abbrev pub Steps : Record → Type 0
-Steps r = (place : ℕ) (body : List ℕ) (rs : List Placed) → step_record place (record (state_of rs) { begun = true }) r ≡ checked (first (items rs r)) (state_of (rs ++ record { place = place; body = body; says = r } ∷ []))
+Steps r =
+    (place : ℕ) (body : List ℕ) (rs : List Placed)
+    → step_record place (record (state_of rs) { begun = true }) r
+    ≡ checked (first (items rs r)) (state_of (rs ++ record { place = place; body = body; says = r } ∷ []))
 
 pub first_single : {A : Type 0} (o : Option A) → first (o ∷ []) ≡ o
 first_single None = refl
@@ -106,14 +120,16 @@ unfolding step_record
 repeated_steps segment offset blocks place body rs = rw (state_push, first_single) (simp (append-nil, new_data))
 
 -- what the four slots hold
-pub frame_slots : (threads : ℕ → Option FrameMethod) (d : FrameDatum) → frame_used (slot (map threads thread_numbers)) d ≡ frame_used threads d
+pub frame_slots : (threads : ℕ → Option FrameMethod) (d : FrameDatum)
+    → frame_used (slot (map threads thread_numbers)) d ≡ frame_used threads d
 frame_slots threads (frame_datum.Thread Zero) = refl
 frame_slots threads (frame_datum.Thread One) = refl
 frame_slots threads (frame_datum.Thread Two) = refl
 frame_slots threads (frame_datum.Thread Three) = refl
 frame_slots threads (frame_datum.By method) = refl
 
-pub target_slots : (threads : ℕ → Option TargetMethod) (d : TargetDatum) → target_used (slot (map threads thread_numbers)) d ≡ target_used threads d
+pub target_slots : (threads : ℕ → Option TargetMethod) (d : TargetDatum)
+    → target_used (slot (map threads thread_numbers)) d ≡ target_used threads d
 target_slots threads (target_datum.Thread Zero) = refl
 target_slots threads (target_datum.Thread One) = refl
 target_slots threads (target_datum.Thread Two) = refl
@@ -122,4 +138,11 @@ target_slots threads (target_datum.By method) = refl
 
 pub start_steps : (main : Bool) (r : Reference) → Steps (Modend main (Some r))
 unfolding step_record
-start_steps main r place body rs = rw (state_push, first_single, frame_slots (frame_thread (subrecords rs)) r.frame, target_slots (target_thread (subrecords rs)) r.target) (simp (append-nil, last_option))
+start_steps main r place body rs =
+    rw (
+      state_push,
+      first_single,
+      frame_slots (frame_thread (subrecords rs)) r.frame,
+      target_slots
+          (target_thread (subrecords rs)) r.target,
+    ) (simp (append-nil, last_option))

@@ -1,5 +1,6 @@
 -- Lists that are read in order, one element further.
-use Rattle.std.proofs.Common.{◌≡◌, ℕ, zero, suc, ◌+◌, ◌<◌, List, [], ◌∷◌, ◌++◌, length, map, Option, None, Some, refl, sym, ap, ◌∙◌, append_assoc, arith, reverse, add-zero, get_or, take, drop}
+use Rattle.std.proofs.Common.{◌≡◌, ℕ, zero, suc, ◌+◌, ◌<◌, List, [], ◌∷◌, ◌++◌, length, map, Option, None, Some, refl}
+use Rattle.std.proofs.Common.{sym, ap, ◌∙◌, append_assoc, arith, reverse, add-zero, get_or, take, drop}
 use Rattle.std.proofs.lemmas.List.{append-nil, reverse-append, map-append, map_more, drop_more, take-append-drop}
 use Rattle.std.proofs.lemmas.Grind.{flat_map-append}
 use Rattle.std.specs.List.{flat_map, enumerate_from, slice_get}
@@ -8,16 +9,19 @@ use Rattle.std.proofs.lemmas.Option.{slice_get_within, get_or_from_slice_get}
 use Rattle.omf_module.specs.Before.{along_from, along, last, first, entry}
 use Rattle.omf_module.specs.inside.Running.{later}
 
-pub flat_map_push : {X A : Type 0} (f : X → List A) (xs : List X) (x : X) → flat_map f (xs ++ x ∷ []) ≡ flat_map f xs ++ f x
+pub flat_map_push : {X A : Type 0} (f : X → List A) (xs : List X) (x : X)
+    → flat_map f (xs ++ x ∷ []) ≡ flat_map f xs ++ f x
 flat_map_push f xs x = flat_map-append f xs (x ∷ []) ∙ ap (λ zs. flat_map f xs ++ zs) (append-nil (f x))
 
-pub along_from_append : {A B : Type 0} (f : List A → A → List B) (before xs ys : List A) → along_from before f (xs ++ ys) ≡ along_from before f xs ++ along_from (before ++ xs) f ys
+pub along_from_append : {A B : Type 0} (f : List A → A → List B) (before xs ys : List A)
+    → along_from before f (xs ++ ys) ≡ along_from before f xs ++ along_from (before ++ xs) f ys
 along_from_append f before [] ys = rw append-nil refl
 along_from_append f before (x ∷ xs) ys =
     ap (λ zs. f before x ++ zs) (along_from_append f (before ++ x ∷ []) xs ys)
     ∙ rw (append_assoc before (x ∷ []) xs) (sym (append_assoc (f before x) _ _))
 
-pub along_push : {A B : Type 0} (f : List A → A → List B) (xs : List A) (x : A) → along f (xs ++ x ∷ []) ≡ along f xs ++ f xs x
+pub along_push : {A B : Type 0} (f : List A → A → List B) (xs : List A) (x : A)
+    → along f (xs ++ x ∷ []) ≡ along f xs ++ f xs x
 along_push f xs x = along_from_append f [] xs (x ∷ []) ∙ ap (λ zs. along f xs ++ zs) (append-nil (f xs x))
 
 pub last_append : {A : Type 0} (xs ys : List A) → last (xs ++ ys) ≡ later (last ys) (last xs)
@@ -27,26 +31,33 @@ last_append xs ys = rw reverse-append (heads (reverse ys) (reverse xs))
     heads [] vs = refl
     heads (u ∷ us) vs = refl
 
-pub enumerate_push : {A : Type 0} (n : ℕ) (xs : List A) (x : A) → enumerate_from n (xs ++ x ∷ []) ≡ enumerate_from n xs ++ (n + length xs, x) ∷ []
+pub enumerate_push : {A : Type 0} (n : ℕ) (xs : List A) (x : A)
+    → enumerate_from n (xs ++ x ∷ []) ≡ enumerate_from n xs ++ (n + length xs, x) ∷ []
 enumerate_push n [] x = simp add-zero
 enumerate_push n (y ∷ ys) x =
     let e : n + 1 + length ys ≡ n + suc (length ys) = omega arith in
     ap (λ zs. (n, y) ∷ zs) (enumerate_push (n + 1) ys x ∙ ap (λ k. enumerate_from (n + 1) ys ++ (k, x) ∷ []) e)
 
 -- a list about one of its elements
-pub map_about : {X Y : Type 0} (f : X → Y) (xs : List X) (i : ℕ) (x : X) → i < length xs → x ≡ get_or xs i x → map f xs ≡ map f (take i xs) ++ f x ∷ map f (drop (i + 1) xs)
+pub map_about : {X Y : Type 0} (f : X → Y) (xs : List X) (i : ℕ) (x : X) → i < length xs → x ≡ get_or xs i x
+    → map f xs ≡ map f (take i xs) ++ f x ∷ map f (drop (i + 1) xs)
 map_about f xs i x lt is =
-    let e : take i xs ++ drop i xs ≡ take i xs ++ x ∷ drop (i + 1) xs = ap (λ zs. take i xs ++ zs) (drop_more xs i x lt ∙ ap (λ y. y ∷ drop (i + 1) xs) (sym is)) in
+    let e : take i xs ++ drop i xs ≡ take i xs ++ x ∷ drop (i + 1) xs =
+    ap (λ zs. take i xs ++ zs) (drop_more xs i x lt ∙ ap (λ y. y ∷ drop (i + 1) xs) (sym is)) in
     ap (map f) (sym (take-append-drop i xs) ∙ e) ∙ map-append f (take i xs) (x ∷ drop (i + 1) xs)
 
-pub map_to : {X Y : Type 0} (f : X → Y) (xs : List X) (i : ℕ) (x : X) → i < length xs → x ≡ get_or xs i x → map f (take (i + 1) xs) ≡ map f (take i xs) ++ f x ∷ []
+pub map_to : {X Y : Type 0} (f : X → Y) (xs : List X) (i : ℕ) (x : X) → i < length xs → x ≡ get_or xs i x
+    → map f (take (i + 1) xs) ≡ map f (take i xs) ++ f x ∷ []
 map_to f xs i x lt is = map_more f xs i x lt ∙ ap (λ y. map f (take i xs) ++ f y ∷ []) (sym is)
 
-pub drop_at_some : {X : Type 0} (xs : List X) (i : ℕ) (y : X) → slice_get xs i ≡ Some y → drop i xs ≡ y ∷ drop (i + 1) xs
-drop_at_some xs i y e = drop_more xs i y (slice_get_within xs i y e) ∙ ap (λ x. x ∷ drop (i + 1) xs) (get_or_from_slice_get xs i y y e)
+pub drop_at_some : {X : Type 0} (xs : List X) (i : ℕ) (y : X) → slice_get xs i ≡ Some y
+    → drop i xs ≡ y ∷ drop (i + 1) xs
+drop_at_some xs i y e =
+    drop_more xs i y (slice_get_within xs i y e) ∙ ap (λ x. x ∷ drop (i + 1) xs) (get_or_from_slice_get xs i y y e)
 
 -- what an index means in a list of views
-pub entry-map : {X Y : Type 0} (f : X → Y) (xs : List X) (i : ℕ) (x : X) → entry xs i ≡ Some x → entry (map f xs) i ≡ Some (f x)
+pub entry-map : {X Y : Type 0} (f : X → Y) (xs : List X) (i : ℕ) (x : X) → entry xs i ≡ Some x
+    → entry (map f xs) i ≡ Some (f x)
 entry-map f xs zero x e = cc
 entry-map f [] (suc n) x e = cc
 entry-map f (y ∷ xs) (suc zero) x e = ap (λ (o : Option _). option_map f o) e

@@ -13,7 +13,8 @@ use Rattle.omf_module.proofs.Whole.{step_whole, no_fault_at}
 use Rattle.omf_module.proofs.Fitting.{sound_is}
 use Rattle.omf_module.proofs.Promises.{Promises, step_keeps, none_promised}
 
-kept_from : (done todo : List Placed) → AllByRecursion (λ (r : Placed). Body r.says r.body) todo → first_fault (done ++ todo) ≡ None → Promises (state_of done) → Promises (state_of (done ++ todo))
+kept_from : (done todo : List Placed) → AllByRecursion (λ (r : Placed). Body r.says r.body) todo
+    → first_fault (done ++ todo) ≡ None → Promises (state_of done) → Promises (state_of (done ++ todo))
 kept_from done [] h e p = subst (λ rs. Promises (state_of rs)) (sym (append-nil done)) p
 kept_from done (r ∷ todo) h e p =
     let stepped = step_whole done r ∙ ap (λ o. checked o (state_of (done ++ r ∷ []))) (no_fault_at done todo r e) in

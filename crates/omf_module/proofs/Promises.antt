@@ -1,11 +1,14 @@
 -- What is kept of sound records keeps the promises of a module, one record further.
-use Rattle.std.proofs.Common.{◌≡◌, ℕ, zero, suc, ◌+◌, ◌-◌, ◌<◌, ◌≤◌, Bool, true, false, not, List, [], ◌∷◌, ◌++◌, length, map, Option, None, Some, Result, Ok, Err, refl, ap, subst, ◌∙◌, arith, length-append, slice_get, cond, nat_le, nat_lt}
+use Rattle.std.proofs.Common.{◌≡◌, ℕ, zero, suc, ◌+◌, ◌-◌, ◌<◌, ◌≤◌, Bool, true, false, not, List, [], ◌∷◌, ◌++◌}
+use Rattle.std.proofs.Common.{length, map, Option, None, Some, Result, Ok, Err, refl, ap, subst, ◌∙◌, arith}
+use Rattle.std.proofs.Common.{length-append, slice_get, cond, nat_le, nat_lt}
 use Rattle.std.specs.Prelude.{IfSome}
 use Rattle.std.specs.List.{AllByRecursion}
 use Rattle.std.specs.Option.{option_to_list}
 use Rattle.std.proofs.lemmas.List.{append-nil}
 use Rattle.std.proofs.lemmas.Bool.Decides.{nat_tests}
-use Rattle.omf_record.specs.Record.{Record, Public, External as ExternalName, Theadr, Coment, Modend, Extdef, Pubdef, Linnum, Lnames, Segdef, Grpdef, Fixupp, Ledata, Lidata}
+use Rattle.omf_record.specs.Record.{Record, Public, External as ExternalName, Theadr, Coment, Modend, Extdef, Pubdef}
+use Rattle.omf_record.specs.Record.{Linnum, Lnames, Segdef, Grpdef, Fixupp, Ledata, Lidata}
 use Rattle.omf_record.specs.Language.{each}
 use Rattle.omf_record.specs.Body.{Body, BaseText, LengthText, AbsoluteText}
 use Rattle.omf_record.specs.inside.Fields.{PublicText}
@@ -29,7 +32,9 @@ use Rattle.omf_record.specs.declared.fixups.Subrecord.{Subrecord}
 use Rattle.omf_record.specs.declared.fixups.Subrecord.TheVariants as sub
 use Rattle.omf_record.specs.declared.fixups.Reference.{Reference}
 use Rattle.omf_module.specs.declared.fault.CheckFault.{CheckFault}
-use Rattle.omf_module.specs.declared.fault.CheckFault.TheVariants.{NameIndex, SegmentIndex, GroupIndex, ExternalIndex, FixupPlace, DataOutside, DataInAbsolute, SelfRelativeBase, GroupOfAbsolute}
+use Rattle.omf_module.specs.declared.fault.CheckFault.TheVariants.{NameIndex, SegmentIndex, GroupIndex, ExternalIndex}
+use Rattle.omf_module.specs.declared.fault.CheckFault.TheVariants.{FixupPlace, DataOutside, DataInAbsolute}
+use Rattle.omf_module.specs.declared.fault.CheckFault.TheVariants.{SelfRelativeBase, GroupOfAbsolute}
 use Rattle.omf_module.specs.declared.SymbolBase.{SymbolBase}
 use Rattle.omf_module.specs.declared.SymbolBase.TheVariants.{AtFrame, InSegment}
 use Rattle.omf_module.specs.declared.FixupFrame.{FixupFrame}
@@ -40,12 +45,17 @@ use Rattle.omf_module.specs.declared.ResolvedFixup.{ResolvedFixup}
 use Rattle.omf_module.specs.declared.Start.{Start}
 use Rattle.omf_module.specs.Module.{Segment, Group, ExternalSymbol, PublicSymbol, DataRecord, Module}
 use Rattle.omf_module.specs.Before.{first, entry}
-use Rattle.omf_module.specs.Tables.{frame_used, target_used, name_at, standing_of, base_of, frame_of, target_of, fixup_of, start_of}
+use Rattle.omf_module.specs.Tables.{frame_used, target_used, name_at, standing_of, base_of, frame_of, target_of}
+use Rattle.omf_module.specs.Tables.{fixup_of, start_of}
 use Rattle.omf_module.specs.inside.Entries.{segment_of, group_of, public_of, external_of}
-use Rattle.omf_module.specs.Faults.{number, header_fault, segment_fault, when, ◌⊓◌, is_beyond, misses, Tables, is_absolute, component_fault, data_fault, public_fault, frame_fault, target_fault, holds_base, place_fault, relative_fault, fixup_fault, location_fault, start_fault}
+use Rattle.omf_module.specs.Faults.{number, header_fault, segment_fault, when, ◌⊓◌, is_beyond, misses, Tables}
+use Rattle.omf_module.specs.Faults.{is_absolute, component_fault, data_fault, public_fault, frame_fault, target_fault}
+use Rattle.omf_module.specs.Faults.{holds_base, place_fault, relative_fault, fixup_fault, location_fault, start_fault}
 use Rattle.omf_module.specs.inside.Contents.{lies_in}
-use Rattle.omf_module.specs.inside.Running.{State, state_of, checked, slot, group_fault, add_to_last, add_data, module_in, later, step, step_record, step_subrecord, step_subrecords, ◌>>=◌}
-use Rattle.omf_module.specs.Sound.{IsShort, FrameMeans, TargetMeans, BaseMeans, IsPart, IsMember, FixupFits, StartFits, SegmentFits, IsStanding}
+use Rattle.omf_module.specs.inside.Running.{State, state_of, checked, slot, group_fault, add_to_last, add_data}
+use Rattle.omf_module.specs.inside.Running.{module_in, later, step, step_record, step_subrecord, step_subrecords, ◌>>=◌}
+use Rattle.omf_module.specs.Sound.{IsShort, FrameMeans, TargetMeans, BaseMeans, IsPart, IsMember, FixupFits, StartFits}
+use Rattle.omf_module.specs.Sound.{SegmentFits, IsStanding}
 use Rattle.omf_record.proofs.Expanded.{length-stored}
 use Rattle.omf_record.proofs.Places.{all-append}
 use Rattle.omf_record.proofs.Copies.{are_copies, are_copies-stored}
@@ -53,7 +63,8 @@ use Rattle.omf_module.proofs.Fitting.{DataFitting, Fitting}
 use Rattle.omf_module.proofs.Whole.{by_fault}
 use Rattle.omf_module.proofs.Together.{Stand, AllStand, stored_stand, repeated_stand}
 
-all_weaker : {X : Type 0} (P Q : X → Type 0) (xs : List X) → ((x : X) → P x → Q x) → AllByRecursion P xs → AllByRecursion Q xs
+all_weaker : {X : Type 0} (P Q : X → Type 0) (xs : List X) → ((x : X) → P x → Q x) → AllByRecursion P xs
+    → AllByRecursion Q xs
 all_weaker P Q [] f h = tt
 all_weaker P Q (x ∷ xs) f h = (f x h.0, all_weaker P Q xs f h.1)
 
@@ -91,31 +102,60 @@ module _ (ss ss' : List Segment) (gs gs' : List Group) (es es' : List ExternalSy
   member_more : (i : ℕ) → IsMember ss gs es i → IsMember (ss ++ ss') (gs ++ gs') (es ++ es') i
   member_more i h = (h.0, part_more i h.0 h.1)
 
-  fixup_more : (d : DataRecord) (x : ResolvedFixup) → FixupFits ss gs es d x → FixupFits (ss ++ ss') (gs ++ gs') (es ++ es') d x
-  fixup_more d x h = record { frame = frame_more x.frame h.frame; target = target_more x.target h.target; together = h.together; whole = h.whole; relative = h.relative }
+  fixup_more : (d : DataRecord) (x : ResolvedFixup) → FixupFits ss gs es d x
+      → FixupFits (ss ++ ss') (gs ++ gs') (es ++ es') d x
+  fixup_more d x h = record {
+    frame = frame_more x.frame h.frame;
+    target = target_more x.target h.target;
+    together = h.together;
+    whole = h.whole;
+    relative = h.relative;
+  }
 
   data_more : (d : DataRecord) → DataFitting ss gs es d → DataFitting (ss ++ ss') (gs ++ gs') (es ++ es') d
-  data_more d h = record { segment = h.segment; is_part = part_more d.segment h.segment h.is_part; inside = h.inside; copies = h.copies; fixups = all_weaker _ _ d.fixups (fixup_more d) h.fixups }
+  data_more d h = record {
+    segment = h.segment;
+    is_part = part_more d.segment h.segment h.is_part;
+    inside = h.inside;
+    copies = h.copies;
+    fixups = all_weaker _ _ d.fixups (fixup_more d) h.fixups;
+  }
 
   start_more : (s : Start) → StartFits ss gs es s → StartFits (ss ++ ss') (gs ++ gs') (es ++ es') s
-  start_more s h = record { frame = frame_more s.frame h.frame; target = target_more s.target h.target; no_location = h.no_location }
+  start_more s h =
+      record { frame = frame_more s.frame h.frame; target = target_more s.target h.target; no_location = h.no_location }
 
-  maybe_start_more : (o : Option Start) → IfSome o (StartFits ss gs es) → IfSome o (StartFits (ss ++ ss') (gs ++ gs') (es ++ es'))
+  maybe_start_more : (o : Option Start) → IfSome o (StartFits ss gs es)
+      → IfSome o (StartFits (ss ++ ss') (gs ++ gs') (es ++ es'))
   maybe_start_more None h = tt
   maybe_start_more (Some s) h = start_more s h
 
 abbrev grown : Module → List Segment → List Group → List ExternalSymbol → Module
-grown m ss gs es = record { segments = m.segments ++ ss; groups = m.groups ++ gs; externals = m.externals ++ es; publics = m.publics; data_records = m.data_records; start = m.start }
+grown m ss gs es = record {
+  segments = m.segments ++ ss;
+  groups = m.groups ++ gs;
+  externals = m.externals ++ es;
+  publics = m.publics;
+  data_records = m.data_records;
+  start = m.start;
+}
 
 -- more segments, groups and externals
-more : (m : Module) (ss : List Segment) (gs : List Group) (es : List ExternalSymbol) → Fitting m → AllByRecursion SegmentFits ss → AllByRecursion (λ (g : Group). IsShort g.name) gs → AllByRecursion (λ (e : ExternalSymbol). IsShort e.name) es
-    → AllByRecursion (λ (g : Group). AllByRecursion (IsMember (m.segments ++ ss) (m.groups ++ gs) (m.externals ++ es)) g.members) gs → Fitting (grown m ss gs es)
+more : (m : Module) (ss : List Segment) (gs : List Group) (es : List ExternalSymbol) → Fitting m
+    → AllByRecursion SegmentFits ss → AllByRecursion (λ (g : Group). IsShort g.name) gs
+    → AllByRecursion (λ (e : ExternalSymbol). IsShort e.name) es
+    → AllByRecursion
+    (λ (g : Group). AllByRecursion (IsMember (m.segments ++ ss) (m.groups ++ gs) (m.externals ++ es)) g.members) gs
+    → Fitting (grown m ss gs es)
 more m ss gs es h a b c d = record {
   segments = all-append _ m.segments ss h.segments a;
   group_names = all-append _ m.groups gs h.group_names b;
   externals = all-append _ m.externals es h.externals c;
   public_names = h.public_names;
-  groups = all-append _ m.groups gs (all_weaker _ _ m.groups (λ g k. all_weaker _ _ g.members (member_more m.segments ss m.groups gs m.externals es) k) h.groups) d;
+  groups =
+      all-append _ m.groups gs
+      (all_weaker _ _ m.groups
+      (λ g k. all_weaker _ _ g.members (member_more m.segments ss m.groups gs m.externals es) k) h.groups) d;
   publics = all_weaker _ _ m.publics (λ p k. base_more m.segments ss m.groups gs m.externals es p.base k) h.publics;
   data_records = all_weaker _ _ m.data_records (data_more m.segments ss m.groups gs m.externals es) h.data_records;
   start = maybe_start_more m.segments ss m.groups gs m.externals es m.start h.start;
@@ -160,7 +200,8 @@ unfolding Body
 names_short [] body h = tt
 names_short (n ∷ listed) body h = (h.first.0, names_short listed h.rest h.second)
 
-externals_short : (local : Bool) (listed : List ExternalName) (body : List ℕ) → Body (Extdef local listed) body → AllByRecursion (λ (e : ExternalSymbol). IsShort e.name) (map (external_of local) listed)
+externals_short : (local : Bool) (listed : List ExternalName) (body : List ℕ) → Body (Extdef local listed) body
+    → AllByRecursion (λ (e : ExternalSymbol). IsShort e.name) (map (external_of local) listed)
 unfolding Body
 externals_short local [] body h = tt
 externals_short local (n ∷ listed) body h = (h.first.first.0, externals_short local listed h.rest h.second)
@@ -168,15 +209,20 @@ externals_short local (n ∷ listed) body h = (h.first.first.0, externals_short 
 abbrev AllPublics : List Public → List ℕ → Type 0
 AllPublics = each PublicText
 
-publics_short : (local : Bool) (base : PublicBase) (listed : List Public) (body : List ℕ) → AllPublics listed body → AllByRecursion (λ (p : PublicSymbol). IsShort p.name × (p.offset < 65536)) (map (public_of local base) listed)
+publics_short : (local : Bool) (base : PublicBase) (listed : List Public) (body : List ℕ) → AllPublics listed body
+    → AllByRecursion (λ (p : PublicSymbol). IsShort p.name × (p.offset < 65536)) (map (public_of local base) listed)
 publics_short local base [] body h = tt
-publics_short local base (n ∷ listed) body h = ((h.first.first.0, h.first.second.first.0), publics_short local base listed h.rest h.second)
+publics_short local base (n ∷ listed) body h =
+    ((h.first.first.0, h.first.second.first.0), publics_short local base listed h.rest h.second)
 
-publics_named : (local : Bool) (base : PublicBase) (listed : List Public) (body : List ℕ) → Body (Pubdef local base listed) body → AllByRecursion (λ (p : PublicSymbol). IsShort p.name × (p.offset < 65536)) (map (public_of local base) listed)
+publics_named : (local : Bool) (base : PublicBase) (listed : List Public) (body : List ℕ)
+    → Body (Pubdef local base listed) body
+    → AllByRecursion (λ (p : PublicSymbol). IsShort p.name × (p.offset < 65536)) (map (public_of local base) listed)
 unfolding Body
 publics_named local base listed body h = publics_short local base listed h.rest h.second
 
-base_text : (local : Bool) (base : PublicBase) (listed : List Public) (body : List ℕ) → Body (Pubdef local base listed) body → (text : List ℕ) × BaseText base text
+base_text : (local : Bool) (base : PublicBase) (listed : List Public) (body : List ℕ)
+    → Body (Pubdef local base listed) body → (text : List ℕ) × BaseText base text
 unfolding Body
 base_text local base listed body h = (h.front, h.first)
 
@@ -212,8 +258,13 @@ all_map Q f (x ∷ xs) h = (h x, all_map Q f xs h)
 abbrev with_names : State → List (List ℕ) → State
 with_names s listed = record s { tables = record s.tables { names = s.tables.names ++ listed } }
 
-names_keep : (s : State) (listed : List (List ℕ)) (body : List ℕ) → Body (Lnames listed) body → Promises s → Promises (with_names s listed)
-names_keep s listed body b h = record { names = all-append _ s.tables.names listed h.names (names_short listed body b); sound = h.sound; last = h.last }
+names_keep : (s : State) (listed : List (List ℕ)) (body : List ℕ) → Body (Lnames listed) body → Promises s
+    → Promises (with_names s listed)
+names_keep s listed body b h = record {
+  names = all-append _ s.tables.names listed h.names (names_short listed body b);
+  sound = h.sound;
+  last = h.last;
+}
 
 abbrev with_segment : State → Segment → State
 with_segment s x = record s { tables = record s.tables { segments = s.tables.segments ++ x ∷ [] } }
@@ -230,7 +281,8 @@ standing_fits align.Paragraph c text h = (omega arith, omega arith)
 standing_fits align.Page c text h = (omega arith, omega arith)
 standing_fits align.DoubleWord c text h = (omega arith, omega arith)
 
-segment_fits : (ns : List (List ℕ)) (d : SegmentDefinition) (body : List ℕ) → Body (Segdef d) body → AllByRecursion IsShort ns → SegmentFits (segment_of ns d)
+segment_fits : (ns : List (List ℕ)) (d : SegmentDefinition) (body : List ℕ) → Body (Segdef d) body
+    → AllByRecursion IsShort ns → SegmentFits (segment_of ns d)
 unfolding Body
 segment_fits ns d body b h = record {
   name = short_name ns d.name h;
@@ -239,7 +291,8 @@ segment_fits ns d body b h = record {
   standing = standing_fits d.alignment d.combination _ b.second.first;
 }
 
-segment_keeps : (s : State) (d : SegmentDefinition) (body : List ℕ) → Body (Segdef d) body → Promises s → Promises (with_segment s (segment_of s.tables.names d))
+segment_keeps : (s : State) (d : SegmentDefinition) (body : List ℕ) → Body (Segdef d) body → Promises s
+    → Promises (with_segment s (segment_of s.tables.names d))
 segment_keeps s d body b h =
     let x = segment_of s.tables.names d in
     let all = more (module_in s) (x ∷ []) [] [] h.sound (segment_fits s.tables.names d body b h.names, tt) tt tt tt in
@@ -248,18 +301,21 @@ segment_keeps s d body b h =
 abbrev with_externals : State → List ExternalSymbol → State
 with_externals s es = record s { tables = record s.tables { externals = s.tables.externals ++ es } }
 
-externals_keep : (s : State) (es : List ExternalSymbol) → AllByRecursion (λ (e : ExternalSymbol). IsShort e.name) es → Promises s → Promises (with_externals s es)
+externals_keep : (s : State) (es : List ExternalSymbol) → AllByRecursion (λ (e : ExternalSymbol). IsShort e.name) es
+    → Promises s → Promises (with_externals s es)
 externals_keep s es e h =
     let all = more (module_in s) [] [] es h.sound tt tt e tt in
     record { names = h.names; sound = simp append-nil at all; last = h.last }
 
 -- ---- GRPDEF
 
-first_both : (o : Option CheckFault) (os : List (Option CheckFault)) → first (o ∷ os) ≡ None → (o ≡ None) × (first os ≡ None)
+first_both : (o : Option CheckFault) (os : List (Option CheckFault)) → first (o ∷ os) ≡ None
+    → (o ≡ None) × (first os ≡ None)
 first_both None os e = (refl, e)
 first_both (Some f) os e = cc
 
-member_fits : (ss : List Segment) (gs : List Group) (es : List ExternalSymbol) (i : ℕ) → component_fault (entry ss i) ≡ None → IsMember ss gs es (i - 1)
+member_fits : (ss : List Segment) (gs : List Group) (es : List ExternalSymbol) (i : ℕ)
+    → component_fault (entry ss i) ≡ None → IsMember ss gs es (i - 1)
 member_fits ss gs es zero e = cc
 member_fits ss gs es (suc n) e = go (slice_get ss n) refl e
   where
@@ -269,7 +325,9 @@ member_fits ss gs es (suc n) e = go (slice_get ss n) refl e
         let here : suc n - 1 ≡ n = omega arith in
         (s, (ap (slice_get ss) here ∙ k, when_none (is_absolute s.standing) GroupOfAbsolute f))
 
-members_fit : (ss : List Segment) (gs : List Group) (es : List ExternalSymbol) (is : List ℕ) → first (map (λ i. component_fault (entry ss i)) is) ≡ None → AllByRecursion (IsMember ss gs es) (map (λ i. i - 1) is)
+members_fit : (ss : List Segment) (gs : List Group) (es : List ExternalSymbol) (is : List ℕ)
+    → first (map (λ i. component_fault (entry ss i)) is) ≡ None
+    → AllByRecursion (IsMember ss gs es) (map (λ i. i - 1) is)
 members_fit ss gs es [] e = tt
 members_fit ss gs es (i ∷ is) e =
     let p = first_both (component_fault (entry ss i)) (map (λ i. component_fault (entry ss i)) is) e in
@@ -278,33 +336,43 @@ members_fit ss gs es (i ∷ is) e =
 abbrev with_group : State → Group → State
 with_group s x = record s { tables = record s.tables { groups = s.tables.groups ++ x ∷ [] } }
 
-group_keeps : (s : State) (name : ℕ) (is : List ℕ) → first (map (λ i. component_fault (entry s.tables.segments i)) is) ≡ None → Promises s → Promises (with_group s (group_of s.tables.names name is))
+group_keeps : (s : State) (name : ℕ) (is : List ℕ)
+    → first (map (λ i. component_fault (entry s.tables.segments i)) is) ≡ None → Promises s
+    → Promises (with_group s (group_of s.tables.names name is))
 group_keeps s name is e h =
     let g = group_of s.tables.names name is in
     let ms = members_fit s.tables.segments s.tables.groups s.tables.externals is e in
-    let ms' = all_weaker _ _ g.members (member_more s.tables.segments [] s.tables.groups (g ∷ []) s.tables.externals []) ms in
+    let ms' =
+    all_weaker _ _ g.members (member_more s.tables.segments [] s.tables.groups (g ∷ []) s.tables.externals []) ms in
     let all = more (module_in s) [] (g ∷ []) [] h.sound tt (short_name s.tables.names name h.names, tt) tt (ms', tt) in
     record { names = h.names; sound = simp append-nil at all; last = h.last }
 
 -- ---- PUBDEF
 
-base_fits : (t : Tables) (b : PublicBase) (text : List ℕ) → BaseText b text → public_fault t b ≡ None → BaseMeans t.segments t.groups t.externals (base_of b)
+base_fits : (t : Tables) (b : PublicBase) (text : List ℕ) → BaseText b text → public_fault t b ≡ None
+    → BaseMeans t.segments t.groups t.externals (base_of b)
 base_fits t (public_base.AtFrame group frame) text b e = b.second.second.0
 base_fits t (public_base.InSegment zero segment) text b e =
     let p = none_both (when (misses t.segments segment) SegmentIndex) (when (is_beyond t.groups 0) GroupIndex) e in
     means t.segments segment (when_none (misses t.segments segment) SegmentIndex p.0)
 base_fits t (public_base.InSegment (suc group) segment) text b e =
-    let p = none_both (when (misses t.segments segment) SegmentIndex) (when (is_beyond t.groups (suc group)) GroupIndex) e in
+    let p =
+    none_both (when (misses t.segments segment) SegmentIndex) (when (is_beyond t.groups (suc group)) GroupIndex) e in
     let g = not_past t.groups (suc group) (when_none (is_beyond t.groups (suc group)) GroupIndex p.1) in
     (means t.segments segment (when_none (misses t.segments segment) SegmentIndex p.0), omega (arith, g))
 
 abbrev with_publics : State → List PublicSymbol → State
 with_publics s ps = record s { publics = s.publics ++ ps }
 
-publics_keep : (s : State) (local : Bool) (base : PublicBase) (listed : List Public) (text : List ℕ) → BaseText base text → AllByRecursion (λ (p : PublicSymbol). IsShort p.name × (p.offset < 65536)) (map (public_of local base) listed) → public_fault s.tables base ≡ None → Promises s → Promises (with_publics s (map (public_of local base) listed))
+publics_keep : (s : State) (local : Bool) (base : PublicBase) (listed : List Public) (text : List ℕ)
+    → BaseText base text
+    → AllByRecursion (λ (p : PublicSymbol). IsShort p.name × (p.offset < 65536)) (map (public_of local base) listed)
+    → public_fault s.tables base ≡ None → Promises s → Promises (with_publics s (map (public_of local base) listed))
 publics_keep s local base listed text b n e h =
     let m = h.sound in
-    let bases = all_map (λ (p : PublicSymbol). BaseMeans s.tables.segments s.tables.groups s.tables.externals p.base) (public_of local base) listed (λ p. base_fits s.tables base text b e) in
+    let bases =
+    all_map (λ (p : PublicSymbol). BaseMeans s.tables.segments s.tables.groups s.tables.externals p.base)
+    (public_of local base) listed (λ p. base_fits s.tables base text b e) in
     record {
       names = h.names;
       sound = record {
@@ -322,27 +390,40 @@ publics_keep s local base listed text b n e h =
 
 -- ---- LEDATA, LIDATA
 
-last_push : (cs : List (ℕ × ℕ)) (ds : List DataRecord) (d : DataRecord) → LastFits (Some cs) (d ∷ []) → LastFits (Some cs) (ds ++ d ∷ [])
+last_push : (cs : List (ℕ × ℕ)) (ds : List DataRecord) (d : DataRecord) → LastFits (Some cs) (d ∷ [])
+    → LastFits (Some cs) (ds ++ d ∷ [])
 last_push cs [] d h = h
 last_push cs (c ∷ []) d h = h
 last_push cs (c ∷ e ∷ ds) d h = last_push cs (e ∷ ds) d h
 
 abbrev plain : (place segment offset : ℕ) (pairs : List (ℕ × ℕ)) → DataRecord
-plain place segment offset pairs = record { place = place; segment = segment; offset = offset; pairs = pairs; fixups = [] }
+plain place segment offset pairs =
+    record { place = place; segment = segment; offset = offset; pairs = pairs; fixups = [] }
 
-data_fits : (ss : List Segment) (gs : List Group) (es : List ExternalSymbol) (place i offset n : ℕ) (pairs : List (ℕ × ℕ)) → length pairs ≡ n → AreCopies pairs → data_fault (entry ss i) offset n ≡ None → DataFitting ss gs es (plain place (i - 1) offset pairs)
+data_fits : (ss : List Segment) (gs : List Group) (es : List ExternalSymbol) (place i offset n : ℕ)
+    (pairs : List (ℕ × ℕ)) → length pairs ≡ n → AreCopies pairs → data_fault (entry ss i) offset n ≡ None
+    → DataFitting ss gs es (plain place (i - 1) offset pairs)
 data_fits ss gs es place zero offset n pairs len copies e = cc
 data_fits ss gs es place (suc i) offset n pairs len copies e = go (slice_get ss i) refl e
   where
-    go : (o : Option Segment) → slice_get ss i ≡ o → data_fault o offset n ≡ None → DataFitting ss gs es (plain place (suc i - 1) offset pairs)
+    go : (o : Option Segment) → slice_get ss i ≡ o → data_fault o offset n ≡ None
+        → DataFitting ss gs es (plain place (suc i - 1) offset pairs)
     go None k f = cc
     go (Some s) k f =
-        let p = none_both (when (nat_lt s.length (offset + n)) DataOutside) (when (is_absolute s.standing) DataInAbsolute) f in
+        let p =
+        none_both (when (nat_lt s.length (offset + n)) DataOutside) (when (is_absolute s.standing) DataInAbsolute) f in
         let here : suc i - 1 ≡ i = omega arith in
         let within = not_less s.length (offset + n) (when_none (nat_lt s.length (offset + n)) DataOutside p.0) in
-        record { segment = s; is_part = (ap (slice_get ss) here ∙ k, when_none (is_absolute s.standing) DataInAbsolute p.1); inside = omega (arith, within, len); copies = copies; fixups = tt }
+        record {
+          segment = s;
+          is_part = (ap (slice_get ss) here ∙ k, when_none (is_absolute s.standing) DataInAbsolute p.1);
+          inside = omega (arith, within, len);
+          copies = copies;
+          fixups = tt;
+        }
 
-data_keeps : (s : State) (place i offset n : ℕ) (pairs cs : List (ℕ × ℕ)) → length pairs ≡ n → AreCopies pairs → data_fault (entry s.tables.segments i) offset n ≡ None → AllStand cs pairs → Promises s
+data_keeps : (s : State) (place i offset n : ℕ) (pairs cs : List (ℕ × ℕ)) → length pairs ≡ n → AreCopies pairs
+    → data_fault (entry s.tables.segments i) offset n ≡ None → AllStand cs pairs → Promises s
     → Promises (add_data s place (i - 1) offset pairs cs)
 data_keeps s place i offset n pairs cs len copies e stand h =
     let m = h.sound in
@@ -356,7 +437,9 @@ data_keeps s place i offset n pairs cs len copies e stand h =
         public_names = m.public_names;
         groups = m.groups;
         publics = m.publics;
-        data_records = all-append _ s.data_records (d ∷ []) m.data_records (data_fits s.tables.segments s.tables.groups s.tables.externals place i offset n pairs len copies e, tt);
+        data_records =
+            all-append _ s.data_records (d ∷ []) m.data_records
+            (data_fits s.tables.segments s.tables.groups s.tables.externals place i offset n pairs len copies e, tt);
         start = m.start;
       };
       last = last_push cs s.data_records d stand;
@@ -364,14 +447,16 @@ data_keeps s place i offset n pairs cs len copies e stand h =
 
 -- ---- FIXUPP
 
-frame_means : (t : Tables) (m : FrameMethod) → frame_fault t (Some m) ≡ None → FrameMeans t.segments t.groups t.externals (frame_of m)
+frame_means : (t : Tables) (m : FrameMethod) → frame_fault t (Some m) ≡ None
+    → FrameMeans t.segments t.groups t.externals (frame_of m)
 frame_means t (by.Segment i) e = means t.segments i (when_none (misses t.segments i) SegmentIndex e)
 frame_means t (by.Group i) e = means t.groups i (when_none (misses t.groups i) GroupIndex e)
 frame_means t (by.External i) e = means t.externals i (when_none (misses t.externals i) ExternalIndex e)
 frame_means t by.Location e = tt
 frame_means t by.Target e = tt
 
-target_means : (t : Tables) (m : TargetMethod) → target_fault t (Some m) ≡ None → TargetMeans t.segments t.groups t.externals (target_of m)
+target_means : (t : Tables) (m : TargetMethod) → target_fault t (Some m) ≡ None
+    → TargetMeans t.segments t.groups t.externals (target_of m)
 target_means t (to.Segment i) e = means t.segments i (when_none (misses t.segments i) SegmentIndex e)
 target_means t (to.Group i) e = means t.groups i (when_none (misses t.groups i) GroupIndex e)
 target_means t (to.External i) e = means t.externals i (when_none (misses t.externals i) ExternalIndex e)
@@ -380,9 +465,13 @@ not_false : (b : Bool) → not b ≡ false → b ≡ true
 not_false true e = refl
 not_false false e = cc
 
-place_fits : (o : Option (List (ℕ × ℕ))) (x : Fixup) (d : DataRecord) → place_fault o x ≡ None → LastFits o (d ∷ []) → Stand x.offset (location_width x.location) d.pairs
+place_fits : (o : Option (List (ℕ × ℕ))) (x : Fixup) (d : DataRecord) → place_fault o x ≡ None → LastFits o (d ∷ [])
+    → Stand x.offset (location_width x.location) d.pairs
 place_fits None x d e h = cc
-place_fits (Some cs) x d e h = h x.offset (location_width x.location) (not_false (lies_in cs x.offset (location_width x.location)) (when_none (not (lies_in cs x.offset (location_width x.location))) FixupPlace e))
+place_fits (Some cs) x d e h =
+    h x.offset (location_width x.location)
+    (not_false (lies_in cs x.offset (location_width x.location))
+    (when_none (not (lies_in cs x.offset (location_width x.location))) FixupPlace e))
 
 relative_fits : (self : Bool) (b : Bool) → cond self (when b SelfRelativeBase) None ≡ None → self ≡ true → b ≡ false
 relative_fits true b e k = when_none b SelfRelativeBase e
@@ -392,14 +481,18 @@ relative_fits false b e k = cc
 abbrev OnData : State → DataRecord → List ResolvedFixup → Type 0
 OnData s d fs = AllByRecursion (FixupFits s.tables.segments s.tables.groups s.tables.externals d) fs
 
-fixup_fits : (s : State) (place : ℕ) (x : Fixup) (f : Option FrameMethod) (t : Option TargetMethod) (d : DataRecord) → fixup_fault s.tables f t s.contents x ≡ None → LastFits s.contents (d ∷ []) → OnData s d (option_to_list (fixup_of place x f t))
+fixup_fits : (s : State) (place : ℕ) (x : Fixup) (f : Option FrameMethod) (t : Option TargetMethod) (d : DataRecord)
+    → fixup_fault s.tables f t s.contents x ≡ None → LastFits s.contents (d ∷ [])
+    → OnData s d (option_to_list (fixup_of place x f t))
 fixup_fits s place x None t d e h = cc_list e
   where
     cc_list : fixup_fault s.tables None t s.contents x ≡ None → OnData s d (option_to_list (fixup_of place x None t))
     cc_list e = tt
 fixup_fits s place x (Some f) None d e h = tt
 fixup_fits s place x (Some f) (Some t) d e h =
-    let a = none_both (frame_fault s.tables (Some f)) (target_fault s.tables (Some t) ⊓ place_fault s.contents x ⊓ relative_fault x) e in
+    let a =
+    none_both (frame_fault s.tables (Some f))
+    (target_fault s.tables (Some t) ⊓ place_fault s.contents x ⊓ relative_fault x) e in
     let b = none_both (target_fault s.tables (Some t)) (place_fault s.contents x ⊓ relative_fault x) a.1 in
     let c = none_both (place_fault s.contents x) (relative_fault x) b.1 in
     let stand = place_fits s.contents x d c.0 h in (
@@ -413,23 +506,38 @@ fixup_fits s place x (Some f) (Some t) d e h =
       tt,
     )
 
-refit : (ss : List Segment) (gs : List Group) (es : List ExternalSymbol) (d : DataRecord) (fs : List ResolvedFixup) (x : ResolvedFixup) → FixupFits ss gs es d x → FixupFits ss gs es (record d { fixups = fs }) x
-refit ss gs es d fs x h = record { frame = h.frame; target = h.target; together = h.together; whole = h.whole; relative = h.relative }
+refit : (ss : List Segment) (gs : List Group) (es : List ExternalSymbol) (d : DataRecord) (fs : List ResolvedFixup)
+    (x : ResolvedFixup) → FixupFits ss gs es d x → FixupFits ss gs es (record d { fixups = fs }) x
+refit ss gs es d fs x h =
+    record { frame = h.frame; target = h.target; together = h.together; whole = h.whole; relative = h.relative }
 
-module _ (ss : List Segment) (gs : List Group) (es : List ExternalSymbol) (o : Option (List (ℕ × ℕ))) (fs : List ResolvedFixup) (on : (d : DataRecord) → LastFits o (d ∷ []) → AllByRecursion (FixupFits ss gs es d) fs) where
-  fit_last : (ds : List DataRecord) → AllByRecursion (DataFitting ss gs es) ds → LastFits o ds → AllByRecursion (DataFitting ss gs es) (add_to_last fs ds)
+module _ (ss : List Segment) (gs : List Group) (es : List ExternalSymbol) (o : Option (List (ℕ × ℕ)))
+    (fs : List ResolvedFixup)
+    (on : (d : DataRecord) → LastFits o (d ∷ []) → AllByRecursion (FixupFits ss gs es d) fs) where
+  fit_last : (ds : List DataRecord) → AllByRecursion (DataFitting ss gs es) ds → LastFits o ds
+      → AllByRecursion (DataFitting ss gs es) (add_to_last fs ds)
   fit_last [] h l = tt
   fit_last (d ∷ []) h l =
       let k = h.0 in
-      let all = all-append (FixupFits ss gs es d) d.fixups fs k.fixups (on d l) in
-      (record { segment = k.segment; is_part = k.is_part; inside = k.inside; copies = k.copies; fixups = all_weaker _ _ (d.fixups ++ fs) (refit ss gs es d (d.fixups ++ fs)) all }, tt)
+      let all = all-append (FixupFits ss gs es d) d.fixups fs k.fixups (on d l) in (
+        record {
+          segment = k.segment;
+          is_part = k.is_part;
+          inside = k.inside;
+          copies = k.copies;
+          fixups = all_weaker _ _ (d.fixups ++ fs) (refit ss gs es d (d.fixups ++ fs)) all;
+        },
+        tt,
+      )
   fit_last (d ∷ e ∷ ds) h l = (h.0, fit_last (e ∷ ds) h.1 (last_tail o d e ds l))
     where
-      last_tail : (o : Option (List (ℕ × ℕ))) (d e : DataRecord) (ds : List DataRecord) → LastFits o (d ∷ e ∷ ds) → LastFits o (e ∷ ds)
+      last_tail : (o : Option (List (ℕ × ℕ))) (d e : DataRecord) (ds : List DataRecord) → LastFits o (d ∷ e ∷ ds)
+          → LastFits o (e ∷ ds)
       last_tail None d e ds l = tt
       last_tail (Some cs) d e ds l = l
 
-still_last : (o : Option (List (ℕ × ℕ))) (fs : List ResolvedFixup) (ds : List DataRecord) → LastFits o ds → LastFits o (add_to_last fs ds)
+still_last : (o : Option (List (ℕ × ℕ))) (fs : List ResolvedFixup) (ds : List DataRecord) → LastFits o ds
+    → LastFits o (add_to_last fs ds)
 still_last None fs ds h = tt
 still_last (Some cs) fs [] h = tt
 still_last (Some cs) fs (d ∷ []) h = h
@@ -439,7 +547,8 @@ still_last (Some cs) fs (d ∷ e ∷ f ∷ ds) h = still_last (Some cs) fs (e �
 abbrev with_fixups : State → List ResolvedFixup → State
 with_fixups s fs = record s { data_records = add_to_last fs s.data_records }
 
-fixups_keep : (s : State) (fs : List ResolvedFixup) → ((d : DataRecord) → LastFits s.contents (d ∷ []) → OnData s d fs) → Promises s → Promises (with_fixups s fs)
+fixups_keep : (s : State) (fs : List ResolvedFixup) → ((d : DataRecord) → LastFits s.contents (d ∷ []) → OnData s d fs)
+    → Promises s → Promises (with_fixups s fs)
 fixups_keep s fs on h =
     let m = h.sound in
     record {
@@ -451,7 +560,9 @@ fixups_keep s fs on h =
         public_names = m.public_names;
         groups = m.groups;
         publics = m.publics;
-        data_records = fit_last s.tables.segments s.tables.groups s.tables.externals s.contents fs on s.data_records m.data_records h.last;
+        data_records =
+            fit_last s.tables.segments s.tables.groups s.tables.externals s.contents fs on s.data_records m.data_records
+            h.last;
         start = m.start;
       };
       last = still_last s.contents fs s.data_records h.last;
@@ -459,19 +570,25 @@ fixups_keep s fs on h =
 
 subrecord_keeps : (place : ℕ) (s t : State) (x : Subrecord) → step_subrecord place s x ≡ Ok t → Promises s → Promises t
 unfolding step_subrecord
-subrecord_keeps place s t (sub.SetFrame n m) e h = subst Promises (ok_is _ t e) (record { names = h.names; sound = h.sound; last = h.last })
-subrecord_keeps place s t (sub.SetTarget n m) e h = subst Promises (ok_is _ t e) (record { names = h.names; sound = h.sound; last = h.last })
+subrecord_keeps place s t (sub.SetFrame n m) e h =
+    subst Promises (ok_is _ t e) (record { names = h.names; sound = h.sound; last = h.last })
+subrecord_keeps place s t (sub.SetTarget n m) e h =
+    subst Promises (ok_is _ t e) (record { names = h.names; sound = h.sound; last = h.last })
 subrecord_keeps place s t (sub.Fixup x) e h =
     let f = frame_used (slot s.frame_threads) x.reference.frame in
     let g = target_used (slot s.target_threads) x.reference.target in
-    let p = by_fault (fixup_fault s.tables f g s.contents x) (with_fixups s (option_to_list (fixup_of place x f g))) t e in
-    subst Promises p.1 (fixups_keep s (option_to_list (fixup_of place x f g)) (λ d l. fixup_fits s place x f g d p.0 l) h)
+    let p =
+    by_fault (fixup_fault s.tables f g s.contents x) (with_fixups s (option_to_list (fixup_of place x f g))) t e in
+    subst Promises p.1
+    (fixups_keep s (option_to_list (fixup_of place x f g)) (λ d l. fixup_fits s place x f g d p.0 l) h)
 
-then_ok : (x : Result State CheckFault) (f : State → Result State CheckFault) (t : State) → (x >>= f) ≡ Ok t → (u : State) × (x ≡ Ok u) × (f u ≡ Ok t)
+then_ok : (x : Result State CheckFault) (f : State → Result State CheckFault) (t : State) → (x >>= f) ≡ Ok t
+    → (u : State) × (x ≡ Ok u) × (f u ≡ Ok t)
 then_ok (Ok u) f t e = (u, refl, e)
 then_ok (Err c) f t e = cc
 
-subrecords_keep : (place : ℕ) (s t : State) (xs : List Subrecord) → step_subrecords place s xs ≡ Ok t → Promises s → Promises t
+subrecords_keep : (place : ℕ) (s t : State) (xs : List Subrecord) → step_subrecords place s xs ≡ Ok t → Promises s
+    → Promises t
 unfolding step_subrecords
 subrecords_keep place s t [] e h = subst Promises (ok_is s t e) h
 subrecords_keep place s t (x ∷ xs) e h =
@@ -490,7 +607,8 @@ no_location by.Target e k = cc
 abbrev StartIsSound : State → Option Start → Type 0
 StartIsSound s o = IfSome o (StartFits s.tables.segments s.tables.groups s.tables.externals)
 
-start_fits : (s : State) (place : ℕ) (r : Reference) (f : Option FrameMethod) (t : Option TargetMethod) → start_fault s.tables f t ≡ None → StartIsSound s s.start → StartIsSound s (later (start_of place r f t) s.start)
+start_fits : (s : State) (place : ℕ) (r : Reference) (f : Option FrameMethod) (t : Option TargetMethod)
+    → start_fault s.tables f t ≡ None → StartIsSound s s.start → StartIsSound s (later (start_of place r f t) s.start)
 start_fits s place r None t e h = h
 start_fits s place r (Some f) None e h = h
 start_fits s place r (Some f) (Some t) e h =
@@ -501,7 +619,8 @@ start_fits s place r (Some f) (Some t) e h =
 abbrev with_start : State → Option Start → State
 with_start s o = record s { start = later o s.start }
 
-start_keeps : (s : State) (place : ℕ) (r : Reference) (f : Option FrameMethod) (t : Option TargetMethod) → start_fault s.tables f t ≡ None → Promises s → Promises (with_start s (start_of place r f t))
+start_keeps : (s : State) (place : ℕ) (r : Reference) (f : Option FrameMethod) (t : Option TargetMethod)
+    → start_fault s.tables f t ≡ None → Promises s → Promises (with_start s (start_of place r f t))
 start_keeps s place r f t e h =
     let m = h.sound in
     record {
@@ -521,27 +640,39 @@ start_keeps s place r f t e h =
 
 -- ---- one record, and all
 
-record_keeps : (place : ℕ) (s t : State) (r : Record) (body : List ℕ) → Body r body → step_record place s r ≡ Ok t → Promises s → Promises t
+record_keeps : (place : ℕ) (s t : State) (r : Record) (body : List ℕ) → Body r body → step_record place s r ≡ Ok t
+    → Promises s → Promises t
 unfolding step_record
 record_keeps place s t (Theadr name) body b e h = subst Promises (ok_is s t e) h
 record_keeps place s t (Coment kind class bytes) body b e h = subst Promises (ok_is s t e) h
 record_keeps place s t (Linnum group segment lines) body b e h = subst Promises (ok_is s t e) h
 record_keeps place s t (Lnames listed) body b e h = subst Promises (ok_is _ t e) (names_keep s listed body b h)
-record_keeps place s t (Segdef d) body b e h = subst Promises (by_fault (segment_fault s.tables d) _ t e).1 (segment_keeps s d body b h)
+record_keeps place s t (Segdef d) body b e h =
+    subst Promises (by_fault (segment_fault s.tables d) _ t e).1 (segment_keeps s d body b h)
 record_keeps place s t (Grpdef name is) body b e h =
     let p = by_fault (group_fault s.tables name is) _ t e in
-    let q = first_both (when (misses s.tables.names name) NameIndex) (map (λ i. component_fault (entry s.tables.segments i)) is) p.0 in
+    let q =
+    first_both (when (misses s.tables.names name) NameIndex) (map (λ i. component_fault (entry s.tables.segments i)) is)
+    p.0 in
     subst Promises p.1 (group_keeps s name is q.1 h)
-record_keeps place s t (Extdef local listed) body b e h = subst Promises (ok_is _ t e) (externals_keep s (map (external_of local) listed) (externals_short local listed body b) h)
+record_keeps place s t (Extdef local listed) body b e h =
+    subst Promises (ok_is _ t e)
+    (externals_keep s (map (external_of local) listed) (externals_short local listed body b) h)
 record_keeps place s t (Pubdef local base listed) body b e h =
     let p = by_fault (public_fault s.tables base) _ t e in
-    subst Promises p.1 (publics_keep s local base listed (base_text local base listed body b).0 (base_text local base listed body b).1 (publics_named local base listed body b) p.0 h)
+    subst Promises p.1
+    (publics_keep s local base listed (base_text local base listed body b).0 (base_text local base listed body b).1
+    (publics_named local base listed body b) p.0 h)
 record_keeps place s t (Ledata segment offset bytes) body b e h =
     let p = by_fault (data_fault (entry s.tables.segments segment) offset (length bytes)) _ t e in
-    subst Promises p.1 (data_keeps s place segment offset (length bytes) (stored_from 0 bytes) ((0, length bytes) ∷ []) (length-stored 0 bytes) (are_copies-stored bytes) p.0 (stored_stand bytes) h)
+    subst Promises p.1
+    (data_keeps s place segment offset (length bytes) (stored_from 0 bytes) ((0, length bytes) ∷ [])
+    (length-stored 0 bytes) (are_copies-stored bytes) p.0 (stored_stand bytes) h)
 record_keeps place s t (Lidata segment offset blocks) body b e h =
     let p = by_fault (data_fault (entry s.tables.segments segment) offset (length (expansion blocks))) _ t e in
-    subst Promises p.1 (data_keeps s place segment offset (length (expansion blocks)) (expansion blocks) (contents blocks) refl (are_copies blocks) p.0 (repeated_stand blocks) h)
+    subst Promises p.1
+    (data_keeps s place segment offset (length (expansion blocks)) (expansion blocks) (contents blocks) refl
+    (are_copies blocks) p.0 (repeated_stand blocks) h)
 record_keeps place s t (Fixupp subs) body b e h = subrecords_keep place s t subs e h
 record_keeps place s t (Modend main None) body b e h = subst Promises (ok_is s t e) h
 record_keeps place s t (Modend main (Some r)) body b e h =
@@ -550,16 +681,27 @@ record_keeps place s t (Modend main (Some r)) body b e h =
     let p = by_fault (start_fault s.tables f g) _ t e in
     subst Promises p.1 (start_keeps s place r f g p.0 h)
 
-pub step_keeps : (place : ℕ) (s t : State) (r : Record) (body : List ℕ) → Body r body → step s place r ≡ Ok t → Promises s → Promises t
+pub step_keeps : (place : ℕ) (s t : State) (r : Record) (body : List ℕ) → Body r body → step s place r ≡ Ok t
+    → Promises s → Promises t
 unfolding step
 step_keeps place s t r body b e h =
     let p = then_ok (checked (header_fault s.begun r) (record s { begun = true })) (λ u. step_record place u r) t e in
     let q = by_fault (header_fault s.begun r) (record s { begun = true }) p.0 p.1 in
-    record_keeps place p.0 t r body b p.2 (subst Promises q.1 (record { names = h.names; sound = h.sound; last = h.last }))
+    record_keeps place p.0 t r body b p.2
+    (subst Promises q.1 (record { names = h.names; sound = h.sound; last = h.last }))
 
 pub none_promised : Promises (state_of [])
 none_promised = record {
   names = tt;
-  sound = record { segments = tt; group_names = tt; externals = tt; public_names = tt; groups = tt; publics = tt; data_records = tt; start = tt };
+  sound = record {
+    segments = tt;
+    group_names = tt;
+    externals = tt;
+    public_names = tt;
+    groups = tt;
+    publics = tt;
+    data_records = tt;
+    start = tt;
+  };
   last = tt;
 }

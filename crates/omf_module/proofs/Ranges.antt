@@ -1,5 +1,6 @@
 -- Numbers in a row, and bytes with their stored places.
-use Rattle.std.proofs.Common.{◌≡◌, ℕ, zero, suc, ◌+◌, ◌≤◌, List, [], ◌∷◌, ◌++◌, length, take, refl, sym, ap, ◌∙◌, arith, add-zero, zero-add, append_assoc}
+use Rattle.std.proofs.Common.{◌≡◌, ℕ, zero, suc, ◌+◌, ◌≤◌, List, [], ◌∷◌, ◌++◌, length, take, refl, sym, ap, ◌∙◌, arith}
+use Rattle.std.proofs.Common.{add-zero, zero-add, append_assoc}
 use Rattle.std.specs.List.{range_with_len, zip}
 use Rattle.omf_record.specs.Expansion.{places, bytes}
 use Rattle.omf_record.specs.inside.Fields.{stored_from}
@@ -13,7 +14,9 @@ range_push a (suc n) =
 
 -- one number more behind a list
 pub range_more : (xs : List ℕ) (n : ℕ) → (xs ++ range_with_len 0 n) ++ n ∷ [] ≡ xs ++ range_with_len 0 (n + 1)
-range_more xs n = append_assoc xs (range_with_len 0 n) (n ∷ []) ∙ ap (λ ys. xs ++ ys) (ap (λ m. range_with_len 0 n ++ m ∷ []) (sym (zero-add n)) ∙ sym (range_push 0 n))
+range_more xs n =
+    append_assoc xs (range_with_len 0 n) (n ∷ [])
+    ∙ ap (λ ys. xs ++ ys) (ap (λ m. range_with_len 0 n ++ m ∷ []) (sym (zero-add n)) ∙ sym (range_push 0 n))
 
 -- those in front are a shorter row
 pub take-range : (a n k : ℕ) → k ≤ n → take k (range_with_len a n) ≡ range_with_len a k

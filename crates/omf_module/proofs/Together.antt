@@ -1,4 +1,5 @@
--- A location that lies in a content has its bytes together, and each in a whole copy of it, wherever the content comes out of an expansion.
+-- A location that lies in a content has its bytes together, and each in a whole copy of it, wherever the content comes
+-- out of an expansion.
 use Rattle.std.proofs.Common.{◌≡◌, ℕ, ◌+◌, ◌≤◌, Bool, true, false, List, [], ◌∷◌, length, refl, arith, inl, inr}
 use Rattle.std.proofs.lemmas.Bool.Decides.{nat_tests}
 use Rattle.omf_record.specs.Record.{Block}
@@ -14,7 +15,8 @@ lies_in_one : (cs : List (ℕ × ℕ)) (at width : ℕ) → lies_in cs at width 
 lies_in_one [] at width e = absurd cc
 lies_in_one (c ∷ cs) at width e = go (lies_within at width c) refl (λ k. lies_in_one cs at width k)
   where
-    go : (b : Bool) → lies_within at width c ≡ b → (lies_in cs at width ≡ true → LiesInOne at width cs) → LiesInOne at width (c ∷ cs)
+    go : (b : Bool) → lies_within at width c ≡ b → (lies_in cs at width ≡ true → LiesInOne at width cs)
+        → LiesInOne at width (c ∷ cs)
     go true k rest = inl (within_is at width c k)
     go false k rest = inr (rest (rw k at e))
 
@@ -29,9 +31,12 @@ AllStand cs pairs = (at width : ℕ) → lies_in cs at width ≡ true → Stand 
 
 pub stored_stand : (bytes : List ℕ) → AllStand ((0, length bytes) ∷ []) (stored_from 0 bytes)
 stored_stand bytes at width e = elim (lies_in_one ((0, length bytes) ∷ []) at width e) [
-  | inl l ↦ record { together = together-stored at width 0 bytes l.0 l.1; whole = whole-stored at width 0 bytes l.0 l.1 }
+  | inl l ↦
+      record { together = together-stored at width 0 bytes l.0 l.1; whole = whole-stored at width 0 bytes l.0 l.1 }
   | inr l ↦ absurd l
 ]
 
 pub repeated_stand : (blocks : List Block) → AllStand (contents blocks) (expansion blocks)
-repeated_stand blocks at width e = let l = lies_in_one (contents blocks) at width e in record { together = together blocks at width l; whole = whole blocks at width l }
+repeated_stand blocks at width e =
+    let l = lies_in_one (contents blocks) at width e in
+    record { together = together blocks at width l; whole = whole blocks at width l }

@@ -1,14 +1,17 @@
 -- One step is one record further.
 use Rattle.std.proofs.Common.{◌≡◌, ℕ, List, [], ◌∷◌, ◌++◌, Option, None, Some, Ok, Err, refl, sym, ap, ◌∙◌}
 use Rattle.std.specs.Option.{option_map}
-use Rattle.omf_record.specs.Record.{Record, Theadr, Coment, Modend, Extdef, Pubdef, Linnum, Lnames, Segdef, Grpdef, Fixupp, Ledata, Lidata}
+use Rattle.omf_record.specs.Record.{Record, Theadr, Coment, Modend, Extdef, Pubdef, Linnum, Lnames, Segdef, Grpdef}
+use Rattle.omf_record.specs.Record.{Fixupp, Ledata, Lidata}
 use Rattle.omf_record.specs.Records.{Placed}
 use Rattle.omf_module.specs.declared.fault.CheckFault.{CheckFault}
 use Rattle.omf_module.specs.Before.{along, along_from, first}
 use Rattle.omf_module.specs.Faults.{begun, header_fault, items, fault, first_fault}
 use Rattle.omf_module.specs.inside.Running.{State, state_of, checked, step, step_record, ◌>>=◌}
 use Rattle.omf_module.proofs.Lists.{along_push, along_from_append}
-use Rattle.omf_module.proofs.Growing.{Steps, header_steps, comment_steps, lines_steps, names_steps, externals_steps, publics_steps, segment_steps, group_steps, no_start_steps, start_steps, data_steps, repeated_steps}
+use Rattle.omf_module.proofs.Growing.{Steps, header_steps, comment_steps, lines_steps, names_steps, externals_steps}
+use Rattle.omf_module.proofs.Growing.{publics_steps, segment_steps, group_steps, no_start_steps, start_steps}
+use Rattle.omf_module.proofs.Growing.{data_steps, repeated_steps}
 use Rattle.omf_module.proofs.Subrecords.{fixup_steps}
 
 record_steps : (r : Record) → Steps r
@@ -26,14 +29,18 @@ record_steps (Fixupp subs) = fixup_steps subs
 record_steps (Ledata segment offset bytes) = data_steps segment offset bytes
 record_steps (Lidata segment offset blocks) = repeated_steps segment offset blocks
 
-by_header : (h : Option CheckFault) (place : ℕ) (s : State) (r : Record) (is : List (Option CheckFault)) (t : State) → step_record place s r ≡ checked (first is) t
+by_header : (h : Option CheckFault) (place : ℕ) (s : State) (r : Record) (is : List (Option CheckFault)) (t : State)
+    → step_record place s r ≡ checked (first is) t
     → (checked h s >>= λ u. step_record place u r) ≡ checked (first (h ∷ is)) t
 by_header None place s r is t e = e
 by_header (Some f) place s r is t e = refl
 
-pub step_whole : (rs : List Placed) (r : Placed) → step (state_of rs) r.place r.says ≡ checked (fault rs r.says) (state_of (rs ++ r ∷ []))
+pub step_whole : (rs : List Placed) (r : Placed)
+    → step (state_of rs) r.place r.says ≡ checked (fault rs r.says) (state_of (rs ++ r ∷ []))
 unfolding step
-step_whole rs r = by_header (header_fault (begun rs) r.says) r.place _ r.says (items rs r.says) _ (record_steps r.says r.place r.body rs)
+step_whole rs r =
+    by_header (header_fault (begun rs) r.says) r.place _ r.says (items rs r.says) _
+    (record_steps r.says r.place r.body rs)
 
 first_append_none : {A : Type 0} (xs ys : List (Option A)) → first xs ≡ None → first (xs ++ ys) ≡ first ys
 first_append_none [] ys e = refl
@@ -53,7 +60,8 @@ by_err (Some f) s g e = cc
 
 -- no fault so far, and one record more
 module _ (rs : List Placed) (r : Placed) (sound : first_fault rs ≡ None) where
-  pub ok_more : (t : State) → step (state_of rs) r.place r.says ≡ Ok t → (t ≡ state_of (rs ++ r ∷ [])) × (first_fault (rs ++ r ∷ []) ≡ None)
+  pub ok_more : (t : State) → step (state_of rs) r.place r.says ≡ Ok t
+      → (t ≡ state_of (rs ++ r ∷ [])) × (first_fault (rs ++ r ∷ []) ≡ None)
   ok_more t e =
       let p = by_fault (fault rs r.says) (state_of (rs ++ r ∷ [])) t (sym (step_whole rs r) ∙ e) in
       (sym p.1, rw (along_push, p.0) (first_append_none (along place_fault rs) (None ∷ []) sound))
@@ -72,6 +80,9 @@ none_mapped : (g : CheckFault → ℕ × CheckFault) (o : Option CheckFault) →
 none_mapped g None e = refl
 none_mapped g (Some f) e = cc
 
-pub no_fault_at : (done todo : List Placed) (r : Placed) → first_fault (done ++ r ∷ todo) ≡ None → fault done r.says ≡ None
+pub no_fault_at : (done todo : List Placed) (r : Placed) → first_fault (done ++ r ∷ todo) ≡ None
+    → fault done r.says ≡ None
 no_fault_at done todo r e =
-    none_mapped (λ f. (r.place, f)) (fault done r.says) (none_of (along place_fault done) (along_from (done ++ r ∷ []) place_fault todo) _ (sym (ap first (along_from_append place_fault [] done (r ∷ todo))) ∙ e))
+    none_mapped (λ f. (r.place, f)) (fault done r.says)
+    (none_of (along place_fault done) (along_from (done ++ r ∷ []) place_fault todo) _
+    (sym (ap first (along_from_append place_fault [] done (r ∷ todo))) ∙ e))

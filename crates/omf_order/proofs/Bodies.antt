@@ -1,5 +1,7 @@
 -- The canonical bodies of the records of the order module, and that each fits a frame.
-use Rattle.std.proofs.Common.{◌≡◌, ℕ, suc, ◌+◌, ◌*◌, ◌/◌, ◌%◌, ◌<◌, ◌≤◌, true, false, cond, eqb, inl, inr, List, [], ◌∷◌, ◌++◌, length, map, get_or, Option, None, Some, IfSome, refl, sym, ap, subst, arith, ltb, length-append, lit<, lit≤}
+use Rattle.std.proofs.Common.{◌≡◌, ℕ, suc, ◌+◌, ◌*◌, ◌/◌, ◌%◌, ◌<◌, ◌≤◌, true, false, cond, eqb, inl, inr, List, []}
+use Rattle.std.proofs.Common.{◌∷◌, ◌++◌, length, map, get_or, Option, None, Some, IfSome, refl, sym, ap, subst, arith}
+use Rattle.std.proofs.Common.{ltb, length-append, lit<, lit≤}
 use Rattle.std.proofs.lemmas.List.{length-map}
 use Rattle.std.proofs.lemmas.Bool.{ltb-true}
 use Rattle.std.specs.List.{AllByRecursion, flat_map}
@@ -37,12 +39,16 @@ index_text n h =
     ]) refl
 
 index_len : (n : ℕ) → length (canon.index n) ≤ 2
-index_len n = elim (ltb n 128) as (λ b. length (cond b (n ∷ []) ((128 + n / 256) ∷ n % 256 ∷ [])) ≤ 2) [ true ↦ lit≤ tt | false ↦ lit≤ tt ]
+index_len n = elim (ltb n 128) as (λ b. length (cond b (n ∷ []) ((128 + n / 256) ∷ n % 256 ∷ [])) ≤ 2) [
+  | true ↦ lit≤ tt
+  | false ↦ lit≤ tt
+]
 
 name_text : (n : List ℕ) → IsName n → Name n (canon.name n)
 name_text n h = (h.0, h.1, refl)
 
-each_text : {A : Type 0} (L : A → List ℕ → Type 0) (f : A → List ℕ) (xs : List A) → AllByRecursion (λ x. L x (f x)) xs → each L xs (flat_map f xs)
+each_text : {A : Type 0} (L : A → List ℕ → Type 0) (f : A → List ℕ) (xs : List A) → AllByRecursion (λ x. L x (f x)) xs
+    → each L xs (flat_map f xs)
 each_text L f [] h = refl
 each_text L f (x ∷ xs) h = joined (f x) (flat_map f xs) h.0 (each_text L f xs h.1)
 
@@ -58,7 +64,14 @@ pub names_fit : (a b : List ℕ) → IsName a → IsName b → FitsFrame (Lnames
 unfolding Body canonical
 names_fit a b h k = record {
   body = each_text Name canon.name (a ∷ b ∷ []) (name_text a h, (name_text b k, tt));
-  short = omega (arith, h.0, k.0, length-append (canon.name a) (flat_map canon.name (b ∷ [])), length-append (canon.name b) []);
+  short =
+      omega (
+        arith,
+        h.0,
+        k.0,
+        length-append (canon.name a) (flat_map canon.name (b ∷ [])),
+        length-append (canon.name b) [],
+      );
 }
 
 pub name_fits : (a : List ℕ) → IsName a → FitsFrame (Lnames (a ∷ []))
@@ -74,38 +87,68 @@ end_fits = record { body = (0, lit< tt, refl, refl); short = lit≤ tt }
 
 -- ---- SEGDEF
 
-segment_by : (s : SegmentDefinition) → One (Acbp s) (canon.acbp s ∷ []) → AbsoluteText s.alignment [] → canon.absolute_text s.alignment ≡ [] →
-    LengthText s.length (canon.word 0) → canon.length_word s.length ≡ 0 → s.name ≤ 32767 → s.class ≤ 32767 → s.overlay ≤ 32767 → FitsFrame (Segdef s)
+segment_by : (s : SegmentDefinition) → One (Acbp s) (canon.acbp s ∷ []) → AbsoluteText s.alignment [] →
+    canon.absolute_text s.alignment ≡ [] →
+    LengthText s.length (canon.word 0) → canon.length_word s.length ≡ 0 → s.name ≤ 32767 → s.class ≤ 32767 →
+    s.overlay ≤ 32767 → FitsFrame (Segdef s)
 unfolding Body canonical
 segment_by s head absolute none len zero name class overlay =
     let tail = canon.index s.name ++ (canon.index s.class ++ canon.index s.overlay) in
     let is : canon.segment s ≡ (canon.acbp s ∷ []) ++ ([] ++ (canon.word 0 ++ tail)) = rw (none, zero) refl in
     let text : SegmentText s ((canon.acbp s ∷ []) ++ ([] ++ (canon.word 0 ++ tail))) =
-    joined _ _ head (joined _ _ absolute (joined _ _ len (joined _ _ (index_text s.name name) (joined _ _ (index_text s.class class) (index_text s.overlay overlay))))) in
+    joined _ _ head
+    (joined _ _ absolute
+    (joined _ _ len
+    (joined _ _ (index_text s.name name) (joined _ _ (index_text s.class class) (index_text s.overlay overlay))))) in
     record {
       body = subst (SegmentText s) (sym is) text;
       short = let l = ap length is in
-          omega (arith, l, length-append (canon.index s.name) (canon.index s.class ++ canon.index s.overlay), length-append (canon.index s.class) (canon.index s.overlay), index_len s.name, index_len s.class, index_len s.overlay);
+          omega (
+            arith,
+            l,
+            length-append (canon.index s.name) (canon.index s.class ++ canon.index s.overlay),
+            length-append (canon.index s.class) (canon.index s.overlay),
+            index_len s.name,
+            index_len s.class,
+            index_len s.overlay,
+          );
     }
 
 -- an alignment of a SEGDEF that isn't absolute
-pub plain : (P : Alignment → Type 0) → P align.Byte → P align.Word → P align.DoubleWord → P align.Paragraph → P align.Page → (bytes : ℕ) → P (alignment_of bytes)
+pub plain : (P : Alignment → Type 0) → P align.Byte → P align.Word → P align.DoubleWord → P align.Paragraph
+    → P align.Page → (bytes : ℕ) → P (alignment_of bytes)
 plain P b w d p g bytes =
-    elim (eqb bytes 1) as (λ t. P (cond t align.Byte (cond (eqb bytes 2) align.Word (cond (eqb bytes 4) align.DoubleWord (cond (eqb bytes 16) align.Paragraph align.Page))))) [
+    elim (eqb bytes 1) as (λ t.
+    P (cond t align.Byte
+    (cond (eqb bytes 2) align.Word
+    (cond (eqb bytes 4) align.DoubleWord (cond (eqb bytes 16) align.Paragraph align.Page))))) [
       | true ↦ b
-      | false ↦ elim (eqb bytes 2) as (λ t. P (cond t align.Word (cond (eqb bytes 4) align.DoubleWord (cond (eqb bytes 16) align.Paragraph align.Page)))) [
-        | true ↦ w
-        | false ↦ elim (eqb bytes 4) as (λ t. P (cond t align.DoubleWord (cond (eqb bytes 16) align.Paragraph align.Page))) [
-          | true ↦ d
-          | false ↦ elim (eqb bytes 16) as (λ t. P (cond t align.Paragraph align.Page)) [ true ↦ p | false ↦ g ]
-        ]
-      ]
+      | false ↦
+          elim (eqb bytes 2) as (λ t.
+          P (cond t align.Word
+          (cond (eqb bytes 4) align.DoubleWord (cond (eqb bytes 16) align.Paragraph align.Page)))) [
+            | true ↦ w
+            | false ↦
+                elim (eqb bytes 4) as (λ t.
+                P (cond t align.DoubleWord (cond (eqb bytes 16) align.Paragraph align.Page))) [
+                  | true ↦ d
+                  | false ↦ elim (eqb bytes 16) as (λ t. P (cond t align.Paragraph align.Page)) [ true ↦ p | false ↦ g ]
+                ]
+          ]
     ]
 
 abbrev with : (name class : ℕ) → Kind → Alignment → SegmentDefinition
-with name class k a = record { alignment = a; combination = combination_of k; length = len.Word 0; name = name; class = class; overlay = 0 }
+with name class k a = record {
+  alignment = a;
+  combination = combination_of k;
+  length = len.Word 0;
+  name = name;
+  class = class;
+  overlay = 0;
+}
 
-by_kind : (name class : ℕ) → name ≤ 32767 → class ≤ 32767 → (k : Kind) → (bytes : ℕ) → FitsFrame (Segdef (with name class k (alignment_of bytes)))
+by_kind : (name class : ℕ) → name ≤ 32767 → class ≤ 32767 → (k : Kind) → (bytes : ℕ)
+    → FitsFrame (Segdef (with name class k (alignment_of bytes)))
 by_kind n c h j kind.Private = plain (λ a. FitsFrame (Segdef (with n c kind.Private a)))
     (segment_by _ (32, lit< tt, (refl, refl, refl, refl), refl) refl refl (lit< tt, refl) refl h j (lit≤ tt))
     (segment_by _ (64, lit< tt, (refl, refl, refl, refl), refl) refl refl (lit< tt, refl) refl h j (lit≤ tt))
@@ -132,17 +175,21 @@ by_kind n c h j kind.Common = plain (λ a. FitsFrame (Segdef (with n c kind.Comm
     (segment_by _ (152, lit< tt, (refl, refl, refl, refl), refl) refl refl (lit< tt, refl) refl h j (lit≤ tt))
 
 pub segment_fits : (place : ℕ) (p : Part) → place < 16383 → FitsFrame (segment_record place p)
-segment_fits place p h = by_kind (2 * place + 2) (2 * place + 3) (omega (arith, h)) (omega (arith, h)) p.kind p.alignment
+segment_fits place p h =
+    by_kind (2 * place + 2) (2 * place + 3) (omega (arith, h)) (omega (arith, h)) p.kind p.alignment
 
 -- ---- GRPDEF and PUBDEF
 
-flat_map_len : {A : Type 0} (f : A → List ℕ) (most : ℕ) (xs : List A) → AllByRecursion (λ x. length (f x) ≤ most) xs → length (flat_map f xs) ≤ length xs * most
+flat_map_len : {A : Type 0} (f : A → List ℕ) (most : ℕ) (xs : List A) → AllByRecursion (λ x. length (f x) ≤ most) xs
+    → length (flat_map f xs) ≤ length xs * most
 flat_map_len f most [] h = omega arith
 flat_map_len f most (x ∷ xs) h = omega (arith, length-append (f x) (flat_map f xs), flat_map_len f most xs h.1, h.0)
 
-components_text : (ns : List ℕ) → AllByRecursion (λ n. n ≤ 16383) ns → AllByRecursion (λ n. ComponentText n (canon.component n)) ns
+components_text : (ns : List ℕ) → AllByRecursion (λ n. n ≤ 16383) ns
+    → AllByRecursion (λ n. ComponentText n (canon.component n)) ns
 components_text [] h = tt
-components_text (n ∷ ns) h = (joined (0xFF ∷ []) (canon.index n) (lit< tt, refl) (index_text n (omega (arith, h.0))), components_text ns h.1)
+components_text (n ∷ ns) h =
+    (joined (0xFF ∷ []) (canon.index n) (lit< tt, refl) (index_text n (omega (arith, h.0))), components_text ns h.1)
 
 components_len : (ns : List ℕ) → AllByRecursion (λ n. length (canon.component n) ≤ 3) ns
 components_len [] = tt
@@ -151,25 +198,43 @@ components_len (n ∷ ns) = (omega (arith, index_len n), components_len ns)
 pub group_fits : (ns : List ℕ) → length ns ≤ 2 → AllByRecursion (λ n. n ≤ 16383) ns → FitsFrame (Grpdef 1 ns)
 unfolding Body canonical
 group_fits ns few small = record {
-  body = joined (canon.index 1) (flat_map canon.component ns) (index_text 1 (lit≤ tt)) (each_text ComponentText canon.component ns (components_text ns small));
-  short = omega (arith, few, length-append (canon.index 1) (flat_map canon.component ns), index_len 1, flat_map_len canon.component 3 ns (components_len ns));
+  body =
+      joined (canon.index 1) (flat_map canon.component ns) (index_text 1 (lit≤ tt))
+      (each_text ComponentText canon.component ns (components_text ns small));
+  short =
+      omega (
+        arith,
+        few,
+        length-append (canon.index 1) (flat_map canon.component ns),
+        index_len 1,
+        flat_map_len canon.component 3 ns (components_len ns),
+      );
 }
 
-publics_text : (ns : List (List ℕ)) → AllByRecursion IsName ns → AllByRecursion (λ p. PublicText p (canon.public p)) (map public_of ns)
+publics_text : (ns : List (List ℕ)) → AllByRecursion IsName ns
+    → AllByRecursion (λ p. PublicText p (canon.public p)) (map public_of ns)
 publics_text [] h = tt
-publics_text (n ∷ ns) h =
-    (joined (canon.name n) (canon.word 0 ++ canon.index 0) (name_text n h.0) (joined (canon.word 0) (canon.index 0) (lit< tt, refl) (index_text 0 (lit≤ tt))), publics_text ns h.1)
+publics_text (n ∷ ns) h = (
+  joined (canon.name n) (canon.word 0 ++ canon.index 0) (name_text n h.0)
+      (joined (canon.word 0) (canon.index 0) (lit< tt, refl) (index_text 0 (lit≤ tt))),
+  publics_text ns h.1,
+)
 
-publics_len : (ns : List (List ℕ)) → AllByRecursion IsName ns → AllByRecursion (λ p. length (canon.public p) ≤ 260) (map public_of ns)
+publics_len : (ns : List (List ℕ)) → AllByRecursion IsName ns
+    → AllByRecursion (λ p. length (canon.public p) ≤ 260) (map public_of ns)
 publics_len [] h = tt
 publics_len (n ∷ ns) h = (omega (arith, h.0.0, length-append n (canon.word 0 ++ canon.index 0)), publics_len ns h.1)
 
-pub publics_fit : (segment : ℕ) (ns : List (List ℕ)) → 0 < segment → segment ≤ 32767 → length ns ≤ 2 → AllByRecursion IsName ns → FitsFrame (Pubdef false (InSegment 1 segment) (map public_of ns))
+pub publics_fit : (segment : ℕ) (ns : List (List ℕ)) → 0 < segment → segment ≤ 32767 → length ns ≤ 2
+    → AllByRecursion IsName ns → FitsFrame (Pubdef false (InSegment 1 segment) (map public_of ns))
 unfolding Body canonical
 publics_fit segment ns positive small few names =
-    let base_text : BaseText (InSegment 1 segment) (canon.index 1 ++ canon.index segment) = joined (canon.index 1) (canon.index segment) (index_text 1 (lit≤ tt)) (positive, index_text segment small) in
+    let base_text : BaseText (InSegment 1 segment) (canon.index 1 ++ canon.index segment) =
+    joined (canon.index 1) (canon.index segment) (index_text 1 (lit≤ tt)) (positive, index_text segment small) in
     record {
-      body = joined (canon.index 1 ++ canon.index segment) (flat_map canon.public (map public_of ns)) base_text (each_text PublicText canon.public (map public_of ns) (publics_text ns names));
+      body =
+          joined (canon.index 1 ++ canon.index segment) (flat_map canon.public (map public_of ns)) base_text
+          (each_text PublicText canon.public (map public_of ns) (publics_text ns names));
       short = omega (
         arith,
         few,
@@ -190,7 +255,8 @@ few_marks None (Some k) = lit≤ tt
 few_marks (Some j) None = lit≤ tt
 few_marks (Some j) (Some k) = lit≤ tt
 
-pub small_marks : (a b : Option ℕ) → IfSome a (λ k. k < 16383) → IfSome b (λ k. k < 16383) → AllByRecursion (λ n. n ≤ 16383) (map segment_index (option_to_list a ++ option_to_list b))
+pub small_marks : (a b : Option ℕ) → IfSome a (λ k. k < 16383) → IfSome b (λ k. k < 16383)
+    → AllByRecursion (λ n. n ≤ 16383) (map segment_index (option_to_list a ++ option_to_list b))
 small_marks None None h l = tt
 small_marks None (Some k) h l = (omega (arith, l), tt)
 small_marks (Some j) None h l = (omega (arith, h), tt)

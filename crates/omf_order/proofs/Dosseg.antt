@@ -8,4 +8,6 @@ below true m n k h j = h
 below false m n k h j = j
 
 pub dosseg_small : (adds : Bool) (p : Part) → dosseg_key adds p < 6
-dosseg_small adds p = below _ 0 _ 6 (lit< tt) (below _ 1 _ 6 (lit< tt) (below _ 2 _ 6 (lit< tt) (below _ 4 _ 6 (lit< tt) (below _ 5 3 6 (lit< tt) (lit< tt)))))
+dosseg_small adds p =
+    below _ 0 _ 6 (lit< tt)
+    (below _ 1 _ 6 (lit< tt) (below _ 2 _ 6 (lit< tt) (below _ 4 _ 6 (lit< tt) (below _ 5 3 6 (lit< tt) (lit< tt)))))

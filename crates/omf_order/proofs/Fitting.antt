@@ -1,5 +1,7 @@
 -- The plan for sound modules fits its records.
-use Rattle.std.proofs.Common.{◌≡◌, ℕ, zero, suc, ◌+◌, ◌<◌, ◌≤◌, Bool, true, false, cond, eqb, ltb, All, List, [], ◌∷◌, ◌++◌, length, take, drop, map, filter, insert, Option, Some, None, IfSome, refl, arith, length-append, length-take, length-drop, lit<, lit≤}
+use Rattle.std.proofs.Common.{◌≡◌, ℕ, zero, suc, ◌+◌, ◌<◌, ◌≤◌, Bool, true, false, cond, eqb, ltb, All, List, [], ◌∷◌}
+use Rattle.std.proofs.Common.{◌++◌, length, take, drop, map, filter, insert, Option, Some, None, IfSome, refl, arith}
+use Rattle.std.proofs.Common.{length-append, length-take, length-drop, lit<, lit≤}
 use Rattle.std.proofs.lemmas.Bool.{ltb-true}
 use Rattle.std.specs.Prelude.{codes, position}
 use Rattle.std.specs.List.{AllByRecursion, enumerate_from, flat_map, position_or_len, range_with_len}
@@ -14,20 +16,27 @@ use Rattle.omf_order.specs.Segments.{placed, placed_in, grouped}
 use Rattle.omf_order.specs.Parts.{Part, first_parts, opens, part_of}
 use Rattle.omf_order.specs.Marks.{bss_end_names, data_end_names, is_wanted, wanted}
 use Rattle.omf_order.specs.Keys.{arranged, dosseg_key, in_order, key_by, selectors}
-use Rattle.omf_order.specs.Plan.{adds_bss, adds_end, behind_bss, bss_end_part, data_end_part, is_of, new_part, plan, with_bss, with_end}
+use Rattle.omf_order.specs.Plan.{adds_bss, adds_end, behind_bss, bss_end_part, data_end_part, is_of, new_part, plan}
+use Rattle.omf_order.specs.Plan.{with_bss, with_end}
 use Rattle.omf_order.specs.inside.Fits.{Fits, IsName, IsShortPart}
 
 -- ---- what holds of each
 
-pub All-append : {X : Type 0} (P : X → Type 0) (xs ys : List X) → AllByRecursion P xs → AllByRecursion P ys → AllByRecursion P (xs ++ ys)
+pub All-append : {X : Type 0} (P : X → Type 0) (xs ys : List X) → AllByRecursion P xs → AllByRecursion P ys
+    → AllByRecursion P (xs ++ ys)
 All-append P [] ys h k = k
 All-append P (x ∷ xs) ys h k = (h.0, All-append P xs ys h.1 k)
 
-pub All-filter : {X : Type 0} (P : X → Type 0) (p : X → Bool) (xs : List X) → AllByRecursion P xs → AllByRecursion P (filter p xs)
+pub All-filter : {X : Type 0} (P : X → Type 0) (p : X → Bool) (xs : List X) → AllByRecursion P xs
+    → AllByRecursion P (filter p xs)
 All-filter P p [] h = tt
-All-filter P p (x ∷ xs) h = elim (p x) as (λ b. AllByRecursion P (cond b (x ∷ filter p xs) (filter p xs))) [ true ↦ (h.0, All-filter P p xs h.1) | false ↦ All-filter P p xs h.1 ]
+All-filter P p (x ∷ xs) h = elim (p x) as (λ b. AllByRecursion P (cond b (x ∷ filter p xs) (filter p xs))) [
+  | true ↦ (h.0, All-filter P p xs h.1)
+  | false ↦ All-filter P p xs h.1
+]
 
-pub All-flat_map : {X Y : Type 0} (P : Y → Type 0) (f : X → List Y) (xs : List X) → ((x : X) → AllByRecursion P (f x)) → AllByRecursion P (flat_map f xs)
+pub All-flat_map : {X Y : Type 0} (P : Y → Type 0) (f : X → List Y) (xs : List X) → ((x : X) → AllByRecursion P (f x))
+    → AllByRecursion P (flat_map f xs)
 All-flat_map P f [] h = tt
 All-flat_map P f (x ∷ xs) h = All-append P (f x) (flat_map f xs) (h x) (All-flat_map P f xs h)
 
@@ -60,40 +69,53 @@ short_segments (s ∷ ss) h = (record { name = h.0.name; class = h.0.class }, sh
 short_placed : (ms : List Module) → AllByRecursion IsSound ms → AllByRecursion IsShort (placed ms)
 short_placed [] h = tt
 short_placed (m ∷ ms) h =
-    All-append IsShort (placed_in m) (placed ms) (All-filter IsShort (λ s. is_relocatable s.standing) m.segments (short_segments m.segments (All-each SegmentFits m.segments h.0.segments))) (short_placed ms h.1)
+    All-append IsShort (placed_in m) (placed ms)
+    (All-filter IsShort (λ s. is_relocatable s.standing) m.segments
+    (short_segments m.segments (All-each SegmentFits m.segments h.0.segments))) (short_placed ms h.1)
 
-short_numbered : (n : ℕ) (ss : List Segment) → AllByRecursion IsShort ss → AllByRecursion (λ (p : ℕ × Segment). IsShort p.1) (enumerate_from n ss)
+short_numbered : (n : ℕ) (ss : List Segment) → AllByRecursion IsShort ss
+    → AllByRecursion (λ (p : ℕ × Segment). IsShort p.1) (enumerate_from n ss)
 short_numbered n [] h = tt
 short_numbered n (s ∷ ss) h = (h.0, short_numbered (n + 1) ss h.1)
 
-short_parts : (g : List Segment) (ps : List (ℕ × Segment)) → AllByRecursion (λ (p : ℕ × Segment). IsShort p.1) ps → AllByRecursion IsShortPart (map (λ (p : ℕ × Segment). part_of g p.1) ps)
+short_parts : (g : List Segment) (ps : List (ℕ × Segment)) → AllByRecursion (λ (p : ℕ × Segment). IsShort p.1) ps
+    → AllByRecursion IsShortPart (map (λ (p : ℕ × Segment). part_of g p.1) ps)
 short_parts g [] h = tt
 short_parts g (p ∷ ps) h = (record { name = h.0.name; class = h.0.class }, short_parts g ps h.1)
 
 short_first : (p g : List Segment) → AllByRecursion IsShort p → AllByRecursion IsShortPart (first_parts p g)
 short_first p g h =
-    short_parts g (filter (opens p) (enumerate_from 0 p)) (All-filter (λ (e : ℕ × Segment). IsShort e.1) (opens p) (enumerate_from 0 p) (short_numbered 0 p h))
+    short_parts g (filter (opens p) (enumerate_from 0 p))
+    (All-filter (λ (e : ℕ × Segment). IsShort e.1) (opens p) (enumerate_from 0 p) (short_numbered 0 p h))
 
-short_arranged : (key : Part → ℕ) (n : ℕ) (ps : List Part) → AllByRecursion IsShortPart ps → AllByRecursion IsShortPart (arranged key n ps)
-short_arranged key n ps h = All-flat_map IsShortPart (λ k. filter (λ p. eqb (key p) k) ps) (range_with_len 0 n) (λ k. All-filter IsShortPart (λ p. eqb (key p) k) ps h)
+short_arranged : (key : Part → ℕ) (n : ℕ) (ps : List Part) → AllByRecursion IsShortPart ps
+    → AllByRecursion IsShortPart (arranged key n ps)
+short_arranged key n ps h =
+    All-flat_map IsShortPart (λ k. filter (λ p. eqb (key p) k) ps) (range_with_len 0 n)
+    (λ k. All-filter IsShortPart (λ p. eqb (key p) k) ps h)
 
-short_in_order : (order : Order) (adds : Bool) (ps : List Part) → AllByRecursion IsShortPart ps → AllByRecursion IsShortPart (in_order order adds ps)
+short_in_order : (order : Order) (adds : Bool) (ps : List Part) → AllByRecursion IsShortPart ps
+    → AllByRecursion IsShortPart (in_order order adds ps)
 short_in_order Meeting adds ps h = h
 short_in_order Dosseg adds ps h = short_arranged (dosseg_key adds) 6 ps h
-short_in_order (Listed items) adds ps h = short_arranged (key_by (selectors items.now)) (length (selectors items.now) + 1) ps h
+short_in_order (Listed items) adds ps h =
+    short_arranged (key_by (selectors items.now)) (length (selectors items.now) + 1) ps h
 
 -- ---- places
 
 position_within : (p : Part → Bool) (ps : List Part) → IfSome (position p ps) (λ k. k < length ps)
 position_within p ps =
-    (elim (ltb (position_or_len p ps) (length ps)) as (λ b. ltb (position_or_len p ps) (length ps) ≡ b → IfSome (cond b (Some (position_or_len p ps)) None) (λ k. k < length ps)) [
+    (elim (ltb (position_or_len p ps) (length ps)) as (λ b.
+    ltb (position_or_len p ps) (length ps) ≡ b
+    → IfSome (cond b (Some (position_or_len p ps)) None) (λ k. k < length ps)) [
       | true ↦ λ e. ltb-true _ _ e
       | false ↦ λ e. tt
     ]) refl
 
 behind_within : (ps : List Part) → behind_bss ps ≤ length ps
 behind_within ps =
-    (elim (position (is_of (codes "BSS")) ps) as (λ o. IfSome o (λ k. k < length ps) → option_map_or (λ place. place + 1) o (length ps) ≤ length ps) [
+    (elim (position (is_of (codes "BSS")) ps) as (λ o.
+    IfSome o (λ k. k < length ps) → option_map_or (λ place. place + 1) o (length ps) ≤ length ps) [
       | None ↦ λ h. omega arith
       | Some k ↦ λ h. omega (arith, h)
     ]) (position_within (is_of (codes "BSS")) ps)
@@ -120,41 +142,58 @@ data_names = (
 )
 
 bss_names : AllByRecursion IsName bss_end_names
-bss_names = ((lit≤ tt, (lit< tt, (lit< tt, (lit< tt, (lit< tt, tt))))), ((lit≤ tt, (lit< tt, (lit< tt, (lit< tt, (lit< tt, (lit< tt, tt)))))), tt))
+bss_names = (
+  (lit≤ tt, (lit< tt, (lit< tt, (lit< tt, (lit< tt, tt))))),
+  ((lit≤ tt, (lit< tt, (lit< tt, (lit< tt, (lit< tt, (lit< tt, tt)))))), tt),
+)
 
 -- ---- the plan
 
-short_with_bss : (first : List Part) (adds : Bool) → AllByRecursion IsShortPart first → AllByRecursion IsShortPart (with_bss first adds)
+short_with_bss : (first : List Part) (adds : Bool) → AllByRecursion IsShortPart first
+    → AllByRecursion IsShortPart (with_bss first adds)
 short_with_bss first true h = All-append IsShortPart first _ h (record { name = lit≤ tt; class = lit≤ tt }, tt)
 short_with_bss first false h = All-append IsShortPart first _ h tt
 
-short_with_end : (os : List Part) (adds : Bool) → AllByRecursion IsShortPart os → AllByRecursion IsShortPart (with_end os adds)
+short_with_end : (os : List Part) (adds : Bool) → AllByRecursion IsShortPart os
+    → AllByRecursion IsShortPart (with_end os adds)
 short_with_end os true all =
     All-append IsShortPart (take (behind_bss os) os) _ (All-take IsShortPart (behind_bss os) os all)
     (record { name = lit≤ tt; class = lit≤ tt }, All-drop IsShortPart (behind_bss os) os all)
 short_with_end os false all = all
 
-pub data_within : (names : List (List ℕ)) (parts : List Part) → IfSome (data_end_part names parts) (λ k. k < length parts)
+pub data_within : (names : List (List ℕ)) (parts : List Part)
+    → IfSome (data_end_part names parts) (λ k. k < length parts)
 data_within [] parts = tt
 data_within (n ∷ ns) parts = position_within _ parts
 
-pub end_within : (names : List (List ℕ)) (adds : Bool) (os : List Part) → IfSome (bss_end_part names adds os (with_end os adds)) (λ k. k < length (with_end os adds))
+pub end_within : (names : List (List ℕ)) (adds : Bool) (os : List Part)
+    → IfSome (bss_end_part names adds os (with_end os adds)) (λ k. k < length (with_end os adds))
 end_within [] adds os = tt
-end_within (n ∷ ns) true os = omega (arith, behind_within os, length-insert os (behind_bss os) (new_part (codes "_END") (codes "_END")) (behind_within os))
+end_within (n ∷ ns) true os =
+    omega (
+      arith,
+      behind_within os,
+      length-insert os (behind_bss os) (new_part (codes "_END") (codes "_END")) (behind_within os),
+    )
 end_within (n ∷ ns) false os = position_within _ os
 
 -- a plan for sound modules of at most 16,383 parts
-pub plan_fits : (order : Order) (names : Names) (program : List Module) → All IsSound program → length (plan order names program).parts ≤ 16383 → Fits (plan order names program)
+pub plan_fits : (order : Order) (names : Names) (program : List Module) → All IsSound program
+    → length (plan order names program).parts ≤ 16383 → Fits (plan order names program)
 plan_fits order names program sound count =
     let first = first_parts (placed program) (grouped program) in
     let data_end = wanted names program data_end_names in
     let bss_end = wanted names program bss_end_names in
     let met = with_bss first (adds_bss first data_end bss_end) in
     let os = in_order order (adds_bss first data_end bss_end) met in
-    let short : AllByRecursion IsShortPart first = short_first (placed program) (grouped program) (short_placed program (All-each IsSound program sound)) in
+    let short : AllByRecursion IsShortPart first =
+    short_first (placed program) (grouped program) (short_placed program (All-each IsSound program sound)) in
     record {
       count = count;
-      parts = short_with_end os (adds_end first bss_end) (short_in_order order (adds_bss first data_end bss_end) met (short_with_bss first (adds_bss first data_end bss_end) short));
+      parts =
+          short_with_end os (adds_end first bss_end)
+          (short_in_order order (adds_bss first data_end bss_end) met
+          (short_with_bss first (adds_bss first data_end bss_end) short));
       data_end = record {
         part = IfSome-below _ _ 16383 count (data_within data_end (with_end os (adds_end first bss_end)));
         names = All-filter IsName (is_wanted names program) data_end_names data_names;

@@ -1,5 +1,6 @@
 -- What a list has, by the place of the first that passes.
-use Rattle.std.proofs.Common.{◌≡◌, suc, ◌+◌, ◌<◌, ◌≤◌, Bool, true, false, cond, not, ◌||◌, ltb, List, [], ◌∷◌, length, refl, arith}
+use Rattle.std.proofs.Common.{◌≡◌, suc, ◌+◌, ◌<◌, ◌≤◌, Bool, true, false, cond, not, ◌||◌, ltb, List, [], ◌∷◌, length}
+use Rattle.std.proofs.Common.{refl, arith}
 use Rattle.std.proofs.lemmas.Bool.{ltb-true, ltb-false}
 use Rattle.std.specs.List.{list_any, position_or_len}
 
@@ -22,7 +23,8 @@ found_not p (x ∷ xs) e =
 
 pub found : {X : Type 0} (p : X → Bool) (xs : List X) → ltb (position_or_len p xs) (length xs) ≡ list_any p xs
 found p xs =
-    (elim (ltb (position_or_len p xs) (length xs)) as (λ t. ltb (position_or_len p xs) (length xs) ≡ t → t ≡ list_any p xs) [
+    (elim (ltb (position_or_len p xs) (length xs)) as (λ t.
+    ltb (position_or_len p xs) (length xs) ≡ t → t ≡ list_any p xs) [
       | true ↦ λ e. (elim (list_any p xs) as (λ u. list_any p xs ≡ u → true ≡ u) [
         | true ↦ λ h. refl
         | false ↦ λ h. absurd (let l = found_not p xs h in let m = ltb-true _ _ e in omega (arith, l, m))

@@ -1,5 +1,7 @@
 -- The bytes of an order module are those of a whole module that no check refuses.
-use Rattle.std.proofs.Common.{◌≡◌, ℕ, zero, suc, ◌+◌, ◌*◌, ◌<◌, ◌≤◌, Bool, true, false, ◌||◌, eqb, ltb, List, [], ◌∷◌, ◌++◌, length, map, Option, Some, None, IfSome, refl, ap, sym, ◌∙◌, subst, arith, add-one, length-append, lit<, lit≤}
+use Rattle.std.proofs.Common.{◌≡◌, ℕ, zero, suc, ◌+◌, ◌*◌, ◌<◌, ◌≤◌, Bool, true, false, ◌||◌, eqb, ltb, List, [], ◌∷◌}
+use Rattle.std.proofs.Common.{◌++◌, length, map, Option, Some, None, IfSome, refl, ap, sym, ◌∙◌, subst, arith, add-one}
+use Rattle.std.proofs.Common.{length-append, lit<, lit≤}
 use Rattle.std.specs.Prelude.{codes}
 use Rattle.std.proofs.lemmas.Bool.{eqb-true, ltb-true}
 use Rattle.std.specs.List.{AllByRecursion}
@@ -7,7 +9,8 @@ use Rattle.std.specs.Option.{option_map, option_to_list}
 use Rattle.omf_frame.specs.Frame.{AreFrames, closing_byte, place_limit}
 use Rattle.omf_frame.proofs.Frames.{framed-frame}
 use Rattle.omf_record.specs.declared.externals.PublicBase.TheVariants.{InSegment}
-use Rattle.omf_record.specs.Record.{Record, Theadr, Coment, Modend, Extdef, Pubdef, Linnum, Lnames, Segdef, Grpdef, Fixupp, Ledata, Lidata}
+use Rattle.omf_record.specs.Record.{Record, Theadr, Coment, Modend, Extdef, Pubdef, Linnum, Lnames, Segdef, Grpdef}
+use Rattle.omf_record.specs.Record.{Fixupp, Ledata, Lidata}
 use Rattle.omf_record.specs.Body.{Body, kind_of}
 use Rattle.omf_record.specs.Canonical.{FitsFrame, canonical}
 use Rattle.omf_record.specs.Records.{AreToEnd, Placed, frame_of_record, is_end}
@@ -16,7 +19,8 @@ use Rattle.omf_module.specs.declared.fault.CheckFault.{CheckFault}
 use Rattle.omf_module.specs.declared.fault.CheckFault.TheVariants.{GroupIndex, GroupOfAbsolute, NameIndex, SegmentIndex}
 use Rattle.omf_module.specs.Before.{along_from, entry, first}
 use Rattle.omf_module.specs.Bytes.{ModuleBytes}
-use Rattle.omf_module.specs.Faults.{begun, component_fault, fault, header_fault, is_absolute, is_beyond, items, when, ◌⊓◌}
+use Rattle.omf_module.specs.Faults.{begun, component_fault, fault, header_fault, is_absolute, is_beyond, items, when}
+use Rattle.omf_module.specs.Faults.{◌⊓◌}
 use Rattle.omf_module.specs.Module.{Segment}
 use Rattle.omf_module.specs.Tables.{groups, groups_in, names, names_in, segments, segments_in, standing_of}
 use Rattle.omf_module.specs.inside.Entries.{segment_of}
@@ -24,17 +28,21 @@ use Rattle.omf_module.proofs.Lists.{along_push, flat_map_push}
 use Rattle.omf_module.proofs.Growing.{begun_push}
 use Rattle.omf_order.specs.Parts.{Part}
 use Rattle.omf_order.specs.Plan.{Plan}
-use Rattle.omf_order.specs.Records.{combination_of, definition, group_records, last_records, mark_records, mark_segments, module_bytes, part_records, public_of, record_bytes, records, records_bytes, segment_index, segment_record}
+use Rattle.omf_order.specs.Records.{combination_of, definition, group_records, last_records, mark_records}
+use Rattle.omf_order.specs.Records.{mark_segments, module_bytes, part_records, public_of, record_bytes, records}
+use Rattle.omf_order.specs.Records.{records_bytes, segment_index, segment_record}
 use Rattle.omf_order.specs.Segments.{dgroup}
 use Rattle.omf_order.specs.inside.Fits.{Fits, IsName, IsNamedPart}
-use Rattle.omf_order.proofs.Bodies.{end_fits, few_marks, group_fits, header_fits, name_fits, names_fit, plain, publics_fit, segment_fits, small_marks}
+use Rattle.omf_order.proofs.Bodies.{end_fits, few_marks, group_fits, header_fits, name_fits, names_fit, plain}
+use Rattle.omf_order.proofs.Bodies.{publics_fit, segment_fits, small_marks}
 
 -- ---- records one after the other
 
 -- records as they stand from a place on
 abbrev pub place_all : (at : ℕ) → List Record → List Placed
 place_all at [] = []
-place_all at (r ∷ rs) = record { place = at; body = canonical r; says = r } ∷ place_all (at + length (record_bytes r)) rs
+place_all at (r ∷ rs) =
+    record { place = at; body = canonical r; says = r } ∷ place_all (at + length (record_bytes r)) rs
 
 kind_small : (r : Record) → kind_of r < 256
 kind_small (Theadr name) = lit< tt
@@ -55,10 +63,12 @@ kind_small (Lidata segment offset blocks) = lit< tt
 length-record : (r : Record) → length (record_bytes r) ≡ length (canonical r) + 4
 length-record r = omega (arith, length-append (canonical r) (closing_byte (kind_of r) (canonical r) ∷ []))
 
-are_frames : (at : ℕ) (rs : List Record) → AllByRecursion FitsFrame rs → at + length (records_bytes rs) < place_limit → AreFrames at (map frame_of_record (place_all at rs)) (records_bytes rs)
+are_frames : (at : ℕ) (rs : List Record) → AllByRecursion FitsFrame rs → at + length (records_bytes rs) < place_limit
+    → AreFrames at (map frame_of_record (place_all at rs)) (records_bytes rs)
 are_frames at [] fits h = refl
 are_frames at (r ∷ rs) fits h =
-    let sum : length (records_bytes (r ∷ rs)) ≡ length (record_bytes r) + length (records_bytes rs) = length-append (record_bytes r) (records_bytes rs) in (
+    let sum : length (records_bytes (r ∷ rs)) ≡ length (record_bytes r) + length (records_bytes rs) =
+    length-append (record_bytes r) (records_bytes rs) in (
       record_bytes r,
       records_bytes rs,
       refl,
@@ -68,15 +78,19 @@ are_frames at (r ∷ rs) fits h =
       are_frames (at + length (record_bytes r)) rs fits.1 (omega (arith, h, sum)),
     )
 
-are_bodies : (at : ℕ) (rs : List Record) → AllByRecursion FitsFrame rs → AllByRecursion (λ (r : Placed). Body r.says r.body) (place_all at rs)
+are_bodies : (at : ℕ) (rs : List Record) → AllByRecursion FitsFrame rs
+    → AllByRecursion (λ (r : Placed). Body r.says r.body) (place_all at rs)
 are_bodies at [] fits = tt
 are_bodies at (r ∷ rs) fits = (fits.0.body, are_bodies (at + length (record_bytes r)) rs fits.1)
 
 -- ---- the end
 
-ended : (fs : List Record) → AllByRecursion (λ r. is_end r ≡ false) fs → (rs : List Record) → ((at : ℕ) → AreToEnd (place_all at rs)) → (at : ℕ) → AreToEnd (place_all at (fs ++ rs))
+ended : (fs : List Record) → AllByRecursion (λ r. is_end r ≡ false) fs → (rs : List Record)
+    → ((at : ℕ) → AreToEnd (place_all at rs)) → (at : ℕ) → AreToEnd (place_all at (fs ++ rs))
 ended [] none rs whole at = whole at
-ended (f ∷ fs) none rs whole at = behind (place_all (at + length (record_bytes f)) (fs ++ rs)) (ended fs none.1 rs whole (at + length (record_bytes f)))
+ended (f ∷ fs) none rs whole at =
+    behind (place_all (at + length (record_bytes f)) (fs ++ rs))
+    (ended fs none.1 rs whole (at + length (record_bytes f)))
   where
     behind : (ps : List Placed) → AreToEnd ps → AreToEnd (record { place = at; body = canonical f; says = f } ∷ ps)
     behind [] h = absurd h
@@ -96,40 +110,53 @@ open_mark ns (Some place) = (refl, tt)
 
 to_end : (p : Plan) → AreToEnd (place_all 0 (records p))
 to_end p =
-    ended (Theadr (codes "doslink") ∷ Lnames (dgroup ∷ []) ∷ []) (refl, (refl, tt)) (part_records 0 p.parts ++ last_records p)
+    ended (Theadr (codes "doslink") ∷ Lnames (dgroup ∷ []) ∷ []) (refl, (refl, tt))
+    (part_records 0 p.parts ++ last_records p)
     (ended (part_records 0 p.parts) (open_parts 0 p.parts) (last_records p)
     (ended (group_records (mark_segments p)) (open_group (mark_segments p)) _
     (ended (mark_records p.data_end.names p.data_end.part) (open_mark p.data_end.names p.data_end.part) _
-    (ended (mark_records p.bss_end.names p.bss_end.part) (open_mark p.bss_end.names p.bss_end.part) (Modend false None ∷ []) (λ at. refl))))) 0
+    (ended (mark_records p.bss_end.names p.bss_end.part) (open_mark p.bss_end.names p.bss_end.part)
+    (Modend false None ∷ []) (λ at. refl))))) 0
 
 -- ---- each fits its frame
 
-All-append : {X : Type 0} (P : X → Type 0) (xs ys : List X) → AllByRecursion P xs → AllByRecursion P ys → AllByRecursion P (xs ++ ys)
+All-append : {X : Type 0} (P : X → Type 0) (xs ys : List X) → AllByRecursion P xs → AllByRecursion P ys
+    → AllByRecursion P (xs ++ ys)
 All-append P [] ys h k = k
 All-append P (x ∷ xs) ys h k = (h.0, All-append P xs ys h.1 k)
 
-fit_parts : (place : ℕ) (ps : List Part) → place + length ps ≤ 16383 → AllByRecursion IsNamedPart ps → AllByRecursion FitsFrame (part_records place ps)
+fit_parts : (place : ℕ) (ps : List Part) → place + length ps ≤ 16383 → AllByRecursion IsNamedPart ps
+    → AllByRecursion FitsFrame (part_records place ps)
 fit_parts place [] h ns = tt
-fit_parts place (p ∷ ps) h ns = (names_fit p.name p.class ns.0.name ns.0.class, (segment_fits place p (omega (arith, h)), fit_parts (place + 1) ps (omega (arith, h)) ns.1))
+fit_parts place (p ∷ ps) h ns = (
+  names_fit p.name p.class ns.0.name ns.0.class,
+  (segment_fits place p (omega (arith, h)), fit_parts (place + 1) ps (omega (arith, h)) ns.1),
+)
 
-fit_mark : (names : List (List ℕ)) (o : Option ℕ) → IfSome o (λ k. k < 16383) → length names ≤ 2 → AllByRecursion IsName names → AllByRecursion FitsFrame (mark_records names o)
+fit_mark : (names : List (List ℕ)) (o : Option ℕ) → IfSome o (λ k. k < 16383) → length names ≤ 2
+    → AllByRecursion IsName names → AllByRecursion FitsFrame (mark_records names o)
 fit_mark names None h few ns = tt
 fit_mark names (Some place) h few ns = (publics_fit (place + 1) names (omega arith) (omega (arith, h)) few ns, tt)
 
-fit_group : (ns : List ℕ) → length ns ≤ 2 → AllByRecursion (λ n. n ≤ 16383) ns → AllByRecursion FitsFrame (group_records ns)
+fit_group : (ns : List ℕ) → length ns ≤ 2 → AllByRecursion (λ n. n ≤ 16383) ns
+    → AllByRecursion FitsFrame (group_records ns)
 fit_group [] few small = tt
 fit_group (n ∷ ns) few small = (group_fits (n ∷ ns) few small, tt)
 
 fit_all : (p : Plan) → Fits p → AllByRecursion IsNamedPart p.parts → AllByRecursion FitsFrame (records p)
 fit_all p f named = (
-  header_fits (codes "doslink") (lit≤ tt, (lit< tt, (lit< tt, (lit< tt, (lit< tt, (lit< tt, (lit< tt, (lit< tt, tt)))))))),
+  header_fits (codes "doslink")
+      (lit≤ tt, (lit< tt, (lit< tt, (lit< tt, (lit< tt, (lit< tt, (lit< tt, (lit< tt, tt)))))))),
   (
     name_fits dgroup (lit≤ tt, (lit< tt, (lit< tt, (lit< tt, (lit< tt, (lit< tt, (lit< tt, tt))))))),
     All-append FitsFrame (part_records 0 p.parts) (last_records p) (fit_parts 0 p.parts (omega (arith, f.count)) named)
         (All-append FitsFrame (group_records (mark_segments p)) _
-        (fit_group (mark_segments p) (few_marks p.data_end.part p.bss_end.part) (small_marks p.data_end.part p.bss_end.part f.data_end.part f.bss_end.part))
-        (All-append FitsFrame (mark_records p.data_end.names p.data_end.part) _ (fit_mark p.data_end.names p.data_end.part f.data_end.part f.data_end.few f.data_end.names)
-        (All-append FitsFrame (mark_records p.bss_end.names p.bss_end.part) _ (fit_mark p.bss_end.names p.bss_end.part f.bss_end.part f.bss_end.few f.bss_end.names)
+        (fit_group (mark_segments p) (few_marks p.data_end.part p.bss_end.part)
+        (small_marks p.data_end.part p.bss_end.part f.data_end.part f.bss_end.part))
+        (All-append FitsFrame (mark_records p.data_end.names p.data_end.part) _
+        (fit_mark p.data_end.names p.data_end.part f.data_end.part f.data_end.few f.data_end.names)
+        (All-append FitsFrame (mark_records p.bss_end.names p.bss_end.part) _
+        (fit_mark p.bss_end.names p.bss_end.part f.bss_end.part f.bss_end.few f.bss_end.names)
         (end_fits, tt)))),
   ),
 )
@@ -138,7 +165,14 @@ fit_all p f named = (
 
 length-bytes : (rs : List Record) → AllByRecursion FitsFrame rs → length (records_bytes rs) ≤ length rs * 65538
 length-bytes [] fits = lit≤ tt
-length-bytes (r ∷ rs) fits = omega (arith, length-append (record_bytes r) (records_bytes rs), length-record r, fits.0.short, length-bytes rs fits.1)
+length-bytes (r ∷ rs) fits =
+    omega (
+      arith,
+      length-append (record_bytes r) (records_bytes rs),
+      length-record r,
+      fits.0.short,
+      length-bytes rs fits.1,
+    )
 
 count_parts : (place : ℕ) (ps : List Part) → length (part_records place ps) ≡ 2 * length ps
 count_parts place [] = refl
@@ -162,8 +196,11 @@ count_all p h =
       count_mark p.data_end.names p.data_end.part,
       count_mark p.bss_end.names p.bss_end.part,
       length-append (part_records 0 p.parts) (last_records p),
-      length-append (group_records (mark_segments p)) (mark_records p.data_end.names p.data_end.part ++ (mark_records p.bss_end.names p.bss_end.part ++ Modend false None ∷ [])),
-      length-append (mark_records p.data_end.names p.data_end.part) (mark_records p.bss_end.names p.bss_end.part ++ Modend false None ∷ []),
+      length-append (group_records (mark_segments p))
+          (mark_records p.data_end.names p.data_end.part
+          ++ (mark_records p.bss_end.names p.bss_end.part ++ Modend false None ∷ [])),
+      length-append (mark_records p.data_end.names p.data_end.part)
+          (mark_records p.bss_end.names p.bss_end.part ++ Modend false None ∷ []),
       length-append (mark_records p.bss_end.names p.bss_end.part) (Modend false None ∷ []),
     )
 
@@ -181,7 +218,9 @@ found_at front r = option_map (λ check. (r.place, check)) (fault front r.says) 
 clean_first : (before rs : List Placed) → Clean before rs → first (along_from before found_at rs) ≡ None
 clean_first before [] h = refl
 clean_first before (r ∷ rs) h =
-    ap (λ (o : Option CheckFault). first {A = ℕ × CheckFault} (option_map (λ check. (r.place, check)) o ∷ along_from (before ++ r ∷ []) found_at rs)) h.0
+    ap (λ (o : Option CheckFault).
+    first {A = ℕ × CheckFault} (option_map (λ check. (r.place, check)) o ∷ along_from (before ++ r ∷ []) found_at rs))
+    h.0
     ∙ clean_first (before ++ r ∷ []) rs h.1
 
 -- what records say so far: how many names, segments and groups, and no segment is absolute
@@ -195,23 +234,34 @@ record Ready (n s g : ℕ) (before : List Placed) : Type 0 where
 names-push : (before : List Placed) (x : Placed) → names (before ++ x ∷ []) ≡ names before ++ names_in x.says
 names-push before x = flat_map_push (λ (placed : Placed). names_in placed.says) before x
 
-segments-push : (before : List Placed) (x : Placed) → segments (before ++ x ∷ []) ≡ segments before ++ segments_in (names before) x.says
+segments-push : (before : List Placed) (x : Placed)
+    → segments (before ++ x ∷ []) ≡ segments before ++ segments_in (names before) x.says
 segments-push before x = along_push (λ front (placed : Placed). segments_in (names front) placed.says) before x
 
-groups-push : (before : List Placed) (x : Placed) → groups (before ++ x ∷ []) ≡ groups before ++ groups_in (names before) x.says
+groups-push : (before : List Placed) (x : Placed)
+    → groups (before ++ x ∷ []) ≡ groups before ++ groups_in (names before) x.says
 groups-push before x = along_push (λ front (placed : Placed). groups_in (names front) placed.says) before x
 
 -- one record more, by how many names, segments and groups it has
 ready-more : (n s g : ℕ) (before : List Placed) (x : Placed) → Ready n s g before →
     AllByRecursion (λ (y : Segment). is_absolute y.standing ≡ false) (segments_in (names before) x.says) →
-    Ready (n + length (names_in x.says)) (s + length (segments_in (names before) x.says)) (g + length (groups_in (names before) x.says)) (before ++ x ∷ [])
+    Ready (n + length (names_in x.says)) (s + length (segments_in (names before) x.says))
+    (g + length (groups_in (names before) x.says)) (before ++ x ∷ [])
 ready-more n s g before x r all = record {
   is_begun = begun_push before x;
-  name_count = ap length (names-push before x) ∙ length-append (names before) (names_in x.says) ∙ ap (λ k. k + length (names_in x.says)) r.name_count;
-  segment_count = ap length (segments-push before x) ∙ length-append (segments before) (segments_in (names before) x.says) ∙ ap (λ k. k + length (segments_in (names before) x.says)) r.segment_count;
-  group_count = ap length (groups-push before x) ∙ length-append (groups before) (groups_in (names before) x.says) ∙ ap (λ k. k + length (groups_in (names before) x.says)) r.group_count;
-  relocatable = subst (λ ss. AllByRecursion (λ (y : Segment). is_absolute y.standing ≡ false) ss) (sym (segments-push before x))
-      (All-append (λ (y : Segment). is_absolute y.standing ≡ false) (segments before) (segments_in (names before) x.says) r.relocatable all);
+  name_count =
+      ap length (names-push before x) ∙ length-append (names before) (names_in x.says)
+      ∙ ap (λ k. k + length (names_in x.says)) r.name_count;
+  segment_count =
+      ap length (segments-push before x) ∙ length-append (segments before) (segments_in (names before) x.says)
+      ∙ ap (λ k. k + length (segments_in (names before) x.says)) r.segment_count;
+  group_count =
+      ap length (groups-push before x) ∙ length-append (groups before) (groups_in (names before) x.says)
+      ∙ ap (λ k. k + length (groups_in (names before) x.says)) r.group_count;
+  relocatable =
+      subst (λ ss. AllByRecursion (λ (y : Segment). is_absolute y.standing ≡ false) ss) (sym (segments-push before x))
+      (All-append (λ (y : Segment). is_absolute y.standing ≡ false) (segments before)
+      (segments_in (names before) x.says) r.relocatable all);
 }
 
 ready-as : (n s g m t h : ℕ) (before : List Placed) → n ≡ m → s ≡ t → g ≡ h → Ready n s g before → Ready m t h before
@@ -223,79 +273,106 @@ ready-as n s g m t h before e f k r = record {
   relocatable = r.relocatable;
 }
 
-clean_by : (before : List Placed) (r : Record) → begun before ≡ true → first (items before r) ≡ None → fault before r ≡ None
+clean_by : (before : List Placed) (r : Record) → begun before ≡ true → first (items before r) ≡ None
+    → fault before r ≡ None
 clean_by before r b h = ap (λ t. first (header_fault t r ∷ items before r)) b ∙ h
 
 not_below : (a b : ℕ) → b ≤ a → ltb a b ≡ false
-not_below a b h = (elim (ltb a b) as (λ t. ltb a b ≡ t → t ≡ false) [ true ↦ λ e. absurd (let l = ltb-true _ _ e in omega (arith, l, h)) | false ↦ λ e. refl ]) refl
+not_below a b h = (elim (ltb a b) as (λ t. ltb a b ≡ t → t ≡ false) [
+  | true ↦ λ e. absurd (let l = ltb-true _ _ e in omega (arith, l, h))
+  | false ↦ λ e. refl
+]) refl
 
 not_zero : (a : ℕ) → eqb (a + 1) 0 ≡ false
-not_zero a = (elim (eqb (a + 1) 0) as (λ t. eqb (a + 1) 0 ≡ t → t ≡ false) [ true ↦ λ e. absurd (let l = eqb-true _ _ e in omega (arith, l)) | false ↦ λ e. refl ]) refl
+not_zero a = (elim (eqb (a + 1) 0) as (λ t. eqb (a + 1) 0 ≡ t → t ≡ false) [
+  | true ↦ λ e. absurd (let l = eqb-true _ _ e in omega (arith, l))
+  | false ↦ λ e. refl
+]) refl
 
 both_false : (a b : Bool) → a ≡ false → b ≡ false → (a || b) ≡ false
 both_false a b e f = ap (λ t. t || b) e ∙ f
 
 -- ---- the records of the parts
 
-definition_ok : (n s g place : ℕ) (p : Part) (before : List Placed) → Ready n s g before → 2 * place + 3 ≤ n → fault before (segment_record place p) ≡ None
+definition_ok : (n s g place : ℕ) (p : Part) (before : List Placed) → Ready n s g before → 2 * place + 3 ≤ n
+    → fault before (segment_record place p) ≡ None
 definition_ok n s g place p before r h =
     clean_by before (segment_record place p) r.is_begun
     (ap (λ t. first (when t NameIndex ∷ []))
-    (both_false _ _ (not_below (length (names before)) (2 * place + 2) (omega (arith, r.name_count, h))) (not_below (length (names before)) (2 * place + 3) (omega (arith, r.name_count, h)))))
+    (both_false _ _ (not_below (length (names before)) (2 * place + 2) (omega (arith, r.name_count, h)))
+    (not_below (length (names before)) (2 * place + 3) (omega (arith, r.name_count, h)))))
 
-relocatable_part : (ns : List (List ℕ)) (place : ℕ) (p : Part) → is_absolute (segment_of ns (definition place p)).standing ≡ false
-relocatable_part ns place p = plain (λ a. is_absolute (standing_of a (combination_of p.kind)) ≡ false) refl refl refl refl refl p.alignment
+relocatable_part : (ns : List (List ℕ)) (place : ℕ) (p : Part)
+    → is_absolute (segment_of ns (definition place p)).standing ≡ false
+relocatable_part ns place p =
+    plain (λ a. is_absolute (standing_of a (combination_of p.kind)) ≡ false) refl refl refl refl refl p.alignment
 
 clean_parts : (place total : ℕ) (ps : List Part) (rest : List Record) → total ≡ place + length ps →
     ((before : List Placed) (at : ℕ) → Ready (1 + 2 * total) total 0 before → Clean before (place_all at rest)) →
-    (before : List Placed) (at : ℕ) → Ready (1 + 2 * place) place 0 before → Clean before (place_all at (part_records place ps ++ rest))
-clean_parts place total [] rest e k before at r = k before at (ready-as (1 + 2 * place) place 0 _ _ 0 before (omega (arith, e)) (omega (arith, e)) refl r)
+    (before : List Placed) (at : ℕ) → Ready (1 + 2 * place) place 0 before →
+    Clean before (place_all at (part_records place ps ++ rest))
+clean_parts place total [] rest e k before at r =
+    k before at (ready-as (1 + 2 * place) place 0 _ _ 0 before (omega (arith, e)) (omega (arith, e)) refl r)
 clean_parts place total (p ∷ ps) rest e k before at r =
-    let named : Placed = record { place = at; body = canonical (Lnames (p.name ∷ p.class ∷ [])); says = Lnames (p.name ∷ p.class ∷ []) } in
+    let named : Placed =
+    record { place = at; body = canonical (Lnames (p.name ∷ p.class ∷ [])); says = Lnames (p.name ∷ p.class ∷ []) } in
     let next = at + length (record_bytes (Lnames (p.name ∷ p.class ∷ []))) in
-    let r2 : Ready (1 + 2 * place + 2) (place + 0) (0 + 0) (before ++ named ∷ []) = ready-more (1 + 2 * place) place 0 before named r tt in
-    let defined : Placed = record { place = next; body = canonical (segment_record place p); says = segment_record place p } in
+    let r2 : Ready (1 + 2 * place + 2) (place + 0) (0 + 0) (before ++ named ∷ []) =
+    ready-more (1 + 2 * place) place 0 before named r tt in
+    let defined : Placed =
+    record { place = next; body = canonical (segment_record place p); says = segment_record place p } in
     let r3 : Ready (1 + 2 * place + 2 + 0) (place + 0 + 1) (0 + 0 + 0) ((before ++ named ∷ []) ++ defined ∷ []) =
-    ready-more (1 + 2 * place + 2) (place + 0) (0 + 0) (before ++ named ∷ []) defined r2 (relocatable_part (names (before ++ named ∷ [])) place p, tt) in (
+    ready-more (1 + 2 * place + 2) (place + 0) (0 + 0) (before ++ named ∷ []) defined r2
+    (relocatable_part (names (before ++ named ∷ [])) place p, tt) in (
       clean_by before (Lnames (p.name ∷ p.class ∷ [])) r.is_begun refl,
       (
         definition_ok (1 + 2 * place + 2) (place + 0) (0 + 0) place p (before ++ named ∷ []) r2 (omega arith),
-        clean_parts (place + 1) total ps rest (omega (arith, e)) k _ _ (ready-as _ _ _ (1 + 2 * (place + 1)) (place + 1) 0 _ (omega arith) (omega arith) refl r3),
+        clean_parts (place + 1) total ps rest (omega (arith, e)) k _ _
+            (ready-as _ _ _ (1 + 2 * (place + 1)) (place + 1) 0 _ (omega arith) (omega arith) refl r3),
       ),
     )
 
 -- ---- what stands behind them
 
-component_ok : (ss : List Segment) (k : ℕ) → AllByRecursion (λ (x : Segment). is_absolute x.standing ≡ false) ss → k < length ss → component_fault (entry ss (suc k)) ≡ None
+component_ok : (ss : List Segment) (k : ℕ) → AllByRecursion (λ (x : Segment). is_absolute x.standing ≡ false) ss
+    → k < length ss → component_fault (entry ss (suc k)) ≡ None
 component_ok [] k all h = absurd (omega (arith, h))
 component_ok (s ∷ ss) zero all h = ap (λ t. when t GroupOfAbsolute) all.0
 component_ok (s ∷ ss) (suc k) all h = component_ok ss k all.1 (omega (arith, h))
 
-component_at : (ss : List Segment) (k : ℕ) → AllByRecursion (λ (x : Segment). is_absolute x.standing ≡ false) ss → k < length ss → component_fault (entry ss (segment_index k)) ≡ None
+component_at : (ss : List Segment) (k : ℕ) → AllByRecursion (λ (x : Segment). is_absolute x.standing ≡ false) ss
+    → k < length ss → component_fault (entry ss (segment_index k)) ≡ None
 component_at ss k all h = ap (λ n. component_fault (entry ss n)) (add-one k) ∙ component_ok ss k all h
 
 nones : (os : List (Option CheckFault)) → AllByRecursion (λ o. o ≡ None) os → first os ≡ None
 nones [] h = refl
 nones (o ∷ os) h = ap (λ x. first (x ∷ os)) h.0 ∙ nones os h.1
 
-components_ok : (ss : List Segment) (ks : List ℕ) → AllByRecursion (λ (x : Segment). is_absolute x.standing ≡ false) ss → AllByRecursion (λ k. k < length ss) ks →
+components_ok : (ss : List Segment) (ks : List ℕ) →
+    AllByRecursion (λ (x : Segment). is_absolute x.standing ≡ false) ss → AllByRecursion (λ k. k < length ss) ks →
     AllByRecursion (λ o. o ≡ None) (map (λ index. component_fault (entry ss index)) (map segment_index ks))
 components_ok ss [] all h = tt
 components_ok ss (k ∷ ks) all h = (component_at ss k all h.0, components_ok ss ks all h.1)
 
-group_ok : (n s : ℕ) (before : List Placed) (ks : List ℕ) → Ready n s 0 before → 1 ≤ n → AllByRecursion (λ k. k < s) ks → fault before (Grpdef 1 (map segment_index ks)) ≡ None
+group_ok : (n s : ℕ) (before : List Placed) (ks : List ℕ) → Ready n s 0 before → 1 ≤ n → AllByRecursion (λ k. k < s) ks
+    → fault before (Grpdef 1 (map segment_index ks)) ≡ None
 group_ok n s before ks r h small =
     clean_by before (Grpdef 1 (map segment_index ks)) r.is_begun
-    (nones (when (ltb (length (names before)) 1) NameIndex ∷ map (λ index. component_fault (entry (segments before) index)) (map segment_index ks)) (
+    (nones
+    (when (ltb (length (names before)) 1) NameIndex
+    ∷ map (λ index. component_fault (entry (segments before) index)) (map segment_index ks)) (
       ap (λ t. when t NameIndex) (not_below (length (names before)) 1 (omega (arith, r.name_count, h))),
-      components_ok (segments before) ks r.relocatable (subst (λ m. AllByRecursion (λ k. k < m) ks) (sym r.segment_count) small),
+      components_ok (segments before) ks r.relocatable
+          (subst (λ m. AllByRecursion (λ k. k < m) ks) (sym r.segment_count) small),
     ))
 
-mark_ok : (n s : ℕ) (before : List Placed) (names' : List (List ℕ)) (place : ℕ) → Ready n s 1 before → place < s → fault before (Pubdef false (InSegment 1 (segment_index place)) (map public_of names')) ≡ None
+mark_ok : (n s : ℕ) (before : List Placed) (names' : List (List ℕ)) (place : ℕ) → Ready n s 1 before → place < s
+    → fault before (Pubdef false (InSegment 1 (segment_index place)) (map public_of names')) ≡ None
 mark_ok n s before names' place r h =
     clean_by before (Pubdef false (InSegment 1 (segment_index place)) (map public_of names')) r.is_begun
     (ap (λ t. first ((when t SegmentIndex ⊓ when (is_beyond (groups before) 1) GroupIndex) ∷ []))
-    (both_false _ _ (not_zero place) (not_below (length (segments before)) (place + 1) (omega (arith, r.segment_count, h))))
+    (both_false _ _ (not_zero place)
+    (not_below (length (segments before)) (place + 1) (omega (arith, r.segment_count, h))))
     ∙ ap (λ t. first (when t GroupIndex ∷ [])) (not_below (length (groups before)) 1 (omega (arith, r.group_count))))
 
 clean_end : (before : List Placed) (at : ℕ) → begun before ≡ true → Clean before (place_all at (Modend false None ∷ []))
@@ -308,43 +385,67 @@ clean_mark n s names' None rest h k before at r = k before at r
 clean_mark n s names' (Some place) rest h k before at r = (
   mark_ok n s before names' place r h,
   k _ _ (ready-as (n + 0) (s + 0) (1 + 0) n s 1 _ (omega arith) (omega arith) refl
-      (ready-more n s 1 before (record { place = at; body = canonical (Pubdef false (InSegment 1 (segment_index place)) (map public_of names')); says = Pubdef false (InSegment 1 (segment_index place)) (map public_of names') }) r tt)),
+      (ready-more n s 1 before (record {
+        place = at;
+        body = canonical (Pubdef false (InSegment 1 (segment_index place)) (map public_of names'));
+        says = Pubdef false (InSegment 1 (segment_index place)) (map public_of names');
+      }) r tt)),
 )
 
 with_group : (n s : ℕ) (ks : List ℕ) (rest : List Record) → 1 ≤ n → AllByRecursion (λ k. k < s) ks →
     ((before : List Placed) (at : ℕ) → Ready n s 1 before → Clean before (place_all at rest)) →
-    (before : List Placed) (at : ℕ) → Ready n s 0 before → Clean before (place_all at (Grpdef 1 (map segment_index ks) ∷ rest))
+    (before : List Placed) (at : ℕ) → Ready n s 0 before →
+    Clean before (place_all at (Grpdef 1 (map segment_index ks) ∷ rest))
 with_group n s ks rest h small k before at r = (
   group_ok n s before ks r h small,
   k _ _ (ready-as (n + 0) (s + 0) (0 + 1) n s 1 _ (omega arith) (omega arith) refl
-      (ready-more n s 0 before (record { place = at; body = canonical (Grpdef 1 (map segment_index ks)); says = Grpdef 1 (map segment_index ks) }) r tt)),
+      (ready-more n s 0 before (record {
+        place = at;
+        body = canonical (Grpdef 1 (map segment_index ks));
+        says = Grpdef 1 (map segment_index ks);
+      }) r tt)),
 )
 
-clean_last : (n s : ℕ) (ns ms : List (List ℕ)) (a b : Option ℕ) → 1 ≤ n → IfSome a (λ k. k < s) → IfSome b (λ k. k < s) → (before : List Placed) (at : ℕ) → Ready n s 0 before →
-    Clean before (place_all at (group_records (map segment_index (option_to_list a ++ option_to_list b)) ++ (mark_records ns a ++ (mark_records ms b ++ Modend false None ∷ []))))
+clean_last : (n s : ℕ) (ns ms : List (List ℕ)) (a b : Option ℕ) → 1 ≤ n → IfSome a (λ k. k < s) →
+    IfSome b (λ k. k < s) → (before : List Placed) (at : ℕ) → Ready n s 0 before →
+    Clean before
+    (place_all at
+    (group_records (map segment_index (option_to_list a ++ option_to_list b))
+    ++ (mark_records ns a ++ (mark_records ms b ++ Modend false None ∷ []))))
 clean_last n s ns ms None None h ha hb before at r = clean_end before at r.is_begun
 clean_last n s ns ms (Some j) None h ha hb before at r =
-    with_group n s (j ∷ []) (mark_records ns (Some j) ++ Modend false None ∷ []) h (ha, tt) (clean_mark n s ns (Some j) (Modend false None ∷ []) ha (λ front place ready. clean_end front place ready.is_begun)) before at r
+    with_group n s (j ∷ []) (mark_records ns (Some j) ++ Modend false None ∷ []) h (ha, tt)
+    (clean_mark n s ns (Some j) (Modend false None ∷ []) ha (λ front place ready. clean_end front place ready.is_begun))
+    before at r
 clean_last n s ns ms None (Some k) h ha hb before at r =
-    with_group n s (k ∷ []) (mark_records ms (Some k) ++ Modend false None ∷ []) h (hb, tt) (clean_mark n s ms (Some k) (Modend false None ∷ []) hb (λ front place ready. clean_end front place ready.is_begun)) before at r
+    with_group n s (k ∷ []) (mark_records ms (Some k) ++ Modend false None ∷ []) h (hb, tt)
+    (clean_mark n s ms (Some k) (Modend false None ∷ []) hb (λ front place ready. clean_end front place ready.is_begun))
+    before at r
 clean_last n s ns ms (Some j) (Some k) h ha hb before at r =
-    with_group n s (j ∷ k ∷ []) (mark_records ns (Some j) ++ (mark_records ms (Some k) ++ Modend false None ∷ [])) h (ha, (hb, tt))
-    (clean_mark n s ns (Some j) (mark_records ms (Some k) ++ Modend false None ∷ []) ha (clean_mark n s ms (Some k) (Modend false None ∷ []) hb (λ front place ready. clean_end front place ready.is_begun))) before at r
+    with_group n s (j ∷ k ∷ []) (mark_records ns (Some j) ++ (mark_records ms (Some k) ++ Modend false None ∷ [])) h
+    (ha, (hb, tt))
+    (clean_mark n s ns (Some j) (mark_records ms (Some k) ++ Modend false None ∷ []) ha
+    (clean_mark n s ms (Some k) (Modend false None ∷ []) hb
+    (λ front place ready. clean_end front place ready.is_begun))) before at r
 
-clean_all : (p : Plan) → IfSome p.data_end.part (λ k. k < length p.parts) → IfSome p.bss_end.part (λ k. k < length p.parts) → Clean [] (place_all 0 (records p))
+clean_all : (p : Plan) → IfSome p.data_end.part (λ k. k < length p.parts)
+    → IfSome p.bss_end.part (λ k. k < length p.parts) → Clean [] (place_all 0 (records p))
 clean_all p ha hb = (
   refl,
   (
     refl,
     clean_parts 0 (length p.parts) p.parts (last_records p) (omega arith)
-        (λ before at r. clean_last (1 + 2 * length p.parts) (length p.parts) p.data_end.names p.bss_end.names p.data_end.part p.bss_end.part (omega arith) ha hb before at r) _ _
+        (λ before at r.
+        clean_last (1 + 2 * length p.parts) (length p.parts) p.data_end.names p.bss_end.names p.data_end.part
+        p.bss_end.part (omega arith) ha hb before at r) _ _
         (record { is_begun = refl; name_count = refl; segment_count = refl; group_count = refl; relocatable = tt }),
   ),
 )
 
 -- ---- the whole
 
-pub module_sound : (p : Plan) → Fits p → AllByRecursion IsNamedPart p.parts → IfSome p.data_end.part (λ k. k < length p.parts) → IfSome p.bss_end.part (λ k. k < length p.parts) →
+pub module_sound : (p : Plan) → Fits p → AllByRecursion IsNamedPart p.parts →
+    IfSome p.data_end.part (λ k. k < length p.parts) → IfSome p.bss_end.part (λ k. k < length p.parts) →
     ModuleBytes (place_all 0 (records p)) (module_bytes p)
 module_sound p f named ha hb =
     let fits = fit_all p f named in

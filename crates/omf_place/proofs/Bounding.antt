@@ -1,5 +1,7 @@
 -- The bounds of a layout in which no fault stands.
-use Rattle.std.proofs.Common.{◌≡◌, ℕ, zero, suc, ◌+◌, ◌*◌, ◌/◌, ◌≤◌, Bool, true, false, cond, nat_lt, ◌++◌, List, [], ◌∷◌, length, map, find, Option, Some, None, IfSome, slice_get, get_or, ◌<◌, ◌⊎◌, inl, inr, refl, ap, sym, ◌∙◌, subst, arith}
+use Rattle.std.proofs.Common.{◌≡◌, ℕ, zero, suc, ◌+◌, ◌*◌, ◌/◌, ◌≤◌, Bool, true, false, cond, nat_lt, ◌++◌, List, []}
+use Rattle.std.proofs.Common.{◌∷◌, length, map, find, Option, Some, None, IfSome, slice_get, get_or, ◌<◌, ◌⊎◌, inl, inr}
+use Rattle.std.proofs.Common.{refl, ap, sym, ◌∙◌, subst, arith}
 use Rattle.std.proofs.lemmas.Bool.{cases_lt, lt-ltb}
 use Rattle.std.proofs.lemmas.List.{get_or_past, length-map}
 use Rattle.std.proofs.lemmas.List.FromFn.{get_or-map-range_with_len, length-map-range_with_len}
@@ -31,7 +33,8 @@ use Rattle.omf_place.specs.inside.Placing.{sites_from, is_relocatable}
 use Rattle.omf_place.specs.Placed.{IsPlaced, address_of}
 use Rattle.omf_place.specs.Scopes.{Entry, local_tables, table}
 use Rattle.omf_place.specs.inside.Steps.{owned_by, same_owner}
-use Rattle.omf_place.specs.Tables.{segment_start, segment_end, leaders, combined_segment, placed, group_frame, in_segment, placed_public, publics_of, placed_publics}
+use Rattle.omf_place.specs.Tables.{segment_start, segment_end, leaders, combined_segment, placed, group_frame}
+use Rattle.omf_place.specs.Tables.{in_segment, placed_public, publics_of, placed_publics}
 use Rattle.omf_place.specs.inside.Steps.{public_entry}
 use Rattle.omf_place.proofs.LinkProgram.{inputs-length}
 use Rattle.omf_place.proofs.KeyPlaces.{All-make}
@@ -50,43 +53,64 @@ All-back P [] ys ps = ps
 All-back P (x ∷ xs) ys ps = All-back P xs ys ps.1
 
 -- what holds of each site holds of those of each module
-sites-of : (P : Site → Type 0) (p i : ℕ) (ms : List Module) → AllByRecursion P (sites_from p i ms) → AllByRecursion (λ n. AllByRecursion P n.sites) (inputs_from p i ms)
+sites-of : (P : Site → Type 0) (p i : ℕ) (ms : List Module) → AllByRecursion P (sites_from p i ms)
+    → AllByRecursion (λ n. AllByRecursion P n.sites) (inputs_from p i ms)
 sites-of P p i [] ps = tt
 sites-of P p i (m ∷ ms) ps = (
   All-front P (module_sites p i 0 m.segments) (sites_from (p + length m.segments) (i + 1) ms) ps,
-  sites-of P (p + length m.segments) (i + 1) ms (All-back P (module_sites p i 0 m.segments) (sites_from (p + length m.segments) (i + 1) ms) ps),
+  sites-of P (p + length m.segments) (i + 1) ms
+      (All-back P (module_sites p i 0 m.segments) (sites_from (p + length m.segments) (i + 1) ms) ps),
 )
 
-input_at : (p i k : ℕ) (ms : List Module) (m : Module) → slice_get ms k ≡ Some m → (n : Input) × (slice_get (inputs_from p i ms) k ≡ Some n) × (n.says ≡ m) × (length n.sites ≡ length m.segments)
+input_at : (p i k : ℕ) (ms : List Module) (m : Module) → slice_get ms k ≡ Some m
+    → (n : Input) × (slice_get (inputs_from p i ms) k ≡ Some n) × (n.says ≡ m) × (length n.sites ≡ length m.segments)
 input_at p i k [] m e = cc
 input_at p i zero (x ∷ xs) m e =
-    let f : x ≡ m = cc in (record { input = i; says = x; sites = module_sites p i 0 x.segments }, refl, f, length-module_sites p i 0 x.segments ∙ ap (λ (y : Module). length y.segments) f)
+    let f : x ≡ m = cc in (
+      record { input = i; says = x; sites = module_sites p i 0 x.segments },
+      refl,
+      f,
+      length-module_sites p i 0 x.segments ∙ ap (λ (y : Module). length y.segments) f,
+    )
 input_at p i (suc k) (x ∷ xs) m e = input_at (p + length x.segments) (i + 1) k xs m e
 
 find-none : {X : Type 0} (p : X → Bool) (xs : List X) → find p xs ≡ None → AllByRecursion (λ x. p x ≡ false) xs
 find-none p [] e = tt
 find-none p (x ∷ xs) e =
-    (elim (p x) as (λ b. p x ≡ b → cond b (Some x) (find p xs) ≡ None → (p x ≡ false) × AllByRecursion (λ y. p y ≡ false) xs)
+    (elim (p x) as (λ b.
+    p x ≡ b → cond b (Some x) (find p xs) ≡ None → (p x ≡ false) × AllByRecursion (λ y. p y ≡ false) xs)
     [ true ↦ λ t f. cc | false ↦ λ t f. (t, find-none p xs f) ]) refl e
 
 none-mapped : {X Y : Type 0} (f : X → Y) (o : Option X) → option_map f o ≡ None → o ≡ None
 none-mapped f None e = refl
 none-mapped f (Some x) e = cc
 
-All-turned : {X Y : Type 0} (f : X → Y) (P : Y → Type 0) (Q : X → Type 0) (xs : List X) → ((x : X) → Q x → P (f x)) → AllByRecursion Q xs → AllByRecursion P (map f xs)
+All-turned : {X Y : Type 0} (f : X → Y) (P : Y → Type 0) (Q : X → Type 0) (xs : List X) → ((x : X) → Q x → P (f x))
+    → AllByRecursion Q xs → AllByRecursion P (map f xs)
 All-turned f P Q [] h qs = tt
 All-turned f P Q (x ∷ xs) h qs = (h x qs.0, All-turned f P Q xs h qs.1)
 
 not-less : (a b : ℕ) → nat_lt a b ≡ false → b ≤ a
-not-less a b e = elim (cases_lt a b) [ inl h ↦ absurd (let t : nat_lt a b ≡ true = lt-ltb a b h in let v : true ≡ false = sym t ∙ e in cc) | inr h ↦ omega arith ]
+not-less a b e = elim (cases_lt a b) [
+  | inl h ↦ absurd (let t : nat_lt a b ≡ true = lt-ltb a b h in let v : true ≡ false = sym t ∙ e in cc)
+  | inr h ↦ omega arith
+]
 
-value-all : {V : Type 0} (P : V → Type 0) (test : List ℕ → Bool) (owner : Option ℕ) (es : List (Entry V)) → AllByRecursion (λ (e : Entry V). P e.value) es
+value-all : {V : Type 0} (P : V → Type 0) (test : List ℕ → Bool) (owner : Option ℕ) (es : List (Entry V))
+    → AllByRecursion (λ (e : Entry V). P e.value) es
     → IfSome (value_where test (map (λ e. (e.name, e.value)) (owned_by owner es))) P
 value-all P test owner [] ps = tt
-value-all P test owner (e ∷ es) ps = elim (same_owner owner e.owner) as (λ b. IfSome (value_where test (map (λ d. (d.name, d.value)) (cond b (e ∷ owned_by owner es) (owned_by owner es)))) P) [
-  | true ↦ (elim (test e.name) as (λ b. IfSome (cond b (Some e.value) (value_where test (map (λ d. (d.name, d.value)) (owned_by owner es)))) P) [ true ↦ ps.0 | false ↦ value-all P test owner es ps.1 ])
-  | false ↦ value-all P test owner es ps.1
-]
+value-all P test owner (e ∷ es) ps =
+    elim (same_owner owner e.owner) as (λ b.
+    IfSome (value_where test (map (λ d. (d.name, d.value)) (cond b (e ∷ owned_by owner es) (owned_by owner es)))) P) [
+      | true ↦
+          (elim (test e.name) as (λ b.
+          IfSome (cond b (Some e.value) (value_where test (map (λ d. (d.name, d.value)) (owned_by owner es)))) P) [
+            | true ↦ ps.0
+            | false ↦ value-all P test owner es ps.1
+          ])
+      | false ↦ value-all P test owner es ps.1
+    ]
 
 abbrev no_place : SegmentPlace
 no_place = record { address = address.Absolute 0; frame = base.Absolute 0 }
@@ -94,11 +118,13 @@ no_place = record { address = address.Absolute 0; frame = base.Absolute 0 }
 abbrev OwnFrame : PublicPlace → Type 0
 OwnFrame p = HasOwnFrame p.address p.frame
 
-module _ (names : Names) (program : List Module) (A : List ℕ) (size : ℕ) (placing : IsPlaced (sites program) A size) where
+module _ (names : Names) (program : List Module) (A : List ℕ) (size : ℕ)
+    (placing : IsPlaced (sites program) A size) where
   abbrev ss : List Site
   ss = sites program
 
-  place-of : (a : Site) (s : Segment) → slice_get ss a.position ≡ Some a → a.segment ≡ s → IsPlaceOf size s (placed ss A a)
+  place-of : (a : Site) (s : Segment) → slice_get ss a.position ≡ Some a → a.segment ≡ s
+      → IsPlaceOf size s (placed ss A a)
   place-of a s at is = subst (λ t. IsPlaceOf size t (placed ss A a)) is (by a.segment.standing refl)
     where
       within : is_part a ≡ true → address_of A a + a.segment.length ≤ size
@@ -108,27 +134,36 @@ module _ (names : Names) (program : List Module) (A : List ℕ) (size : ℕ) (pl
       by (Absolute frame offset) e = rw e (record { inside = tt; frame = tt })
       by (Relocatable alignment kind) e = rw e (record { inside = within (ap is_relocatable e); frame = tt })
 
-  places : (i : ℕ) (m : Module) → slice_get program i ≡ Some m → ArePlacesOf size m (places_of (layout_at names program A size) i)
+  places : (i : ℕ) (m : Module) → slice_get program i ≡ Some m
+      → ArePlacesOf size m (places_of (layout_at names program A size) i)
   places i m e =
       let at = input_at 0 0 i program m e in
       let n = at.0 in
       let here : places_of (layout_at names program A size) i ≡ module_places program A n =
-      get_or_from_slice_get (map (module_places program A) (inputs program)) i (module_places program A n) (record { segments = []; groups = [] })
+      get_or_from_slice_get (map (module_places program A) (inputs program)) i (module_places program A n)
+      (record { segments = []; groups = [] })
       (slice_get-map (module_places program A) (inputs program) i ∙ ap (option_map (module_places program A)) at.1) in
       let row : RowIs n = All-get RowIs (inputs program) i n (input_rows program) at.1 in
-      let own = All-get (λ (x : Input). AllByRecursion (λ a. slice_get ss a.position ≡ Some a) x.sites) (inputs program) i n
-      (sites-of (λ a. slice_get ss a.position ≡ Some a) 0 0 program (numbered_found ss (numbered_sites program))) at.1 in
+      let own =
+      All-get (λ (x : Input). AllByRecursion (λ a. slice_get ss a.position ≡ Some a) x.sites) (inputs program) i n
+      (sites-of (λ a. slice_get ss a.position ≡ Some a) 0 0 program (numbered_found ss (numbered_sites program)))
+      at.1 in
       subst (λ ps. ArePlacesOf size m ps) (sym here) (record {
         segments = length-map n.sites (placed ss A) ∙ at.3;
-        groups = length-map n.says.groups (λ (g : Group). group_frame program A g.name) ∙ ap (λ (x : Module). length x.groups) at.2;
+        groups =
+            length-map n.says.groups (λ (g : Group). group_frame program A g.name)
+            ∙ ap (λ (x : Module). length x.groups) at.2;
         each = λ k s f.
             let r = row_at n row k s (ap (λ (x : Module). slice_get x.segments k) at.2 ∙ f) in
             let there : segment_in (module_places program A n) k ≡ placed ss A r.0 =
-            get_or_from_slice_get (map (placed ss A) n.sites) k (placed ss A r.0) no_place (slice_get-map (placed ss A) n.sites k ∙ ap (option_map (placed ss A)) r.1) in
-            subst (λ p. IsPlaceOf size s p) (sym there) (place-of r.0 s (All-get (λ a. slice_get ss a.position ≡ Some a) n.sites k r.0 own r.1) r.2);
+            get_or_from_slice_get (map (placed ss A) n.sites) k (placed ss A r.0) no_place
+            (slice_get-map (placed ss A) n.sites k ∙ ap (option_map (placed ss A)) r.1) in
+            subst (λ p. IsPlaceOf size s p) (sym there)
+            (place-of r.0 s (All-get (λ a. slice_get ss a.position ≡ Some a) n.sites k r.0 own r.1) r.2);
       })
 
-  own-public : (m : Module) (a : Site) (o : ℕ) (group : Option ℕ) (st : Standing) → OwnFrame (in_segment program A m group o a st)
+  own-public : (m : Module) (a : Site) (o : ℕ) (group : Option ℕ) (st : Standing)
+      → OwnFrame (in_segment program A m group o a st)
   own-public m a o group (Absolute frame at) = tt
   own-public m a o None (Relocatable alignment kind) = tt
   own-public m a o (Some g) (Relocatable alignment kind) = by (slice_get m.groups g)
@@ -137,7 +172,9 @@ module _ (names : Names) (program : List Module) (A : List ℕ) (size : ℕ) (pl
       framed None = tt
       framed (Some f) = tt
 
-      by : (x : Option Group) → HasOwnFrame (address.Relocatable (address_of A a + o)) (option_and_then (λ (h : Group). option_map base.Relocatable (group_frame program A h.name)) x)
+      by : (x : Option Group)
+          → HasOwnFrame (address.Relocatable (address_of A a + o))
+          (option_and_then (λ (h : Group). option_map base.Relocatable (group_frame program A h.name)) x)
       by None = tt
       by (Some h) = framed (group_frame program A h.name)
 
@@ -148,44 +185,65 @@ module _ (names : Names) (program : List Module) (A : List ℕ) (size : ℕ) (pl
   public_of n p = option_to_list (option_map (public_entry n.input p) (placed_public program A n p.offset p.base))
 
   publics : AllByRecursion Own (placed_publics program A)
-  publics = All-flat Own (publics_of program A) (inputs program) (All-make (λ n. AllByRecursion Own (publics_of program A n)) (inputs program)
+  publics =
+      All-flat Own (publics_of program A) (inputs program)
+      (All-make (λ n. AllByRecursion Own (publics_of program A n)) (inputs program)
       (λ n. All-flat Own (public_of n) n.says.publics (All-make (λ p. AllByRecursion Own (public_of n p)) n.says.publics
       (λ p. by n p p.offset p.base))))
     where
       found : (n : Input) (p : PublicSymbol) (o : ℕ) (group : Option ℕ) (x : Option Site) →
-          AllByRecursion Own (option_to_list (option_map (public_entry n.input p) (option_map (λ (a : Site). in_segment program A n.says group o a a.segment.standing) x)))
+          AllByRecursion Own
+          (option_to_list
+          (option_map (public_entry n.input p)
+          (option_map (λ (a : Site). in_segment program A n.says group o a a.segment.standing) x)))
       found n p o group None = tt
       found n p o group (Some a) = (own-public n.says a o group a.segment.standing, tt)
 
-      by : (n : Input) (p : PublicSymbol) (o : ℕ) (b : SymbolBase) → AllByRecursion Own (option_to_list (option_map (public_entry n.input p) (placed_public program A n o b)))
+      by : (n : Input) (p : PublicSymbol) (o : ℕ) (b : SymbolBase)
+          → AllByRecursion Own (option_to_list (option_map (public_entry n.input p) (placed_public program A n o b)))
       by n p o (AtFrame frame) = (tt, tt)
       by n p o (InSegment k group) = found n p o group (slice_get n.sites k)
 
-  short : segment_fault ss A ≡ None → AllByRecursion (λ (c : Combined). c.end ≤ 16 * (c.start / 16) + 65536) (map (combined_segment ss A) (leaders ss))
-  short none = All-turned (combined_segment ss A) (λ (c : Combined). c.end ≤ 16 * (c.start / 16) + 65536) (λ a. is_long_segment ss A a ≡ false) (leaders ss)
+  short : segment_fault ss A ≡ None
+      → AllByRecursion (λ (c : Combined). c.end ≤ 16 * (c.start / 16) + 65536)
+      (map (combined_segment ss A) (leaders ss))
+  short none =
+      All-turned (combined_segment ss A) (λ (c : Combined). c.end ≤ 16 * (c.start / 16) + 65536)
+      (λ a. is_long_segment ss A a ≡ false) (leaders ss)
       (λ a e. not-less (16 * (segment_start ss A a / 16) + 65536) (segment_end ss A a) e)
       (find-none (is_long_segment ss A) (leaders ss) (none-mapped _ (find (is_long_segment ss A) (leaders ss)) none))
 
-  pub bounded : segment_fault ss A ≡ None → size ≤ 1048560 → (l : Layout) → l ≡ layout_at names program A size → IsBounded program l
+  pub bounded : segment_fault ss A ≡ None → size ≤ 1048560 → (l : Layout) → l ≡ layout_at names program A size
+      → IsBounded program l
   bounded none fits l is = subst (λ k. IsBounded program k) (sym is) (record {
     size = fits;
     modules = length-map (inputs program) (module_places program A) ∙ inputs-length 0 0 program;
     each = places;
-    combined = λ i c e. All-get (λ (d : Combined). d.end ≤ 16 * (d.start / 16) + 65536) (map (combined_segment ss A) (leaders ss)) i c (short none) e;
+    combined =
+        λ i c e.
+        All-get (λ (d : Combined). d.end ≤ 16 * (d.start / 16) + 65536) (map (combined_segment ss A) (leaders ss)) i c
+        (short none) e;
     publics = λ name. value-all OwnFrame (agrees names name) None (placed_publics program A) publics;
     scopes = length-map-range_with_len (λ m. table names (Some m) (placed_publics program A)) 0 (length program);
     locals = λ input name. by input name (cases_lt input (length program));
   })
     where
       -- past the last module there is no table
-      local : (t : Table PublicPlace) (input : ℕ) (name : List ℕ) → get_or (local_tables names (length program) (placed_publics program A)) input (empty Exact) ≡ t → IfSome (means t name) OwnFrame
+      local : (t : Table PublicPlace) (input : ℕ) (name : List ℕ)
+          → get_or (local_tables names (length program) (placed_publics program A)) input (empty Exact) ≡ t
+          → IfSome (means t name) OwnFrame
           → IfSome (local_public (layout_at names program A size) input name) OwnFrame
       local t input name e h = subst (λ (u : Table PublicPlace). IfSome (means u name) OwnFrame) (sym e) h
 
-      by : (input : ℕ) (name : List ℕ) → (input < length program) ⊎ (length program ≤ input) → IfSome (local_public (layout_at names program A size) input name) OwnFrame
+      by : (input : ℕ) (name : List ℕ) → (input < length program) ⊎ (length program ≤ input)
+          → IfSome (local_public (layout_at names program A size) input name) OwnFrame
       by input name (inl h) = local (table names (Some input) (placed_publics program A)) input name
-          (let z : 0 + input ≡ input = omega arith in get_or-map-range_with_len (λ m. table names (Some m) (placed_publics program A)) 0 (length program) input input (empty Exact) h z)
+          (let z : 0 + input ≡ input = omega arith in
+          get_or-map-range_with_len (λ m. table names (Some m) (placed_publics program A)) 0 (length program) input
+          input (empty Exact) h z)
           (value-all OwnFrame (agrees names name) (Some input) (placed_publics program A) publics)
       by input name (inr h) = local (empty Exact) input name
           (get_or_past (local_tables names (length program) (placed_publics program A)) input (empty Exact)
-          (let e = length-map-range_with_len (λ m. table names (Some m) (placed_publics program A)) 0 (length program) in omega (arith, e, h))) tt
+          (let e =
+          length-map-range_with_len (λ m. table names (Some m) (placed_publics program A)) 0 (length program) in
+          omega (arith, e, h))) tt

@@ -1,5 +1,6 @@
 -- The first part of a combined segment is the first of its own.
-use Rattle.std.proofs.Common.{◌≡◌, ℕ, zero, suc, ◌+◌, ◌<◌, Bool, true, false, ◌&&◌, ◌||◌, eqb, eq-eqb, inl, inr, ◌⊎◌, List, [], ◌∷◌, length, get_or, Some, None, slice_get, refl, ap, sym, ◌∙◌, arith, subst}
+use Rattle.std.proofs.Common.{◌≡◌, ℕ, zero, suc, ◌+◌, ◌<◌, Bool, true, false, ◌&&◌, ◌||◌, eqb, eq-eqb, inl, inr, ◌⊎◌}
+use Rattle.std.proofs.Common.{List, [], ◌∷◌, length, get_or, Some, None, slice_get, refl, ap, sym, ◌∙◌, arith, subst}
 use Rattle.std.specs.List.{position_or_len}
 use Rattle.std.specs.Str.{bytes_eq}
 use Rattle.std.proofs.lemmas.List.Sums.{position_or_len_is, fails_before_first, passes_at_first}
@@ -28,7 +29,8 @@ alone Stack e = false≢true e
 alone Common e = false≢true e
 
 joins-trans : (s t u : Standing) → joins s t ≡ true → joins t u ≡ true → joins s u ≡ true
-joins-trans (Relocatable a i) (Relocatable b j) (Relocatable c k) e f = subst (λ z. joins_kind i z ≡ true) (joins_kind-same j k f) e
+joins-trans (Relocatable a i) (Relocatable b j) (Relocatable c k) e f =
+    subst (λ z. joins_kind i z ≡ true) (joins_kind-same j k f) e
 joins-trans (Relocatable a i) (Relocatable b j) (Absolute frame offset) e f = absurd (alone j f)
 joins-trans (Relocatable a i) (Absolute frame offset) u e f = absurd (alone i e)
 joins-trans (Absolute frame offset) t u e f = absurd (false≢true e)
@@ -58,7 +60,8 @@ pub combines-itself : (a : Site) → combines a a ≡ true
 combines-itself a = or_left (eqb a.position a.position) _ (eq-eqb a.position a.position refl)
 
 -- of sites of one list, where the position tells the site
-pub combines-trans : (a b c : Site) → (a.position ≡ b.position → a ≡ b) → (b.position ≡ c.position → b ≡ c) → combines a b ≡ true → combines b c ≡ true → combines a c ≡ true
+pub combines-trans : (a b c : Site) → (a.position ≡ b.position → a ≡ b) → (b.position ≡ c.position → b ≡ c)
+    → combines a b ≡ true → combines b c ≡ true → combines a c ≡ true
 combines-trans a b c ab bc e f =
     elim (or_either (eqb a.position b.position) _ e) [
       | inl p ↦ let h : a ≡ b = ab (eqb-true _ _ p) in subst (λ x. combines x c ≡ true) (sym h) f
@@ -83,26 +86,37 @@ pub record Leads (ss : List Site) (a : Site) (b : Site) : Type 0 where
   pub combined : combines a b ≡ true
   pub leads : (rank ss b).segment ≡ b.position
 
-pub one_place : (ss : List Site) (a b : Site) → slice_get ss a.position ≡ Some a → slice_get ss b.position ≡ Some b → a.position ≡ b.position → a ≡ b
+pub one_place : (ss : List Site) (a b : Site) → slice_get ss a.position ≡ Some a → slice_get ss b.position ≡ Some b
+    → a.position ≡ b.position → a ≡ b
 one_place ss a b e f g = let h = ap (λ p. slice_get ss p) g in let k : Some a ≡ Some b = sym e ∙ h ∙ f in cc
 
-pub position_at : (p : ℕ) (xs : List Site) (k : ℕ) (x : Site) → IsNumberedFrom p xs → slice_get xs k ≡ Some x → x.position ≡ p + k
+pub position_at : (p : ℕ) (xs : List Site) (k : ℕ) (x : Site) → IsNumberedFrom p xs → slice_get xs k ≡ Some x
+    → x.position ≡ p + k
 position_at p [] k x n e = cc
-position_at p (y ∷ ys) zero x n e = let e' : y ≡ x = cc in let f : y.position ≡ x.position = ap (λ (z : Site). z.position) e' in omega (arith, n.0)
+position_at p (y ∷ ys) zero x n e =
+    let e' : y ≡ x = cc in let f : y.position ≡ x.position = ap (λ (z : Site). z.position) e' in omega (arith, n.0)
 position_at p (y ∷ ys) (suc k) x n e = let h = position_at (p + 1) ys k x n.1 e in omega (arith, h)
 
-pub at_own : (ss : List Site) (k : ℕ) (x : Site) → IsNumberedFrom 0 ss → slice_get ss k ≡ Some x → slice_get ss x.position ≡ Some x
-at_own ss k x n e = let h : k ≡ x.position = omega (arith, position_at 0 ss k x n e) in subst (λ p. slice_get ss p ≡ Some x) h e
+pub at_own : (ss : List Site) (k : ℕ) (x : Site) → IsNumberedFrom 0 ss → slice_get ss k ≡ Some x
+    → slice_get ss x.position ≡ Some x
+at_own ss k x n e =
+    let h : k ≡ x.position = omega (arith, position_at 0 ss k x n e) in subst (λ p. slice_get ss p ≡ Some x) h e
 
-pub leader : (ss : List Site) (a : Site) → IsNumberedFrom 0 ss → slice_get ss a.position ≡ Some a → (b : Site) × Leads ss a b
+pub leader : (ss : List Site) (a : Site) → IsNumberedFrom 0 ss → slice_get ss a.position ≡ Some a
+    → (b : Site) × Leads ss a b
 leader ss a numbered at =
     let i = position_or_len (combines a) ss in
     let inside : a.position < length ss = slice_get_within ss a.position a at in
     let self : get_or ss a.position a ≡ a = get_or_from_slice_get ss a.position a a at in
     let within : i < length ss = elim (cases_lt i (length ss)) [
       | inl h ↦ h
-      | inr h ↦ let fails : combines a (get_or ss a.position a) ≡ false = fails_before_first (combines a) ss a.position a (omega arith) in
-          absurd (let t : combines a a ≡ true = combines-itself a in let u : combines a a ≡ false = subst (λ x. combines a x ≡ false) self fails in let v : true ≡ false = sym t ∙ u in cc)
+      | inr h ↦
+          let fails : combines a (get_or ss a.position a) ≡ false =
+          fails_before_first (combines a) ss a.position a (omega arith) in
+          absurd
+          (let t : combines a a ≡ true = combines-itself a in
+          let u : combines a a ≡ false = subst (λ x. combines a x ≡ false) self fails in
+          let v : true ≡ false = sym t ∙ u in cc)
     ] in
     let b = get_or ss i a in
     let got : slice_get ss i ≡ Some b = slice_get-get_or ss i a within in
@@ -120,7 +134,9 @@ leader ss a numbered at =
             let gk : slice_get ss k ≡ Some x = slice_get-get_or ss k a (omega arith) in
             (elim (combines b x) as (λ z. combines b x ≡ z → combines b x ≡ false) [
               | true ↦ λ t.
-                  let t1 : combines a x ≡ true = combines-trans a b x (one_place ss a b at atb) (one_place ss b x atb (at_own ss k x numbered gk)) passes t in
+                  let t1 : combines a x ≡ true =
+                  combines-trans a b x (one_place ss a b at atb) (one_place ss b x atb (at_own ss k x numbered gk))
+                  passes t in
                   let t2 : combines a x ≡ false = fails_before_first (combines a) ss k a h in
                   absurd (let v : true ≡ false = sym t1 ∙ t2 in cc)
               | false ↦ λ t. t

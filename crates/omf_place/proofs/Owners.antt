@@ -1,5 +1,6 @@
 -- The owners of publics are modules.
-use Rattle.std.proofs.Common.{◌≡◌, ℕ, ◌<◌, Bool, true, false, List, map, Option, Some, None, length, subst, sym, arith, ◌≤◌}
+use Rattle.std.proofs.Common.{◌≡◌, ℕ, ◌<◌, Bool, true, false, List, map, Option, Some, None, length, subst, sym, arith}
+use Rattle.std.proofs.Common.{◌≤◌}
 use Rattle.std.specs.Bool.{then_some}
 use Rattle.std.specs.List.{AllByRecursion}
 use Rattle.std.specs.Option.{option_map, option_to_list}
@@ -25,16 +26,23 @@ module _ (count : ℕ) where
   owner true input h = h
   owner false input h = tt
 
-  one : (input : ℕ) (p : PublicSymbol) → input < count → (placed : Option PublicPlace) → AllByRecursion Owned (option_to_list (option_map (public_entry input p) placed))
+  one : (input : ℕ) (p : PublicSymbol) → input < count → (placed : Option PublicPlace)
+      → AllByRecursion Owned (option_to_list (option_map (public_entry input p) placed))
   one input p h None = tt
   one input p h (Some x) = (owner p.local input h, tt)
 
   -- of the inputs of a program
-  pub owned : (program : List Module) (A : List ℕ) → length program ≤ count → (es : List (held.Entry PublicPlace)) → map entry_view es ≡ placed_publics program A →
+  pub owned : (program : List Module) (A : List ℕ) → length program ≤ count → (es : List (held.Entry PublicPlace)) →
+      map entry_view es ≡ placed_publics program A →
       AllByRecursion (λ e. IsOwner count e.owner) es
   owned program A few es made = All-mapped_back entry_view Owned es (subst (λ ys. AllByRecursion Owned ys) (sym made)
-      (All-flat Owned (publics_of program A) (inputs program) (All-map (λ n. n.input < count) (λ n. AllByRecursion Owned (publics_of program A n)) (inputs program)
+      (All-flat Owned (publics_of program A) (inputs program)
+      (All-map (λ n. n.input < count) (λ n. AllByRecursion Owned (publics_of program A n)) (inputs program)
       (λ n w.
-      let of_public = λ (p : PublicSymbol). option_to_list (option_map (public_entry n.input p) (placed_public program A n p.offset p.base)) in
-      All-flat Owned of_public n.says.publics (All-make (λ p. AllByRecursion Owned (of_public p)) n.says.publics (λ p. one n.input p w (placed_public program A n p.offset p.base))))
+      let of_public =
+      λ (p : PublicSymbol).
+      option_to_list (option_map (public_entry n.input p) (placed_public program A n p.offset p.base)) in
+      All-flat Owned of_public n.says.publics
+      (All-make (λ p. AllByRecursion Owned (of_public p)) n.says.publics
+      (λ p. one n.input p w (placed_public program A n p.offset p.base))))
       (indexed_from 0 0 program count (omega (arith, few))))))

@@ -13,6 +13,7 @@ pub IfErr-map : {A E : Type 0} (P Q : E → Type 0) (r : Result A E) → ((e : E
 IfErr-map P Q (Ok x) f h = tt
 IfErr-map P Q (Err e) f h = f e h
 
-pub IfOk-both : {A E : Type 0} (P : Type 0) (Q R : A → Type 0) (r : Result A E) → ((x : A) → P → Q x → R x) → OnOk r P → IfOk r Q → IfOk r R
+pub IfOk-both : {A E : Type 0} (P : Type 0) (Q R : A → Type 0) (r : Result A E) → ((x : A) → P → Q x → R x) → OnOk r P
+    → IfOk r Q → IfOk r R
 IfOk-both P Q R (Ok x) f p q = f x p q
 IfOk-both P Q R (Err e) f p q = tt

@@ -16,13 +16,18 @@ framed_by : (st : Standing) (s : SegmentSpan) → (is_relocatable st ≡ true �
 framed_by (Absolute frame offset) s h = tt
 framed_by (Relocatable alignment kind) s h = h refl
 
-module _ (sites : List stored.Site) (spans : List SegmentSpan) (are : AreSpans (sites_view sites) spans) (i : ℕ) (ds : stored.Site) (dp : SegmentSpan) (h : i < length sites) where
+module _ (sites : List stored.Site) (spans : List SegmentSpan) (are : AreSpans (sites_view sites) spans) (i : ℕ)
+    (ds : stored.Site) (dp : SegmentSpan) (h : i < length sites) where
   pub span_here : get_or spans i dp ≡ span_of (sites_view sites) (addresses_in spans) (site (get_or sites i ds))
   span_here = ap (λ xs. get_or xs i dp) are ∙ map_at (span_of (sites_view sites) (addresses_in spans)) sites i dp ds h
 
-  pub framed_here : AllByRecursion (StartsLow (sites_view sites) (addresses_in spans)) (sites_view sites) → IsFramed (get_or sites i ds).segment.standing (get_or spans i dp)
+  pub framed_here : AllByRecursion (StartsLow (sites_view sites) (addresses_in spans)) (sites_view sites)
+      → IsFramed (get_or sites i ds).segment.standing (get_or spans i dp)
   framed_here low = framed_by (get_or sites i ds).segment.standing (get_or spans i dp)
-      (λ t. let w = All-site (StartsLow (sites_view sites) (addresses_in spans)) sites i ds low h t in let e = ap (λ (s : SegmentSpan). s.start) span_here in omega (arith, w, e))
+      (λ t.
+      let w = All-site (StartsLow (sites_view sites) (addresses_in spans)) sites i ds low h t in
+      let e = ap (λ (s : SegmentSpan). s.start) span_here in omega (arith, w, e))
 
-  pub stand_here : (y : Stand) → y ≡ stand_by (get_or sites i ds).segment.standing (get_or spans i dp) → y ≡ stand_of (sites_view sites) (addresses_in spans) (site (get_or sites i ds))
+  pub stand_here : (y : Stand) → y ≡ stand_by (get_or sites i ds).segment.standing (get_or spans i dp)
+      → y ≡ stand_of (sites_view sites) (addresses_in spans) (site (get_or sites i ds))
   stand_here y e = e ∙ ap (λ (s : SegmentSpan). stand_by (get_or sites i ds).segment.standing s) span_here

@@ -51,7 +51,8 @@ two_placed = record {
 two_group : group_frame two (0 ∷ 18 ∷ 22 ∷ []) (codes "DGROUP") ≡ Some 1
 two_group = refl
 
-two_public : public (layout_at Exact two (0 ∷ 18 ∷ 22 ∷ []) 24) (codes "x") ≡ Some (record { address = address.Relocatable 22; frame = Some (base.Relocatable 1) })
+two_public : public (layout_at Exact two (0 ∷ 18 ∷ 22 ∷ []) 24) (codes "x")
+    ≡ Some (record { address = address.Relocatable 22; frame = Some (base.Relocatable 1) })
 two_public = refl
 
 two_fault : placement_fault Exact two (0 ∷ 18 ∷ 22 ∷ []) 24 ≡ None
@@ -59,7 +60,10 @@ two_fault = refl
 
 -- a class that comes again takes its place beside the first
 abbrev classes : List Module
-classes = mod_of (seg (codes "A") (codes "B") 1 Public 1 ∷ seg (codes "B") (codes "C") 1 Public 2 ∷ seg (codes "C") (codes "B") 1 Public 4 ∷ []) [] [] ∷ []
+classes =
+    mod_of
+    (seg (codes "A") (codes "B") 1 Public 1 ∷ seg (codes "B") (codes "C") 1 Public 2
+    ∷ seg (codes "C") (codes "B") 1 Public 4 ∷ []) [] [] ∷ []
 
 classes_order : map (λ (a : Site). a.position) (placement_order (sites classes)) ≡ 0 ∷ 2 ∷ 1 ∷ []
 classes_order = refl
@@ -69,7 +73,8 @@ abbrev follows : List Site → List ℕ → ℕ → List Site → ℕ → Bool
 follows ss A e [] size = eqb size e
 follows ss A e (u ∷ us) size =
     let x = slice_index A u.position in
-    eqb (x % unit_alignment ss u) 0 && (leb e x && (ltb x (e + unit_alignment ss u) && follows ss A (x + unit_length ss u) us size))
+    eqb (x % unit_alignment ss u) 0
+    && (leb e x && (ltb x (e + unit_alignment ss u) && follows ss A (x + unit_length ss u) us size))
 
 abbrev is_placed : List Module → List ℕ → ℕ → Bool
 is_placed p A size = follows (sites p) A 0 (filter (is_unit (sites p)) (placement_order (sites p))) size
@@ -85,7 +90,9 @@ classes_placed = refl
 
 -- later parts of a stack have alignment 1
 abbrev stacks : List Module
-stacks = one (code 1 ∷ seg (codes "CODE") (codes "CODE") 16 Stack 3 ∷ seg (codes "CODE") (codes "CODE") 16 Stack 5 ∷ []) [] []
+stacks =
+    one (code 1 ∷ seg (codes "CODE") (codes "CODE") 16 Stack 3 ∷ seg (codes "CODE") (codes "CODE") 16 Stack 5 ∷ []) []
+    []
 
 stacks_placed : is_placed stacks (0 ∷ 16 ∷ 19 ∷ []) 24 ≡ true
 stacks_placed = refl
@@ -111,7 +118,9 @@ abbrev private_ones : ℕ → List Segment
 private_ones n = replicate 15 (seg [] [] 1 Private 65536) ++ seg [] [] 1 Private n ∷ []
 
 abbrev fifteen : List ℕ
-fifteen = 0 ∷ 65536 ∷ 131072 ∷ 196608 ∷ 262144 ∷ 327680 ∷ 393216 ∷ 458752 ∷ 524288 ∷ 589824 ∷ 655360 ∷ 720896 ∷ 786432 ∷ 851968 ∷ 917504 ∷ 983040 ∷ []
+fifteen =
+    0 ∷ 65536 ∷ 131072 ∷ 196608 ∷ 262144 ∷ 327680 ∷ 393216 ∷ 458752 ∷ 524288 ∷ 589824 ∷ 655360 ∷ 720896 ∷ 786432
+    ∷ 851968 ∷ 917504 ∷ 983040 ∷ []
 
 large_fits : placement_fault Exact (one (private_ones 65520) [] []) fifteen 1048560 ≡ None
 large_fits = refl
@@ -123,7 +132,10 @@ large_fails : placement_fault Exact (one (private_ones 65521) [] []) fifteen 104
 large_fails = refl
 
 -- two publics of one name
-twice : placement_fault Exact (one (code 5 ∷ []) [] (record { name = codes "x"; base = InSegment 0 None; offset = 0; local = false } ∷ record { name = codes "x"; base = InSegment 0 None; offset = 1; local = false } ∷ [])) (0 ∷ []) 5
+twice : placement_fault Exact
+    (one (code 5 ∷ []) []
+    (record { name = codes "x"; base = InSegment 0 None; offset = 0; local = false }
+    ∷ record { name = codes "x"; base = InSegment 0 None; offset = 1; local = false } ∷ [])) (0 ∷ []) 5
     ≡ Some (DuplicatePublic (codes "x"))
 twice = refl
 
@@ -134,25 +146,37 @@ full_stack more = one (code 0 ∷ seg (codes "CODE") (codes "CODE") 16 Stack 655
 stack_full : placement_fault Exact (full_stack []) (0 ∷ 0 ∷ []) 65536 ≡ None
 stack_full = refl
 
-stack_over : placement_fault Exact (full_stack (seg (codes "CODE") (codes "CODE") 16 Stack 1 ∷ [])) (0 ∷ 0 ∷ 65536 ∷ []) 65537 ≡ Some (SegmentTooLong (codes "CODE"))
+stack_over : placement_fault Exact (full_stack (seg (codes "CODE") (codes "CODE") 16 Stack 1 ∷ [])) (0 ∷ 0 ∷ 65536 ∷ [])
+    65537 ≡ Some (SegmentTooLong (codes "CODE"))
 stack_over = refl
 
-small_stack : is_placed (one (code 5 ∷ seg (codes "CODE") (codes "CODE") 16 Stack 256 ∷ []) [] []) (0 ∷ 16 ∷ []) 272 ≡ true
+small_stack : is_placed (one (code 5 ∷ seg (codes "CODE") (codes "CODE") 16 Stack 256 ∷ []) [] []) (0 ∷ 16 ∷ []) 272
+    ≡ true
 small_stack = refl
 
 -- two common parts
 abbrev commons : List Module
-commons = mod_of (seg (codes "CODE") (codes "CODE") 1 Common 4 ∷ []) [] [] ∷ mod_of (seg (codes "CODE") (codes "CODE") 1 Common 2 ∷ []) [] [] ∷ []
+commons =
+    mod_of (seg (codes "CODE") (codes "CODE") 1 Common 4 ∷ []) [] []
+    ∷ mod_of (seg (codes "CODE") (codes "CODE") 1 Common 2 ∷ []) [] [] ∷ []
 
 commons_placed : is_placed commons (0 ∷ 0 ∷ []) 4 ≡ true
 commons_placed = refl
 
 -- an absolute public
-absolute_public : placed_publics (one [] [] (record { name = codes "x"; base = AtFrame 5682; offset = 22; local = false } ∷ [])) [] ≡ record { owner = None; name = codes "x"; value = record { address = address.Absolute 90934; frame = Some (base.Absolute 5682) } } ∷ []
+absolute_public : placed_publics
+    (one [] [] (record { name = codes "x"; base = AtFrame 5682; offset = 22; local = false } ∷ [])) []
+    ≡ record {
+      owner = None;
+      name = codes "x";
+      value = record { address = address.Absolute 90934; frame = Some (base.Absolute 5682) };
+    } ∷ []
 absolute_public = refl
 
 -- a public in a group without members
-empty_group : placed_publics (one (code 1 ∷ []) (record { name = codes "G"; members = [] } ∷ []) (record { name = codes "x"; base = InSegment 0 (Some 0); offset = 0; local = false } ∷ [])) (0 ∷ [])
+empty_group : placed_publics
+    (one (code 1 ∷ []) (record { name = codes "G"; members = [] } ∷ [])
+    (record { name = codes "x"; base = InSegment 0 (Some 0); offset = 0; local = false } ∷ [])) (0 ∷ [])
     ≡ record { owner = None; name = codes "x"; value = record { address = address.Relocatable 0; frame = None } } ∷ []
 empty_group = refl
 
@@ -163,23 +187,31 @@ at_offset name offset local = record { name = name; base = InSegment 0 None; off
 abbrev with_publics : List PublicSymbol → List Module
 with_publics ps = one (code 5 ∷ []) [] ps
 
-two_cases : placement_fault Exact (with_publics (at_offset (codes "x") 0 false ∷ at_offset (codes "X") 1 false ∷ [])) (0 ∷ []) 5 ≡ None
+two_cases : placement_fault Exact (with_publics (at_offset (codes "x") 0 false ∷ at_offset (codes "X") 1 false ∷ []))
+    (0 ∷ []) 5 ≡ None
 two_cases = refl
 
-one_folded : placement_fault AsciiFolded (with_publics (at_offset (codes "x") 0 false ∷ at_offset (codes "X") 1 false ∷ [])) (0 ∷ []) 5 ≡ Some (DuplicatePublic (codes "X"))
+one_folded : placement_fault AsciiFolded
+    (with_publics (at_offset (codes "x") 0 false ∷ at_offset (codes "X") 1 false ∷ [])) (0 ∷ []) 5
+    ≡ Some (DuplicatePublic (codes "X"))
 one_folded = refl
 
-beside_local : placement_fault AsciiFolded (with_publics (at_offset (codes "x") 0 false ∷ at_offset (codes "X") 1 true ∷ [])) (0 ∷ []) 5 ≡ None
+beside_local : placement_fault AsciiFolded
+    (with_publics (at_offset (codes "x") 0 false ∷ at_offset (codes "X") 1 true ∷ [])) (0 ∷ []) 5 ≡ None
 beside_local = refl
 
-twice_local : placement_fault AsciiFolded (with_publics (at_offset (codes "x") 0 true ∷ at_offset (codes "X") 1 true ∷ [])) (0 ∷ []) 5 ≡ Some (DuplicatePublic (codes "X"))
+twice_local : placement_fault AsciiFolded
+    (with_publics (at_offset (codes "x") 0 true ∷ at_offset (codes "X") 1 true ∷ [])) (0 ∷ []) 5
+    ≡ Some (DuplicatePublic (codes "X"))
 twice_local = refl
 
-local_means : local_public (layout_at AsciiFolded (with_publics (at_offset (codes "x") 1 true ∷ [])) (0 ∷ []) 5) 0 (codes "X")
+local_means : local_public (layout_at AsciiFolded (with_publics (at_offset (codes "x") 1 true ∷ [])) (0 ∷ []) 5) 0
+    (codes "X")
     ≡ Some (record { address = address.Relocatable 1; frame = Some (base.Relocatable 0) })
 local_means = refl
 
-local_alone : public (layout_at AsciiFolded (with_publics (at_offset (codes "x") 1 true ∷ [])) (0 ∷ []) 5) (codes "x") ≡ None
+local_alone : public (layout_at AsciiFolded (with_publics (at_offset (codes "x") 1 true ∷ [])) (0 ∷ []) 5) (codes "x")
+    ≡ None
 local_alone = refl
 
 letters_alone : agrees AsciiFolded (0xE9 ∷ []) (0xC9 ∷ []) ≡ false

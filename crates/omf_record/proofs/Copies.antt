@@ -12,11 +12,15 @@ abbrev Stand : List ℕ → List (ℕ × ℕ) → Type 0
 Stand text = AllByRecursion (λ (q : ℕ × ℕ). get_or text q.0 0 ≡ q.1)
 
 -- a text stands in itself
-stand-stored : (text : List ℕ) (place : ℕ) (bytes : List ℕ) → ((k : ℕ) → k < length bytes → get_or text (place + k) 0 ≡ get_or bytes k 0) → Stand text (stored_from place bytes)
+stand-stored : (text : List ℕ) (place : ℕ) (bytes : List ℕ)
+    → ((k : ℕ) → k < length bytes → get_or text (place + k) 0 ≡ get_or bytes k 0) → Stand text (stored_from place bytes)
 stand-stored text place [] f = tt
 stand-stored text place (b ∷ bytes) f = (
   ap (λ n. get_or text n 0) here ∙ f 0 (omega arith),
-  stand-stored text (place + 1) bytes (λ k lt. let next : place + 1 + k ≡ place + suc k = omega arith in ap (λ n. get_or text n 0) next ∙ f (suc k) (omega arith)),
+  stand-stored text (place + 1) bytes
+      (λ k lt.
+      let next : place + 1 + k ≡ place + suc k = omega arith in
+      ap (λ n. get_or text n 0) next ∙ f (suc k) (omega arith)),
 )
   where
     here : place ≡ place + 0
@@ -25,7 +29,8 @@ stand-stored text place (b ∷ bytes) f = (
 stand-all : (text : List ℕ) → Stand text (stored_from 0 text)
 stand-all text = stand-stored text 0 text (λ k lt. let same : 0 + k ≡ k = omega arith in ap (λ n. get_or text n 0) same)
 
-byte-at : (text : List ℕ) (xs : List (ℕ × ℕ)) → Stand text xs → (i : ℕ) → i < length xs → get_or text (get_or (places xs) i 0) 0 ≡ get_or (bytes xs) i 0
+byte-at : (text : List ℕ) (xs : List (ℕ × ℕ)) → Stand text xs → (i : ℕ) → i < length xs
+    → get_or text (get_or (places xs) i 0) 0 ≡ get_or (bytes xs) i 0
 byte-at text [] f i lt = absurd (omega arith)
 byte-at text (x ∷ xs) f zero lt = f.0
 byte-at text (x ∷ xs) f (suc i) lt = byte-at text xs f.1 i (omega arith)

@@ -1,5 +1,6 @@
 -- Copies of a list, one behind the other.
-use Rattle.std.proofs.Common.{◌≡◌, ℕ, zero, suc, ◌+◌, ◌-◌, ◌*◌, ◌≤◌, ◌<◌, min, inl, inr, List, [], ◌++◌, length, take, map, refl, sym, ap, ◌∙◌, append_assoc, arith}
+use Rattle.std.proofs.Common.{◌≡◌, ℕ, zero, suc, ◌+◌, ◌-◌, ◌*◌, ◌≤◌, ◌<◌, min, inl, inr, List, [], ◌++◌, length, take}
+use Rattle.std.proofs.Common.{map, refl, sym, ap, ◌∙◌, append_assoc, arith}
 use Rattle.std.proofs.lemmas.List.{length-append, append-nil, map-append, take_at}
 use Rattle.std.proofs.lemmas.Bool.{cases_lt}
 use Rattle.std.proofs.lemmas.Nat.{mul-le}
@@ -31,10 +32,13 @@ copies-add (suc m) n xs =
     ap (λ k. copies k xs) e ∙ ap (λ t. xs ++ t) (copies-add m n xs) ∙ sym (append_assoc xs (copies m xs) (copies n xs))
 
 take-copies : {A : Type 0} (m n : ℕ) (xs : List A) → take (m * length xs) (copies (m + n) xs) ≡ copies m xs
-take-copies m n xs = ap (take (m * length xs)) (copies-add m n xs) ∙ take_at (copies m xs) (copies n xs) (m * length xs) (length-copies m xs)
+take-copies m n xs =
+    ap (take (m * length xs)) (copies-add m n xs)
+    ∙ take_at (copies m xs) (copies n xs) (m * length xs) (length-copies m xs)
 
 -- what is laid in a turn is copies too, and no more of them than are there
-in_copies : (laid repeat once count : ℕ) → laid * once < repeat * once → count ≡ min (laid * once) (repeat * once - laid * once) → (more : ℕ) × (more ≤ laid) × (count ≡ more * once)
+in_copies : (laid repeat once count : ℕ) → laid * once < repeat * once
+    → count ≡ min (laid * once) (repeat * once - laid * once) → (more : ℕ) × (more ≤ laid) × (count ≡ more * once)
 in_copies laid repeat once count lt is = elim (cases_lt laid repeat) [
   | inl less ↦ go (repeat - laid) (omega arith)
   | inr over ↦ absurd (omega (arith, mul-le repeat once laid once over (omega arith)))
@@ -62,23 +66,35 @@ first_copy xs once size = record {
   same = sym (append-nil xs);
 }
 
-pub again : {A : Type 0} (xs front copied behind : List A) (repeat once laid count : ℕ) → length xs ≡ once → Copies xs once laid front → laid < repeat * once → count ≡ min laid (repeat * once - laid) → copied ≡ take count front
+pub again : {A : Type 0} (xs front copied behind : List A) (repeat once laid count : ℕ) → length xs ≡ once
+    → Copies xs once laid front → laid < repeat * once → count ≡ min laid (repeat * once - laid)
+    → copied ≡ take count front
     → Copies xs once (laid + count) (take (laid + count) (front ++ (copied ++ behind)))
-again xs front copied behind repeat once laid count size old lt is taken = let turn = in_copies old.count repeat once count (omega (arith, old.sized)) (omega (arith, old.sized)) in go turn.0 turn.1 turn.2
+again xs front copied behind repeat once laid count size old lt is taken =
+    let turn = in_copies old.count repeat once count (omega (arith, old.sized)) (omega (arith, old.sized)) in
+    go turn.0 turn.1 turn.2
   where
-    go : (more : ℕ) → more ≤ old.count → count ≡ more * once → Copies xs once (laid + count) (take (laid + count) (front ++ (copied ++ behind)))
+    go : (more : ℕ) → more ≤ old.count → count ≡ more * once
+        → Copies xs once (laid + count) (take (laid + count) (front ++ (copied ++ behind)))
     go more few fits =
         let m = old.count in
         let split : m ≡ more + (m - more) = omega arith in
-        let piece : copied ≡ copies more xs = taken ∙ ap (λ n. take n front) (fits ∙ ap (λ k. more * k) (sym size)) ∙ ap (take (more * length xs)) (old.same ∙ ap (λ n. copies n xs) split) ∙ take-copies more (m - more) xs in
-        let whole : front ++ (copied ++ behind) ≡ copies (m + more) xs ++ behind = rw (old.same, piece, copies-add) (sym (append_assoc (copies m xs) (copies more xs) behind)) in
+        let piece : copied ≡ copies more xs =
+        taken ∙ ap (λ n. take n front) (fits ∙ ap (λ k. more * k) (sym size))
+        ∙ ap (take (more * length xs)) (old.same ∙ ap (λ n. copies n xs) split) ∙ take-copies more (m - more) xs in
+        let whole : front ++ (copied ++ behind) ≡ copies (m + more) xs ++ behind =
+        rw (old.same, piece, copies-add) (sym (append_assoc (copies m xs) (copies more xs) behind)) in
         record {
           count = m + more;
           sized = omega (arith, old.sized, fits);
-          same = ap (take (laid + count)) whole ∙ take_at (copies (m + more) xs) behind (laid + count) (omega (arith, length-copies (m + more) xs, ap (λ k. (m + more) * k) size, old.sized, fits));
+          same =
+              ap (take (laid + count)) whole
+              ∙ take_at (copies (m + more) xs) behind (laid + count)
+              (omega (arith, length-copies (m + more) xs, ap (λ k. (m + more) * k) size, old.sized, fits));
         }
 
-pub all_laid : {A : Type 0} (xs : List A) (repeat once : ℕ) (laid : List A) → 0 < once → Copies xs once (repeat * once) laid → laid ≡ copies repeat xs
+pub all_laid : {A : Type 0} (xs : List A) (repeat once : ℕ) (laid : List A) → 0 < once
+    → Copies xs once (repeat * once) laid → laid ≡ copies repeat xs
 all_laid xs repeat once laid some f =
     let least : f.count ≤ repeat = le_of_mul-le-mul_right {k = once} (omega (arith, f.sized)) some in
     let most : repeat ≤ f.count = le_of_mul-le-mul_right {k = once} (omega (arith, f.sized)) some in

@@ -14,11 +14,17 @@ mutual
 
   pub length-blocks : (bs : Blocks) → length (canon.blocks_text bs) ≡ all_stored_len bs
   length-blocks End = refl
-  length-blocks (More b bs) = omega (arith, length-append (canon.block b) (canon.blocks_text bs), length-block b, length-blocks bs)
+  length-blocks (More b bs) =
+      omega (arith, length-append (canon.block b) (canon.blocks_text bs), length-block b, length-blocks bs)
 
 pub data_within : (r : Record) → data_len r ≤ length (canon.canonical r)
 unfolding data_len blocks_len canon.canonical
-data_within (Ledata segment offset bytes) = omega (arith, length-append (canon.index segment) (canon.word offset ++ bytes), length-append (canon.word offset) bytes)
+data_within (Ledata segment offset bytes) =
+    omega (
+      arith,
+      length-append (canon.index segment) (canon.word offset ++ bytes),
+      length-append (canon.word offset) bytes,
+    )
 data_within (Lidata segment offset blocks) = omega (
   arith,
   length-append (canon.index segment) (canon.word offset ++ flat_map canon.block blocks),

@@ -11,7 +11,8 @@ returns-clause-outcome g c =
     let same : map (λ s. s.rest) c.deref_mut.result.now ≡ bytes_of c.args.inputs.now =
     ap (map (λ s. s.rest)) c.deref_mut.ensures.value ∙ c.in_ok-sources.ensures.bytes in
     c.link.ensures.outcome (bytes_of c.args.inputs.now)
-    (subst (AreTold (λ s. Some s.rest) c.deref_mut.result.now) same (told_all (λ s. s.rest) (λ s. s.failures) c.deref_mut.result.now))
+    (subst (AreTold (λ s. Some s.rest) c.deref_mut.result.now) same
+    (told_all (λ s. s.rest) (λ s. s.failures) c.deref_mut.result.now))
 
 pub returns-clause-headline : goal.returns-clause-headline
 returns-clause-headline g c =
@@ -20,7 +21,8 @@ returns-clause-headline g c =
     let names = c.args.options.now.names in
     let old = g.K.Sink.written c.args.sink.now in
     let new = g.K.Sink.written c.link.new.sink in
-    OnOk-weaker (WritesProgram (λ s. Some s.rest) (λ s. s.failures) names c.deref_mut.result.now c.link.new.sources old new)
+    OnOk-weaker
+    (WritesProgram (λ s. Some s.rest) (λ s. s.failures) names c.deref_mut.result.now c.link.new.sources old new)
     (WritesProgramOf names (bytes_of c.args.inputs.now) old new)
     (λ writes. subst (λ inputs. WritesProgramOf names inputs old new) same
     (writes_program (λ s. s.rest) (λ s. s.failures) names c.deref_mut.result.now c.link.new.sources old new writes))
@@ -28,5 +30,6 @@ returns-clause-headline g c =
 
 pub returns-clause-bounded : goal.returns-clause-bounded
 returns-clause-bounded g c =
-    bounded_report (λ s. Some s.rest) (λ s. s.failures) c.args.options.now.names c.deref_mut.result.now c.link.new.sources
+    bounded_report (λ s. Some s.rest) (λ s. s.failures) c.args.options.now.names c.deref_mut.result.now
+    c.link.new.sources
     (g.K.Sink.written c.args.sink.now) (g.K.Sink.written c.link.new.sink) c.link.result c.link.ensures.links

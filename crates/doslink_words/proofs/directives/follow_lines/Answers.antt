@@ -11,12 +11,18 @@ loop-index-init c = ap (lines_meaning 0 (texts c.args.lines.now)) (sym c.new-dir
 
 pub loop-index-preserved : goal.loop-index-preserved
 loop-index-preserved c =
-    let inside : c.loop-index.index < length (texts c.args.lines.now) = omega (arith, length-map c.args.lines.now (λ s. s.now)) in
-    c.loop-index.invariant ∙ lines_more (said_of c.loop-index.directives) (said_of c.follow_line.new.directives) (texts c.args.lines.now) c.loop-index.index _ inside
+    let inside : c.loop-index.index < length (texts c.args.lines.now) =
+    omega (arith, length-map c.args.lines.now (λ s. s.now)) in
+    c.loop-index.invariant
+    ∙ lines_more (said_of c.loop-index.directives) (said_of c.follow_line.new.directives) (texts c.args.lines.now)
+    c.loop-index.index _ inside
     (line_here c.args.lines.now c.loop-index.index _ (omega arith)) c.in-Ok.ensures
 
 pub returns-in-Err : goal.returns-in-Err
 returns-in-Err c =
-    let inside : c.loop-index.index < length (texts c.args.lines.now) = omega (arith, length-map c.args.lines.now (λ s. s.now)) in
-    lines_stop (said_of c.loop-index.directives) _ (texts c.args.lines.now) c.loop-index.index _ c.in-Err.fault c.fault_at.result _ inside
-    (line_here c.args.lines.now c.loop-index.index _ (omega arith)) c.in-Err.ensures c.fault_at.ensures c.loop-index.invariant
+    let inside : c.loop-index.index < length (texts c.args.lines.now) =
+    omega (arith, length-map c.args.lines.now (λ s. s.now)) in
+    lines_stop (said_of c.loop-index.directives) _ (texts c.args.lines.now) c.loop-index.index _ c.in-Err.fault
+    c.fault_at.result _ inside
+    (line_here c.args.lines.now c.loop-index.index _ (omega arith)) c.in-Err.ensures c.fault_at.ensures
+    c.loop-index.invariant

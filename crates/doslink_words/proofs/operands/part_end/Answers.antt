@@ -4,12 +4,15 @@ use Rattle.doslink_words.proofs.operands.part_end.Goals as goal
 
 pub returns-then-is_comma-clause-end : goal.returns-then-is_comma-clause-end
 returns-then-is_comma-clause-end c =
-    let none = ends_here c.args.operands.now c.commas.end _ c.is_comma.result (omega arith) c.is_comma.ensures c.if-is_comma.true in
+    let none =
+    ends_here c.args.operands.now c.commas.end _ c.is_comma.result (omega arith) c.is_comma.ensures
+    c.if-is_comma.true in
     omega (arith, none, c.commas.invariant.same)
 
 pub commas-preserved : goal.commas-preserved
 commas-preserved c =
-    let more = goes_on c.args.operands.now c.commas.end _ c.is_comma.result (omega arith) c.is_comma.ensures c.if-is_comma.false in
+    let more =
+    goes_on c.args.operands.now c.commas.end _ c.is_comma.result (omega arith) c.is_comma.ensures c.if-is_comma.false in
     record {
       from = omega arith;
       within = omega arith;

@@ -8,7 +8,8 @@ abbrev pub invariant-commas : goal.invariant-commas
 invariant-commas l = record {
   from : l.fn.start ≤ l.end;
   within : l.end ≤ length l.operands;
-  same : l.fn.start + position_or_len is_comma (drop l.fn.start (pieces l.operands)) ≡ l.end + position_or_len is_comma (drop l.end (pieces l.operands));
+  same : l.fn.start + position_or_len is_comma (drop l.fn.start (pieces l.operands))
+      ≡ l.end + position_or_len is_comma (drop l.end (pieces l.operands));
 }
 
 abbrev pub decreases-commas : goal.decreases-commas

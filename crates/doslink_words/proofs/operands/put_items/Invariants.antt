@@ -7,7 +7,8 @@ use Rattle.doslink_words.proofs.operands.put_items.Given as goal
 
 abbrev pub invariant-loop-keyword : goal.invariant-loop-keyword
 invariant-loop-keyword l =
-    with_items (items_of l.fn.items.items) (pieces l.fn.operands) ≡ with_items (items_of l.items.items) (pieces (iter_rest l.tokens))
+    with_items (items_of l.fn.items.items) (pieces l.fn.operands)
+    ≡ with_items (items_of l.items.items) (pieces (iter_rest l.tokens))
 
 abbrev pub decreases-loop-keyword : goal.decreases-loop-keyword
 decreases-loop-keyword l = length (iter_rest l.tokens)

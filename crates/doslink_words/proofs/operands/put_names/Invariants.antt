@@ -7,7 +7,8 @@ use Rattle.doslink_words.proofs.operands.put_names.Given as goal
 abbrev pub invariant-parts : goal.invariant-parts
 invariant-parts l = record {
   within : l.start ≤ length l.operands;
-  same : with_names (texts l.fn.names.items) (parts (pieces l.operands)) ≡ with_names (texts l.names.items) (parts (drop l.start (pieces l.operands)));
+  same : with_names (texts l.fn.names.items) (parts (pieces l.operands))
+      ≡ with_names (texts l.names.items) (parts (drop l.start (pieces l.operands)));
 }
 
 abbrev pub decreases-parts : goal.decreases-parts

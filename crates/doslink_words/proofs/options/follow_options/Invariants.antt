@@ -7,7 +7,8 @@ use Rattle.doslink_words.proofs.options.follow_options.Given as goal
 abbrev pub invariant-parts : goal.invariant-parts
 invariant-parts l = record {
   within : l.start ≤ length l.operands;
-  same : with_options l.line (parts (pieces l.operands)) (said_of l.fn.directives) ≡ with_options l.line (parts (drop l.start (pieces l.operands))) (said_of l.directives);
+  same : with_options l.line (parts (pieces l.operands)) (said_of l.fn.directives)
+      ≡ with_options l.line (parts (drop l.start (pieces l.operands))) (said_of l.directives);
 }
 
 abbrev pub decreases-parts : goal.decreases-parts

@@ -5,9 +5,11 @@ use Rattle.doslink_words.proofs.tokens.next_token.Goals as goal
 pub range_from-requires : goal.range_from-requires
 range_from-requires c = λ _.
     IsCharBoundary-after_ascii c.args.text.now 0 c.utf8.text c.requires
-    (first-quote c.args.syntax c.args.text.now c.as_bytes.result.now c.is_quote.result c.as_bytes.ensures.value c.is_quote.ensures c.if-is_quote.true)
+    (first-quote c.args.syntax c.args.text.now c.as_bytes.result.now c.is_quote.result c.as_bytes.ensures.value
+    c.is_quote.ensures c.if-is_quote.true)
 
 pub range_from-requires-in-Some : goal.range_from-requires-in-Some
 range_from-requires-in-Some c = λ _.
     IsCharBoundary-after_ascii c.args.text.now 0 c.utf8.text c.requires
-    (first-mark c.args.syntax c.args.text.now c.as_bytes.result.now c.mark_of.result c.in-Some.mark c.as_bytes.ensures.value c.mark_of.ensures c.in-Some.is)
+    (first-mark c.args.syntax c.args.text.now c.as_bytes.result.now c.mark_of.result c.in-Some.mark
+    c.as_bytes.ensures.value c.mark_of.ensures c.in-Some.is)

@@ -4,4 +4,5 @@ use Rattle.doslink_words.specs.inside.Tokens.{pieces}
 use Rattle.doslink_words.proofs.tokens.texts_of.Given as goal
 
 abbrev pub invariant-tokens : goal.invariant-tokens
-invariant-tokens l = map text_of (pieces l.tokens) ≡ texts l.words.items ++ map text_of (drop l.token-index (pieces l.tokens))
+invariant-tokens l =
+    map text_of (pieces l.tokens) ≡ texts l.words.items ++ map text_of (drop l.token-index (pieces l.tokens))

@@ -18,8 +18,12 @@ loop-front-preserved c =
     let put : pieces c.push.new.self.items ≡ pieces c.loop-front.tokens.items ++ (piece_of c.in-Some.token ∷ []) =
     ap pieces c.in_ok-push.ensures.items ∙ map-append piece_of _ _ in
     record {
-      left = rw put (left-more c.args.syntax c.args.text.now (pieces c.loop-front.tokens.items) c.loop-front.rest.now c.after_space-front.result.now (piece_of c.in-Some.token) c.in-Some.after.now
-          c.loop-front.invariant.left c.after_space-front.ensures (not_empty (length c.after_space-front.result.now) c.is_empty.result c.is_empty.ensures c.if-is_empty.false)
+      left =
+          rw put
+          (left-more c.args.syntax c.args.text.now (pieces c.loop-front.tokens.items) c.loop-front.rest.now
+          c.after_space-front.result.now (piece_of c.in-Some.token) c.in-Some.after.now
+          c.loop-front.invariant.left c.after_space-front.ensures
+          (not_empty (length c.after_space-front.result.now) c.is_empty.result c.is_empty.ensures c.if-is_empty.false)
           (sym c.in-Some.ensures.token) c.in-Some.ensures.shorter);
       utf8 = c.in-Some.ensures.utf8;
     }

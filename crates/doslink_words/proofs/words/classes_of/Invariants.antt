@@ -4,4 +4,5 @@ use Rattle.doslink_words.specs.Tokens.{texts}
 use Rattle.doslink_words.proofs.words.classes_of.Given as goal
 
 abbrev pub invariant-names : goal.invariant-names
-invariant-names l = map Class (texts l.names) ≡ items_of l.classes.items ++ map Class (drop l.name-index (texts l.names))
+invariant-names l =
+    map Class (texts l.names) ≡ items_of l.classes.items ++ map Class (drop l.name-index (texts l.names))

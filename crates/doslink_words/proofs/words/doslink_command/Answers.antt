@@ -11,4 +11,5 @@ returns-clause-app c =
     let two = c.in_ok-command-3.ensures.app ∙ ap₂ with_rule one c.order_option.ensures.rule in
     let three = c.in_ok-command-4.ensures.app ∙ ap₂ with_rule two c.no_defaults_flag.ensures.rule in
     let four = c.in_ok-command-5.ensures.app ∙ ap₂ with_rule three c.debug_flag.ensures.rule in
-    IfOk-weaker c.with_arg-5.result _ _ (λ x same. same ∙ ap₂ with_rule four c.verbose_flag.ensures.rule) c.with_arg-5.ensures.app
+    IfOk-weaker c.with_arg-5.result _ _ (λ x same. same ∙ ap₂ with_rule four c.verbose_flag.ensures.rule)
+    c.with_arg-5.ensures.app

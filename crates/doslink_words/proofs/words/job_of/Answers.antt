@@ -11,14 +11,26 @@ returns c =
     record {
       files = c.in_ok-values_of.ensures;
       out = value_or_none f (codes "OUT") c.get_str.result c.get_str.ensures;
-      map = c.map_asked.ensures ∙ ap (option_map At) (value_or_none f (codes "MAP") c.get_str-2.result c.get_str-2.ensures);
+      map =
+          c.map_asked.ensures
+          ∙ ap (option_map At) (value_or_none f (codes "MAP") c.get_str-2.result c.get_str-2.ensures);
       folders = c.in_ok-values_of-2.ensures;
       libraries = c.in_ok-values_of-3.ensures;
-      ignore_case = flag_of f (codes "ignore-case") c.get_flag.result c.get_flag.ensures.value c.get_flag.ensures.other c.get_flag.ensures.none;
-      order = c.in_ok-order_asked.ensures ∙ ap order_asked (value_or_none f (codes "ORDER") c.get_str-3.result c.get_str-3.ensures);
-      default_libraries = contrary_flag f (codes "no-default-libs") c.get_flag-2.result c.get_flag-2.ensures.value c.get_flag-2.ensures.other c.get_flag-2.ensures.none;
-      keep_debug = flag_of f (codes "keep-debug") c.get_flag-3.result c.get_flag-3.ensures.value c.get_flag-3.ensures.other c.get_flag-3.ensures.none;
+      ignore_case =
+          flag_of f (codes "ignore-case") c.get_flag.result c.get_flag.ensures.value c.get_flag.ensures.other
+          c.get_flag.ensures.none;
+      order =
+          c.in_ok-order_asked.ensures
+          ∙ ap order_asked (value_or_none f (codes "ORDER") c.get_str-3.result c.get_str-3.ensures);
+      default_libraries =
+          contrary_flag f (codes "no-default-libs") c.get_flag-2.result c.get_flag-2.ensures.value
+          c.get_flag-2.ensures.other c.get_flag-2.ensures.none;
+      keep_debug =
+          flag_of f (codes "keep-debug") c.get_flag-3.result c.get_flag-3.ensures.value c.get_flag-3.ensures.other
+          c.get_flag-3.ensures.none;
       packs_far_data = refl;
-      verbose = flag_of f (codes "verbose") c.get_flag-4.result c.get_flag-4.ensures.value c.get_flag-4.ensures.other c.get_flag-4.ensures.none;
+      verbose =
+          flag_of f (codes "verbose") c.get_flag-4.result c.get_flag-4.ensures.value c.get_flag-4.ensures.other
+          c.get_flag-4.ensures.none;
       quiet = refl;
     }

@@ -7,5 +7,7 @@ use Rattle.doslink_words.proofs.words.order_asked.Goals as goal
 
 pub returns : goal.returns
 returns c =
-    let classes = c.in_ok-classes_of.ensures ∙ ap (map Class) (ap texts c.as_slice.ensures.value ∙ c.in_ok-names.ensures) in
-    listed_order c.in-Some.word.now _ (sym c.is.ensures ∙ c.if-is.false) classes ∙ ap order_asked (sym (ap (option_map (λ s. s.now)) c.in-Some.is))
+    let classes =
+    c.in_ok-classes_of.ensures ∙ ap (map Class) (ap texts c.as_slice.ensures.value ∙ c.in_ok-names.ensures) in
+    listed_order c.in-Some.word.now _ (sym c.is.ensures ∙ c.if-is.false) classes
+    ∙ ap order_asked (sym (ap (option_map (λ s. s.now)) c.in-Some.is))

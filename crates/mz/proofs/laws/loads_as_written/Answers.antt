@@ -9,7 +9,9 @@ pub returns-clause-reads : goal.returns-clause-reads
 returns-clause-reads c = λ p b rest mz. ap (λ (l : List ℕ). reading (l ++ rest)) mz.1 ∙ reads_back p mz.0 rest
 
 pub returns-clause-length : goal.returns-clause-length
-returns-clause-length c = λ p b rest mz. ap (λ (l : List ℕ). told_len (header_at (l ++ rest))) mz.1 ∙ tells_length p mz.0 rest ∙ ap length (sym mz.1)
+returns-clause-length c =
+    λ p b rest mz.
+    ap (λ (l : List ℕ). told_len (header_at (l ++ rest))) mz.1 ∙ tells_length p mz.0 rest ∙ ap length (sym mz.1)
 
 pub returns-clause-loads : goal.returns-clause-loads
 returns-clause-loads c = λ p w P fits. loads_back p w P fits

@@ -21,8 +21,12 @@ pub returns : goal.returns
 returns g c =
     let P = c.args.paragraph in
     let f = c.args.file.now in
-    let old : c.deref_mut.result.now ≡ f.image = c.deref_mut.ensures.value ∙ c.in_ok-bytes.ensures.items ∙ c.image.ensures in
+    let old : c.deref_mut.result.now ≡ f.image =
+    c.deref_mut.ensures.value ∙ c.in_ok-bytes.ensures.items ∙ c.image.ensures in
     let fits : 16 * P + needed_len f ≤ memory_len = omega (arith, c.needed_len.ensures) in
     let bytes : c.relocate.new.bytes ≡ add_words P (map entry_address f.entries) f.image =
-    c.relocate.ensures ∙ ap (λ (l : List Entry). add_words P (map entry_address l) c.deref_mut.result.now) c.entries.ensures.same ∙ ap (add_words P (map entry_address f.entries)) old in
-    loads_as P f c.header-header.result _ fits c.header-header.ensures (with_items_is c.in_ok-bytes.bytes c.relocate.new.bytes (omega (arith, c.relocate.auto.bytes)) ∙ bytes)
+    c.relocate.ensures
+    ∙ ap (λ (l : List Entry). add_words P (map entry_address l) c.deref_mut.result.now) c.entries.ensures.same
+    ∙ ap (add_words P (map entry_address f.entries)) old in
+    loads_as P f c.header-header.result _ fits c.header-header.ensures
+    (with_items_is c.in_ok-bytes.bytes c.relocate.new.bytes (omega (arith, c.relocate.auto.bytes)) ∙ bytes)

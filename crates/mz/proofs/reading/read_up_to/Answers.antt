@@ -7,4 +7,5 @@ pub returns-in_err-extend_from_slice-clause-memory : goal.returns-in_err-extend_
 returns-in_err-extend_from_slice-clause-memory g c =
     let p = err_from_is_err_and c.from_residual.result c.from_residual.ensures.1 in
     let (more, _, taken) = c.loop-piece.invariant.read in
-    rw (p.1, p.2) (λ _. (more ++ take c.in-Ok.count c.read_some.new.buf, Consumes-trans _ _ _ more _ taken c.in-Ok.ensures.taken))
+    rw (p.1, p.2)
+    (λ _. (more ++ take c.in-Ok.count c.read_some.new.buf, Consumes-trans _ _ _ more _ taken c.in-Ok.ensures.taken))

@@ -18,7 +18,9 @@ pub returns-in-Ok-clause-checks : goal.returns-in-Ok-clause-checks
 returns-in-Ok-clause-checks g c = (read_is_sound _ _ _ c.in-Ok.ensures.reads, c.in-Err-put_all.ensures.0)
 
 pub returns-in-Ok-put_all-clause-whole : goal.returns-in-Ok-put_all-clause-whole
-returns-in-Ok-put_all-clause-whole g c = λ rs bytes rest whole told. ((c.in-Ok.ensures.whole rs bytes rest whole told).1, c.in-Ok-put_all.ensures.0)
+returns-in-Ok-put_all-clause-whole g c =
+    λ rs bytes rest whole told. ((c.in-Ok.ensures.whole rs bytes rest whole told).1, c.in-Ok-put_all.ensures.0)
 
 pub returns-in-Ok-clause-whole : goal.returns-in-Ok-clause-whole
-returns-in-Ok-clause-whole g c = λ rs bytes rest whole told. ((c.in-Ok.ensures.whole rs bytes rest whole told).1, c.in-Err-put_all.ensures.0)
+returns-in-Ok-clause-whole g c =
+    λ rs bytes rest whole told. ((c.in-Ok.ensures.whole rs bytes rest whole told).1, c.in-Err-put_all.ensures.0)

@@ -6,4 +6,6 @@ use Rattle.omf_commands.proofs.inputs.read_inputs.Given as goal
 
 abbrev pub invariant-loop-input : goal.invariant-loop-input
 invariant-loop-input g l =
-    (lists : List (List Placed)) × SoFar g.S.Source.remaining g.S.Source.failures lists l.input l.initial.sources l.sources × (l.modules.items ≡ map module_of lists)
+    (lists : List (List Placed))
+    × SoFar g.S.Source.remaining g.S.Source.failures lists l.input l.initial.sources l.sources
+    × (l.modules.items ≡ map module_of lists)

@@ -7,7 +7,8 @@ pub returns-clause-of_modules : goal.returns-clause-of_modules
 returns-clause-of_modules c = λ names modules file other a b. same_file names modules file other a b
 
 pub returns-clause-of_records : goal.returns-clause-of_records
-returns-clause-of_records c = λ names lists others file other same a b. one_file_of_said names lists others file other same a b
+returns-clause-of_records c =
+    λ names lists others file other same a b. one_file_of_said names lists others file other same a b
 
 pub returns-clause-shared : goal.returns-clause-shared
 returns-clause-shared c = λ names lists others file same a. file_of_said names lists others file same a

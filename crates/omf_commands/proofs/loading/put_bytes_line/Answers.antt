@@ -9,7 +9,8 @@ pub returns-in_err-put_hexadecimal : goal.returns-in_err-put_hexadecimal
 unfolding bytes_line
 returns-in_err-put_hexadecimal g c =
     let behind = codes " " ++ (flat_map (hexadecimal 2) c.args.bytes.now ++ codes "\n") in
-    Wrote-cut _ _ _ _ _ (hexadecimal 5 c.args.address) behind _ _ c.in_err-put_hexadecimal.ensures refl c.from_residual.ensures.1
+    Wrote-cut _ _ _ _ _ (hexadecimal 5 c.args.address) behind _ _ c.in_err-put_hexadecimal.ensures refl
+    c.from_residual.ensures.1
 
 pub returns-in_err-put_all : goal.returns-in_err-put_all
 unfolding bytes_line
@@ -23,11 +24,13 @@ unfolding bytes_line
 returns-in_err-put_hexadecimal_bytes g c =
     Wrote-then _ _ _ _ _ _ (hexadecimal 5 c.args.address) _ _ c.in_ok-put_hexadecimal.ensures
     (Wrote-then _ _ _ _ _ _ (codes " ") _ _ c.in_ok-put_all.ensures
-    (Wrote-cut _ _ _ _ _ (flat_map (hexadecimal 2) c.args.bytes.now) (codes "\n") _ _ c.in_err-put_hexadecimal_bytes.ensures refl c.from_residual-in_err-put_hexadecimal_bytes.ensures.1))
+    (Wrote-cut _ _ _ _ _ (flat_map (hexadecimal 2) c.args.bytes.now) (codes "\n") _ _
+    c.in_err-put_hexadecimal_bytes.ensures refl c.from_residual-in_err-put_hexadecimal_bytes.ensures.1))
 
 pub returns : goal.returns
 unfolding bytes_line
 returns g c =
     Wrote-then _ _ _ _ _ _ (hexadecimal 5 c.args.address) _ _ c.in_ok-put_hexadecimal.ensures
     (Wrote-then _ _ _ _ _ _ (codes " ") _ _ c.in_ok-put_all.ensures
-    (Wrote-then _ _ _ _ _ _ (flat_map (hexadecimal 2) c.args.bytes.now) _ _ c.in_ok-put_hexadecimal_bytes.ensures c.put_all-2.ensures))
+    (Wrote-then _ _ _ _ _ _ (flat_map (hexadecimal 2) c.args.bytes.now) _ _ c.in_ok-put_hexadecimal_bytes.ensures
+    c.put_all-2.ensures))

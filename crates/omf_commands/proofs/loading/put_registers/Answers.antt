@@ -13,6 +13,8 @@ returns g c =
     let ss_is : c.as_bytes-3.result.now ≡ hexadecimal 4 c.args.loaded.now.registers.ss = search rules in
     let sp_is : c.as_bytes-4.result.now ≡ hexadecimal 4 c.args.loaded.now.registers.sp = search rules in
     let texts : map (λ piece. piece.now) c.as_slice-6.result.now
-    ≡ codes "CS:IP " ∷ hexadecimal 4 c.args.loaded.now.registers.cs ∷ codes ":" ∷ hexadecimal 4 c.args.loaded.now.registers.ip ∷ codes " SS:SP "
-    ∷ hexadecimal 4 c.args.loaded.now.registers.ss ∷ codes ":" ∷ hexadecimal 4 c.args.loaded.now.registers.sp ∷ codes "\n" ∷ [] = search rules in
+    ≡ codes "CS:IP " ∷ hexadecimal 4 c.args.loaded.now.registers.cs ∷ codes ":"
+    ∷ hexadecimal 4 c.args.loaded.now.registers.ip ∷ codes " SS:SP "
+    ∷ hexadecimal 4 c.args.loaded.now.registers.ss ∷ codes ":" ∷ hexadecimal 4 c.args.loaded.now.registers.sp
+    ∷ codes "\n" ∷ [] = search rules in
     Wrote-same _ _ _ _ _ _ _ (pieces_joined _ _ texts) c.put_pieces.ensures

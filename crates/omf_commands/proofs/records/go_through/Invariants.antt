@@ -7,7 +7,8 @@ use Rattle.omf_commands.proofs.records.go_through.Given as goal
 abbrev pub invariant-loop-frame : goal.invariant-loop-frame
 invariant-loop-frame g l =
     (rs : List Placed) × AreBeforeEnd rs
-    × (through : WentThrough (output l.form) rs (g.S.Source.remaining l.initial.source) (g.S.Source.remaining l.source) (g.K.Sink.written l.initial.sink) (g.K.Sink.written l.sink))
+    × (through : WentThrough (output l.form) rs (g.S.Source.remaining l.initial.source) (g.S.Source.remaining l.source)
+    (g.K.Sink.written l.initial.sink) (g.K.Sink.written l.sink))
     × (l.place ≡ length through.bytes)
     × (l.buf ≡ Some l.place)
     × (g.S.Source.failures l.source ≡ g.S.Source.failures l.initial.source)

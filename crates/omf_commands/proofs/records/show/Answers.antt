@@ -4,4 +4,7 @@ use Rattle.omf_commands.proofs.Through.{only_answer}
 use Rattle.omf_commands.proofs.records.show.Goals as goal
 
 pub returns-clause-only : goal.returns-clause-only
-returns-clause-only g c = λ rs bytes rest ended are told. only_answer _ _ (output Listing) rs bytes rest _ _ _ _ c.go_through.result ended are told c.go_through.ensures.output
+returns-clause-only g c =
+    λ rs bytes rest ended are told.
+    only_answer _ _ (output Listing) rs bytes rest _ _ _ _ c.go_through.result ended are told
+    c.go_through.ensures.output

@@ -11,9 +11,13 @@ loop-path-preserved g c =
     let here : c.loop-path.path-index < length c.args.paths.now = search rules in
     let pushed : c.push.new.self.items ≡ c.loop-path.sources.items ++ c.open_source.result ∷ [] = search rules in
     record {
-      paths = ap (map (λ s. s.path)) pushed ∙ map-append (λ s. s.path) c.loop-path.sources.items (c.open_source.result ∷ [])
-          ∙ ap₂ (λ l x. l ++ x ∷ []) before.paths one.path ∙ sym (take_more c.args.paths.now c.loop-path.path-index _ here);
+      paths =
+          ap (map (λ s. s.path)) pushed ∙ map-append (λ s. s.path) c.loop-path.sources.items (c.open_source.result ∷ [])
+          ∙ ap₂ (λ l x. l ++ x ∷ []) before.paths one.path
+          ∙ sym (take_more c.args.paths.now c.loop-path.path-index _ here);
       waiting = subst (All (λ s. (s.world ≡ c.args.world) × (s.stage ≡ Waiting))) (sym pushed)
           (All-push (λ s. (s.world ≡ c.args.world) × (s.stage ≡ Waiting)) _ _ before.waiting (one.world, one.waiting));
-      failures = subst (All (λ s. s.failures ≡ 0)) (sym pushed) (All-push (λ s. s.failures ≡ 0) _ _ before.failures one.failures);
+      failures =
+          subst (All (λ s. s.failures ≡ 0)) (sym pushed)
+          (All-push (λ s. s.failures ≡ 0) _ _ before.failures one.failures);
     }

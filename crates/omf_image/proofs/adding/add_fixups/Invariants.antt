@@ -10,8 +10,12 @@ abbrev pub invariant-loop-fixup : goal.invariant-loop-fixup
 invariant-loop-fixup g l = record {
   room : IsRoom l.placed.start (state l.work);
   sized : length l.work.touched.items ≡ length l.placed.data_record.bytes.now;
-  gives : (bytes : List ℕ) (base : State) (earlier : List Patch) → Holds l.placed.start bytes base (state l.initial.work) earlier
-      → Holds l.placed.start bytes base (state l.work) (earlier ++ flat_map (fixup_patches 0 l.placed.layout.now (entry_seen l.placed)) (take l.fixup-index l.fixups))
-      × (fixups_fault l.placed.layout.now (entry_seen l.placed) (earlier ++ flat_map (fixup_patches 0 l.placed.layout.now (entry_seen l.placed)) (take l.fixup-index l.fixups)) (drop l.fixup-index l.fixups)
+  gives : (bytes : List ℕ) (base : State) (earlier : List Patch)
+      → Holds l.placed.start bytes base (state l.initial.work) earlier
+      → Holds l.placed.start bytes base (state l.work)
+      (earlier ++ flat_map (fixup_patches 0 l.placed.layout.now (entry_seen l.placed)) (take l.fixup-index l.fixups))
+      × (fixups_fault l.placed.layout.now (entry_seen l.placed)
+      (earlier ++ flat_map (fixup_patches 0 l.placed.layout.now (entry_seen l.placed)) (take l.fixup-index l.fixups))
+      (drop l.fixup-index l.fixups)
       ≡ fixups_fault l.placed.layout.now (entry_seen l.placed) earlier l.fixups);
 }

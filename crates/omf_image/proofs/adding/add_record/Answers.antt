@@ -1,4 +1,5 @@
-use Rattle.std.proofs.Common.{◌≡◌, ◌∙◌, ◌-◌, ◌∷◌, ◌++◌, [], ℕ, List, None, false, take, drop, flat_map, refl, sym, ap, subst, arith, rules, length}
+use Rattle.std.proofs.Common.{◌≡◌, ◌∙◌, ◌-◌, ◌∷◌, ◌++◌, [], ℕ, List, None, false, take, drop, flat_map, refl, sym, ap}
+use Rattle.std.proofs.Common.{subst, arith, rules, length}
 use Rattle.std.proofs.lemmas.List.{take_all, length-drop}
 use Rattle.std.proofs.lemmas.List.Elements.{All-weaker}
 use Rattle.omf_module.specs.Seen.{data_seen}
@@ -13,7 +14,8 @@ use Rattle.omf_image.specs.inside.States.{state, Holds}
 use Rattle.omf_module.specs.declared.ResolvedFixup.{ResolvedFixup}
 use Rattle.omf_image.proofs.Law.{length-patched_all}
 use Rattle.omf_image.proofs.Meaning.{second_of_zip, patches_left}
-use Rattle.omf_image.proofs.Leading.{leads_on, leads_to_fault, covers_fault, fixups_are_fault, answers_on, refused_by, on_ok, holds_same, listed_same}
+use Rattle.omf_image.proofs.Leading.{leads_on, leads_to_fault, covers_fault, fixups_are_fault, answers_on, refused_by}
+use Rattle.omf_image.proofs.Leading.{on_ok, holds_same, listed_same}
 use Rattle.omf_image.proofs.adding.add_record.Goals as goal
 
 pub covers_relocated-requires : goal.covers_relocated-requires
@@ -21,7 +23,15 @@ covers_relocated-requires g c =
     let d = c.args.data_record in
     let e : Entry = record { input = c.args.input; module' = c.args.module.now; data_record = data_seen d } in
     let z : bytes_of e.data_record ≡ d.bytes.now = second_of_zip d.places.now d.bytes.now (sym c.requires.lengths) in
-    omega (arith, c.data_address-start.ensures, c.requires.ready.inside, ap length z, c.requires.whole.sized, c.requires.whole.words, ap length c.deref.ensures.value)
+    omega (
+      arith,
+      c.data_address-start.ensures,
+      c.requires.ready.inside,
+      ap length z,
+      c.requires.whole.sized,
+      c.requires.whole.words,
+      ap length c.deref.ensures.value,
+    )
 
 pub lay-requires-clause-inside : goal.lay-requires-clause-inside
 lay-requires-clause-inside g c =
@@ -37,10 +47,13 @@ returns-then-covers_relocated-clause-gives g c modules rest l =
     let e : Entry = record { input = c.args.input; module' = c.args.module.now; data_record = data_seen d } in
     let z : bytes_of e.data_record ≡ d.bytes.now = second_of_zip d.places.now d.bytes.now (sym c.requires.lengths) in
     let bytes : List ℕ = (datum 0 layout e).bytes in
-    let n : length bytes ≡ length d.bytes.now = length-patched_all (patches 0 layout e) (bytes_of e.data_record) ∙ ap length z in
+    let n : length bytes ≡ length d.bytes.now =
+    length-patched_all (patches 0 layout e) (bytes_of e.data_record) ∙ ap length z in
     let told = c.covers_relocated.ensures bytes l.so_far n (listed_same _ _ l.so_far c.deref.ensures.value l.listed) in
     leads_to_fault layout modules _ e rest _ l
-    (covers_fault layout e l.so_far (ap (λ (s : ℕ). covers_word (record { start = s; bytes = bytes }) l.so_far) (sym c.data_address-start.ensures) ∙ sym told ∙ c.if-covers_relocated.true))
+    (covers_fault layout e l.so_far
+    (ap (λ (s : ℕ). covers_word (record { start = s; bytes = bytes }) l.so_far) (sym c.data_address-start.ensures)
+    ∙ sym told ∙ c.if-covers_relocated.true))
 
 pub record_index-requires : goal.record_index-requires
 record_index-requires g c =
@@ -92,11 +105,17 @@ returns-in_err-laid-clause-gives g c modules rest l =
     let e : Entry = record { input = c.args.input; module' = c.args.module.now; data_record = data_seen d } in
     let z : bytes_of e.data_record ≡ d.bytes.now = second_of_zip d.places.now d.bytes.now (sym c.requires.lengths) in
     let bytes : List ℕ = (datum 0 layout e).bytes in
-    let n : length bytes ≡ length d.bytes.now = length-patched_all (patches 0 layout e) (bytes_of e.data_record) ∙ ap length z in
+    let n : length bytes ≡ length d.bytes.now =
+    length-patched_all (patches 0 layout e) (bytes_of e.data_record) ∙ ap length z in
     let told = c.covers_relocated.ensures bytes l.so_far n (listed_same _ _ l.so_far c.deref.ensures.value l.listed) in
-    let clean : covers_word (datum 0 layout e) l.so_far ≡ false = ap (λ (s : ℕ). covers_word (record { start = s; bytes = bytes }) l.so_far) (sym c.data_address-start.ensures) ∙ sym told ∙ c.if-covers_relocated.false in
-    refused_by _ _ (fixups_fault layout e [] d.fixups.now) (data_fault layout modules) _ _ c.from_residual-in_err-laid.ensures.1
-    (λ f h. leads_to_fault layout modules (state c.args.work.now) e rest f l (fixups_are_fault layout e l.so_far f clean h)) c.in_err-laid.ensures.gives
+    let clean : covers_word (datum 0 layout e) l.so_far ≡ false =
+    ap (λ (s : ℕ). covers_word (record { start = s; bytes = bytes }) l.so_far) (sym c.data_address-start.ensures)
+    ∙ sym told ∙ c.if-covers_relocated.false in
+    refused_by _ _ (fixups_fault layout e [] d.fixups.now) (data_fault layout modules) _ _
+    c.from_residual-in_err-laid.ensures.1
+    (λ f h.
+    leads_to_fault layout modules (state c.args.work.now) e rest f l (fixups_are_fault layout e l.so_far f clean h))
+    c.in_err-laid.ensures.gives
 
 pub returns-clause-gives : goal.returns-clause-gives
 returns-clause-gives g c modules rest l =
@@ -105,24 +124,39 @@ returns-clause-gives g c modules rest l =
     let e : Entry = record { input = c.args.input; module' = c.args.module.now; data_record = data_seen d } in
     let z : bytes_of e.data_record ≡ d.bytes.now = second_of_zip d.places.now d.bytes.now (sym c.requires.lengths) in
     let bytes : List ℕ = (datum 0 layout e).bytes in
-    let n : length bytes ≡ length d.bytes.now = length-patched_all (patches 0 layout e) (bytes_of e.data_record) ∙ ap length z in
+    let n : length bytes ≡ length d.bytes.now =
+    length-patched_all (patches 0 layout e) (bytes_of e.data_record) ∙ ap length z in
     let told = c.covers_relocated.ensures bytes l.so_far n (listed_same _ _ l.so_far c.deref.ensures.value l.listed) in
-    let clean : covers_word (datum 0 layout e) l.so_far ≡ false = ap (λ (s : ℕ). covers_word (record { start = s; bytes = bytes }) l.so_far) (sym c.data_address-start.ensures) ∙ sym told ∙ c.if-covers_relocated.false in
-    let well : WellPlaced e.data_record = All-weaker (IsFixupReady layout e) (LiesInContent e.data_record) (λ x h. h.lies) d.fixups.now c.requires.ready.fixups in
+    let clean : covers_word (datum 0 layout e) l.so_far ≡ false =
+    ap (λ (s : ℕ). covers_word (record { start = s; bytes = bytes }) l.so_far) (sym c.data_address-start.ensures)
+    ∙ sym told ∙ c.if-covers_relocated.false in
+    let well : WellPlaced e.data_record =
+    All-weaker (IsFixupReady layout e) (LiesInContent e.data_record) (λ x h. h.lies) d.fixups.now
+    c.requires.ready.fixups in
     let f = fixup_patches 0 layout e in
     let xs = d.fixups.now in
     let laid = c.in_ok-laid.laid in
     let earlier : List Patch = flat_map f (take laid xs) in
     let left = c.in_ok-laid.ensures.gives.1 in
-    let to_end : take (length xs - laid) (drop laid xs) ≡ drop laid xs = take_all (length xs - laid) (drop laid xs) (omega (arith, length-drop laid xs)) in
+    let to_end : take (length xs - laid) (drop laid xs) ≡ drop laid xs =
+    take_all (length xs - laid) (drop laid xs) (omega (arith, length-drop laid xs)) in
     answers_on c.add_fixups.result (fixups_fault layout e earlier (drop laid xs)) (data_fault layout modules) _ _
-    (λ k h. leads_to_fault layout modules (state c.args.work.now) e rest k l (fixups_are_fault layout e l.so_far k clean (sym left ∙ h)))
+    (λ k h.
+    leads_to_fault layout modules (state c.args.work.now) e rest k l
+    (fixups_are_fault layout e l.so_far k clean (sym left ∙ h)))
     (λ p.
-    leads_on layout modules (state c.args.work.now) _ e rest well c.requires.whole c.requires.ready.inside l clean (sym left ∙ p.0)
+    leads_on layout modules (state c.args.work.now) _ e rest well c.requires.whole c.requires.ready.inside l clean
+    (sym left ∙ p.0)
     (holds_same _ _ _ _ _ _ _ (sym c.data_address-start.ensures) z
-    (subst (λ (ps : List Patch). Holds c.data_address-start.result d.bytes.now (state c.args.work.now) (state c.add_fixups.new.work) ps) (patches_left f xs laid) p.1)))
-    (subst (λ (ys : List ResolvedFixup). Answers c.add_fixups.result (fixups_fault layout e earlier ys) (λ _. (fixups_fault layout e earlier ys ≡ None)
-    × Holds c.data_address-start.result d.bytes.now (state c.args.work.now) (state c.add_fixups.new.work) (earlier ++ flat_map f ys))) to_end
+    (subst
+    (λ (ps : List Patch).
+    Holds c.data_address-start.result d.bytes.now (state c.args.work.now) (state c.add_fixups.new.work) ps)
+    (patches_left f xs laid) p.1)))
+    (subst
+    (λ (ys : List ResolvedFixup).
+    Answers c.add_fixups.result (fixups_fault layout e earlier ys) (λ _. (fixups_fault layout e earlier ys ≡ None)
+    × Holds c.data_address-start.result d.bytes.now (state c.args.work.now) (state c.add_fixups.new.work)
+    (earlier ++ flat_map f ys))) to_end
     (c.add_fixups.ensures.gives d.bytes.now (state c.args.work.now) earlier c.in_ok-laid.ensures.gives.0))
 
 no_fixups : {X : Type 0} (xs : List X) → length xs ≡ 0 → xs ≡ []
@@ -143,12 +177,20 @@ returns-then-is_empty-clause-gives g c modules rest l =
     let e : Entry = record { input = c.args.input; module' = c.args.module.now; data_record = data_seen d } in
     let z : bytes_of e.data_record ≡ d.bytes.now = second_of_zip d.places.now d.bytes.now (sym c.requires.lengths) in
     let bytes : List ℕ = (datum 0 layout e).bytes in
-    let n : length bytes ≡ length d.bytes.now = length-patched_all (patches 0 layout e) (bytes_of e.data_record) ∙ ap length z in
+    let n : length bytes ≡ length d.bytes.now =
+    length-patched_all (patches 0 layout e) (bytes_of e.data_record) ∙ ap length z in
     let told = c.covers_relocated.ensures bytes l.so_far n (listed_same _ _ l.so_far c.deref.ensures.value l.listed) in
-    let clean : covers_word (datum 0 layout e) l.so_far ≡ false = ap (λ (s : ℕ). covers_word (record { start = s; bytes = bytes }) l.so_far) (sym c.data_address-start.ensures) ∙ sym told ∙ c.if-covers_relocated.false in
-    let well : WellPlaced e.data_record = All-weaker (IsFixupReady layout e) (LiesInContent e.data_record) (λ x h. h.lies) d.fixups.now c.requires.ready.fixups in
+    let clean : covers_word (datum 0 layout e) l.so_far ≡ false =
+    ap (λ (s : ℕ). covers_word (record { start = s; bytes = bytes }) l.so_far) (sym c.data_address-start.ensures)
+    ∙ sym told ∙ c.if-covers_relocated.false in
+    let well : WellPlaced e.data_record =
+    All-weaker (IsFixupReady layout e) (LiesInContent e.data_record) (λ x h. h.lies) d.fixups.now
+    c.requires.ready.fixups in
     let none : d.fixups.now ≡ [] = no_fixups d.fixups.now (search rules) in
     leads_on layout modules (state c.args.work.now) _ e rest well c.requires.whole c.requires.ready.inside l clean
     (ap (fixups_fault layout e []) none)
     (holds_same _ _ _ _ _ _ _ (sym c.data_address-start.ensures) z
-    (subst (λ (xs : List ResolvedFixup). Holds c.data_address-start.result d.bytes.now (state c.args.work.now) (state c.lay.new.self) (flat_map (fixup_patches 0 layout e) xs)) (sym none) c.in_ok-lay.ensures.holds))
+    (subst
+    (λ (xs : List ResolvedFixup).
+    Holds c.data_address-start.result d.bytes.now (state c.args.work.now) (state c.lay.new.self)
+    (flat_map (fixup_patches 0 layout e) xs)) (sym none) c.in_ok-lay.ensures.holds))

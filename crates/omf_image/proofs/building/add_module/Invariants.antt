@@ -9,6 +9,7 @@ use Rattle.omf_image.proofs.building.add_module.Given as goal
 abbrev pub invariant-loop-index : goal.invariant-loop-index
 invariant-loop-index g l = record {
   whole : IsWhole l.layout (state l.work);
-  gives : (modules : List Module) (rest : List Entry) → Leads l.layout modules (state l.initial.work) (module_entries l.input l.module ++ rest)
+  gives : (modules : List Module) (rest : List Entry)
+      → Leads l.layout modules (state l.initial.work) (module_entries l.input l.module ++ rest)
       → Leads l.layout modules (state l.work) (drop l.index (module_entries l.input l.module) ++ rest);
 }

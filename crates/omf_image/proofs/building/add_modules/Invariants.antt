@@ -10,5 +10,6 @@ abbrev pub invariant-loop-input : goal.invariant-loop-input
 invariant-loop-input g l = record {
   whole : IsWhole l.layout (state l.work);
   ready : All (IsEntryReady l.layout) (entries_from l.input (drop l.input l.modules));
-  gives : Leads l.layout l.modules (state l.initial.work) (entries l.modules) → Leads l.layout l.modules (state l.work) (entries_from l.input (drop l.input l.modules));
+  gives : Leads l.layout l.modules (state l.initial.work) (entries l.modules)
+      → Leads l.layout l.modules (state l.work) (entries_from l.input (drop l.input l.modules));
 }

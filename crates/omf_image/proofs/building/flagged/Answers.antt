@@ -12,7 +12,8 @@ loop-address-preserved g c =
     let so_far = filter p (range_with_len 0 i) in
     elim c.if-flag.branch [
       | then-flag+in_ok-push w ↦
-          ap (λ v. v.items) w.addresses-is ∙ w.in_ok-push.ensures.items ∙ ap (λ (l : List ℕ). l ++ i ∷ []) c.loop-address.invariant
+          ap (λ v. v.items) w.addresses-is ∙ w.in_ok-push.ensures.items
+          ∙ ap (λ (l : List ℕ). l ++ i ∷ []) c.loop-address.invariant
           ∙ sym (filter_more p i ∙ ap (λ (b : Bool). so_far ++ cond b (i ∷ []) []) w.if-flag.true)
       | else-flag w ↦
           ap (λ v. v.items) w.addresses-is ∙ c.loop-address.invariant

@@ -11,8 +11,10 @@ pub end_with-end-requires-clause-ready : goal.end_with-end-requires-clause-ready
 end_with-end-requires-clause-ready g c =
     let i = c.loop-input.input in
     let m = c.index-modules-input.result in
-    all_left (IsEntryReady c.args.layout.now) (module_entries i m) (entries_from (i + 1) (drop (i + 1) c.args.modules.now))
-    (subst (All (IsEntryReady c.args.layout.now)) (module_next c.args.modules.now i m c.loop-input-test.true c.index-modules-input.is) c.loop-input.invariant.ready)
+    all_left (IsEntryReady c.args.layout.now) (module_entries i m)
+    (entries_from (i + 1) (drop (i + 1) c.args.modules.now))
+    (subst (All (IsEntryReady c.args.layout.now))
+    (module_next c.args.modules.now i m c.loop-input-test.true c.index-modules-input.is) c.loop-input.invariant.ready)
 
 pub loop-input-preserved : goal.loop-input-preserved
 loop-input-preserved g c =
@@ -23,7 +25,9 @@ loop-input-preserved g c =
     let rest = entries_from (i + 1) (drop (i + 1) c.args.modules.now) in
     let next = module_next c.args.modules.now i m c.loop-input-test.true c.index-modules-input.is in
     record {
-      ready = all_right (IsEntryReady c.args.layout.now) now rest (subst (All (IsEntryReady c.args.layout.now)) next c.loop-input.invariant.ready);
+      ready =
+          all_right (IsEntryReady c.args.layout.now) now rest
+          (subst (All (IsEntryReady c.args.layout.now)) next c.loop-input.invariant.ready);
       end =
           ap (λ (n : ℕ). fold max n (map f rest)) c.end_with-end.ensures
           ∙ sym (fold-append max c.loop-input.end (map f now) (map f rest))

@@ -7,5 +7,6 @@ use Rattle.omf_image.proofs.extent.written.Given as goal
 abbrev pub invariant-loop-input : goal.invariant-loop-input
 invariant-loop-input g l = record {
   ready : All (IsEntryReady l.layout) (entries_from l.input (drop l.input l.modules));
-  end : fold max l.end (map (entry_end l.layout) (entries_from l.input (drop l.input l.modules))) ≡ written l.layout l.modules;
+  end : fold max l.end (map (entry_end l.layout) (entries_from l.input (drop l.input l.modules)))
+      ≡ written l.layout l.modules;
 }

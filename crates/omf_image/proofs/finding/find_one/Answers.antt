@@ -11,4 +11,5 @@ returns-in_ok-push g c stored n plain =
 
 pub returns-else-from-len : goal.returns-else-from-len
 returns-else-from-len g c stored n plain =
-    c.clear.ensures.items ∙ sym (plain_miss stored c.args.offset plain (omega (arith, c.from.ensures, c.if-from-len.false, n)))
+    c.clear.ensures.items
+    ∙ sym (plain_miss stored c.args.offset plain (omega (arith, c.from.ensures, c.if-from-len.false, n)))

@@ -11,7 +11,8 @@ fix-requires-clause-hits g c k h =
     let s = c.args.placed.now in
     let e : Entry = entry_seen s in
     let x = c.args.fixup.now in
-    let z : stored_of e.data_record ≡ s.data_record.places.now = first_of_zip s.data_record.places.now s.data_record.bytes.now (sym c.requires.placed.lengths) in
+    let z : stored_of e.data_record ≡ s.data_record.places.now =
+    first_of_zip s.data_record.places.now s.data_record.bytes.now (sym c.requires.placed.lengths) in
     let is = c.deref.ensures.value ∙ c.in_ok-find_hits.ensures ∙ ap (hits x.offset) (sym z) in
     let room = hit_inside e.data_record x c.deref.result.now k c.requires.fixup.lies is h in
     omega (arith, room, ap length z, c.requires.placed.lengths, c.requires.sized)
@@ -21,11 +22,16 @@ returns-clause-gives g c bytes base earlier h =
     let s = c.args.placed.now in
     let e : Entry = entry_seen s in
     let x = c.args.fixup.now in
-    let z : stored_of e.data_record ≡ s.data_record.places.now = first_of_zip s.data_record.places.now s.data_record.bytes.now (sym c.requires.placed.lengths) in
+    let z : stored_of e.data_record ≡ s.data_record.places.now =
+    first_of_zip s.data_record.places.now s.data_record.bytes.now (sym c.requires.placed.lengths) in
     let is = c.deref.ensures.value ∙ c.in_ok-find_hits.ensures ∙ ap (hits x.offset) (sym z) in
     let gives = c.in_ok-fix.ensures.gives bytes base earlier h in (
-      fault_on s.layout.now e x c.in_ok-resolved.resolved s.start c.deref.result.now earlier c.in_ok-resolved.ensures c.requires.placed.start is ∙ gives.0,
-      subst (λ (ps : List Patch). Holds s.start bytes base (state c.fix.new.work) (earlier ++ ps)) (sym (patches_found s.layout.now e x c.in_ok-resolved.resolved s.start c.deref.result.now c.in_ok-resolved.ensures c.requires.placed.start is)) gives.1,
+      fault_on s.layout.now e x c.in_ok-resolved.resolved s.start c.deref.result.now earlier c.in_ok-resolved.ensures
+          c.requires.placed.start is ∙ gives.0,
+      subst (λ (ps : List Patch). Holds s.start bytes base (state c.fix.new.work) (earlier ++ ps))
+          (sym
+          (patches_found s.layout.now e x c.in_ok-resolved.resolved s.start c.deref.result.now c.in_ok-resolved.ensures
+          c.requires.placed.start is)) gives.1,
     )
 
 pub returns-in_err-fix-clause-gives : goal.returns-in_err-fix-clause-gives
@@ -33,13 +39,16 @@ returns-in_err-fix-clause-gives g c bytes base earlier h =
     let s = c.args.placed.now in
     let e : Entry = entry_seen s in
     let x = c.args.fixup.now in
-    let z : stored_of e.data_record ≡ s.data_record.places.now = first_of_zip s.data_record.places.now s.data_record.bytes.now (sym c.requires.placed.lengths) in
+    let z : stored_of e.data_record ≡ s.data_record.places.now =
+    first_of_zip s.data_record.places.now s.data_record.bytes.now (sym c.requires.placed.lengths) in
     let is = c.deref.ensures.value ∙ c.in_ok-find_hits.ensures ∙ ap (hits x.offset) (sym z) in
     gives_fault s.layout.now e earlier x _ _ _ c.from_residual-in_err-fix.ensures.1 (
-    fault_on s.layout.now e x c.in_ok-resolved.resolved s.start c.deref.result.now earlier c.in_ok-resolved.ensures c.requires.placed.start is
+    fault_on s.layout.now e x c.in_ok-resolved.resolved s.start c.deref.result.now earlier c.in_ok-resolved.ensures
+    c.requires.placed.start is
     ∙ c.in_err-fix.ensures.gives bytes base earlier h)
 
 pub returns-in_err-resolved-clause-gives : goal.returns-in_err-resolved-clause-gives
 returns-in_err-resolved-clause-gives g c bytes base earlier h =
     let s = c.args.placed.now in
-    gives_fault s.layout.now (entry_seen s) earlier c.args.fixup.now _ _ _ c.from_residual.ensures.1 (c.in_err-resolved.ensures earlier)
+    gives_fault s.layout.now (entry_seen s) earlier c.args.fixup.now _ _ _ c.from_residual.ensures.1
+    (c.in_err-resolved.ensures earlier)

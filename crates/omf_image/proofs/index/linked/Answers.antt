@@ -27,9 +27,14 @@ loop-i-preserved g c =
       nexts = length-set nexts j c.index.result.now ∙ inv.nexts;
       rises = rises_set nexts j c.index.result.now inv.rises (omega (arith, v, up, some));
       above = λ o h. elim (cases_eq o p) [
-        | inl q ↦ let s : get_or (set heads p j) o 0 ≡ j = ap (λ (k : ℕ). get_or (set heads p j) k 0) q ∙ get_or-set_same heads p j 0 inside in omega (arith, s)
-        | inr q ↦ let s : get_or (set heads p j) o 0 ≡ get_or heads o 0 = get_or-set_other heads p o j 0 q in let u = inv.above o h in omega (arith, s, u)
+        | inl q ↦
+            let s : get_or (set heads p j) o 0 ≡ j =
+            ap (λ (k : ℕ). get_or (set heads p j) k 0) q ∙ get_or-set_same heads p j 0 inside in omega (arith, s)
+        | inr q ↦
+            let s : get_or (set heads p j) o 0 ≡ get_or heads o 0 = get_or-set_other heads p o j 0 q in
+            let u = inv.above o h in omega (arith, s, u)
       ];
       chains = λ o h. subst (λ (k : ℕ). Chain (set nexts j k) (get_or (set heads p j) o 0) (from o places j)) (sym v)
-          (chain_more places nexts heads i j p o e inv.inside inv.nexts at inside (omega (arith, h, inv.heads)) inv.rises (inv.above o h) (inv.chains o h));
+          (chain_more places nexts heads i j p o e inv.inside inv.nexts at inside (omega (arith, h, inv.heads))
+          inv.rises (inv.above o h) (inv.chains o h));
     }

@@ -8,7 +8,8 @@ loop-at-preserved g c list chain =
     let step = chain_step c.args.nexts.now c.loop-at.at old.0 c.loop-at-test.true old.1 in (
       step.0,
       step.2,
-      ap (λ (l : List ℕ). l ++ step.0) c.in_ok-push.ensures.items ∙ append_assoc c.loop-at.positions.items (c.loop-at.at ∷ []) step.0
+      ap (λ (l : List ℕ). l ++ step.0) c.in_ok-push.ensures.items
+          ∙ append_assoc c.loop-at.positions.items (c.loop-at.at ∷ []) step.0
           ∙ ap (λ (l : List ℕ). c.loop-at.positions.items ++ l) (sym step.1) ∙ old.2,
     )
 
@@ -16,4 +17,5 @@ pub returns : goal.returns
 returns g c list chain =
     let old = c.loop-at.invariant list chain in
     sym (append-nil c.loop-at.positions.items)
-    ∙ ap (λ (l : List ℕ). c.loop-at.positions.items ++ l) (sym (chain_end c.args.nexts.now c.loop-at.at old.0 (omega (arith, c.loop-at-test.false)) old.1)) ∙ old.2
+    ∙ ap (λ (l : List ℕ). c.loop-at.positions.items ++ l)
+    (sym (chain_end c.args.nexts.now c.loop-at.at old.0 (omega (arith, c.loop-at-test.false)) old.1)) ∙ old.2

@@ -19,7 +19,8 @@ returns-in-Err-clause-gives g c earlier h =
     let i = c.loop-fixup.fixup-index in
     let so_far = earlier ++ flat_map (fixup_patches 0 s.layout.now e) (take i xs) in
     answers_at _ _ _ _ c.at.ensures
-    (fixups_stop _ _ s.layout.now e xs i _ c.in-Err.stop so_far (fixups_fault s.layout.now e earlier xs) c.loop-fixup-test.true (c.in-Err.ensures.gives so_far old.0) old.1)
+    (fixups_stop _ _ s.layout.now e xs i _ c.in-Err.stop so_far (fixups_fault s.layout.now e earlier xs)
+    c.loop-fixup-test.true (c.in-Err.ensures.gives so_far old.0) old.1)
 
 pub loop-fixup-preserved : goal.loop-fixup-preserved
 loop-fixup-preserved g c =
@@ -34,8 +35,12 @@ loop-fixup-preserved g c =
           let so_far = earlier ++ flat_map (fixup_patches 0 s.layout.now e) (take i xs) in
           let old = c.loop-fixup.invariant.gives earlier h in
           let new = c.in-Ok.ensures.gives so_far old.0 in (
-            subst (λ (ps : List Patch). IsStored s.data_record.places.now s.data_record.bytes.now (state c.add_once.new.stored) ps) (patches_more (fixup_patches 0 s.layout.now e) earlier xs i _ c.loop-fixup-test.true) new.1,
-            fixups_more s.layout.now e earlier xs i _ (fixups_fault s.layout.now e earlier xs) c.loop-fixup-test.true new.0 old.1,
+            subst
+                (λ (ps : List Patch).
+                IsStored s.data_record.places.now s.data_record.bytes.now (state c.add_once.new.stored) ps)
+                (patches_more (fixup_patches 0 s.layout.now e) earlier xs i _ c.loop-fixup-test.true) new.1,
+            fixups_more s.layout.now e earlier xs i _ (fixups_fault s.layout.now e earlier xs) c.loop-fixup-test.true
+                new.0 old.1,
           );
     }
 
@@ -47,6 +52,10 @@ returns-clause-gives g c earlier h =
     let xs = c.args.fixups.now in
     let i = c.loop-fixup.fixup-index in
     let done = c.loop-fixup.invariant.gives earlier h in (
-      sym done.1 ∙ at_drop_all (fixups_fault s.layout.now e (earlier ++ flat_map f (take i xs))) xs i c.loop-fixup-test.false,
-      subst (λ (l : List ResolvedFixup). IsStored s.data_record.places.now s.data_record.bytes.now (state c.loop-fixup.stored) (earlier ++ flat_map f l)) (take_all i xs c.loop-fixup-test.false) done.0,
+      sym done.1
+          ∙ at_drop_all (fixups_fault s.layout.now e (earlier ++ flat_map f (take i xs))) xs i c.loop-fixup-test.false,
+      subst
+          (λ (l : List ResolvedFixup).
+          IsStored s.data_record.places.now s.data_record.bytes.now (state c.loop-fixup.stored)
+          (earlier ++ flat_map f l)) (take_all i xs c.loop-fixup-test.false) done.0,
     )

@@ -11,8 +11,12 @@ abbrev pub invariant-loop-fixup : goal.invariant-loop-fixup
 invariant-loop-fixup g l = record {
   room : IsRoom 0 (state l.stored);
   same : length l.stored.touched.items ≡ length l.initial.stored.touched.items;
-  gives : (earlier : List Patch) → IsStored l.placed.data_record.places.now l.placed.data_record.bytes.now (state l.initial.stored) earlier
-      → IsStored l.placed.data_record.places.now l.placed.data_record.bytes.now (state l.stored) (earlier ++ flat_map (fixup_patches 0 l.placed.layout.now (entry_seen l.placed)) (take l.fixup-index l.fixups))
-      × (fixups_fault l.placed.layout.now (entry_seen l.placed) (earlier ++ flat_map (fixup_patches 0 l.placed.layout.now (entry_seen l.placed)) (take l.fixup-index l.fixups)) (drop l.fixup-index l.fixups)
+  gives : (earlier : List Patch)
+      → IsStored l.placed.data_record.places.now l.placed.data_record.bytes.now (state l.initial.stored) earlier
+      → IsStored l.placed.data_record.places.now l.placed.data_record.bytes.now (state l.stored)
+      (earlier ++ flat_map (fixup_patches 0 l.placed.layout.now (entry_seen l.placed)) (take l.fixup-index l.fixups))
+      × (fixups_fault l.placed.layout.now (entry_seen l.placed)
+      (earlier ++ flat_map (fixup_patches 0 l.placed.layout.now (entry_seen l.placed)) (take l.fixup-index l.fixups))
+      (drop l.fixup-index l.fixups)
       ≡ fixups_fault l.placed.layout.now (entry_seen l.placed) earlier l.fixups);
 }

@@ -20,11 +20,14 @@ fix-requires-clause-hits g c =
     let w = location_width x.location in
     let n = length c.args.stored.now.touched.items in
     let places = s.data_record.places.now in
-    let z : stored_of e.data_record ≡ places = first_of_zip places s.data_record.bytes.now (sym c.requires.placed.lengths) in
+    let z : stored_of e.data_record ≡ places =
+    first_of_zip places s.data_record.bytes.now (sym c.requires.placed.lengths) in
     let at = c.deref.ensures.value ∙ c.in_ok-find_once.ensures places (c.requires.placed.index c.requires.repeated) in
     let together = subst (StandTogether x.offset w) z c.requires.fixup.lies in
     subst (λ (l : List ℕ). (k : ℕ) → k < length l → get_or l k 0 + w ≤ n) (sym at)
-    (λ k h. stored_room x.offset w places (hits x.offset places) n k (width_some x.location) together refl (λ j l. c.requires.ends j 0 l) h)
+    (λ k h.
+    stored_room x.offset w places (hits x.offset places) n k (width_some x.location) together refl
+    (λ j l. c.requires.ends j 0 l) h)
 
 pub returns-clause-gives : goal.returns-clause-gives
 returns-clause-gives g c earlier h =
@@ -43,11 +46,17 @@ returns-clause-gives g c earlier h =
     let whole = subst (StandWhole x.offset w) z c.requires.fixup.whole in
     let gives = c.in_ok-fix.ensures.gives h.contents h.base h.once h.holds in (
       fault_on s.layout.now e x r s.start is earlier c.in_ok-resolved.ensures c.requires.placed.start found
-          ∙ stored_test x r s.start places bytes is (state c.args.stored.now) earlier c.requires.leading refl together whole h
+          ∙ stored_test x r s.start places bytes is (state c.args.stored.now) earlier c.requires.leading refl together
+          whole h
           ∙ ap (λ (l : List ℕ). first_test r x.self_relative x.location 0 l h.once) (sym at) ∙ gives.0,
-      subst (λ (ps : List Patch). IsStored places bytes (state c.fix.new.work) (earlier ++ ps)) (sym (patches_found s.layout.now e x r s.start is c.in_ok-resolved.ensures c.requires.placed.start found))
-          (stored_more x r s.start places bytes is (state c.args.stored.now) earlier c.requires.leading refl together whole h (state c.fix.new.work)
-          (subst (λ (l : List ℕ). Holds 0 h.contents h.base (state c.fix.new.work) (h.once ++ patches_on 0 r x.self_relative x.location 0 l)) at gives.1)),
+      subst (λ (ps : List Patch). IsStored places bytes (state c.fix.new.work) (earlier ++ ps))
+          (sym (patches_found s.layout.now e x r s.start is c.in_ok-resolved.ensures c.requires.placed.start found))
+          (stored_more x r s.start places bytes is (state c.args.stored.now) earlier c.requires.leading refl together
+          whole h (state c.fix.new.work)
+          (subst
+          (λ (l : List ℕ).
+          Holds 0 h.contents h.base (state c.fix.new.work) (h.once ++ patches_on 0 r x.self_relative x.location 0 l)) at
+          gives.1)),
     )
 
 pub returns-in_err-fix-clause-gives : goal.returns-in_err-fix-clause-gives
@@ -68,9 +77,11 @@ returns-in_err-fix-clause-gives g c earlier h =
     gives_fault s.layout.now e earlier x _ _ _ c.from_residual-in_err-fix.ensures.1 (
     fault_on s.layout.now e x r s.start is earlier c.in_ok-resolved.ensures c.requires.placed.start found
     ∙ stored_test x r s.start places bytes is (state c.args.stored.now) earlier c.requires.leading refl together whole h
-    ∙ ap (λ (l : List ℕ). first_test r x.self_relative x.location 0 l h.once) (sym at) ∙ c.in_err-fix.ensures.gives h.contents h.base h.once h.holds)
+    ∙ ap (λ (l : List ℕ). first_test r x.self_relative x.location 0 l h.once) (sym at)
+    ∙ c.in_err-fix.ensures.gives h.contents h.base h.once h.holds)
 
 pub returns-in_err-resolved-clause-gives : goal.returns-in_err-resolved-clause-gives
 returns-in_err-resolved-clause-gives g c earlier h =
     let s = c.args.placed.now in
-    gives_fault s.layout.now (entry_seen s) earlier c.args.fixup.now _ _ _ c.from_residual.ensures.1 (c.in_err-resolved.ensures earlier)
+    gives_fault s.layout.now (entry_seen s) earlier c.args.fixup.now _ _ _ c.from_residual.ensures.1
+    (c.in_err-resolved.ensures earlier)

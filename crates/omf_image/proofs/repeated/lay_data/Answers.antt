@@ -14,12 +14,14 @@ add_each_once-requires-clause-placed g c = c.requires.placed
 pub add_each_once-requires-clause-fixups : goal.add_each_once-requires-clause-fixups
 add_each_once-requires-clause-fixups g c =
     let s = c.args.placed.now in
-    All-take (IsFixupReady s.layout.now (entry_seen s)) c.count_once-count.result s.data_record.fixups.now c.requires.fixups
+    All-take (IsFixupReady s.layout.now (entry_seen s)) c.count_once-count.result s.data_record.fixups.now
+    c.requires.fixups
 
 pub returns-in_err-add_each_once-clause-gives : goal.returns-in_err-add_each_once-clause-gives
 returns-in_err-add_each_once-clause-gives g c =
     let s = c.args.placed.now in
-    refused_by _ _ _ _ _ _ c.from_residual-in_err-add_each_once.ensures.1 (fixups_first s.layout.now (entry_seen s) s.data_record.fixups.now c.count_once-count.result)
+    refused_by _ _ _ _ _ _ c.from_residual-in_err-add_each_once.ensures.1
+    (fixups_first s.layout.now (entry_seen s) s.data_record.fixups.now c.count_once-count.result)
     (c.in_err-add_each_once.ensures.gives [] c.in_ok-stored.ensures.stored)
 
 pub returns-clause-gives : goal.returns-clause-gives

@@ -11,6 +11,8 @@ loop-i-preserved g c =
     record {
       sized = length-set old c.from.result byte ∙ c.loop-i.invariant.sized;
       copied = λ k l.
-          copied_next c.args.places.now c.args.bytes.now old (set old c.from.result byte) c.loop-i.i k c.requires.lengths c.requires.copies c.loop-i-test.true
-          (omega (arith, end, c.loop-i.invariant.sized)) (ap (λ (p : ℕ). set old p byte) c.from.ensures) (c.loop-i.invariant.copied k) l;
+          copied_next c.args.places.now c.args.bytes.now old (set old c.from.result byte) c.loop-i.i k
+          c.requires.lengths c.requires.copies c.loop-i-test.true
+          (omega (arith, end, c.loop-i.invariant.sized)) (ap (λ (p : ℕ). set old p byte) c.from.ensures)
+          (c.loop-i.invariant.copied k) l;
     }

@@ -10,6 +10,8 @@ returns-clause-stored g c =
     let n = c.in_ok-contents.ensures.sized in
     stored_first c.args.places.now c.args.bytes.now c.in_ok-contents.contents.items base _ c.requires.lengths
     (λ k h. let above = c.end_of-end.ensures.above k 0 h in omega (arith, above, n))
-    (λ k. ap (λ (flags : List Bool). get_or flags k false) c.in_ok-stored.ensures.words ∙ get_or-blank false c.end_of-end.result k)
+    (λ k.
+    ap (λ (flags : List Bool). get_or flags k false) c.in_ok-stored.ensures.words
+    ∙ get_or-blank false c.end_of-end.result k)
     c.in_ok-contents.ensures.copied
     (subst (λ (xs : List ℕ). Holds 0 xs base (state c.lay.new.self) []) c.deref.ensures.value c.in_ok-lay.ensures.holds)

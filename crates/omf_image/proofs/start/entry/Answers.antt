@@ -4,14 +4,18 @@ use Rattle.omf_image.proofs.Listing.{one_start, two_starts, all_head}
 use Rattle.omf_image.proofs.start.entry.Goals as goal
 
 pub returns-in-Some-next_start : goal.returns-in-Some-next_start
-returns-in-Some-next_start g c = two_starts c.args.layout.now c.args.modules.now (c.in-Some.input, c.in-Some.start) (c.in-Some-next_start.second, c.in-Some-next_start.other) c.in-Some.ensures c.in-Some-next_start.ensures
+returns-in-Some-next_start g c =
+    two_starts c.args.layout.now c.args.modules.now (c.in-Some.input, c.in-Some.start)
+    (c.in-Some-next_start.second, c.in-Some-next_start.other) c.in-Some.ensures c.in-Some-next_start.ensures
 
 pub entry_of-requires : goal.entry_of-requires
 entry_of-requires g c =
     all_head (IsStartReady c.args.layout.now) _ _
-    (subst (All (IsStartReady c.args.layout.now)) (c.in-Some.ensures.1 c.index-modules-input.result c.index-modules-input.is) c.requires)
+    (subst (All (IsStartReady c.args.layout.now))
+    (c.in-Some.ensures.1 c.index-modules-input.result c.index-modules-input.is) c.requires)
 
 pub returns-in-Ok : goal.returns-in-Ok
 returns-in-Ok g c =
-    one_start c.args.layout.now c.args.modules.now (c.in-Some.input, c.in-Some.start) c.index-modules-input.result c.in-Ok.entry c.index-modules-input.is c.in-Some.ensures
+    one_start c.args.layout.now c.args.modules.now (c.in-Some.input, c.in-Some.start) c.index-modules-input.result
+    c.in-Ok.entry c.index-modules-input.is c.in-Some.ensures
     c.in_default-next_start.ensures c.in-Ok.ensures

@@ -11,12 +11,18 @@ returns-then-is_stack_segment g c =
     let p : Combined → Bool = is_stack_segment c.args.modules.now in
     let all = c.args.layout.now.combined in
     let i = c.loop-index.index in
-    let next = item_next all i x (omega (arith, c.loop-index-test.true, c.combined_len-index-end.ensures)) c.combined-combined.ensures in
+    let next =
+    item_next all i x (omega (arith, c.loop-index-test.true, c.combined_len-index-end.ensures))
+    c.combined-combined.ensures in
     let found : find p all ≡ Some x =
-    sym c.loop-index.invariant ∙ ap (find p) next ∙ ap (λ (b : Bool). cond b (Some x) (find p (drop (i + 1) all))) (sym c.is_stack_segment.ensures ∙ c.if-is_stack_segment.true) in
+    sym c.loop-index.invariant ∙ ap (find p) next
+    ∙ ap (λ (b : Bool). cond b (Some x) (find p (drop (i + 1) all)))
+    (sym c.is_stack_segment.ensures ∙ c.if-is_stack_segment.true) in
     let a : x.start / 16 % 65536 ≡ (x.start / 16 + 0) % 65536 = omega arith in
-    let b : c.saturating_sub-length.result % 65536 ≡ (x.end - 16 * (x.start / 16)) % 65536 = omega (arith, c.saturating_sub-length.ensures) in
-    ap (λ (n : ℕ). (n, c.saturating_sub-length.result % 65536)) a ∙ ap (λ (n : ℕ). ((x.start / 16 + 0) % 65536, n)) b ∙ ap (stack_of 0) (sym found)
+    let b : c.saturating_sub-length.result % 65536 ≡ (x.end - 16 * (x.start / 16)) % 65536 =
+    omega (arith, c.saturating_sub-length.ensures) in
+    ap (λ (n : ℕ). (n, c.saturating_sub-length.result % 65536)) a ∙ ap (λ (n : ℕ). ((x.start / 16 + 0) % 65536, n)) b
+    ∙ ap (stack_of 0) (sym found)
 
 pub loop-index-preserved : goal.loop-index-preserved
 loop-index-preserved g c =
@@ -24,6 +30,9 @@ loop-index-preserved g c =
     let p : Combined → Bool = is_stack_segment c.args.modules.now in
     let all = c.args.layout.now.combined in
     let i = c.loop-index.index in
-    let next = item_next all i x (omega (arith, c.loop-index-test.true, c.combined_len-index-end.ensures)) c.combined-combined.ensures in
-    ap (λ (b : Bool). cond b (Some x) (find p (drop (i + 1) all))) (sym (sym c.is_stack_segment.ensures ∙ c.if-is_stack_segment.false))
+    let next =
+    item_next all i x (omega (arith, c.loop-index-test.true, c.combined_len-index-end.ensures))
+    c.combined-combined.ensures in
+    ap (λ (b : Bool). cond b (Some x) (find p (drop (i + 1) all)))
+    (sym (sym c.is_stack_segment.ensures ∙ c.if-is_stack_segment.false))
     ∙ ap (find p) (sym next) ∙ c.loop-index.invariant

@@ -17,5 +17,10 @@ returns g c =
     settled-handed_on {T = Unit {0}} {A = g.row.A.Denot}
     (λ a. (x y : Option (List ℕ)) × Checks (g.W.World.bytes c.args.world c.args.file.now) x
     (sink_bytes g.O.Write.contents c.args.output.now) y a × Keeps y (sink_bytes g.O.Write.contents c.flushed.new.sink))
-    _ _ _ c.check-result.result _ _ c.by_memory.ensures c.flushed.ensures.kept c.flushed.ensures.failed
-    (rest, mid, subst (λ x. Checks x rest old mid c.check-result.result) told c.check-result.ensures.checks, c.flushed.ensures.same)
+    _ _ _ c.check-result.result _ _ c.by_memory.ensures c.flushed.ensures.kept c.flushed.ensures.failed (
+      rest,
+      mid,
+      subst (λ x. Checks x rest old mid c.check-result.result) told
+          c.check-result.ensures.checks,
+      c.flushed.ensures.same,
+    )

@@ -17,5 +17,10 @@ returns g c =
     settled-handed_on {T = Unit {0}} {A = g.row.A.Denot}
     (λ a. (x y : Option (List ℕ)) × LoadsFile c.args.paragraph (g.W.World.bytes c.args.world c.args.file.now) x
     (sink_bytes g.O.Write.contents c.args.output.now) y a × Keeps y (sink_bytes g.O.Write.contents c.flushed.new.sink))
-    _ _ _ c.load_file-result.result _ _ c.by_memory.ensures c.flushed.ensures.kept c.flushed.ensures.failed
-    (rest, mid, subst (λ x. LoadsFile c.args.paragraph x rest old mid c.load_file-result.result) told c.load_file-result.ensures.loads, c.flushed.ensures.same)
+    _ _ _ c.load_file-result.result _ _ c.by_memory.ensures c.flushed.ensures.kept c.flushed.ensures.failed (
+      rest,
+      mid,
+      subst (λ x. LoadsFile c.args.paragraph x rest old mid c.load_file-result.result) told
+          c.load_file-result.ensures.loads,
+      c.flushed.ensures.same,
+    )

@@ -13,10 +13,12 @@ returns g c =
     let told = source_told g.W.World.bytes g.W.Input.Read.remaining c.args.world c.args.from c.open_source-source.result
     c.open_source-source.ensures.world c.open_source-source.ensures.path c.open_source-source.ensures.waiting in
     settled-handed_on {T = Unit {0}} {A = g.row.A.Denot}
-    (λ a. (x y z : Option (List ℕ)) × GoesThrough canonical_record (g.W.World.bytes c.args.world c.args.from.now) x y z a)
+    (λ a.
+    (x y z : Option (List ℕ)) × GoesThrough canonical_record (g.W.World.bytes c.args.world c.args.from.now) x y z a)
     _ _ _ c.rewrite-result.result _ _ c.by_memory.ensures c.flushed.ensures.kept c.flushed.ensures.failed (
       rest,
       None,
       None,
-      subst (λ x. GoesThrough canonical_record x rest None None c.rewrite-result.result) told c.rewrite-result.ensures.output,
+      subst (λ x. GoesThrough canonical_record x rest None None c.rewrite-result.result) told
+          c.rewrite-result.ensures.output,
     )

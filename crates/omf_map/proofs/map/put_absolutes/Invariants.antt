@@ -7,5 +7,6 @@ use Rattle.omf_map.proofs.map.put_absolutes.Given as goal
 abbrev pub invariant-loop-segment : goal.invariant-loop-segment
 invariant-loop-segment g l = record {
   count : g.K.Sink.failures l.sink ≡ g.K.Sink.failures l.initial.sink;
-  appended : Appends (g.K.Sink.written l.initial.sink) (g.K.Sink.written l.sink) (flat_map absolute_line (take l.segment l.«module».segments));
+  appended : Appends (g.K.Sink.written l.initial.sink) (g.K.Sink.written l.sink)
+      (flat_map absolute_line (take l.segment l.«module».segments));
 }

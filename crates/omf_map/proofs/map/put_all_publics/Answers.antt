@@ -10,14 +10,19 @@ use Rattle.omf_map.proofs.map.put_all_publics.Goals as goal
 pub returns-in_err-put_publics : goal.returns-in_err-put_publics
 returns-in_err-put_publics g c =
     let loop = c.loop-module in
-    Wrote-failed _ _ _ _ _ _ _ (items_cut (λ (m : Module). flat_map (public_line c.args.layout.now) m.publics) c.args.modules.now loop.module-index c.module-item.result _ _ _ _ _ _ c.loop-module-test.true
-    loop.invariant.appended loop.invariant.count (rw (← c.module-item.is) c.in_err-put_publics.ensures)) c.from_residual.ensures.1
+    Wrote-failed _ _ _ _ _ _ _
+    (items_cut (λ (m : Module). flat_map (public_line c.args.layout.now) m.publics) c.args.modules.now loop.module-index
+    c.module-item.result _ _ _ _ _ _ c.loop-module-test.true
+    loop.invariant.appended loop.invariant.count (rw (← c.module-item.is) c.in_err-put_publics.ensures))
+    c.from_residual.ensures.1
 
 pub loop-module-preserved : goal.loop-module-preserved
 loop-module-preserved g c =
     let loop = c.loop-module in
     record {
       count = c.in_ok-put_publics.ensures.1 ∙ loop.invariant.count;
-      appended = item_more (λ (m : Module). flat_map (public_line c.args.layout.now) m.publics) c.args.modules.now loop.module-index c.module-item.result _ _ _ c.loop-module-test.true
+      appended =
+          item_more (λ (m : Module). flat_map (public_line c.args.layout.now) m.publics) c.args.modules.now
+          loop.module-index c.module-item.result _ _ _ c.loop-module-test.true
           loop.invariant.appended (rw (← c.module-item.is) c.in_ok-put_publics.ensures.0);
     }

@@ -7,5 +7,6 @@ pub returns : goal.returns
 unfolding combined_line
 returns g c =
     let here : slice_get c.args.modules.now c.args.combined.now.input ≡ Some c.in-Some.«module».now =
-    slice_get_read c.args.modules.now _ c.args.combined.now.input c.in-Some.«module».now refl c.in-Some.ensures.lookup.3.0 c.in-Some.ensures.lookup.1 in
+    slice_get_read c.args.modules.now _ c.args.combined.now.input c.in-Some.«module».now refl
+    c.in-Some.ensures.lookup.3.0 c.in-Some.ensures.lookup.1 in
     rw (here, c.segment.ensures) (rw c.saturating_sub-size.ensures at c.put_segment.ensures)

@@ -8,12 +8,16 @@ pub returns-in_err-put_frame : goal.returns-in_err-put_frame
 unfolding group_line
 returns-in_err-put_frame g c =
     let here : slice_get c.args.modules.now c.args.group.now.input ≡ Some c.in-Some.«module».now =
-    slice_get_read c.args.modules.now _ c.args.group.now.input c.in-Some.«module».now refl c.in-Some.ensures.lookup.3.0 c.in-Some.ensures.lookup.1 in
-    rw (here, c.group-named.ensures) (Wrote-cut _ _ _ _ _ _ _ _ _ c.in_err-put_frame.ensures refl c.from_residual.ensures.1)
+    slice_get_read c.args.modules.now _ c.args.group.now.input c.in-Some.«module».now refl c.in-Some.ensures.lookup.3.0
+    c.in-Some.ensures.lookup.1 in
+    rw (here, c.group-named.ensures)
+    (Wrote-cut _ _ _ _ _ _ _ _ _ c.in_err-put_frame.ensures refl c.from_residual.ensures.1)
 
 pub returns : goal.returns
 unfolding group_line
 returns g c =
     let here : slice_get c.args.modules.now c.args.group.now.input ≡ Some c.in-Some.«module».now =
-    slice_get_read c.args.modules.now _ c.args.group.now.input c.in-Some.«module».now refl c.in-Some.ensures.lookup.3.0 c.in-Some.ensures.lookup.1 in
-    rw (here, c.group-named.ensures) (Wrote-then _ _ _ _ _ _ _ _ _ c.in_ok-put_frame.ensures (rw c.as_slice.ensures at c.put_each.ensures))
+    slice_get_read c.args.modules.now _ c.args.group.now.input c.in-Some.«module».now refl c.in-Some.ensures.lookup.3.0
+    c.in-Some.ensures.lookup.1 in
+    rw (here, c.group-named.ensures)
+    (Wrote-then _ _ _ _ _ _ _ _ _ c.in_ok-put_frame.ensures (rw c.as_slice.ensures at c.put_each.ensures))

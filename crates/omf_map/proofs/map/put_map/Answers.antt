@@ -15,7 +15,8 @@ pub returns-in_err-put_public_lines : goal.returns-in_err-put_public_lines
 returns-in_err-put_public_lines g c =
     Wrote-then _ _ _ _ _ _ _ _ _ c.in_ok-put_segment_lines.ensures
     (Wrote-then _ _ _ _ _ _ _ _ _ c.in_ok-put_group_lines.ensures
-    (Wrote-cut _ _ _ _ _ _ _ _ _ c.in_err-put_public_lines.ensures refl c.from_residual-in_err-put_public_lines.ensures.1))
+    (Wrote-cut _ _ _ _ _ _ _ _ _ c.in_err-put_public_lines.ensures refl
+    c.from_residual-in_err-put_public_lines.ensures.1))
 
 pub returns : goal.returns
 returns g c =

@@ -7,5 +7,6 @@ use Rattle.omf_map.proofs.map.put_publics.Given as goal
 abbrev pub invariant-loop-public : goal.invariant-loop-public
 invariant-loop-public g l = record {
   count : g.K.Sink.failures l.sink ≡ g.K.Sink.failures l.initial.sink;
-  appended : Appends (g.K.Sink.written l.initial.sink) (g.K.Sink.written l.sink) (flat_map (public_line l.layout) (take l.public l.«module».publics));
+  appended : Appends (g.K.Sink.written l.initial.sink) (g.K.Sink.written l.sink)
+      (flat_map (public_line l.layout) (take l.public l.«module».publics));
 }

@@ -11,7 +11,8 @@ pub returns-in_err-put_all_combined : goal.returns-in_err-put_all_combined
 unfolding segment_lines
 returns-in_err-put_all_combined g c =
     Wrote-then _ _ _ _ _ _ _ _ _ c.in_ok-put_all.ensures
-    (Wrote-cut _ _ _ _ _ _ _ _ _ c.in_err-put_all_combined.ensures refl c.from_residual-in_err-put_all_combined.ensures.1)
+    (Wrote-cut _ _ _ _ _ _ _ _ _ c.in_err-put_all_combined.ensures refl
+    c.from_residual-in_err-put_all_combined.ensures.1)
 
 pub returns : goal.returns
 unfolding segment_lines

@@ -7,4 +7,9 @@ use Rattle.omf_module.proofs.builder.add_publics.Given as goal
 abbrev pub invariant-loop-public : goal.invariant-loop-public
 invariant-loop-public g l =
     (l.base ≡ tables.base_of l.fn.base)
-    × (l.store ≡ record l.fn.store { publics = l.fn.store.publics ++ map (defined.public_of l.fn.local l.fn.base) (map public_view (take l.public-index l.publics)) })
+    × (l.store
+    ≡ record l.fn.store {
+      publics =
+          l.fn.store.publics
+          ++ map (defined.public_of l.fn.local l.fn.base) (map public_view (take l.public-index l.publics));
+    })

@@ -5,7 +5,8 @@ use Rattle.omf_record.specs.View.{block_view}
 use Rattle.omf_record.specs.Expansion.{stored_len, all_stored_len, contents_at, all_contents_at}
 use Rattle.omf_record.proofs.BlockParts.{view_content, view_nested}
 use Rattle.omf_module.specs.inside.Contents.{pair}
-use Rattle.omf_module.proofs.contents.+list_contents.Goals.{in-Content+in_ok-push-in-Content, in-Nested+in_ok-place-in-Nested}
+use Rattle.omf_module.proofs.contents.+list_contents.Goals.{in-Content+in_ok-push-in-Content}
+use Rattle.omf_module.proofs.contents.+list_contents.Goals.{in-Nested+in_ok-place-in-Nested}
 use Rattle.omf_module.proofs.contents.+list_contents.Goals as goal
 
 pub loop-block-preserved : goal.loop-block-preserved
@@ -13,20 +14,27 @@ loop-block-preserved g t c =
     let b = c.block-item.result in
     let i = c.loop-block.block-index in
     let left = blocks_of (map block_view (drop (i + 1) c.args.blocks.now)) in
-    let here : (c.match-block.place ≡ c.loop-block.place + stored_len (block_view b)) × (map pair c.match-block.list.items ≡ map pair c.loop-block.list.items ++ contents_at c.loop-block.place (block_view b)) = elim c.match-block.branch [
+    let here : (c.match-block.place ≡ c.loop-block.place + stored_len (block_view b))
+    × (map pair c.match-block.list.items
+    ≡ map pair c.loop-block.list.items ++ contents_at c.loop-block.place (block_view b)) = elim c.match-block.branch [
       | in-Content+in_ok-push-in-Content w ↦
           let says = ap block_view w.in-Content.is ∙ view_content _ w.in-Content.repeat w.in-Content.bytes in
-          rw (says, w.place-is, w.list-is, w.in_ok-push-in-Content.ensures.items) (omega arith, map_push pair c.loop-block.list.items _)
+          rw (says, w.place-is, w.list-is, w.in_ok-push-in-Content.ensures.items)
+          (omega arith, map_push pair c.loop-block.list.items _)
       | in-Nested+in_ok-place-in-Nested w ↦
           let says = ap block_view w.in-Nested.is ∙ view_nested w.in-Nested.repeat w.in-Nested.blocks in
           let inner = rw w.deref.ensures.value at w.in_ok-place-in-Nested.ensures in
           rw (says, w.place-is, w.list-is, inner.0, inner.1) (omega arith, refl)
     ] in
     let split : blocks_of (map block_view (drop i c.args.blocks.now)) ≡ More (block_view b) left =
-    ap (λ xs. blocks_of (map block_view xs)) (drop_more c.args.blocks.now i b c.loop-block-test.true) ∙ ap (λ x. More (block_view x) left) (sym c.block-item.is) in
-    let ends : c.loop-block.place + all_stored_len (More (block_view b) left) ≡ c.args.place + all_stored_len (blocks_of (map block_view c.args.blocks.now)) =
+    ap (λ xs. blocks_of (map block_view xs)) (drop_more c.args.blocks.now i b c.loop-block-test.true)
+    ∙ ap (λ x. More (block_view x) left) (sym c.block-item.is) in
+    let ends : c.loop-block.place + all_stored_len (More (block_view b) left)
+    ≡ c.args.place + all_stored_len (blocks_of (map block_view c.args.blocks.now)) =
     ap (λ (bs : Blocks). c.loop-block.place + all_stored_len bs) (sym split) ∙ c.loop-block.invariant.ends in
-    let gives = ap (λ (bs : Blocks). map pair c.loop-block.list.items ++ all_contents_at c.loop-block.place bs) (sym split) ∙ c.loop-block.invariant.gives in
+    let gives =
+    ap (λ (bs : Blocks). map pair c.loop-block.list.items ++ all_contents_at c.loop-block.place bs) (sym split)
+    ∙ c.loop-block.invariant.gives in
     record {
       ends = omega (arith, here.0);
       gives = rw (here.0, here.1, append_assoc) gives;

@@ -12,5 +12,6 @@ invariant-loop-block g l =
     let all = blocks_of (map block_view l.blocks) in
     record {
       ends : l.place + all_stored_len left ≡ l.fn.place + all_stored_len all;
-      gives : map pair l.list.items ++ all_contents_at l.place left ≡ map pair l.fn.list.items ++ all_contents_at l.fn.place all;
+      gives : map pair l.list.items ++ all_contents_at l.place left
+          ≡ map pair l.fn.list.items ++ all_contents_at l.fn.place all;
     }

@@ -5,4 +5,6 @@ use Rattle.omf_module.proofs.contents.lies_in.Given as goal
 
 -- those that are left decide
 abbrev pub invariant-loop-content : goal.invariant-loop-content
-invariant-loop-content l = spans.lies_in (map pair (drop l.content-index l.contents)) l.at l.width ≡ spans.lies_in (map pair l.contents) l.at l.width
+invariant-loop-content l =
+    spans.lies_in (map pair (drop l.content-index l.contents)) l.at l.width
+    ≡ spans.lies_in (map pair l.contents) l.at l.width

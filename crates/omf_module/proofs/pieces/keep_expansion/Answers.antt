@@ -10,8 +10,12 @@ returns-clause-ok g c =
     let said = expansion (map block_view c.args.blocks.now) in
     let b = c.in_ok-from.ensures.ok in
     let p = c.in_ok-places_from.ensures.ok in (
-      written_behind c.args.bytes.now.items b.1 c.lengthen.new.list.items c.as_mut_slice-bytes.result.now c.expand_into.new.bytes (bytes said) c.in_ok-from.from c.lengthen.new.list.len
-          b.0 b.2 c.as_mut_slice-bytes.ensures.value (omega (arith, c.lengthen.new.list.ok.0)) c.expand_into.ensures.bytes (omega (arith, length-map said (λ x. x.1), c.requires.len, b.3)),
-      written_behind c.args.places.now.items p.1 c.lengthen-2.new.list.items c.as_mut_slice-places.result.now c.expand_into.new.stored (places said) c.in_ok-places_from.places_from c.lengthen-2.new.list.len
-          p.0 p.2 c.as_mut_slice-places.ensures.value (omega (arith, c.lengthen-2.new.list.ok.0)) c.expand_into.ensures.stored (omega (arith, length-map said (λ x. x.0), c.requires.len, p.3)),
+      written_behind c.args.bytes.now.items b.1 c.lengthen.new.list.items c.as_mut_slice-bytes.result.now
+          c.expand_into.new.bytes (bytes said) c.in_ok-from.from c.lengthen.new.list.len
+          b.0 b.2 c.as_mut_slice-bytes.ensures.value (omega (arith, c.lengthen.new.list.ok.0))
+          c.expand_into.ensures.bytes (omega (arith, length-map said (λ x. x.1), c.requires.len, b.3)),
+      written_behind c.args.places.now.items p.1 c.lengthen-2.new.list.items c.as_mut_slice-places.result.now
+          c.expand_into.new.stored (places said) c.in_ok-places_from.places_from c.lengthen-2.new.list.len
+          p.0 p.2 c.as_mut_slice-places.ensures.value (omega (arith, c.lengthen-2.new.list.ok.0))
+          c.expand_into.ensures.stored (omega (arith, length-map said (λ x. x.0), c.requires.len, p.3)),
     )

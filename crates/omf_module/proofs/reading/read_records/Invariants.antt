@@ -7,7 +7,8 @@ use Rattle.omf_module.proofs.reading.read_records.Given as goal
 
 abbrev pub invariant-loop-frame : goal.invariant-loop-frame
 invariant-loop-frame g l =
-    (rs : List Placed) × (front : List ℕ) × Took rs front (g.S.Source.remaining l.initial.source) (g.S.Source.remaining l.source)
+    (rs : List Placed) × (front : List ℕ)
+    × Took rs front (g.S.Source.remaining l.initial.source) (g.S.Source.remaining l.source)
     × (l.place ≡ length front) × (l.buf ≡ Some l.place) × (state l.builder ≡ state_of rs)
     × (g.S.Source.failures l.source ≡ g.S.Source.failures l.initial.source)
 

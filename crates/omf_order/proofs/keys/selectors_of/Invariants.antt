@@ -4,4 +4,6 @@ use Rattle.omf_order.specs.inside.Held.{name_view, selector_view}
 use Rattle.omf_order.proofs.keys.selectors_of.Given as goal
 
 abbrev pub invariant-loop-item : goal.invariant-loop-item
-invariant-loop-item g l = map selector_view l.all.items ++ selectors_from (name_view l.current) (drop l.item-index l.items) ≡ selectors l.items
+invariant-loop-item g l =
+    map selector_view l.all.items ++ selectors_from (name_view l.current) (drop l.item-index l.items)
+    ≡ selectors l.items

@@ -6,8 +6,12 @@ use Rattle.omf_order.proofs.marks.is_external.Goals as goal
 
 pub returns-then-is_asked : goal.returns-then-is_asked
 returns-then-is_asked g c =
-    sym (any_at (λ (e : ExternalSymbol). not e.local && agrees c.args.names e.name c.args.name.now) c.args.from.now.externals c.loop-index.index _ c.external-external.ensures (sym c.is_asked.ensures ∙ c.if-is_asked.true))
+    sym (any_at (λ (e : ExternalSymbol). not e.local && agrees c.args.names e.name c.args.name.now)
+    c.args.from.now.externals c.loop-index.index _ c.external-external.ensures
+    (sym c.is_asked.ensures ∙ c.if-is_asked.true))
 
 pub loop-index-preserved : goal.loop-index-preserved
 loop-index-preserved g c =
-    any_kept (λ (e : ExternalSymbol). not e.local && agrees c.args.names e.name c.args.name.now) c.args.from.now.externals c.loop-index.index _ c.external-external.ensures c.loop-index.invariant (sym c.is_asked.ensures ∙ c.if-is_asked.false)
+    any_kept (λ (e : ExternalSymbol). not e.local && agrees c.args.names e.name c.args.name.now)
+    c.args.from.now.externals c.loop-index.index _ c.external-external.ensures c.loop-index.invariant
+    (sym c.is_asked.ensures ∙ c.if-is_asked.false)

@@ -5,4 +5,5 @@ use Rattle.omf_place.specs.Names.{agrees}
 use Rattle.omf_order.proofs.marks.is_public.Given as goal
 
 abbrev pub invariant-loop-index : goal.invariant-loop-index
-invariant-loop-index g l = list_any (λ (p : PublicSymbol). not p.local && agrees l.names p.name l.name) (take l.index l.from.publics) ≡ false
+invariant-loop-index g l =
+    list_any (λ (p : PublicSymbol). not p.local && agrees l.names p.name l.name) (take l.index l.from.publics) ≡ false

@@ -8,5 +8,6 @@ pub returns : goal.returns
 returns g c =
     let W = wanted c.args.names c.args.modules.now in
     c.in_ok-push_wanted-2.ensures
-    ∙ ap (λ ns. ns ++ W (c.args.other.now ∷ [])) (c.in_ok-push_wanted.ensures ∙ ap (λ ns. names_view ns ++ W (c.args.one.now ∷ [])) c.new-wanted.ensures.items)
+    ∙ ap (λ ns. ns ++ W (c.args.other.now ∷ []))
+    (c.in_ok-push_wanted.ensures ∙ ap (λ ns. names_view ns ++ W (c.args.one.now ∷ [])) c.new-wanted.ensures.items)
     ∙ sym (filter-append (is_wanted c.args.names c.args.modules.now) (c.args.one.now ∷ []) (c.args.other.now ∷ []))

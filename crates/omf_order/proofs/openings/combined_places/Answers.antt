@@ -10,7 +10,9 @@ pub returns : goal.returns
 returns g c =
     subst (λ (e : List ℕ). IfOk c.first_places.result (λ v. v.items ≡ e))
     (places_of _ combining segment_seen same_key
-    (λ x y. ap (λ b. b && (bytes_eq x.name.now y.name.now && bytes_eq x.class.now y.class.now)) (same_joinings (joining (kind_of x.standing)) (joining (kind_of y.standing))))
+    (λ x y.
+    ap (λ b. b && (bytes_eq x.name.now y.name.now && bytes_eq x.class.now y.class.now))
+    (same_joinings (joining (kind_of x.standing)) (joining (kind_of y.standing))))
     c.deref.result.now c.deref-2.result.now c.args.asked.now c.args.segments.now
     (c.deref.ensures.value ∙ c.in_ok-asked_keys.ensures) (c.deref-2.ensures.value ∙ c.in_ok-keys.ensures))
     c.first_places.ensures

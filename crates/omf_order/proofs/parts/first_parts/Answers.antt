@@ -16,24 +16,33 @@ loop-place-preserved g c =
     let gs = c.args.grouped.now in
     let count : length (segments_view ps) ≡ length ps = length-map ps segment_seen in
     let classes = c.in_ok-classes.classes.items in
-    let classes_len : length classes ≡ length (segments_view ps) = ap length c.in_ok-classes.ensures ∙ length-map (segments_view ps) _ in
+    let classes_len : length classes ≡ length (segments_view ps) =
+    ap length c.in_ok-classes.ensures ∙ length-map (segments_view ps) _ in
     let combined = c.in_ok-combined.combined.items in
-    let combined_len : length combined ≡ length (segments_view ps) = ap length c.in_ok-combined.ensures ∙ length-map (segments_view ps) _ in
+    let combined_len : length combined ≡ length (segments_view ps) =
+    ap length c.in_ok-combined.ensures ∙ length-map (segments_view ps) _ in
     let far = c.in_ok-grouped_combined.grouped_combined.items in
-    let far_len : length far ≡ length (segments_view ps) = ap length c.in_ok-grouped_combined.ensures ∙ length-map (segments_view ps) _ in
+    let far_len : length far ≡ length (segments_view ps) =
+    ap length c.in_ok-grouped_combined.ensures ∙ length-map (segments_view ps) _ in
     let near = c.in_ok-grouped_classes.grouped_classes.items in
-    let near_len : length near ≡ length (segments_view ps) = ap length c.in_ok-grouped_classes.ensures ∙ length-map (segments_view ps) _ in
+    let near_len : length near ≡ length (segments_view ps) =
+    ap length c.in_ok-grouped_classes.ensures ∙ length-map (segments_view ps) _ in
     let a : c.index.result.now ≡ get_or classes i 0 =
     get_or_read classes i c.index.result.now (omega (arith, count, classes_len)) c.index.ensures 0 in
     let b : c.index-in-loop-place.result.now ≡ get_or combined i 0 =
-    get_or_read combined i c.index-in-loop-place.result.now (omega (arith, count, combined_len)) c.index-in-loop-place.ensures 0 in
+    get_or_read combined i c.index-in-loop-place.result.now (omega (arith, count, combined_len))
+    c.index-in-loop-place.ensures 0 in
     let x : c.index-in-loop-place-2.result.now ≡ get_or far i 0 =
-    get_or_read far i c.index-in-loop-place-2.result.now (omega (arith, count, far_len)) c.index-in-loop-place-2.ensures 0 in
+    get_or_read far i c.index-in-loop-place-2.result.now (omega (arith, count, far_len)) c.index-in-loop-place-2.ensures
+    0 in
     let y : c.index-in-loop-place-3.result.now ≡ get_or near i 0 =
-    get_or_read near i c.index-in-loop-place-3.result.now (omega (arith, count, near_len)) c.index-in-loop-place-3.ensures 0 in
-    first-step ps gs i _ classes combined near far c.first_of-first.result c.is_within-is_found.result c.is_within-class_in_group.result c.loop-place.parts.items _ c.loop-place-test.true
+    get_or_read near i c.index-in-loop-place-3.result.now (omega (arith, count, near_len))
+    c.index-in-loop-place-3.ensures 0 in
+    first-step ps gs i _ classes combined near far c.first_of-first.result c.is_within-is_found.result
+    c.is_within-class_in_group.result c.loop-place.parts.items _ c.loop-place-test.true
     c.in_ok-classes.ensures c.in_ok-combined.ensures c.in_ok-grouped_classes.ensures c.in_ok-grouped_combined.ensures
-    (c.is_within-is_found.ensures ∙ ap (λ n. ltb n (length gs)) x) (c.is_within-class_in_group.ensures ∙ ap (λ n. ltb n (length gs)) y)
+    (c.is_within-is_found.ensures ∙ ap (λ n. ltb n (length gs)) x)
+    (c.is_within-class_in_group.ensures ∙ ap (λ n. ltb n (length gs)) y)
     (rw (a, b) at c.first_of-first.ensures)
     c.loop-place.invariant c.in_ok-push_first.ensures
 
@@ -43,4 +52,5 @@ returns g c =
     let G = segments_view c.args.grouped.now in
     c.loop-place.invariant
     ∙ ap (λ es. map (λ (p : ℕ × Segment). part_of G p.1) (filter (opens P) es))
-    (take_all c.loop-place.place (enumerate_from 0 P) (omega (arith, length-enumerate 0 P, length-map c.args.placed.now segment_seen)))
+    (take_all c.loop-place.place (enumerate_from 0 P)
+    (omega (arith, length-enumerate 0 P, length-map c.args.placed.now segment_seen)))

@@ -6,4 +6,6 @@ use Rattle.omf_order.proofs.parts.first_parts.Given as goal
 
 abbrev pub invariant-loop-place : goal.invariant-loop-place
 invariant-loop-place g l =
-    parts_view l.parts.items ≡ map (λ p. part_of (segments_view l.grouped) p.1) (filter (opens (segments_view l.placed)) (take l.place (enumerate_from 0 (segments_view l.placed))))
+    parts_view l.parts.items
+    ≡ map (λ p. part_of (segments_view l.grouped) p.1)
+    (filter (opens (segments_view l.placed)) (take l.place (enumerate_from 0 (segments_view l.placed))))

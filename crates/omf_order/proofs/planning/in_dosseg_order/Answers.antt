@@ -11,12 +11,17 @@ use Rattle.omf_order.proofs.planning.in_dosseg_order.Goals as goal
 pub arranged-requires : goal.arranged-requires
 arranged-requires g c =
     let key = dosseg_key c.args.adds_bss in
-    subst (AllByRecursion (λ p. p.0 < 6)) (sym (c.deref.ensures.value ∙ c.loop-part.invariant ∙ ap (keyed part_view key) (take_all c.loop-part.part-index c.args.parts.now (omega arith))))
+    subst (AllByRecursion (λ p. p.0 < 6))
+    (sym
+    (c.deref.ensures.value ∙ c.loop-part.invariant
+    ∙ ap (keyed part_view key) (take_all c.loop-part.part-index c.args.parts.now (omega arith))))
     (keyed_below part_view key 6 c.args.parts.now (λ x. dosseg_small c.args.adds_bss (part_view x)))
 
 pub returns : goal.returns
 returns g c =
     let key = dosseg_key c.args.adds_bss in
     IfOk-map _ _ c.arranged.result (λ v e. ap parts_view e
-    ∙ ap (λ ks. map part_view (map (λ p. p.1) (arranged (λ p. p.0) 6 ks))) (c.deref.ensures.value ∙ c.loop-part.invariant ∙ ap (keyed part_view key) (take_all c.loop-part.part-index c.args.parts.now (omega arith)))
+    ∙ ap (λ ks. map part_view (map (λ p. p.1) (arranged (λ p. p.0) 6 ks)))
+    (c.deref.ensures.value ∙ c.loop-part.invariant
+    ∙ ap (keyed part_view key) (take_all c.loop-part.part-index c.args.parts.now (omega arith)))
     ∙ arranged_view part_view key 6 c.args.parts.now) c.arranged.ensures

@@ -5,4 +5,5 @@ use Rattle.omf_order.proofs.ByKey.{keyed}
 use Rattle.omf_order.proofs.planning.in_listed_order.Given as goal
 
 abbrev pub invariant-loop-place : goal.invariant-loop-place
-invariant-loop-place g l = l.keyed.items ≡ keyed part_view (key_by (map selector_view l.selectors.items)) (take l.place l.parts)
+invariant-loop-place g l =
+    l.keyed.items ≡ keyed part_view (key_by (map selector_view l.selectors.items)) (take l.place l.parts)

@@ -9,12 +9,15 @@ use Rattle.omf_order.proofs.Steps.{bytes-last}
 use Rattle.omf_order.proofs.records.put_last.Goals as goal
 
 pub put_group-requires-clause-few : goal.put_group-requires-clause-few
-put_group-requires-clause-few g c = subst (λ (ns : List ℕ). length ns ≤ 2) (sym c.in_ok-segments.ensures) (few_marks c.args.plan.now.data_end.part c.args.plan.now.bss_end.part)
+put_group-requires-clause-few g c =
+    subst (λ (ns : List ℕ). length ns ≤ 2) (sym c.in_ok-segments.ensures)
+    (few_marks c.args.plan.now.data_end.part c.args.plan.now.bss_end.part)
 
 pub put_group-requires-clause-small : goal.put_group-requires-clause-small
 put_group-requires-clause-small g c =
     subst (λ (ns : List ℕ). AllByRecursion (λ n. n ≤ 16383) ns) (sym c.in_ok-segments.ensures)
-    (small_marks c.args.plan.now.data_end.part c.args.plan.now.bss_end.part c.requires.data_end.part c.requires.bss_end.part)
+    (small_marks c.args.plan.now.data_end.part c.args.plan.now.bss_end.part c.requires.data_end.part
+    c.requires.bss_end.part)
 
 pub put_record-requires-clause-fits : goal.put_record-requires-clause-fits
 unfolding view
@@ -30,5 +33,7 @@ returns g c =
     c.in_ok-put_record.ensures
     ∙ ap (λ t. t ++ record_bytes (Modend false None)) (c.in_ok-put_mark-2.ensures
     ∙ ap (λ t. t ++ ends) (c.in_ok-put_mark.ensures
-    ∙ ap (λ t. t ++ marks) (c.in_ok-put_group.ensures ∙ ap (λ ns. out ++ records_bytes (group_records ns)) c.in_ok-segments.ensures)))
-    ∙ bytes-last out (group_records (mark_segments p)) (mark_records p.data_end.names p.data_end.part) (mark_records p.bss_end.names p.bss_end.part) (Modend false None)
+    ∙ ap (λ t. t ++ marks)
+    (c.in_ok-put_group.ensures ∙ ap (λ ns. out ++ records_bytes (group_records ns)) c.in_ok-segments.ensures)))
+    ∙ bytes-last out (group_records (mark_segments p)) (mark_records p.data_end.names p.data_end.part)
+    (mark_records p.bss_end.names p.bss_end.part) (Modend false None)

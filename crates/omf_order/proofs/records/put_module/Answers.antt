@@ -14,13 +14,17 @@ use Rattle.omf_order.proofs.records.put_module.Goals as goal
 
 pub put_record-requires-clause-fits : goal.put_record-requires-clause-fits
 unfolding view
-put_record-requires-clause-fits g c = header_fits (codes "doslink") (lit≤ tt, (lit< tt, (lit< tt, (lit< tt, (lit< tt, (lit< tt, (lit< tt, (lit< tt, tt))))))))
+put_record-requires-clause-fits g c =
+    header_fits (codes "doslink")
+    (lit≤ tt, (lit< tt, (lit< tt, (lit< tt, (lit< tt, (lit< tt, (lit< tt, (lit< tt, tt))))))))
 
 pub put_parts-requires-clause-count : goal.put_parts-requires-clause-count
-put_parts-requires-clause-count g c = omega (arith, c.requires.count, length-map c.args.plan.now.parts.items part_view, ap length c.deref.ensures.value)
+put_parts-requires-clause-count g c =
+    omega (arith, c.requires.count, length-map c.args.plan.now.parts.items part_view, ap length c.deref.ensures.value)
 
 pub put_parts-requires-clause-short : goal.put_parts-requires-clause-short
-put_parts-requires-clause-short g c = subst (λ ps. AllByRecursion IsShortPart (parts_view ps)) (sym c.deref.ensures.value) c.requires.parts
+put_parts-requires-clause-short g c =
+    subst (λ ps. AllByRecursion IsShortPart (parts_view ps)) (sym c.deref.ensures.value) c.requires.parts
 
 pub returns : goal.returns
 unfolding view

@@ -8,6 +8,11 @@ use Rattle.omf_order.proofs.records.put_names.Goals as goal
 pub put_record-requires-clause-fits : goal.put_record-requires-clause-fits
 unfolding view
 put_record-requires-clause-fits g c =
-    subst (λ ns. FitsFrame (Lnames (map (λ n. n.now) ns))) (sym (c.in_ok-push-2.ensures.items ∙ ap (λ ns. ns ++ c.args.class ∷ []) (c.in_ok-push.ensures.items ∙ ap (λ ns. ns ++ c.args.name ∷ []) c.new-names.ensures.items)))
-    (names_fit c.args.name.now c.args.class.now (c.requires.name, IsBytes-from c.args.name.now (λ i. omega (arith, c.type_inv.name i)))
+    subst (λ ns. FitsFrame (Lnames (map (λ n. n.now) ns)))
+    (sym
+    (c.in_ok-push-2.ensures.items
+    ∙ ap (λ ns. ns ++ c.args.class ∷ [])
+    (c.in_ok-push.ensures.items ∙ ap (λ ns. ns ++ c.args.name ∷ []) c.new-names.ensures.items)))
+    (names_fit c.args.name.now c.args.class.now
+    (c.requires.name, IsBytes-from c.args.name.now (λ i. omega (arith, c.type_inv.name i)))
     (c.requires.class, IsBytes-from c.args.class.now (λ i. omega (arith, c.type_inv.class i))))

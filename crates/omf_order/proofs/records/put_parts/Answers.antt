@@ -2,11 +2,14 @@ use Rattle.omf_order.proofs.Steps.{part-step, short_at}
 use Rattle.omf_order.proofs.records.put_parts.Goals as goal
 
 pub put_names-requires-clause-name : goal.put_names-requires-clause-name
-put_names-requires-clause-name g c = (short_at c.args.parts.now c.loop-place.place _ c.requires.short c.loop-place-test.true).name
+put_names-requires-clause-name g c =
+    (short_at c.args.parts.now c.loop-place.place _ c.requires.short c.loop-place-test.true).name
 
 pub put_names-requires-clause-class : goal.put_names-requires-clause-class
-put_names-requires-clause-class g c = (short_at c.args.parts.now c.loop-place.place _ c.requires.short c.loop-place-test.true).class
+put_names-requires-clause-class g c =
+    (short_at c.args.parts.now c.loop-place.place _ c.requires.short c.loop-place-test.true).class
 
 pub loop-place-preserved : goal.loop-place-preserved
 loop-place-preserved g c =
-    part-step c.args.parts.now c.loop-place.place _ c.args.out.now.items c.loop-place.out.items _ _ c.loop-place-test.true c.loop-place.invariant c.in_ok-put_names.ensures c.in_ok-put_segment.ensures
+    part-step c.args.parts.now c.loop-place.place _ c.args.out.now.items c.loop-place.out.items _ _
+    c.loop-place-test.true c.loop-place.invariant c.in_ok-put_names.ensures c.in_ok-put_segment.ensures

@@ -16,4 +16,5 @@ put_record-requires-clause-fits g c =
     let names = names_view c.args.names.now in
     subst (λ ps. FitsFrame (Pubdef false (InSegment 1 c.segment_index.result) ps)) (sym c.in_ok-publics.ensures)
     (subst (λ n. FitsFrame (Pubdef false (InSegment 1 n) (map public_of names))) (sym c.segment_index.ensures)
-    (publics_fit (c.args.place + 1) names (omega arith) (omega (arith, c.requires.place)) (omega (arith, c.requires.few, length-map c.args.names.now (λ n. n.now))) c.requires.names))
+    (publics_fit (c.args.place + 1) names (omega arith) (omega (arith, c.requires.place))
+    (omega (arith, c.requires.few, length-map c.args.names.now (λ n. n.now))) c.requires.names))

@@ -9,4 +9,5 @@ use Rattle.omf_order.proofs.records.put_segment.Goals as goal
 pub put_record-requires-clause-fits : goal.put_record-requires-clause-fits
 unfolding view
 put_record-requires-clause-fits g c =
-    subst (λ s. FitsFrame (Segdef s)) (sym c.definition-segment.ensures) (segment_fits c.args.place (part_view c.args.part.now) c.requires)
+    subst (λ s. FitsFrame (Segdef s)) (sym c.definition-segment.ensures)
+    (segment_fits c.args.place (part_view c.args.part.now) c.requires)

@@ -11,11 +11,17 @@ pub push_group-requires : goal.push_group-requires
 push_group-requires g c =
     let m = c.args.from.now in
     members_below m.segments m.groups m.externals c.group-group.result.members.now
-    (All-at_get (GroupFits m.segments m.groups m.externals) m.groups c.loop-index.index (group_seen c.group-group.result) c.promises.ensures.groups c.group-group.ensures).members
+    (All-at_get (GroupFits m.segments m.groups m.externals) m.groups c.loop-index.index
+    (group_seen c.group-group.result) c.promises.ensures.groups c.group-group.ensures).members
 
 pub loop-index-preserved : goal.loop-index-preserved
 loop-index-preserved g c =
     let m = c.args.from.now in
     let front = segments_view c.args.grouped.now.items in
-    c.in_ok-push_group.ensures ∙ ap (λ ys. ys ++ members m.segments (group_seen c.group-group.result)) c.loop-index.invariant ∙ append_assoc front _ _
-    ∙ ap (λ ys. front ++ ys) (sym (flat_map_one (members m.segments) m.groups c.loop-index.index (group_seen c.group-group.result) c.group-group.ensures))
+    c.in_ok-push_group.ensures
+    ∙ ap (λ ys. ys ++ members m.segments (group_seen c.group-group.result)) c.loop-index.invariant
+    ∙ append_assoc front _ _
+    ∙ ap (λ ys. front ++ ys)
+    (sym
+    (flat_map_one (members m.segments) m.groups c.loop-index.index (group_seen c.group-group.result)
+    c.group-group.ensures))

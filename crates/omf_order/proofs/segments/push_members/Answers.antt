@@ -10,6 +10,8 @@ loop-member-preserved g c =
     let segments = c.args.from.now.segments in
     let s = segment_seen c.segment-segment.result in
     let e : slice_get segments (get_or c.args.members.now c.loop-member.member-index 0) ≡ Some s = cc in
-    ap segments_view c.in_ok-push.ensures.items ∙ map-append segment_seen c.loop-member.grouped.items (c.segment-segment.result ∷ [])
+    ap segments_view c.in_ok-push.ensures.items
+    ∙ map-append segment_seen c.loop-member.grouped.items (c.segment-segment.result ∷ [])
     ∙ ap (λ ys. ys ++ s ∷ []) c.loop-member.invariant ∙ append_assoc (segments_view c.args.grouped.now.items) _ (s ∷ [])
-    ∙ ap (λ ys. segments_view c.args.grouped.now.items ++ ys) (sym (members-added segments c.args.members.now c.loop-member.member-index s c.loop-member-test.true e))
+    ∙ ap (λ ys. segments_view c.args.grouped.now.items ++ ys)
+    (sym (members-added segments c.args.members.now c.loop-member.member-index s c.loop-member-test.true e))

@@ -14,9 +14,11 @@ loop-index-preserved g c =
     let s = c.segment-segment.result in
     elim c.if-is_placed.branch [
       | then-is_placed+in_ok-push w ↦ ap (λ v. segments_view v.items) w.placed-is
-          ∙ filter-added segment_seen (λ (a : Segment). is_relocatable a.standing) segments i s (segments_view c.args.placed.now.items) c.loop-index.placed.items _ c.segment-segment.ensures
+          ∙ filter-added segment_seen (λ (a : Segment). is_relocatable a.standing) segments i s
+          (segments_view c.args.placed.now.items) c.loop-index.placed.items _ c.segment-segment.ensures
           (sym c.is_placed.ensures ∙ w.if-is_placed.true) w.in_ok-push.ensures.items c.loop-index.invariant
       | else-is_placed w ↦ ap (λ v. segments_view v.items) w.placed-is
-          ∙ filter-kept segment_seen (λ (a : Segment). is_relocatable a.standing) segments i s (segments_view c.args.placed.now.items) c.loop-index.placed.items c.segment-segment.ensures
+          ∙ filter-kept segment_seen (λ (a : Segment). is_relocatable a.standing) segments i s
+          (segments_view c.args.placed.now.items) c.loop-index.placed.items c.segment-segment.ensures
           (sym c.is_placed.ensures ∙ w.if-is_placed.false) c.loop-index.invariant
     ]

@@ -6,4 +6,6 @@ use Rattle.omf_order.proofs.segments.push_placed.Given as goal
 
 abbrev pub invariant-loop-index : goal.invariant-loop-index
 invariant-loop-index g l =
-    segments_view l.placed.items ≡ segments_view l.initial.placed.items ++ filter (λ (s : Segment). is_relocatable s.standing) (take l.index l.from.segments)
+    segments_view l.placed.items
+    ≡ segments_view l.initial.placed.items
+    ++ filter (λ (s : Segment). is_relocatable s.standing) (take l.index l.from.segments)

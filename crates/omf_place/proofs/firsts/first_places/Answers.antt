@@ -12,8 +12,14 @@ loop-place-preserved g c =
     let k = c.index-keys-place.result in
     let old : g.row.K.Denot → Option ℕ = λ q. get eq c.loop-place.met q in
     record {
-      met = met-turn eq g.met.K.Eq.laws old (λ q. get eq c.first_met.new.met q) keys i k c.loop-place-test.true c.index-keys-place.is c.loop-place.invariant.met
+      met =
+          met-turn eq g.met.K.Eq.laws old (λ q. get eq c.first_met.new.met q) keys i k c.loop-place-test.true
+          c.index-keys-place.is c.loop-place.invariant.met
           c.in_ok-first.ensures.kept c.in_ok-first.ensures.added;
-      firsts = c.in_ok-push.ensures.items ∙ map-turn (λ x. position_or_len (eq x) keys) keys i k c.loop-place.firsts.items c.in_ok-first.first c.loop-place-test.true c.index-keys-place.is c.loop-place.invariant.firsts
-          (c.in_ok-first.ensures.first ∙ ap (λ o. unwrap_or o i) (c.loop-place.invariant.met k) ∙ first-turn eq g.met.K.Eq.laws keys i k c.loop-place-test.true c.index-keys-place.is);
+      firsts =
+          c.in_ok-push.ensures.items
+          ∙ map-turn (λ x. position_or_len (eq x) keys) keys i k c.loop-place.firsts.items c.in_ok-first.first
+          c.loop-place-test.true c.index-keys-place.is c.loop-place.invariant.firsts
+          (c.in_ok-first.ensures.first ∙ ap (λ o. unwrap_or o i) (c.loop-place.invariant.met k)
+          ∙ first-turn eq g.met.K.Eq.laws keys i k c.loop-place-test.true c.index-keys-place.is);
     }

@@ -15,5 +15,7 @@ loop-i-preserved g c =
     record {
       len = length-set out (get_or fs i 0) c.max.result ∙ inv.len;
       each = λ k hk. greatest_at-more fs vs out i (get_or fs i 0) c.max.result k c.requires.same inv.len hi within refl
-          (c.max.ensures ∙ ap (λ z. max z (get_or vs i 0)) (c.index.ensures ∙ any_default out (get_or fs i 0) c.index.result.now 0 inside)) inv.each hk;
+          (c.max.ensures
+          ∙ ap (λ z. max z (get_or vs i 0))
+          (c.index.ensures ∙ any_default out (get_or fs i 0) c.index.result.now 0 inside)) inv.each hk;
     }

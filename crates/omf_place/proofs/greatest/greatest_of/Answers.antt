@@ -7,17 +7,22 @@ use Rattle.omf_place.proofs.Results.{IfOk-map}
 use Rattle.omf_place.proofs.greatest.greatest_of.Goals as goal
 
 pub of-requires : goal.of-requires
-of-requires g c = All-site (CanAnswer c.args.asked) c.args.sites.now c.loop-segment.segment-index _ c.requires.asked c.loop-segment-test.true
+of-requires g c =
+    All-site (CanAnswer c.args.asked) c.args.sites.now c.loop-segment.segment-index _ c.requires.asked
+    c.loop-segment-test.true
 
 pub greatest_by_first-requires-clause-within : goal.greatest_by_first-requires-clause-within
-greatest_by_first-requires-clause-within g c = places_inside c.args.sites.now c.args.places.now c.requires.numbered c.requires.places
+greatest_by_first-requires-clause-within g c =
+    places_inside c.args.sites.now c.args.places.now c.requires.numbered c.requires.places
 
 pub returns-clause-each : goal.returns-clause-each
 returns-clause-each g c =
     let ss = sites_view c.args.sites.now in
     let f = answer c.args.asked in
     IfOk-map _ (λ v. HoldsGreatest ss f v.items) c.greatest_by_first.result
-    (λ v each. holds c.args.sites.now c.args.places.now c.requires.numbered c.requires.places f c.deref.result.now v.items
+    (λ v each.
+    holds c.args.sites.now c.args.places.now c.requires.numbered c.requires.places f c.deref.result.now v.items
     (c.deref.ensures.value ∙ c.loop-segment.invariant
-    ∙ ap (λ xs. map f (sites_view xs)) (take-all c.loop-segment.segment-index c.args.sites.now c.loop-segment-test.false)) each)
+    ∙ ap (λ xs. map f (sites_view xs))
+    (take-all c.loop-segment.segment-index c.args.sites.now c.loop-segment-test.false)) each)
     c.greatest_by_first.ensures.each

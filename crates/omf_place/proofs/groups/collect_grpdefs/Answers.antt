@@ -6,5 +6,6 @@ use Rattle.omf_place.proofs.groups.collect_grpdefs.Goals as goal
 pub push_grpdefs-requires : goal.push_grpdefs-requires
 push_grpdefs-requires g c =
     let p = c.args.program.now in
-    (at_turn (IsPlacedInput (sites p.modules.now) (addresses_of p.stands.now)) p.inputs.items c.deref-input-items.result.now c.loop-input.input-index c.input-item.result
+    (at_turn (IsPlacedInput (sites p.modules.now) (addresses_of p.stands.now)) p.inputs.items
+    c.deref-input-items.result.now c.loop-input.input-index c.input-item.result
     c.deref-input-items.ensures.value c.requires.each c.loop-input-test.true c.input-item.is).components

@@ -8,4 +8,7 @@ use Rattle.omf_place.specs.inside.Program.{input_view}
 use Rattle.omf_place.proofs.groups.collect_grpdefs.Given as goal
 
 abbrev pub invariant-loop-input : goal.invariant-loop-input
-invariant-loop-input g l = map grpdef_view l.all.items ≡ map (of_program (λ ms A. reached (sites ms) A) l.program) (flat_map grpdefs_of (map input_view (take l.input-index l.program.inputs.items)))
+invariant-loop-input g l =
+    map grpdef_view l.all.items
+    ≡ map (of_program (λ ms A. reached (sites ms) A) l.program)
+    (flat_map grpdefs_of (map input_view (take l.input-index l.program.inputs.items)))

@@ -7,4 +7,6 @@ use Rattle.omf_place.proofs.groups.frames_of.Goals as goal
 
 pub loop-index-preserved : goal.loop-index-preserved
 loop-index-preserved g c = c.in_ok-push.ensures.items
-    ∙ plain-more (λ (x : Group). of_program group_frame c.args.groups.now.program.now x.name) c.args.input.now.says.now.groups c.loop-index.index _ c.loop-index.frames.items _ c.group.ensures c.frame.ensures c.loop-index.invariant
+    ∙ plain-more (λ (x : Group). of_program group_frame c.args.groups.now.program.now x.name)
+    c.args.input.now.says.now.groups c.loop-index.index _ c.loop-index.frames.items _ c.group.ensures c.frame.ensures
+    c.loop-index.invariant

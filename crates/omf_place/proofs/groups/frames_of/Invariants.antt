@@ -5,4 +5,6 @@ use Rattle.omf_place.specs.inside.OfProgram.{of_program}
 use Rattle.omf_place.proofs.groups.frames_of.Given as goal
 
 abbrev pub invariant-loop-index : goal.invariant-loop-index
-invariant-loop-index g l = l.frames.items ≡ map (λ (x : Group). of_program group_frame l.groups.program.now x.name) (take l.index l.input.says.now.groups)
+invariant-loop-index g l =
+    l.frames.items
+    ≡ map (λ (x : Group). of_program group_frame l.groups.program.now x.name) (take l.index l.input.says.now.groups)

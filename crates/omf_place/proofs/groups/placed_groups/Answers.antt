@@ -22,10 +22,16 @@ loop-grpdef-preserved g c =
     let x = at (sites ms) A items (grpdefs ms) are i d c.loop-grpdef-test.true in
     let there = found (sites ms) A items (grpdefs ms) are i d c.loop-grpdef-test.true in
     let view = viewed (sites ms) A items (grpdefs ms) are i d c.loop-grpdef-test.true in
-    let test = c.is_first.ensures x.sites ∙ ap (λ (v : GroupReach). is_first_grpdef ms A (record { input = v.input; group = v.group; name = v.name; sites = x.sites })) view in
+    let test =
+    c.is_first.ensures x.sites
+    ∙ ap
+    (λ (v : GroupReach).
+    is_first_grpdef ms A (record { input = v.input; group = v.group; name = v.name; sites = x.sites })) view in
     elim c.if-is_first.branch [
       | then-is_first+in_ok-push w ↦ ap (λ v. v.items) w.all-is ∙ w.in_ok-push.ensures.items
-          ∙ passing-more (placed_group ms A) (is_first_grpdef ms A) (grpdefs ms) i x c.loop-grpdef.all.items _ there (sym test ∙ w.if-is_first.true) (placed_is ms A _ x _ view w.frame.ensures) c.loop-grpdef.invariant
+          ∙ passing-more (placed_group ms A) (is_first_grpdef ms A) (grpdefs ms) i x c.loop-grpdef.all.items _ there
+          (sym test ∙ w.if-is_first.true) (placed_is ms A _ x _ view w.frame.ensures) c.loop-grpdef.invariant
       | else-is_first w ↦ ap (λ v. v.items) w.all-is
-          ∙ passing-kept (placed_group ms A) (is_first_grpdef ms A) (grpdefs ms) i x c.loop-grpdef.all.items there (sym test ∙ w.if-is_first.false) c.loop-grpdef.invariant
+          ∙ passing-kept (placed_group ms A) (is_first_grpdef ms A) (grpdefs ms) i x c.loop-grpdef.all.items there
+          (sym test ∙ w.if-is_first.false) c.loop-grpdef.invariant
     ]

@@ -11,4 +11,6 @@ pub returns-clause-symmetric : goal.returns-clause-symmetric
 returns-clause-symmetric c = λ program a b ha hb. combines-symm (sites program) (numbered_sites program) a b ha hb
 
 pub returns-clause-transitive : goal.returns-clause-transitive
-returns-clause-transitive c = λ program a b d ha hb hd. combines-trans a b d (one_place (sites program) a b ha hb) (one_place (sites program) b d hb hd)
+returns-clause-transitive c =
+    λ program a b d ha hb hd.
+    combines-trans a b d (one_place (sites program) a b ha hb) (one_place (sites program) b d hb hd)

@@ -10,27 +10,35 @@ use Rattle.omf_place.proofs.placing.start_parts.Goals as goal
 pub returns-clause-spans : goal.returns-clause-spans
 returns-clause-spans g c =
     let ss = sites_view c.args.sites.now in
-    let are = addresses_are ss c.in_ok-placing.placing.addresses.items c.in_ok-spans.spans.items c.requires.numbered c.in_ok-placing.ensures.placed.each
+    let are =
+    addresses_are ss c.in_ok-placing.placing.addresses.items c.in_ok-spans.spans.items c.requires.numbered
+    c.in_ok-placing.ensures.placed.each
     (c.in_ok-spans.ensures ∙ ap (λ (xs : List ℕ). map (span_of ss xs) ss) c.deref-5.ensures.value) in
     c.in_ok-spans.ensures ∙ ap (λ (xs : List ℕ). map (span_of ss xs) ss) (c.deref-5.ensures.value ∙ sym are)
 
 pub returns-clause-placed : goal.returns-clause-placed
 returns-clause-placed g c =
     let ss = sites_view c.args.sites.now in
-    let are = addresses_are ss c.in_ok-placing.placing.addresses.items c.in_ok-spans.spans.items c.requires.numbered c.in_ok-placing.ensures.placed.each
+    let are =
+    addresses_are ss c.in_ok-placing.placing.addresses.items c.in_ok-spans.spans.items c.requires.numbered
+    c.in_ok-placing.ensures.placed.each
     (c.in_ok-spans.ensures ∙ ap (λ (xs : List ℕ). map (span_of ss xs) ss) c.deref-5.ensures.value) in
     subst (λ (xs : List ℕ). IsPlaced ss xs c.in_ok-placing.placing.size) (sym are) c.in_ok-placing.ensures.placed
 
 pub returns-clause-only : goal.returns-clause-only
 returns-clause-only g c =
     let ss = sites_view c.args.sites.now in
-    let are = addresses_are ss c.in_ok-placing.placing.addresses.items c.in_ok-spans.spans.items c.requires.numbered c.in_ok-placing.ensures.placed.each
+    let are =
+    addresses_are ss c.in_ok-placing.placing.addresses.items c.in_ok-spans.spans.items c.requires.numbered
+    c.in_ok-placing.ensures.placed.each
     (c.in_ok-spans.ensures ∙ ap (λ (xs : List ℕ). map (span_of ss xs) ss) c.deref-5.ensures.value) in
     subst (λ (xs : List ℕ). IsOnlyPlacement ss xs c.in_ok-placing.placing.size) (sym are) c.in_ok-placing.ensures.only
 
 pub returns-clause-small : goal.returns-clause-small
 returns-clause-small g c =
     let ss = sites_view c.args.sites.now in
-    let are = addresses_are ss c.in_ok-placing.placing.addresses.items c.in_ok-spans.spans.items c.requires.numbered c.in_ok-placing.ensures.placed.each
+    let are =
+    addresses_are ss c.in_ok-placing.placing.addresses.items c.in_ok-spans.spans.items c.requires.numbered
+    c.in_ok-placing.ensures.placed.each
     (c.in_ok-spans.ensures ∙ ap (λ (xs : List ℕ). map (span_of ss xs) ss) c.deref-5.ensures.value) in
     subst (λ (xs : List ℕ). IsSmall xs) (sym are) c.in_ok-placing.ensures.small

@@ -7,4 +7,7 @@ use Rattle.omf_place.specs.inside.Program.{input_view}
 use Rattle.omf_place.proofs.publics.collect_publics.Given as goal
 
 abbrev pub invariant-loop-input : goal.invariant-loop-input
-invariant-loop-input g l = map entry_view l.all.items ≡ flat_map (of_program publics_of l.groups.program.now) (map input_view (take l.input-index l.groups.program.now.inputs.items))
+invariant-loop-input g l =
+    map entry_view l.all.items
+    ≡ flat_map (of_program publics_of l.groups.program.now)
+    (map input_view (take l.input-index l.groups.program.now.inputs.items))

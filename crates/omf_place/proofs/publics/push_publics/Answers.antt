@@ -17,7 +17,14 @@ loop-index-preserved g c =
     let x = c.args.input.now in
     let p = c.public_symbol-public.result in
     ap (λ xs. map entry_view xs) c.in_ok-push.ensures.items ∙ map-append entry_view c.loop-index.all.items _
-    ∙ flat-more (λ (q : PublicSymbol). option_to_list (option_map (public_entry x.input q) (of_program placed_public c.args.groups.now.program.now (input_view x) q.offset q.base))) x.says.now.publics c.loop-index.index _
+    ∙ flat-more
+    (λ (q : PublicSymbol).
+    option_to_list
+    (option_map (public_entry x.input q)
+    (of_program placed_public c.args.groups.now.program.now (input_view x) q.offset q.base))) x.says.now.publics
+    c.loop-index.index _
     (map entry_view c.args.all.now.items) (map entry_view c.loop-index.all.items) _ c.public_symbol-public.ensures
-    (ap (λ (o : Option ℕ). record { owner = o; name = p.name.now; value = c.place_of_public.result } ∷ []) c.then_some.ensures
-    ∙ ap (λ (o : Option PublicPlace). option_to_list (option_map (public_entry x.input (public_seen p)) o)) c.place_of_public.ensures) c.loop-index.invariant
+    (ap (λ (o : Option ℕ). record { owner = o; name = p.name.now; value = c.place_of_public.result } ∷ [])
+    c.then_some.ensures
+    ∙ ap (λ (o : Option PublicPlace). option_to_list (option_map (public_entry x.input (public_seen p)) o))
+    c.place_of_public.ensures) c.loop-index.invariant

@@ -11,4 +11,9 @@ use Rattle.omf_place.proofs.publics.push_publics.Given as goal
 
 abbrev pub invariant-loop-index : goal.invariant-loop-index
 invariant-loop-index g l = map entry_view l.all.items ≡ map entry_view l.initial.all.items
-    ++ flat_map (λ (p : PublicSymbol). option_to_list (option_map (public_entry l.input.input p) (of_program placed_public l.groups.program.now (input_view l.input) p.offset p.base))) (take l.index l.input.says.now.publics)
+    ++ flat_map
+    (λ (p : PublicSymbol).
+    option_to_list
+    (option_map (public_entry l.input.input p)
+    (of_program placed_public l.groups.program.now (input_view l.input) p.offset p.base)))
+    (take l.index l.input.says.now.publics)

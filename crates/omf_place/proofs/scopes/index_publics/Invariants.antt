@@ -7,5 +7,6 @@ use Rattle.omf_place.proofs.scopes.index_publics.Given as goal
 abbrev pub invariant-loop-entry : goal.invariant-loop-entry
 invariant-loop-entry g l = record {
   holds : HoldsAll l.fn.names l.count (map entry_view (take l.entry-index l.entries)) l.scopes;
-  apart : find (repeats l.fn.names (map entry_view l.entries)) (take l.entry-index (enumerate_from 0 (map entry_view l.entries))) ≡ None;
+  apart : find (repeats l.fn.names (map entry_view l.entries))
+      (take l.entry-index (enumerate_from 0 (map entry_view l.entries))) ≡ None;
 }

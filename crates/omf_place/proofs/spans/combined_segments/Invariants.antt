@@ -7,4 +7,7 @@ use Rattle.omf_place.specs.Tables.{combined_segment}
 use Rattle.omf_place.proofs.spans.combined_segments.Given as goal
 
 abbrev pub invariant-loop-rank : goal.invariant-loop-rank
-invariant-loop-rank g l = l.all.items ≡ map (combined_segment (sites_view l.sites) (addresses_in l.spans)) (filter (leads (sites_view l.sites)) (take l.rank-index (placement_order (sites_view l.sites))))
+invariant-loop-rank g l =
+    l.all.items
+    ≡ map (combined_segment (sites_view l.sites) (addresses_in l.spans))
+    (filter (leads (sites_view l.sites)) (take l.rank-index (placement_order (sites_view l.sites))))

@@ -7,4 +7,6 @@ use Rattle.omf_place.specs.inside.Spans.{addresses_in}
 use Rattle.omf_place.proofs.spans.first_long_segment.Given as goal
 
 abbrev pub invariant-loop-rank : goal.invariant-loop-rank
-invariant-loop-rank l = find (λ (a : Site). leads (sites_view l.sites) a && is_long_segment (sites_view l.sites) (addresses_in l.spans) a) (take l.rank-index (placement_order (sites_view l.sites))) ≡ None
+invariant-loop-rank l =
+    find (λ (a : Site). leads (sites_view l.sites) a && is_long_segment (sites_view l.sites) (addresses_in l.spans) a)
+    (take l.rank-index (placement_order (sites_view l.sites))) ≡ None

@@ -6,4 +6,5 @@ use Rattle.omf_place.proofs.spans.segment_spans.Goals as goal
 
 pub greatest_of-requires-clause-asked : goal.greatest_of-requires-clause-asked
 greatest_of-requires-clause-asked g c =
-    ends-asked (sites_view c.args.sites.now) c.args.addresses c.requires.numbered (c.requires.table ∙ sym (length-map c.args.sites.now site)) c.requires.small
+    ends-asked (sites_view c.args.sites.now) c.args.addresses c.requires.numbered
+    (c.requires.table ∙ sym (length-map c.args.sites.now site)) c.requires.small

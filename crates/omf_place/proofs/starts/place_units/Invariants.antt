@@ -8,7 +8,8 @@ use Rattle.omf_place.proofs.Walks.{}
 
 abbrev pub invariant-loop-rank : goal.invariant-loop-rank
 invariant-loop-rank l = record {
-  follow : FollowFrom (sites_view l.sites) l.addresses 0 (filter (is_unit (sites_view l.sites)) (take l.rank-index (placement_order (sites_view l.sites)))) l.end;
+  follow : FollowFrom (sites_view l.sites) l.addresses 0
+      (filter (is_unit (sites_view l.sites)) (take l.rank-index (placement_order (sites_view l.sites)))) l.end;
   small : l.end ≤ l.rank-index * 65792;
   kept : KeepsOthers (sites_view l.sites) l.initial.addresses l.addresses;
 }

@@ -8,4 +8,6 @@ abbrev pub decreases-read_block : goal.decreases-read_block
 decreases-read_block g l = l.below
 
 abbrev pub invariant-loop : goal.invariant-loop
-invariant-loop g l = (length l.blocks.items ≡ l.counter) × SoFar (block {A = g.row.A.Denot} (l.below - 1)) l.initial.rest (map block_view l.blocks.items) l.rest
+invariant-loop g l =
+    (length l.blocks.items ≡ l.counter)
+    × SoFar (block {A = g.row.A.Denot} (l.below - 1)) l.initial.rest (map block_view l.blocks.items) l.rest

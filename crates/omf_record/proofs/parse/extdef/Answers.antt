@@ -4,7 +4,13 @@ use Rattle.omf_record.specs.inside.Kinds.{body}
 use Rattle.omf_record.proofs.parse.extdef.Goals as goal
 
 pub parts-requires : goal.parts-requires
-parts-requires g c κs = ((refl, tt), elim c.requires [ inl e ↦ body g.row.A.Denot (Extdef false []) c.args.kind e | inr e ↦ body g.row.A.Denot (Extdef true []) c.args.kind e ])
+parts-requires g c κs = (
+  (refl, tt),
+  elim c.requires [
+    | inl e ↦ body g.row.A.Denot (Extdef false []) c.args.kind e
+    | inr e ↦ body g.row.A.Denot (Extdef true []) c.args.kind e
+  ],
+)
 
 pub returns : goal.returns
 unfolding Rattle.omf_record.specs.Body.Body Rattle.omf_record.specs.View.view

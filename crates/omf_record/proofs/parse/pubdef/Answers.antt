@@ -5,7 +5,13 @@ use Rattle.omf_record.specs.inside.Kinds.{body}
 use Rattle.omf_record.proofs.parse.pubdef.Goals as goal
 
 pub parts-requires : goal.parts-requires
-parts-requires g c κs = ((refl, tt), elim c.requires [ inl e ↦ body g.row.A.Denot (Pubdef false (InSegment 0 0) []) c.args.kind e | inr e ↦ body g.row.A.Denot (Pubdef true (InSegment 0 0) []) c.args.kind e ])
+parts-requires g c κs = (
+  (refl, tt),
+  elim c.requires [
+    | inl e ↦ body g.row.A.Denot (Pubdef false (InSegment 0 0) []) c.args.kind e
+    | inr e ↦ body g.row.A.Denot (Pubdef true (InSegment 0 0) []) c.args.kind e
+  ],
+)
 
 pub returns : goal.returns
 unfolding Rattle.omf_record.specs.Body.Body Rattle.omf_record.specs.View.view

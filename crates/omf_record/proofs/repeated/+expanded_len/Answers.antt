@@ -14,15 +14,23 @@ block_expanded_len-returns-in-Nested g t c =
 
 pub expanded_len-returns-then-total-eq-TOO_LONG : goal.expanded_len-returns-then-total-eq-TOO_LONG
 expanded_len-returns-then-total-eq-TOO_LONG g t c =
-    let next = next_is block_view c.args.blocks.now c.loop-block.block-index c.block-item.result c.loop-block-test.true c.block-item.is in
+    let next =
+    next_is block_view c.args.blocks.now c.loop-block.block-index c.block-item.result c.loop-block-test.true
+    c.block-item.is in
     omega (arith, ap all_expanded_len next, length_expansion (map block_view c.args.blocks.now))
 
 pub expanded_len-loop-block-preserved : goal.expanded_len-loop-block-preserved
 expanded_len-loop-block-preserved g t c =
-    let next = next_is block_view c.args.blocks.now c.loop-block.block-index c.block-item.result c.loop-block-test.true c.block-item.is in
+    let next =
+    next_is block_view c.args.blocks.now c.loop-block.block-index c.block-item.result c.loop-block-test.true
+    c.block-item.is in
     record { most = omega arith; whole = omega (arith, ap all_expanded_len next) }
 
 pub expanded_len-returns : goal.expanded_len-returns
 expanded_len-returns g t c =
     let done = drop_all c.loop-block.block-index c.args.blocks.now c.loop-block-test.false in
-    omega (arith, ap (λ ys. all_expanded_len (blocks_of (map block_view ys))) done, length_expansion (map block_view c.args.blocks.now))
+    omega (
+      arith,
+      ap (λ ys. all_expanded_len (blocks_of (map block_view ys))) done,
+      length_expansion (map block_view c.args.blocks.now),
+    )

@@ -12,14 +12,19 @@ returns-in_err-put_external g c =
     let local = c.args.local in
     let items = c.args.names.now in
     let loop = c.loop-external in
-    let cut = items_cut (λ x. external_line local (external_view x)) items loop.external-index _ _ _ _ _ _ _ c.loop-external-test.true loop.invariant.appended loop.invariant.count
+    let cut =
+    items_cut (λ x. external_line local (external_view x)) items loop.external-index _ _ _ _ _ _ _
+    c.loop-external-test.true loop.invariant.appended loop.invariant.count
     c.in_err-put_external.ensures in
-    Wrote-same _ _ _ _ _ _ _ (sym (flat_map-map (external_line local) external_view items)) (Wrote-failed _ _ _ _ _ _ _ cut c.from_residual.ensures.1)
+    Wrote-same _ _ _ _ _ _ _ (sym (flat_map-map (external_line local) external_view items))
+    (Wrote-failed _ _ _ _ _ _ _ cut c.from_residual.ensures.1)
 
 pub returns : goal.returns
 returns g c =
     let local = c.args.local in
     let items = c.args.names.now in
     let loop = c.loop-external in
-    let all = all_items (λ x. external_line local (external_view x)) items loop.external-index _ _ (omega (arith, c.loop-external-test.false)) loop.invariant.appended in
+    let all =
+    all_items (λ x. external_line local (external_view x)) items loop.external-index _ _
+    (omega (arith, c.loop-external-test.false)) loop.invariant.appended in
     (subst (Appends _ _) (sym (flat_map-map (external_line local) external_view items)) all, loop.invariant.count)

@@ -5,7 +5,8 @@ use Rattle.omf_text.proofs.details.put_lines.Goals as goal
 
 pub returns-in_err-put_base_line : goal.returns-in_err-put_base_line
 unfolding details
-returns-in_err-put_base_line g c = Wrote-cut _ _ _ _ _ _ _ _ _ c.in_err-put_base_line.ensures refl c.from_residual.ensures.1
+returns-in_err-put_base_line g c =
+    Wrote-cut _ _ _ _ _ _ _ _ _ c.in_err-put_base_line.ensures refl c.from_residual.ensures.1
 
 pub returns : goal.returns
 unfolding details

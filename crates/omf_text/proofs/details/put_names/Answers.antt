@@ -7,4 +7,5 @@ use Rattle.omf_text.proofs.details.put_names.Goals as goal
 pub returns : goal.returns
 unfolding details
 returns g c =
-    Wrote-same _ _ _ _ _ _ _ (sym (flat_map-map name_line (λ (n : Bor (List ℕ)). n.now) c.args.names.now)) c.put_each.ensures
+    Wrote-same _ _ _ _ _ _ _ (sym (flat_map-map name_line (λ (n : Bor (List ℕ)). n.now) c.args.names.now))
+    c.put_each.ensures

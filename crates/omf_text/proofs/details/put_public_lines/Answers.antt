@@ -12,14 +12,19 @@ returns-in_err-put_public g c =
     let local = c.args.local in
     let items = c.args.publics.now in
     let loop = c.loop-public in
-    let cut = items_cut (λ x. public_line local (public_view x)) items loop.public-index _ _ _ _ _ _ _ c.loop-public-test.true loop.invariant.appended loop.invariant.count
+    let cut =
+    items_cut (λ x. public_line local (public_view x)) items loop.public-index _ _ _ _ _ _ _ c.loop-public-test.true
+    loop.invariant.appended loop.invariant.count
     c.in_err-put_public.ensures in
-    Wrote-same _ _ _ _ _ _ _ (sym (flat_map-map (public_line local) public_view items)) (Wrote-failed _ _ _ _ _ _ _ cut c.from_residual.ensures.1)
+    Wrote-same _ _ _ _ _ _ _ (sym (flat_map-map (public_line local) public_view items))
+    (Wrote-failed _ _ _ _ _ _ _ cut c.from_residual.ensures.1)
 
 pub returns : goal.returns
 returns g c =
     let local = c.args.local in
     let items = c.args.publics.now in
     let loop = c.loop-public in
-    let all = all_items (λ x. public_line local (public_view x)) items loop.public-index _ _ (omega (arith, c.loop-public-test.false)) loop.invariant.appended in
+    let all =
+    all_items (λ x. public_line local (public_view x)) items loop.public-index _ _
+    (omega (arith, c.loop-public-test.false)) loop.invariant.appended in
     (subst (Appends _ _) (sym (flat_map-map (public_line local) public_view items)) all, loop.invariant.count)

@@ -12,4 +12,5 @@ pub returns : goal.returns
 unfolding details
 returns g c =
     let len = length (expansion (map block_view c.args.blocks.now)) in
-    rw (length-map c.args.blocks.now block_view) (rw (c.as_slice.ensures, c.expanded_len.ensures, expanded_capped len) at c.put_each.ensures)
+    rw (length-map c.args.blocks.now block_view)
+    (rw (c.as_slice.ensures, c.expanded_len.ensures, expanded_capped len) at c.put_each.ensures)

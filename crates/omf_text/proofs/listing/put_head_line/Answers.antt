@@ -16,6 +16,7 @@ returns g c =
     let before : c.spaces-2.result.now ≡ replicate (5 - length (decimal c.args.length)) 32 = search rules in
     let texts : map (λ piece. piece.now) c.as_slice-5.result.now
     ≡ hexadecimal 8 c.args.place ∷ codes " " ∷ hexadecimal 2 c.args.kind ∷ codes " " ∷ record_name c.args.kind
-    ∷ replicate (7 - length (record_name c.args.kind)) 32 ∷ codes " " ∷ replicate (5 - length (decimal c.args.length)) 32
+    ∷ replicate (7 - length (record_name c.args.kind)) 32 ∷ codes " "
+    ∷ replicate (5 - length (decimal c.args.length)) 32
     ∷ decimal c.args.length ∷ codes "\n" ∷ [] = search rules in
     Wrote-same _ _ _ _ _ _ _ (columns_joined _ _ _ _ _ _ _ _ _ _ _ texts) c.put_pieces.ensures

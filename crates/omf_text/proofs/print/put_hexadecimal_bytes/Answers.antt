@@ -6,5 +6,7 @@ use Rattle.omf_text.proofs.print.put_hexadecimal_bytes.Goals as goal
 pub returns-in_err-put_hexadecimal : goal.returns-in_err-put_hexadecimal
 returns-in_err-put_hexadecimal g c =
     let loop = c.loop-byte in
-    Wrote-failed _ _ _ _ _ _ _ (items_cut (hexadecimal 2) c.args.bytes.now loop.byte-index 0 _ _ _ _ _ _ c.loop-byte-test.true
-    loop.invariant.appended loop.invariant.count (rw c.from.ensures at c.in_err-put_hexadecimal.ensures)) c.from_residual.ensures.1
+    Wrote-failed _ _ _ _ _ _ _
+    (items_cut (hexadecimal 2) c.args.bytes.now loop.byte-index 0 _ _ _ _ _ _ c.loop-byte-test.true
+    loop.invariant.appended loop.invariant.count (rw c.from.ensures at c.in_err-put_hexadecimal.ensures))
+    c.from_residual.ensures.1

@@ -7,5 +7,6 @@ use Rattle.omf_text.proofs.print.put_hexadecimal_bytes.Given as goal
 abbrev pub invariant-loop-byte : goal.invariant-loop-byte
 invariant-loop-byte g l = record {
   count : g.K.Sink.failures l.sink ≡ g.K.Sink.failures l.initial.sink;
-  appended : Appends (g.K.Sink.written l.initial.sink) (g.K.Sink.written l.sink) (flat_map (hexadecimal 2) (take l.byte-index l.bytes));
+  appended : Appends (g.K.Sink.written l.initial.sink) (g.K.Sink.written l.sink)
+      (flat_map (hexadecimal 2) (take l.byte-index l.bytes));
 }

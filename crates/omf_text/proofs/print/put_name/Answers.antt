@@ -17,9 +17,12 @@ returns-in_err-put_name_byte g c =
     let loop = c.loop-byte in
     let name = flat_map name_byte c.args.name.now in
     let failed = c.from_residual-in_err-put_name_byte.ensures.1 in
-    let cut = items_cut name_byte c.args.name.now loop.byte-index _ _ _ _ _ _ _ c.loop-byte-test.true loop.invariant.appended loop.invariant.count
+    let cut =
+    items_cut name_byte c.args.name.now loop.byte-index _ _ _ _ _ _ _ c.loop-byte-test.true loop.invariant.appended
+    loop.invariant.count
     c.in_err-put_name_byte.ensures in
-    Wrote-then _ _ _ _ _ _ (34 ∷ []) (name ++ 34 ∷ []) _ c.in_ok-put_all.ensures (Wrote-cut _ _ _ _ _ name (34 ∷ []) _ _ cut refl failed)
+    Wrote-then _ _ _ _ _ _ (34 ∷ []) (name ++ 34 ∷ []) _ c.in_ok-put_all.ensures
+    (Wrote-cut _ _ _ _ _ name (34 ∷ []) _ _ cut refl failed)
 
 pub returns : goal.returns
 unfolding printed_name

@@ -2,7 +2,8 @@ use Rattle.std.proofs.Common.{◌∙◌, ap}
 use Rattle.std.proofs.lemmas.Result.{IfErr-weaker, IfOk-weaker}
 use Rattle.clap.specs.Words.{takes}
 use Rattle.omf_words.specs.Words.{texts}
-use Rattle.omf_words.proofs.WordsValues.{entered_here, job_for, matches_give, memory_refuses, no_fault, omf_is_simple, refusal_for, subcommand_is, subcommand_there}
+use Rattle.omf_words.proofs.WordsValues.{entered_here, job_for, matches_give, memory_refuses, no_fault, omf_is_simple}
+use Rattle.omf_words.proofs.WordsValues.{refusal_for, subcommand_is, subcommand_there}
 use Rattle.omf_words.proofs.words.parse_words.Goals as goal
 
 pub returns-in_default-clause-refused : goal.returns-in_default-clause-refused
@@ -10,35 +11,58 @@ returns-in_default-clause-refused c = λ taken. memory_refuses (texts c.args.wor
 
 pub returns-in-Err-clause-refused : goal.returns-in-Err-clause-refused
 returns-in-Err-clause-refused c = λ taken.
-    rw (c.refusal.ensures (c.in-Err.ensures.passes (ap (λ a. takes a (texts c.args.words.now)) c.in-Ok.ensures ∙ taken))) (memory_refuses (texts c.args.words.now))
+    rw (c.refusal.ensures
+    (c.in-Err.ensures.passes (ap (λ a. takes a (texts c.args.words.now)) c.in-Ok.ensures ∙ taken)))
+    (memory_refuses (texts c.args.words.now))
 
 pub unwrap-requires : goal.unwrap-requires
 unwrap-requires c =
     let words = texts c.args.words.now in
-    let none = no_fault _ words c.try_get_matches_from.result _ c.in-Ok.ensures c.try_get_matches_from.ensures.kinds c.in-Ok-try_get_matches_from.is in
-    let met = matches_give _ words c.in-Ok-try_get_matches_from.matches c.in-Ok.ensures c.in-Ok-try_get_matches_from.ensures.matches in
-    subcommand_there words c.in-Ok-try_get_matches_from.matches c.subcommand.result c.subcommand.ensures.variant met none
+    let none =
+    no_fault _ words c.try_get_matches_from.result _ c.in-Ok.ensures c.try_get_matches_from.ensures.kinds
+    c.in-Ok-try_get_matches_from.is in
+    let met =
+    matches_give _ words c.in-Ok-try_get_matches_from.matches c.in-Ok.ensures
+    c.in-Ok-try_get_matches_from.ensures.matches in
+    subcommand_there words c.in-Ok-try_get_matches_from.matches c.subcommand.result c.subcommand.ensures.variant met
+    none
 
 pub job_of-requires : goal.job_of-requires
 job_of-requires c =
     let words = texts c.args.words.now in
-    let none = no_fault _ words c.try_get_matches_from.result _ c.in-Ok.ensures c.try_get_matches_from.ensures.kinds c.in-Ok-try_get_matches_from.is in
-    let met = matches_give _ words c.in-Ok-try_get_matches_from.matches c.in-Ok.ensures c.in-Ok-try_get_matches_from.ensures.matches in
-    entered_here words _ _ none (subcommand_is words c.in-Ok-try_get_matches_from.matches c.subcommand.result c.unwrap.result c.subcommand.ensures.name c.subcommand.ensures.rows met c.unwrap.ensures)
+    let none =
+    no_fault _ words c.try_get_matches_from.result _ c.in-Ok.ensures c.try_get_matches_from.ensures.kinds
+    c.in-Ok-try_get_matches_from.is in
+    let met =
+    matches_give _ words c.in-Ok-try_get_matches_from.matches c.in-Ok.ensures
+    c.in-Ok-try_get_matches_from.ensures.matches in
+    entered_here words _ _ none
+    (subcommand_is words c.in-Ok-try_get_matches_from.matches c.subcommand.result c.unwrap.result
+    c.subcommand.ensures.name c.subcommand.ensures.rows met c.unwrap.ensures)
 
 pub returns-clause-job : goal.returns-clause-job
 returns-clause-job c =
     let words = texts c.args.words.now in
-    let none = no_fault _ words c.try_get_matches_from.result _ c.in-Ok.ensures c.try_get_matches_from.ensures.kinds c.in-Ok-try_get_matches_from.is in
-    let met = matches_give _ words c.in-Ok-try_get_matches_from.matches c.in-Ok.ensures c.in-Ok-try_get_matches_from.ensures.matches in
-    let entered = subcommand_is words c.in-Ok-try_get_matches_from.matches c.subcommand.result c.unwrap.result c.subcommand.ensures.name c.subcommand.ensures.rows met c.unwrap.ensures in
+    let none =
+    no_fault _ words c.try_get_matches_from.result _ c.in-Ok.ensures c.try_get_matches_from.ensures.kinds
+    c.in-Ok-try_get_matches_from.is in
+    let met =
+    matches_give _ words c.in-Ok-try_get_matches_from.matches c.in-Ok.ensures
+    c.in-Ok-try_get_matches_from.ensures.matches in
+    let entered =
+    subcommand_is words c.in-Ok-try_get_matches_from.matches c.subcommand.result c.unwrap.result
+    c.subcommand.ensures.name c.subcommand.ensures.rows met c.unwrap.ensures in
     IfOk-weaker c.job_of.result _ _ (λ job fits. job_for words _ _ job none entered fits) c.job_of.ensures.ok
 
 pub returns-clause-refused : goal.returns-clause-refused
 returns-clause-refused c = λ taken.
     let words = texts c.args.words.now in
-    let met = matches_give _ words c.in-Ok-try_get_matches_from.matches c.in-Ok.ensures c.in-Ok-try_get_matches_from.ensures.matches in
-    let entered = subcommand_is words c.in-Ok-try_get_matches_from.matches c.subcommand.result c.unwrap.result c.subcommand.ensures.name c.subcommand.ensures.rows met c.unwrap.ensures in
+    let met =
+    matches_give _ words c.in-Ok-try_get_matches_from.matches c.in-Ok.ensures
+    c.in-Ok-try_get_matches_from.ensures.matches in
+    let entered =
+    subcommand_is words c.in-Ok-try_get_matches_from.matches c.subcommand.result c.unwrap.result
+    c.subcommand.ensures.name c.subcommand.ensures.rows met c.unwrap.ensures in
     IfErr-weaker c.job_of.result _ _ (λ fault fits. refusal_for words _ _ fault entered fits) c.job_of.ensures.err
 
 pub returns-in_default-clause-simple : goal.returns-in_default-clause-simple

@@ -11,6 +11,10 @@ loop-laid-preserved g c =
     let within : j ≤ length bs = omega (arith, c.min-end.ensures) in
     record {
       within = within;
-      bytes = laid_on c.args.start i j bs c.args.self.now.bytes c.loop-laid.self.bytes c.lay_in_page.new.self.bytes order within c.loop-laid.invariant.bytes c.in_ok-lay_in_page.ensures.bytes;
-      made = pages_on c.args.start i j bs c.args.self.now.made c.loop-laid.self.made c.lay_in_page.new.self.made order within c.loop-laid.invariant.made c.in_ok-lay_in_page.ensures.made;
+      bytes =
+          laid_on c.args.start i j bs c.args.self.now.bytes c.loop-laid.self.bytes c.lay_in_page.new.self.bytes order
+          within c.loop-laid.invariant.bytes c.in_ok-lay_in_page.ensures.bytes;
+      made =
+          pages_on c.args.start i j bs c.args.self.now.made c.loop-laid.self.made c.lay_in_page.new.self.made order
+          within c.loop-laid.invariant.made c.in_ok-lay_in_page.ensures.made;
     }

@@ -32,5 +32,6 @@ returns g c =
     let made : List Bool = made_pages (map (λ p. p.items) ps) in
     c.loop-page.invariant
     ∙ ap (count_by (λ (m : Bool). m)) (take_all c.loop-page.page-index made (omega (arith, n, c.loop-page-test.false)))
-    ∙ ap (λ (v : List (Vec ℕ _)). count_by (λ (m : Bool). m) (made_pages (map (λ p. p.items) v))) c.deref-page-items.ensures.value
+    ∙ ap (λ (v : List (Vec ℕ _)). count_by (λ (m : Bool). m) (made_pages (map (λ p. p.items) v)))
+    c.deref-page-items.ensures.value
     ∙ ap (λ (i : Paged). count_by (λ (m : Bool). m) i.made) c.self.view_is

@@ -9,5 +9,7 @@ invariant-loop-at g l = record {
   room : IsRoom l.start (state l.self);
   same : length l.self.touched.items ≡ length l.initial.self.touched.items;
   holds : (bytes : List ℕ) (base : State) (ps : List Patch) → Holds l.start bytes base (state l.initial.self) ps
-      → Holds l.start bytes base (state l.self) (ps ++ flat_map (λ i. patches_at 0 l.resolved l.self_relative l.location i (l.start + i)) (take l.at-index l.hits));
+      → Holds l.start bytes base (state l.self)
+      (ps ++ flat_map (λ i. patches_at 0 l.resolved l.self_relative l.location i (l.start + i))
+      (take l.at-index l.hits));
 }

@@ -8,7 +8,8 @@ use Rattle.omf_image.proofs.work.Work.add_patches.Goals as goal
 pub returns-in-Some-clause-holds : goal.returns-in-Some-clause-holds
 returns-in-Some-clause-holds g c bytes base ps h =
     subst (λ (l : List Patch). Holds c.args.start bytes base (state c.add_patch-in-Some.new.self) l)
-    (append_assoc ps (c.args.first ∷ []) (c.in-Some.second ∷ []) ∙ ap (λ o. ps ++ listed c.args.first o) (sym c.in-Some.is))
+    (append_assoc ps (c.args.first ∷ []) (c.in-Some.second ∷ [])
+    ∙ ap (λ o. ps ++ listed c.args.first o) (sym c.in-Some.is))
     (c.add_patch-in-Some.ensures.holds bytes base (ps ++ c.args.first ∷ []) (c.add_patch.ensures.holds bytes base ps h))
 
 pub returns-in_default-clause-holds : goal.returns-in_default-clause-holds

@@ -9,7 +9,10 @@ pub returns-in-Some : goal.returns-in-Some
 returns-in-Some g c earlier m =
     let p = c.args.first in
     let q = c.in-Some.second in
-    ap (λ (b : Bool). b && c.is_clear.result) (c.is_clear-clear.ensures earlier (marked_same _ _ _ _ earlier c.deref.ensures.value c.deref-2.ensures.value m))
-    ∙ ap (λ (b : Bool). all_clear earlier (p ∷ []) && b) (c.is_clear.ensures earlier (marked_same _ _ _ _ earlier c.deref-in-Some.ensures.value c.deref-in-Some-2.ensures.value m))
+    ap (λ (b : Bool). b && c.is_clear.result)
+    (c.is_clear-clear.ensures earlier (marked_same _ _ _ _ earlier c.deref.ensures.value c.deref-2.ensures.value m))
+    ∙ ap (λ (b : Bool). all_clear earlier (p ∷ []) && b)
+    (c.is_clear.ensures earlier
+    (marked_same _ _ _ _ earlier c.deref-in-Some.ensures.value c.deref-in-Some-2.ensures.value m))
     ∙ sym (pointer_clear earlier p q)
     ∙ ap (λ o. all_clear earlier (listed p o)) (sym c.in-Some.is)

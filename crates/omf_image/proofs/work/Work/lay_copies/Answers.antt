@@ -8,28 +8,36 @@ use Rattle.omf_image.proofs.work.Work.lay_copies.Goals as goal
 pub copied_bytes-requires : goal.copied_bytes-requires
 copied_bytes-requires g c =
     let s = state c.args.stored.now in
-    All-weaker (λ p. p < length s.touched) (λ p. p < length s.image) (λ p h. omega (arith, h, c.requires.room.inside)) c.args.places.now c.requires.ends
+    All-weaker (λ p. p < length s.touched) (λ p. p < length s.image) (λ p h. omega (arith, h, c.requires.room.inside))
+    c.args.places.now c.requires.ends
 
 pub copy_marks-requires : goal.copy_marks-requires
-copy_marks-requires g c = subst (λ (flags : List Bool). All (λ p. p < length flags) c.args.places.now) (sym c.deref.ensures.value) c.requires.ends
+copy_marks-requires g c =
+    subst (λ (flags : List Bool). All (λ p. p < length flags) c.args.places.now) (sym c.deref.ensures.value)
+    c.requires.ends
 
 pub copy_marks-requires-2 : goal.copy_marks-requires-2
 copy_marks-requires-2 g c =
     let s = state c.args.stored.now in
-    All-weaker (λ p. p < length s.touched) (λ p. p < length c.deref-2.result.now) (λ p h. omega (arith, h, c.requires.room.same, ap length c.deref-2.ensures.value)) c.args.places.now c.requires.ends
+    All-weaker (λ p. p < length s.touched) (λ p. p < length c.deref-2.result.now)
+    (λ p h. omega (arith, h, c.requires.room.same, ap length c.deref-2.ensures.value)) c.args.places.now c.requires.ends
 
 pub copy_flags-requires-clause-places : goal.copy_flags-requires-clause-places
 copy_flags-requires-clause-places g c =
     let s = state c.args.stored.now in
-    All-weaker (λ p. p < length s.touched) (λ p. p < length c.deref-3.result.now) (λ p h. omega (arith, h, c.requires.room.inside, c.requires.room.words, ap length c.deref-3.ensures.value)) c.args.places.now c.requires.ends
+    All-weaker (λ p. p < length s.touched) (λ p. p < length c.deref-3.result.now)
+    (λ p h. omega (arith, h, c.requires.room.inside, c.requires.room.words, ap length c.deref-3.ensures.value))
+    c.args.places.now c.requires.ends
 
 pub returns-clause-holds : goal.returns-clause-holds
 returns-clause-holds g c bytes earlier h =
     let old = c.args.self.now in
     let places = c.args.places.now in
     let marks : List Bool → List Bool = λ flags. map (λ p. get_or flags p false) places in
-    let w = with_items_is old.words c.copy_flags.new.flags (omega (arith, c.copy_flags.auto.flags, c.deref_mut.ensures.len)) in
-    copies_hold places bytes c.deref-4.result.now c.args.start (state c.args.stored.now) (state old) _ earlier c.requires.room (λ k l. c.requires.ends k 0 l) c.requires.inside h (record {
+    let w =
+    with_items_is old.words c.copy_flags.new.flags (omega (arith, c.copy_flags.auto.flags, c.deref_mut.ensures.len)) in
+    copies_hold places bytes c.deref-4.result.now c.args.start (state c.args.stored.now) (state old) _ earlier
+    c.requires.room (λ k l. c.requires.ends k 0 l) c.requires.inside h (record {
       bytes = c.deref-4.ensures.value ∙ c.in_ok-bytes.ensures;
       touched = c.in_ok-copy_marks.ensures ∙ ap marks c.deref.ensures.value;
       relocated = c.in_ok-copy_marks-2.ensures ∙ ap marks c.deref-2.ensures.value;
@@ -38,8 +46,15 @@ returns-clause-holds g c bytes earlier h =
       words = ap length w ∙ c.copy_flags.auto.flags ∙ ap length c.deref_mut.ensures.value;
       flags = λ k l.
           ap (λ (flags : List Bool). get_or flags (c.args.start + k) false) w ∙ c.copy_flags.ensures.copied k l
-          ∙ ap (λ (flags : List Bool). get_or flags (c.args.start + k) false || get_or c.deref-3.result.now (get_or places k 0) false) c.deref_mut.ensures.value
-          ∙ ap (λ (flags : List Bool). get_or old.words.items (c.args.start + k) false || get_or flags (get_or places k 0) false) c.deref-3.ensures.value;
+          ∙ ap
+          (λ (flags : List Bool).
+          get_or flags (c.args.start + k) false || get_or c.deref-3.result.now (get_or places k 0) false)
+          c.deref_mut.ensures.value
+          ∙ ap
+          (λ (flags : List Bool).
+          get_or old.words.items (c.args.start + k) false || get_or flags (get_or places k 0) false)
+          c.deref-3.ensures.value;
       rest = λ a l.
-          ap (λ (flags : List Bool). get_or flags a false) w ∙ c.copy_flags.ensures.rest a l ∙ ap (λ (flags : List Bool). get_or flags a false) c.deref_mut.ensures.value;
+          ap (λ (flags : List Bool). get_or flags a false) w ∙ c.copy_flags.ensures.rest a l
+          ∙ ap (λ (flags : List Bool). get_or flags a false) c.deref_mut.ensures.value;
     })

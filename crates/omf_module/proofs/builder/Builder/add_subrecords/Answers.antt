@@ -6,10 +6,17 @@ use Rattle.omf_module.proofs.builder.Builder.add_subrecords.Goals as goal
 pub returns-in_err-add_subrecord : goal.returns-in_err-add_subrecord
 returns-in_err-add_subrecord g c =
     let p = err_from_is_err_and c.from_residual.result c.from_residual.ensures.1 in
-    rw (p.1, p.2) (ends c.args.place (state c.loop-subrecord.self) c.args.subrecords.now c.loop-subrecord.subrecord-index _ _ c.loop-subrecord-test.true c.loop-subrecord.invariant c.in_err-add_subrecord.field-0.0 c.in_err-add_subrecord.ensures)
+    rw (p.1, p.2)
+    (ends c.args.place (state c.loop-subrecord.self) c.args.subrecords.now c.loop-subrecord.subrecord-index _ _
+    c.loop-subrecord-test.true c.loop-subrecord.invariant c.in_err-add_subrecord.field-0.0
+    c.in_err-add_subrecord.ensures)
 
 pub loop-subrecord-preserved : goal.loop-subrecord-preserved
-loop-subrecord-preserved g c = goes_on c.args.place (state c.loop-subrecord.self) c.args.subrecords.now c.loop-subrecord.subrecord-index _ _ c.loop-subrecord-test.true c.loop-subrecord.invariant _ c.in_ok-add_subrecord.ensures
+loop-subrecord-preserved g c =
+    goes_on c.args.place (state c.loop-subrecord.self) c.args.subrecords.now c.loop-subrecord.subrecord-index _ _
+    c.loop-subrecord-test.true c.loop-subrecord.invariant _ c.in_ok-add_subrecord.ensures
 
 pub returns : goal.returns
-returns g c = is_done c.args.place (state c.loop-subrecord.self) c.args.subrecords.now c.loop-subrecord.subrecord-index _ c.loop-subrecord-test.false c.loop-subrecord.invariant
+returns g c =
+    is_done c.args.place (state c.loop-subrecord.self) c.args.subrecords.now c.loop-subrecord.subrecord-index _
+    c.loop-subrecord-test.false c.loop-subrecord.invariant

@@ -8,5 +8,6 @@ use Rattle.omf_module.proofs.builder.Builder.group_fault.Goals as goal
 
 pub returns-in-None : goal.returns-in-None
 returns-in-None g c =
-    let e : when (misses (state c.args.self.now).tables.names c.args.name) NameIndex ≡ None = grind (arith, common_steps) in
+    let e : when (misses (state c.args.self.now).tables.names c.args.name) NameIndex ≡ None =
+    grind (arith, common_steps) in
     rw c.components_fault.ensures (sym (first_none _ _ e))

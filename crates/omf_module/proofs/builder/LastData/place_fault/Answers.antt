@@ -1,4 +1,5 @@
-use Rattle.std.proofs.Common.{◌≡◌, ℕ, ◌+◌, ◌&&◌, ◌||◌, Bool, true, false, not, leb, List, [], ◌∷◌, map, refl, ap, ap₂, sym, ◌∙◌, arith}
+use Rattle.std.proofs.Common.{◌≡◌, ℕ, ◌+◌, ◌&&◌, ◌||◌, Bool, true, false, not, leb, List, [], ◌∷◌, map, refl, ap, ap₂}
+use Rattle.std.proofs.Common.{sym, ◌∙◌, arith}
 use Rattle.std.proofs.lemmas.Bool.{le-leb}
 use Rattle.omf_module.specs.declared.contents.Content.{Content}
 use Rattle.omf_module.specs.declared.fault.CheckFault.TheVariants.{FixupPlace}
@@ -30,6 +31,8 @@ returns g c = elim c.match-self.branch [
       rw w.in-Repeated.is
       (c.when.ensures ∙ ap (λ b. faults.when (not b) FixupPlace)
       (w.lies-is ∙ w.lies_in-lies.ensures
-      ∙ ap (λ (cs : List Content). lies_in (map pair cs) w.from-in-Repeated.result c.from-width.result) w.deref.ensures.value
-      ∙ ap₂ (λ o v. lies_in (map pair w.in-Repeated.contents.items) o v) w.from-in-Repeated.ensures (c.from-width.ensures ∙ c.width.ensures)))
+      ∙ ap (λ (cs : List Content). lies_in (map pair cs) w.from-in-Repeated.result c.from-width.result)
+      w.deref.ensures.value
+      ∙ ap₂ (λ o v. lies_in (map pair w.in-Repeated.contents.items) o v) w.from-in-Repeated.ensures
+      (c.from-width.ensures ∙ c.width.ensures)))
 ]

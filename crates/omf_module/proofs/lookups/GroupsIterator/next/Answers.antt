@@ -5,4 +5,6 @@ use Rattle.omf_module.proofs.lookups.GroupsIterator.next.Goals as goal
 
 pub returns-then-self-group_count-clause-steps : goal.returns-then-self-group_count-clause-steps
 returns-then-self-group_count-clause-steps g c =
-    sym c.self.view_is ∙ drop_at_some c.self.inside.«module».now.groups c.self.inside.next (group_seen c.group-item.result) c.group-item.ensures
+    sym c.self.view_is
+    ∙ drop_at_some c.self.inside.«module».now.groups c.self.inside.next (group_seen c.group-item.result)
+    c.group-item.ensures

@@ -11,12 +11,18 @@ pub invariant_of-self-2 : goal.invariant_of-self-2
 unfolding IsConsistent
 invariant_of-self-2 g c =
     let inside = rw c.deref.ensures.value at c.segment_entry-segment.ensures.inside c.self.inside.bytes.items in
-    rw c.in_ok-push.ensures.items ((segment_in _ _ _ c.self.invariant.0 c.segment_entry-segment.result (inside c.self.invariant.0.names), c.self.invariant.1))
+    rw c.in_ok-push.ensures.items ((
+      segment_in _ _ _ c.self.invariant.0 c.segment_entry-segment.result (inside c.self.invariant.0.names),
+      c.self.invariant.1,
+    ))
 
 pub returns : goal.returns
 unfolding IsConsistent
 returns g c =
-    let says : segment c.self.inside.bytes.items c.segment_entry-segment.result ≡ segment_of (map (elements c.self.inside.bytes.items) c.self.inside.names.items) c.args.definition.now = rw c.deref.ensures.value at c.segment_entry-segment.ensures.says c.self.inside.bytes.items in
+    let says : segment c.self.inside.bytes.items c.segment_entry-segment.result
+    ≡ segment_of (map (elements c.self.inside.bytes.items) c.self.inside.names.items) c.args.definition.now =
+    rw c.deref.ensures.value at c.segment_entry-segment.ensures.says c.self.inside.bytes.items in
     rw c.in_ok-push.ensures.items
     (segment_kept _ _ _ c.self.invariant.0 c.segment_entry-segment.result says
-    ∙ ap (λ (k : Kept). record k { segments = k.segments ++ segment_of k.names c.args.definition.now ∷ [] }) c.self.view_is)
+    ∙ ap (λ (k : Kept). record k { segments = k.segments ++ segment_of k.names c.args.definition.now ∷ [] })
+    c.self.view_is)

@@ -19,7 +19,8 @@ loop-grpdef-preserved g c =
     let are = ap (λ gs. map grpdef_view gs) c.deref-grpdef-items.ensures.value ∙ c.in_ok-grpdefs.ensures in
     let old : List ℕ → Option GroupEntry = λ q. value_of (named_slices c.loop-grpdef.by_name.entries) q in
     let new : List ℕ → Option GroupEntry = λ q. value_of (named_slices c.add_grpdef.new.by_name.entries) q in
-    groups-more (sites p.modules.now) (addresses_of p.stands.now) items (grpdefs p.modules.now) are c.loop-grpdef.grpdef-index _ c.loop-grpdef-test.true old new c.loop-grpdef.invariant c.in_ok-add_grpdef.ensures
+    groups-more (sites p.modules.now) (addresses_of p.stands.now) items (grpdefs p.modules.now) are
+    c.loop-grpdef.grpdef-index _ c.loop-grpdef-test.true old new c.loop-grpdef.invariant c.in_ok-add_grpdef.ensures
 
 pub invariant_of-result : goal.invariant_of-result
 invariant_of-result g c =
@@ -29,5 +30,9 @@ invariant_of-result g c =
     let many = as-many (sites p.modules.now) (addresses_of p.stands.now) items (grpdefs p.modules.now) are in
     record {
       listed = c.in_ok-grpdefs.ensures;
-      named = λ q. c.loop-grpdef.invariant q ∙ ap (λ gs. entry_in (sites p.modules.now) (addresses_of p.stands.now) gs q) (take-all c.loop-grpdef.grpdef-index (grpdefs p.modules.now) (omega (arith, many, c.loop-grpdef-test.false)));
+      named =
+          λ q.
+          c.loop-grpdef.invariant q
+          ∙ ap (λ gs. entry_in (sites p.modules.now) (addresses_of p.stands.now) gs q)
+          (take-all c.loop-grpdef.grpdef-index (grpdefs p.modules.now) (omega (arith, many, c.loop-grpdef-test.false)));
     }

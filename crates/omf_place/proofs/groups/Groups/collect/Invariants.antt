@@ -7,4 +7,7 @@ use Rattle.omf_place.specs.inside.OfProgram.{of_program}
 use Rattle.omf_place.proofs.groups.Groups.collect.Given as goal
 
 abbrev pub invariant-loop-grpdef : goal.invariant-loop-grpdef
-invariant-loop-grpdef g l = (q : List ℕ) → value_of (named_slices l.by_name.entries) q ≡ of_program (λ ms A. entry_in (sites ms) A (take l.grpdef-index (grpdefs ms))) l.program q
+invariant-loop-grpdef g l =
+    (q : List ℕ)
+    → value_of (named_slices l.by_name.entries) q
+    ≡ of_program (λ ms A. entry_in (sites ms) A (take l.grpdef-index (grpdefs ms))) l.program q

@@ -6,4 +6,5 @@ use Rattle.omf_record.proofs.primitives.IndexField.read.Goals as goal
 pub returns-in-None : goal.returns-in-None
 returns-in-None g c =
     let bytes = c.args.bytes.now in
-    missing index bytes c.in-None.ensures (index_goes_on bytes (IsBytes-from bytes (λ i. omega (arith, c.type_inv.bytes i))) c.in-None.ensures)
+    missing index bytes c.in-None.ensures
+    (index_goes_on bytes (IsBytes-from bytes (λ i. omega (arith, c.type_inv.bytes i))) c.in-None.ensures)

@@ -7,4 +7,5 @@ pub returns-then-bytes-lt2 : goal.returns-then-bytes-lt2
 returns-then-bytes-lt2 g c =
     let bytes = c.args.bytes.now in
     let short : length bytes < 2 = search rules in
-    missing word bytes (word_none bytes short) (word_goes_on bytes (IsBytes-from bytes (λ i. omega (arith, c.type_inv.bytes i))) short)
+    missing word bytes (word_none bytes short)
+    (word_goes_on bytes (IsBytes-from bytes (λ i. omega (arith, c.type_inv.bytes i))) short)
