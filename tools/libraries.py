@@ -1,6 +1,6 @@
 """The object modules of a library: of a .LIB (its dictionary isn't used), or of a Unix archive."""
 
-from records import COMENT, FRONT, PUBDEF, Refused, content_of, public_names
+from records import COMENT, FRONT, content_of
 
 ARCHIVE = b"!<arch>\n"
 # of a member of an archive
@@ -17,15 +17,12 @@ class Damaged(Exception):
 
 
 class Module:
-    """A module: the library's file, the module's name and place in it, its bytes from THEADR to MODEND, and the names
-    of its publics, of which its frames alone tell."""
+    """A module: its name and place in the library's file, and its bytes from THEADR to MODEND."""
 
-    def __init__(self, library, name, place, content, publics):
-        self.library = library
+    def __init__(self, name, place, content):
         self.name = name
         self.place = place
         self.content = content
-        self.publics = publics
 
 
 class Reading:
@@ -51,7 +48,7 @@ class Reading:
 
     def module(self, begin):
         """The module at a place, and the place behind it."""
-        content, most, publics = self.content, len(self.content), []
+        content, most = self.content, len(self.content)
         kind, behind = self.record(begin)
         if kind not in MODULE_BEGINS:
             raise self.damaged(begin, f"a module should begin here, and a record of type {kind:02X}H does")
@@ -63,11 +60,9 @@ class Reading:
             kind, behind = content[place], place + FRONT + content[place + 1] + (content[place + 2] << 8)
             if behind > most or behind == place + FRONT:
                 self.record(place)
-            if kind == PUBDEF:
-                publics += names_at(content, place, behind - 1)
-            elif kind == COMENT and content[place + 4:place + 5] == LIBRARY_NAME:
+            if kind == COMENT and content[place + 4:place + 5] == LIBRARY_NAME:
                 name = content[place + 6:behind - 1] or name
-        return Module(self.path, name, begin, content[begin:behind], publics), behind
+        return Module(name, begin, content[begin:behind]), behind
 
     def library(self):
         """The modules of a .LIB: each begins at a page, whose size the header's length tells."""
@@ -122,29 +117,17 @@ class Reading:
         return name[:-1] if name.endswith(b"/") else name
 
 
-def names_at(content, place, end):
-    """The names of a record of publics, or none where it isn't sound, of which a link tells."""
-    try:
-        return public_names(content, place, end)
-    except (Refused, IndexError):
-        return []
-
-
 def is_library(content):
     """Whether these bytes begin as a library does."""
     return content[:1] == bytes([LIBRARY_BEGIN]) or content.startswith(ARCHIVE)
 
 
-def modules(path, content):
-    """The modules of a library's file, in their order."""
+def read(path):
+    """The modules of a library, in their order."""
+    content = content_of(path)
     reading = Reading(path, content)
     if content.startswith(ARCHIVE):
         return reading.archive()
     if content[:1] == bytes([LIBRARY_BEGIN]):
         return reading.library()
     raise Damaged(f"{path} is no library: it begins neither with F0H nor with !<arch>")
-
-
-def read(path):
-    """The modules of a library, in their order."""
-    return modules(path, content_of(path))
