@@ -1,0 +1,51 @@
+"""Runs commands of DOS in DOSBox, without a window."""
+
+import os
+import subprocess
+
+SETTINGS = """[sdl]
+output=surface
+[mixer]
+nosound=true
+[cpu]
+cycles=max
+[autoexec]
+@echo off
+{mounts}
+c:
+call run.bat
+exit
+"""
+TAKEN = 100  # kilobytes that LOADFIX takes before it runs a program, which is then loaded above them
+AROUND = (f"{TAKEN} kb allocated.\r\n".encode(), f"{TAKEN} kb freed.\r\n".encode())  # what LOADFIX prints
+
+
+def run(folder, lines, seconds, others=None):
+    """Runs these lines with a folder as C: and others by their letters, and answers whether they ended in time."""
+    mounts = "\n".join(f'mount {letter} "{path}"' for letter, path in {"c": ".", **(others or {})}.items())
+    (folder / "RUN.BAT").write_bytes("\r\n".join([*lines, "c:", "cd \\", "echo ended > ENDED.TXT", ""]).encode())
+    (folder / "dosbox.conf").write_text(SETTINGS.format(mounts=mounts))
+    quiet = {**os.environ, "SDL_VIDEODRIVER": "dummy", "SDL_AUDIODRIVER": "dummy"}
+    try:
+        subprocess.run(
+            ["dosbox", "-conf", "dosbox.conf"], cwd=folder, env=quiet, timeout=seconds, stdin=subprocess.DEVNULL,
+            stdout=subprocess.DEVNULL, stderr=subprocess.DEVNULL)
+    except subprocess.TimeoutExpired:
+        return False
+    return (folder / "ENDED.TXT").exists()
+
+
+def at_two_addresses(program):
+    """Lines that run a program twice, the second time loaded above what LOADFIX takes, into LOW.TXT and HIGH.TXT."""
+    return [f"{program} > LOW.TXT", f"loadfix -{TAKEN} {program} > HIGH.TXT"]
+
+
+def differences(folder, wanted):
+    """What a program that was run at two addresses printed in place of its text."""
+    problems = []
+    for file, around in (("LOW.TXT", (b"", b"")), ("HIGH.TXT", AROUND)):
+        path = folder / file
+        printed = path.read_bytes() if path.exists() else b""
+        if printed != around[0] + wanted + around[1]:
+            problems.append(f"{file} is {printed!r} in place of {wanted!r}")
+    return problems
