@@ -484,6 +484,8 @@ LOWERED = [
      [LISTED, (0x98, "68 3412 04 01 00")]),
     ("a length of more than 16 bits", False, False, [LISTED, (0x99, "69 00000100 04 01 00")],
      (49, 1)),
+    ("the longest segment of 32 bits", False, False, [LISTED, (0x99, "6B 00000000 04 01 00")],
+     (49, 1)),
     ("publics of 32 bits", False, False, [(0x91, "00 01 0141 34120000 00")],
      [(0x90, "00 01 0141 3412 00")]),
     ("local ones of a frame", False, False, [(0xB7, "00 00 00B8 0141 34120000 8001")],

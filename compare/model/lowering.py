@@ -29,8 +29,9 @@ LENGTHS = {0x61: 2, 0x62: 1}
 BYTES_OF_LENGTH = {0x81: 2, 0x84: 3, 0x88: 4}
 DEBUG_CLASSES = (b"DEBSYM", b"DEBTYP", b"DWARF")
 FAR_DATA = b"FAR_DATA"
-# the fields of the byte that begins a SEGDEF: alignment, combination, and whether it has 32 bits
-ALIGNMENT, COMBINATION, USE_32 = 0xE0, 0x1C, 0x01
+# the fields of the byte that begins a SEGDEF: alignment, combination, whether it is as long as its
+# offsets reach, and whether it has 32 bits
+ALIGNMENT, COMBINATION, BIG, USE_32 = 0xE0, 0x1C, 0x02, 0x01
 BYTE_ALIGNED, PUBLIC = 0x20, 0x08
 # locations: an offset of 16 bits, and those of 32
 OFFSET, OFFSETS_32 = 1, (9, 13)
@@ -285,6 +286,8 @@ class Lowering:
         self.kept_out.append(not self.keeps_debug and class_name in DEBUG_CLASSES)
         if self.kept_out[-1]:
             return SEGMENTS[0], bytes([BYTE_ALIGNED, 0, 0]) + found.name + found.behind_name
+        if kind == SEGMENTS[1] and found.first & BIG:
+            raise Obstacle(ABOVE_16_BITS)
         first, name = found.first, found.name
         if self.shares_far_data and class_name == FAR_DATA:
             first, name = first & ~COMBINATION | PUBLIC, found.class_field
