@@ -508,6 +508,16 @@ LOWERED = [
         (0xA1, "01 00000000 000000"), (0x9D, "E400 54 02")], (50, 1)),
     ("one that is self-relative", False, False, [
         (0xA1, "01 00000000 00000000"), (0x9D, "A400 54 02")], (50, 1)),
+    ("an offset of 32 bits among fix-ups of 16", False, False, [
+        (0xA0, "01 0000 FFFF0000 0000"), (0x9C, "40 01  C404 54 02  F400 50 02 3412")],
+     [(0xA0, "01 0000 FFFF0000 0000"), (0x9C, "40 01  C404 54 02  C400 50 02 3412")]),
+    ("one whose upper word isn't 0 there", False, False, [
+        (0xA0, "01 0000 00000100"), (0x9C, "E400 54 02")], (49, 1)),
+    ("one that is self-relative there", False, False, [
+        (0xA0, "01 0000 00000000"), (0x9C, "A400 54 02")], (50, 1)),
+    ("one behind what is no fix-up", False, False, [
+        (0xA0, "01 0000 00000000"), (0x9C, "C400 34 02  E400 54 02")],
+     [(0xA0, "01 0000 00000000"), (0x9C, "C400 34 02  E400 54 02")]),
     ("repeated data", False, False, [
         (0xA3, "01 00000000  02000000 0100  03000000 0000 04 AA000000"),
         (0x9D, "C40D 54 02  E40D 54 02  8411 54 02")],

@@ -148,7 +148,7 @@ class Widening:
             place = (first & 3) << 8 | reader.take(1)[0]
             place = self.moved.get(place, place)
             location = first >> 2 & 15
-            if location == 1 and (is_wide or self.is_wide) and self.happens(0.5):
+            if location == 1 and self.happens(0.5 if is_wide or self.is_wide else 0.2):
                 location = self.random.choice([9, 13])
             found += bytes([first & 0xC0 | location << 2 | place >> 8 & 3, place & 0xFF])
             found += self.reference(reader, is_wide)

@@ -139,6 +139,29 @@ def reference(entries, width):
     return front, b"" if fix_data & 4 else entries.bytes(width)
 
 
+def location_of(first):
+    """The location of a fix-up with this first byte."""
+    return first >> 2 & 15
+
+
+def has_wide_fixup(body):
+    """Whether a fix-up of 32 bits is among subrecords of 16, before what isn't one."""
+    entries = Entries(body)
+    try:
+        while entries.has_more():
+            first = entries.byte()
+            if not first & 0x80:
+                thread(entries, first)
+                continue
+            entries.byte()
+            reference(entries, 2)
+            if location_of(first) in OFFSETS_32:
+                return True
+    except (Ended, Obstacle):
+        pass
+    return False
+
+
 def blocks(data):
     """The places of contents in repeated data, with their bytes.
 
@@ -333,7 +356,8 @@ class Lowering:
 
     def lower_fixups(self, kind, body):
         """Of what is kept out, threads alone, since later fix-ups may use them."""
-        if not self.drops_fixups and kind % 2 == 0 and self.data.width == 2:
+        is_wide = kind % 2 == 1 or self.data.width == 4 or has_wide_fixup(body)
+        if not self.drops_fixups and not is_wide:
             return kind, body
         try:
             subrecords = Entries(body)
@@ -354,7 +378,7 @@ class Lowering:
 
     def located(self, first, low):
         """The two bytes of a fix-up that tell its location and its place."""
-        location, place = first >> 2 & 15, (first & 3) << 8 | low
+        location, place = location_of(first), (first & 3) << 8 | low
         if location in OFFSETS_32:
             # it has to be an offset in a segment, and the upper part of what is there 0
             if not first & 0x40:

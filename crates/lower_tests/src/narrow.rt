@@ -93,6 +93,71 @@ A2 01 00 00 01 00 00 00 04 AA BB 00 00
     )
 }
 
+/// Fix-ups of 32 bits in a record of 16, as NASM writes them for `dd label` in a segment of 16 bits.
+#[test]
+fn wide_fixups(rt: HostRuntime) -> Result<(), Fail> {
+    run(
+        &rt,
+        rt.alloc(),
+        PLAIN,
+        "\
+# one, and one by a displacement of two bytes; the lower word stays, whatever it is
+A0 01 00 00 05 00 00 00 FF FF 00 00
+9C E4 00 54 01 F4 04 50 01 34 12
+--
+A0 01 00 00 05 00 00 00 FF FF 00 00
+9C C4 00 54 01 C4 04 50 01 34 12
+
+# behind threads and fix-ups of 16 bits, which stay; the data of the last record counts
+A0 01 00 00 FF FF FF FF FF FF FF FF
+9C C4 04 9D 53 C8 00 54 01
+A0 01 08 00 00 00 05 00 00 00
+9C 40 01 C4 00 54 01 8C 00 56 80 01 E4 02 9D F4 02 12 01 80 01 34 12 CC 06 54 01
+--
+A0 01 00 00 FF FF FF FF FF FF FF FF
+9C C4 04 9D 53 C8 00 54 01
+A0 01 08 00 00 00 05 00 00 00
+9C 40 01 C4 00 54 01 8C 00 56 80 01 C4 02 9D C4 02 12 01 80 01 34 12 CC 06 54 01
+
+# repeated data
+A2 01 00 00 02 00 00 00 06 AA BB 05 00 00 00
+9C E4 07 54 01
+--
+A2 01 00 00 02 00 00 00 06 AA BB 05 00 00 00
+9C C4 07 54 01
+
+# records without one stay, up to what isn't a subrecord
+A0 01 00 00 00 00 00 00
+9C C4 00 54 01 C8 02 54 01 CC 00 54 01 94 00 54 01
+
+A0 01 00 00 00 00 00 00
+9C C4 00 34 01 E4 00 54 01
+
+# one whose upper word isn't 0
+A0 01 00 00 00 00 01 00
+9C E4 00 54 01
+= record 3: a number has more than 16 bits
+
+# one that is self-relative, one that isn't in the data, and one without data
+A0 01 00 00 00 00 00 00
+9C A4 00 54 01
+= record 3: a fix-up of 32 bits can't be one of 16
+
+A0 01 00 00 00 00 00
+9C E4 00 54 01
+= record 3: a fix-up of 32 bits can't be one of 16
+
+C2 00 00 00 00 00 00 00 01 02 00 00 00 00
+9C E4 00 54 01
+= record 3: a fix-up of 32 bits can't be one of 16
+
+# and one behind which the record isn't one of its type
+A0 01 00 00 00 00 00 00
+9C E4 00 54 01 C4 00 34 01
+= record 3: its body isn't one of its type",
+    )
+}
+
 /// What isn't lowered is told at its record.
 #[test]
 fn faults(rt: HostRuntime) -> Result<(), Fail> {

@@ -9,10 +9,10 @@ use Rattle.omf_lower.specs.declared.lowering.Lowering.{Lowering}
 use Rattle.omf_lower.specs.declared.fault.Obstacle.{Obstacle}
 use Rattle.omf_library.specs.Entries.{behind_base}
 use Rattle.omf_library.specs.Fields.{index_front}
-use Rattle.omf_lower.specs.Fields.{◌>>=◌, field, before, narrow, entries}
+use Rattle.omf_lower.specs.Fields.{◌>>=◌, field, before, narrow, entries, any_entry}
 use Rattle.omf_lower.specs.Externals.{communal_front, named_front}
 use Rattle.omf_lower.specs.Narrow.{public_front, line_front, block_front}
-use Rattle.omf_lower.specs.Fixups.{Reference, reference_front, narrowed}
+use Rattle.omf_lower.specs.Fixups.{Reference, reference_front, narrowed, subrecord_front}
 use Rattle.omf_lower.specs.Content.{Content, Recipe, with_tail, made, of_bytes, empty_comment}
 use Rattle.omf_lower.specs.Segments.{Definition, definition, segment_recipe, is_kept_out, shares_frame, nothing_of, made_public, with_names, short_size}
 use Rattle.omf_lower.specs.Data.{Data, is_data}
@@ -87,7 +87,7 @@ data-keeps kept_out kind body e =
 
 fixups-keep : (dropped : Bool) (last : Data) (width kind : ℕ) (body : List ℕ) → ends_module kind ≡ false → Keeps kind (for_fixups dropped last width kind body)
 fixups-keep dropped last width kind body e =
-    choose (Keeps kind) dropped _ _ (λ _. sym e) (λ _. choose (Keeps kind) (eqb kind 0x9D || eqb last.kind 0xA1 || eqb last.kind 0xA3) _ _ (λ _. sym e) (λ _. tt))
+    choose (Keeps kind) dropped _ _ (λ _. sym e) (λ _. choose (Keeps kind) (eqb kind 0x9D || eqb last.kind 0xA1 || eqb last.kind 0xA3 || any_entry (subrecord_front width) body) _ _ (λ _. sym e) (λ _. tt))
 
 start-keeps : (attribute : ℕ) (start : Reference) (o : Result (List ℕ) Obstacle)
     → Keeps 0x8B (o >>= λ displacement. listing 0x8A (attribute ∷ (start.datum ++ displacement)) (Ok start.rest))

@@ -6,3 +6,4 @@ pub mod Framed
 pub mod Ends
 pub mod Kept
 pub mod Others
+pub mod Searched

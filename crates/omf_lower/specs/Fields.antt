@@ -1,9 +1,9 @@
 -- Fields of bodies, written as they stand or narrower, and bodies that are lists of entries.
-use Rattle.std.specs.Prelude.{ℕ, zero, suc, ◌-◌, ◌==◌, ◌&&◌, if◌then◌else◌, nat_lt, List, [], ◌∷◌, length}
-use Rattle.std.specs.Prelude.{take, drop, slice_index, Ok, Err}
+use Rattle.std.specs.Prelude.{ℕ, zero, suc, ◌-◌, ◌==◌, ◌&&◌, Bool, false, ◌||◌, if◌then◌else◌, nat_lt, List, []}
+use Rattle.std.specs.Prelude.{◌∷◌, length, take, drop, slice_index, Ok, Err}
 use Rattle.std.specs.declared.option.Option.{Option}
 use Rattle.std.specs.declared.result.Result.{Result}
-use Rattle.std.specs.Option.{ok_or}
+use Rattle.std.specs.Option.{ok_or, option_map_or}
 use Rattle.omf_library.specs.Members.{joined}
 use Rattle.omf_lower.specs.declared.fault.Obstacle.{Obstacle}
 use Rattle.omf_lower.specs.declared.fault.Obstacle.TheVariants.{Body, Above16Bits}
@@ -40,3 +40,13 @@ entries_up_to (suc most) front (b ∷ bs) =
 -- for all of them: each has a byte at least
 unfoldable pub entries : (List ℕ → Result (List ℕ × List ℕ) Obstacle) → List ℕ → Result (List ℕ) Obstacle
 entries front bytes = entries_up_to (length bytes) front bytes
+
+-- an entry is so, of so many at most, before what isn't one. A front says of the first whether it is so, and which
+-- bytes stand behind it
+abbrev pub any_up_to : ℕ → (List ℕ → Option (Bool × List ℕ)) → List ℕ → Bool
+any_up_to zero front bytes = false
+any_up_to (suc most) front bytes = option_map_or (λ (is, rest). is || any_up_to most front rest) (front bytes) false
+
+-- of all of them: each has a byte at least
+unfoldable pub any_entry : (List ℕ → Option (Bool × List ℕ)) → List ℕ → Bool
+any_entry front bytes = any_up_to (length bytes) front bytes

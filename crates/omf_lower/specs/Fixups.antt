@@ -1,6 +1,6 @@
 -- The subrecords of 9CH and 9DH FIXUPP (TIS OMF 1.1, "Fixup Record"), and how they are written.
-use Rattle.std.specs.Prelude.{ℕ, ◌+◌, ◌*◌, ◌/◌, ◌%◌, ◌==◌, ◌&&◌, Bool, true, false, ◌||◌, if◌then◌else◌, nat_lt}
-use Rattle.std.specs.Prelude.{List, [], ◌∷◌, ◌++◌, length, slice_index, None, Some, Ok, Err}
+use Rattle.std.specs.Prelude.{ℕ, ◌+◌, ◌*◌, ◌/◌, ◌%◌, ◌==◌, ◌&&◌, Bool, true, false, ◌||◌, if◌then◌else◌, nat_le}
+use Rattle.std.specs.Prelude.{nat_lt, List, [], ◌∷◌, ◌++◌, length, slice_index, None, Some, Ok, Err}
 use Rattle.std.specs.declared.option.Option.{Option}
 use Rattle.std.specs.declared.result.Result.{Result}
 use Rattle.std.specs.Option.{option_map, option_and_then, ok_or}
@@ -79,17 +79,35 @@ fixup_parts width (low ∷ bytes) = option_map (λ reference. (low, reference)) 
 abbrev pub behind_thread : ℕ → List ℕ → Option (List ℕ)
 behind_thread first bytes = behind_datum (thread_has_index first) bytes
 
+-- the bytes behind a subrecord with this first byte: a thread, or a fix-up whose displacement has so many bytes
+abbrev pub behind_subrecord : ℕ → ℕ → List ℕ → Option (List ℕ)
+behind_subrecord width first bytes =
+    if nat_lt first 128 then behind_thread first bytes
+    else option_map (λ (low, reference). reference.rest) (fixup_parts width bytes)
+
 -- ---- threads alone
 
 -- the threads stay, and the fix-ups, whose displacements have so many bytes, go
 unfoldable pub threads_front : ℕ → List ℕ → Result (List ℕ × List ℕ) Obstacle
 threads_front width [] = field None
-threads_front width (first ∷ bytes) =
-    if nat_lt first 128
-    then (field (behind_thread first bytes) >>= λ rest. Ok (before (first ∷ bytes) rest, rest))
-    else (field (fixup_parts width bytes) >>= λ (low, reference). Ok ([], reference.rest))
+threads_front width (first ∷ bytes) = field (behind_subrecord width first bytes)
+    >>= λ rest. Ok ((if nat_lt first 128 then before (first ∷ bytes) rest else []), rest)
 
 -- ---- narrower fix-ups
+
+-- the location of a fix-up, bits 5 to 2 of its first byte
+abbrev pub location_of : ℕ → ℕ
+location_of first = first / 4 % 16
+
+-- offsets of 32 bits have these locations
+abbrev pub is_wide : ℕ → Bool
+is_wide location = (location == 9) || (location == 13)
+
+-- a subrecord: whether it is a fix-up of 32 bits, and the bytes behind it
+unfoldable pub subrecord_front : ℕ → List ℕ → Option (Bool × List ℕ)
+subrecord_front width [] = None
+subrecord_front width (first ∷ bytes) =
+    option_map (λ rest. (nat_le 128 first && is_wide (location_of first), rest)) (behind_subrecord width first bytes)
 
 -- a displacement in at most two bytes
 abbrev pub narrowed : List ℕ → Result (List ℕ) Obstacle
@@ -117,9 +135,9 @@ wide_location last first place =
 -- the two bytes of a fix-up with its location, bits 5 to 2 of the first, at the place to which that of the data moves
 abbrev pub moved : Data → ℕ → ℕ → Result (ℕ × ℕ) Obstacle
 moved last first low =
-    let location = first / 4 % 16 in
+    let location = location_of first in
     let place = first % 4 * 256 + low in
-    if (location == 9) || (location == 13) then wide_location last first place
+    if is_wide location then wide_location last first place
     else if moves last then (ok_or (located last place) Location >>= λ to. Ok (locat first location to.0))
     else Ok (first, low)
 

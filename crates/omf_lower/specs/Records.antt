@@ -12,13 +12,14 @@ use Rattle.omf_lower.specs.declared.fault.Obstacle.{Obstacle}
 use Rattle.omf_lower.specs.declared.fault.Obstacle.TheVariants.{Body, TooLong}
 use Rattle.omf_lower.specs.declared.fault.LoweringFault.{LoweringFault}
 use Rattle.omf_lower.specs.declared.fault.LoweringFault.TheVariants.{At}
-use Rattle.omf_lower.specs.Fields.{◌>>=◌, field, before, narrow, entries}
+use Rattle.omf_lower.specs.Fields.{◌>>=◌, field, before, narrow, entries, any_entry}
 use Rattle.omf_lower.specs.Content.{Content, Recipe, made, of_bytes, empty_comment}
 use Rattle.omf_lower.specs.Segments.{definition, segment_recipe}
 use Rattle.omf_lower.specs.Externals.{communal_front, named_front}
 use Rattle.omf_lower.specs.Narrow.{public_front, line_front, block_front}
 use Rattle.omf_lower.specs.Data.{Data, is_data}
 use Rattle.omf_lower.specs.Fixups.{Reference, reference_front, narrowed, threads_front, fixups_front}
+use Rattle.omf_lower.specs.Fixups.{subrecord_front}
 use Rattle.omf_lower.specs.Seen.{Seen, is_of_kept_out}
 
 -- a record of this type, with a front, and what stands behind it
@@ -62,11 +63,11 @@ for_data kept_out kind body =
     else Ok None
 
 -- for a FIXUPP whose displacements have so many bytes: its threads alone, where the data before it is kept out; and
--- narrower, where it or the data is of 32 bits
+-- narrower, where it, the data or a fix-up is of 32 bits
 abbrev pub for_fixups : Bool → Data → ℕ → ℕ → List ℕ → Result (Option Recipe) Obstacle
 for_fixups dropped last width kind body =
     if dropped then listing 0x9C [] (entries (threads_front width) body)
-    else if (kind == 0x9D) || (last.kind == 0xA1) || (last.kind == 0xA3)
+    else if (kind == 0x9D) || (last.kind == 0xA1) || (last.kind == 0xA3) || any_entry (subrecord_front width) body
     then listing 0x9C [] (entries (fixups_front last width) body)
     else Ok None
 

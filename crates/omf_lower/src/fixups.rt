@@ -2,9 +2,10 @@
 
 ghost use Rattle.std.specs.Prelude.{◌≡◌, ◌<◌, ◌≤◌, IfOk, IfSome, length};
 ghost use Rattle.omf_library.specs.Said.{bytes_said, name_said};
+ghost use Rattle.omf_lower.specs.Fields.{any_entry};
 ghost use Rattle.omf_lower.specs.Fixups as fixups;
 ghost use Rattle.omf_lower.specs.inside.Views.{data_view, entry_said, fixup_said, reference_said, reference_view};
-ghost use Rattle.omf_lower.specs.inside.Views.{rest_said, text_said};
+ghost use Rattle.omf_lower.specs.inside.Views.{rest_said, subrecord_said, text_said};
 
 use crate::data::{Data, located};
 use crate::fault::Obstacle;
@@ -143,6 +144,18 @@ fn behind_thread(first: u8, bytes: &[u8]) -> Option<&[u8]>
     behind_index(thread_has_index(first)?, bytes)
 }
 
+/// The bytes behind a subrecord with this first byte, whose displacement has so many bytes.
+fn behind_subrecord(width: usize, first: u8, bytes: &[u8]) -> Option<&[u8]>
+    ensures said { bytes_said result ≡ fixups.behind_subrecord width first bytes.now }
+    ensures no_longer { IfSome result (λ rest. length rest.now ≤ length bytes.now) }
+{
+    if first < 128 {
+        return behind_thread(first, bytes);
+    }
+    let (_, reference) = fixup_parts(width, bytes)?;
+    Some(reference.rest)
+}
+
 /// What stays of the subrecord at the front, where only threads do, and the bytes behind it.
 #[tactic(auto, unfolding(crate::specs::Fixups::threads_front))]
 pub(crate) fn take_thread(width: usize, bytes: &[u8]) -> Result<(Written<'_>, &[u8]), Obstacle>
@@ -152,13 +165,54 @@ pub(crate) fn take_thread(width: usize, bytes: &[u8]) -> Result<(Written<'_>, &[
     let [first, rest @ ..] = bytes else {
         return Err(Obstacle::Body);
     };
+    let after = behind_subrecord(width, *first, rest).ok_or(Obstacle::Body)?;
     if *first < 128 {
-        let rest = behind_thread(*first, rest).ok_or(Obstacle::Body)?;
-        Ok((Written::Same(before(bytes, rest)), rest))
+        Ok((Written::Same(before(bytes, after)), after))
     } else {
-        let (_, reference) = fixup_parts(width, rest).ok_or(Obstacle::Body)?;
-        Ok((Written::Nothing, reference.rest))
+        Ok((Written::Nothing, after))
     }
+}
+
+/// The location of a fix-up with this first byte.
+fn location_of(first: u8) -> u8
+    ensures { result ≡ fixups.location_of first }
+{
+    first / 4 % 16
+}
+
+/// Whether an offset of 32 bits has this location.
+fn is_wide(location: u8) -> bool
+    ensures { result ≡ fixups.is_wide location }
+{
+    location == 9 || location == 13
+}
+
+/// Whether the subrecord at the front, whose displacement has so many bytes, is a fix-up of 32 bits, and the bytes behind
+/// it. None where none is there.
+#[tactic(auto, unfolding(crate::specs::Fixups::subrecord_front))]
+fn take_subrecord(width: usize, bytes: &[u8]) -> Option<(bool, &[u8])>
+    ensures said { subrecord_said result ≡ fixups.subrecord_front width bytes.now }
+    ensures shorter { IfSome result (λ x. length x.1.now < length bytes.now) }
+{
+    let [first, rest @ ..] = bytes else {
+        return None;
+    };
+    let after = behind_subrecord(width, *first, rest)?;
+    Some((128 <= *first && is_wide(location_of(*first)), after))
+}
+
+/// Whether a fix-up of 32 bits is among subrecords, whose displacements have so many bytes, before what isn't one.
+pub(crate) fn has_wide(width: usize, bytes: &[u8]) -> bool
+    ensures { result ≡ any_entry (fixups.subrecord_front width) bytes.now }
+{
+    let mut rest = bytes;
+    while let Some((is_wide, after)) = take_subrecord(width, rest) {
+        if is_wide {
+            return true;
+        }
+        rest = after;
+    }
+    false
 }
 
 /// A displacement in at most two bytes.
@@ -210,9 +264,9 @@ fn wide_location(last: &Data<'_>, first: u8, place: usize) -> Result<(u8, u8), O
 fn moved(last: &Data<'_>, first: u8, low: u8) -> Result<(u8, u8), Obstacle>
     ensures { result ≡ fixups.moved (data_view last.now) first low }
 {
-    let location = first / 4 % 16;
+    let location = location_of(first);
     let place = usize::from(first % 4) * 256 + usize::from(low);
-    if location == 9 || location == 13 {
+    if is_wide(location) {
         return wide_location(last, first, place);
     }
     if last.kind != 0xA3 {

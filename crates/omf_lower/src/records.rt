@@ -14,7 +14,7 @@ use crate::data::{Data, is_data};
 use crate::entries::Tail;
 use crate::fault::{Obstacle, RecordFault};
 use crate::fields::{before, narrow};
-use crate::fixups::{Reference, narrowed, take_reference};
+use crate::fixups::{Reference, has_wide, narrowed, take_reference};
 use crate::lowering::Lowering;
 use crate::recipe::{Content, Recipe, empty_comment, made, of_bytes};
 use crate::seen::{Seen, is_of_kept_out};
@@ -127,7 +127,7 @@ fn for_fixups<'a>(
 {
     if dropped {
         Ok(Some(entry_by_entry(0x9C, Tail::Threads(width), body)))
-    } else if kind == 0x9D || last.kind == 0xA1 || last.kind == 0xA3 {
+    } else if kind == 0x9D || last.kind == 0xA1 || last.kind == 0xA3 || has_wide(width, body) {
         Ok(Some(entry_by_entry(0x9C, Tail::Fixups(last, width), body)))
     } else {
         Ok(None)

@@ -1,5 +1,5 @@
 -- What the code holds, without where it lies in memory.
-use Rattle.std.specs.Prelude.{ℕ, List, [], ◌∷◌, ◌++◌, Option, None, Some, Ok, Err}
+use Rattle.std.specs.Prelude.{ℕ, Bool, List, [], ◌∷◌, ◌++◌, Option, None, Some, Ok, Err}
 use Rattle.std.specs.declared.result.Result.{Result}
 use Rattle.std.specs.Borrow.{Bor}
 use Rattle.omf_library.specs.Names.{texts}
@@ -73,6 +73,11 @@ reference_said (Some r) = Some (reference_view r)
 abbrev pub fixup_said : Option (ℕ × reference.Reference) → Option (ℕ × Reference)
 fixup_said None = None
 fixup_said (Some (low, r)) = Some (low, reference_view r)
+
+-- whether a subrecord is of 32 bits, and the bytes behind it
+abbrev pub subrecord_said : Option (Bool × Bor (List ℕ)) → Option (Bool × List ℕ)
+subrecord_said None = None
+subrecord_said (Some (is, rest)) = Some (is, rest.now)
 
 -- data
 abbrev pub data_view : data'.Data → Data
