@@ -4,6 +4,8 @@
 #[cfg(test)]
 mod debug;
 #[cfg(test)]
+mod forms;
+#[cfg(test)]
 mod growths;
 #[cfg(test)]
 mod lowered;
