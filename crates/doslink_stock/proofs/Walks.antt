@@ -1,5 +1,7 @@
 -- Files in their order: what stands at one, and behind it.
-use Rattle.std.proofs.Common.{◌≡◌, ℕ, ◌+◌, ◌<◌, ◌≤◌, List, [], ◌∷◌, ◌++◌, length, map, take, drop, get_or, Ok, Err, Result, refl, sym, ap, ap₂, ◌∙◌, add-one, append_assoc, append-nil, Some, None, false, if◌then◌else◌, slice_get}
+use Rattle.std.proofs.Common.{◌≡◌, ℕ, ◌+◌, ◌<◌, ◌≤◌, List, [], ◌∷◌, ◌++◌, length, map, take, drop, get_or, Ok, Err}
+use Rattle.std.proofs.Common.{Result, refl, sym, ap, ap₂, ◌∙◌, add-one, append_assoc, append-nil, Some, None, false}
+use Rattle.std.proofs.Common.{if◌then◌else◌, slice_get}
 use Rattle.std.proofs.lemmas.List.{map-append, take_all, take_more}
 use Rattle.std.proofs.Math.ListN.{drop_of_length-le}
 use Rattle.std.proofs.Math.Seq.{drop-cons}
@@ -14,7 +16,8 @@ use Rattle.omf_search.specs.declared.choosing.Choice.{Choice}
 use Rattle.omf_search.specs.Results.{bytes_of, choice_said}
 use Rattle.doslink_stock.specs.declared.fault.StockFault.{StockFault}
 use Rattle.doslink_stock.specs.declared.fault.StockFault.TheVariants as stock
-use Rattle.doslink_stock.specs.Files.{Held, IsFault, both, held, held_members, is_object, members_from, members_in, object_in}
+use Rattle.doslink_stock.specs.Files.{Held, IsFault, both, held, held_members, is_object, members_from, members_in}
+use Rattle.doslink_stock.specs.Files.{object_in}
 use Rattle.doslink_stock.specs.Files.{objects_from}
 use Rattle.doslink_stock.specs.Search.{taken}
 
@@ -24,7 +27,8 @@ drop-one xs i d h = drop-cons xs i d h ∙ ap (λ k. get_or xs i d ∷ drop k xs
 
 -- ---- object files
 
-pub objects_more : (files : List (Bor (List ℕ))) (i : ℕ) (d : Bor (List ℕ)) (old new goal : List Held) → i < length files
+pub objects_more : (files : List (Bor (List ℕ))) (i : ℕ) (d : Bor (List ℕ)) (old new goal : List Held)
+    → i < length files
     → new ≡ old ++ object_in i (get_or files i d).now → old ++ objects_from i (bytes_of (drop i files)) ≡ goal
     → new ++ objects_from (i + 1) (bytes_of (drop (i + 1) files)) ≡ goal
 objects_more files i d old new goal h added before =

@@ -1,5 +1,6 @@
 -- The number that decimal digits spell, one digit after the other.
-use Rattle.std.proofs.Common.{◌≡◌, ℕ, ◌+◌, ◌-◌, ◌*◌, ◌^◌, ◌<◌, ◌≤◌, false, cond, List, [], ◌∷◌, length, get_or, drop, Some, None, refl, sym, ap, ◌∙◌, arith}
+use Rattle.std.proofs.Common.{◌≡◌, ℕ, ◌+◌, ◌-◌, ◌*◌, ◌^◌, ◌<◌, ◌≤◌, false, cond, List, [], ◌∷◌, length, get_or, drop}
+use Rattle.std.proofs.Common.{Some, None, refl, sym, ap, ◌∙◌, arith}
 use Rattle.std.specs.Char.{is_ascii_digit}
 use Rattle.std.proofs.lemmas.List.{drop_more}
 use Rattle.std.proofs.Math.Seq.{drop-length}
@@ -18,7 +19,9 @@ decimal-none (d ∷ ds) none = absurd (omega (arith, none))
 
 -- what the digits from a place on give behind a number
 pub number-more : (n : ℕ) (digits : List ℕ) (i : ℕ) → i < length digits
-    → number_behind n (drop i digits) ≡ cond (is_ascii_digit (get_or digits i 0)) (number_behind (10 * n + (get_or digits i 0 - 48)) (drop (i + 1) digits)) None
+    → number_behind n (drop i digits)
+    ≡ cond (is_ascii_digit (get_or digits i 0))
+    (number_behind (10 * n + (get_or digits i 0 - 48)) (drop (i + 1) digits)) None
 number-more n digits i within = ap (number_behind n) (drop_more digits i 0 within)
 
 -- a byte that is no digit

@@ -1,5 +1,7 @@
 -- The record at the front of bytes, by its parts.
-use Rattle.std.proofs.Common.{◌≡◌, ◌≢◌, ℕ, ◌+◌, ◌-◌, ◌*◌, ◌/◌, ◌%◌, ◌<◌, ◌≤◌, ◌⊎◌, inl, inr, Bool, true, false, ◌||◌, List, [], ◌∷◌, ◌++◌, length, get_or, take, drop, sum, cond, eqb, ltb, Some, None, Ok, Err, refl, sym, ap, ◌∙◌, arith}
+use Rattle.std.proofs.Common.{◌≡◌, ◌≢◌, ℕ, ◌+◌, ◌-◌, ◌*◌, ◌/◌, ◌%◌, ◌<◌, ◌≤◌, ◌⊎◌, inl, inr, Bool, true, false, ◌||◌}
+use Rattle.std.proofs.Common.{List, [], ◌∷◌, ◌++◌, length, get_or, take, drop, sum, cond, eqb, ltb, Some, None, Ok, Err}
+use Rattle.std.proofs.Common.{refl, sym, ap, ◌∙◌, arith}
 use Rattle.std.specs.declared.option.Option.{Option}
 use Rattle.std.specs.declared.result.Result.{Result}
 use Rattle.std.proofs.lemmas.List.{length-take-le, take_more}
@@ -21,9 +23,11 @@ abbrev framed : ℕ → ℕ → ℕ → ℕ → List ℕ → Result (Option Fram
 framed place kind low high rest =
     let len = low + 256 * high in
     cond (eqb len 0) (Err framing.ZeroLength) (cond (ltb (length rest) len) (Err framing.Truncated)
-    (cond (closes (get_or rest (len - 1) 0) (kind ∷ low ∷ high ∷ take len rest)) (Ok (Some (frame_with place kind (take (len - 1) rest)))) (Err framing.Closing)))
+    (cond (closes (get_or rest (len - 1) 0) (kind ∷ low ∷ high ∷ take len rest))
+    (Ok (Some (frame_with place kind (take (len - 1) rest)))) (Err framing.Closing)))
 
-frame_of-framed : (place : ℕ) (bytes : List ℕ) → 3 ≤ length bytes → frame_of place bytes ≡ framed place (get_or bytes 0 0) (get_or bytes 1 0) (get_or bytes 2 0) (drop 3 bytes)
+frame_of-framed : (place : ℕ) (bytes : List ℕ) → 3 ≤ length bytes
+    → frame_of place bytes ≡ framed place (get_or bytes 0 0) (get_or bytes 1 0) (get_or bytes 2 0) (drop 3 bytes)
 unfolding frame_of
 frame_of-framed place [] some = absurd (omega arith)
 frame_of-framed place (a ∷ []) some = absurd (omega arith)
@@ -31,30 +35,42 @@ frame_of-framed place (a ∷ b ∷ []) some = absurd (omega arith)
 frame_of-framed place (a ∷ b ∷ c ∷ rest) some = refl
 
 -- no header stands in so few bytes
-pub frame_of-short : (place : ℕ) (bytes : List ℕ) → length bytes < 3 → (frame_of place bytes ≡ Ok None) ⊎ (frame_of place bytes ≡ Err framing.Truncated)
+pub frame_of-short : (place : ℕ) (bytes : List ℕ) → length bytes < 3
+    → (frame_of place bytes ≡ Ok None) ⊎ (frame_of place bytes ≡ Err framing.Truncated)
 unfolding frame_of
 frame_of-short place [] few = inl refl
 frame_of-short place (a ∷ []) few = inr refl
 frame_of-short place (a ∷ b ∷ []) few = inr refl
 frame_of-short place (a ∷ b ∷ c ∷ rest) few = absurd (omega arith)
 
-pub frame_of-zero : (place : ℕ) (bytes : List ℕ) → 3 ≤ length bytes → get_or bytes 1 0 + 256 * get_or bytes 2 0 ≡ 0 → frame_of place bytes ≡ Err framing.ZeroLength
+pub frame_of-zero : (place : ℕ) (bytes : List ℕ) → 3 ≤ length bytes → get_or bytes 1 0 + 256 * get_or bytes 2 0 ≡ 0
+    → frame_of place bytes ≡ Err framing.ZeroLength
 frame_of-zero place bytes some e =
     let len = get_or bytes 1 0 + 256 * get_or bytes 2 0 in
     frame_of-framed place bytes some ∙ rw (eq-eqb len 0 e) refl
 
-pub frame_of-cut : (place : ℕ) (bytes : List ℕ) → 3 ≤ length bytes → length (drop 3 bytes) < get_or bytes 1 0 + 256 * get_or bytes 2 0 → frame_of place bytes ≡ Err framing.Truncated
+pub frame_of-cut : (place : ℕ) (bytes : List ℕ) → 3 ≤ length bytes
+    → length (drop 3 bytes) < get_or bytes 1 0 + 256 * get_or bytes 2 0 → frame_of place bytes ≡ Err framing.Truncated
 frame_of-cut place bytes some cut =
     let len = get_or bytes 1 0 + 256 * get_or bytes 2 0 in
-    frame_of-framed place bytes some ∙ rw (ne_eqb len 0 (λ z. omega (arith, z, cut)), lt-ltb (length (drop 3 bytes)) len cut) refl
+    frame_of-framed place bytes some
+    ∙ rw (ne_eqb len 0 (λ z. omega (arith, z, cut)), lt-ltb (length (drop 3 bytes)) len cut) refl
 
-frame_of-whole : (place : ℕ) (bytes : List ℕ) (t : Bool) → 3 ≤ length bytes → 0 < get_or bytes 1 0 + 256 * get_or bytes 2 0
+frame_of-whole : (place : ℕ) (bytes : List ℕ) (t : Bool) → 3 ≤ length bytes
+    → 0 < get_or bytes 1 0 + 256 * get_or bytes 2 0
     → get_or bytes 1 0 + 256 * get_or bytes 2 0 ≤ length (drop 3 bytes)
-    → closes (get_or (drop 3 bytes) (get_or bytes 1 0 + 256 * get_or bytes 2 0 - 1) 0) (get_or bytes 0 0 ∷ get_or bytes 1 0 ∷ get_or bytes 2 0 ∷ take (get_or bytes 1 0 + 256 * get_or bytes 2 0) (drop 3 bytes)) ≡ t
-    → frame_of place bytes ≡ cond t (Ok (Some (frame_with place (get_or bytes 0 0) (take (get_or bytes 1 0 + 256 * get_or bytes 2 0 - 1) (drop 3 bytes))))) (Err framing.Closing)
+    → closes (get_or (drop 3 bytes) (get_or bytes 1 0 + 256 * get_or bytes 2 0 - 1) 0)
+    (get_or bytes 0 0 ∷ get_or bytes 1 0 ∷ get_or bytes 2 0
+    ∷ take (get_or bytes 1 0 + 256 * get_or bytes 2 0) (drop 3 bytes)) ≡ t
+    → frame_of place bytes
+    ≡ cond t
+    (Ok (Some
+    (frame_with place (get_or bytes 0 0) (take (get_or bytes 1 0 + 256 * get_or bytes 2 0 - 1) (drop 3 bytes)))))
+    (Err framing.Closing)
 frame_of-whole place bytes t some more whole e =
     let len = get_or bytes 1 0 + 256 * get_or bytes 2 0 in
-    frame_of-framed place bytes some ∙ rw (ne_eqb len 0 (λ z. omega (arith, z, more)), le-ltb (length (drop 3 bytes)) len whole, e) refl
+    frame_of-framed place bytes some
+    ∙ rw (ne_eqb len 0 (λ z. omega (arith, z, more)), le-ltb (length (drop 3 bytes)) len whole, e) refl
 
 -- ---- the closing byte
 
@@ -64,25 +80,30 @@ sum-last xs y =
     omega (arith, e)
 
 -- the bytes behind the header are the body and the closing byte
-block_is : (len : ℕ) (rest : List ℕ) → 0 < len → len ≤ length rest → take len rest ≡ take (len - 1) rest ++ get_or rest (len - 1) 0 ∷ []
+block_is : (len : ℕ) (rest : List ℕ) → 0 < len → len ≤ length rest
+    → take len rest ≡ take (len - 1) rest ++ get_or rest (len - 1) 0 ∷ []
 block_is len rest more whole =
     let n : (len - 1) + 1 ≡ len = omega arith in
     ap (λ k. take k rest) (sym n) ∙ take_more rest (len - 1) 0 (omega arith)
 
 -- a record's bytes, and the sum of those before the closing one
 record_is : (kind low high : ℕ) (rest : List ℕ) → low < 256 → 0 < low + 256 * high → low + 256 * high ≤ length rest
-    → kind ∷ low ∷ high ∷ take (low + 256 * high) rest ≡ (header kind (take (low + 256 * high - 1) rest) ++ take (low + 256 * high - 1) rest) ++ get_or rest (low + 256 * high - 1) 0 ∷ []
+    → kind ∷ low ∷ high ∷ take (low + 256 * high) rest
+    ≡ (header kind (take (low + 256 * high - 1) rest) ++ take (low + 256 * high - 1) rest)
+    ++ get_or rest (low + 256 * high - 1) 0 ∷ []
 record_is kind low high rest fits more whole =
     let len = low + 256 * high in
     let body = take (len - 1) rest in
-    let body_len : length body + 1 ≡ len = ap (λ k. k + 1) (length-take-le (len - 1) rest (omega arith)) ∙ omega arith in
+    let body_len : length body + 1 ≡ len =
+    ap (λ k. k + 1) (length-take-le (len - 1) rest (omega arith)) ∙ omega arith in
     let low-is : low ≡ (length body + 1) % 256 = omega (arith, body_len) in
     let high-is : high ≡ (length body + 1) / 256 = omega (arith, body_len) in
     ap (λ (l : List ℕ). kind ∷ low ∷ high ∷ l) (block_is len rest more whole)
     ∙ ap (λ k. kind ∷ k ∷ high ∷ (body ++ get_or rest (len - 1) 0 ∷ [])) low-is
     ∙ ap (λ k. kind ∷ (length body + 1) % 256 ∷ k ∷ (body ++ get_or rest (len - 1) 0 ∷ [])) high-is
 
-closes-sum : (front : List ℕ) (last : ℕ) → closes last (front ++ last ∷ []) ≡ (eqb last 0 || eqb ((sum front + last) % 256) 0)
+closes-sum : (front : List ℕ) (last : ℕ)
+    → closes last (front ++ last ∷ []) ≡ (eqb last 0 || eqb ((sum front + last) % 256) 0)
 closes-sum front last = ap (λ n. eqb last 0 || eqb (n % 256) 0) (sum-last front last)
 
 sums_to : (s last : ℕ) → last < 256 → last ≡ (256 - s % 256) % 256 → (s + last) % 256 ≡ 0
@@ -92,22 +113,34 @@ or-true : (b : Bool) → (b || true) ≡ true
 or-true true = refl
 or-true false = refl
 
-closed : (s last : ℕ) → last < 256 → (last ≡ 0) ⊎ (last ≡ (256 - s % 256) % 256) → (eqb last 0 || eqb ((s + last) % 256) 0) ≡ true
+closed : (s last : ℕ) → last < 256 → (last ≡ 0) ⊎ (last ≡ (256 - s % 256) % 256)
+    → (eqb last 0 || eqb ((s + last) % 256) 0) ≡ true
 closed s last fits (inl e) = ap (λ t. t || eqb ((s + last) % 256) 0) (eq-eqb last 0 e)
-closed s last fits (inr e) = ap (λ t. eqb last 0 || t) (eq-eqb ((s + last) % 256) 0 (sums_to s last fits e)) ∙ or-true (eqb last 0)
+closed s last fits (inr e) =
+    ap (λ t. eqb last 0 || t) (eq-eqb ((s + last) % 256) 0 (sums_to s last fits e)) ∙ or-true (eqb last 0)
 
-not_closed : (s last : ℕ) → last < 256 → last ≢ 0 → last ≢ (256 - s % 256) % 256 → (eqb last 0 || eqb ((s + last) % 256) 0) ≡ false
+not_closed : (s last : ℕ) → last < 256 → last ≢ 0 → last ≢ (256 - s % 256) % 256
+    → (eqb last 0 || eqb ((s + last) % 256) 0) ≡ false
 not_closed s last fits some other =
     let wrong : (s + last) % 256 ≢ 0 = λ z. other (omega (arith, z)) in
     ap (λ t. t || eqb ((s + last) % 256) 0) (ne_eqb last 0 some) ∙ ne_eqb ((s + last) % 256) 0 wrong
 
 -- ---- whole records, closed or not
 
-pub frame_of-closed : (place : ℕ) (bytes : List ℕ) → 3 ≤ length bytes → get_or bytes 1 0 < 256 → 0 < get_or bytes 1 0 + 256 * get_or bytes 2 0
-    → get_or bytes 1 0 + 256 * get_or bytes 2 0 ≤ length (drop 3 bytes) → get_or (drop 3 bytes) (get_or bytes 1 0 + 256 * get_or bytes 2 0 - 1) 0 < 256
+pub frame_of-closed : (place : ℕ) (bytes : List ℕ) → 3 ≤ length bytes → get_or bytes 1 0 < 256
+    → 0 < get_or bytes 1 0 + 256 * get_or bytes 2 0
+    → get_or bytes 1 0 + 256 * get_or bytes 2 0 ≤ length (drop 3 bytes)
+    → get_or (drop 3 bytes) (get_or bytes 1 0 + 256 * get_or bytes 2 0 - 1) 0 < 256
     → (get_or (drop 3 bytes) (get_or bytes 1 0 + 256 * get_or bytes 2 0 - 1) 0 ≡ 0)
-    ⊎ (get_or (drop 3 bytes) (get_or bytes 1 0 + 256 * get_or bytes 2 0 - 1) 0 ≡ closing_byte (get_or bytes 0 0) (take (get_or bytes 1 0 + 256 * get_or bytes 2 0 - 1) (drop 3 bytes)))
-    → frame_of place bytes ≡ Ok (Some (record { place = place; kind = get_or bytes 0 0; body = take (get_or bytes 1 0 + 256 * get_or bytes 2 0 - 1) (drop 3 bytes) }))
+    ⊎ (get_or (drop 3 bytes) (get_or bytes 1 0 + 256 * get_or bytes 2 0 - 1) 0
+    ≡ closing_byte (get_or bytes 0 0) (take (get_or bytes 1 0 + 256 * get_or bytes 2 0 - 1) (drop 3 bytes)))
+    → frame_of place bytes
+    ≡ Ok
+    (Some (record {
+      place = place;
+      kind = get_or bytes 0 0;
+      body = take (get_or bytes 1 0 + 256 * get_or bytes 2 0 - 1) (drop 3 bytes);
+    }))
 frame_of-closed place bytes some low_fits more whole last_fits either =
     let kind = get_or bytes 0 0 in
     let low = get_or bytes 1 0 in
@@ -118,12 +151,16 @@ frame_of-closed place bytes some low_fits more whole last_fits either =
     let last = get_or rest (len - 1) 0 in
     let front = header kind body ++ body in
     frame_of-whole place bytes true some more whole
-    (ap (closes last) (record_is kind low high rest low_fits more whole) ∙ closes-sum front last ∙ closed (sum front) last last_fits either)
+    (ap (closes last) (record_is kind low high rest low_fits more whole) ∙ closes-sum front last
+    ∙ closed (sum front) last last_fits either)
 
-pub frame_of-open : (place : ℕ) (bytes : List ℕ) → 3 ≤ length bytes → get_or bytes 1 0 < 256 → 0 < get_or bytes 1 0 + 256 * get_or bytes 2 0
-    → get_or bytes 1 0 + 256 * get_or bytes 2 0 ≤ length (drop 3 bytes) → get_or (drop 3 bytes) (get_or bytes 1 0 + 256 * get_or bytes 2 0 - 1) 0 < 256
+pub frame_of-open : (place : ℕ) (bytes : List ℕ) → 3 ≤ length bytes → get_or bytes 1 0 < 256
+    → 0 < get_or bytes 1 0 + 256 * get_or bytes 2 0
+    → get_or bytes 1 0 + 256 * get_or bytes 2 0 ≤ length (drop 3 bytes)
+    → get_or (drop 3 bytes) (get_or bytes 1 0 + 256 * get_or bytes 2 0 - 1) 0 < 256
     → get_or (drop 3 bytes) (get_or bytes 1 0 + 256 * get_or bytes 2 0 - 1) 0 ≢ 0
-    → get_or (drop 3 bytes) (get_or bytes 1 0 + 256 * get_or bytes 2 0 - 1) 0 ≢ closing_byte (get_or bytes 0 0) (take (get_or bytes 1 0 + 256 * get_or bytes 2 0 - 1) (drop 3 bytes))
+    → get_or (drop 3 bytes) (get_or bytes 1 0 + 256 * get_or bytes 2 0 - 1) 0
+    ≢ closing_byte (get_or bytes 0 0) (take (get_or bytes 1 0 + 256 * get_or bytes 2 0 - 1) (drop 3 bytes))
     → frame_of place bytes ≡ Err framing.Closing
 frame_of-open place bytes some low_fits more whole last_fits nonzero other =
     let kind = get_or bytes 0 0 in
@@ -135,7 +172,8 @@ frame_of-open place bytes some low_fits more whole last_fits nonzero other =
     let last = get_or rest (len - 1) 0 in
     let front = header kind body ++ body in
     frame_of-whole place bytes false some more whole
-    (ap (closes last) (record_is kind low high rest low_fits more whole) ∙ closes-sum front last ∙ not_closed (sum front) last last_fits nonzero other)
+    (ap (closes last) (record_is kind low high rest low_fits more whole) ∙ closes-sum front last
+    ∙ not_closed (sum front) last last_fits nonzero other)
 
 -- ---- what the parts of the bytes make them
 
@@ -148,35 +186,55 @@ split_short bytes few = record {
   fits = tt;
 }
 
-pub split_zero : (bytes : List ℕ) → 3 ≤ length bytes → get_or bytes 1 0 + 256 * get_or bytes 2 0 ≡ 0 → IsSplit bytes (Err ZeroLength)
+pub split_zero : (bytes : List ℕ) → 3 ≤ length bytes → get_or bytes 1 0 + 256 * get_or bytes 2 0 ≡ 0
+    → IsSplit bytes (Err ZeroLength)
 split_zero bytes some e = record {
   same = λ place. sym (ap (record_or_fault place) (frame_of-zero place bytes some e));
   fits = tt;
 }
 
-pub split_cut : (bytes : List ℕ) → 3 ≤ length bytes → length (drop 3 bytes) < get_or bytes 1 0 + 256 * get_or bytes 2 0 → IsSplit bytes (Err Truncated)
+pub split_cut : (bytes : List ℕ) → 3 ≤ length bytes → length (drop 3 bytes) < get_or bytes 1 0 + 256 * get_or bytes 2 0
+    → IsSplit bytes (Err Truncated)
 split_cut bytes some cut = record {
   same = λ place. sym (ap (record_or_fault place) (frame_of-cut place bytes some cut));
   fits = tt;
 }
 
-pub split_open : (bytes : List ℕ) → 3 ≤ length bytes → get_or bytes 1 0 < 256 → 0 < get_or bytes 1 0 + 256 * get_or bytes 2 0
-    → get_or bytes 1 0 + 256 * get_or bytes 2 0 ≤ length (drop 3 bytes) → get_or (drop 3 bytes) (get_or bytes 1 0 + 256 * get_or bytes 2 0 - 1) 0 < 256
+pub split_open : (bytes : List ℕ) → 3 ≤ length bytes → get_or bytes 1 0 < 256
+    → 0 < get_or bytes 1 0 + 256 * get_or bytes 2 0
+    → get_or bytes 1 0 + 256 * get_or bytes 2 0 ≤ length (drop 3 bytes)
+    → get_or (drop 3 bytes) (get_or bytes 1 0 + 256 * get_or bytes 2 0 - 1) 0 < 256
     → get_or (drop 3 bytes) (get_or bytes 1 0 + 256 * get_or bytes 2 0 - 1) 0 ≢ 0
-    → get_or (drop 3 bytes) (get_or bytes 1 0 + 256 * get_or bytes 2 0 - 1) 0 ≢ closing_byte (get_or bytes 0 0) (take (get_or bytes 1 0 + 256 * get_or bytes 2 0 - 1) (drop 3 bytes))
+    → get_or (drop 3 bytes) (get_or bytes 1 0 + 256 * get_or bytes 2 0 - 1) 0
+    ≢ closing_byte (get_or bytes 0 0) (take (get_or bytes 1 0 + 256 * get_or bytes 2 0 - 1) (drop 3 bytes))
     → IsSplit bytes (Err Closing)
 split_open bytes some low_fits more whole last_fits nonzero other = record {
-  same = λ place. sym (ap (record_or_fault place) (frame_of-open place bytes some low_fits more whole last_fits nonzero other));
+  same =
+      λ place.
+      sym (ap (record_or_fault place) (frame_of-open place bytes some low_fits more whole last_fits nonzero other));
   fits = tt;
 }
 
-pub split_whole : (bytes : List ℕ) (kind : ℕ) (body : Bor (List ℕ)) → 3 ≤ length bytes → get_or bytes 1 0 < 256 → get_or bytes 2 0 < 256 → 0 < get_or bytes 1 0 + 256 * get_or bytes 2 0
-    → get_or bytes 1 0 + 256 * get_or bytes 2 0 ≤ length (drop 3 bytes) → get_or (drop 3 bytes) (get_or bytes 1 0 + 256 * get_or bytes 2 0 - 1) 0 < 256
+pub split_whole : (bytes : List ℕ) (kind : ℕ) (body : Bor (List ℕ)) → 3 ≤ length bytes → get_or bytes 1 0 < 256
+    → get_or bytes 2 0 < 256 → 0 < get_or bytes 1 0 + 256 * get_or bytes 2 0
+    → get_or bytes 1 0 + 256 * get_or bytes 2 0 ≤ length (drop 3 bytes)
+    → get_or (drop 3 bytes) (get_or bytes 1 0 + 256 * get_or bytes 2 0 - 1) 0 < 256
     → (get_or (drop 3 bytes) (get_or bytes 1 0 + 256 * get_or bytes 2 0 - 1) 0 ≡ 0)
-    ⊎ (get_or (drop 3 bytes) (get_or bytes 1 0 + 256 * get_or bytes 2 0 - 1) 0 ≡ closing_byte (get_or bytes 0 0) (take (get_or bytes 1 0 + 256 * get_or bytes 2 0 - 1) (drop 3 bytes)))
+    ⊎ (get_or (drop 3 bytes) (get_or bytes 1 0 + 256 * get_or bytes 2 0 - 1) 0
+    ≡ closing_byte (get_or bytes 0 0) (take (get_or bytes 1 0 + 256 * get_or bytes 2 0 - 1) (drop 3 bytes)))
     → kind ≡ get_or bytes 0 0 → body.now ≡ take (get_or bytes 1 0 + 256 * get_or bytes 2 0 - 1) (drop 3 bytes)
     → IsSplit bytes (Ok (kind, body))
 split_whole bytes kind body some low_fits high_fits more whole last_fits either k b = record {
-  same = λ place. rw (k, b) (sym (ap (record_or_fault place) (frame_of-closed place bytes some low_fits more whole last_fits either)));
-  fits = rw b (omega (arith, low_fits, high_fits, length-take-le (get_or bytes 1 0 + 256 * get_or bytes 2 0 - 1) (drop 3 bytes) (omega (arith, whole))));
+  same =
+      λ place.
+      rw (k, b)
+      (sym (ap (record_or_fault place) (frame_of-closed place bytes some low_fits more whole last_fits either)));
+  fits =
+      rw b
+      (omega (
+        arith,
+        low_fits,
+        high_fits,
+        length-take-le (get_or bytes 1 0 + 256 * get_or bytes 2 0 - 1) (drop 3 bytes) (omega (arith, whole)),
+      ));
 }

@@ -1,5 +1,6 @@
 -- Drafts of a lowered module, record by record.
-use Rattle.std.proofs.Common.{◌≡◌, ℕ, ◌+◌, ◌-◌, ◌<◌, ◌≤◌, cond, Ok, Err, List, [], ◌++◌, length, take, drop, slice_range, Option, None, Some, sym, ap, ◌∙◌, append_assoc, arith}
+use Rattle.std.proofs.Common.{◌≡◌, ℕ, ◌+◌, ◌-◌, ◌<◌, ◌≤◌, cond, Ok, Err, List, [], ◌++◌, length, take, drop}
+use Rattle.std.proofs.Common.{slice_range, Option, None, Some, sym, ap, ◌∙◌, append_assoc, arith}
 use Rattle.std.proofs.lemmas.List.{append-nil, drop-drop}
 use Rattle.std.proofs.lemmas.List.Folds.{drop_split}
 use Rattle.std.proofs.Math.Seq.{take-add}
@@ -31,24 +32,36 @@ no_range xs a =
     ap (λ k. take k (drop a xs)) n
 
 -- a record that stays
-pub extends_by_range : (module' : List ℕ) (d : Draft) (place end : ℕ) → IsDraft module' d place → place ≤ end → end ≤ length module'
+pub extends_by_range : (module' : List ℕ) (d : Draft) (place end : ℕ) → IsDraft module' d place → place ≤ end
+    → end ≤ length module'
     → Extends module' d d place end (slice_range module' place end)
 extends_by_range module' d place end draft behind within = record {
-  text = ap (λ (l : List ℕ). d.bytes ++ l) (range_parts module' d.copied place end draft.copied behind) ∙ sym (append_assoc d.bytes _ _);
+  text =
+      ap (λ (l : List ℕ). d.bytes ++ l) (range_parts module' d.copied place end draft.copied behind)
+      ∙ sym (append_assoc d.bytes _ _);
   is_draft = record { copied = omega (arith, draft.copied, behind); within = within; fresh = draft.fresh };
 }
 
 -- one that is written
-pub extends_by_record : (module' : List ℕ) (d new : Draft) (place end : ℕ) (bytes : List ℕ) → IsDraft module' d place → place + 4 ≤ end → end ≤ length module'
+pub extends_by_record : (module' : List ℕ) (d new : Draft) (place end : ℕ) (bytes : List ℕ) → IsDraft module' d place
+    → place + 4 ≤ end → end ≤ length module'
     → new.bytes ≡ (d.bytes ++ slice_range module' d.copied place) ++ bytes → new.copied ≡ end
     → Extends module' d new place end bytes
 extends_by_record module' d new place end bytes draft behind within written copied = record {
-  text = ap (λ (l : List ℕ). new.bytes ++ l) (ap (λ k. slice_range module' k end) copied ∙ no_range module' end) ∙ append-nil new.bytes ∙ written;
-  is_draft = record { copied = omega (arith, copied); within = within; fresh = λ z. absurd (omega (arith, z, copied, behind)) };
+  text =
+      ap (λ (l : List ℕ). new.bytes ++ l) (ap (λ k. slice_range module' k end) copied ∙ no_range module' end)
+      ∙ append-nil new.bytes ∙ written;
+  is_draft =
+      record {
+        copied = omega (arith, copied);
+        within = within;
+        fresh = λ z. absurd (omega (arith, z, copied, behind));
+      };
 }
 
 -- all of it
-pub whole-drafted : (module' : List ℕ) (d : Draft) (place : ℕ) → IsDraft module' d place → whole module' d ≡ drafted module' d place ++ drop place module'
+pub whole-drafted : (module' : List ℕ) (d : Draft) (place : ℕ) → IsDraft module' d place
+    → whole module' d ≡ drafted module' d place ++ drop place module'
 whole-drafted module' d place draft =
     ap (λ (l : List ℕ). d.bytes ++ l) (drop_split module' d.copied place draft.copied) ∙ sym (append_assoc d.bytes _ _)
 
@@ -59,8 +72,10 @@ whole-fresh module' d copied bytes =
 -- ---- what is written for a record
 
 -- nothing
-pub bytes-stay : {A : Type 0} (number : ℕ) (module' : List ℕ) (f : Frame) (o : Option (LentContent A)) (r : Result (Option Content) Obstacle)
-    → IsContent r (Ok o) → o ≡ None → at_record number (r >>= bytes_of module' f) ≡ Ok (slice_range module' f.place (place_behind f))
+pub bytes-stay : {A : Type 0} (number : ℕ) (module' : List ℕ) (f : Frame) (o : Option (LentContent A))
+    (r : Result (Option Content) Obstacle)
+    → IsContent r (Ok o) → o ≡ None
+    → at_record number (r >>= bytes_of module' f) ≡ Ok (slice_range module' f.place (place_behind f))
 bytes-stay number module' f None r e h = ap (λ s. at_record number (s >>= bytes_of module' f)) e
 bytes-stay number module' f (Some c) r e h = let z : ⊥ = cc in absurd z
 
@@ -70,13 +85,15 @@ pub bytes-fault : (number : ℕ) (module' : List ℕ) (f : Frame) (o : Obstacle)
 bytes-fault number module' f o r e = ap (λ s. at_record number (s >>= bytes_of module' f)) e
 
 -- a record, which is too long or not
-pub bytes-too_long : (number : ℕ) (module' : List ℕ) (f : Frame) (c : Content) (r : Result (Option Content) Obstacle) → r ≡ Ok (Some c) → 65534 < length c.body
+pub bytes-too_long : (number : ℕ) (module' : List ℕ) (f : Frame) (c : Content) (r : Result (Option Content) Obstacle)
+    → r ≡ Ok (Some c) → 65534 < length c.body
     → at_record number (r >>= bytes_of module' f) ≡ Err (At number TooLong)
 bytes-too_long number module' f c r e long =
     ap (λ s. at_record number (s >>= bytes_of module' f)) e
     ∙ ap (λ b. at_record number (cond b (Err TooLong) (Ok (frame c.kind c.body)))) (lt-ltb 65534 (length c.body) long)
 
-pub bytes-written : (number : ℕ) (module' : List ℕ) (f : Frame) (c : Content) (r : Result (Option Content) Obstacle) → r ≡ Ok (Some c) → length c.body ≤ 65534
+pub bytes-written : (number : ℕ) (module' : List ℕ) (f : Frame) (c : Content) (r : Result (Option Content) Obstacle)
+    → r ≡ Ok (Some c) → length c.body ≤ 65534
     → at_record number (r >>= bytes_of module' f) ≡ Ok (frame c.kind c.body)
 bytes-written number module' f c r e short =
     ap (λ s. at_record number (s >>= bytes_of module' f)) e

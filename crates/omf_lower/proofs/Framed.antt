@@ -1,5 +1,7 @@
 -- What begins bytes at any place, and that it is read again in front of others.
-use Rattle.std.proofs.Common.{◌≡◌, ◌≢◌, ℕ, suc, ◌+◌, ◌-◌, ◌*◌, ◌%◌, ◌<◌, ◌≤◌, Bool, true, false, ◌||◌, List, [], ◌∷◌, ◌++◌, length, get_or, take, sum, cond, eqb, ltb, Option, None, Some, Ok, Err, refl, sym, ap, ◌∙◌, arith, length-append}
+use Rattle.std.proofs.Common.{◌≡◌, ◌≢◌, ℕ, suc, ◌+◌, ◌-◌, ◌*◌, ◌%◌, ◌<◌, ◌≤◌, Bool, true, false, ◌||◌, List, [], ◌∷◌}
+use Rattle.std.proofs.Common.{◌++◌, length, get_or, take, sum, cond, eqb, ltb, Option, None, Some, Ok, Err, refl, sym}
+use Rattle.std.proofs.Common.{ap, ◌∙◌, arith, length-append}
 use Rattle.std.specs.declared.result.Result.{Result}
 use Rattle.std.proofs.lemmas.List.{length-take-le, take-take, take_at, get_or-take, get_or_push}
 use Rattle.std.proofs.lemmas.Bool.{eqb-false, ltb-false, eq-eqb}
@@ -16,7 +18,8 @@ frame_with place kind body = record { place = place; kind = kind; body = body }
 
 -- ---- what a test let through
 
-no_fault : {X E : Type 0} (b : Bool) (e : E) (r : Result X E) (x : X) → cond b (Err e) r ≡ Ok x → (b ≡ false) × (r ≡ Ok x)
+no_fault : {X E : Type 0} (b : Bool) (e : E) (r : Result X E) (x : X) → cond b (Err e) r ≡ Ok x
+    → (b ≡ false) × (r ≡ Ok x)
 no_fault true e r x h = let z : ⊥ = cc in absurd z
 no_fault false e r x h = (refl, h)
 
@@ -30,7 +33,8 @@ no_fault_last false e y x h = let z : ⊥ = cc in absurd z
 pub record Again (bs : List ℕ) (place : ℕ) (f : Frame) : Type 0 where
   pub place_is : f.place ≡ place
   pub within : length f.body + 4 ≤ length bs
-  pub again : (place' : ℕ) (rest : List ℕ) → frame_of place' (take (length f.body + 4) bs ++ rest) ≡ Ok (Some (frame_with place' f.kind f.body))
+  pub again : (place' : ℕ) (rest : List ℕ)
+      → frame_of place' (take (length f.body + 4) bs ++ rest) ≡ Ok (Some (frame_with place' f.kind f.body))
 
 again_whole : (place kind low high : ℕ) (r : List ℕ) (f : Frame) → low + 256 * high ≢ 0 → low + 256 * high ≤ length r
     → closes (get_or r (low + 256 * high - 1) 0) (kind ∷ low ∷ high ∷ take (low + 256 * high) r) ≡ true
@@ -41,8 +45,10 @@ again_whole place kind low high r f some whole closed is =
     let block = take len r in
     let positive : 0 < len = omega arith in
     let block_len : length block ≡ len = length-take-le len r whole in
-    let body : take (len - 1) block ≡ f.body = take-take (len - 1) len r (omega arith) ∙ ap (λ (g : Frame). g.body) is in
-    let body_len : length f.body ≡ len - 1 = sym (ap (λ (g : Frame). length g.body) is) ∙ length-take-le (len - 1) r (omega arith) in
+    let body : take (len - 1) block ≡ f.body =
+    take-take (len - 1) len r (omega arith) ∙ ap (λ (g : Frame). g.body) is in
+    let body_len : length f.body ≡ len - 1 =
+    sym (ap (λ (g : Frame). length g.body) is) ∙ length-take-le (len - 1) r (omega arith) in
     let all : length f.body + 4 ≡ suc (suc (suc len)) = omega (arith, body_len, positive) in
     let last : get_or block (len - 1) 0 ≡ get_or r (len - 1) 0 = get_or-take len r (len - 1) 0 (omega arith) in
     record {
@@ -50,7 +56,8 @@ again_whole place kind low high r f some whole closed is =
       within = omega (arith, body_len, whole, positive);
       again = λ place' rest.
           ap (λ n. frame_of place' (take n (kind ∷ low ∷ high ∷ r) ++ rest)) all
-          ∙ whole_record place' head block rest true refl positive block_len (ap (λ b. closes b (head ++ block)) last ∙ closed)
+          ∙ whole_record place' head block rest true refl positive block_len
+          (ap (λ b. closes b (head ++ block)) last ∙ closed)
           ∙ ap (λ (b : List ℕ). Ok (Some (frame_with place' kind b))) body
           ∙ ap (λ k. Ok (Some (frame_with place' k f.body))) (ap (λ (g : Frame). g.kind) is);
     }
@@ -64,7 +71,9 @@ again-read place (kind ∷ low ∷ high ∷ r) f h =
     let len = low + 256 * high in
     let p = no_fault (eqb len 0) ZeroLength _ (Some f) h in
     let q = no_fault (ltb (length r) len) Truncated _ (Some f) p.1 in
-    let s = no_fault_last (closes (get_or r (len - 1) 0) (kind ∷ low ∷ high ∷ take len r)) Closing (Some (frame_with place kind (take (len - 1) r))) (Some f) q.1 in
+    let s =
+    no_fault_last (closes (get_or r (len - 1) 0) (kind ∷ low ∷ high ∷ take len r)) Closing
+    (Some (frame_with place kind (take (len - 1) r))) (Some f) q.1 in
     let is : frame_with place kind (take (len - 1) r) ≡ f = let e = s.1 in cc in
     again_whole place kind low high r f (eqb-false len 0 p.0) (ltb-false (length r) len q.0) s.0 is
 
@@ -77,17 +86,22 @@ any_or : (a b : Bool) → b ≡ true → (a || b) ≡ true
 any_or true b e = refl
 any_or false b e = e
 
-pub again-written : (place kind : ℕ) (body rest : List ℕ) → frame_of place (frame kind body ++ rest) ≡ Ok (Some (frame_with place kind body))
+pub again-written : (place kind : ℕ) (body rest : List ℕ)
+    → frame_of place (frame kind body ++ rest) ≡ Ok (Some (frame_with place kind body))
 again-written place kind body rest =
     let head = header kind body in
     let c = closing_byte kind body in
     let block = body ++ c ∷ [] in
     let len : word_in head ≡ length body + 1 = word_in-header kind body in
     let block_len : length block ≡ length body + 1 = omega (arith, length-append body (c ∷ [])) in
-    let last : get_or block (word_in head - 1) 0 ≡ c = ap (λ n. get_or block (n - 1) 0) len ∙ get_or_push body c 0 (length body + 1 - 1) (omega arith) in
-    let front : take (word_in head - 1) block ≡ body = ap (λ n. take (n - 1) block) len ∙ take_at body (c ∷ []) (length body + 1 - 1) (omega arith) in
+    let last : get_or block (word_in head - 1) 0 ≡ c =
+    ap (λ n. get_or block (n - 1) 0) len ∙ get_or_push body c 0 (length body + 1 - 1) (omega arith) in
+    let front : take (word_in head - 1) block ≡ body =
+    ap (λ n. take (n - 1) block) len ∙ take_at body (c ∷ []) (length body + 1 - 1) (omega arith) in
     let closed : closes (get_or block (word_in head - 1) 0) (head ++ block) ≡ true =
-    ap (λ n. closes n (head ++ block)) last ∙ any_or (eqb c 0) (eqb (sum (frame kind body) % 256) 0) (eq-eqb (sum (frame kind body) % 256) 0 (sum-frame kind body)) in
+    ap (λ n. closes n (head ++ block)) last
+    ∙ any_or (eqb c 0) (eqb (sum (frame kind body) % 256) 0)
+    (eq-eqb (sum (frame kind body) % 256) 0 (sum-frame kind body)) in
     whole_record place head block rest true refl (omega (arith, len)) (block_len ∙ sym len) closed
     ∙ ap (λ (b : List ℕ). Ok (Some (frame_with place kind b))) front
 
@@ -101,7 +115,8 @@ moved place (Ok None) = Ok None
 moved place (Ok (Some f)) = Ok (Some (frame_with place f.kind f.body))
 moved place (Err e) = Err e
 
-moved-cond : (place : ℕ) (b : Bool) (x y : Result (Option Frame) FramingFault) → moved place (cond b x y) ≡ cond b (moved place x) (moved place y)
+moved-cond : (place : ℕ) (b : Bool) (x y : Result (Option Frame) FramingFault)
+    → moved place (cond b x y) ≡ cond b (moved place x) (moved place y)
 moved-cond place true x y = refl
 moved-cond place false x y = refl
 
@@ -116,17 +131,21 @@ frame_of-moved place place' (kind ∷ low ∷ high ∷ r) =
     let x : Result (Option Frame) FramingFault = Ok (Some (frame_with place kind (take (len - 1) r))) in
     let third = moved-cond place' t x (Err Closing) in
     let second = moved-cond place' (ltb (length r) len) (Err Truncated) (cond t x (Err Closing)) in
-    let first = moved-cond place' (eqb len 0) (Err ZeroLength) (cond (ltb (length r) len) (Err Truncated) (cond t x (Err Closing))) in
+    let first =
+    moved-cond place' (eqb len 0) (Err ZeroLength)
+    (cond (ltb (length r) len) (Err Truncated) (cond t x (Err Closing))) in
     sym (first ∙ ap (cond (eqb len 0) (Err ZeroLength)) (second ∙ ap (cond (ltb (length r) len) (Err Truncated)) third))
 
-moved-fault : (place place' : ℕ) (r : Result (Option Frame) FramingFault) (e : LibraryFault) → record_or_fault place r ≡ Err e
+moved-fault : (place place' : ℕ) (r : Result (Option Frame) FramingFault) (e : LibraryFault)
+    → record_or_fault place r ≡ Err e
     → (e' : LibraryFault) × (record_or_fault place' (moved place' r) ≡ Err e')
 moved-fault place place' (Ok None) e h = (_, refl)
 moved-fault place place' (Ok (Some f)) e h = let z : ⊥ = cc in absurd z
 moved-fault place place' (Err x) e h = (_, refl)
 
 -- where no record begins, none does at another place
-pub none_anywhere : (place place' : ℕ) (bs : List ℕ) (e : LibraryFault) → record_or_fault place (frame_of place bs) ≡ Err e
+pub none_anywhere : (place place' : ℕ) (bs : List ℕ) (e : LibraryFault)
+    → record_or_fault place (frame_of place bs) ≡ Err e
     → (e' : LibraryFault) × (record_or_fault place' (frame_of place' bs) ≡ Err e')
 none_anywhere place place' bs e h =
     let m = moved-fault place place' (frame_of place bs) e h in

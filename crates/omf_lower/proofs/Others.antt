@@ -11,9 +11,11 @@ second : {X : Type 0} (b : Bool) (x y : X) → b ≡ false → cond b x y ≡ y
 second true x y e = let z : ⊥ = cc in absurd z
 second false x y e = refl
 
-pub other-recipe : (lowering : Lowering) (seen : Seen) (f : Frame) → is_data f.kind ≡ false → f.kind ≢ 0x98 → f.kind ≢ 0x99 → f.kind ≢ 0x9C → f.kind ≢ 0x9D
+pub other-recipe : (lowering : Lowering) (seen : Seen) (f : Frame) → is_data f.kind ≡ false → f.kind ≢ 0x98
+    → f.kind ≢ 0x99 → f.kind ≢ 0x9C → f.kind ≢ 0x9D
     → recipe_for lowering seen f ≡ for_other seen.names f.kind f.body
 unfolding recipe_for
 other-recipe lowering seen f other a b c d =
-    second (is_data f.kind) _ _ other ∙ (second (eqb f.kind 0x98) _ _ (ne_eqb f.kind 0x98 a) ∙ (second (eqb f.kind 0x99) _ _ (ne_eqb f.kind 0x99 b)
+    second (is_data f.kind) _ _ other
+    ∙ (second (eqb f.kind 0x98) _ _ (ne_eqb f.kind 0x98 a) ∙ (second (eqb f.kind 0x99) _ _ (ne_eqb f.kind 0x99 b)
     ∙ (second (eqb f.kind 0x9C) _ _ (ne_eqb f.kind 0x9C c) ∙ second (eqb f.kind 0x9D) _ _ (ne_eqb f.kind 0x9D d))))

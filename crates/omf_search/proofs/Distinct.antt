@@ -1,5 +1,6 @@
 -- Wanted names, each once, one after the other.
-use Rattle.std.proofs.Common.{◌≡◌, ℕ, ◌+◌, ◌<◌, ◌≤◌, Bool, true, false, cond, not, ◌&&◌, ◌||◌, nat_eq, List, [], ◌∷◌, ◌++◌, length, map, take, get_or, refl, ap, sym, ◌∙◌, arith}
+use Rattle.std.proofs.Common.{◌≡◌, ℕ, ◌+◌, ◌<◌, ◌≤◌, Bool, true, false, cond, not, ◌&&◌, ◌||◌, nat_eq, List, [], ◌∷◌}
+use Rattle.std.proofs.Common.{◌++◌, length, map, take, get_or, refl, ap, sym, ◌∙◌, arith}
 use Rattle.std.proofs.lemmas.List.{append-nil, length-map, take_all, take_more}
 use Rattle.std.proofs.lemmas.List.Elements.{filter-append}
 use Rattle.std.proofs.lemmas.List.Folds.{list_any-append}
@@ -18,7 +19,8 @@ use Rattle.omf_search.specs.Said.{Module, Wanted, is_offered, wanted_names}
 use Rattle.omf_search.proofs.ChoiceSteps.{wanted_at, wanted_within}
 use Rattle.omf_search.proofs.Agreeing.{keys_agree, names_agree}
 
-left_out : (seen same : Bool) (x : Wanted) (f : List Wanted → List Wanted) → f [] ≡ [] → f (x ∷ []) ≡ cond (not same) (x ∷ []) [] → f (cond seen [] (x ∷ [])) ≡ cond (same || seen) [] (x ∷ [])
+left_out : (seen same : Bool) (x : Wanted) (f : List Wanted → List Wanted) → f [] ≡ []
+    → f (x ∷ []) ≡ cond (not same) (x ∷ []) [] → f (cond seen [] (x ∷ [])) ≡ cond (same || seen) [] (x ∷ [])
 left_out true true x f none one = none
 left_out true false x f none one = none
 left_out false true x f none one = one
@@ -26,35 +28,45 @@ left_out false false x f none one = one
 
 module _ (names : Names) where
   -- one more, which is new or one of those before
-  pub distinct-push : (ws : List Wanted) (x : Wanted) → distinct names (ws ++ x ∷ []) ≡ distinct names ws ++ cond (list_any (is_same names x) ws) [] (x ∷ [])
+  pub distinct-push : (ws : List Wanted) (x : Wanted)
+      → distinct names (ws ++ x ∷ []) ≡ distinct names ws ++ cond (list_any (is_same names x) ws) [] (x ∷ [])
   distinct-push [] x = refl
   distinct-push (w ∷ ws) x =
       let test : Wanted → Bool = λ v. not (is_same names v w) in
       ap (λ vs. w ∷ filter test vs) (distinct-push ws x)
       ∙ ap (λ vs. w ∷ vs) (filter-append test (distinct names ws) (cond (list_any (is_same names x) ws) [] (x ∷ [])))
-      ∙ ap (λ vs. w ∷ (filter test (distinct names ws) ++ vs)) (left_out (list_any (is_same names x) ws) (is_same names x w) x (filter test) refl refl)
+      ∙ ap (λ vs. w ∷ (filter test (distinct names ws) ++ vs))
+      (left_out (list_any (is_same names x) ws) (is_same names x w) x (filter test) refl refl)
 
   -- the names that modules want and none offers
   abbrev pub unoffered : List Module → List Wanted → List Wanted
   unoffered ms ws = filter (λ w. not (is_offered names ms w.name)) ws
 
-  unoffered-push : (ms : List Module) (ws : List Wanted) (w : Wanted) (b : Bool) → is_offered names ms w.name ≡ b → unoffered ms (ws ++ w ∷ []) ≡ unoffered ms ws ++ cond (not b) (w ∷ []) []
-  unoffered-push ms ws w b e = filter-append (λ w. not (is_offered names ms w.name)) ws (w ∷ []) ∙ ap (λ t. unoffered ms ws ++ cond (not t) (w ∷ []) []) e
+  unoffered-push : (ms : List Module) (ws : List Wanted) (w : Wanted) (b : Bool) → is_offered names ms w.name ≡ b
+      → unoffered ms (ws ++ w ∷ []) ≡ unoffered ms ws ++ cond (not b) (w ∷ []) []
+  unoffered-push ms ws w b e =
+      filter-append (λ w. not (is_offered names ms w.name)) ws (w ∷ [])
+      ∙ ap (λ t. unoffered ms ws ++ cond (not t) (w ∷ []) []) e
 
   -- a name that is offered adds nothing
-  pub offered-turn : (ms : List Module) (ws : List Wanted) (i : ℕ) (w d : Wanted) → i < length ws → w ≡ get_or ws i d → is_offered names ms w.name ≡ true →
+  pub offered-turn : (ms : List Module) (ws : List Wanted) (i : ℕ) (w d : Wanted) → i < length ws → w ≡ get_or ws i d →
+      is_offered names ms w.name ≡ true →
       unoffered ms (take (i + 1) ws) ≡ unoffered ms (take i ws)
   offered-turn ms ws i w d h e t =
-      ap (unoffered ms) (take_more ws i d h ∙ ap (λ v. take i ws ++ v ∷ []) (sym e)) ∙ unoffered-push ms (take i ws) w true t ∙ append-nil (unoffered ms (take i ws))
+      ap (unoffered ms) (take_more ws i d h ∙ ap (λ v. take i ws ++ v ∷ []) (sym e))
+      ∙ unoffered-push ms (take i ws) w true t ∙ append-nil (unoffered ms (take i ws))
 
   -- one that isn't stands behind the others
-  pub unoffered-turn : (ms : List Module) (ws : List Wanted) (i : ℕ) (w d : Wanted) → i < length ws → w ≡ get_or ws i d → is_offered names ms w.name ≡ false →
+  pub unoffered-turn : (ms : List Module) (ws : List Wanted) (i : ℕ) (w d : Wanted) → i < length ws →
+      w ≡ get_or ws i d → is_offered names ms w.name ≡ false →
       unoffered ms (take (i + 1) ws) ≡ unoffered ms (take i ws) ++ w ∷ []
   unoffered-turn ms ws i w d h e t =
-      ap (unoffered ms) (take_more ws i d h ∙ ap (λ v. take i ws ++ v ∷ []) (sym e)) ∙ unoffered-push ms (take i ws) w false t
+      ap (unoffered ms) (take_more ws i d h ∙ ap (λ v. take i ws ++ v ∷ []) (sym e))
+      ∙ unoffered-push ms (take i ws) w false t
 
   -- a wanted name as a key
-  key-same : (q n : Bor (List ℕ)) (m k : ℕ) → same_wanted (record { wanted_by = k; key = key_of names n }) (record { wanted_by = m; key = key_of names q }) ≡
+  key-same : (q n : Bor (List ℕ)) (m k : ℕ)
+      → same_wanted (record { wanted_by = k; key = key_of names n }) (record { wanted_by = m; key = key_of names q }) ≡
       is_same names (record { name = q.now; wanted_by = m }) (record { name = n.now; wanted_by = k })
   key-same q n m k =
       ap (λ b. b && same_key (key_of names n) (key_of names q)) (nat_eq_equiv.symm k m)
@@ -62,14 +74,20 @@ module _ (names : Names) where
 
   -- one more key that is met
   pub met-turn : (q n : Bor (List ℕ)) (m k : ℕ) (left : List Wanted) (was here : Bool) →
-      here ≡ cond (same_wanted (record { wanted_by = k; key = key_of names n }) (record { wanted_by = m; key = key_of names q })) true was →
+      here
+      ≡ cond
+      (same_wanted (record { wanted_by = k; key = key_of names n }) (record { wanted_by = m; key = key_of names q }))
+      true was →
       was ≡ list_any (is_same names (record { name = q.now; wanted_by = m })) left →
-      here ≡ list_any (is_same names (record { name = q.now; wanted_by = m })) (left ++ record { name = n.now; wanted_by = k } ∷ [])
+      here
+      ≡ list_any (is_same names (record { name = q.now; wanted_by = m }))
+      (left ++ record { name = n.now; wanted_by = k } ∷ [])
   met-turn q n m k left was here is e =
       let v : Wanted = record { name = q.now; wanted_by = m } in
       let w : Wanted = record { name = n.now; wanted_by = k } in
       is ∙ ap (λ b. cond b true was) (key-same q n m k) ∙ ap (λ b. cond (is_same names v w) true b) e
-      ∙ either (is_same names v w) (list_any (is_same names v) left) ∙ sym (list_any-append (is_same names v) left (w ∷ []))
+      ∙ either (is_same names v w) (list_any (is_same names v) left)
+      ∙ sym (list_any-append (is_same names v) left (w ∷ []))
     where
       either : (hit any : Bool) → cond hit true any ≡ (any || (hit || false))
       either true true = refl
@@ -78,7 +96,8 @@ module _ (names : Names) where
       either false false = refl
 
   -- a name that is missing
-  module _ (ms : List Module) (items : List held.Wanted) (i : ℕ) (d : held.Wanted) (h : i < length items) (missed : is_offered names ms (get_or items i d).name.now ≡ false) where
+  module _ (ms : List Module) (items : List held.Wanted) (i : ℕ) (d : held.Wanted) (h : i < length items)
+      (missed : is_offered names ms (get_or items i d).name.now ≡ false) where
     abbrev here : held.Wanted
     here = get_or items i d
 
@@ -89,44 +108,72 @@ module _ (names : Names) where
     after = unoffered ms (take (i + 1) (map wanted_said items))
 
     grown : after ≡ before ++ wanted_said here ∷ []
-    grown = unoffered-turn ms (map wanted_said items) i (wanted_said here) (wanted_said d) (wanted_within items (map wanted_said items) i refl h) (wanted_at items (map wanted_said items) i refl h d) missed
+    grown =
+        unoffered-turn ms (map wanted_said items) i (wanted_said here) (wanted_said d)
+        (wanted_within items (map wanted_said items) i refl h) (wanted_at items (map wanted_said items) i refl h d)
+        missed
 
     module _ (key : Key) (is_key : key ≡ key_of names here.name) (old new : WantedKey → Bool) (fresh : Bool)
-        (met : (q : Bor (List ℕ)) (m : ℕ) → old (record { wanted_by = m; key = key_of names q }) ≡ list_any (is_same names (record { name = q.now; wanted_by = m })) before)
+        (met : (q : Bor (List ℕ)) (m : ℕ)
+        → old (record { wanted_by = m; key = key_of names q })
+        ≡ list_any (is_same names (record { name = q.now; wanted_by = m })) before)
         (added : fresh ≡ not (old (record { wanted_by = here.wanted_by; key = key })))
-        (updated : (k : WantedKey) → new k ≡ cond (same_wanted (record { wanted_by = here.wanted_by; key = key }) k) true (old k)) where
-      pub met_next : (q : Bor (List ℕ)) (m : ℕ) → new (record { wanted_by = m; key = key_of names q }) ≡ list_any (is_same names (record { name = q.now; wanted_by = m })) after
+        (updated : (k : WantedKey)
+        → new k ≡ cond (same_wanted (record { wanted_by = here.wanted_by; key = key }) k) true (old k)) where
+      pub met_next : (q : Bor (List ℕ)) (m : ℕ)
+          → new (record { wanted_by = m; key = key_of names q })
+          ≡ list_any (is_same names (record { name = q.now; wanted_by = m })) after
       met_next q m =
           let asked : WantedKey = record { wanted_by = m; key = key_of names q } in
           let v : Wanted = record { name = q.now; wanted_by = m } in
-          let step : new asked ≡ cond (same_wanted (record { wanted_by = here.wanted_by; key = key_of names here.name }) asked) true (old asked) =
-          updated asked ∙ ap (λ (k : Key). let own : WantedKey = record { wanted_by = here.wanted_by; key = k } in cond (same_wanted own asked) true (old asked)) is_key in
-          met-turn q here.name m here.wanted_by before (old asked) (new asked) step (met q m) ∙ ap (list_any (is_same names v)) (sym grown)
+          let step : new asked
+          ≡ cond (same_wanted (record { wanted_by = here.wanted_by; key = key_of names here.name }) asked) true
+          (old asked) =
+          updated asked
+          ∙ ap
+          (λ (k : Key).
+          let own : WantedKey = record { wanted_by = here.wanted_by; key = k } in
+          cond (same_wanted own asked) true (old asked)) is_key in
+          met-turn q here.name m here.wanted_by before (old asked) (new asked) step (met q m)
+          ∙ ap (list_any (is_same names v)) (sym grown)
 
       fresh_is : fresh ≡ not (list_any (is_same names (wanted_said here)) before)
-      fresh_is = added ∙ ap (λ (k : Key). let own : WantedKey = record { wanted_by = here.wanted_by; key = k } in not (old own)) is_key ∙ ap not (met here.name here.wanted_by)
+      fresh_is =
+          added
+          ∙ ap (λ (k : Key). let own : WantedKey = record { wanted_by = here.wanted_by; key = k } in not (old own))
+          is_key ∙ ap not (met here.name here.wanted_by)
 
-      pub found_new : (found : List Wanted) → found ≡ distinct names before → fresh ≡ true → found ++ wanted_said here ∷ [] ≡ distinct names after
+      pub found_new : (found : List Wanted) → found ≡ distinct names before → fresh ≡ true
+          → found ++ wanted_said here ∷ [] ≡ distinct names after
       found_new found e t =
-          let unseen : list_any (is_same names (wanted_said here)) before ≡ false = not-true (list_any (is_same names (wanted_said here)) before) (sym fresh_is ∙ t) in
+          let unseen : list_any (is_same names (wanted_said here)) before ≡ false =
+          not-true (list_any (is_same names (wanted_said here)) before) (sym fresh_is ∙ t) in
           ap (λ ws. ws ++ wanted_said here ∷ []) e
-          ∙ sym (ap (distinct names) grown ∙ distinct-push before (wanted_said here) ∙ ap (λ b. distinct names before ++ cond b [] (wanted_said here ∷ [])) unseen)
+          ∙ sym
+          (ap (distinct names) grown ∙ distinct-push before (wanted_said here)
+          ∙ ap (λ b. distinct names before ++ cond b [] (wanted_said here ∷ [])) unseen)
         where
           not-true : (b : Bool) → not b ≡ true → b ≡ false
           not-true true u = absurd (let v : false ≡ true = u in cc)
           not-true false u = refl
 
-      pub found_old : (found : List Wanted) → found ≡ distinct names before → fresh ≡ false → found ≡ distinct names after
+      pub found_old : (found : List Wanted) → found ≡ distinct names before → fresh ≡ false
+          → found ≡ distinct names after
       found_old found e t =
-          let seen : list_any (is_same names (wanted_said here)) before ≡ true = not-false (list_any (is_same names (wanted_said here)) before) (sym fresh_is ∙ t) in
-          e ∙ sym (ap (distinct names) grown ∙ distinct-push before (wanted_said here) ∙ ap (λ b. distinct names before ++ cond b [] (wanted_said here ∷ [])) seen ∙ append-nil (distinct names before))
+          let seen : list_any (is_same names (wanted_said here)) before ≡ true =
+          not-false (list_any (is_same names (wanted_said here)) before) (sym fresh_is ∙ t) in
+          e ∙ sym
+          (ap (distinct names) grown ∙ distinct-push before (wanted_said here)
+          ∙ ap (λ b. distinct names before ++ cond b [] (wanted_said here ∷ [])) seen
+          ∙ append-nil (distinct names before))
         where
           not-false : (b : Bool) → not b ≡ false → b ≡ true
           not-false true u = refl
           not-false false u = absurd (let v : true ≡ false = u in cc)
 
   -- with all wanted names met
-  pub all_missing : (ms : List Module) (items : List held.Wanted) (i : ℕ) → length items ≤ i → map wanted_said items ≡ wanted_names ms →
+  pub all_missing : (ms : List Module) (items : List held.Wanted) (i : ℕ) → length items ≤ i →
+      map wanted_said items ≡ wanted_names ms →
       distinct names (unoffered ms (take i (map wanted_said items))) ≡ missing_names names ms
   all_missing ms items i h is =
       let past : length (map wanted_said items) ≤ i = (let len = length-map items wanted_said in omega arith) in

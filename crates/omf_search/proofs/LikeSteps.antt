@@ -1,5 +1,7 @@
 -- Offered names that are like others, one after the other.
-use Rattle.std.proofs.Common.{◌≡◌, ℕ, zero, suc, ◌+◌, ◌<◌, ◌≤◌, Bool, true, false, cond, ◌&&◌, ◌||◌, eqb, List, [], ◌∷◌, ◌++◌, length, map, take, get_or, slice_get, Option, Some, None, is_some, IfSome, MatchOption, HoldsAt, option_copied, refl, ap, sym, subst, ◌∙◌, append_assoc, arith}
+use Rattle.std.proofs.Common.{◌≡◌, ℕ, zero, suc, ◌+◌, ◌<◌, ◌≤◌, Bool, true, false, cond, ◌&&◌, ◌||◌, eqb, List, [], ◌∷◌}
+use Rattle.std.proofs.Common.{◌++◌, length, map, take, get_or, slice_get, Option, Some, None, is_some, IfSome}
+use Rattle.std.proofs.Common.{MatchOption, HoldsAt, option_copied, refl, ap, sym, subst, ◌∙◌, append_assoc, arith}
 use Rattle.std.proofs.lemmas.List.{append-nil, map-append, take_all}
 use Rattle.std.proofs.lemmas.Bool.{eqb-true}
 use Rattle.std.proofs.lemmas.Bool.Decides.{nat_tests}
@@ -29,7 +31,8 @@ use Rattle.omf_search.proofs.Agreeing.{keys_are_one, names_agree, same_value}
 use Rattle.omf_search.proofs.TakenSteps.{flat-push, length_front, map_more}
 
 -- a value that is kept where there is one, and added where there is none
-pub inserted : {X : Type 0} (v : X) (hit found : Bool) (old new : Option X) → (found ≡ true → new ≡ old) → (found ≡ false → new ≡ cond hit (Some v) old) → (hit ≡ true → is_some old ≡ found) →
+pub inserted : {X : Type 0} (v : X) (hit found : Bool) (old new : Option X) → (found ≡ true → new ≡ old) →
+    (found ≡ false → new ≡ cond hit (Some v) old) → (hit ≡ true → is_some old ≡ found) →
     new ≡ option_or old (cond hit (Some v) None)
 inserted v hit true (Some x) new kept added same = kept refl
 inserted v hit false None new kept added same = added refl
@@ -38,12 +41,15 @@ inserted v false false (Some x) new kept added same = added refl
 inserted v true true None new kept added same = absurd (let u : false ≡ true = same refl in cc)
 inserted v false true None new kept added same = kept refl
 
-pub two_hits : {X : Type 0} (v : X) (a : Option X) (one other : Bool) → option_or (option_or a (cond one (Some v) None)) (cond other (Some v) None) ≡ option_or a (cond (one || other) (Some v) None)
+pub two_hits : {X : Type 0} (v : X) (a : Option X) (one other : Bool)
+    → option_or (option_or a (cond one (Some v) None)) (cond other (Some v) None)
+    ≡ option_or a (cond (one || other) (Some v) None)
 two_hits v (Some x) one other = refl
 two_hits v None true other = refl
 two_hits v None false other = refl
 
-pub one_hit : {X : Type 0} (v : X) (a : Option X) (one : Bool) → option_or a (cond one (Some v) None) ≡ option_or a (cond (one || false) (Some v) None)
+pub one_hit : {X : Type 0} (v : X) (a : Option X) (one : Bool)
+    → option_or a (cond one (Some v) None) ≡ option_or a (cond (one || false) (Some v) None)
 one_hit v a true = refl
 one_hit v a false = refl
 
@@ -51,17 +57,21 @@ place_from-push : {X : Type 0} (n m : ℕ) (test : X → Bool) (xs : List X) (x 
     place_from n test (xs ++ x ∷ []) ≡ option_or (place_from n test xs) (cond (test x) (Some m) None)
 place_from-push n m test [] x e = let same : n ≡ m = omega arith in ap (λ k. cond (test x) (Some k) None) same
 place_from-push n m test (y ∷ ys) x e =
-    elim (test y) as (λ b. cond b (Some n) (place_from (n + 1) test (ys ++ x ∷ [])) ≡ option_or (cond b (Some n) (place_from (n + 1) test ys)) (cond (test x) (Some m) None)) [
+    elim (test y) as (λ b.
+    cond b (Some n) (place_from (n + 1) test (ys ++ x ∷ []))
+    ≡ option_or (cond b (Some n) (place_from (n + 1) test ys)) (cond (test x) (Some m) None)) [
       | true ↦ refl
       | false ↦ place_from-push (n + 1) m test ys x (omega arith)
     ]
 
 -- the place of one more element
 pub place_from-more : {X Y : Type 0} (test : Y → Bool) (f : X → Y) (xs : List X) (i : ℕ) (d : X) → i < length xs →
-    place_from 0 test (map f (take (i + 1) xs)) ≡ option_or (place_from 0 test (map f (take i xs))) (cond (test (f (get_or xs i d))) (Some i) None)
+    place_from 0 test (map f (take (i + 1) xs))
+    ≡ option_or (place_from 0 test (map f (take i xs))) (cond (test (f (get_or xs i d))) (Some i) None)
 place_from-more test f xs i d h =
     let len = length_front f xs i h in
-    ap (place_from 0 test) (map_more f xs i d h) ∙ place_from-push 0 i test (map f (take i xs)) (f (get_or xs i d)) (omega arith)
+    ap (place_from 0 test) (map_more f xs i d h)
+    ∙ place_from-push 0 i test (map f (take i xs)) (f (get_or xs i d)) (omega arith)
 
 -- an underscore has no other case
 under-lower : (b : ℕ) → eqb 95 (to_ascii_lowercase b) ≡ eqb b 95
@@ -78,7 +88,8 @@ behind-is (b ∷ bs) rest e =
 pub behind-none : (one name : List ℕ) → behind name ≡ None → agrees by.AsciiFolded (95 ∷ one) name ≡ false
 behind-none one [] e = refl
 behind-none one (b ∷ bs) e =
-    let other : eqb b 95 ≡ false = (elim (eqb b 95) as (λ t. cond t (Some bs) None ≡ None → t ≡ false) [ true ↦ λ u. cc | false ↦ λ u. refl ]) e in
+    let other : eqb b 95 ≡ false =
+    (elim (eqb b 95) as (λ t. cond t (Some bs) None ≡ None → t ≡ false) [ true ↦ λ u. cc | false ↦ λ u. refl ]) e in
     ap (λ t. t && bytes_eq (folded one) (folded bs)) (under-lower b ∙ other)
 
 place_from-le : {X : Type 0} (n : ℕ) (test : X → Bool) (xs : List X) (k : ℕ) → place_from n test xs ≡ Some k → n ≤ k
@@ -98,24 +109,31 @@ lesser-second n None h = refl
 lesser-second n (Some k) h = let above = h k refl in ap (λ m. Some m) (omega arith)
 
 -- the place of the first that passes one of two tests
-lesser-places : {X : Type 0} (n : ℕ) (p q : X → Bool) (xs : List X) → lesser (place_from n p xs) (place_from n q xs) ≡ place_from n (λ x. p x || q x) xs
+lesser-places : {X : Type 0} (n : ℕ) (p q : X → Bool) (xs : List X)
+    → lesser (place_from n p xs) (place_from n q xs) ≡ place_from n (λ x. p x || q x) xs
 lesser-places n p q [] = refl
 lesser-places {X = X} n p q (x ∷ xs) =
-    let later : (test : X → Bool) (k : ℕ) → place_from (n + 1) test xs ≡ Some k → n ≤ k = λ test k e. (let more = place_from-le (n + 1) test xs k e in omega arith) in
-    (elim (p x) as (λ b. lesser (cond b (Some n) (place_from (n + 1) p xs)) (place_from n q (x ∷ xs)) ≡ cond (b || q x) (Some n) (place_from (n + 1) (λ x. p x || q x) xs)) [
+    let later : (test : X → Bool) (k : ℕ) → place_from (n + 1) test xs ≡ Some k → n ≤ k =
+    λ test k e. (let more = place_from-le (n + 1) test xs k e in omega arith) in
+    (elim (p x) as (λ b.
+    lesser (cond b (Some n) (place_from (n + 1) p xs)) (place_from n q (x ∷ xs))
+    ≡ cond (b || q x) (Some n) (place_from (n + 1) (λ x. p x || q x) xs)) [
       | true ↦
           (elim (q x) as (λ c. lesser (Some n) (cond c (Some n) (place_from (n + 1) q xs)) ≡ Some n) [
             | true ↦ lesser-first n (Some n) (λ k e. (let same : n ≡ k = cc in omega arith))
             | false ↦ lesser-first n (place_from (n + 1) q xs) (later q)
           ])
       | false ↦
-          (elim (q x) as (λ c. lesser (place_from (n + 1) p xs) (cond c (Some n) (place_from (n + 1) q xs)) ≡ cond c (Some n) (place_from (n + 1) (λ x. p x || q x) xs)) [
+          (elim (q x) as (λ c.
+          lesser (place_from (n + 1) p xs) (cond c (Some n) (place_from (n + 1) q xs))
+          ≡ cond c (Some n) (place_from (n + 1) (λ x. p x || q x) xs)) [
             | true ↦ lesser-second n (place_from (n + 1) p xs) (later p)
             | false ↦ lesser-places (n + 1) p q xs
           ])
     ])
 
-place_from-same : {X : Type 0} (p q : X → Bool) (xs : List X) → ((x : X) → p x ≡ q x) → place_from 0 p xs ≡ place_from 0 q xs
+place_from-same : {X : Type 0} (p q : X → Bool) (xs : List X) → ((x : X) → p x ≡ q x)
+    → place_from 0 p xs ≡ place_from 0 q xs
 place_from-same p q xs h = let same : p ≡ q = λ j. λ x. h x j in ap (λ t. place_from 0 t xs) same
 
 tests_with : (a b d : Bool) → ((a || b) || (d || a)) ≡ (a || (b || d))
@@ -130,30 +148,44 @@ or-false false = refl
 
 -- a name with an underscore in front is like those that it or its rest is, also behind another underscore
 pub like_with : (name rest : List ℕ) (os : List Offered) → name ≡ 95 ∷ rest →
-    lesser (place_from 0 (λ o. is_behind name o.name) os) (place_from 0 (λ o. is_behind rest o.name) os) ≡ place_from 0 (λ o. is_like name o.name) os
+    lesser (place_from 0 (λ o. is_behind name o.name) os) (place_from 0 (λ o. is_behind rest o.name) os)
+    ≡ place_from 0 (λ o. is_like name o.name) os
 like_with name rest os e =
-    subst (λ n. lesser (place_from 0 (λ o. is_behind n o.name) os) (place_from 0 (λ o. is_behind rest o.name) os) ≡ place_from 0 (λ o. is_like n o.name) os) (sym e)
+    subst
+    (λ n.
+    lesser (place_from 0 (λ o. is_behind n o.name) os) (place_from 0 (λ o. is_behind rest o.name) os)
+    ≡ place_from 0 (λ o. is_like n o.name) os) (sym e)
     (lesser-places 0 (λ o. is_behind (95 ∷ rest) o.name) (λ o. is_behind rest o.name) os
     ∙ place_from-same (λ o. is_behind (95 ∷ rest) o.name || is_behind rest o.name) (λ o. is_like (95 ∷ rest) o.name) os
-    (λ o. tests_with (agrees by.AsciiFolded (95 ∷ rest) o.name) (agrees by.AsciiFolded (95 ∷ 95 ∷ rest) o.name) (agrees by.AsciiFolded rest o.name)))
+    (λ o.
+    tests_with (agrees by.AsciiFolded (95 ∷ rest) o.name) (agrees by.AsciiFolded (95 ∷ 95 ∷ rest) o.name)
+    (agrees by.AsciiFolded rest o.name)))
 
 -- one without is like those that it is
-pub like_without : (name : List ℕ) (os : List Offered) → behind name ≡ None → place_from 0 (λ o. is_behind name o.name) os ≡ place_from 0 (λ o. is_like name o.name) os
+pub like_without : (name : List ℕ) (os : List Offered) → behind name ≡ None
+    → place_from 0 (λ o. is_behind name o.name) os ≡ place_from 0 (λ o. is_like name o.name) os
 like_without name os e =
     place_from-same (λ o. is_behind name o.name) (λ o. is_like name o.name) os
     (λ o.
-    let never : agrees by.AsciiFolded name (95 ∷ o.name) ≡ false = (names_agree by.AsciiFolded).symm name (95 ∷ o.name) ∙ behind-none o.name name e in
-    ap (λ b. agrees by.AsciiFolded name o.name || b) (sym (ap (λ b. agrees by.AsciiFolded (95 ∷ name) o.name || b) never ∙ or-false (agrees by.AsciiFolded (95 ∷ name) o.name))))
+    let never : agrees by.AsciiFolded name (95 ∷ o.name) ≡ false =
+    (names_agree by.AsciiFolded).symm name (95 ∷ o.name) ∙ behind-none o.name name e in
+    ap (λ b. agrees by.AsciiFolded name o.name || b)
+    (sym
+    (ap (λ b. agrees by.AsciiFolded (95 ∷ name) o.name || b) never
+    ∙ or-false (agrees by.AsciiFolded (95 ∷ name) o.name))))
 
-found_at : {X : Type 0} (n : ℕ) (p : X → Bool) (xs : List X) (m : ℕ) → place_from n p xs ≡ Some (n + m) → find p xs ≡ slice_get xs m
+found_at : {X : Type 0} (n : ℕ) (p : X → Bool) (xs : List X) (m : ℕ) → place_from n p xs ≡ Some (n + m)
+    → find p xs ≡ slice_get xs m
 found_at n p [] m e = absurd (let u : None ≡ Some (n + m) = e in cc)
 found_at n p (x ∷ xs) zero e =
-    (elim (p x) as (λ b. cond b (Some n) (place_from (n + 1) p xs) ≡ Some (n + 0) → cond b (Some x) (find p xs) ≡ Some x) [
+    (elim (p x) as (λ b.
+    cond b (Some n) (place_from (n + 1) p xs) ≡ Some (n + 0) → cond b (Some x) (find p xs) ≡ Some x) [
       | true ↦ λ u. refl
       | false ↦ λ u. absurd (let more = place_from-le (n + 1) p xs (n + 0) u in omega arith)
     ]) e
 found_at n p (x ∷ xs) (suc m) e =
-    (elim (p x) as (λ b. cond b (Some n) (place_from (n + 1) p xs) ≡ Some (n + suc m) → cond b (Some x) (find p xs) ≡ slice_get xs m) [
+    (elim (p x) as (λ b.
+    cond b (Some n) (place_from (n + 1) p xs) ≡ Some (n + suc m) → cond b (Some x) (find p xs) ≡ slice_get xs m) [
       | true ↦ λ u. absurd (let same : n ≡ n + suc m = cc in omega arith)
       | false ↦ λ u. let k : n + suc m ≡ (n + 1) + m = omega arith in found_at (n + 1) p xs m (u ∙ ap (λ j. Some j) k)
     ]) e
@@ -161,45 +193,59 @@ found_at n p (x ∷ xs) (suc m) e =
 not_found : {X : Type 0} (n : ℕ) (p : X → Bool) (xs : List X) → place_from n p xs ≡ None → find p xs ≡ None
 not_found n p [] e = refl
 not_found n p (x ∷ xs) e =
-    (elim (p x) as (λ b. cond b (Some n) (place_from (n + 1) p xs) ≡ None → cond b (Some x) (find p xs) ≡ None) [ true ↦ λ u. cc | false ↦ λ u. not_found (n + 1) p xs u ]) e
+    (elim (p x) as (λ b. cond b (Some n) (place_from (n + 1) p xs) ≡ None → cond b (Some x) (find p xs) ≡ None) [
+      | true ↦ λ u. cc
+      | false ↦ λ u. not_found (n + 1) p xs u
+    ]) e
 
 -- the first that passes stands at its place
-pub found_place : {X : Type 0} (p : X → Bool) (xs : List X) (o : Option ℕ) → o ≡ place_from 0 p xs → find p xs ≡ option_and_then (slice_get xs) o
+pub found_place : {X : Type 0} (p : X → Bool) (xs : List X) (o : Option ℕ) → o ≡ place_from 0 p xs
+    → find p xs ≡ option_and_then (slice_get xs) o
 found_place p xs None e = not_found 0 p xs (sym e)
 found_place p xs (Some k) e = let z : k ≡ 0 + k = omega arith in found_at 0 p xs k (sym e ∙ ap (λ j. Some j) z)
 
 -- a key with a place, unless it has one
 pub inserted_key : (key k : Key) (v : ℕ) (old new : List (Key × ℕ)) →
     (is_some (lookup (same_key key) old) ≡ true → lookup (same_key k) new ≡ lookup (same_key k) old) →
-    (is_some (lookup (same_key key) old) ≡ false → lookup (same_key k) new ≡ cond (same_key key k) (Some v) (lookup (same_key k) old)) →
+    (is_some (lookup (same_key key) old) ≡ false →
+    lookup (same_key k) new ≡ cond (same_key key k) (Some v) (lookup (same_key k) old)) →
     lookup (same_key k) new ≡ option_or (lookup (same_key k) old) (cond (same_key k key) (Some v) None)
 inserted_key key k v old new kept added =
-    inserted v (same_key key k) (is_some (lookup (same_key key) old)) (lookup (same_key k) old) (lookup (same_key k) new) kept added (λ t. ap is_some (sym (same_value old key k t)))
+    inserted v (same_key key k) (is_some (lookup (same_key key) old)) (lookup (same_key k) old)
+    (lookup (same_key k) new) kept added (λ t. ap is_some (sym (same_value old key k t)))
     ∙ ap (λ b. option_or (lookup (same_key k) old) (cond b (Some v) None)) (keys_are_one.symm key k)
 
 -- what modules offer, with one more
 pub modules-push : (ms : List Module) (m : Module) →
-    flat_map (λ p. offered_of (whose.Module p.0) p.1) (enumerate_from 0 (ms ++ m ∷ [])) ≡ flat_map (λ p. offered_of (whose.Module p.0) p.1) (enumerate_from 0 ms) ++ offered_of (whose.Module (length ms)) m
+    flat_map (λ p. offered_of (whose.Module p.0) p.1) (enumerate_from 0 (ms ++ m ∷ []))
+    ≡ flat_map (λ p. offered_of (whose.Module p.0) p.1) (enumerate_from 0 ms) ++ offered_of (whose.Module (length ms)) m
 modules-push ms m = flat-push (λ p. offered_of (whose.Module p.0) p.1) ms m
 
 -- what members offer behind them, with one more
-pub members-push : (ms : List Module) (bs : List Member) (b : Member) → offered_names ms (bs ++ b ∷ []) ≡ offered_names ms bs ++ offered_of (whose.Member b.library b.member) b.says
+pub members-push : (ms : List Module) (bs : List Member) (b : Member)
+    → offered_names ms (bs ++ b ∷ []) ≡ offered_names ms bs ++ offered_of (whose.Member b.library b.member) b.says
 members-push ms bs b =
     let f : ℕ × Module → List Offered = λ p. offered_of (whose.Module p.0) p.1 in
     let g : Member → List Offered = λ b. offered_of (whose.Member b.library b.member) b.says in
-    ap (λ os. flat_map f (enumerate_from 0 ms) ++ os) (flat_map-append g bs (b ∷ []) ∙ ap (λ os. flat_map g bs ++ os) (append-nil (g b)))
+    ap (λ os. flat_map f (enumerate_from 0 ms) ++ os)
+    (flat_map-append g bs (b ∷ []) ∙ ap (λ os. flat_map g bs ++ os) (append-nil (g b)))
     ∙ sym (append_assoc (flat_map f (enumerate_from 0 ms)) (flat_map g bs) (g b))
 
 -- the offered name at its place
-pub like_found : (test : Offered → Bool) (offered : List held.Offered) (place : ℕ) (o : Option held.Offered) → o ≡ slice_get offered place → Some place ≡ place_from 0 test (map offered_said offered) →
+pub like_found : (test : Offered → Bool) (offered : List held.Offered) (place : ℕ) (o : Option held.Offered) →
+    o ≡ slice_get offered place → Some place ≡ place_from 0 test (map offered_said offered) →
     option_map offered_said o ≡ find test (map offered_said offered)
-like_found test offered place o e at = ap (option_map offered_said) e ∙ sym (found_place test (map offered_said offered) (Some place) at ∙ slice_get-map offered_said offered place)
+like_found test offered place o e at =
+    ap (option_map offered_said) e
+    ∙ sym (found_place test (map offered_said offered) (Some place) at ∙ slice_get-map offered_said offered place)
 
-pub like_unfound : (test : Offered → Bool) (offered : List held.Offered) → None ≡ place_from 0 test (map offered_said offered) → None ≡ find test (map offered_said offered)
+pub like_unfound : (test : Offered → Bool) (offered : List held.Offered)
+    → None ≡ place_from 0 test (map offered_said offered) → None ≡ find test (map offered_said offered)
 like_unfound test offered at = sym (found_place test (map offered_said offered) None at)
 
 -- what one more module offers
-pub module-turn : (modules : List held_said.Said) (i : ℕ) (d : held_said.Said) (old new : List Offered) → i < length modules →
+pub module-turn : (modules : List held_said.Said) (i : ℕ) (d : held_said.Said) (old new : List Offered) →
+    i < length modules →
     old ≡ flat_map (λ p. offered_of (whose.Module p.0) p.1) (enumerate_from 0 (map module_said (take i modules))) →
     new ≡ old ++ offered_of (whose.Module i) (module_said (get_or modules i d)) →
     new ≡ flat_map (λ p. offered_of (whose.Module p.0) p.1) (enumerate_from 0 (map module_said (take (i + 1) modules)))
@@ -208,48 +254,61 @@ module-turn modules i d old new h was is =
     let front = map module_said (take i modules) in
     let m = module_said (get_or modules i d) in
     is ∙ ap (λ os. os ++ offered_of (whose.Module i) m) was
-    ∙ ap (λ k. flat_map f (enumerate_from 0 front) ++ offered_of (whose.Module k) m) (sym (length_front module_said modules i h))
-    ∙ sym (modules-push front m) ∙ ap (λ ms. flat_map f (enumerate_from 0 ms)) (sym (map_more module_said modules i d h))
+    ∙ ap (λ k. flat_map f (enumerate_from 0 front) ++ offered_of (whose.Module k) m)
+    (sym (length_front module_said modules i h))
+    ∙ sym (modules-push front m)
+    ∙ ap (λ ms. flat_map f (enumerate_from 0 ms)) (sym (map_more module_said modules i d h))
 
 -- what one more member offers
-pub member-turn : (ms : List Module) (members : List held_member.Member) (i : ℕ) (d : held_member.Member) (old new : List Offered) → i < length members →
+pub member-turn : (ms : List Module) (members : List held_member.Member) (i : ℕ) (d : held_member.Member)
+    (old new : List Offered) → i < length members →
     old ≡ offered_names ms (map member_said (take i members)) →
-    new ≡ old ++ offered_of (whose.Member (get_or members i d).library (get_or members i d).member) (module_said (get_or members i d).says) →
+    new ≡ old
+    ++ offered_of (whose.Member (get_or members i d).library (get_or members i d).member)
+    (module_said (get_or members i d).says) →
     new ≡ offered_names ms (map member_said (take (i + 1) members))
 member-turn ms members i d old new h was is =
     let b = member_said (get_or members i d) in
     is ∙ ap (λ os. os ++ offered_of (whose.Member b.library b.member) b.says) was
-    ∙ sym (members-push ms (map member_said (take i members)) b) ∙ ap (offered_names ms) (sym (map_more member_said members i d h))
+    ∙ sym (members-push ms (map member_said (take i members)) b)
+    ∙ ap (offered_names ms) (sym (map_more member_said members i d h))
 
 -- an element that is looked up
-pub item-copied : {X : Type 0} (xs : List X) (i : ℕ) (r : Option (Bor X)) → IfSome r (λ x. x.now ≡ get_or xs i x.now) → MatchOption r (length xs ≤ i) (λ x. (i < length xs) × HoldsAt (λ y. x.now ≡ y) xs i) →
+pub item-copied : {X : Type 0} (xs : List X) (i : ℕ) (r : Option (Bor X)) → IfSome r (λ x. x.now ≡ get_or xs i x.now) →
+    MatchOption r (length xs ≤ i) (λ x. (i < length xs) × HoldsAt (λ y. x.now ≡ y) xs i) →
     option_copied r ≡ slice_get xs i
 item-copied xs i None e m = sym (slice_get_past xs i m)
 item-copied xs i (Some x) e m = sym (slice_get_read xs (length xs) i x.now refl m.0 e)
 
 -- one more name that is asked for
-pub like-turn : (ms : List Module) (bs : List Member) (asked : List (Bor (List ℕ))) (i : ℕ) (d : Bor (List ℕ)) (old : List (Option held.Offered)) (like : Option held.Offered) (offered : List held.Offered) → i < length asked →
+pub like-turn : (ms : List Module) (bs : List Member) (asked : List (Bor (List ℕ))) (i : ℕ) (d : Bor (List ℕ))
+    (old : List (Option held.Offered)) (like : Option held.Offered) (offered : List held.Offered) → i < length asked →
     map offered_said offered ≡ offered_names ms bs →
     map (option_map offered_said) old ≡ map (first_like ms bs) (bytes_of (take i asked)) →
     option_map offered_said like ≡ find (λ o. is_like (get_or asked i d).now o.name) (map offered_said offered) →
     map (option_map offered_said) (old ++ like ∷ []) ≡ map (first_like ms bs) (bytes_of (take (i + 1) asked))
 like-turn ms bs asked i d old like offered h all was is =
     let n = get_or asked i d in
-    let more : bytes_of (take (i + 1) asked) ≡ bytes_of (take i asked) ++ n.now ∷ [] = map_more (λ b. b.now) asked i d h in
+    let more : bytes_of (take (i + 1) asked) ≡ bytes_of (take i asked) ++ n.now ∷ [] =
+    map_more (λ b. b.now) asked i d h in
     map-append (option_map offered_said) old (like ∷ [])
     ∙ ap (λ os. os ++ option_map offered_said like ∷ []) was
-    ∙ ap (λ o. map (first_like ms bs) (bytes_of (take i asked)) ++ o ∷ []) (is ∙ ap (λ os. find (λ o. is_like n.now o.name) os) all)
+    ∙ ap (λ o. map (first_like ms bs) (bytes_of (take i asked)) ++ o ∷ [])
+    (is ∙ ap (λ os. find (λ o. is_like n.now o.name) os) all)
     ∙ sym (ap (map (first_like ms bs)) more ∙ map-append (first_like ms bs) (bytes_of (take i asked)) (n.now ∷ []))
 
 -- what all modules offer
 pub modules_all : (modules : List held_said.Said) (i : ℕ) (os : List Offered) → length modules ≤ i →
-    os ≡ flat_map (λ p. offered_of (whose.Module p.0) p.1) (enumerate_from 0 (map module_said (take i modules))) → os ≡ offered_names (map module_said modules) []
+    os ≡ flat_map (λ p. offered_of (whose.Module p.0) p.1) (enumerate_from 0 (map module_said (take i modules))) →
+    os ≡ offered_names (map module_said modules) []
 modules_all modules i os h e =
-    e ∙ ap (λ xs. flat_map (λ p. offered_of (whose.Module p.0) p.1) (enumerate_from 0 (map module_said xs))) (take_all i modules h)
+    e ∙ ap (λ xs. flat_map (λ p. offered_of (whose.Module p.0) p.1) (enumerate_from 0 (map module_said xs)))
+    (take_all i modules h)
     ∙ sym (append-nil (flat_map (λ p. offered_of (whose.Module p.0) p.1) (enumerate_from 0 (map module_said modules))))
 
 -- one more offered name in the index
-pub index-turn : (q : List ℕ) (offered : List held.Offered) (i : ℕ) (d : held.Offered) (old new : Option ℕ) → i < length offered →
+pub index-turn : (q : List ℕ) (offered : List held.Offered) (i : ℕ) (d : held.Offered) (old new : Option ℕ) →
+    i < length offered →
     old ≡ place_from 0 (λ o. is_behind q o.name) (map offered_said (take i offered)) →
     new ≡ option_or old (cond (is_behind q (get_or offered i d).name.now) (Some i) None) →
     new ≡ place_from 0 (λ o. is_behind q o.name) (map offered_said (take (i + 1) offered))
@@ -259,28 +318,43 @@ index-turn q offered i d old new h was is =
 
 -- a place for a name without an underscore
 pub placed_alone : (q name : Bor (List ℕ)) (v : ℕ) (old new : List (Key × ℕ)) → behind name.now ≡ None →
-    (is_some (lookup (same_key (AsciiFolded name)) old) ≡ true → lookup (same_key (AsciiFolded q)) new ≡ lookup (same_key (AsciiFolded q)) old) →
-    (is_some (lookup (same_key (AsciiFolded name)) old) ≡ false → lookup (same_key (AsciiFolded q)) new ≡ cond (same_key (AsciiFolded name) (AsciiFolded q)) (Some v) (lookup (same_key (AsciiFolded q)) old)) →
-    lookup (same_key (AsciiFolded q)) new ≡ option_or (lookup (same_key (AsciiFolded q)) old) (cond (is_behind q.now name.now) (Some v) None)
+    (is_some (lookup (same_key (AsciiFolded name)) old) ≡ true →
+    lookup (same_key (AsciiFolded q)) new ≡ lookup (same_key (AsciiFolded q)) old) →
+    (is_some (lookup (same_key (AsciiFolded name)) old) ≡ false →
+    lookup (same_key (AsciiFolded q)) new
+    ≡ cond (same_key (AsciiFolded name) (AsciiFolded q)) (Some v) (lookup (same_key (AsciiFolded q)) old)) →
+    lookup (same_key (AsciiFolded q)) new
+    ≡ option_or (lookup (same_key (AsciiFolded q)) old) (cond (is_behind q.now name.now) (Some v) None)
 placed_alone q name v old new e kept added =
     let was = lookup (same_key (AsciiFolded q)) old in
     inserted_key (AsciiFolded name) (AsciiFolded q) v old new kept added
     ∙ one_hit v was (agrees by.AsciiFolded q.now name.now)
-    ∙ ap (λ b. option_or was (cond (agrees by.AsciiFolded q.now name.now || b) (Some v) None)) (sym (behind-none q.now name.now e))
+    ∙ ap (λ b. option_or was (cond (agrees by.AsciiFolded q.now name.now || b) (Some v) None))
+    (sym (behind-none q.now name.now e))
 
 -- a place for a name with one, and for what stands behind it
-pub placed_both : (q name rest : Bor (List ℕ)) (v : ℕ) (old mid new : List (Key × ℕ)) → behind name.now ≡ Some rest.now →
-    (is_some (lookup (same_key (AsciiFolded name)) old) ≡ true → lookup (same_key (AsciiFolded q)) mid ≡ lookup (same_key (AsciiFolded q)) old) →
-    (is_some (lookup (same_key (AsciiFolded name)) old) ≡ false → lookup (same_key (AsciiFolded q)) mid ≡ cond (same_key (AsciiFolded name) (AsciiFolded q)) (Some v) (lookup (same_key (AsciiFolded q)) old)) →
-    (is_some (lookup (same_key (AsciiFolded rest)) mid) ≡ true → lookup (same_key (AsciiFolded q)) new ≡ lookup (same_key (AsciiFolded q)) mid) →
-    (is_some (lookup (same_key (AsciiFolded rest)) mid) ≡ false → lookup (same_key (AsciiFolded q)) new ≡ cond (same_key (AsciiFolded rest) (AsciiFolded q)) (Some v) (lookup (same_key (AsciiFolded q)) mid)) →
-    lookup (same_key (AsciiFolded q)) new ≡ option_or (lookup (same_key (AsciiFolded q)) old) (cond (is_behind q.now name.now) (Some v) None)
+pub placed_both : (q name rest : Bor (List ℕ)) (v : ℕ) (old mid new : List (Key × ℕ)) →
+    behind name.now ≡ Some rest.now →
+    (is_some (lookup (same_key (AsciiFolded name)) old) ≡ true →
+    lookup (same_key (AsciiFolded q)) mid ≡ lookup (same_key (AsciiFolded q)) old) →
+    (is_some (lookup (same_key (AsciiFolded name)) old) ≡ false →
+    lookup (same_key (AsciiFolded q)) mid
+    ≡ cond (same_key (AsciiFolded name) (AsciiFolded q)) (Some v) (lookup (same_key (AsciiFolded q)) old)) →
+    (is_some (lookup (same_key (AsciiFolded rest)) mid) ≡ true →
+    lookup (same_key (AsciiFolded q)) new ≡ lookup (same_key (AsciiFolded q)) mid) →
+    (is_some (lookup (same_key (AsciiFolded rest)) mid) ≡ false →
+    lookup (same_key (AsciiFolded q)) new
+    ≡ cond (same_key (AsciiFolded rest) (AsciiFolded q)) (Some v) (lookup (same_key (AsciiFolded q)) mid)) →
+    lookup (same_key (AsciiFolded q)) new
+    ≡ option_or (lookup (same_key (AsciiFolded q)) old) (cond (is_behind q.now name.now) (Some v) None)
 placed_both q name rest v old mid new e kept added kept' added' =
     let was = lookup (same_key (AsciiFolded q)) old in
     let one = agrees by.AsciiFolded q.now name.now in
     let other = agrees by.AsciiFolded q.now rest.now in
-    let same : other ≡ agrees by.AsciiFolded (95 ∷ q.now) name.now = ap (agrees by.AsciiFolded (95 ∷ q.now)) (sym (behind-is name.now rest.now e)) in
+    let same : other ≡ agrees by.AsciiFolded (95 ∷ q.now) name.now =
+    ap (agrees by.AsciiFolded (95 ∷ q.now)) (sym (behind-is name.now rest.now e)) in
     inserted_key (AsciiFolded rest) (AsciiFolded q) v mid new kept' added'
-    ∙ ap (λ o. option_or o (cond other (Some v) None)) (inserted_key (AsciiFolded name) (AsciiFolded q) v old mid kept added)
+    ∙ ap (λ o. option_or o (cond other (Some v) None))
+    (inserted_key (AsciiFolded name) (AsciiFolded q) v old mid kept added)
     ∙ two_hits v was one other
     ∙ ap (λ b. option_or was (cond (one || b) (Some v) None)) same

@@ -19,5 +19,6 @@ loop-member-preserved g c =
 
 pub returns : goal.returns
 returns g c =
-    walk-done member_said (λ n l. map candidate (enumerate_from n (map entry_held l))) c.args.entries.now c.loop-member.member
+    walk-done member_said (λ n l. map candidate (enumerate_from n (map entry_held l))) c.args.entries.now
+    c.loop-member.member
     c.loop-member.all.items (candidates (map entry_held c.args.entries.now)) (omega arith) refl c.loop-member.invariant

@@ -19,7 +19,8 @@ returns g c =
     ap (map member_said) c.deref-4.ensures.value ∙ c.in_ok-members.ensures
     ∙ ap (λ l. candidates (map entry_held l)) c.deref-2.ensures.value in
     let chosen = subst (λ ms. Chooses names ms (map (λ m. m.says) (map entry_held objects)) choices) members_are
-    (subst (λ os. Chooses names (map member_said c.deref-4.result.now) os choices) modules_are c.in_ok-choices.ensures) in (
+    (subst (λ os. Chooses names (map member_said c.deref-4.result.now) os choices) modules_are
+    c.in_ok-choices.ensures) in (
       choices,
       chosen,
       c.in_ok-push_chosen.ensures ∙ ap₂ (λ l t. l ++ t)

@@ -10,6 +10,8 @@ pub loop-place-preserved : goal.loop-place-preserved
 loop-place-preserved g c =
     let file = c.args.file.now in
     let pushed = c.in_ok-push_module.ensures in
-    archive_more file c.loop-place.table.now c.table_behind-table.result.now c.loop-place.place _ c.loop-place.members.items c.push_module.new.members.items
-    (plain_entry c.in_ok-entry.entry) c.loop-place.invariant c.loop-place-test.true (sym c.in_ok-entry.ensures.said) c.table_behind-table.ensures refl
+    archive_more file c.loop-place.table.now c.table_behind-table.result.now c.loop-place.place _
+    c.loop-place.members.items c.push_module.new.members.items
+    (plain_entry c.in_ok-entry.entry) c.loop-place.invariant c.loop-place-test.true (sym c.in_ok-entry.ensures.said)
+    c.table_behind-table.ensures refl
     pushed.told (pushed.own file c.loop-place.invariant.parts c.in_ok-entry.ensures.content.own)

@@ -8,7 +8,8 @@ pub returns-then-content-size-clause-said : goal.returns-then-content-size-claus
 returns-then-content-size-clause-said c =
     let bytes = c.args.bytes.now in
     let rest = ap length (take_rest bytes 60) in
-    sym (entry_long bytes c.in-Some.size (omega arith) (omega arith) (omega arith) (ap decimal (sym c.without_spaces.ensures.value) ∙ sym c.in-Some.ensures)
+    sym (entry_long bytes c.in-Some.size (omega arith) (omega arith) (omega arith)
+    (ap decimal (sym c.without_spaces.ensures.value) ∙ sym c.in-Some.ensures)
     (omega (arith, rest, c.if-content-size.true)))
 
 pub returns-clause-content : goal.returns-clause-content
@@ -16,4 +17,5 @@ returns-clause-content c =
     let bytes = c.args.bytes.now in
     let rest = ap length (take_rest bytes 60) in
     content_is bytes c.in-Some.size _ (omega arith) (omega (arith, rest, c.if-content-size.false))
-    (omega (arith, c.without_spaces-2.ensures.shorter, length-take 16 bytes)) (ap (take c.in-Some.size) (take_rest bytes 60))
+    (omega (arith, c.without_spaces-2.ensures.shorter, length-take 16 bytes))
+    (ap (take c.in-Some.size) (take_rest bytes 60))

@@ -14,4 +14,5 @@ loop-name-preserved g c =
     let pushed : texts c.push.new.self.items ≡ texts told ++ name.now ∷ [] =
     rw c.in_ok-push.ensures.items (texts-push told name) in
     rw pushed (left_more (entry_front c.args.entry) (λ xs. xs) c.args.bytes.now c.loop-name.rest.now c.in-Some.after.now
-    (texts c.args.names.now.items) (texts told) name.now (name.now ∷ []) c.loop-name.invariant (sym c.in-Some.ensures.said) c.in-Some.ensures.shorter (λ xs. refl))
+    (texts c.args.names.now.items) (texts told) name.now (name.now ∷ []) c.loop-name.invariant
+    (sym c.in-Some.ensures.said) c.in-Some.ensures.shorter (λ xs. refl))

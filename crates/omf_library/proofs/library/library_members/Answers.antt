@@ -15,6 +15,9 @@ loop-place-init g c =
 pub loop-place-preserved : goal.loop-place-preserved
 loop-place-preserved g c =
     let member = c.in_ok-member.member in
-    rw c.in_ok-push.ensures.items (members_more c.args.file.now c.in_ok-page.page c.loop-place.place c.next_multiple_of-place.result c.loop-place.members.items member
-    c.loop-place.invariant (omega arith) c.if-file-place.false (sym c.in_ok-member.ensures.said) c.in_ok-member.ensures.part c.next_multiple_of-place.ensures.value
+    rw c.in_ok-push.ensures.items
+    (members_more c.args.file.now c.in_ok-page.page c.loop-place.place c.next_multiple_of-place.result
+    c.loop-place.members.items member
+    c.loop-place.invariant (omega arith) c.if-file-place.false (sym c.in_ok-member.ensures.said)
+    c.in_ok-member.ensures.part c.next_multiple_of-place.ensures.value
     (omega (arith, c.next_multiple_of-place.ensures.lower_bound, c.in_ok-member.ensures.part.some)))

@@ -11,7 +11,9 @@ pub returns-in_err-frame-clause-said : goal.returns-in_err-frame-clause-said
 returns-in_err-frame-clause-said c =
     let file = c.args.file.now in
     let p = err_from_is_err_and c.from_residual.result c.from_residual.ensures.1 in
-    rw (p.1, p.2) (no_member file c.args.place _ (module_fault file c.args.place c.loop-frame.end _ _ _ c.loop-frame.invariant (sym c.in_err-frame.ensures.said)))
+    rw (p.1, p.2)
+    (no_member file c.args.place _
+    (module_fault file c.args.place c.loop-frame.end _ _ _ c.loop-frame.invariant (sym c.in_err-frame.ensures.said)))
 
 pub returns-then-ends_module-clause-said : goal.returns-then-ends_module-clause-said
 returns-then-ends_module-clause-said c =
@@ -20,7 +22,10 @@ returns-then-ends_module-clause-said c =
     let end = c.loop-frame.end in
     let next = end + (length frame.body.now + 4) in
     let here : next ≡ frame.place + (length frame.body.now + 4) = omega (arith, c.in_ok-frame.ensures.place) in
-    let told = module_done file c.args.place end next _ _ _ _ _ _ (plain_frame frame) c.loop-frame.invariant c.in_ok-frame.ensures.said
+    let told =
+    module_done file c.args.place end next _ _ _ _ _ _ (plain_frame frame) c.loop-frame.invariant
+    c.in_ok-frame.ensures.said
     (sym c.ends_module.ensures ∙ c.if-ends_module.true) here c.in_ok-frame.ensures.within (omega arith)
     c.or-header.ensures c.header_name.ensures c.or-comment.ensures c.comment_text.ensures in
-    member_is file c.args.place next _ _ (slice_range file c.args.place next) c.name_of.result.now told refl c.name_of.ensures
+    member_is file c.args.place next _ _ (slice_range file c.args.place next) c.name_of.result.now told refl
+    c.name_of.ensures

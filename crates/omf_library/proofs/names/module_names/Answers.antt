@@ -10,15 +10,18 @@ loop-frame-init g c =
 
 pub returns-in_default-clause-wanted : goal.returns-in_default-clause-wanted
 returns-in_default-clause-wanted g c =
-    (names_stop c.args.bytes.now c.loop-frame.place _ _ _ _ _ c.record_at.result c.loop-frame.invariant c.record_at.ensures.said (λ f e. c.in_default.not-Ok f e)).all_wanted
+    (names_stop c.args.bytes.now c.loop-frame.place _ _ _ _ _ c.record_at.result c.loop-frame.invariant
+    c.record_at.ensures.said (λ f e. c.in_default.not-Ok f e)).all_wanted
 
 pub returns-in_default-clause-offered : goal.returns-in_default-clause-offered
 returns-in_default-clause-offered g c =
-    (names_stop c.args.bytes.now c.loop-frame.place _ _ _ _ _ c.record_at.result c.loop-frame.invariant c.record_at.ensures.said (λ f e. c.in_default.not-Ok f e)).all_offered
+    (names_stop c.args.bytes.now c.loop-frame.place _ _ _ _ _ c.record_at.result c.loop-frame.invariant
+    c.record_at.ensures.said (λ f e. c.in_default.not-Ok f e)).all_offered
 
 pub returns-in_default-clause-libraries : goal.returns-in_default-clause-libraries
 returns-in_default-clause-libraries g c =
-    (names_stop c.args.bytes.now c.loop-frame.place _ _ _ _ _ c.record_at.result c.loop-frame.invariant c.record_at.ensures.said (λ f e. c.in_default.not-Ok f e)).all_libraries
+    (names_stop c.args.bytes.now c.loop-frame.place _ _ _ _ _ c.record_at.result c.loop-frame.invariant
+    c.record_at.ensures.said (λ f e. c.in_default.not-Ok f e)).all_libraries
 
 pub loop-frame-preserved : goal.loop-frame-preserved
 loop-frame-preserved g c =
@@ -26,8 +29,10 @@ loop-frame-preserved g c =
     let place = c.loop-frame.place in
     let next = place + (length frame.body.now + 4) in
     let here : next ≡ frame.place + (length frame.body.now + 4) = omega (arith, c.in-Ok.ensures.place) in
-    names_step c.args.bytes.now place next c.loop-frame.listed.items c.loop-frame.said.wanted.items c.loop-frame.said.offered.items c.loop-frame.said.libraries.items
-    _ _ _ _ c.loop-frame.said.dosseg _ (plain_frame frame) c.loop-frame.invariant c.in-Ok.ensures.said (sym c.ends_module.ensures ∙ c.if-ends_module.false)
+    names_step c.args.bytes.now place next c.loop-frame.listed.items c.loop-frame.said.wanted.items
+    c.loop-frame.said.offered.items c.loop-frame.said.libraries.items
+    _ _ _ _ c.loop-frame.said.dosseg _ (plain_frame frame) c.loop-frame.invariant c.in-Ok.ensures.said
+    (sym c.ends_module.ensures ∙ c.if-ends_module.false)
     here c.in-Ok.ensures.within (omega arith) (record {
       listed_more = c.in_ok-push_listed.ensures;
       wanted_more = rw c.deref.ensures.value at c.in_ok-push_wanted.ensures;

@@ -7,7 +7,8 @@ returns-then-is_empty c = sym (decimal-none c.args.digits.now (search rules))
 
 pub returns-then-not-is_ascii_digit : goal.returns-then-not-is_ascii_digit
 returns-then-not-is_ascii_digit c =
-    sym (digits_stop c.loop-digit.number c.args.digits.now c.loop-digit.digit-index (search rules) (search rules) c.loop-digit.invariant.1)
+    sym (digits_stop c.loop-digit.number c.args.digits.now c.loop-digit.digit-index (search rules) (search rules)
+    c.loop-digit.invariant.1)
 
 pub overflow_mul-number : goal.overflow_mul-number
 overflow_mul-number c =
@@ -22,4 +23,5 @@ overflow_add-number c =
 
 pub returns : goal.returns
 returns c =
-    sym (digits_all c.loop-digit.number c.args.digits.now c.loop-digit.digit-index (search rules) (search rules) c.loop-digit.invariant.1)
+    sym (digits_all c.loop-digit.number c.args.digits.now c.loop-digit.digit-index (search rules) (search rules)
+    c.loop-digit.invariant.1)

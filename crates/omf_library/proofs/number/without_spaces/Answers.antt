@@ -9,8 +9,11 @@ pub loop-len-preserved : goal.loop-len-preserved
 loop-len-preserved c =
     let bytes = c.args.bytes.now in
     let len = c.loop-len.len in
-    let last : get_or bytes (len - 1) 0 ≡ 32 = omega arith in
-    (spaces_less bytes len (omega arith) c.loop-len.invariant.1 last ∙ c.loop-len.invariant.0, omega (arith, c.loop-len.invariant.1))
+    let last : get_or bytes (len - 1) 0 ≡ 32 = omega arith in (
+      spaces_less bytes len (omega arith) c.loop-len.invariant.1 last
+          ∙ c.loop-len.invariant.0,
+      omega (arith, c.loop-len.invariant.1),
+    )
 
 pub returns-then-bytes-len-ne32-clause-value : goal.returns-then-bytes-len-ne32-clause-value
 returns-then-bytes-len-ne32-clause-value c =

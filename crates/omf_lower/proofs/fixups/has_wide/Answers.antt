@@ -8,5 +8,6 @@ loop-is_wide-init c = any_first (subrecord_front c.args.width) c.args.bytes.now
 
 pub loop-is_wide-preserved : goal.loop-is_wide-preserved
 loop-is_wide-preserved c =
-    any_more (subrecord_front c.args.width) c.args.bytes.now c.loop-is_wide.rest.now c.in-Some.after.now c.in-Some.is_wide
+    any_more (subrecord_front c.args.width) c.args.bytes.now c.loop-is_wide.rest.now c.in-Some.after.now
+    c.in-Some.is_wide
     c.loop-is_wide.invariant c.in-Some.ensures.shorter (sym c.in-Some.ensures.said) c.if-is_wide.false

@@ -5,7 +5,8 @@ use Rattle.omf_lower.specs.Module.{lowered}
 use Rattle.omf_lower.specs.Seen.{Seen, nothing_seen, seen_after}
 use Rattle.omf_lower.specs.inside.Drafts.{Draft, draft_view, Extends}
 use Rattle.omf_lower.specs.inside.Views.{seen_view}
-use Rattle.omf_lower.proofs.Walking.{LoweringLeft, lowering_first, lowering_stop, lowering_last, lowering_more, answers-whole}
+use Rattle.omf_lower.proofs.Walking.{LoweringLeft, lowering_first, lowering_stop, lowering_last, lowering_more}
+use Rattle.omf_lower.proofs.Walking.{answers-whole}
 use Rattle.omf_lower.proofs.lowering.lower.Goals as goal
 
 pub loop-frame-init : goal.loop-frame-init
@@ -19,7 +20,8 @@ pub returns-in_default : goal.returns-in_default
 returns-in_default g c =
     let d = draft_view c.loop-frame.draft in
     answers-whole c.args.module.now (lowered c.args.lowering c.args.module.now) d c.in_ok-finish.field-0
-    (lowering_stop c.args.lowering c.args.module.now c.loop-frame.place c.loop-frame.number (seen_view c.loop-frame.seen) d c.record_at.result
+    (lowering_stop c.args.lowering c.args.module.now c.loop-frame.place c.loop-frame.number
+    (seen_view c.loop-frame.seen) d c.record_at.result
     c.loop-frame.invariant c.record_at.ensures.said (λ f e. c.in_default.not-Ok f e))
     c.in_ok-finish.ensures
 
@@ -32,7 +34,8 @@ returns-then-ends_module g c =
     let new = draft_view c.put_lowered.new.self in
     let goes = c.in_ok-put_lowered.ensures in
     let at : f.place ≡ place = c.in-Ok.ensures.place in
-    let extends : Extends m d new place (place_behind f) goes.0 = subst (λ n. Extends m d new n (place_behind f) goes.0) at goes.2 in
+    let extends : Extends m d new place (place_behind f) goes.0 =
+    subst (λ n. Extends m d new n (place_behind f) goes.0) at goes.2 in
     answers-whole m (lowered c.args.lowering m) new c.in_ok-finish-2.field-0
     (lowering_last c.args.lowering m place c.loop-frame.number (seen_view c.loop-frame.seen) d new f goes.0
     c.loop-frame.invariant (sym c.in-Ok.ensures.said) (sym c.ends_module.ensures ∙ c.if-ends_module.true) goes.1 extends
@@ -51,10 +54,12 @@ loop-frame-preserved g c =
     let new = draft_view c.put_lowered.new.self in
     let goes = c.in_ok-put_lowered.ensures in
     let at : f.place ≡ place = c.in-Ok.ensures.place in
-    let extends : Extends m d new place (place_behind f) goes.0 = subst (λ n. Extends m d new n (place_behind f) goes.0) at goes.2 in
+    let extends : Extends m d new place (place_behind f) goes.0 =
+    subst (λ n. Extends m d new n (place_behind f) goes.0) at goes.2 in
     let here : place_behind f ≡ place + (length f.body + 4) = omega (arith, at) in
     let left = lowering_more l m place number seen d new f goes.0
-    c.loop-frame.invariant (sym c.in-Ok.ensures.said) (sym c.ends_module.ensures ∙ c.if-ends_module.false) goes.1 extends
+    c.loop-frame.invariant (sym c.in-Ok.ensures.said) (sym c.ends_module.ensures ∙ c.if-ends_module.false) goes.1
+    extends
     (omega (arith, at)) (omega (arith, at, c.in-Ok.ensures.within)) in
     subst (λ (s : Seen). LoweringLeft l m (place + (length f.body + 4)) (number + 1) s new) (sym c.in_ok-note.ensures)
     (subst (λ n. LoweringLeft l m n (number + 1) (seen_after l seen f) new) here left)

@@ -12,4 +12,6 @@ returns-in_default g c =
     let d : f.kind ≢ 0x9C = omega arith in
     let e : f.kind ≢ 0x9D = omega arith in
     let told = rw c.deref-in_default.ensures.value at c.for_other.ensures in
-    told ∙ sym (other-recipe c.args.lowering (seen_view c.args.seen.now) f (sym c.is_data.ensures ∙ c.if-is_data.false) a b d e)
+    told
+    ∙ sym
+    (other-recipe c.args.lowering (seen_view c.args.seen.now) f (sym c.is_data.ensures ∙ c.if-is_data.false) a b d e)

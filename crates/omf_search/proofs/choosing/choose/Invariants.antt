@@ -15,8 +15,11 @@ invariant-loop-next g l =
     record {
       taken : IsTaken l.fn.names ms l.taken;
       settled : find (takes l.fn.names bs ms) (take l.next (wanted_names ms)) ≡ None;
-      chosen : (cs : List Choice) → Chooses l.fn.names bs ms cs → Chooses l.fn.names bs (map module_said l.modules) (map choice_said l.choices.items ++ cs);
+      chosen : (cs : List Choice) → Chooses l.fn.names bs ms cs
+          → Chooses l.fn.names bs (map module_said l.modules) (map choice_said l.choices.items ++ cs);
     }
 
 abbrev pub decreases-loop-next : goal.decreases-loop-next
-decreases-loop-next g l = (length l.taken.wanted.items - l.next) + slack l.fn.names (with_chosen (map module_said l.modules) l.choices.items) (map member_said l.members)
+decreases-loop-next g l =
+    (length l.taken.wanted.items - l.next)
+    + slack l.fn.names (with_chosen (map module_said l.modules) l.choices.items) (map member_said l.members)

@@ -6,4 +6,5 @@ use Rattle.omf_search.proofs.likeness.likes.Given as goal
 
 abbrev pub invariant-loop-name : goal.invariant-loop-name
 invariant-loop-name g l = map (option_map offered_said) l.likes.items ≡
-    map (first_like (map module_said l.fn.modules) (map member_said l.fn.members)) (bytes_of (take l.name-index l.asked))
+    map (first_like (map module_said l.fn.modules) (map member_said l.fn.members))
+    (bytes_of (take l.name-index l.asked))

@@ -9,4 +9,6 @@ use Rattle.omf_search.proofs.offers.add_member.Given as goal
 
 abbrev pub invariant-loop-name : goal.invariant-loop-name
 invariant-loop-name g l = (q : Bor (List ℕ)) → offering l.fn.names l.offers q ≡
-    option_or (offering l.fn.names l.initial.offers q) (cond (list_any (agrees l.fn.names q.now) (bytes_of (take l.name-index l.member.says.offered.now))) (Some (member_said l.member)) None)
+    option_or (offering l.fn.names l.initial.offers q)
+    (cond (list_any (agrees l.fn.names q.now) (bytes_of (take l.name-index l.member.says.offered.now)))
+    (Some (member_said l.member)) None)

@@ -4,5 +4,6 @@ use Rattle.omf_search.proofs.offers.index_offers.Goals as goal
 
 pub loop-member-preserved : goal.loop-member-preserved
 loop-member-preserved g c = λ q.
-    member-turn c.args.names q.now c.args.members.now c.loop-member.member-index _ (offering c.args.names c.loop-member.offers q) (offering c.args.names c.add_member.new.offers q)
+    member-turn c.args.names q.now c.args.members.now c.loop-member.member-index _
+    (offering c.args.names c.loop-member.offers q) (offering c.args.names c.add_member.new.offers q)
     c.loop-member-test.true (c.loop-member.invariant q) (c.in_ok-add_member.ensures q)

@@ -6,4 +6,6 @@ use Rattle.omf_search.specs.Search.{first_offering}
 use Rattle.omf_search.proofs.offers.index_offers.Given as goal
 
 abbrev pub invariant-loop-member : goal.invariant-loop-member
-invariant-loop-member g l = (q : Bor (List ℕ)) → offering l.fn.names l.offers q ≡ first_offering l.fn.names (map member_said (take l.member-index l.members)) q.now
+invariant-loop-member g l =
+    (q : Bor (List ℕ))
+    → offering l.fn.names l.offers q ≡ first_offering l.fn.names (map member_said (take l.member-index l.members)) q.now

@@ -4,4 +4,5 @@ use Rattle.omf_search.proofs.taken.push_wanted.Given as goal
 
 abbrev pub invariant-loop-name : goal.invariant-loop-name
 invariant-loop-name g l = map wanted_said l.wanted.items ≡
-    map wanted_said l.initial.wanted.items ++ map (λ n. record { name = n; wanted_by = l.index }) (bytes_of (take l.name-index l.names))
+    map wanted_said l.initial.wanted.items
+    ++ map (λ n. record { name = n; wanted_by = l.index }) (bytes_of (take l.name-index l.names))

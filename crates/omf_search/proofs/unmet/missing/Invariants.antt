@@ -11,8 +11,11 @@ use Rattle.omf_search.proofs.unmet.missing.Given as goal
 
 abbrev pub invariant-loop-wanted : goal.invariant-loop-wanted
 invariant-loop-wanted g l =
-    let left = unoffered l.fn.names (map module_said l.fn.modules) (take l.wanted-index (map wanted_said l.wanted-items)) in
+    let left =
+    unoffered l.fn.names (map module_said l.fn.modules) (take l.wanted-index (map wanted_said l.wanted-items)) in
     record {
       found : map wanted_said l.missing.items ≡ distinct l.fn.names left;
-      met : (q : Bor (List ℕ)) (m : ℕ) → contains same_wanted l.met (record { wanted_by = m; key = key_of l.fn.names q }) ≡ list_any (is_same l.fn.names (record { name = q.now; wanted_by = m })) left;
+      met : (q : Bor (List ℕ)) (m : ℕ)
+          → contains same_wanted l.met (record { wanted_by = m; key = key_of l.fn.names q })
+          ≡ list_any (is_same l.fn.names (record { name = q.now; wanted_by = m })) left;
     }

@@ -40,5 +40,8 @@ returns g c =
     let k = content_view c.in-Ok-Some.content in (
       frame k.kind k.body,
       bytes-written c.args.number m f k _ (rw c.in-Ok-Some.field-0-is at c.in-Ok-Some.ensures) (omega arith),
-      subst (λ n. Extends m (draft_view c.args.self.now) (draft_view c.put.new.self) n (n + (length f.body + 4)) (frame k.kind k.body)) (sym c.requires.place) c.in_ok-put.ensures,
+      subst
+          (λ n.
+          Extends m (draft_view c.args.self.now) (draft_view c.put.new.self) n (n + (length f.body + 4))
+          (frame k.kind k.body)) (sym c.requires.place) c.in_ok-put.ensures,
     )

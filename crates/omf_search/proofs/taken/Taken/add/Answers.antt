@@ -12,6 +12,11 @@ returns g c =
     let m = module_said c.args.says in
     OnOk-map c.insert_offered.result _ _
     (λ offered. λ ms len was. record {
-      wanted = c.in_ok-push_wanted.ensures ∙ ap (λ ws. ws ++ wanted_of (c.args.index, m)) was.wanted ∙ ap (λ n. wanted_names ms ++ wanted_of (n, m)) (sym len) ∙ sym (wanted_names-push ms m);
-      offered = λ q. offered q ∙ ap (λ b. b || list_any (agrees c.args.names q.now) m.offered) (was.offered q) ∙ sym (is_offered-push c.args.names ms m q.now);
+      wanted =
+          c.in_ok-push_wanted.ensures ∙ ap (λ ws. ws ++ wanted_of (c.args.index, m)) was.wanted
+          ∙ ap (λ n. wanted_names ms ++ wanted_of (n, m)) (sym len) ∙ sym (wanted_names-push ms m);
+      offered =
+          λ q.
+          offered q ∙ ap (λ b. b || list_any (agrees c.args.names q.now) m.offered) (was.offered q)
+          ∙ sym (is_offered-push c.args.names ms m q.now);
     }) c.insert_offered.ensures

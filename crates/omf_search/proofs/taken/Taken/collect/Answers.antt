@@ -6,5 +6,7 @@ use Rattle.omf_search.proofs.taken.Taken.collect.Goals as goal
 
 pub loop-index-preserved : goal.loop-index-preserved
 loop-index-preserved g c =
-    subst (λ ms. IsTaken c.args.names ms c.add.new.self) (sym (map_more module_said c.args.modules.now c.loop-index.index _ c.loop-index-test.true))
-    (c.in_ok-add.ensures (map module_said (take c.loop-index.index c.args.modules.now)) (length_front module_said c.args.modules.now c.loop-index.index c.loop-index-test.true) c.loop-index.invariant)
+    subst (λ ms. IsTaken c.args.names ms c.add.new.self)
+    (sym (map_more module_said c.args.modules.now c.loop-index.index _ c.loop-index-test.true))
+    (c.in_ok-add.ensures (map module_said (take c.loop-index.index c.args.modules.now))
+    (length_front module_said c.args.modules.now c.loop-index.index c.loop-index-test.true) c.loop-index.invariant)
