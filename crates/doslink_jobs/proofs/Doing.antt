@@ -9,14 +9,16 @@ use Rattle.doslink_words.specs.declared.job.Job.{Job}
 use Rattle.doslink_words.specs.Said.{SaidOrder, order_of}
 use Rattle.doslink_words.specs.Tokens.{texts}
 use Rattle.omf_commands.specs.Outcome.{IsFaultless}
+use Rattle.omf_communal.specs.Deciding.{Variable}
 use Rattle.doslink_jobs.specs.declared.inputs.Inputs.{Inputs}
 use Rattle.doslink_jobs.specs.declared.stop.Stop.{Stop}
 use Rattle.doslink_jobs.specs.declared.stop.Stop.TheVariants.{Input, Words, Device, Memory}
 use Rattle.doslink_stock.specs.Files.{Held, members, objects}
 use Rattle.doslink_stock.specs.Search.{Takes}
 use Rattle.doslink_jobs.specs.Jobs.{AreDefaults, EndsWith, IsDone, IsLinkOf, IsLinked, TakesOf, names_of}
+use Rattle.doslink_jobs.specs.Communals.{AreVariablesOf, offering}
 use Rattle.doslink_jobs.specs.inside.Adding.{AddsDefaults, AreGiven}
-use Rattle.doslink_jobs.specs.inside.Inputs.{AreInputsFor, IsLinkedStock, input_list, lowered_bytes}
+use Rattle.doslink_jobs.specs.inside.Inputs.{AreInputsFor, IsLinkedStock, input_list, lowered_bytes, module_list}
 use Rattle.doslink_jobs.specs.inside.Stops.{status_of}
 use Rattle.omf_search.specs.Said.{Module, Wanted}
 use Rattle.doslink_telling.specs.Missing.{unmet}
@@ -38,19 +40,24 @@ some-map f P None some = tt
 some-map f P (Some x) some = some
 
 -- a link was done of these inputs for the modules that it takes
-pub of-inputs : (A : Type 0) (job : Job) (os ms handed : List Held) (inputs : Inputs A)
-    → Takes (names_of job.ignore_case) os ms handed → unmet (names_of job.ignore_case) (map (λ m. m.says) handed) ≡ []
-    → AreInputsFor job handed inputs
+pub of-inputs : (A : Type 0) (job : Job) (os ms handed : List Held) (vs : List Variable) (inputs : Inputs A)
+    → Takes (names_of job.ignore_case) os ms handed → AreVariablesOf (names_of job.ignore_case) handed vs
+    → unmet (names_of job.ignore_case) (map (λ m. m.says) handed ++ offering vs ∷ []) ≡ []
+    → AreInputsFor job handed vs inputs
     → IsFaultless A (names_of job.ignore_case) (input_list inputs) → IsLinkedStock A job os ms
-of-inputs A job os ms handed inputs takes met are faultless = record {
+of-inputs A job os ms handed vs inputs takes variables met are faultless = record {
   modules = handed;
+  variables = vs;
   inputs = map lowered_bytes inputs.modules.items;
+  communal = option_map (λ v. v.items) inputs.communal;
   order = option_map (λ v. v.items) inputs.order;
   taken = takes;
+  are_variables = variables;
   met = met;
   lowered = are.lowered;
+  placed = are.placed;
   ordered = some-map (λ v. v.items) (IsOrderModule (names_of job.ignore_case) (list_any (λ m. m.dosseg) handed)
-      (order_of job.order) (map lowered_bytes inputs.modules.items)) inputs.order are.ordered;
+      (order_of job.order) (module_list inputs.modules.items inputs.communal)) inputs.order are.ordered;
   faultless = faultless;
 }
 
@@ -59,11 +66,15 @@ pub of-files : (A : Type 0) (job : Job) (files : List (List ℕ)) (os ms : List 
     → members files ≡ Ok ms → IsLinkedStock A job os ms → IsLinked A job files
 of-files A job files os ms first second linked = record {
   modules = linked.modules;
+  variables = linked.variables;
   inputs = linked.inputs;
+  communal = linked.communal;
   order = linked.order;
   taken = (ms, second, subst (λ o. Takes (names_of job.ignore_case) o ms linked.modules) first linked.taken);
+  are_variables = linked.are_variables;
   met = linked.met;
   lowered = linked.lowered;
+  placed = linked.placed;
   ordered = linked.ordered;
   faultless = linked.faultless;
 }

@@ -1,4 +1,6 @@
 pub mod Adding
+pub mod Bss
+pub mod Declaring
 pub mod Doing
 pub mod Failures
 pub mod Lists

@@ -1,6 +1,6 @@
 -- What a job has done where it ends well, and how a run ends. `told` are the bytes of files by their paths, where the
 -- world tells them.
-use Rattle.std.specs.Prelude.{◌≡◌, ◌⊎◌, ℕ, Bool, true, false, All, List, [], ◌++◌, map, IfSome, Ok, if◌then◌else◌}
+use Rattle.std.specs.Prelude.{◌≡◌, ◌⊎◌, ℕ, Bool, true, false, All, List, [], ◌∷◌, ◌++◌, map, IfSome, Ok, if◌then◌else◌}
 use Rattle.std.specs.declared.option.Option.{Option}
 use Rattle.std.specs.declared.result.Result.{Result}
 use Rattle.std.specs.List.{list_any}
@@ -11,6 +11,7 @@ use Rattle.omf_frame.specs.Device.{Writes}
 use Rattle.omf_place.specs.declared.names.Names.{Names}
 use Rattle.omf_place.specs.declared.names.Names.TheVariants.{AsciiFolded, Exact}
 use Rattle.omf_commands.specs.Outcome.{IsFaultless}
+use Rattle.omf_communal.specs.Deciding.{Variable}
 use Rattle.omf_lower.specs.declared.lowering.Lowering.{Lowering}
 use Rattle.omf_lower.specs.Module.{lowered}
 use Rattle.doslink_words.specs.declared.job.Job.{Job}
@@ -19,6 +20,7 @@ use Rattle.doslink_words.specs.Tokens.{texts}
 use Rattle.doslink_stock.specs.Search.{Takes}
 use Rattle.doslink_stock.specs.Files.{Held, members, objects}
 use Rattle.doslink_telling.specs.Missing.{unmet}
+use Rattle.doslink_jobs.specs.Communals.{AreVariablesOf, IsCommunalModule, offering}
 use Rattle.doslink_jobs.specs.Orders.{IsOrderModule}
 use Rattle.doslink_files.specs.Files.{AreFound, AreTold, IsFound}
 
@@ -47,18 +49,23 @@ abbrev pub AreLoweredFor : Job → (modules inputs : List (List ℕ)) → Type 0
 AreLoweredFor job modules inputs =
     (lowering : Lowering) × IsLoweringFor job lowering × AreLowered lowering modules inputs
 
--- A link was done of the modules that it takes: none of their names is missing, and lowered, behind the order module
--- where there is one, they have no fault.
+-- A link was done of the modules that it takes: none of their names is missing, those of their communal variables being
+-- offered too, and lowered, with the module of these variables behind them and the order module in front of all, where
+-- there are these, they have no fault.
 pub record IsLinkOf (A : Type 0) (job : Job) (takes : List Held → Type 0) : Type 0 where
   pub modules : List Held
+  pub variables : List Variable
   pub inputs : List (List ℕ)
+  pub communal : Option (List ℕ)
   pub order : Option (List ℕ)
   pub taken : takes modules
-  pub met : unmet (names_of job.ignore_case) (map (λ m. m.says) modules) ≡ []
+  pub are_variables : AreVariablesOf (names_of job.ignore_case) modules variables
+  pub met : unmet (names_of job.ignore_case) (map (λ m. m.says) modules ++ offering variables ∷ []) ≡ []
   pub lowered : AreLoweredFor job (map (λ m. m.bytes) modules) inputs
+  pub placed : IsCommunalModule inputs variables communal
   pub ordered : IfSome order (IsOrderModule (names_of job.ignore_case) (list_any (λ m. m.dosseg) modules)
-      (order_of job.order) inputs)
-  pub faultless : IsFaultless A (names_of job.ignore_case) (option_to_list order ++ inputs)
+      (order_of job.order) (inputs ++ option_to_list communal))
+  pub faultless : IsFaultless A (names_of job.ignore_case) (option_to_list order ++ (inputs ++ option_to_list communal))
 
 -- the same of the modules of files
 abbrev pub IsLinked : (A : Type 0) → Job → (files : List (List ℕ)) → Type 0

@@ -1,3 +1,4 @@
+pub mod Communals
 pub mod Jobs
 pub mod Orders
 pub mod Runs

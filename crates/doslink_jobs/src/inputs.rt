@@ -1,14 +1,15 @@
 //! The modules of a link, as they are handed to it.
 ghost use Rattle.std.specs.Prelude.{◌≡◌, IfOk, IfSome, map};
 ghost use Rattle.std.specs.List.{list_any};
-ghost use Rattle.std.specs.Option.{option_map, option_to_list};
+ghost use Rattle.omf_communal.specs.Deciding.{variable_said};
 ghost use Rattle.doslink_link.specs.Linking.{bytes_of};
 ghost use Rattle.doslink_stock.specs.Seen.{handed_held};
 ghost use Rattle.doslink_words.specs.Said as said;
 ghost use Rattle.doslink_jobs.specs.Jobs.{names_of};
 ghost use Rattle.doslink_jobs.specs.Orders.{IsOrderModule};
-ghost use Rattle.doslink_jobs.specs.inside.Inputs.{AreInputsFor, input_list, lowered_bytes};
+ghost use Rattle.doslink_jobs.specs.inside.Inputs.{AreInputsFor, input_list, made_bytes, module_list};
 
+use crate::communals::communal_bytes;
 use crate::lowering::{LoweredModule, lower_for, lowered_slices};
 use crate::ordering::{Asked, order_bytes};
 use crate::stop::Stop;
@@ -17,12 +18,16 @@ use doslink_stock::Handed;
 use doslink_telling::push_order_line;
 use doslink_words::Job;
 use omf_commands::Options;
+use omf_communal::Variable;
 use omf_order::OrderFault;
 use omf_text::LinkFault;
 use std::alloc::{AllocError, Allocator};
 
 /// The word for the order module in a fault's line and in a map.
 const ORDER_MODULE: &[u8] = b"order";
+
+/// The word for the module of the communal variables.
+const COMMUNAL_MODULE: &[u8] = b"communal";
 
 /// How a job takes names.
 pub(crate) fn options_of(job: &Job<'_>) -> Options
@@ -42,23 +47,39 @@ pub(crate) struct Inputs<'a, A: Allocator + Copy> {
     pub order: Option<Vec<u8, A>>,
     /// The modules that are taken, in their order.
     pub modules: Vec<LoweredModule<'a, A>, A>,
+    /// The module of their communal variables, where there are any.
+    pub communal: Option<Vec<u8, A>>,
 }
 
-/// The bytes of the order module, where there is one.
-fn order_slices<'m, A: Allocator + Copy>(
+/// The bytes of a module that is made, where it is needed.
+fn made_slices<'m, A: Allocator + Copy>(
     alloc: A,
-    order: &'m Option<Vec<u8, A>>,
+    made: &'m Option<Vec<u8, A>>,
 ) -> Result<Vec<&'m [u8], A>, AllocError>
-    ensures { IfOk result (λ v. bytes_of v.items ≡ option_to_list (option_map (λ b. b.items) order.now)) }
+    ensures { IfOk result (λ v. bytes_of v.items ≡ made_bytes made.now) }
 {
     let mut slices = Vec::new(alloc);
-    match order {
-        Some(order) => {
-            slices.push(order.as_slice())?;
+    match made {
+        Some(made) => {
+            slices.push(made.as_slice())?;
             Ok(slices)
         }
         None => Ok(slices),
     }
+}
+
+/// The bytes of lowered modules, and of the module of communal variables behind them.
+fn module_slices<'m, A: Allocator + Copy>(
+    alloc: A,
+    modules: &'m [LoweredModule<'_, A>],
+    communal: &'m Option<Vec<u8, A>>,
+) -> Result<Vec<&'m [u8], A>, AllocError>
+    ensures { IfOk result (λ v. bytes_of v.items ≡ module_list modules.now communal.now) }
+{
+    let mut slices = lowered_slices(alloc, modules)?;
+    let made = made_slices(alloc, communal)?;
+    slices.extend_from_slice(&made)?;
+    Ok(slices)
 }
 
 /// The bytes of all that is linked.
@@ -68,8 +89,8 @@ pub(crate) fn input_slices<'m, A: Allocator + Copy>(
 ) -> Result<Vec<&'m [u8], A>, AllocError>
     ensures { IfOk result (λ v. bytes_of v.items ≡ input_list inputs.now) }
 {
-    let mut slices = order_slices(alloc, &inputs.order)?;
-    let modules = lowered_slices(alloc, &inputs.modules)?;
+    let mut slices = made_slices(alloc, &inputs.order)?;
+    let modules = module_slices(alloc, &inputs.modules, &inputs.communal)?;
     slices.extend_from_slice(&modules)?;
     Ok(slices)
 }
@@ -87,10 +108,13 @@ pub(crate) fn input_words<'w, A: Allocator + Copy>(
     for word in words {
         all.push(word.as_slice())?;
     }
+    if inputs.communal.is_some() {
+        all.push(COMMUNAL_MODULE)?;
+    }
     Ok(all)
 }
 
-/// The module that is the input with this index; none where that is the order module.
+/// The module that is the input with this index; none where that is one that is made.
 fn module_at<'m, 'a, A: Allocator + Copy>(
     inputs: &'m Inputs<'a, A>,
     input: usize,
@@ -127,17 +151,18 @@ pub(crate) fn in_own_bytes<A: Allocator + Copy>(
     }
 }
 
-/// The order module for lowered modules, where one is needed.
+/// The order module for lowered modules and the module of their communal variables, where one is needed.
 fn order_of<A: Allocator + Copy>(
     alloc: A,
     modules: &[LoweredModule<'_, A>],
+    communal: &Option<Vec<u8, A>>,
     asked: &Asked<'_, '_>,
     lines: &mut Vec<u8, A>,
 ) -> Result<Option<Vec<u8, A>>, Stop>
     ensures { IfOk result (λ o. IfSome o (λ bytes. IsOrderModule asked.now.names asked.now.dosseg
-        (said.order_of asked.now.order.now) (map lowered_bytes modules.now) bytes.items)) }
+        (said.order_of asked.now.order.now) (module_list modules.now communal.now) bytes.items)) }
 {
-    let slices = lowered_slices(alloc, modules)?;
+    let slices = module_slices(alloc, modules, communal)?;
     match order_bytes(alloc, &slices, asked) {
         Ok(order) => Ok(order),
         Err(OrderFault::Memory) => Err(Stop::Memory),
@@ -155,23 +180,31 @@ fn asks_dosseg<A: Allocator + Copy>(handed: &[Handed<'_, '_, A>]) -> bool
     handed.iter().any(|each| each.entry.says.dosseg)
 }
 
-/// The modules of a link as they are handed to it: those that it takes, lowered, and the order module in front of them.
+/// The modules of a link as they are handed to it: those that it takes, lowered, the module of their communal variables
+/// behind them, and the order module in front of all.
 pub(crate) fn inputs_of<'a, A: Allocator + Copy>(
     alloc: A,
     job: &Job<'_>,
     taken: &Taken<'_, '_, 'a, A>,
+    variables: &[Variable<'_>],
     marks: bool,
     lines: &mut Vec<u8, A>,
 ) -> Result<Inputs<'a, A>, Stop>
-    ensures { IfOk result (λ inputs. AreInputsFor job.now (map handed_held taken.now.handed.now) inputs) }
+    ensures { IfOk result (λ inputs. AreInputsFor job.now (map handed_held taken.now.handed.now)
+        (map variable_said variables.now) inputs) }
 {
     let modules = lower_for(alloc, job, taken, lines)?;
+    let communal = communal_bytes(alloc, &modules, taken, variables, lines)?;
     let asked = Asked {
         order: &job.order,
         dosseg: asks_dosseg(taken.handed),
         marks,
         names: options_of(job).names,
     };
-    let order = order_of(alloc, &modules, &asked, lines)?;
-    Ok(Inputs { order, modules })
+    let order = order_of(alloc, &modules, &communal, &asked, lines)?;
+    Ok(Inputs {
+        order,
+        modules,
+        communal,
+    })
 }

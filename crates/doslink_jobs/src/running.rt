@@ -10,6 +10,7 @@ ghost use Rattle.doslink_jobs.specs.inside.Inputs.{IsLinkedStock};
 ghost use Rattle.doslink_jobs.specs.inside.Stops as stops;
 ghost use Rattle.doslink_jobs.specs.inside.Stops.{told_text};
 
+use crate::communals::variables_of;
 use crate::defaults::{add_default_libraries, slices_of};
 use crate::inputs::{inputs_of, options_of};
 use crate::linking::write_program;
@@ -52,8 +53,9 @@ fn link_stock<W: World + Copy, O: Write + Drop, A: Allocator + Copy>(
     if job.verbose {
         tell_taken(alloc, output, &taken, lines)?;
     }
-    let marks = check_names(alloc, names, files, stock, handed, lines)?;
-    let inputs = inputs_of(alloc, job, &taken, marks, lines)?;
+    let variables = variables_of(alloc, names, &taken, lines)?;
+    let marks = check_names(alloc, names, files, stock, handed, &variables, lines)?;
+    let inputs = inputs_of(alloc, job, &taken, &variables, marks, lines)?;
     write_program(alloc, world, job, &places, &taken, &inputs, lines)
 }
 

@@ -1,16 +1,21 @@
 //! The modules that a link takes: told, and looked through for names that are missing.
-ghost use Rattle.std.specs.Prelude.{◌≡◌, [], OnOk, map};
+ghost use Rattle.std.specs.Prelude.{◌≡◌, [], ◌∷◌, ◌++◌, OnOk, map};
+ghost use Rattle.omf_communal.specs.Deciding.{variable_said};
 ghost use Rattle.doslink_stock.specs.Seen.{handed_held};
 ghost use Rattle.doslink_telling.specs.Missing.{unmet};
+ghost use Rattle.doslink_jobs.specs.Communals.{offering};
 ghost use Rattle.omf_files.specs.Files.{sink_failures};
 
+use crate::communals::variable_names;
 use crate::stop::Stop;
 use doslink_files::InputFile;
 use doslink_stock::{Handed, Stock};
 use doslink_telling::{handed_saids, handed_text, push_fault, push_missing_lines, unmet_names};
+use omf_communal::Variable;
 use omf_files::BufferedSink;
 use omf_frame::{IoFault, put_all};
 use omf_place::Names;
+use omf_search::Said;
 use omf_text::LinkFault;
 use std::alloc::Allocator;
 use std::io::Write;
@@ -55,18 +60,26 @@ pub(crate) fn tell_taken<O: Write + Drop, A: Allocator + Copy>(
     Ok(())
 }
 
-/// Tells the names that are missing, and stops; else hands out whether marks are wanted.
+/// Tells the names that are missing, and stops; else hands out whether marks are wanted. Those of the communal variables
+/// aren't missing.
 pub(crate) fn check_names<'m, 'a, A: Allocator + Copy>(
     alloc: A,
     names: Names,
     files: &[InputFile<A>],
     stock: &'m Stock<'a, A>,
     handed: &[Handed<'m, 'a, A>],
+    variables: &[Variable<'a>],
     lines: &mut Vec<u8, A>,
 ) -> Result<bool, Stop>
-    ensures { OnOk result (unmet names (map (λ h. (handed_held h).says) handed.now) ≡ []) }
+    ensures { OnOk result (unmet names (map (λ h. (handed_held h).says) handed.now
+        ++ offering (map variable_said variables.now) ∷ []) ≡ []) }
 {
-    let says = handed_saids(alloc, handed)?;
+    let communal = variable_names(alloc, variables)?;
+    let mut says = handed_saids(alloc, handed)?;
+    says.push(Said {
+        wanted: &[],
+        offered: &communal,
+    })?;
     let unmet = unmet_names(alloc, names, &says)?;
     if unmet.missing.as_slice().is_empty() {
         return Ok(unmet.marks);

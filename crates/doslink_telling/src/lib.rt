@@ -2,12 +2,14 @@
 //! behind a map.
 #![tactic(auto)]
 
+mod communals;
 mod faults;
 mod lines;
 mod mapping;
 mod missing;
 mod telling;
 
+pub use communals::{push_clash, push_entry_fault, push_unplaced};
 pub use faults::{
     push_absent_line, push_among_files_line, push_device_line, push_duplicate, push_fault,
     push_no_text_line, push_obstacle, push_order_line, push_stock_fault,

@@ -47,10 +47,10 @@ pub fn module_words<A: Allocator + Copy>(
 }
 
 /// What the modules handed on say of names.
-pub fn handed_saids<'m, 'a, A: Allocator + Copy>(
+pub fn handed_saids<'h, 'a, A: Allocator + Copy>(
     alloc: A,
-    handed: &[Handed<'m, 'a, A>],
-) -> Result<Vec<Said<'m, 'a>, A>, AllocError>
+    handed: &'h [Handed<'_, 'a, A>],
+) -> Result<Vec<Said<'h, 'a>, A>, AllocError>
     ensures { IfOk result (λ v. map module_said v.items ≡ map (λ h. (handed_held h).says) handed.now) }
 {
     let mut all = Vec::new(alloc);

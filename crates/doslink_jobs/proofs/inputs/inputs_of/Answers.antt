@@ -1,9 +1,12 @@
 use Rattle.std.proofs.Common.{map, ap, subst, ◌∙◌}
+use Rattle.std.specs.Option.{option_map}
 use Rattle.clap.proofs.WalkLemmas.{list_any-map}
+use Rattle.omf_communal.specs.Deciding.{variable_said}
 use Rattle.doslink_stock.specs.Seen.{handed_held}
 use Rattle.doslink_words.specs.Said.{order_of}
+use Rattle.doslink_jobs.specs.Communals.{IsCommunalModule}
 use Rattle.doslink_jobs.specs.Jobs.{AreLoweredFor, names_of}
-use Rattle.doslink_jobs.specs.inside.Inputs.{lowered_bytes}
+use Rattle.doslink_jobs.specs.inside.Inputs.{lowered_bytes, module_list}
 use Rattle.doslink_jobs.proofs.Doing.{order-for}
 use Rattle.doslink_jobs.proofs.Lists.{map-map}
 use Rattle.doslink_jobs.proofs.inputs.inputs_of.Goals as goal
@@ -16,8 +19,11 @@ returns g c =
     record {
       lowered = subst (λ ms. AreLoweredFor job ms (map lowered_bytes modules)) (map-map handed_held (λ m. m.bytes) handed)
           c.in_ok-modules.ensures;
+      placed = subst (λ ms. IsCommunalModule (map lowered_bytes ms) (map variable_said c.args.variables.now)
+          (option_map (λ v. v.items) c.in_ok-communal.communal)) c.deref.ensures.value c.in_ok-communal.ensures;
       ordered = order-for c.in_ok-order.order (order_of job.order) c.options_of.result.names (names_of job.ignore_case)
-          c.asks_dosseg.result _ (map lowered_bytes c.deref.result.now) (map lowered_bytes modules) c.options_of.ensures
+          c.asks_dosseg.result _ (module_list c.deref-2.result.now c.in_ok-communal.communal)
+          (module_list modules c.in_ok-communal.communal) c.options_of.ensures
           (c.asks_dosseg.ensures ∙ list_any-map (λ m. m.dosseg) handed_held handed)
-          (ap (map lowered_bytes) c.deref.ensures.value) c.in_ok-order.ensures;
+          (ap (λ ms. module_list ms c.in_ok-communal.communal) c.deref-2.ensures.value) c.in_ok-order.ensures;
     }

@@ -1,0 +1,54 @@
+-- What modules declare, as it is held.
+use Rattle.std.proofs.Common.{◌≡◌, ℕ, List, [], ◌∷◌, ◌++◌, map, Bor, Ok, sym, ap, ap₂, ◌∙◌}
+use Rattle.std.proofs.lemmas.List.{map-append}
+use Rattle.omf_communal.specs.declared.declarations.Communal as lent
+use Rattle.omf_communal.specs.declared.declarations.Variable as variable
+use Rattle.omf_communal.specs.Deciding.{variable_said}
+use Rattle.omf_communal.specs.Modules.{bytes_of}
+use Rattle.omf_communal.specs.Modules as communal
+use Rattle.omf_communal.specs.Reading.{Communal, communals_of, plain_communal}
+use Rattle.omf_library.specs.Records.{module_records, result_and_then}
+use Rattle.omf_search.specs.declared.said.Said.{Said}
+use Rattle.omf_search.specs.Results.{module_said}
+use Rattle.omf_search.specs.Said as search
+use Rattle.doslink_stock.specs.declared.searching.Handed.{Handed}
+use Rattle.doslink_stock.specs.Seen.{handed_held}
+use Rattle.doslink_jobs.specs.declared.communals.Declared.{Declared}
+use Rattle.doslink_jobs.specs.Communals.{declared_by, offering}
+use Rattle.doslink_jobs.specs.inside.Declaring.{declared_said}
+use Rattle.doslink_jobs.proofs.Lists.{map-map}
+
+-- one with these communal variables
+abbrev said_with : (offered : List (List ℕ)) → List Communal → communal.Module
+said_with offered cs = record { communals = cs; offered = offered }
+
+-- what a module declares
+pub declared-one : {A : Type 0} (h : Handed A) (cs : List lent.Communal) (offered : List (Bor (List ℕ)))
+    → communals_of (module_records (handed_held h).bytes 0) ≡ Ok (map plain_communal cs)
+    → offered ≡ h.entry.now.says.offered.items
+    → Ok (said_with (bytes_of offered) (map plain_communal cs)) ≡ declared_by (handed_held h)
+declared-one h cs offered is same =
+    ap (λ o. Ok (said_with (bytes_of o) (map plain_communal cs))) same
+    ∙ sym (ap (result_and_then (λ (l : List Communal). Ok (said_with (handed_held h).says.offered l))) is)
+
+-- the same, as it is lent
+pub declaring-one : {A : Type 0} (d : Declared A) (cs : List lent.Communal) → cs ≡ d.communals.items
+    → said_with (bytes_of d.offered.now) (map plain_communal cs) ≡ declared_said d
+declaring-one d cs same = ap (λ l. said_with (bytes_of d.offered.now) (map plain_communal l)) same
+
+-- what modules and the module of variables say of names
+pub said-with-variables : (says all : List Said) (last : Said) (modules : List search.Module)
+    (vs : List variable.Variable) → map module_said says ≡ modules → all ≡ says ++ last ∷ []
+    → module_said last ≡ offering (map variable_said vs)
+    → map module_said all ≡ modules ++ offering (map variable_said vs) ∷ []
+said-with-variables says all last modules vs are pushed is =
+    ap (map module_said) pushed ∙ map-append module_said says (last ∷ []) ∙ ap₂ (λ l m. l ++ m ∷ []) are is
+
+-- a module that only offers these names
+abbrev pub offering_of : List (List ℕ) → search.Module
+offering_of names = record { wanted = []; offered = names }
+
+-- the module of variables offers their names
+pub offers-names : (names : List (Bor (List ℕ))) (vs : List variable.Variable)
+    → bytes_of names ≡ map (λ v. (variable_said v).name) vs → offering_of (bytes_of names) ≡ offering (map variable_said vs)
+offers-names names vs are = ap offering_of (are ∙ map-map variable_said (λ v. v.name) vs)

@@ -1,0 +1,16 @@
+use Rattle.std.proofs.Common.{Ok, ap, ◌∙◌}
+use Rattle.doslink_stock.proofs.Walks.{map-step}
+use Rattle.doslink_stock.specs.Seen.{handed_held}
+use Rattle.doslink_jobs.specs.Communals.{declared_by}
+use Rattle.doslink_jobs.specs.inside.Declaring.{declared_said}
+use Rattle.doslink_jobs.proofs.Declaring.{declared-one}
+use Rattle.doslink_jobs.proofs.communals.declared_of.Goals as goal
+
+pub loop-each-preserved : goal.loop-each-preserved
+loop-each-preserved g c =
+    map-step (λ d. Ok (declared_said d)) (λ h. declared_by (handed_held h)) c.args.taken.now.handed.now
+    c.loop-each.each-index c.each-item.result c.loop-each.all.items c.push.new.self.items _ c.loop-each-test.true
+    c.in_ok-push-in-Ok.ensures.items
+    (declared-one c.each-item.result c.in-Ok.communals.items _ c.in-Ok.ensures c.as_slice.ensures.value
+    ∙ ap (λ h. declared_by (handed_held h)) c.each-item.is)
+    c.loop-each.invariant

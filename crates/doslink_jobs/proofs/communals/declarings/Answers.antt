@@ -1,0 +1,13 @@
+use Rattle.std.proofs.Common.{map, ap, ◌∙◌}
+use Rattle.omf_communal.specs.Modules.{module_said}
+use Rattle.doslink_stock.proofs.Walks.{map-step}
+use Rattle.doslink_jobs.specs.inside.Declaring.{declared_said}
+use Rattle.doslink_jobs.proofs.Declaring.{declaring-one}
+use Rattle.doslink_jobs.proofs.communals.declarings.Goals as goal
+
+pub loop-each-preserved : goal.loop-each-preserved
+loop-each-preserved g c =
+    map-step module_said declared_said c.args.declared.now c.loop-each.each-index c.each-item.result
+    c.loop-each.all.items c.push.new.self.items _ c.loop-each-test.true c.in_ok-push.ensures.items
+    (declaring-one c.each-item.result c.as_slice.result.now c.as_slice.ensures.value ∙ ap declared_said c.each-item.is)
+    c.loop-each.invariant

@@ -1,0 +1,7 @@
+use Rattle.std.proofs.Common.{map, take}
+use Rattle.doslink_jobs.specs.inside.Inputs.{lowered_bytes}
+use Rattle.doslink_jobs.specs.inside.Reading.{TellsBss}
+use Rattle.doslink_jobs.proofs.communals.is_in_bss.Given as goal
+
+abbrev pub invariant-loop-one : goal.invariant-loop-one
+invariant-loop-one g l = TellsBss (map lowered_bytes (take l.one-index l.fn.modules)) l.found
