@@ -1,4 +1,5 @@
 //! Runs over a world in memory.
+use crate::declaring::{BODY, CUT_ELEMENT, END, FAR, LONG, MANY, NEAR, OTHER_SIZE, TABLE};
 use crate::memory::{Desk, Page, Pen};
 use crate::modules::{ELSEWHERE, LIBRARY, LIKE, MARKS, NAMES, OFFERS, WANTS};
 use doslink_jobs::{language_of, run_words};
@@ -55,6 +56,27 @@ doslink --keep-debug A.OBJ F.OBJ|0||
 wlink|2||doslink: no file is named to be linked~
 ";
 
+/// Runs with communal variables, in the same form.
+const COMMUNAL_RUNS: &str = "\
+doslink A.OBJ NEAR.OBJ|0||
+doslink NEAR.OBJ A.OBJ|0||
+doslink NEAR.OBJ F.OBJ|0||
+doslink FAR.OBJ A.OBJ|0||
+doslink -v NEAR.OBJ RUN.LIB|0|NEAR.OBJ~|
+doslink -v NEAR.OBJ A.OBJ RUN.LIB|0|NEAR.OBJ~A.OBJ~RUN.LIB(b.c) for \"f\"~RUN.LIB(c.c) for \"g\"~|
+doslink END.OBJ M.OBJ|0||
+doslink --order dosseg A.OBJ NEAR.OBJ|0||
+doslink NEAR.OBJ D.OBJ FAR.OBJ|1||doslink: link: 55 NearAndFar \"f\" in NEAR.OBJ and FAR.OBJ~
+doslink FAR.OBJ NEAR.OBJ|1||doslink: link: 55 NearAndFar \"f\" in FAR.OBJ and NEAR.OBJ~
+doslink FAR.OBJ SIZE.OBJ|1||doslink: link: 56 ElementSizes \"f\" in FAR.OBJ and SIZE.OBJ~
+doslink FAR.OBJ SIZE.OBJ F.OBJ|0||
+doslink A.OBJ BODY.OBJ|1||doslink: BODY.OBJ: 53 Body at record 8~
+doslink A.OBJ TABLE.OBJ|1||doslink: TABLE.OBJ: 54 DataType at record 8~
+doslink A.OBJ NEAR.OBJ LONG.OBJ|1||doslink: link: 57 NearTooLong \"g\" in LONG.OBJ~
+doslink A.OBJ NEAR.OBJ CUT.OBJ|1||doslink: link: 58 CutElement \"g\" in CUT.OBJ~
+doslink A.OBJ NEAR.OBJ MANY.OBJ|1||doslink: link: 59 TooManySegments \"g\" in MANY.OBJ~
+";
+
 /// What a run told, as a row of the table has it.
 fn row_of(
     alloc: Global,
@@ -92,6 +114,15 @@ fn told(alloc: Global, row: &str) -> Result<Vec<u8>, AllocError> {
         ("CUT.LIB", &LIBRARY.as_slice()[..CUT]),
         ("WORDS", RESPONSE.as_bytes()),
         ("LINES", DIRECTIVES.as_bytes()),
+        ("NEAR.OBJ", NEAR.as_slice()),
+        ("FAR.OBJ", FAR.as_slice()),
+        ("SIZE.OBJ", OTHER_SIZE.as_slice()),
+        ("BODY.OBJ", BODY.as_slice()),
+        ("TABLE.OBJ", TABLE.as_slice()),
+        ("LONG.OBJ", LONG.as_slice()),
+        ("CUT.OBJ", CUT_ELEMENT.as_slice()),
+        ("MANY.OBJ", MANY.as_slice()),
+        ("END.OBJ", END.as_slice()),
     ];
     let written = Page::new(alloc);
     let output_page = Page::new(alloc);
@@ -138,6 +169,13 @@ fn first_wrong(alloc: Global, rows: &str) -> Result<Option<String>, AllocError> 
 #[test]
 fn runs_tell_these_lines(rt: HostRuntime) -> Result<(), Fail> {
     let wrong = first_wrong(rt.alloc(), RUNS)?;
+    assert_eq!(rt; wrong, None);
+    Ok(())
+}
+
+#[test]
+fn communal_runs_tell_these_lines(rt: HostRuntime) -> Result<(), Fail> {
+    let wrong = first_wrong(rt.alloc(), COMMUNAL_RUNS)?;
     assert_eq!(rt; wrong, None);
     Ok(())
 }
