@@ -215,7 +215,7 @@ fn told_module<A: Allocator + Copy>(
 fn told_bss(alloc: Global, text: &mut String, inputs: &[Vec<u8>]) -> Result<(), AllocError> {
     match read_modules(alloc, inputs) {
         Ok(modules) => {
-            let has = has_bss(&modules);
+            let has = modules.iter().any(|module| has_bss(module));
             write!(text, "{has}")
         }
         Err(_) => text.push_str("no module"),

@@ -12,7 +12,8 @@ use Rattle.omf_record.specs.declared.segments.Alignment.TheVariants as align
 use Rattle.omf_record.specs.declared.segments.Combination.TheVariants as combine
 use Rattle.omf_record.specs.declared.segments.SegmentLength.TheVariants as len
 use Rattle.omf_record.specs.Record.{Grpdef, Lnames, Modend, Segdef, Pubdef, Public, Theadr}
-use Rattle.omf_record.specs.Body.{Body, AbsoluteText, Acbp, BaseText, ComponentText, LengthText, PublicText, SegmentText}
+use Rattle.omf_record.specs.Body.{Body, AbsoluteText, Acbp, BaseText, LengthText}
+use Rattle.omf_record.specs.inside.Fields.{ComponentText, PublicText, SegmentText}
 use Rattle.omf_record.specs.Canonical as canon
 use Rattle.omf_record.specs.Canonical.{FitsFrame, canonical}
 use Rattle.omf_communal.specs.inside.Planned.{IsBase, IsName}

@@ -11,7 +11,8 @@ use Rattle.omf_module.specs.declared.fault.CheckFault.TheVariants.{GroupIndex, N
 use Rattle.omf_module.specs.Before.{entry, first}
 use Rattle.omf_module.specs.Bytes.{ModuleBytes}
 use Rattle.omf_module.specs.Faults.{component_fault, fault, is_absolute, is_beyond, when, ◌⊓◌}
-use Rattle.omf_module.specs.Tables.{groups, names, segments, segment_of}
+use Rattle.omf_module.specs.Tables.{groups, names, segments}
+use Rattle.omf_module.specs.inside.Entries.{segment_of}
 use Rattle.omf_communal.proofs.Clean.{All-append, Clean, Ready, are_bodies, are_frames, both_false, clean_by, clean_end, clean_first, component_ok, ended, nones, not_below, place_all, ready-as, ready-more}
 use Rattle.omf_communal.specs.Plan.{Place, Plan}
 use Rattle.omf_communal.specs.Records.{far_definition, far_record, last_records, module_bytes, far_names, near_definition, near_names, near_records, place_record, record_bytes, records}

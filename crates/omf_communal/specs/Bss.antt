@@ -29,9 +29,5 @@ abbrev pub is_in_group : List Segment → Group → Bool
 is_in_group segments g = bytes_eq g.name dgroup && list_any is_bss (filter_map (slice_get segments) g.members)
 
 -- a module has it in the group DGROUP
-abbrev pub is_in_module : Module → Bool
-is_in_module m = list_any (is_in_group m.segments) m.groups
-
--- some module has
-abbrev pub has_bss : List Module → Bool
-has_bss program = list_any is_in_module program
+abbrev pub has_bss : Module → Bool
+has_bss m = list_any (is_in_group m.segments) m.groups

@@ -49,26 +49,14 @@ fn is_in_group<A: Allocator + Copy>(from: &Module<A>, group: Group<'_>) -> bool
     group.name == b"DGROUP".as_slice() && has_member(from, group.members)
 }
 
-/// Whether a module has that segment in a group DGROUP.
-fn is_in_module<A: Allocator + Copy>(from: &Module<A>) -> bool
-    ensures { result ≡ bss.is_in_module from.now }
+/// Whether a module has the public segment `_BSS` of class BSS in the group DGROUP.
+pub fn has_bss<A: Allocator + Copy>(from: &Module<A>) -> bool
+    ensures { result ≡ bss.has_bss from.now }
 {
     from.promises();
     for index in 0..from.group_count() {
         let group = from.group(index);
         if is_in_group(from, group) {
-            return true;
-        }
-    }
-    false
-}
-
-/// Whether some module has the public segment `_BSS` of class BSS in the group DGROUP.
-pub fn has_bss<A: Allocator + Copy>(modules: &[Module<A>]) -> bool
-    ensures { result ≡ bss.has_bss modules.now }
-{
-    for each in modules {
-        if is_in_module(each) {
             return true;
         }
     }

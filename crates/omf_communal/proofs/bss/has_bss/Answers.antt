@@ -4,7 +4,7 @@ use Rattle.omf_module.specs.Sound.{GroupFits}
 use Rattle.omf_place.proofs.SiteLists.{All-at_get}
 use Rattle.omf_communal.specs.Bss.{is_in_group}
 use Rattle.omf_communal.proofs.Searching.{any_at, any_kept, members_below}
-use Rattle.omf_communal.proofs.bss.is_in_module.Goals as goal
+use Rattle.omf_communal.proofs.bss.has_bss.Goals as goal
 
 pub is_in_group-requires : goal.is_in_group-requires
 is_in_group-requires g c =
