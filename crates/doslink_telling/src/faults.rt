@@ -204,6 +204,16 @@ pub fn push_obstacle<A: Allocator + Copy>(
     lines.extend_from_slice(b"\n")
 }
 
+/// Appends the warning that 32-bit segments of the module for which this is the word are linked as ones of 16 bits.
+pub fn push_wide_line<A: Allocator + Copy>(
+    lines: &mut Vec<u8, A>,
+    word: &[u8],
+) -> Result<(), AllocError> {
+    lines.extend_from_slice(b"doslink: warning: 32-bit segments of ")?;
+    lines.extend_from_slice(word)?;
+    lines.extend_from_slice(b" are linked as 16-bit ones\n")
+}
+
 /// Appends the line of a file that would be written over: one that was read.
 pub fn push_among_files_line<A: Allocator + Copy>(
     lines: &mut Vec<u8, A>,
