@@ -383,6 +383,8 @@ LINKING = [
            "for path in (out, map_path):", "for path in (map_path,):"),
     Change("a map may be read", "linking.py",
            "for path in (out, map_path):", "for path in (out,):"),
+    Change("the map is written over the program", "linking.py",
+           "        if map_path == out:", "        if False:"),
     Change("OUT is called like the last of FILES", "linking.py",
            "with_ending(given[0]", "with_ending((self.job.files or given)[-1]"),
     Change("OUT's ending stands behind that of FILES", "linking.py",

@@ -408,6 +408,8 @@ LINKS = [
      "doslink: m.obj: it is read and would be written\n", ""),
     ("the map is read", {"files": ["m.obj"], "map": "m.obj"}, [],
      "doslink: m.obj: it is read and would be written\n", ""),
+    ("the map is OUT", {"files": ["m.obj"], "out": "x", "map": "x"}, [],
+     "doslink: x: it would be the program and its map\n", ""),
 ]
 
 # what is asked for, and the path of the program

@@ -210,6 +210,8 @@ class JobMaker:
         self.job.keeps_debug = self.happens(0.1)
         self.job.out = self.place(OUT)
         self.job.map = self.place(MAP) if self.happens(0.8) else None
+        if self.happens(0.01):
+            self.job.map = self.job.out
         if self.happens(0.5):
             self.job.order = self.random.choice([ordering.DOSSEG, self.some_classes()])
         if self.happens(0.1):

@@ -21,10 +21,11 @@ LOWERING_NAMES = {
     48: "DataType", 49: "Above16Bits", 50: "Location", 51: "Body", 52: "TooLong",
 }
 # what else ends a job of doslink, without a number
-MISSING, TOO_MANY_PARTS, WORDS, READ_AND_WRITTEN = "M", "P", "W", "O"
+MISSING, TOO_MANY_PARTS, WORDS, READ_AND_WRITTEN, WRITTEN_TWICE = "M", "P", "W", "O", "T"
 OTHER_ENDS = {
     MISSING: "names are missing", TOO_MANY_PARTS: "TooManySegments", WORDS: "wrong words",
     READ_AND_WRITTEN: "OUT is read",
+    WRITTEN_TWICE: "MAP is OUT",
 }
 # the faults of devices, which have a status of their own
 DEVICE_FAULTS = (1, 40)

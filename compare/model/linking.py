@@ -172,7 +172,7 @@ class Linking:
             replace(found[each.library][each.member], wanted=each.name) for each in choices]
 
     def places(self):
-        """The paths of the program and of the map, or None; neither may be a file that is read."""
+        """The paths of the program and of the map, or None; neither may be a file that is read, nor both one."""
         out = self.job.out
         if out is None:
             given = [*self.job.files, *self.job.libraries, "OUT"]
@@ -182,6 +182,8 @@ class Linking:
             if path in [known for known, _ in self.inputs]:
                 raise Stop(WRONG_WORDS, faults.READ_AND_WRITTEN, [
                     f"{path}: it is read and would be written"])
+        if map_path == out:
+            raise Stop(WRONG_WORDS, faults.WRITTEN_TWICE, [f"{out}: it would be the program and its map"])
         return out, map_path
 
     def tell(self, taken):

@@ -8,7 +8,7 @@ ghost use Rattle.doslink_jobs.specs.Runs.{IsPart, IsTextOf};
 
 use crate::stop::{Stop, stop_at};
 use doslink_files::{FileFault, ReadFault, read_file};
-use doslink_telling::push_no_text_line;
+use doslink_telling::push_path_line;
 use doslink_words::{DirectiveFault, Directives, WarningKind};
 use itoa::Buffer;
 use omf_files::World;
@@ -40,7 +40,7 @@ fn push_response<W: World>(
     match str::from_utf8(&bytes) {
         Ok(read) => Ok(text.push_str(read)?),
         Err(_) => {
-            push_no_text_line(lines, path)?;
+            push_path_line(lines, path, "it is no UTF-8 text")?;
             Err(Stop::Words)
         }
     }

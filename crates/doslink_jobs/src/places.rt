@@ -3,7 +3,7 @@
 use crate::paths::with_extension;
 use crate::stop::Stop;
 use doslink_files::InputFile;
-use doslink_telling::push_among_files_line;
+use doslink_telling::push_path_line;
 use doslink_words::{Job, MapFile};
 use std::alloc::{AllocError, Allocator};
 
@@ -46,13 +46,26 @@ fn check_place<A: Allocator + Copy>(
     lines: &mut Vec<u8, A>,
 ) -> Result<(), Stop> {
     if files.iter().any(|file| file.path.as_str() == path) {
-        push_among_files_line(lines, path)?;
+        push_path_line(lines, path, "it is read and would be written")?;
         return Err(Stop::Words);
     }
     Ok(())
 }
 
-/// The paths of what a job writes. None of them may be one of the files that were read.
+/// Stops where the map would be written over the program.
+fn check_map<A: Allocator + Copy>(
+    map: &str,
+    out: &str,
+    lines: &mut Vec<u8, A>,
+) -> Result<(), Stop> {
+    if map == out {
+        push_path_line(lines, map, "it would be the program and its map")?;
+        return Err(Stop::Words);
+    }
+    Ok(())
+}
+
+/// The paths of what a job writes. None of them may be one of the files that were read, and the map not the program.
 pub(crate) fn places_of<A: Allocator + Copy>(
     alloc: A,
     job: &Job<'_>,
@@ -64,6 +77,7 @@ pub(crate) fn places_of<A: Allocator + Copy>(
     let map = map_path(alloc, job, out.as_str())?;
     if let Some(path) = &map {
         check_place(path.as_str(), files, lines)?;
+        check_map(path.as_str(), out.as_str(), lines)?;
     }
     Ok(Places { out, map })
 }

@@ -206,9 +206,9 @@ fn do_job<W: World + Copy, O: Write + Drop, A: Allocator + Copy>(
 }
 
 /// Does a job, with the memory of this allocator, and hands out the exit status: 0 where the program is written, 1
-/// where an input is at fault, 2 where what would be written is one of the files that are read, 3 where a file, a device
-/// or memory failed. What went wrong is told on standard error. Default libraries are looked up in `folders` too, behind
-/// those of the job.
+/// where an input is at fault, 2 where what would be written is one of the files that are read, or the map the program,
+/// 3 where a file, a device or memory failed. What went wrong is told on standard error. Default libraries are looked
+/// up in `folders` too, behind those of the job.
 pub fn run_job<W: World + Copy, O: Write + Drop, E: Sink, A: Allocator + Copy>(
     alloc: A,
     world: W,

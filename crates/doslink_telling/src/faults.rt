@@ -214,24 +214,17 @@ pub fn push_wide_line<A: Allocator + Copy>(
     lines.extend_from_slice(b" are linked as 16-bit ones\n")
 }
 
-/// Appends the line of a file that would be written over: one that was read.
-pub fn push_among_files_line<A: Allocator + Copy>(
+/// Appends the line of a path of a job that can't be used, and why.
+pub fn push_path_line<A: Allocator + Copy>(
     lines: &mut Vec<u8, A>,
     path: &str,
+    why: &str,
 ) -> Result<(), AllocError> {
     lines.extend_from_slice(b"doslink: ")?;
     lines.extend_from_slice(path.as_bytes())?;
-    lines.extend_from_slice(b": it is read and would be written\n")
-}
-
-/// Appends the line of a file that is no text.
-pub fn push_no_text_line<A: Allocator + Copy>(
-    lines: &mut Vec<u8, A>,
-    path: &str,
-) -> Result<(), AllocError> {
-    lines.extend_from_slice(b"doslink: ")?;
-    lines.extend_from_slice(path.as_bytes())?;
-    lines.extend_from_slice(b": it is no UTF-8 text\n")
+    lines.extend_from_slice(b": ")?;
+    lines.extend_from_slice(why.as_bytes())?;
+    lines.extend_from_slice(b"\n")
 }
 
 /// Appends the line of an order that would have too many parts.

@@ -51,6 +51,7 @@ doslink @BINARY|2||doslink: BINARY: it is no UTF-8 text~
 wlink @BINARY|2||doslink: BINARY: it is no UTF-8 text~
 doslink -o F.OBJ A.OBJ F.OBJ|2||doslink: F.OBJ: it is read and would be written~
 doslink -m RUN.LIB A.OBJ -l RUN|2||doslink: RUN.LIB: it is read and would be written~
+doslink -m A.EXE A.OBJ F.OBJ|2||doslink: A.EXE: it would be the program and its map~
 doslink G.OBJ|0||doslink: warning: library \"NONE\" of G.OBJ was not found~
 doslink --keep-debug A.OBJ F.OBJ|0||
 wlink|2||doslink: no file is named to be linked~
