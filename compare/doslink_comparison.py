@@ -99,7 +99,7 @@ def lines_of_ends(counts):
     """A table of how often each program ended by each fault."""
     return comparison.lines_of_ends(
         counts, [LINK, DIRECTIVES], {
-            **faults.NAMES, **faults.LIBRARY_NAMES, **faults.LOWERING_NAMES, **faults.OTHER_ENDS})
+            **faults.NAMES, **faults.DOSLINK_NAMES, **faults.OTHER_ENDS})
 
 
 def summary(counts, minutes):

@@ -1,12 +1,12 @@
 """Answers of `doslink` that were written out by hand, from the rules alone.
 
 The model must give them. They are what the rules say of libraries, of the names of a module, of
-what is taken for them, of the module that fixes an order, of modules that are lowered, and of
-directives.
+what is taken for them, of the module that fixes an order, of modules that are lowered, of communal
+variables, and of directives.
 """
 
 from model import (
-    directives, libraries, linking, lowering, module, names, ordering, records, search)
+    communal, directives, libraries, linking, lowering, module, names, ordering, records, search)
 from model.directives import Job
 from model.faults import Fault
 from model.names import Names
@@ -532,6 +532,42 @@ LOWERED = [
     ("a repeat count of more than 16 bits", False, False, [
         (0xA3, "01 00000000  00000100 0000 01 AA")], (49, 0)),
 ]
+# COMDEF of the modules a, b and so on, the names that they offer, whether case is ignored, and the
+# variables: the name, the elements, their size where they are far, and the first module; or a fault
+VARIABLES = [
+    ("one of two modules", ["0178 00 62 05", "0178 01 62 09"], "", False, "x 9 a"),
+    ("far ones", ["0178 00 61 05 02  0179 8001 61 810001 80", "0178 00 61 03 02"], "", False,
+     "x 5*2 a, y 256*128 a"),
+    ("lengths of four forms", ["0161 00 62 80  0162 00 62 818000  0163 00 62 84030201"
+                               "  0164 00 62 8804030201"], "", False,
+     "a 128 a, b 128 a, c 66051 a, d 16909060 a"),
+    ("one that a module offers", ["0178 00 62 05  0179 00 62 02"], "x", False, "y 2 a"),
+    ("one that differs by case", ["0178 00 62 05"], "X", False, "x 5 a"),
+    ("one that differs by case, which is ignored", ["0178 00 62 05", "0158 00 62 07"], "", True,
+     "x 7 a"),
+    ("one that is offered, by case alone", ["0178 00 62 05"], "X", True, ""),
+    ("near and far", ["0178 00 62 05", "", "0178 00 61 05 01"], "", False, "55 x in a and c"),
+    ("elements of two sizes", ["", "0178 00 61 05 01", "0178 00 61 01 05"], "", False,
+     "56 x in b and c"),
+    ("near and far, which is offered", ["0178 00 62 05", "0178 00 61 05 01"], "x", False, ""),
+    ("another type", ["0178 00 62 05", "0178 00 05 05"], "", False, "54 at 0 of b"),
+    ("one that is cut", ["0178 00 62 81FF"], "", False, "53 at 0 of a"),
+    ("a number of no form", ["0178 00 62 82"], "", False, "53 at 0 of a"),
+]
+# variables, and the lengths of the module's segments with its names, or a fault
+PLANS = [
+    ("at even places", "x 1, y 1, z 3, v 2", "8 | x 1:0, y 1:1, z 1:2, v 1:6"),
+    ("of one byte", "x 3, y 1", "4 | x 1:0, y 1:3"),
+    ("of none", "x 0", "0 | x 1:0"),
+    ("all of a segment", "x 65534, y 2", "65536 | x 1:0, y 1:65534"),
+    ("a byte more", "x 65535, y 1, z 1", "57 z"),
+    ("none behind all", "x 65536, y 0", "57 y"),
+    ("far ones", "x 3*4, y 0*9, z 2", "2 12 0 | z 1:0, x 2:0, y 3:0"),
+    ("of more than a segment", "x 65537*1, y 2*65536", "65536 1 65536 65536 | x 1:0, y 3:0"),
+    ("of a segment and odd elements", "x 13107*5", "65535 | x 1:0"),
+    ("of more than a segment and odd elements", "x 13108*5", "58 x"),
+    ("of one segment more than there may be", "y 1*1, x 32767*65536", "59 x"),
+]
 
 # the lengths of segments of far data, and whether they share a frame
 FITTING = [([65_536], True), ([65_521], True), ([65_520, 16], True), ([65_520, 17], False)]
@@ -642,6 +678,51 @@ def check_lowering():
     assert place == len(framed(made[:3]))
 
 
+def variables_of(bodies, offered, ignores_case):
+    taken = [
+        linking.Module(word, framed([(0xB0, body)]), Names(offered=offered.encode().split()))
+        for word, body in zip("abc", bodies)]
+    try:
+        return communal.variables(taken, search.agreed(ignores_case))
+    except Fault as fault:
+        name = "" if fault.name is None else f" {fault.name.decode()}"
+        place = "" if fault.place is None else f" at {fault.place} of {fault.owner}"
+        words = f" in {' and '.join(fault.words)}" if fault.words else ""
+        return f"{fault.number}{name}{place}{words}"
+
+
+def text_of(variable):
+    size = f"*{variable.size}" if variable.is_far else ""
+    return f"{variable.name.decode()} {variable.count}{size} {variable.word}"
+
+
+def variable_of(text):
+    name, _, length = text.partition(" ")
+    count, _, size = length.partition("*")
+    return communal.Variable(name.encode(), int(size) if size else None, int(count), "a")
+
+
+def plan_of(texts):
+    """The segments of a module and its names, as it is read again, or the fault."""
+    try:
+        made = communal.module_of([variable_of(text) for text in texts.split(", ")], [])
+    except Fault as fault:
+        return f"{fault.number} {fault.name.decode()}"
+    found = module.read(made, None)
+    lengths = " ".join(str(each.length) for each in found.segments)
+    names = [f"{each.name.decode()} {each.segment}:{each.offset}" for each in found.publics]
+    return f"{lengths} | {', '.join(names)}"
+
+
+def check_communal():
+    for title, bodies, offered, ignores_case, wanted in VARIABLES:
+        found = variables_of(bodies, offered, ignores_case)
+        found = found if isinstance(found, str) else ", ".join(map(text_of, found))
+        assert found == wanted, title
+    for title, texts, wanted in PLANS:
+        assert plan_of(texts) == wanted, title
+
+
 def module_of_bytes(length):
     """A module of far data of a length, which is big where it is 65,536."""
     return framed([
@@ -670,5 +751,6 @@ def check():
     check_search()
     check_order()
     check_lowering()
+    check_communal()
     check_directives()
     check_links()

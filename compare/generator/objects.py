@@ -306,10 +306,16 @@ class ObjectMaker:
         self.add_other(kind, base + entries[0] + offset + b"\0" + entries[1] + offset)
 
     def add_communal_variables(self):
-        """Names that are neither wanted nor offered."""
+        """Names that are neither wanted nor offered; a name mostly has one distance and size."""
         for name in self.some_names():
-            self.add_other(
-                self.random.choice([0xB0, 0xB8]), self.counted(name) + b"\0\x62\2")
+            is_far = sum(name) % 2 == 0 if self.happens(0.95) else self.happens(0.5)
+            size = 4 if self.happens(0.95) else self.random.choice([0, 1, 5, 10])
+            length = self.random.choice([b"\0", b"\1", b"\2", b"\3", b"\x81\0\1"])
+            if self.happens(0.02):
+                length = self.random.choice([b"\x84\0\0\1", b"\x84\1\0\1", b"\x88\xFF\xFF\xFF\0"])
+            variable = b"\x61" + length + bytes([size]) if is_far else b"\x62" + length
+            kind = 0xB8 if self.happens(0.2) else 0xB0
+            self.add_other(kind, self.counted(name) + b"\0" + variable)
 
     def add_data(self):
         """Bytes of some segments, with fix-ups to what is wanted and to other segments."""

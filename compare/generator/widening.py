@@ -105,10 +105,13 @@ class Widening:
         """Externals as communal variables, near or far, rarely of another data type."""
         found = b""
         while reader.has_more():
-            found += reader.take_name() + reader.take_index()
-            data_type = 0x05 if self.happens(0.04) else self.random.choice([0x61, 0x62])
-            found += bytes([data_type]) + self.length()
-            found += self.length() if data_type == 0x61 else b""
+            name = reader.take_name()
+            data_type = 0x61 + sum(name) % 2
+            if self.happens(0.06):
+                data_type = self.random.choice([0x05, 0x61, 0x62])
+            size = b"\4" if self.happens(0.95) else self.length()
+            found += name + reader.take_index() + bytes([data_type]) + self.length()
+            found += size if data_type == 0x61 else b""
         return found
 
     def length(self):

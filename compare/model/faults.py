@@ -20,6 +20,11 @@ LIBRARY_NAMES = {
 LOWERING_NAMES = {
     48: "DataType", 49: "Above16Bits", 50: "Location", 51: "Body", 52: "TooLong",
 }
+# those of communal variables
+COMMUNAL_NAMES = {
+    53: "Body", 54: "DataType", 55: "NearAndFar", 56: "ElementSizes", 57: "NearTooLong",
+    58: "CutElement", 59: "TooManySegments",
+}
 # what else ends a job of doslink, without a number
 MISSING, TOO_MANY_PARTS, WORDS, READ_AND_WRITTEN, WRITTEN_TWICE = "M", "P", "W", "O", "T"
 OTHER_ENDS = {
@@ -27,6 +32,8 @@ OTHER_ENDS = {
     READ_AND_WRITTEN: "OUT is read",
     WRITTEN_TWICE: "MAP is OUT",
 }
+# those that doslink alone has
+DOSLINK_NAMES = {**LIBRARY_NAMES, **LOWERING_NAMES, **COMMUNAL_NAMES}
 # the faults of devices, which have a status of their own
 DEVICE_FAULTS = (1, 40)
 
@@ -68,7 +75,7 @@ class Fault(Exception):
     def line(self, files=(), program="omf"):
         """The line on standard error; `files` are the names of inputs that have numbers."""
         whose = files[self.owner] if isinstance(self.owner, int) else self.owner or "link"
-        name = {**NAMES, **LIBRARY_NAMES, **LOWERING_NAMES}[self.number]
+        name = {**NAMES, **DOSLINK_NAMES}[self.number]
         line = f"{program}: {whose}: {self.number} {name}"
         if self.place is not None:
             line += f" at {'place' if self.number in LIBRARY_NAMES else 'record'} {self.place}"

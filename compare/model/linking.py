@@ -9,14 +9,14 @@ from dataclasses import dataclass, replace
 from typing import Optional
 
 from model import (
-    directives, faults, image, libraries, lowering, module, ordering, printing, program_file,
-    search)
+    communal, directives, faults, image, libraries, lowering, module, ordering, printing,
+    program_file, search)
 from model.commands import Answer, Output
 from model.faults import Fault, escaped, printed_name
 from model.names import Names, names_of
 
 PROGRAM = "doslink"
-ORDER = "order"
+ORDER, COMMUNAL = "order", "communal"
 # what is put behind the name of a library that has no dot, in turn
 ENDINGS = ["", ".LIB", ".lib"]
 DUPLICATE = 25
@@ -43,6 +43,11 @@ class Module:
     content: bytes
     names: Names
     wanted: Optional[bytes] = None
+
+
+def made_module(word, content):
+    """A module that is made, where it is, in a list."""
+    return [] if content is None else [Module(word, content, Names())]
 
 
 def object_module(path, content):
@@ -94,8 +99,9 @@ class Linking:
         out, map_path = self.places()
         taken = self.taken(stock)
         self.tell(taken)
-        self.check_names(taken, stock)
-        program = self.linked(taken)
+        variables = communal.variables(taken, self.key)
+        self.check_names(taken, stock, variables)
+        program = self.linked(taken, variables)
         self.write(out, program_file.written_file(program))
         if map_path is not None:
             self.write(map_path, printing.map_of(program) + self.table_of(program))
@@ -193,9 +199,11 @@ class Linking:
                 name = "" if each.wanted is None else f" for {printed_name(each.wanted)}"
                 self.answer.output += f"{each.word}{name}\n".encode()
 
-    def check_names(self, taken, stock):
+    def check_names(self, taken, stock, variables):
         """No name may be missing, but for those that the order's module defines."""
-        missing = list(self.missing(taken, stock))
+        made = [self.key(each.name) for each in variables]
+        missing = [
+            (name, line) for name, line in self.missing(taken, stock) if self.key(name) not in made]
         marks = [self.key(mark) for mark in MARKS]
         lines = [line for name, line in missing if self.key(name) not in marks]
         self.wants_marks = any(self.key(name) in marks for name, _ in missing)
@@ -217,20 +225,31 @@ class Linking:
                 line += f"; {printed_name(each.like)} is in {like_of}"
             yield each.name, line
 
-    def linked(self, taken):
-        """The program of the modules as they are lowered, behind that of the order."""
+    def linked(self, taken, variables):
+        """The program of the modules as they are lowered, between those that are made."""
         lowered = lowering.lowered_modules(
             [each.content for each in taken], [each.word for each in taken],
             self.job.keeps_debug, self.job.packs_far_data)
-        made = self.order_module(lowered, taken)
-        before = [] if made is None else [made]
+        behind = made_module(COMMUNAL, communal.module_of(variables, lowered))
+        lowered += [each.content for each in behind]
+        before = made_module(ORDER, self.order_module(lowered, taken))
+        self.warn_of_wide_segments(lowered, taken)
         # the modules as they are linked, and as they were read
-        self.contents = before + lowered
-        self.handed = [Module(ORDER, each, Names()) for each in before] + taken
+        self.contents = [each.content for each in before] + lowered
+        self.handed = before + taken + behind
         try:
             return image.link(self.contents, self.job.ignores_case)
         except Fault as fault:
             raise self.with_words(fault) from None
+
+    def warn_of_wide_segments(self, lowered, taken):
+        """Segments of 32 bits are linked as ones of 16, which is told."""
+        words = [
+            each.word for each, content in zip(taken, lowered)
+            if lowering.has_wide_segments(each.content, content)]
+        self.warnings += [] if self.job.is_quiet else [
+            f"{PROGRAM}: warning: 32-bit segments of {word} are linked as 16-bit ones\n"
+            for word in words]
 
     def with_words(self, fault):
         """A fault with the word for its module, and its record's place in the module's file.

@@ -438,6 +438,21 @@ def lowered_modules(contents, words, keeps_debug, packs_far_data):
     return plain
 
 
+def is_wide_segment(own, linked):
+    """Whether a SEGDEF of 32 bits, which isn't absolute, has bytes as it is linked."""
+    first = own.body[0] if own.body else 0
+    is_wide = own.kind in SEGMENTS and first & USE_32 != 0 and first & ALIGNMENT != 0
+    return is_wide and linked.body[2:] != b"" and (
+        linked.body[0] & BIG != 0 or any(linked.body[1:3]))
+
+
+def has_wide_segments(content, lowered_content):
+    """Whether a module has segments of 32 bits that are linked as ones of 16."""
+    if content == lowered_content:
+        return False
+    return any(map(is_wide_segment, whole_frames(content), whole_frames(lowered_content)))
+
+
 def record_places(content):
     """Where the records of a module begin, and what stands behind the last."""
     place = 0
