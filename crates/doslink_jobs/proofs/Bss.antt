@@ -4,7 +4,7 @@ use Rattle.std.proofs.lemmas.List.{map-append, take_more}
 use Rattle.std.proofs.lemmas.List.Folds.{list_any-append}
 use Rattle.std.specs.List.{list_any}
 use Rattle.std.specs.declared.option.Option.{Option}
-use Rattle.omf_communal.specs.Bss.{has_bss, is_in_module}
+use Rattle.omf_communal.specs.Bss.{has_bss}
 use Rattle.omf_module.specs.declared.fault.FaultKind.TheVariants as kind
 use Rattle.omf_module.specs.declared.fault.ModuleFault.{ModuleFault}
 use Rattle.omf_module.specs.declared.fault.ModuleFault.TheVariants as fault
@@ -53,20 +53,20 @@ or-none false = refl
 
 -- one input more
 TellsBss-more : (inputs : List (List ℕ)) (bytes : List ℕ) (found has : Bool) → TellsBss inputs found
-    → ((one : Module) → IsRead bytes one → has ≡ is_in_module one) → TellsBss (inputs ++ bytes ∷ []) (found || has)
+    → ((one : Module) → IsRead bytes one → has ≡ has_bss one) → TellsBss (inputs ++ bytes ∷ []) (found || has)
 TellsBss-more inputs bytes found has before here read (lists, all, are) =
     let (front, records, same, begin, last) = AllBeginWith-last lists inputs bytes all in
     let split : read ≡ map module_of front ++ module_of records ∷ [] =
     are ∙ ap (map module_of) same ∙ map-append module_of front (records ∷ []) in
     ap₂ (λ x y. x || y) (before (map module_of front) (front, begin, refl))
-    (here (module_of records) (records, last, refl) ∙ sym (or-none (is_in_module (module_of records))))
-    ∙ sym (list_any-append is_in_module (map module_of front) (module_of records ∷ []))
-    ∙ sym (ap (list_any is_in_module) split)
+    (here (module_of records) (records, last, refl) ∙ sym (or-none (has_bss (module_of records))))
+    ∙ sym (list_any-append has_bss (map module_of front) (module_of records ∷ []))
+    ∙ sym (ap (list_any has_bss) split)
 
 -- the next module
 pub TellsBss-next : {A : Type 0} (modules : List (LoweredModule A)) (i : ℕ) (d : LoweredModule A) (found has : Bool)
     → i < length modules → TellsBss (map lowered_bytes (take i modules)) found
-    → ((one : Module) → IsRead (lowered_bytes (get_or modules i d)) one → has ≡ is_in_module one)
+    → ((one : Module) → IsRead (lowered_bytes (get_or modules i d)) one → has ≡ has_bss one)
     → TellsBss (map lowered_bytes (take (i + 1) modules)) (found || has)
 TellsBss-next modules i d found has h before here =
     subst (λ inputs. TellsBss inputs (found || has))
@@ -75,13 +75,12 @@ TellsBss-next modules i d found has h before here =
     (TellsBss-more (map lowered_bytes (take i modules)) (lowered_bytes (get_or modules i d)) found has before here)
 
 -- one module that was read
-pub has-one : (bytes : List ℕ) (new : Option (List ℕ)) (one : Module) (modules : List Module) (has : Bool)
+pub has-one : (bytes : List ℕ) (new : Option (List ℕ)) (one : Module) (has : Bool)
     → ((rs : List Placed) (front rest : List ℕ) → ModuleBytes rs front → Some bytes ≡ Some (front ++ rest)
     → IsModule (λ m. m) (module_of rs) rest new (Ok one))
-    → modules ≡ one ∷ [] → has ≡ has_bss modules → (other : Module) → IsRead bytes other → has ≡ is_in_module other
-has-one bytes new one modules has whole single is other (records, (front, rest, splits, sound), same) =
-    is ∙ ap has_bss single ∙ or-none (is_in_module one)
-    ∙ ap is_in_module ((whole records front rest sound (ap Some splits)).0 ∙ sym same)
+    → has ≡ has_bss one → (other : Module) → IsRead bytes other → has ≡ has_bss other
+has-one bytes new one has whole is other (records, (front, rest, splits, sound), same) =
+    is ∙ ap has_bss ((whole records front rest sound (ap Some splits)).0 ∙ sym same)
 
 none-read : (bytes : List ℕ) (new : Option (List ℕ)) (f : ModuleFault) → IsOfBytes f
     → ((rs : List Placed) (front rest : List ℕ) → ModuleBytes rs front → Some bytes ≡ Some (front ++ rest)
@@ -95,13 +94,13 @@ pub has-none : (bytes : List ℕ) (new : Option (List ℕ)) (r : Result Bool Sto
     → IfOk r (λ has. IsOfBytes f)
     → ((rs : List Placed) (front rest : List ℕ) → ModuleBytes rs front → Some bytes ≡ Some (front ++ rest)
     → IsModule (λ (m : Module). m) (module_of rs) rest new (Err f))
-    → IfOk r (λ has. (other : Module) → IsRead bytes other → has ≡ is_in_module other)
+    → IfOk r (λ has. (other : Module) → IsRead bytes other → has ≡ has_bss other)
 has-none bytes new (Ok has) f of whole = λ other read. absurd (none-read bytes new f of whole other read)
 has-none bytes new (Err stop) f of whole = tt
 
 -- none of none
-pub none-yet : (read : List Module) → AreRead [] read → false ≡ has_bss read
-none-yet read ([], all, are) = ap has_bss (sym are)
+pub none-yet : (read : List Module) → AreRead [] read → false ≡ list_any has_bss read
+none-yet read ([], all, are) = ap (list_any has_bss) (sym are)
 none-yet read (l ∷ ls, all, are) = absurd all
 
 pub or-then : (found has result : Bool) → found ≡ true → result ≡ true → (found || has) ≡ result

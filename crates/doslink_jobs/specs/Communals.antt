@@ -2,6 +2,7 @@
 use Rattle.std.specs.Prelude.{◌≡◌, ℕ, List, [], map, Ok}
 use Rattle.std.specs.declared.option.Option.{Option}
 use Rattle.std.specs.declared.result.Result.{Result}
+use Rattle.std.specs.List.{list_any}
 use Rattle.omf_communal.specs.declared.fault.CommunalFault.{CommunalFault}
 use Rattle.omf_communal.specs.Answers.{communal_module}
 use Rattle.omf_communal.specs.Bss.{has_bss}
@@ -34,4 +35,4 @@ offering vs = record { wanted = []; offered = map (λ v. v.name) vs }
 -- variables.
 abbrev pub IsCommunalModule : (inputs : List (List ℕ)) → List Variable → (bytes : Option (List ℕ)) → Type 0
 IsCommunalModule inputs vs bytes =
-    (modules : List Module) → AreRead inputs modules → communal_module (has_bss modules) vs ≡ Ok bytes
+    (modules : List Module) → AreRead inputs modules → communal_module (list_any has_bss modules) vs ≡ Ok bytes

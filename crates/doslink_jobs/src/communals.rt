@@ -1,7 +1,7 @@
 //! The communal variables of the modules that a link takes, and the module that has them.
 ghost use Rattle.std.specs.Prelude.{◌≡◌, IfOk, Ok, map};
 ghost use Rattle.std.specs.Option.{option_map};
-ghost use Rattle.omf_communal.specs.Bss.{is_in_module};
+ghost use Rattle.omf_communal.specs.Bss as bss;
 ghost use Rattle.omf_communal.specs.Deciding.{variable_said};
 ghost use Rattle.omf_communal.specs.Modules.{module_said};
 ghost use Rattle.omf_module.specs.Module as spec;
@@ -13,9 +13,9 @@ ghost use Rattle.doslink_jobs.specs.inside.Declaring.{declared_said};
 ghost use Rattle.doslink_jobs.specs.inside.Reading.{IsOfBytes, IsRead, TellsBss};
 
 use crate::lowering::LoweredModule;
-use crate::stop::Stop;
+use crate::stop::{Stop, stop_after};
 use crate::taking::Taken;
-use doslink_telling::{push_clash, push_entry_fault, push_unplaced};
+use doslink_telling::{push_clash, push_entry_fault, push_fault, push_unplaced};
 use omf_communal::{
     ClashFault, Communal, CommunalFault, Declaring, PlanFault, Variable, communal_module,
     communals, has_bss, variables,
@@ -23,6 +23,7 @@ use omf_communal::{
 use omf_frame::MemSource;
 use omf_module::{FaultKind, ModuleFault, read_module};
 use omf_place::Names;
+use omf_text::LinkFault;
 use std::alloc::{AllocError, Allocator};
 
 /// What a module declares, and the names that it offers.
@@ -32,14 +33,6 @@ pub(crate) struct Declared<'m, 'a, A: Allocator + Copy> {
     pub communals: Vec<Communal<'a>, A>,
     /// The names that it offers to other modules.
     pub offered: &'m [&'a [u8]],
-}
-
-/// The stop after a line that tells why.
-fn stop_after(told: Result<(), AllocError>) -> Stop {
-    match told {
-        Ok(()) => Stop::Input,
-        Err(AllocError) => Stop::Memory,
-    }
 }
 
 /// Tells that a record that declares communal variables is at fault, and stops.
@@ -52,11 +45,7 @@ fn stop_at_entry<A: Allocator + Copy>(
     let CommunalFault::Malformed { place, fault } = fault else {
         return Stop::Memory;
     };
-    let word = match taken.words.get(index) {
-        Some(word) => word.as_slice(),
-        None => b"",
-    };
-    stop_after(push_entry_fault(lines, word, place, fault))
+    stop_after(push_entry_fault(lines, taken.word(index), place, fault))
 }
 
 /// What each module that a link takes declares. The first record at fault is told.
@@ -131,42 +120,57 @@ pub(crate) fn variable_names<'a, A: Allocator + Copy>(
     Ok(names)
 }
 
-/// What a module that can't be read has: not the segment `_BSS`, where its bytes are at fault, which the link names.
-fn unread(fault: ModuleFault) -> Result<bool, Stop>
+/// What a module that can't be read has: not the segment `_BSS`, where its bytes are at fault, which the link names. That
+/// its source failed is told by its word.
+fn unread<A: Allocator + Copy>(
+    alloc: A,
+    word: &[u8],
+    fault: ModuleFault,
+    lines: &mut Vec<u8, A>,
+) -> Result<bool, Stop>
     ensures { IfOk result (λ _. IsOfBytes fault) }
 {
     match fault {
         ModuleFault::Memory => Err(Stop::Memory),
         ModuleFault::Record {
+            place,
             kind: FaultKind::Device,
-            ..
-        } => Err(Stop::Device),
+        } => {
+            push_fault(alloc, lines, &LinkFault::Device { input: 0, place }, word)?;
+            Err(Stop::Device)
+        }
         ModuleFault::Record { .. } => Ok(false),
     }
 }
 
-/// Whether the module that these bytes begin with has the segment `_BSS` in DGROUP.
-fn has_bss_in<A: Allocator + Copy>(alloc: A, bytes: &[u8]) -> Result<bool, Stop>
-    ensures { IfOk result (λ has. (one : spec.Module) → IsRead bytes.now one → has ≡ is_in_module one) }
+/// Whether the module that these bytes begin with has the segment `_BSS` in DGROUP. The word is that of the module.
+fn has_bss_in<A: Allocator + Copy>(
+    alloc: A,
+    bytes: &[u8],
+    word: &[u8],
+    lines: &mut Vec<u8, A>,
+) -> Result<bool, Stop>
+    ensures { IfOk result (λ has. (one : spec.Module) → IsRead bytes.now one → has ≡ bss.has_bss one) }
 {
     let mut source = MemSource::over(bytes, usize::MAX, None);
-    let mut modules = Vec::new(alloc);
     match read_module(alloc, &mut source) {
-        Ok(one) => {
-            modules.push(one)?;
-            Ok(has_bss(&modules))
-        }
-        Err(fault) => unread(fault),
+        Ok(one) => Ok(has_bss(&one)),
+        Err(fault) => unread(alloc, word, fault, lines),
     }
 }
 
 /// Whether some lowered module has the segment `_BSS` in DGROUP.
-fn is_in_bss<A: Allocator + Copy>(alloc: A, modules: &[LoweredModule<'_, A>]) -> Result<bool, Stop>
+fn is_in_bss<A: Allocator + Copy>(
+    alloc: A,
+    modules: &[LoweredModule<'_, A>],
+    taken: &Taken<'_, '_, '_, A>,
+    lines: &mut Vec<u8, A>,
+) -> Result<bool, Stop>
     ensures { IfOk result (λ in_bss. TellsBss (map lowered_bytes modules.now) in_bss) }
 {
     let mut found = false;
-    for one in modules {
-        let has = has_bss_in(alloc, one.bytes())?;
+    for (index, one) in modules.iter().enumerate() {
+        let has = has_bss_in(alloc, one.bytes(), taken.word(index), lines)?;
         found = found || has;
     }
     Ok(found)
@@ -187,7 +191,7 @@ pub(crate) fn communal_bytes<A: Allocator + Copy>(
     if variables.is_empty() {
         return Ok(None);
     }
-    let in_bss = is_in_bss(alloc, modules)?;
+    let in_bss = is_in_bss(alloc, modules, taken, lines)?;
     match communal_module(alloc, variables, in_bss) {
         Ok(bytes) => Ok(bytes),
         Err(PlanFault::Memory) => Err(Stop::Memory),

@@ -14,6 +14,7 @@ use crate::lowering::{LoweredModule, lower_for, lowered_slices};
 use crate::ordering::{Asked, order_bytes};
 use crate::stop::Stop;
 use crate::taking::Taken;
+use crate::widths::warn_of_wide_segments;
 use doslink_stock::Handed;
 use doslink_telling::push_order_line;
 use doslink_words::Job;
@@ -181,7 +182,7 @@ fn asks_dosseg<A: Allocator + Copy>(handed: &[Handed<'_, '_, A>]) -> bool
 }
 
 /// The modules of a link as they are handed to it: those that it takes, lowered, the module of their communal variables
-/// behind them, and the order module in front of all.
+/// behind them, and the order module in front of all. Segments of 32 bits are warned of.
 pub(crate) fn inputs_of<'a, A: Allocator + Copy>(
     alloc: A,
     job: &Job<'_>,
@@ -202,6 +203,7 @@ pub(crate) fn inputs_of<'a, A: Allocator + Copy>(
         names: options_of(job).names,
     };
     let order = order_of(alloc, &modules, &communal, &asked, lines)?;
+    warn_of_wide_segments(alloc, job, &modules, taken, lines)?;
     Ok(Inputs {
         order,
         modules,

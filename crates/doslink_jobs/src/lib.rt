@@ -14,6 +14,7 @@ mod program;
 mod running;
 mod stop;
 mod taking;
+mod widths;
 mod words;
 
 pub use program::link_into;

@@ -6,7 +6,7 @@ ghost use Rattle.doslink_jobs.specs.Jobs.{AreLowered, AreLoweredFor, IsLoweringF
 ghost use Rattle.doslink_jobs.specs.inside.Inputs.{lowered_bytes};
 
 use crate::ordering::read_modules;
-use crate::stop::Stop;
+use crate::stop::{Stop, stop_after};
 use crate::taking::Taken;
 use doslink_stock::Handed;
 use doslink_telling::push_obstacle;
@@ -101,15 +101,8 @@ fn stop_at_record<A: Allocator + Copy>(
     let LoweringFault::At { number, obstacle } = fault else {
         return Stop::Memory;
     };
-    let word = match taken.words.get(index) {
-        Some(word) => word.as_slice(),
-        None => b"",
-    };
     let place = record_place(own, number);
-    match push_obstacle(lines, word, place, obstacle) {
-        Ok(()) => Stop::Input,
-        Err(AllocError) => Stop::Memory,
-    }
+    stop_after(push_obstacle(lines, taken.word(index), place, obstacle))
 }
 
 /// The bytes of the modules that are linked.

@@ -67,6 +67,14 @@ impl<T: Drop> From<AllocFailed<T>> for Stop {
     }
 }
 
+/// The stop for an input at fault, once its line is told.
+pub(crate) fn stop_after(told: Result<(), AllocError>) -> Stop {
+    match told {
+        Ok(()) => Stop::Input,
+        Err(AllocError) => Stop::Memory,
+    }
+}
+
 /// Tells that a file can't be read, and stops.
 pub(crate) fn stop_at<A: Allocator + Copy>(lines: &mut Vec<u8, A>, fault: FileFault<'_>) -> Stop {
     match fault {

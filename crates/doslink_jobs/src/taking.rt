@@ -32,6 +32,16 @@ pub(crate) struct Taken<'t, 'm, 'a, A: Allocator + Copy> {
     pub words: &'t [Vec<u8, A>],
 }
 
+impl<'t, A: Allocator + Copy> Taken<'t, '_, '_, A> {
+    /// The word for the module with this index; none behind the last.
+    pub(crate) fn word(&self, index: usize) -> &'t [u8] {
+        match self.words.get(index) {
+            Some(word) => word.as_slice(),
+            None => b"",
+        }
+    }
+}
+
 /// Writes a text to standard output.
 fn print<O: Write + Drop, A: Allocator + Copy>(
     output: &mut BufferedSink<O, A>,

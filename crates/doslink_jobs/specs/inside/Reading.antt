@@ -1,5 +1,6 @@
 -- A module that is read of bytes.
 use Rattle.std.specs.Prelude.{◌≡◌, ℕ, Bool, List}
+use Rattle.std.specs.List.{list_any}
 use Rattle.omf_record.specs.Records.{Placed}
 use Rattle.omf_communal.specs.Bss.{has_bss}
 use Rattle.omf_module.specs.declared.fault.FaultKind.TheVariants as kind
@@ -22,4 +23,4 @@ IsOfBytes (fault.Record place found) = Unit {0}
 
 -- this says whether the modules that inputs begin with have the segment `_BSS` in DGROUP
 abbrev pub TellsBss : (inputs : List (List ℕ)) → Bool → Type 0
-TellsBss inputs in_bss = (read : List Module) → AreRead inputs read → in_bss ≡ has_bss read
+TellsBss inputs in_bss = (read : List Module) → AreRead inputs read → in_bss ≡ list_any has_bss read

@@ -3,5 +3,5 @@ use Rattle.doslink_jobs.specs.inside.Inputs.{lowered_bytes}
 use Rattle.doslink_jobs.specs.inside.Reading.{TellsBss}
 use Rattle.doslink_jobs.proofs.communals.is_in_bss.Given as goal
 
-abbrev pub invariant-loop-one : goal.invariant-loop-one
-invariant-loop-one g l = TellsBss (map lowered_bytes (take l.one-index l.fn.modules)) l.found
+abbrev pub invariant-loop-index : goal.invariant-loop-index
+invariant-loop-index g l = TellsBss (map lowered_bytes (take l.index l.modules)) l.found
