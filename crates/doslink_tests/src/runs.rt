@@ -1,7 +1,7 @@
 //! Runs over a world in memory.
 use crate::declaring::{BODY, CUT_ELEMENT, END, FAR, LONG, MANY, NEAR, OTHER_SIZE, TABLE};
 use crate::memory::{Desk, Page, Pen};
-use crate::modules::{ELSEWHERE, LIBRARY, LIKE, MARKS, NAMES, OFFERS, WANTS};
+use crate::modules::{ELSEWHERE, LIBRARY, LIKE, MARKS, NAMES, OFFERS, WANTS, WIDE};
 use doslink_jobs::{language_of, run_words};
 use omf_files::BufferedSink;
 use omf_frame::WriteSink;
@@ -54,6 +54,7 @@ doslink -m RUN.LIB A.OBJ -l RUN|2||doslink: RUN.LIB: it is read and would be wri
 doslink -m A.EXE A.OBJ F.OBJ|2||doslink: A.EXE: it would be the program and its map~
 doslink G.OBJ|0||doslink: warning: library \"NONE\" of G.OBJ was not found~
 doslink --keep-debug A.OBJ F.OBJ|0||
+doslink WIDE.OBJ|0||doslink: warning: 32-bit segments of WIDE.OBJ are linked as 16-bit ones~
 wlink|2||doslink: no file is named to be linked~
 ";
 
@@ -115,6 +116,7 @@ fn told(alloc: Global, row: &str) -> Result<Vec<u8>, AllocError> {
         ("CUT.LIB", &LIBRARY.as_slice()[..CUT]),
         ("WORDS", RESPONSE.as_bytes()),
         ("LINES", DIRECTIVES.as_bytes()),
+        ("WIDE.OBJ", WIDE.as_slice()),
         ("NEAR.OBJ", NEAR.as_slice()),
         ("FAR.OBJ", FAR.as_slice()),
         ("SIZE.OBJ", OTHER_SIZE.as_slice()),
