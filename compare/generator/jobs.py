@@ -5,7 +5,7 @@ from dataclasses import dataclass, field
 from generator.libraries import SMALL_PAGES, archive, damaged, library
 from generator.objects import (
     CLASSES, NAMES, SEGMENTS, TITLES, ObjectMaker, any_plan, module_of_far_data,
-    module_of_many_parts)
+    module_of_many_parts, segments_called)
 from model import ordering
 from model.directives import Job
 from model.placement import folded
@@ -15,7 +15,10 @@ FOLDER, OTHER_FOLDER, LAST_FOLDER = "parts", "more/", "last"
 MOST_PARTS, MANY_EVERY = 16_383, 500
 # lengths of far data, which fits in a frame or not once it is in whole paragraphs
 FAR_LENGTHS = [(0xFFF0, 16), (0xFFF0, 17), (0xFFF1, 5), (0xFFE1, 15), (0x8000, 0x8000)]
-FAR_EVERY = 100
+# one seed in so many has such lengths, one a list of segments, and one BSS outside of DGROUP
+RARE_EVERY = 100
+# the classes that have more than one segment that combines
+FULL_CLASSES = [b"BEGDATA", b"DATA", b"BSS", b"STACK"]
 MEMBER_NAMES = [b"printf.o", b"exit.o", b"system.o", b"a_long_name_of_a_member.o", b"x"]
 DEFAULT_LIBRARIES = [b"SLIBCE", b"runtime.a", b"GRAPH.LIB", b"em87", b"slibce"]
 LINES_OF_NOTHING = [
@@ -106,6 +109,34 @@ class JobMaker:
         self.job.order = self.random.choice([ordering.DOSSEG, [ordering.Class(b"CODE")]])
         self.folders = []
         return self.asked()
+
+    def make_listed(self):
+        """An order that names the segments of a class, which modules have in any other."""
+        self.folders = []
+        class_name = self.random.choice(FULL_CLASSES)
+        names = sorted({name for name, its_class, combines, *_ in SEGMENTS
+                        if its_class == class_name and combines})
+        self.plan.segments = segments_called([b"_TEXT", *names])
+        self.add_some_objects()
+        self.random.shuffle(names)
+        self.job.order = [ordering.Class(class_name), *map(ordering.Named, names)]
+        return self.by_directives()
+
+    def make_bss_outside(self):
+        """Marks that the order's module defines, where class BSS is outside of DGROUP."""
+        self.folders = []
+        self.plan.segments = segments_called([b"_TEXT", b"_DATA", b"HUGE_BSS"])
+        self.plan.wants_marks = 0.9
+        self.add_some_objects()
+        self.job.order = ordering.DOSSEG
+        return self.asked()
+
+    def add_some_objects(self):
+        """Three of FILES, with a library for the names that they want, and a map."""
+        for number in range(3):
+            self.add_object(number)
+        self.offer_the_rest()
+        self.job.map = MAP
 
     def choose_default_libraries(self):
         if self.happens(0.4):
@@ -373,6 +404,10 @@ def case(random, number=1):
     maker = JobMaker(random)
     if number % MANY_EVERY == 0:
         return maker.make_many_parts(MOST_PARTS + number // MANY_EVERY % 2)
-    if number % FAR_EVERY == 1:
-        return maker.make_far_data(FAR_LENGTHS[number // FAR_EVERY % len(FAR_LENGTHS)])
+    if number % RARE_EVERY == 1:
+        return maker.make_far_data(FAR_LENGTHS[number // RARE_EVERY % len(FAR_LENGTHS)])
+    if number % RARE_EVERY == 97:
+        return maker.make_listed()
+    if number % RARE_EVERY == 98:
+        return maker.make_bss_outside()
     return maker.make()

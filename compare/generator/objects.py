@@ -56,6 +56,11 @@ class Plan:
     libraries: list = field(default_factory=list)
 
 
+def segments_called(names):
+    """The usual segments of these names that combine, each once."""
+    return [each for each in SEGMENTS if each[0] in names and each[2]]
+
+
 def any_plan(random, names):
     """A plan with some of the usual segments, often with those of DGROUP."""
     weights = [often for *_, often in SEGMENTS]
