@@ -1,5 +1,6 @@
 -- Files that are added behind others.
-use Rattle.std.proofs.Common.{◌≡◌, ◌⊎◌, ℕ, All, List, [], ◌∷◌, ◌++◌, map, Some, None, IfSome, inl, inr, sym, ap, ◌∙◌, append_assoc, append-nil}
+use Rattle.std.proofs.Common.{◌≡◌, ◌⊎◌, ℕ, All, List, [], ◌∷◌, ◌++◌, map, Some, None, IfSome, inl, inr, sym, ap, ◌∙◌}
+use Rattle.std.proofs.Common.{append_assoc, append-nil}
 use Rattle.std.proofs.lemmas.List.Elements.{All-append, All-cons, All-nil}
 use Rattle.std.specs.declared.option.Option.{Option}
 use Rattle.clap.specs.Words.{Text}

@@ -1,5 +1,6 @@
 -- Whether modules have the segment `_BSS`, one behind the other.
-use Rattle.std.proofs.Common.{◌≡◌, ℕ, ◌+◌, ◌<◌, ◌||◌, Bool, true, false, List, [], ◌∷◌, ◌++◌, length, map, take, get_or, Some, Result, Ok, Err, IfOk, refl, sym, subst, ap, ap₂, ◌∙◌}
+use Rattle.std.proofs.Common.{◌≡◌, ℕ, ◌+◌, ◌<◌, ◌||◌, Bool, true, false, List, [], ◌∷◌, ◌++◌, length, map, take, get_or}
+use Rattle.std.proofs.Common.{Some, Result, Ok, Err, IfOk, refl, sym, subst, ap, ap₂, ◌∙◌}
 use Rattle.std.proofs.lemmas.List.{map-append, take_more}
 use Rattle.std.proofs.lemmas.List.Folds.{list_any-append}
 use Rattle.std.specs.List.{list_any}
@@ -37,7 +38,8 @@ not-module view m rest new (fault.Record place kind.InputTooLong) of is = is
 -- the last of some inputs, and those before it
 AllBeginWith-last : (lists : List (List Placed)) (inputs : List (List ℕ)) (bytes : List ℕ)
     → AllBeginWith lists (inputs ++ bytes ∷ [])
-    → (front : List (List Placed)) × (records : List Placed) × (lists ≡ front ++ records ∷ []) × AllBeginWith front inputs
+    → (front : List (List Placed)) × (records : List Placed) × (lists ≡ front ++ records ∷ [])
+    × AllBeginWith front inputs
     × BeginsWith records bytes
 AllBeginWith-last [] [] bytes all = absurd all
 AllBeginWith-last [] (i ∷ is) bytes all = absurd all

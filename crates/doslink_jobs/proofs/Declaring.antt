@@ -50,5 +50,6 @@ offering_of names = record { wanted = []; offered = names }
 
 -- the module of variables offers their names
 pub offers-names : (names : List (Bor (List ℕ))) (vs : List variable.Variable)
-    → bytes_of names ≡ map (λ v. (variable_said v).name) vs → offering_of (bytes_of names) ≡ offering (map variable_said vs)
+    → bytes_of names ≡ map (λ v. (variable_said v).name) vs
+    → offering_of (bytes_of names) ≡ offering (map variable_said vs)
 offers-names names vs are = ap offering_of (are ∙ map-map variable_said (λ v. v.name) vs)

@@ -1,5 +1,6 @@
 -- What was done, step by step.
-use Rattle.std.proofs.Common.{◌≡◌, ◌⊎◌, ℕ, List, [], ◌∷◌, ◌++◌, refl, Bool, Vec, length, arith, map, Result, Ok, Err, OnOk, Some, None, IfSome, sym, subst, ap, ◌∙◌, append_assoc, inl, inr}
+use Rattle.std.proofs.Common.{◌≡◌, ◌⊎◌, ℕ, List, [], ◌∷◌, ◌++◌, refl, Bool, Vec, length, arith, map, Result, Ok, Err}
+use Rattle.std.proofs.Common.{OnOk, Some, None, IfSome, sym, subst, ap, ◌∙◌, append_assoc, inl, inr}
 use Rattle.std.specs.declared.option.Option.{Option}
 use Rattle.std.specs.List.{list_any}
 use Rattle.std.specs.Option.{option_map}
@@ -80,18 +81,20 @@ of-files A job files os ms first second linked = record {
 }
 
 -- the files of a job were read, and linked
-pub done : (A : Type 0) (told : Text → Option (List ℕ)) (folders all : List Text) (job : Job) (given files : List (List ℕ))
+pub done : (A : Type 0) (told : Text → Option (List ℕ)) (folders all : List Text) (job : Job)
+    (given files : List (List ℕ))
     → all ≡ texts job.folders.items ++ folders → AreGiven told job given → AddsDefaults told all job given files
     → IsLinked A job files → IsDone A told folders job
-done A told folders all job given files folded (named, libraries, first, second, is) (defaults, added, are) linked = record {
-  named = named;
-  libraries = libraries;
-  defaults = defaults;
-  are_named = first;
-  are_libraries = second;
-  are_defaults = subst (λ fs. AreDefaults told fs job defaults) folded are;
-  linked = subst (IsLinked A job) (added ∙ ap (λ l. l ++ defaults) is) linked;
-}
+done A told folders all job given files folded (named, libraries, first, second, is) (defaults, added, are) linked =
+    record {
+      named = named;
+      libraries = libraries;
+      defaults = defaults;
+      are_named = first;
+      are_libraries = second;
+      are_defaults = subst (λ fs. AreDefaults told fs job defaults) folded are;
+      linked = subst (IsLinked A job) (added ∙ ap (λ l. l ++ defaults) is) linked;
+    }
 
 -- a run ends well only where what it does holds
 pub EndsWith-weaker : (P Q : Type 0) (tells : List ℕ → Type 0) (status : ℕ) → (P → Q) → EndsWith P tells status

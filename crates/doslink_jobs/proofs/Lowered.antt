@@ -1,5 +1,6 @@
 -- Modules that are lowered, one behind the other.
-use Rattle.std.proofs.Common.{◌≡◌, ℕ, ◌+◌, ◌<◌, List, [], ◌∷◌, ◌++◌, length, map, take, get_or, Some, None, Result, Ok, sym, ap, ap₂, ◌∙◌, Vec}
+use Rattle.std.proofs.Common.{◌≡◌, ℕ, ◌+◌, ◌<◌, List, [], ◌∷◌, ◌++◌, length, map, take, get_or, Some, None, Result, Ok}
+use Rattle.std.proofs.Common.{sym, ap, ap₂, ◌∙◌, Vec}
 use Rattle.std.proofs.lemmas.List.{map-append, take_more}
 use Rattle.std.specs.declared.option.Option.{Option}
 use Rattle.std.specs.Option.{option_map_or}
@@ -30,6 +31,7 @@ lowered-next {A} lowering handed i d old new one h are is pushed =
     ap (map bytes) (take_more handed i d h) ∙ map-append bytes (take i handed) (get_or handed i d ∷ []) in
     let back : map lowered_bytes new ≡ map lowered_bytes old ++ lowered_bytes one ∷ [] =
     ap (map lowered_bytes) pushed ∙ map-append lowered_bytes old (one ∷ []) in
-    ap (map (lowered lowering)) front ∙ map-append (lowered lowering) (map bytes (take i handed)) (bytes (get_or handed i d) ∷ [])
+    ap (map (lowered lowering)) front
+    ∙ map-append (lowered lowering) (map bytes (take i handed)) (bytes (get_or handed i d) ∷ [])
     ∙ ap₂ (λ l r. l ++ r ∷ []) are is ∙ sym (map-append Ok (map lowered_bytes old) (lowered_bytes one ∷ []))
     ∙ sym (ap (map Ok) back)

@@ -1,5 +1,6 @@
 -- The names that stay missing, one by one.
-use Rattle.std.proofs.Common.{◌≡◌, ℕ, ◌+◌, ◌<◌, Bool, true, false, not, List, [], ◌∷◌, ◌++◌, cond, filter, length, map, take, get_or, sym, ap, ap₂, ◌∙◌, append-nil}
+use Rattle.std.proofs.Common.{◌≡◌, ℕ, ◌+◌, ◌<◌, Bool, true, false, not, List, [], ◌∷◌, ◌++◌, cond, filter, length, map}
+use Rattle.std.proofs.Common.{take, get_or, sym, ap, ap₂, ◌∙◌, append-nil}
 use Rattle.std.proofs.lemmas.List.{map-append, take_more}
 use Rattle.std.proofs.lemmas.List.Elements.{filter-append}
 use Rattle.omf_place.specs.declared.names.Names.{Names}
@@ -15,7 +16,8 @@ module _ (names : Names) where
 
   next : (ws : List code.Wanted) (i : ℕ) (d : code.Wanted) → i < length ws
       → filter stays (map wanted_said (take (i + 1) ws))
-      ≡ filter stays (map wanted_said (take i ws)) ++ cond (stays (wanted_said (get_or ws i d))) (wanted_said (get_or ws i d) ∷ []) []
+      ≡ filter stays (map wanted_said (take i ws))
+      ++ cond (stays (wanted_said (get_or ws i d))) (wanted_said (get_or ws i d) ∷ []) []
   next ws i d h =
       ap (λ l. filter stays (map wanted_said l)) (take_more ws i d h)
       ∙ ap (filter stays) (map-append wanted_said (take i ws) (get_or ws i d ∷ []))
@@ -26,7 +28,9 @@ module _ (names : Names) where
       → map wanted_said old ≡ filter stays (map wanted_said (take (i + 1) ws))
   mark-left-out ws i d old h is before =
       before ∙ sym (append-nil (filter stays (map wanted_said (take i ws))))
-      ∙ ap (λ (b : Bool). filter stays (map wanted_said (take i ws)) ++ cond (not b) (wanted_said (get_or ws i d) ∷ []) []) (sym is)
+      ∙ ap
+      (λ (b : Bool). filter stays (map wanted_said (take i ws)) ++ cond (not b) (wanted_said (get_or ws i d) ∷ []) [])
+      (sym is)
       ∙ sym (next ws i d h)
 
   pub name-kept : (ws : List code.Wanted) (i : ℕ) (d : code.Wanted) (old new : List code.Wanted) → i < length ws
@@ -36,5 +40,7 @@ module _ (names : Names) where
   name-kept ws i d old new h is pushed before =
       ap (map wanted_said) pushed ∙ map-append wanted_said old (get_or ws i d ∷ [])
       ∙ ap (λ l. l ++ wanted_said (get_or ws i d) ∷ []) before
-      ∙ ap (λ (b : Bool). filter stays (map wanted_said (take i ws)) ++ cond (not b) (wanted_said (get_or ws i d) ∷ []) []) (sym is)
+      ∙ ap
+      (λ (b : Bool). filter stays (map wanted_said (take i ws)) ++ cond (not b) (wanted_said (get_or ws i d) ∷ []) [])
+      (sym is)
       ∙ sym (next ws i d h)

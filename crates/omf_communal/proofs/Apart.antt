@@ -1,5 +1,6 @@
 -- The places of variables are apart.
-use Rattle.std.proofs.Common.{◌≡◌, ℕ, zero, suc, ◌+◌, ◌-◌, ◌*◌, ◌%◌, ◌≤◌, true, false, cond, ltb, leb, min, List, [], ◌∷◌, ◌++◌, map, Ok, Err, refl, sym, subst, ◌∙◌, arith}
+use Rattle.std.proofs.Common.{◌≡◌, ℕ, zero, suc, ◌+◌, ◌-◌, ◌*◌, ◌%◌, ◌≤◌, true, false, cond, ltb, leb, min, List, []}
+use Rattle.std.proofs.Common.{◌∷◌, ◌++◌, map, Ok, Err, refl, sym, subst, ◌∙◌, arith}
 use Rattle.std.specs.Prelude.{sum}
 use Rattle.std.proofs.lemmas.Bool.{leb-true}
 use Rattle.std.proofs.lemmas.List.Sums.{sum_by-cons}
@@ -9,12 +10,15 @@ use Rattle.omf_communal.specs.declared.declarations.Extent.TheVariants.{Near, Fa
 use Rattle.omf_communal.specs.declared.fault.PlanFault.TheVariants.{NearTooLong, CutElement, TooManySegments}
 use Rattle.omf_communal.specs.Apart.{AreApart, ArePlaced, FarRow, NearRow, Sized, far_of, fars, near_of, nears}
 use Rattle.omf_communal.specs.Deciding.{Variable}
-use Rattle.omf_communal.specs.Plan.{Place, far_first, far_lengths, far_lengths_of, far_next, far_place, far_places, fits_near, is_cut, near_end, near_next, near_place, near_places, near_segment, near_start, part_count, part_lengths}
+use Rattle.omf_communal.specs.Plan.{Place, far_first, far_lengths, far_lengths_of, far_next, far_place, far_places}
+use Rattle.omf_communal.specs.Plan.{fits_near, is_cut, near_end, near_next, near_place, near_places, near_segment}
+use Rattle.omf_communal.specs.Plan.{near_start, part_count, part_lengths}
 use Rattle.omf_communal.proofs.Fitting.{and-parts, both, length-parts, made, made_with}
 
 -- ---- near ones
 
-one_near : (at index : ℕ) (name : List ℕ) (e : Extent) (ps : List Place) (end : ℕ) (ss : List Sized) (qs : List Place) → near_place at index name e ≡ Ok ps →
+one_near : (at index : ℕ) (name : List ℕ) (e : Extent) (ps : List Place) (end : ℕ) (ss : List Sized) (qs : List Place) →
+    near_place at index name e ≡ Ok ps →
     NearRow (near_next at e) end ss qs → NearRow at end (near_of name e ++ ss) (ps ++ qs)
 one_near at index name (Far count size) ps end ss qs e h =
     let is : [] ≡ ps = cc in
@@ -23,55 +27,71 @@ one_near at index name (Near n) ps end ss qs e h =
     let start = near_start at n in
     let p : Place = record { name = name; group = 1; segment = 1; offset = start } in
     let s : Sized = record { name = name; bytes = n } in
-    (elim (fits_near start n) as (λ b. cond b (Ok (p ∷ [])) (Err (NearTooLong index)) ≡ Ok ps → NearRow at end (s ∷ ss) (ps ++ qs)) [
+    (elim (fits_near start n) as (λ b.
+    cond b (Ok (p ∷ [])) (Err (NearTooLong index)) ≡ Ok ps → NearRow at end (s ∷ ss) (ps ++ qs)) [
       | true ↦ λ u.
           let is : p ∷ [] ≡ ps = cc in
-          subst (λ xs. NearRow at end (s ∷ ss) (xs ++ qs)) is (record { name = refl; group = refl; segment = refl; behind = behind at n }, h)
+          subst (λ xs. NearRow at end (s ∷ ss) (xs ++ qs)) is
+          (record { name = refl; group = refl; segment = refl; behind = behind at n }, h)
       | false ↦ λ u. absurd (cc)
     ]) e
   where
     behind : (at n : ℕ) → at ≤ near_start at n
     behind at n = elim (leb n 1) as (λ b. at ≤ cond b at (at + at % 2)) [ true ↦ omega arith | false ↦ omega arith ]
 
-near_row : (at index : ℕ) (vs : List Variable) (ps : List Place) → near_places at index vs ≡ Ok ps → NearRow at (near_end at vs) (nears vs) ps
+near_row : (at index : ℕ) (vs : List Variable) (ps : List Place) → near_places at index vs ≡ Ok ps
+    → NearRow at (near_end at vs) (nears vs) ps
 near_row at index [] ps e = let is : [] ≡ ps = cc in subst (NearRow at at []) is (omega arith)
 near_row at index (v ∷ vs) ps e =
     let next = near_next at v.extent in
     let parts = both (near_place at index v.name v.extent) (near_places next (index + 1) vs) ps e in
     subst (NearRow at (near_end next vs) (nears (v ∷ vs))) (sym parts.4)
-    (one_near at index v.name v.extent parts.0 (near_end next vs) (nears vs) parts.1 parts.2 (near_row next (index + 1) vs parts.1 parts.3))
+    (one_near at index v.name v.extent parts.0 (near_end next vs) (nears vs) parts.1 parts.2
+    (near_row next (index + 1) vs parts.1 parts.3))
 
-near_short : (at index : ℕ) (vs : List Variable) (ps : List Place) → at ≤ 65536 → near_places at index vs ≡ Ok ps → near_end at vs ≤ 65536
+near_short : (at index : ℕ) (vs : List Variable) (ps : List Place) → at ≤ 65536 → near_places at index vs ≡ Ok ps
+    → near_end at vs ≤ 65536
 near_short at index [] ps h e = h
 near_short at index (v ∷ vs) ps h e =
     let parts = both (near_place at index v.name v.extent) (near_places (near_next at v.extent) (index + 1) vs) ps e in
-    near_short (near_next at v.extent) (index + 1) vs parts.1 (next_short at index v.name v.extent parts.0 h parts.2) parts.3
+    near_short (near_next at v.extent) (index + 1) vs parts.1 (next_short at index v.name v.extent parts.0 h parts.2)
+    parts.3
   where
-    next_short : (at index : ℕ) (name : List ℕ) (e : Extent) (ps : List Place) → at ≤ 65536 → near_place at index name e ≡ Ok ps → near_next at e ≤ 65536
+    next_short : (at index : ℕ) (name : List ℕ) (e : Extent) (ps : List Place) → at ≤ 65536
+        → near_place at index name e ≡ Ok ps → near_next at e ≤ 65536
     next_short at index name (Far count size) ps h e = h
     next_short at index name (Near n) ps h e =
         let start = near_start at n in
-        (elim (fits_near start n) as (λ b. fits_near start n ≡ b → cond b (Ok (record { name = name; group = 1; segment = 1; offset = start } ∷ [])) (Err (NearTooLong index)) ≡ Ok ps → start + n ≤ 65536) [
+        (elim (fits_near start n) as (λ b.
+        fits_near start n ≡ b
+        → cond b (Ok (record { name = name; group = 1; segment = 1; offset = start } ∷ [])) (Err (NearTooLong index))
+        ≡ Ok ps → start + n ≤ 65536) [
           | true ↦ λ t u. leb-true _ _ (and-parts (ltb start 65536) (leb (start + n) 65536) t).1
           | false ↦ λ t u. absurd (cc)
         ]) refl e
 
 -- ---- far ones
 
-sum_from : (n a b : ℕ) → sum (map (λ k. min 65536 (b - 65536 * k)) (range_with_len a n)) ≡ min (65536 * n) (b - 65536 * a)
+sum_from : (n a b : ℕ)
+    → sum (map (λ k. min 65536 (b - 65536 * k)) (range_with_len a n)) ≡ min (65536 * n) (b - 65536 * a)
 sum_from zero a b = omega arith
 sum_from (suc n) a b =
     let rest = sum (map (λ k. min 65536 (b - 65536 * k)) (range_with_len (a + 1) n)) in
     let more : rest ≡ min (65536 * n) (b - 65536 * (a + 1)) = sum_from n (a + 1) b in
     let all : min 65536 (b - 65536 * a) + rest ≡ min (65536 * suc n) (b - 65536 * a) = omega (arith, more) in
-    sum_by-cons (λ k. k) (min 65536 (b - 65536 * a)) (map (λ k. min 65536 (b - 65536 * k)) (range_with_len (a + 1) n)) ∙ all
+    sum_by-cons (λ k. k) (min 65536 (b - 65536 * a)) (map (λ k. min 65536 (b - 65536 * k)) (range_with_len (a + 1) n))
+    ∙ all
 
 -- the segments of so many bytes have these
 sum-parts : (bytes : ℕ) → sum (part_lengths bytes) ≡ bytes
-sum-parts bytes = let all = sum_from (part_count bytes) 0 bytes in let enough : bytes ≤ 65536 * part_count bytes = omega arith in omega (arith, all, enough)
+sum-parts bytes =
+    let all = sum_from (part_count bytes) 0 bytes in
+    let enough : bytes ≤ 65536 * part_count bytes = omega arith in omega (arith, all, enough)
 
-one_far : (segment index : ℕ) (name : List ℕ) (e : Extent) (ps : List Place) (parts : List ℕ) (ss : List Sized) (qs : List Place) → far_place segment index name e ≡ Ok ps →
-    FarRow (far_next segment e) parts ss qs → FarRow segment (far_lengths_of e ++ parts) (far_of name e ++ ss) (ps ++ qs)
+one_far : (segment index : ℕ) (name : List ℕ) (e : Extent) (ps : List Place) (parts : List ℕ) (ss : List Sized)
+    (qs : List Place) → far_place segment index name e ≡ Ok ps →
+    FarRow (far_next segment e) parts ss qs →
+    FarRow segment (far_lengths_of e ++ parts) (far_of name e ++ ss) (ps ++ qs)
 one_far segment index name (Near n) ps parts ss qs e h =
     let is : [] ≡ ps = cc in
     subst (λ xs. FarRow segment parts ss (xs ++ qs)) is h
@@ -81,10 +101,13 @@ one_far segment index name (Far count size) ps parts ss qs e h =
     let p : Place = record { name = name; group = 0; segment = segment; offset = 0 } in
     let s : Sized = record { name = name; bytes = bytes } in
     let all = part_lengths bytes ++ parts in
-    (elim (is_cut count size) as (λ b. cond b (Err (CutElement index)) (cond (ltb 32768 next) (Err (TooManySegments index)) (Ok (p ∷ []))) ≡ Ok ps → FarRow segment all (s ∷ ss) (ps ++ qs)) [
+    (elim (is_cut count size) as (λ b.
+    cond b (Err (CutElement index)) (cond (ltb 32768 next) (Err (TooManySegments index)) (Ok (p ∷ []))) ≡ Ok ps
+    → FarRow segment all (s ∷ ss) (ps ++ qs)) [
       | true ↦ λ u. absurd (cc)
       | false ↦ λ u.
-          (elim (ltb 32768 next) as (λ b. cond b (Err (TooManySegments index)) (Ok (p ∷ [])) ≡ Ok ps → FarRow segment all (s ∷ ss) (ps ++ qs)) [
+          (elim (ltb 32768 next) as (λ b.
+          cond b (Err (TooManySegments index)) (Ok (p ∷ [])) ≡ Ok ps → FarRow segment all (s ∷ ss) (ps ++ qs)) [
             | true ↦ λ w. absurd (cc)
             | false ↦ λ w.
                 let is : p ∷ [] ≡ ps = cc in
@@ -98,13 +121,15 @@ one_far segment index name (Far count size) ps parts ss qs e h =
           ]) u
     ]) e
 
-far_row : (segment index : ℕ) (vs : List Variable) (ps : List Place) → far_places segment index vs ≡ Ok ps → FarRow segment (far_lengths vs) (fars vs) ps
+far_row : (segment index : ℕ) (vs : List Variable) (ps : List Place) → far_places segment index vs ≡ Ok ps
+    → FarRow segment (far_lengths vs) (fars vs) ps
 far_row segment index [] ps e = let is : [] ≡ ps = cc in subst (FarRow segment [] []) is refl
 far_row segment index (v ∷ vs) ps e =
     let next = far_next segment v.extent in
     let parts = both (far_place segment index v.name v.extent) (far_places next (index + 1) vs) ps e in
     subst (FarRow segment (far_lengths (v ∷ vs)) (fars (v ∷ vs))) (sym parts.4)
-    (one_far segment index v.name v.extent parts.0 (far_lengths vs) (fars vs) parts.1 parts.2 (far_row next (index + 1) vs parts.1 parts.3))
+    (one_far segment index v.name v.extent parts.0 (far_lengths vs) (fars vs) parts.1 parts.2
+    (far_row next (index + 1) vs parts.1 parts.3))
 
 -- ---- the whole
 
@@ -116,7 +141,8 @@ no_near at index vs e = empty (nears vs) (near_end at vs) at (near_row at index 
     empty [] end at h = refl
     empty (s ∷ ss) end at h = absurd h
 
-apart_with : (vs : List Variable) (near far : List Place) → near_places 0 0 vs ≡ Ok near → far_places (far_first near) 0 vs ≡ Ok far →
+apart_with : (vs : List Variable) (near far : List Place) → near_places 0 0 vs ≡ Ok near →
+    far_places (far_first near) 0 vs ≡ Ok far →
     AreApart vs (record { near = near_segment near (near_end 0 vs); far = far_lengths vs; places = near ++ far })
 apart_with vs [] far n f = record {
   near = [];

@@ -1,5 +1,7 @@
 -- The canonical bodies of the records of the module, and that each fits a frame.
-use Rattle.std.proofs.Common.{◌≡◌, ℕ, suc, ◌+◌, ◌/◌, ◌%◌, ◌<◌, ◌≤◌, Bool, true, false, cond, eqb, inl, inr, List, [], ◌∷◌, ◌++◌, length, get_or, None, refl, sym, ap, subst, arith, ltb, length-append, lit<, lit≤}
+use Rattle.std.proofs.Common.{◌≡◌, ℕ, suc, ◌+◌, ◌/◌, ◌%◌, ◌<◌, ◌≤◌, Bool, true, false, cond, eqb, inl, inr, List, []}
+use Rattle.std.proofs.Common.{◌∷◌, ◌++◌, length, get_or, None, refl, sym, ap, subst, arith, ltb, length-append, lit<}
+use Rattle.std.proofs.Common.{lit≤}
 use Rattle.std.specs.Prelude.{codes}
 use Rattle.std.proofs.lemmas.Bool.{eqb-false, ltb-true}
 use Rattle.std.specs.List.{AllByRecursion, flat_map}
@@ -17,7 +19,8 @@ use Rattle.omf_record.specs.inside.Fields.{ComponentText, PublicText, SegmentTex
 use Rattle.omf_record.specs.Canonical as canon
 use Rattle.omf_record.specs.Canonical.{FitsFrame, canonical}
 use Rattle.omf_communal.specs.inside.Planned.{IsBase, IsName}
-use Rattle.omf_communal.specs.Records.{dgroup, far_definition, far_names, length_of, near_definition, near_name, near_names}
+use Rattle.omf_communal.specs.Records.{dgroup, far_definition, far_names, length_of, near_definition, near_name}
+use Rattle.omf_communal.specs.Records.{near_names}
 
 joined : {L M : List ℕ → Type 0} (a b : List ℕ) → L a → M b → Joined L M (a ++ b)
 joined a b l m = record { front = a; rest = b; parts = refl; first = l; second = m }
@@ -31,12 +34,16 @@ index_text n h =
     ]) refl
 
 index_len : (n : ℕ) → length (canon.index n) ≤ 2
-index_len n = elim (ltb n 128) as (λ b. length (cond b (n ∷ []) ((128 + n / 256) ∷ n % 256 ∷ [])) ≤ 2) [ true ↦ lit≤ tt | false ↦ lit≤ tt ]
+index_len n = elim (ltb n 128) as (λ b. length (cond b (n ∷ []) ((128 + n / 256) ∷ n % 256 ∷ [])) ≤ 2) [
+  | true ↦ lit≤ tt
+  | false ↦ lit≤ tt
+]
 
 name_text : (n : List ℕ) → IsName n → Name n (canon.name n)
 name_text n h = (h.0, h.1, refl)
 
-each_text : {A : Type 0} (L : A → List ℕ → Type 0) (f : A → List ℕ) (xs : List A) → AllByRecursion (λ x. L x (f x)) xs → each L xs (flat_map f xs)
+each_text : {A : Type 0} (L : A → List ℕ → Type 0) (f : A → List ℕ) (xs : List A) → AllByRecursion (λ x. L x (f x)) xs
+    → each L xs (flat_map f xs)
 each_text L f [] h = refl
 each_text L f (x ∷ xs) h = joined (f x) (flat_map f xs) h.0 (each_text L f xs h.1)
 
@@ -47,7 +54,8 @@ dgroup_name = (lit≤ tt, (lit< tt, (lit< tt, (lit< tt, (lit< tt, (lit< tt, (lit
 
 is_near_name : (in_bss : Bool) → IsName (near_name in_bss)
 is_near_name true = (lit≤ tt, (lit< tt, (lit< tt, (lit< tt, (lit< tt, tt)))))
-is_near_name false = (lit≤ tt, (lit< tt, (lit< tt, (lit< tt, (lit< tt, (lit< tt, (lit< tt, (lit< tt, (lit< tt, tt)))))))))
+is_near_name false =
+    (lit≤ tt, (lit< tt, (lit< tt, (lit< tt, (lit< tt, (lit< tt, (lit< tt, (lit< tt, (lit< tt, tt)))))))))
 
 bss_name : IsName (codes "BSS")
 bss_name = (lit≤ tt, (lit< tt, (lit< tt, (lit< tt, tt))))
@@ -62,7 +70,14 @@ pub names_fit : (a b : List ℕ) → IsName a → IsName b → FitsFrame (Lnames
 unfolding Body canonical
 names_fit a b h k = record {
   body = each_text Name canon.name (a ∷ b ∷ []) (name_text a h, (name_text b k, tt));
-  short = omega (arith, h.0, k.0, length-append (canon.name a) (flat_map canon.name (b ∷ [])), length-append (canon.name b) []);
+  short =
+      omega (
+        arith,
+        h.0,
+        k.0,
+        length-append (canon.name a) (flat_map canon.name (b ∷ [])),
+        length-append (canon.name b) [],
+      );
 }
 
 pub near_names_fit : (in_bss : Bool) → FitsFrame (near_names in_bss)
@@ -86,32 +101,49 @@ end_fits = record { body = (0, lit< tt, refl, refl); short = lit≤ tt }
 pub group_fits : FitsFrame (Grpdef 1 (1 ∷ []))
 unfolding Body canonical
 group_fits = record {
-  body = joined (canon.index 1) (flat_map canon.component (1 ∷ [])) (index_text 1 (lit≤ tt)) (each_text ComponentText canon.component (1 ∷ []) (joined (0xFF ∷ []) (canon.index 1) (lit< tt, refl) (index_text 1 (lit≤ tt)), tt));
+  body =
+      joined (canon.index 1) (flat_map canon.component (1 ∷ [])) (index_text 1 (lit≤ tt))
+      (each_text ComponentText canon.component (1 ∷ [])
+      (joined (0xFF ∷ []) (canon.index 1) (lit< tt, refl) (index_text 1 (lit≤ tt)), tt));
   short = lit≤ tt;
 }
 
 -- ---- SEGDEF
 
-segment_by : (s : SegmentDefinition) → One (Acbp s) (canon.acbp s ∷ []) → AbsoluteText s.alignment [] → canon.absolute_text s.alignment ≡ [] →
-    LengthText s.length (canon.word (canon.length_word s.length)) → s.name ≤ 32767 → s.class ≤ 32767 → s.overlay ≤ 32767 → FitsFrame (Segdef s)
+segment_by : (s : SegmentDefinition) → One (Acbp s) (canon.acbp s ∷ []) → AbsoluteText s.alignment [] →
+    canon.absolute_text s.alignment ≡ [] →
+    LengthText s.length (canon.word (canon.length_word s.length)) → s.name ≤ 32767 → s.class ≤ 32767 →
+    s.overlay ≤ 32767 → FitsFrame (Segdef s)
 unfolding Body canonical
 segment_by s head absolute none len name class overlay =
     let tail = canon.index s.name ++ (canon.index s.class ++ canon.index s.overlay) in
     let w = canon.word (canon.length_word s.length) in
     let is : canon.segment s ≡ (canon.acbp s ∷ []) ++ ([] ++ (w ++ tail)) = rw none refl in
     let text : SegmentText s ((canon.acbp s ∷ []) ++ ([] ++ (w ++ tail))) =
-    joined _ _ head (joined _ _ absolute (joined _ _ len (joined _ _ (index_text s.name name) (joined _ _ (index_text s.class class) (index_text s.overlay overlay))))) in
+    joined _ _ head
+    (joined _ _ absolute
+    (joined _ _ len
+    (joined _ _ (index_text s.name name) (joined _ _ (index_text s.class class) (index_text s.overlay overlay))))) in
     record {
       body = subst (SegmentText s) (sym is) text;
       short = let l = ap length is in
-          omega (arith, l, length-append (canon.index s.name) (canon.index s.class ++ canon.index s.overlay), length-append (canon.index s.class) (canon.index s.overlay), index_len s.name, index_len s.class, index_len s.overlay);
+          omega (
+            arith,
+            l,
+            length-append (canon.index s.name) (canon.index s.class ++ canon.index s.overlay),
+            length-append (canon.index s.class) (canon.index s.overlay),
+            index_len s.name,
+            index_len s.class,
+            index_len s.overlay,
+          );
     }
 
 below : (n : ℕ) → n ≤ 65536 → eqb n 65536 ≡ false → n < 65536
 below n h e = let other = eqb-false n 65536 e in omega (arith, other)
 
 -- a definition of a length of at most 65,536 bytes
-by_length : (definition : SegmentLength → SegmentDefinition) → FitsFrame (Segdef (definition len.Whole)) → ((n : ℕ) → n < 65536 → FitsFrame (Segdef (definition (len.Word n)))) →
+by_length : (definition : SegmentLength → SegmentDefinition) → FitsFrame (Segdef (definition len.Whole)) →
+    ((n : ℕ) → n < 65536 → FitsFrame (Segdef (definition (len.Word n)))) →
     (n : ℕ) → n ≤ 65536 → FitsFrame (Segdef (definition (length_of n)))
 by_length definition whole word n h =
     (elim (eqb n 65536) as (λ b. eqb n 65536 ≡ b → FitsFrame (Segdef (definition (cond b len.Whole (len.Word n))))) [
@@ -120,33 +152,48 @@ by_length definition whole word n h =
     ]) refl
 
 abbrev pub near_with : SegmentLength → SegmentDefinition
-near_with l = record { alignment = align.Word; combination = combine.Public2; length = l; name = 2; class = 3; overlay = 0 }
+near_with l =
+    record { alignment = align.Word; combination = combine.Public2; length = l; name = 2; class = 3; overlay = 0 }
 
 abbrev pub far_with : SegmentLength → SegmentDefinition
-far_with l = record { alignment = align.Paragraph; combination = combine.Private; length = l; name = 4; class = 4; overlay = 0 }
+far_with l =
+    record { alignment = align.Paragraph; combination = combine.Private; length = l; name = 4; class = 4; overlay = 0 }
 
 pub near_fits : (n : ℕ) → n ≤ 65536 → FitsFrame (Segdef (near_definition n))
 near_fits n h = by_length near_with
-    (segment_by (near_with len.Whole) (74, lit< tt, (refl, refl, refl, refl), refl) refl refl (lit< tt, refl) (lit≤ tt) (lit≤ tt) (lit≤ tt))
-    (λ m small. segment_by (near_with (len.Word m)) (72, lit< tt, (refl, refl, refl, refl), refl) refl refl (small, refl) (lit≤ tt) (lit≤ tt) (lit≤ tt)) n h
+    (segment_by (near_with len.Whole) (74, lit< tt, (refl, refl, refl, refl), refl) refl refl (lit< tt, refl) (lit≤ tt)
+    (lit≤ tt) (lit≤ tt))
+    (λ m small.
+    segment_by (near_with (len.Word m)) (72, lit< tt, (refl, refl, refl, refl), refl) refl refl (small, refl) (lit≤ tt)
+    (lit≤ tt) (lit≤ tt)) n h
 
 pub far_fits : (n : ℕ) → n ≤ 65536 → FitsFrame (Segdef (far_definition n))
 far_fits n h = by_length far_with
-    (segment_by (far_with len.Whole) (98, lit< tt, (refl, refl, refl, refl), refl) refl refl (lit< tt, refl) (lit≤ tt) (lit≤ tt) (lit≤ tt))
-    (λ m small. segment_by (far_with (len.Word m)) (96, lit< tt, (refl, refl, refl, refl), refl) refl refl (small, refl) (lit≤ tt) (lit≤ tt) (lit≤ tt)) n h
+    (segment_by (far_with len.Whole) (98, lit< tt, (refl, refl, refl, refl), refl) refl refl (lit< tt, refl) (lit≤ tt)
+    (lit≤ tt) (lit≤ tt))
+    (λ m small.
+    segment_by (far_with (len.Word m)) (96, lit< tt, (refl, refl, refl, refl), refl) refl refl (small, refl) (lit≤ tt)
+    (lit≤ tt) (lit≤ tt)) n h
 
 -- ---- PUBDEF
 
-pub public_fits : (group segment offset : ℕ) (name : List ℕ) → group ≤ 1 → 0 < segment → segment ≤ 32767 → offset < 65536 → IsName name →
+pub public_fits : (group segment offset : ℕ) (name : List ℕ) → group ≤ 1 → 0 < segment → segment ≤ 32767 →
+    offset < 65536 → IsName name →
     FitsFrame (Pubdef false (InSegment group segment) (record { name = name; offset = offset; type_index = 0 } ∷ []))
 unfolding Body canonical
 public_fits group segment offset name g positive small o named =
     let p : Public = record { name = name; offset = offset; type_index = 0 } in
     let front = canon.index group ++ canon.index segment in
-    let base_text : BaseText (InSegment group segment) front = joined (canon.index group) (canon.index segment) (index_text group (omega (arith, g))) (positive, index_text segment small) in
-    let text : PublicText p (canon.public p) = joined (canon.name name) (canon.word offset ++ canon.index 0) (name_text name named) (joined (canon.word offset) (canon.index 0) (o, refl) (index_text 0 (lit≤ tt))) in
+    let base_text : BaseText (InSegment group segment) front =
+    joined (canon.index group) (canon.index segment) (index_text group (omega (arith, g)))
+    (positive, index_text segment small) in
+    let text : PublicText p (canon.public p) =
+    joined (canon.name name) (canon.word offset ++ canon.index 0) (name_text name named)
+    (joined (canon.word offset) (canon.index 0) (o, refl) (index_text 0 (lit≤ tt))) in
     record {
-      body = joined front (flat_map canon.public (p ∷ [])) base_text (each_text PublicText canon.public (p ∷ []) (text, tt));
+      body =
+          joined front (flat_map canon.public (p ∷ [])) base_text
+          (each_text PublicText canon.public (p ∷ []) (text, tt));
       short = omega (
         arith,
         length-append front (flat_map canon.public (p ∷ [])),

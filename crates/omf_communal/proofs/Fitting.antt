@@ -1,5 +1,7 @@
 -- A plan has indexes, offsets and lengths that records can say.
-use Rattle.std.proofs.Common.{◌≡◌, ℕ, ◌+◌, ◌-◌, ◌*◌, ◌<◌, ◌≤◌, Bool, true, false, cond, ◌&&◌, ltb, leb, min, List, [], ◌∷◌, ◌++◌, length, map, Option, Some, None, IfSome, Ok, Err, refl, ap, sym, subst, ◌∙◌, arith, length-append, lit<, lit≤}
+use Rattle.std.proofs.Common.{◌≡◌, ℕ, ◌+◌, ◌-◌, ◌*◌, ◌<◌, ◌≤◌, Bool, true, false, cond, ◌&&◌, ltb, leb, min, List, []}
+use Rattle.std.proofs.Common.{◌∷◌, ◌++◌, length, map, Option, Some, None, IfSome, Ok, Err, refl, ap, sym, subst, ◌∙◌}
+use Rattle.std.proofs.Common.{arith, length-append, lit<, lit≤}
 use Rattle.std.proofs.lemmas.List.{length-map}
 use Rattle.std.proofs.lemmas.Bool.{leb-true, ltb-false, ltb-true}
 use Rattle.std.proofs.lemmas.List.FromFn.{length-range_with_len}
@@ -13,7 +15,9 @@ use Rattle.omf_communal.specs.declared.declarations.Extent.TheVariants.{Near, Fa
 use Rattle.omf_communal.specs.declared.fault.PlanFault.{PlanFault}
 use Rattle.omf_communal.specs.declared.fault.PlanFault.TheVariants.{NearTooLong, CutElement, TooManySegments}
 use Rattle.omf_communal.specs.Deciding.{Variable}
-use Rattle.omf_communal.specs.Plan.{Place, Plan, far_first, far_lengths, far_lengths_of, far_next, far_place, far_places, fits_near, is_cut, near_end, near_next, near_place, near_places, near_segment, near_start, part_count, part_lengths, plan, plan_with}
+use Rattle.omf_communal.specs.Plan.{Place, Plan, far_first, far_lengths, far_lengths_of, far_next, far_place}
+use Rattle.omf_communal.specs.Plan.{far_places, fits_near, is_cut, near_end, near_next, near_place, near_places}
+use Rattle.omf_communal.specs.Plan.{near_segment, near_start, part_count, part_lengths, plan, plan_with}
 use Rattle.omf_communal.specs.Whole.{IsNamed}
 
 -- a place in one of so many segments, of one of so many groups or none
@@ -36,16 +40,19 @@ pub record Fits (p : Plan) : Type 0 where
   pub count : count_of p.near + length p.far ≤ 32767
   pub places : AllByRecursion (FitsPlace (count_of p.near) (count_of p.near + length p.far)) p.places
 
-All-append : {X : Type 0} (P : X → Type 0) (xs ys : List X) → AllByRecursion P xs → AllByRecursion P ys → AllByRecursion P (xs ++ ys)
+All-append : {X : Type 0} (P : X → Type 0) (xs ys : List X) → AllByRecursion P xs → AllByRecursion P ys
+    → AllByRecursion P (xs ++ ys)
 All-append P [] ys h k = k
 All-append P (x ∷ xs) ys h k = (h.0, All-append P xs ys h.1 k)
 
-All-all : {X : Type 0} (P Q : X → Type 0) (xs : List X) → ((x : X) → P x → Q x) → AllByRecursion P xs → AllByRecursion Q xs
+All-all : {X : Type 0} (P Q : X → Type 0) (xs : List X) → ((x : X) → P x → Q x) → AllByRecursion P xs
+    → AllByRecursion Q xs
 All-all P Q [] f h = tt
 All-all P Q (x ∷ xs) f h = (f x h.0, All-all P Q xs f h.1)
 
 -- the parts of an answer that two make
-pub both : {A E : Type 0} (r : Result (List A) E) (next : Result (List A) E) (all : List A) → result_and_then (λ ps. joined ps next) r ≡ Ok all →
+pub both : {A E : Type 0} (r : Result (List A) E) (next : Result (List A) E) (all : List A) →
+    result_and_then (λ ps. joined ps next) r ≡ Ok all →
     (ps qs : List A) × (r ≡ Ok ps) × (next ≡ Ok qs) × (all ≡ ps ++ qs)
 both (Ok ps) (Ok qs) all e = (ps, qs, refl, refl, sym (let u : ps ++ qs ≡ all = cc in u))
 both (Ok ps) (Err f) all e = absurd (cc)
@@ -64,23 +71,30 @@ record IsNear (p : Place) : Type 0 where
   offset : p.offset < 65536
   name : IsName p.name
 
-near_one : (at index : ℕ) (name : List ℕ) (e : Extent) (ps : List Place) → at ≤ 65536 → IsName name → near_place at index name e ≡ Ok ps → AllByRecursion IsNear ps × (near_next at e ≤ 65536)
+near_one : (at index : ℕ) (name : List ℕ) (e : Extent) (ps : List Place) → at ≤ 65536 → IsName name
+    → near_place at index name e ≡ Ok ps → AllByRecursion IsNear ps × (near_next at e ≤ 65536)
 near_one at index name (Far count size) ps h named e =
     let is : [] ≡ ps = cc in
     (subst (λ qs. AllByRecursion IsNear qs) is tt, h)
 near_one at index name (Near n) ps h named e =
     let start = near_start at n in
     let p : Place = record { name = name; group = 1; segment = 1; offset = start } in
-    (elim (fits_near start n) as (λ b. fits_near start n ≡ b → cond b (Ok (p ∷ [])) (Err (NearTooLong index)) ≡ Ok ps → AllByRecursion IsNear ps × (start + n ≤ 65536)) [
+    (elim (fits_near start n) as (λ b.
+    fits_near start n ≡ b → cond b (Ok (p ∷ [])) (Err (NearTooLong index)) ≡ Ok ps
+    → AllByRecursion IsNear ps × (start + n ≤ 65536)) [
       | true ↦ λ t u.
           let parts = and-parts (ltb start 65536) (leb (start + n) 65536) t in
           let is : p ∷ [] ≡ ps = cc in
-          let low : start < 65536 = ltb-true _ _ parts.0 in
-          (subst (λ qs. AllByRecursion IsNear qs) is (record { group = refl; segment = refl; offset = low; name = named }, tt), leb-true _ _ parts.1)
+          let low : start < 65536 = ltb-true _ _ parts.0 in (
+            subst (λ qs. AllByRecursion IsNear qs) is
+                (record { group = refl; segment = refl; offset = low; name = named }, tt),
+            leb-true _ _ parts.1,
+          )
       | false ↦ λ t u. absurd (cc)
     ]) refl e
 
-near_all : (at index : ℕ) (vs : List Variable) (ps : List Place) → at ≤ 65536 → AllByRecursion IsNamed vs → near_places at index vs ≡ Ok ps → AllByRecursion IsNear ps × (near_end at vs ≤ 65536)
+near_all : (at index : ℕ) (vs : List Variable) (ps : List Place) → at ≤ 65536 → AllByRecursion IsNamed vs
+    → near_places at index vs ≡ Ok ps → AllByRecursion IsNear ps × (near_end at vs ≤ 65536)
 near_all at index [] ps h named e =
     let is : [] ≡ ps = cc in
     (subst (λ qs. AllByRecursion IsNear qs) is tt, h)
@@ -100,13 +114,16 @@ record IsFar (low high : ℕ) (p : Place) : Type 0 where
   name : IsName p.name
 
 pub length-parts : (bytes : ℕ) → length (part_lengths bytes) ≡ part_count bytes
-length-parts bytes = length-map (range_with_len 0 (part_count bytes)) (λ k. min 65536 (bytes - 65536 * k)) ∙ length-range_with_len 0 (part_count bytes)
+length-parts bytes =
+    length-map (range_with_len 0 (part_count bytes)) (λ k. min 65536 (bytes - 65536 * k))
+    ∙ length-range_with_len 0 (part_count bytes)
 
 next-is : (segment : ℕ) (e : Extent) → far_next segment e ≡ segment + length (far_lengths_of e)
 next-is segment (Near n) = omega arith
 next-is segment (Far count size) = ap (λ n. segment + n) (sym (length-parts (count * size)))
 
-far_one : (segment index : ℕ) (name : List ℕ) (e : Extent) (ps : List Place) → segment ≤ 32768 → IsName name → far_place segment index name e ≡ Ok ps →
+far_one : (segment index : ℕ) (name : List ℕ) (e : Extent) (ps : List Place) → segment ≤ 32768 → IsName name →
+    far_place segment index name e ≡ Ok ps →
     AllByRecursion (IsFar segment (far_next segment e)) ps × (far_next segment e ≤ 32768)
 far_one segment index name (Near n) ps h named e =
     let is : [] ≡ ps = cc in
@@ -114,22 +131,36 @@ far_one segment index name (Near n) ps h named e =
 far_one segment index name (Far count size) ps h named e =
     let next = segment + part_count (count * size) in
     let p : Place = record { name = name; group = 0; segment = segment; offset = 0 } in
-    (elim (is_cut count size) as (λ b. cond b (Err (CutElement index)) (cond (ltb 32768 next) (Err (TooManySegments index)) (Ok (p ∷ []))) ≡ Ok ps → AllByRecursion (IsFar segment next) ps × (next ≤ 32768)) [
+    (elim (is_cut count size) as (λ b.
+    cond b (Err (CutElement index)) (cond (ltb 32768 next) (Err (TooManySegments index)) (Ok (p ∷ []))) ≡ Ok ps
+    → AllByRecursion (IsFar segment next) ps × (next ≤ 32768)) [
       | true ↦ λ u. absurd (cc)
       | false ↦ λ u.
-          (elim (ltb 32768 next) as (λ b. ltb 32768 next ≡ b → cond b (Err (TooManySegments index)) (Ok (p ∷ [])) ≡ Ok ps → AllByRecursion (IsFar segment next) ps × (next ≤ 32768)) [
+          (elim (ltb 32768 next) as (λ b.
+          ltb 32768 next ≡ b → cond b (Err (TooManySegments index)) (Ok (p ∷ [])) ≡ Ok ps
+          → AllByRecursion (IsFar segment next) ps × (next ≤ 32768)) [
             | true ↦ λ t w. absurd (cc)
             | false ↦ λ t w.
                 let is : p ∷ [] ≡ ps = cc in
-                let more : segment < next = omega arith in
-                (subst (λ qs. AllByRecursion (IsFar segment next) qs) is (record { group = refl; from = omega arith; to = more; offset = refl; name = named }, tt), ltb-false _ _ t)
+                let more : segment < next = omega arith in (
+                  subst (λ qs. AllByRecursion (IsFar segment next) qs) is
+                      (record { group = refl; from = omega arith; to = more; offset = refl; name = named }, tt),
+                  ltb-false _ _ t,
+                )
           ]) refl u
     ]) e
 
 wider : (low high low' high' : ℕ) → low' ≤ low → high ≤ high' → (p : Place) → IsFar low high p → IsFar low' high' p
-wider low high low' high' h k p f = record { group = f.group; from = omega (arith, f.from, h); to = omega (arith, f.to, k); offset = f.offset; name = f.name }
+wider low high low' high' h k p f = record {
+  group = f.group;
+  from = omega (arith, f.from, h);
+  to = omega (arith, f.to, k);
+  offset = f.offset;
+  name = f.name;
+}
 
-far_all : (segment index : ℕ) (vs : List Variable) (ps : List Place) → segment ≤ 32768 → AllByRecursion IsNamed vs → far_places segment index vs ≡ Ok ps →
+far_all : (segment index : ℕ) (vs : List Variable) (ps : List Place) → segment ≤ 32768 → AllByRecursion IsNamed vs →
+    far_places segment index vs ≡ Ok ps →
     AllByRecursion (IsFar segment (segment + length (far_lengths vs))) ps × (segment + length (far_lengths vs) ≤ 32768)
 far_all segment index [] ps h named e =
     let is : [] ≡ ps = cc in
@@ -145,8 +176,11 @@ far_all segment index (v ∷ vs) ps h named e =
     let high = segment + length (far_lengths (v ∷ vs)) in (
       subst (λ qs. AllByRecursion (IsFar segment high) qs) (sym parts.4)
           (All-append (IsFar segment high) parts.0 parts.1
-          (All-all (IsFar segment next) (IsFar segment high) parts.0 (wider segment next segment high (omega arith) (omega (arith, end))) one.0)
-          (All-all (IsFar next (next + length (far_lengths vs))) (IsFar segment high) parts.1 (wider next (next + length (far_lengths vs)) segment high (omega (arith, step)) (omega (arith, end))) rest.0)),
+          (All-all (IsFar segment next) (IsFar segment high) parts.0
+          (wider segment next segment high (omega arith) (omega (arith, end))) one.0)
+          (All-all (IsFar next (next + length (far_lengths vs))) (IsFar segment high) parts.1
+          (wider next (next + length (far_lengths vs)) segment high (omega (arith, step)) (omega (arith, end)))
+          rest.0)),
       omega (arith, rest.1, end),
     )
 
@@ -156,21 +190,39 @@ small_map f (x ∷ xs) h = (h x, small_map f xs h)
 
 small_parts : (e : Extent) → AllByRecursion (λ n. n ≤ 65536) (far_lengths_of e)
 small_parts (Near n) = tt
-small_parts (Far count size) = small_map (λ k. min 65536 (count * size - 65536 * k)) (range_with_len 0 (part_count (count * size))) (λ k. omega arith)
+small_parts (Far count size) =
+    small_map (λ k. min 65536 (count * size - 65536 * k)) (range_with_len 0 (part_count (count * size)))
+    (λ k. omega arith)
 
 small_all : (vs : List Variable) → AllByRecursion (λ n. n ≤ 65536) (far_lengths vs)
 small_all [] = tt
-small_all (v ∷ vs) = All-append (λ n. n ≤ 65536) (far_lengths_of v.extent) (far_lengths vs) (small_parts v.extent) (small_all vs)
+small_all (v ∷ vs) =
+    All-append (λ n. n ≤ 65536) (far_lengths_of v.extent) (far_lengths vs) (small_parts v.extent) (small_all vs)
 
 -- ---- the whole
 
 near_fits : (s : ℕ) → 1 ≤ s → (p : Place) → IsNear p → FitsPlace 1 s p
-near_fits s h p n = record { group = omega (arith, n.group); group_one = omega (arith, n.group); positive = omega (arith, n.segment); segment = omega (arith, n.segment, h); offset = n.offset; name = n.name }
+near_fits s h p n = record {
+  group = omega (arith, n.group);
+  group_one = omega (arith, n.group);
+  positive = omega (arith, n.segment);
+  segment = omega (arith, n.segment, h);
+  offset = n.offset;
+  name = n.name;
+}
 
 far_fits : (g low high s : ℕ) → 0 < low → high ≤ s + 1 → (p : Place) → IsFar low high p → FitsPlace g s p
-far_fits g low high s positive h p f = record { group = omega (arith, f.group); group_one = omega (arith, f.group); positive = omega (arith, f.from, positive); segment = omega (arith, f.to, h); offset = omega (arith, f.offset); name = f.name }
+far_fits g low high s positive h p f = record {
+  group = omega (arith, f.group);
+  group_one = omega (arith, f.group);
+  positive = omega (arith, f.from, positive);
+  segment = omega (arith, f.to, h);
+  offset = omega (arith, f.offset);
+  name = f.name;
+}
 
-with_near : (vs : List Variable) (near far : List Place) → AllByRecursion IsNear near → near_end 0 vs ≤ 65536 → AllByRecursion IsNamed vs → far_places (far_first near) 0 vs ≡ Ok far →
+with_near : (vs : List Variable) (near far : List Place) → AllByRecursion IsNear near → near_end 0 vs ≤ 65536 →
+    AllByRecursion IsNamed vs → far_places (far_first near) 0 vs ≡ Ok far →
     Fits (record { near = near_segment near (near_end 0 vs); far = far_lengths vs; places = near ++ far })
 with_near vs [] far n end named e =
     let fars = far_all 1 0 vs far (lit≤ tt) named e in
@@ -179,7 +231,9 @@ with_near vs [] far n end named e =
       near = tt;
       far = small_all vs;
       count = omega (arith, fars.1);
-      places = All-all (IsFar 1 (1 + s)) (FitsPlace 0 (0 + s)) far (far_fits 0 1 (1 + s) (0 + s) (lit< tt) (omega arith)) fars.0;
+      places =
+          All-all (IsFar 1 (1 + s)) (FitsPlace 0 (0 + s)) far (far_fits 0 1 (1 + s) (0 + s) (lit< tt) (omega arith))
+          fars.0;
     }
 with_near vs (p ∷ ps) far n end named e =
     let fars = far_all 2 0 vs far (lit≤ tt) named e in
@@ -188,17 +242,32 @@ with_near vs (p ∷ ps) far n end named e =
       near = end;
       far = small_all vs;
       count = omega (arith, fars.1);
-      places = All-append (FitsPlace 1 (1 + s)) (p ∷ ps) far (All-all IsNear (FitsPlace 1 (1 + s)) (p ∷ ps) (near_fits (1 + s) (omega arith)) n)
-          (All-all (IsFar 2 (2 + s)) (FitsPlace 1 (1 + s)) far (far_fits 1 2 (2 + s) (1 + s) (lit< tt) (omega arith)) fars.0);
+      places =
+          All-append (FitsPlace 1 (1 + s)) (p ∷ ps) far
+          (All-all IsNear (FitsPlace 1 (1 + s)) (p ∷ ps) (near_fits (1 + s) (omega arith)) n)
+          (All-all (IsFar 2 (2 + s)) (FitsPlace 1 (1 + s)) far (far_fits 1 2 (2 + s) (1 + s) (lit< tt) (omega arith))
+          fars.0);
     }
 
 pub made_with : (vs : List Variable) (near : List Place) (r : Result (List Place) PlanFault) (p : Plan) →
-    result_and_then (λ far. let q : Result Plan PlanFault = Ok (record { near = near_segment near (near_end 0 vs); far = far_lengths vs; places = near ++ far }) in q) r ≡ Ok p →
-    (far : List Place) × (r ≡ Ok far) × ((let q : Plan = record { near = near_segment near (near_end 0 vs); far = far_lengths vs; places = near ++ far } in q) ≡ p)
-made_with vs near (Ok far) p e = (far, refl, (let q : Plan = record { near = near_segment near (near_end 0 vs); far = far_lengths vs; places = near ++ far } in let r : Result Plan PlanFault = Ok q in let u : r ≡ Ok p = e in cc))
+    result_and_then
+    (λ far.
+    let q : Result Plan PlanFault =
+    Ok (record { near = near_segment near (near_end 0 vs); far = far_lengths vs; places = near ++ far }) in q) r
+    ≡ Ok p →
+    (far : List Place) × (r ≡ Ok far)
+    × ((let q : Plan =
+    record { near = near_segment near (near_end 0 vs); far = far_lengths vs; places = near ++ far } in q) ≡ p)
+made_with vs near (Ok far) p e = (
+  far,
+  refl,
+  (let q : Plan = record { near = near_segment near (near_end 0 vs); far = far_lengths vs; places = near ++ far } in
+      let r : Result Plan PlanFault = Ok q in let u : r ≡ Ok p = e in cc),
+)
 made_with vs near (Err f) p e = absurd (cc)
 
-pub made : (vs : List Variable) (r : Result (List Place) PlanFault) (p : Plan) → result_and_then (plan_with vs) r ≡ Ok p → (near : List Place) × (r ≡ Ok near) × (plan_with vs near ≡ Ok p)
+pub made : (vs : List Variable) (r : Result (List Place) PlanFault) (p : Plan) → result_and_then (plan_with vs) r ≡ Ok p
+    → (near : List Place) × (r ≡ Ok near) × (plan_with vs near ≡ Ok p)
 made vs (Ok near) p e = (near, refl, e)
 made vs (Err f) p e = absurd (cc)
 

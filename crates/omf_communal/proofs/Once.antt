@@ -1,5 +1,6 @@
 -- Each name has one variable, of the greatest length that is asked for.
-use Rattle.std.proofs.Common.{◌≡◌, ℕ, true, false, cond, eqb, max, inl, inr, ◌⊎◌, List, [], ◌∷◌, ◌++◌, Ok, Err, refl, ap, sym, subst, ◌∙◌, append_assoc, arith}
+use Rattle.std.proofs.Common.{◌≡◌, ℕ, true, false, cond, eqb, max, inl, inr, ◌⊎◌, List, [], ◌∷◌, ◌++◌, Ok, Err, refl}
+use Rattle.std.proofs.Common.{ap, sym, subst, ◌∙◌, append_assoc, arith}
 use Rattle.std.proofs.lemmas.Bool.{cases_lt, eqb-true}
 use Rattle.std.proofs.lemmas.List.{append-nil}
 use Rattle.std.specs.declared.result.Result.{Result}
@@ -20,11 +21,13 @@ use Rattle.omf_communal.proofs.Agreeing.{names_agree}
 
 -- ---- lists
 
-All-all : {X : Type 0} (P Q : X → Type 0) (xs : List X) → ((x : X) → P x → Q x) → AllByRecursion P xs → AllByRecursion Q xs
+All-all : {X : Type 0} (P Q : X → Type 0) (xs : List X) → ((x : X) → P x → Q x) → AllByRecursion P xs
+    → AllByRecursion Q xs
 All-all P Q [] f h = tt
 All-all P Q (x ∷ xs) f h = (f x h.0, All-all P Q xs f h.1)
 
-All-append : {X : Type 0} (P : X → Type 0) (xs ys : List X) → AllByRecursion P xs → AllByRecursion P ys → AllByRecursion P (xs ++ ys)
+All-append : {X : Type 0} (P : X → Type 0) (xs ys : List X) → AllByRecursion P xs → AllByRecursion P ys
+    → AllByRecursion P (xs ++ ys)
 All-append P [] ys h k = k
 All-append P (x ∷ xs) ys h k = (h.0, All-append P xs ys h.1 k)
 
@@ -69,14 +72,18 @@ greater-is w (Near a) x (Near b) g e =
     max_is : (a b : ℕ) → (max a b ≡ a) ⊎ (max a b ≡ b)
     max_is a b = elim (cases_lt a b) [ inl lt ↦ inr (omega arith) | inr le ↦ inl (omega arith) ]
 greater-is w (Far a s) x (Far b t) g e =
-    (elim (eqb s t) as (λ c. eqb s t ≡ c → cond c (Ok (Far (max a b) s)) (Err (ElementSizes w x)) ≡ Ok g → IsGreater (Far a s) (Far b t) g) [
+    (elim (eqb s t) as (λ c.
+    eqb s t ≡ c → cond c (Ok (Far (max a b) s)) (Err (ElementSizes w x)) ≡ Ok g → IsGreater (Far a s) (Far b t) g) [
       | true ↦ λ q u.
           let one : s ≡ t = eqb-true _ _ q in
           let is : Far (max a b) s ≡ g = cc in
           subst (IsGreater (Far a s) (Far b t)) is (record {
             first = (refl, omega arith);
             second = (one, omega arith);
-            either = elim (max_is a b) [ inl h ↦ inl (ap (λ n. Far n s) h) | inr h ↦ inr (ap (λ n. Far n s) h ∙ ap (Far b) one) ];
+            either = elim (max_is a b) [
+              | inl h ↦ inl (ap (λ n. Far n s) h)
+              | inr h ↦ inr (ap (λ n. Far n s) h ∙ ap (Far b) one)
+            ];
           })
       | false ↦ λ q u. absurd (cc)
     ]) refl e
@@ -95,7 +102,9 @@ record IsWidened (v : Variable) (d : Declared) (w : Variable) : Type 0 where
 widened-is : (v : Variable) (d : Declared) (w : Variable) → widened v d ≡ Ok w → IsWidened v d w
 widened-is v d w e =
     (elim (greater v.first v.extent d.whose d.extent) as (λ r. greater v.first v.extent d.whose d.extent ≡ r →
-    result_and_then (λ x. let u : Result Variable ClashFault = Ok (record { name = v.name; extent = x; first = v.first }) in u) r ≡ Ok w → IsWidened v d w) [
+    result_and_then
+    (λ x. let u : Result Variable ClashFault = Ok (record { name = v.name; extent = x; first = v.first }) in u) r ≡ Ok w
+    → IsWidened v d w) [
       | Ok x ↦ λ g u.
           let made : Variable = record { name = v.name; extent = x; first = v.first } in
           let r : Result Variable ClashFault = Ok made in
@@ -111,22 +120,29 @@ module _ (names : Names) (d : Declared) where
   -- what `meet` makes of variables
   data Met : List Variable → List Variable → Type 0 where
     IsNew : Met [] (fresh d ∷ [])
-    IsHere : (v w : Variable) (vs : List Variable) → agrees names d.name v.name ≡ true → IsWidened v d w → Met (v ∷ vs) (w ∷ vs)
-    IsLater : (v : Variable) (vs ws : List Variable) → agrees names d.name v.name ≡ false → Met vs ws → Met (v ∷ vs) (v ∷ ws)
+    IsHere : (v w : Variable) (vs : List Variable) → agrees names d.name v.name ≡ true → IsWidened v d w
+        → Met (v ∷ vs) (w ∷ vs)
+    IsLater : (v : Variable) (vs ws : List Variable) → agrees names d.name v.name ≡ false → Met vs ws
+        → Met (v ∷ vs) (v ∷ ws)
 
   meet-is : (vs ws : List Variable) → meet names d vs ≡ Ok ws → Met vs ws
   meet-is [] ws e = let is : fresh d ∷ [] ≡ ws = cc in subst (Met []) is IsNew
   meet-is (v ∷ vs) ws e =
-      (elim (agrees names d.name v.name) as (λ b. agrees names d.name v.name ≡ b → cond b (result_and_then (λ w. Ok (w ∷ vs)) (widened v d)) (joined (v ∷ []) (meet names d vs)) ≡ Ok ws → Met (v ∷ vs) ws) [
+      (elim (agrees names d.name v.name) as (λ b.
+      agrees names d.name v.name ≡ b
+      → cond b (result_and_then (λ w. Ok (w ∷ vs)) (widened v d)) (joined (v ∷ []) (meet names d vs)) ≡ Ok ws
+      → Met (v ∷ vs) ws) [
         | true ↦ λ t u. here t (widened v d) refl u
         | false ↦ λ t u. later t (meet names d vs) refl u (λ xs h. meet-is vs xs h)
       ]) refl e
     where
-      here : agrees names d.name v.name ≡ true → (r : Result Variable ClashFault) → widened v d ≡ r → result_and_then (λ w. Ok (w ∷ vs)) r ≡ Ok ws → Met (v ∷ vs) ws
+      here : agrees names d.name v.name ≡ true → (r : Result Variable ClashFault) → widened v d ≡ r
+          → result_and_then (λ w. Ok (w ∷ vs)) r ≡ Ok ws → Met (v ∷ vs) ws
       here t (Ok w) h u = let is : w ∷ vs ≡ ws = cc in subst (Met (v ∷ vs)) is (IsHere v w vs t (widened-is v d w h))
       here t (Err f) h u = absurd (cc)
 
-      later : agrees names d.name v.name ≡ false → (r : Result (List Variable) ClashFault) → meet names d vs ≡ r → joined (v ∷ []) r ≡ Ok ws →
+      later : agrees names d.name v.name ≡ false → (r : Result (List Variable) ClashFault) → meet names d vs ≡ r →
+          joined (v ∷ []) r ≡ Ok ws →
           ((xs : List Variable) → meet names d vs ≡ Ok xs → Met vs xs) → Met (v ∷ vs) ws
       later t (Ok xs) h u k = let is : v ∷ xs ≡ ws = cc in subst (Met (v ∷ vs)) is (IsLater v vs xs t (k xs h))
       later t (Err f) h u k = absurd (cc)
@@ -134,70 +150,99 @@ module _ (names : Names) (d : Declared) where
   -- the declaration is served
   serves_it : (vs ws : List Variable) → Met vs ws → Any (Serves names d) ws
   serves_it vs ws IsNew = inl (record { name = (names_agree names).refl d.name; extent = same d.extent })
-  serves_it vs ws (IsHere v w us t h) = inl (record { name = ap (agrees names d.name) h.name ∙ t; extent = h.extent.second })
+  serves_it vs ws (IsHere v w us t h) =
+      inl (record { name = ap (agrees names d.name) h.name ∙ t; extent = h.extent.second })
   serves_it vs ws (IsLater v us xs t m) = inr (serves_it us xs m)
 
   -- another one still is
   still_served : (e : Declared) (vs ws : List Variable) → Met vs ws → Any (Serves names e) vs → Any (Serves names e) ws
   still_served e vs ws IsNew s = absurd s
-  still_served e vs ws (IsHere v w us t h) (inl s) = inl (record { name = ap (agrees names e.name) h.name ∙ s.name; extent = between w.extent v.extent e.extent h.extent.first s.extent })
+  still_served e vs ws (IsHere v w us t h) (inl s) =
+      inl (record {
+        name = ap (agrees names e.name) h.name ∙ s.name;
+        extent = between w.extent v.extent e.extent h.extent.first s.extent;
+      })
   still_served e vs ws (IsHere v w us t h) (inr s) = inr s
   still_served e vs ws (IsLater v us xs t m) (inl s) = inl s
   still_served e vs ws (IsLater v us xs t m) (inr s) = inr (still_served e us xs m s)
 
-  Any-map : (v w : Variable) (xs : List Declared) → ((x : Declared) → AsksAll names v x → AsksAll names w x) → Any (AsksAll names v) xs → Any (AsksAll names w) xs
+  Any-map : (v w : Variable) (xs : List Declared) → ((x : Declared) → AsksAll names v x → AsksAll names w x)
+      → Any (AsksAll names v) xs → Any (AsksAll names w) xs
   Any-map v w [] f s = absurd s
   Any-map v w (x ∷ xs) f (inl s) = inl (f x s)
   Any-map v w (x ∷ xs) f (inr s) = inr (Any-map v w xs f s)
 
-  here_asked : (es : List Declared) (v w : Variable) → agrees names d.name v.name ≡ true → IsWidened v d w → Any (AsksAll names v) es → Any (AsksAll names w) (es ++ d ∷ [])
+  here_asked : (es : List Declared) (v w : Variable) → agrees names d.name v.name ≡ true → IsWidened v d w
+      → Any (AsksAll names v) es → Any (AsksAll names w) (es ++ d ∷ [])
   here_asked es v w t h a =
       elim h.extent.either [
-        | inl e ↦ Any-map v w (es ++ d ∷ []) (λ x s. record { name = ap (agrees names x.name) h.name ∙ s.name; extent = e ∙ s.extent }) (Any-front (AsksAll names v) es (d ∷ []) a)
+        | inl e ↦
+            Any-map v w (es ++ d ∷ [])
+            (λ x s. record { name = ap (agrees names x.name) h.name ∙ s.name; extent = e ∙ s.extent })
+            (Any-front (AsksAll names v) es (d ∷ []) a)
         | inr e ↦ Any-last (AsksAll names w) es d (record { name = ap (agrees names d.name) h.name ∙ t; extent = e })
       ]
 
   -- each variable has what is asked for
-  still_asked : (es : List Declared) (vs ws : List Variable) → Met vs ws → AllByRecursion (λ v. Any (AsksAll names v) es) vs → AllByRecursion (λ v. Any (AsksAll names v) (es ++ d ∷ [])) ws
-  still_asked es vs ws IsNew a = (Any-last (AsksAll names (fresh d)) es d (record { name = (names_agree names).refl d.name; extent = refl }), tt)
+  still_asked : (es : List Declared) (vs ws : List Variable) → Met vs ws
+      → AllByRecursion (λ v. Any (AsksAll names v) es) vs
+      → AllByRecursion (λ v. Any (AsksAll names v) (es ++ d ∷ [])) ws
+  still_asked es vs ws IsNew a =
+      (Any-last (AsksAll names (fresh d)) es d (record { name = (names_agree names).refl d.name; extent = refl }), tt)
   still_asked es vs ws (IsHere v w us t h) a = (
     here_asked es v w t h a.0,
-    All-all (λ x. Any (AsksAll names x) es) (λ x. Any (AsksAll names x) (es ++ d ∷ [])) us (λ x s. Any-front (AsksAll names x) es (d ∷ []) s) a.1,
+    All-all (λ x. Any (AsksAll names x) es) (λ x. Any (AsksAll names x) (es ++ d ∷ [])) us
+        (λ x s. Any-front (AsksAll names x) es (d ∷ []) s) a.1,
   )
-  still_asked es vs ws (IsLater v us xs t m) a = (Any-front (AsksAll names v) es (d ∷ []) a.0, still_asked es us xs m a.1)
+  still_asked es vs ws (IsLater v us xs t m) a =
+      (Any-front (AsksAll names v) es (d ∷ []) a.0, still_asked es us xs m a.1)
 
   -- what holds of each name, and of the declaration's
-  all_names : (P : List ℕ → Type 0) (vs ws : List Variable) → Met vs ws → P d.name → AllByRecursion (λ v. P v.name) vs → AllByRecursion (λ v. P v.name) ws
+  all_names : (P : List ℕ → Type 0) (vs ws : List Variable) → Met vs ws → P d.name → AllByRecursion (λ v. P v.name) vs
+      → AllByRecursion (λ v. P v.name) ws
   all_names P vs ws IsNew p h = (p, tt)
   all_names P vs ws (IsHere v w us t k) p h = (subst P (sym k.name) h.0, h.1)
   all_names P vs ws (IsLater v us xs t m) p h = (h.0, all_names P us xs m p h.1)
 
   still_apart : (vs ws : List Variable) → Met vs ws → HaveOwnNames names vs → HaveOwnNames names ws
   still_apart vs ws IsNew a = (tt, tt)
-  still_apart vs ws (IsHere v w us t h) a = (subst (λ n. AllByRecursion (λ x. agrees names n x.name ≡ false) us) (sym h.name) a.0, a.1)
-  still_apart vs ws (IsLater v us xs t m) a =
-      (all_names (λ n. agrees names v.name n ≡ false) us xs m ((names_agree names).symm v.name d.name ∙ t) a.0, still_apart us xs m a.1)
+  still_apart vs ws (IsHere v w us t h) a =
+      (subst (λ n. AllByRecursion (λ x. agrees names n x.name ≡ false) us) (sym h.name) a.0, a.1)
+  still_apart vs ws (IsLater v us xs t m) a = (
+    all_names (λ n. agrees names v.name n ≡ false) us xs m ((names_agree names).symm v.name d.name ∙ t)
+        a.0,
+    still_apart us xs m a.1,
+  )
 
 -- ---- all declarations
 
-one_more : (names : Names) (es : List Declared) (d : Declared) (vs ws : List Variable) → meet names d vs ≡ Ok ws → AreOf names es vs → AreOf names (es ++ d ∷ []) ws
+one_more : (names : Names) (es : List Declared) (d : Declared) (vs ws : List Variable) → meet names d vs ≡ Ok ws
+    → AreOf names es vs → AreOf names (es ++ d ∷ []) ws
 one_more names es d vs ws e a =
     let m = meet-is names d vs ws e in
     record {
-      served = All-append (λ x. Any (Serves names x) ws) es (d ∷ []) (All-all (λ x. Any (Serves names x) vs) (λ x. Any (Serves names x) ws) es (λ x s. still_served names d x vs ws m s) a.served) (serves_it names d vs ws m, tt);
+      served =
+          All-append (λ x. Any (Serves names x) ws) es (d ∷ [])
+          (All-all (λ x. Any (Serves names x) vs) (λ x. Any (Serves names x) ws) es
+          (λ x s. still_served names d x vs ws m s) a.served) (serves_it names d vs ws m, tt);
       asked = still_asked names d es vs ws m a.asked;
       apart = still_apart names d vs ws m a.apart;
     }
 
-all_more : (names : Names) (es ds : List Declared) (vs ws : List Variable) → met names vs ds ≡ Ok ws → AreOf names es vs → AreOf names (es ++ ds) ws
+all_more : (names : Names) (es ds : List Declared) (vs ws : List Variable) → met names vs ds ≡ Ok ws → AreOf names es vs
+    → AreOf names (es ++ ds) ws
 all_more names es [] vs ws e a =
     let is : vs ≡ ws = cc in
     subst (λ xs. AreOf names xs ws) (sym (append-nil es)) (subst (AreOf names es) is a)
-all_more names es (d ∷ ds) vs ws e a = by (meet names d vs) refl e (λ xs u of. all_more names (es ++ d ∷ []) ds xs ws u of)
+all_more names es (d ∷ ds) vs ws e a =
+    by (meet names d vs) refl e (λ xs u of. all_more names (es ++ d ∷ []) ds xs ws u of)
   where
-    by : (r : Result (List Variable) ClashFault) → meet names d vs ≡ r → result_and_then (λ xs. met names xs ds) r ≡ Ok ws →
-        ((xs : List Variable) → met names xs ds ≡ Ok ws → AreOf names (es ++ d ∷ []) xs → AreOf names ((es ++ d ∷ []) ++ ds) ws) → AreOf names (es ++ d ∷ ds) ws
-    by (Ok xs) h u k = subst (λ ys. AreOf names ys ws) (append_assoc es (d ∷ []) ds) (k xs u (one_more names es d vs xs h a))
+    by : (r : Result (List Variable) ClashFault) → meet names d vs ≡ r →
+        result_and_then (λ xs. met names xs ds) r ≡ Ok ws →
+        ((xs : List Variable) → met names xs ds ≡ Ok ws → AreOf names (es ++ d ∷ []) xs →
+        AreOf names ((es ++ d ∷ []) ++ ds) ws) → AreOf names (es ++ d ∷ ds) ws
+    by (Ok xs) h u k =
+        subst (λ ys. AreOf names ys ws) (append_assoc es (d ∷ []) ds) (k xs u (one_more names es d vs xs h a))
     by (Err f) h u k = absurd (cc)
 
 pub once : AreOnce

@@ -1,5 +1,6 @@
 -- The bytes of the module are those of a whole module that no check refuses.
-use Rattle.std.proofs.Common.{◌≡◌, ℕ, ◌+◌, ◌<◌, ◌≤◌, Bool, false, eqb, ltb, List, [], ◌∷◌, ◌++◌, length, map, Option, Some, None, IfSome, refl, ap, ◌∙◌, arith}
+use Rattle.std.proofs.Common.{◌≡◌, ℕ, ◌+◌, ◌<◌, ◌≤◌, Bool, false, eqb, ltb, List, [], ◌∷◌, ◌++◌, length, map, Option}
+use Rattle.std.proofs.Common.{Some, None, IfSome, refl, ap, ◌∙◌, arith}
 use Rattle.std.specs.Prelude.{codes}
 use Rattle.std.specs.List.{AllByRecursion}
 use Rattle.std.proofs.lemmas.Bool.{ne_eqb}
@@ -13,11 +14,15 @@ use Rattle.omf_module.specs.Bytes.{ModuleBytes}
 use Rattle.omf_module.specs.Faults.{component_fault, fault, is_absolute, is_beyond, when, ◌⊓◌}
 use Rattle.omf_module.specs.Tables.{groups, names, segments}
 use Rattle.omf_module.specs.inside.Entries.{segment_of}
-use Rattle.omf_communal.proofs.Clean.{All-append, Clean, Ready, are_bodies, are_frames, both_false, clean_by, clean_end, clean_first, component_ok, ended, nones, not_below, place_all, ready-as, ready-more}
+use Rattle.omf_communal.proofs.Clean.{All-append, Clean, Ready, are_bodies, are_frames, both_false, clean_by, clean_end}
+use Rattle.omf_communal.proofs.Clean.{clean_first, component_ok, ended, nones, not_below, place_all, ready-as}
+use Rattle.omf_communal.proofs.Clean.{ready-more}
 use Rattle.omf_communal.specs.Plan.{Place, Plan}
-use Rattle.omf_communal.specs.Records.{far_definition, far_record, last_records, module_bytes, far_names, near_definition, near_names, near_records, place_record, record_bytes, records}
+use Rattle.omf_communal.specs.Records.{far_definition, far_record, last_records, module_bytes, far_names}
+use Rattle.omf_communal.specs.Records.{near_definition, near_names, near_records, place_record, record_bytes, records}
 use Rattle.omf_communal.specs.Whole.{AreWhole}
-use Rattle.omf_communal.proofs.Bodies.{end_fits, far_fits, group_fits, header_fits, far_names_fit, near_fits, near_names_fit, public_fits}
+use Rattle.omf_communal.proofs.Bodies.{end_fits, far_fits, group_fits, header_fits, far_names_fit, near_fits}
+use Rattle.omf_communal.proofs.Bodies.{near_names_fit, public_fits}
 use Rattle.omf_communal.proofs.Fitting.{Fits, FitsPlace, count_of, plan_fits}
 
 -- ---- the end
@@ -51,10 +56,14 @@ fit_far : (ns : List ℕ) → AllByRecursion (λ n. n ≤ 65536) ns → AllByRec
 fit_far [] h = tt
 fit_far (n ∷ ns) h = (far_fits n h.0, fit_far ns h.1)
 
-fit_places : (g s : ℕ) (ps : List Place) → s ≤ 32767 → AllByRecursion (FitsPlace g s) ps → AllByRecursion FitsFrame (map place_record ps)
+fit_places : (g s : ℕ) (ps : List Place) → s ≤ 32767 → AllByRecursion (FitsPlace g s) ps
+    → AllByRecursion FitsFrame (map place_record ps)
 fit_places g s [] h fits = tt
-fit_places g s (p ∷ ps) h fits =
-    (public_fits p.group p.segment p.offset p.name fits.0.group_one fits.0.positive (omega (arith, fits.0.segment, h)) fits.0.offset fits.0.name, fit_places g s ps h fits.1)
+fit_places g s (p ∷ ps) h fits = (
+  public_fits p.group p.segment p.offset p.name fits.0.group_one fits.0.positive (omega (arith, fits.0.segment, h))
+      fits.0.offset fits.0.name,
+  fit_places g s ps h fits.1,
+)
 
 fit_all : (in_bss : Bool) (p : Plan) → Fits p → AllByRecursion FitsFrame (records in_bss p)
 fit_all in_bss p f = (
@@ -65,7 +74,8 @@ fit_all in_bss p f = (
       far_names_fit,
       All-append FitsFrame (near_records p.near) _ (fit_near p.near f.near)
           (All-append FitsFrame (map far_record p.far) _ (fit_far p.far f.far)
-          (All-append FitsFrame (map place_record p.places) _ (fit_places _ _ p.places f.count f.places) (end_fits, tt))),
+          (All-append FitsFrame (map place_record p.places) _ (fit_places _ _ p.places f.count f.places)
+          (end_fits, tt))),
     ),
   ),
 )
@@ -81,12 +91,16 @@ relocatable_far ns n = refl
 near_ok : (s g n : ℕ) (before : List Placed) → Ready 4 s g before → fault before (Segdef (near_definition n)) ≡ None
 near_ok s g n before r =
     clean_by before (Segdef (near_definition n)) r.is_begun
-    (ap (λ t. first (when t NameIndex ∷ [])) (both_false _ _ (not_below (length (names before)) 2 (omega (arith, r.name_count))) (not_below (length (names before)) 3 (omega (arith, r.name_count)))))
+    (ap (λ t. first (when t NameIndex ∷ []))
+    (both_false _ _ (not_below (length (names before)) 2 (omega (arith, r.name_count)))
+    (not_below (length (names before)) 3 (omega (arith, r.name_count)))))
 
 far_ok : (s g n : ℕ) (before : List Placed) → Ready 4 s g before → fault before (far_record n) ≡ None
 far_ok s g n before r =
     clean_by before (far_record n) r.is_begun
-    (ap (λ t. first (when t NameIndex ∷ [])) (both_false _ _ (not_below (length (names before)) 4 (omega (arith, r.name_count))) (not_below (length (names before)) 4 (omega (arith, r.name_count)))))
+    (ap (λ t. first (when t NameIndex ∷ []))
+    (both_false _ _ (not_below (length (names before)) 4 (omega (arith, r.name_count)))
+    (not_below (length (names before)) 4 (omega (arith, r.name_count)))))
 
 group_ok : (before : List Placed) → Ready 4 1 0 before → fault before (Grpdef 1 (1 ∷ [])) ≡ None
 group_ok before r =
@@ -99,18 +113,22 @@ group_ok before r =
 not_none : (n : ℕ) → 0 < n → eqb n 0 ≡ false
 not_none n h = ne_eqb n 0 (λ e. omega (arith, h, e))
 
-place_ok : (s g : ℕ) (p : Place) (before : List Placed) → Ready 4 s g before → FitsPlace g s p → fault before (place_record p) ≡ None
+place_ok : (s g : ℕ) (p : Place) (before : List Placed) → Ready 4 s g before → FitsPlace g s p
+    → fault before (place_record p) ≡ None
 place_ok s g p before r f =
     clean_by before (place_record p) r.is_begun
     (ap (λ t. first ((when t SegmentIndex ⊓ when (is_beyond (groups before) p.group) GroupIndex) ∷ []))
-    (both_false _ _ (not_none p.segment f.positive) (not_below (length (segments before)) p.segment (omega (arith, r.segment_count, f.segment))))
-    ∙ ap (λ t. first (when t GroupIndex ∷ [])) (not_below (length (groups before)) p.group (omega (arith, r.group_count, f.group))))
+    (both_false _ _ (not_none p.segment f.positive)
+    (not_below (length (segments before)) p.segment (omega (arith, r.segment_count, f.segment))))
+    ∙ ap (λ t. first (when t GroupIndex ∷ []))
+    (not_below (length (groups before)) p.group (omega (arith, r.group_count, f.group))))
 
 -- what follows some records is clean
 abbrev Follows : (s g : ℕ) → List Record → Type 0
 Follows s g rest = (before : List Placed) (at : ℕ) → Ready 4 s g before → Clean before (place_all at rest)
 
-clean_places : (s g : ℕ) (ps : List Place) (rest : List Record) → AllByRecursion (FitsPlace g s) ps → Follows s g rest → Follows s g (map place_record ps ++ rest)
+clean_places : (s g : ℕ) (ps : List Place) (rest : List Record) → AllByRecursion (FitsPlace g s) ps → Follows s g rest
+    → Follows s g (map place_record ps ++ rest)
 clean_places s g [] rest f k before at r = k before at r
 clean_places s g (p ∷ ps) rest f k before at r = (
   place_ok s g p before r f.0,
@@ -118,22 +136,29 @@ clean_places s g (p ∷ ps) rest f k before at r = (
       (ready-more 4 s g before (record { place = at; body = canonical (place_record p); says = place_record p }) r tt)),
 )
 
-clean_far : (s g t : ℕ) (ns : List ℕ) (rest : List Record) → t ≡ s + length ns → Follows t g rest → Follows s g (map far_record ns ++ rest)
+clean_far : (s g t : ℕ) (ns : List ℕ) (rest : List Record) → t ≡ s + length ns → Follows t g rest
+    → Follows s g (map far_record ns ++ rest)
 clean_far s g t [] rest e k before at r = k before at (ready-as 4 s g 4 t g before refl (omega (arith, e)) refl r)
 clean_far s g t (n ∷ ns) rest e k before at r = (
   far_ok s g n before r,
-  clean_far (s + 1) g t ns rest (omega (arith, e)) k _ _ (ready-as (4 + 0) (s + 1) (g + 0) 4 (s + 1) g _ refl refl (omega arith)
-      (ready-more 4 s g before (record { place = at; body = canonical (far_record n); says = far_record n }) r (relocatable_far (names before) n, tt))),
+  clean_far (s + 1) g t ns rest (omega (arith, e)) k _ _
+      (ready-as (4 + 0) (s + 1) (g + 0) 4 (s + 1) g _ refl refl (omega arith)
+      (ready-more 4 s g before (record { place = at; body = canonical (far_record n); says = far_record n }) r
+      (relocatable_far (names before) n, tt))),
 )
 
-clean_near : (o : Option ℕ) (rest : List Record) → Follows (count_of o) (count_of o) rest → Follows 0 0 (near_records o ++ rest)
+clean_near : (o : Option ℕ) (rest : List Record) → Follows (count_of o) (count_of o) rest
+    → Follows 0 0 (near_records o ++ rest)
 clean_near None rest k before at r = k before at r
 clean_near (Some n) rest k before at r =
-    let defined : Placed = record { place = at; body = canonical (Segdef (near_definition n)); says = Segdef (near_definition n) } in
+    let defined : Placed =
+    record { place = at; body = canonical (Segdef (near_definition n)); says = Segdef (near_definition n) } in
     let next = at + length (record_bytes (Segdef (near_definition n))) in
-    let r2 : Ready 4 1 0 (before ++ defined ∷ []) = ready-more 4 0 0 before defined r (relocatable_near (names before) n, tt) in
+    let r2 : Ready 4 1 0 (before ++ defined ∷ []) =
+    ready-more 4 0 0 before defined r (relocatable_near (names before) n, tt) in
     let grouped : Placed = record { place = next; body = canonical (Grpdef 1 (1 ∷ [])); says = Grpdef 1 (1 ∷ []) } in
-    let r3 : Ready 4 1 1 ((before ++ defined ∷ []) ++ grouped ∷ []) = ready-more 4 1 0 (before ++ defined ∷ []) grouped r2 tt in
+    let r3 : Ready 4 1 1 ((before ++ defined ∷ []) ++ grouped ∷ []) =
+    ready-more 4 1 0 (before ++ defined ∷ []) grouped r2 tt in
     (near_ok 0 0 n before r, (group_ok (before ++ defined ∷ []) r2, k _ _ r3))
 
 clean_all : (in_bss : Bool) (p : Plan) → Fits p → Clean [] (place_all 0 (records in_bss p))
@@ -144,8 +169,10 @@ clean_all in_bss p f = (
     (
       refl,
       clean_near p.near (map far_record p.far ++ (map place_record p.places ++ Modend false None ∷ []))
-          (clean_far (count_of p.near) (count_of p.near) (count_of p.near + length p.far) p.far (map place_record p.places ++ Modend false None ∷ []) refl
-          (clean_places (count_of p.near + length p.far) (count_of p.near) p.places (Modend false None ∷ []) f.places (λ before at r. clean_end before at r.is_begun))) _ _
+          (clean_far (count_of p.near) (count_of p.near) (count_of p.near + length p.far) p.far
+          (map place_record p.places ++ Modend false None ∷ []) refl
+          (clean_places (count_of p.near + length p.far) (count_of p.near) p.places (Modend false None ∷ []) f.places
+          (λ before at r. clean_end before at r.is_begun))) _ _
           (record { is_begun = refl; name_count = refl; segment_count = refl; group_count = refl; relocatable = tt }),
     ),
   ),
@@ -153,7 +180,8 @@ clean_all in_bss p f = (
 
 -- ---- the whole
 
-module_sound : (in_bss : Bool) (p : Plan) → Fits p → length (module_bytes in_bss p) < place_limit → ModuleBytes (place_all 0 (records in_bss p)) (module_bytes in_bss p)
+module_sound : (in_bss : Bool) (p : Plan) → Fits p → length (module_bytes in_bss p) < place_limit
+    → ModuleBytes (place_all 0 (records in_bss p)) (module_bytes in_bss p)
 module_sound in_bss p f short =
     let fits = fit_all in_bss p f in
     record {
@@ -163,4 +191,5 @@ module_sound in_bss p f short =
     }
 
 pub whole : AreWhole
-whole in_bss vs p named is short = (place_all 0 (records in_bss p), module_sound in_bss p (plan_fits vs p named is) short)
+whole in_bss vs p named is short =
+    (place_all 0 (records in_bss p), module_sound in_bss p (plan_fits vs p named is) short)

@@ -4,4 +4,5 @@ use Rattle.doslink_jobs.specs.Runs.{IsTextOf}
 use Rattle.doslink_jobs.proofs.directives.directives_of.Given as goal
 
 abbrev pub invariant-loop-word : goal.invariant-loop-word
-invariant-loop-word g l = IsTextOf (g.W.World.bytes l.fn.world) (texts (take l.word-index l.fn.words)) (string_bytes l.text)
+invariant-loop-word g l =
+    IsTextOf (g.W.World.bytes l.fn.world) (texts (take l.word-index l.fn.words)) (string_bytes l.text)

@@ -17,7 +17,8 @@ returns g c =
     let handed = c.args.taken.now.handed.now in
     let modules = c.in_ok-modules.modules.items in
     record {
-      lowered = subst (λ ms. AreLoweredFor job ms (map lowered_bytes modules)) (map-map handed_held (λ m. m.bytes) handed)
+      lowered =
+          subst (λ ms. AreLoweredFor job ms (map lowered_bytes modules)) (map-map handed_held (λ m. m.bytes) handed)
           c.in_ok-modules.ensures;
       placed = subst (λ ms. IsCommunalModule (map lowered_bytes ms) (map variable_said c.args.variables.now)
           (option_map (λ v. v.items) c.in_ok-communal.communal)) c.deref.ensures.value c.in_ok-communal.ensures;

@@ -4,5 +4,6 @@ use Rattle.doslink_jobs.proofs.ordering.read_modules.Goals as goal
 pub loop-bytes-preserved : goal.loop-bytes-preserved
 loop-bytes-preserved g c =
     let read = rw c.in-Some.is at c.in_ok-one.ensures in
-    AreRead-next c.args.inputs.now c.loop-bytes.bytes-index _ c.loop-bytes.modules.items c.push.new.self.items c.in-Some.one
+    AreRead-next c.args.inputs.now c.loop-bytes.bytes-index _ c.loop-bytes.modules.items c.push.new.self.items
+    c.in-Some.one
     c.loop-bytes-test.true c.loop-bytes.invariant read c.in_ok-push-in-Some.ensures.items

@@ -12,7 +12,8 @@ returns-clause-headline g c =
     let old = sink_bytes contents c.args.sink.now in
     let mid = sink_bytes contents c.link_bytes-result.new.sink in
     let new = sink_bytes contents c.flushed.new.sink in
-    OnOk-same (WritesProgramOf names inputs old new) c.link_bytes-result.result c.flushed.result c.flushed.ensures.answer
+    OnOk-same (WritesProgramOf names inputs old new) c.link_bytes-result.result c.flushed.result
+    c.flushed.ensures.answer
     (OnOk-weaker (WritesProgramOf names inputs old mid) (WritesProgramOf names inputs old new)
     (kept-program names inputs old mid new c.flushed.ensures.same) c.link_bytes-result.result
     c.link_bytes-result.ensures.headline)

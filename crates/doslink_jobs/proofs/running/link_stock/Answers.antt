@@ -25,7 +25,8 @@ returns g c =
     let says = map (λ h. (handed_held h).says) handed in
     let met : unmet names (says ++ offering vs ∷ []) ≡ [] =
     ap (λ n. unmet n (says ++ offering vs ∷ [])) (sym c.options_of-names.ensures)
-    ∙ ap (λ l. unmet c.options_of-names.result.names (says ++ offering (map variable_said l) ∷ [])) (sym c.deref-2.ensures.value)
+    ∙ ap (λ l. unmet c.options_of-names.result.names (says ++ offering (map variable_said l) ∷ []))
+    (sym c.deref-2.ensures.value)
     ∙ c.in_ok-marks.ensures in
     let takes = subst (λ n. Takes n os ms (map handed_held found)) c.options_of-names.ensures c.in_ok-found.ensures in
     OnOk-weaker (IsFaultless g.row.A.Denot names (input_list inputs)) (IsLinkedStock g.row.A.Denot job os ms)

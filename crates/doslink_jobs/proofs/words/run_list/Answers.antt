@@ -9,7 +9,8 @@ pub returns-in-Ok : goal.returns-in-Ok
 returns-in-Ok g c =
     let told = g.W.World.bytes c.args.world in
     let folders = texts c.args.folders.now in
-    EndsWith-weaker (RunsWords Global told folders (texts c.deref.result.now)) (RunsList Global told folders c.args.text.now) _
+    EndsWith-weaker (RunsWords Global told folders (texts c.deref.result.now))
+    (RunsList Global told folders c.args.text.now) _
     c.run_plain.result
     (λ runs. (
       texts c.in-Ok.words.items,

@@ -10,7 +10,8 @@ pub returns-in-Ok : goal.returns-in-Ok
 returns-in-Ok g c =
     let told = g.W.World.bytes c.args.world in
     let folders = texts c.args.folders.now in
-    EndsWith-weaker (RunsList Global told folders c.as_str.result.now) (RunsResponse Global told folders c.args.path.now) _
+    EndsWith-weaker (RunsList Global told folders c.as_str.result.now)
+    (RunsResponse Global told folders c.args.path.now) _
     c.run_list.result
     (λ runs. (
       string_bytes c.in-Ok.text,

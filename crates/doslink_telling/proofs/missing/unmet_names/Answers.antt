@@ -9,5 +9,6 @@ loop-each-preserved-then-is_mark g c =
 
 pub loop-each-preserved : goal.loop-each-preserved
 loop-each-preserved g c =
-    name-kept c.args.names _ c.loop-each.each-index _ c.loop-each.others.items c.push.new.self.items c.loop-each-test.true
+    name-kept c.args.names _ c.loop-each.each-index _ c.loop-each.others.items c.push.new.self.items
+    c.loop-each-test.true
     (sym c.is_mark.ensures ∙ c.if-is_mark.false) c.in_ok-push.ensures.items c.loop-each.invariant

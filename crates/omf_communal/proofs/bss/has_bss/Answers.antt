@@ -10,12 +10,15 @@ pub is_in_group-requires : goal.is_in_group-requires
 is_in_group-requires g c =
     let m = c.args.from.now in
     members_below m.segments m.groups m.externals c.group-group.result.members.now
-    (All-at_get (GroupFits m.segments m.groups m.externals) m.groups c.loop-index.index (group_seen c.group-group.result) c.promises.ensures.groups c.group-group.ensures).members
+    (All-at_get (GroupFits m.segments m.groups m.externals) m.groups c.loop-index.index
+    (group_seen c.group-group.result) c.promises.ensures.groups c.group-group.ensures).members
 
 pub returns-then-is_in_group : goal.returns-then-is_in_group
 returns-then-is_in_group g c =
-    sym (any_at (is_in_group c.args.from.now.segments) c.args.from.now.groups c.loop-index.index _ c.group-group.ensures (sym c.is_in_group.ensures ∙ c.if-is_in_group.true))
+    sym (any_at (is_in_group c.args.from.now.segments) c.args.from.now.groups c.loop-index.index _ c.group-group.ensures
+    (sym c.is_in_group.ensures ∙ c.if-is_in_group.true))
 
 pub loop-index-preserved : goal.loop-index-preserved
 loop-index-preserved g c =
-    any_kept (is_in_group c.args.from.now.segments) c.args.from.now.groups c.loop-index.index _ c.group-group.ensures c.loop-index.invariant (sym c.is_in_group.ensures ∙ c.if-is_in_group.false)
+    any_kept (is_in_group c.args.from.now.segments) c.args.from.now.groups c.loop-index.index _ c.group-group.ensures
+    c.loop-index.invariant (sym c.is_in_group.ensures ∙ c.if-is_in_group.false)

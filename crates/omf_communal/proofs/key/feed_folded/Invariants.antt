@@ -5,4 +5,5 @@ use Rattle.omf_place.specs.Names.{folded}
 use Rattle.omf_communal.proofs.key.feed_folded.Given as goal
 
 abbrev pub invariant-loop-byte : goal.invariant-loop-byte
-invariant-loop-byte g l = l.state ≡ fold g.H.Hasher.write l.initial.state (flat_map fed.u8 (folded (take l.byte-index l.name)))
+invariant-loop-byte g l =
+    l.state ≡ fold g.H.Hasher.write l.initial.state (flat_map fed.u8 (folded (take l.byte-index l.name)))

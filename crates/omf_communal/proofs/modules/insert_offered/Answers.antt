@@ -5,6 +5,9 @@ use Rattle.omf_communal.proofs.modules.insert_offered.Goals as goal
 
 pub loop-name-preserved : goal.loop-name-preserved
 loop-name-preserved g c = λ q.
-    offered-turn c.args.names q _ c.args.more.now c.loop-name.name-index c.new.result (contains same_key c.args.offered.now (key_of c.args.names q))
-    (contains same_key c.loop-name.offered (key_of c.args.names q)) (contains same_key c.insert.new.self (key_of c.args.names q))
-    c.loop-name-test.true c.new.ensures (c.loop-name.invariant q) (c.in_ok-insert.ensures.updates.0 (key_of c.args.names q))
+    offered-turn c.args.names q _ c.args.more.now c.loop-name.name-index c.new.result
+    (contains same_key c.args.offered.now (key_of c.args.names q))
+    (contains same_key c.loop-name.offered (key_of c.args.names q))
+    (contains same_key c.insert.new.self (key_of c.args.names q))
+    c.loop-name-test.true c.new.ensures (c.loop-name.invariant q)
+    (c.in_ok-insert.ensures.updates.0 (key_of c.args.names q))

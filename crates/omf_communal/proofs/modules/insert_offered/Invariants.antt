@@ -9,4 +9,5 @@ use Rattle.omf_communal.proofs.modules.insert_offered.Given as goal
 
 abbrev pub invariant-loop-name : goal.invariant-loop-name
 invariant-loop-name g l = (q : Bor (List ℕ)) → contains same_key l.offered (key_of l.fn.names q) ≡
-    (contains same_key l.initial.offered (key_of l.fn.names q) || list_any (agrees l.fn.names q.now) (bytes_of (take l.name-index l.more)))
+    (contains same_key l.initial.offered (key_of l.fn.names q)
+    || list_any (agrees l.fn.names q.now) (bytes_of (take l.name-index l.more)))

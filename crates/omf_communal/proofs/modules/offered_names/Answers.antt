@@ -5,5 +5,7 @@ use Rattle.omf_communal.proofs.modules.offered_names.Goals as goal
 
 pub loop-declaring-preserved : goal.loop-declaring-preserved
 loop-declaring-preserved g c = λ q.
-    offers-turn c.args.names q.now c.args.modules.now c.loop-declaring.declaring-index c.declaring-item.result (contains same_key c.loop-declaring.offered (key_of c.args.names q))
-    (contains same_key c.insert_offered.new.offered (key_of c.args.names q)) c.loop-declaring-test.true c.declaring-item.is (c.loop-declaring.invariant q) (c.in_ok-insert_offered.ensures q)
+    offers-turn c.args.names q.now c.args.modules.now c.loop-declaring.declaring-index c.declaring-item.result
+    (contains same_key c.loop-declaring.offered (key_of c.args.names q))
+    (contains same_key c.insert_offered.new.offered (key_of c.args.names q)) c.loop-declaring-test.true
+    c.declaring-item.is (c.loop-declaring.invariant q) (c.in_ok-insert_offered.ensures q)

@@ -6,4 +6,7 @@ use Rattle.omf_communal.specs.inside.Keys.{key_of, same_key}
 use Rattle.omf_communal.proofs.modules.offered_names.Given as goal
 
 abbrev pub invariant-loop-declaring : goal.invariant-loop-declaring
-invariant-loop-declaring g l = (q : Bor (List ℕ)) → contains same_key l.offered (key_of l.fn.names q) ≡ is_offered l.fn.names (map module_said (take l.declaring-index l.modules)) q.now
+invariant-loop-declaring g l =
+    (q : Bor (List ℕ))
+    → contains same_key l.offered (key_of l.fn.names q)
+    ≡ is_offered l.fn.names (map module_said (take l.declaring-index l.modules)) q.now

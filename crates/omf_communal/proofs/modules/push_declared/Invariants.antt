@@ -7,4 +7,5 @@ use Rattle.omf_communal.proofs.modules.push_declared.Given as goal
 
 abbrev pub invariant-loop-communal : goal.invariant-loop-communal
 invariant-loop-communal g l = map declared_said l.declared.items ≡
-    map declared_said l.initial.declared.items ++ map (declared_at l.index) (enumerate_from 0 (map plain_communal (take l.communal l.communals)))
+    map declared_said l.initial.declared.items
+    ++ map (declared_at l.index) (enumerate_from 0 (map plain_communal (take l.communal l.communals)))

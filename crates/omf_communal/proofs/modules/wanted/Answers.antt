@@ -16,15 +16,22 @@ loop-each-preserved g c =
     let is = c.is_offered.ensures ∙ c.in_ok-offered.ensures d.name in
     elim c.if-not-is_offered.branch [
       | then-not-is_offered+in_ok-push w ↦ ap (λ v. map declared_said v.items) w.wanted-is
-          ∙ passing-turn declared_said test items i d (map declared_said c.loop-each.wanted.items) _ c.loop-each-test.true c.each-item.is
+          ∙ passing-turn declared_said test items i d (map declared_said c.loop-each.wanted.items) _
+          c.loop-each-test.true c.each-item.is
           (ap not (sym is ∙ w.if-not-is_offered.true)) c.loop-each.invariant
-          (ap (map declared_said) w.in_ok-push.ensures.items ∙ map-append declared_said c.loop-each.wanted.items (d ∷ []))
+          (ap (map declared_said) w.in_ok-push.ensures.items
+          ∙ map-append declared_said c.loop-each.wanted.items (d ∷ []))
       | else-not-is_offered w ↦ ap (λ v. map declared_said v.items) w.wanted-is
-          ∙ failing-turn declared_said test items i d (map declared_said c.loop-each.wanted.items) c.loop-each-test.true c.each-item.is
+          ∙ failing-turn declared_said test items i d (map declared_said c.loop-each.wanted.items) c.loop-each-test.true
+          c.each-item.is
           (ap not (sym is ∙ w.if-not-is_offered.false)) c.loop-each.invariant
     ]
 
 pub returns : goal.returns
 returns g c =
     let test = λ (d : Declared). not (is_offered c.args.names (map module_said c.args.modules.now) d.name) in
-    c.loop-each.invariant ∙ ap (filter test) (ap (map declared_said) (take_all c.loop-each.each-index c.deref-each-items.result.now (omega arith) ∙ c.deref-each-items.ensures.value) ∙ c.in_ok-declared.ensures)
+    c.loop-each.invariant
+    ∙ ap (filter test)
+    (ap (map declared_said)
+    (take_all c.loop-each.each-index c.deref-each-items.result.now (omega arith) ∙ c.deref-each-items.ensures.value)
+    ∙ c.in_ok-declared.ensures)

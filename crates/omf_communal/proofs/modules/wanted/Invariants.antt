@@ -5,4 +5,5 @@ use Rattle.omf_communal.proofs.modules.wanted.Given as goal
 
 abbrev pub invariant-loop-each : goal.invariant-loop-each
 invariant-loop-each g l = map declared_said l.wanted.items ≡
-    filter (λ (d : Declared). not (is_offered l.fn.names (map module_said l.fn.modules) d.name)) (map declared_said (take l.each-index l.each-items))
+    filter (λ (d : Declared). not (is_offered l.fn.names (map module_said l.fn.modules) d.name))
+    (map declared_said (take l.each-index l.each-items))

@@ -10,17 +10,22 @@ loop-frame-init g c = records_first c.deref-frame-items.result.now c.new-told.re
 
 pub returns-in_err-push_communals : goal.returns-in_err-push_communals
 returns-in_err-push_communals g c =
-    let p = err_from_is_err_and c.from_residual-in_err-push_communals.result c.from_residual-in_err-push_communals.ensures.1 in
+    let p =
+    err_from_is_err_and c.from_residual-in_err-push_communals.result c.from_residual-in_err-push_communals.ensures.1 in
     rw (p.1, p.2)
     (fault-through _ _ _ c.in_err-push_communals.ensures (λ f is.
-    sym (ap (λ fs. communals_of (map plain_frame fs)) c.deref-frame-items.ensures.value ∙ ap communals_of c.in_ok-frames.ensures)
-    ∙ record_fault _ c.loop-frame.frame-index c.frame-item.result _ _ f c.loop-frame-test.true c.frame-item.is c.loop-frame.invariant is))
+    sym (ap (λ fs. communals_of (map plain_frame fs)) c.deref-frame-items.ensures.value
+    ∙ ap communals_of c.in_ok-frames.ensures)
+    ∙ record_fault _ c.loop-frame.frame-index c.frame-item.result _ _ f c.loop-frame-test.true c.frame-item.is
+    c.loop-frame.invariant is))
 
 pub loop-frame-preserved : goal.loop-frame-preserved
 loop-frame-preserved g c =
-    record_more _ c.loop-frame.frame-index c.frame-item.result (map plain_communal c.loop-frame.told.items) _ _ c.loop-frame-test.true c.frame-item.is c.loop-frame.invariant c.in_ok-push_communals.ensures
+    record_more _ c.loop-frame.frame-index c.frame-item.result (map plain_communal c.loop-frame.told.items) _ _
+    c.loop-frame-test.true c.frame-item.is c.loop-frame.invariant c.in_ok-push_communals.ensures
 
 pub returns : goal.returns
 returns g c =
-    sym (ap (λ fs. communals_of (map plain_frame fs)) c.deref-frame-items.ensures.value ∙ ap communals_of c.in_ok-frames.ensures)
+    sym (ap (λ fs. communals_of (map plain_frame fs)) c.deref-frame-items.ensures.value
+    ∙ ap communals_of c.in_ok-frames.ensures)
     ∙ records_end _ c.loop-frame.frame-index _ _ (omega arith) c.loop-frame.invariant

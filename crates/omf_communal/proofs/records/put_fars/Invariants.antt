@@ -4,4 +4,5 @@ use Rattle.omf_communal.specs.Records.{far_record, records_bytes}
 use Rattle.omf_communal.proofs.records.put_fars.Given as goal
 
 abbrev pub invariant-loop-part : goal.invariant-loop-part
-invariant-loop-part g l = l.out.items ≡ l.initial.out.items ++ records_bytes (map far_record (parts_said (take l.part-index l.parts)))
+invariant-loop-part g l =
+    l.out.items ≡ l.initial.out.items ++ records_bytes (map far_record (parts_said (take l.part-index l.parts)))

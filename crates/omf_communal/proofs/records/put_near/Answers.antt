@@ -7,9 +7,12 @@ use Rattle.omf_communal.proofs.records.put_near.Goals as goal
 
 pub put_record-requires-clause-fits : goal.put_record-requires-clause-fits
 unfolding view
-put_record-requires-clause-fits g c = subst (λ l. FitsFrame (Segdef (near_with l))) (sym c.length_of.ensures) (near_fits c.args.part.now.length c.args.part.now.in_segment)
+put_record-requires-clause-fits g c =
+    subst (λ l. FitsFrame (Segdef (near_with l))) (sym c.length_of.ensures)
+    (near_fits c.args.part.now.length c.args.part.now.in_segment)
 
 pub put_record-requires-2-clause-fits : goal.put_record-requires-2-clause-fits
 unfolding view
 put_record-requires-2-clause-fits g c =
-    subst (λ ns. FitsFrame (Grpdef 1 ns)) (sym (c.in_ok-push.ensures.items ∙ ap (λ ns. ns ++ 1 ∷ []) c.new-segments.ensures.items)) group_fits
+    subst (λ ns. FitsFrame (Grpdef 1 ns))
+    (sym (c.in_ok-push.ensures.items ∙ ap (λ ns. ns ++ 1 ∷ []) c.new-segments.ensures.items)) group_fits
