@@ -11,8 +11,8 @@ returns-in-Ok g c =
     (ap (λ f. f.rest) c.over-source.ensures)
     (has-one c.over-source.result.rest _ c.in-Ok.one c.has_bss.result c.in-Ok.ensures.whole c.has_bss.ensures)
 
-pub returns : goal.returns
-returns g c =
+pub returns-in-Err : goal.returns-in-Err
+returns-in-Err g c =
     subst (λ b. IfOk c.unread.result (λ has. (other : Module) → IsRead b other → has ≡ has_bss other))
     (ap (λ f. f.rest) c.over-source.ensures)
     (has-none c.over-source.result.rest (Some c.read_module.new.source.rest) c.unread.result c.in-Err.fault

@@ -1,4 +1,5 @@
-use Rattle.std.proofs.Common.{◌≡◌, ◌||◌, map, take, subst, ap, ◌∙◌, ◌+◌}
+use Rattle.std.proofs.Common.{◌≡◌, ◌||◌, map, take, subst, ap, arith, ◌∙◌, ◌+◌}
+use Rattle.std.proofs.lemmas.List.{take_all}
 use Rattle.omf_communal.specs.Bss.{has_bss}
 use Rattle.omf_module.specs.Module.{Module}
 use Rattle.doslink_jobs.specs.inside.Inputs.{lowered_bytes}
@@ -24,3 +25,8 @@ loop-index-preserved g c =
     c.loop-index.invariant
     (subst (λ b. (one : Module) → IsRead b one → has ≡ has_bss one)
     (c.bytes.ensures ∙ ap lowered_bytes c.index-modules-index.is) c.in_ok-has.ensures))
+
+pub returns : goal.returns
+returns g c =
+    subst (λ ms. TellsBss (map lowered_bytes ms) c.loop-index.found)
+    (take_all c.loop-index.index c.args.modules.now (omega arith)) c.loop-index.invariant
