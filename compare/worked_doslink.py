@@ -348,6 +348,15 @@ def code_module(title, *body):
         records.SegmentDefinition(1, 2, 17, 2, 2, 1), *body, records.ModuleEnd(False, None)])
 
 
+def framed(made):
+    return b"".join(Spelling().framed(kind, bytes.fromhex(body)) for kind, body in made)
+
+
+def wide_module(segment):
+    """A module whose one segment has 32 bits."""
+    return framed([(0x80, "0157"), (0x96, "00 04434F4445"), (0x99, segment), (0x8A, "00")])
+
+
 CALLING = code_module(b"M", records.ExternalNames([b"x"], [0]), *NEAR_CALL)
 CALLED = code_module(b"X", records.PublicNames(0, 1, None, [PublicName(b"x", 2, 0)]))
 NAMING = code_module(b"N", records.Comment(0, 0x9F, b"X"))
@@ -360,8 +369,9 @@ LIBRARY = bytes.fromhex(PAGE_16) + CALLED + PADDING + b"\xF1"
 FILES = {
     "m.obj": CALLING, "x.obj": CALLED, "n.obj": NAMING, "two.obj": NAMING_TWO, "t.obj": CALLS_TWICE,
     "w.obj": WANTING_TWO, "x.lib": LIBRARY, "cut.lib": LIBRARY[:-1], "x.a": MAGIC, "X.LIB": MAGIC,
-    "f/X.lib": LIBRARY, "f/L": LIBRARY, "f/L.LIB": MAGIC, "f/Y": CALLED, "g/L.LIB": LIBRARY,
-    "bad": b"\xFF"}
+    "wide.obj": wide_module("29 11000000 020201"), "empty.obj": wide_module("29 00000000 020201"),
+    "absolute.obj": wide_module("01 4000 00 11000000 020201"), "f/X.lib": LIBRARY,
+    "f/L": LIBRARY, "f/L.LIB": MAGIC, "f/Y": CALLED, "g/L.LIB": LIBRARY, "bad": b"\xFF"}
 # 17 bytes of each module; the call's end is at 3 and x at 19
 PROGRAM = header("2300 0100 0000 0200 0300" + MOST + NO_REGISTERS) + NO_TABLE + "E81000"
 
@@ -410,6 +420,13 @@ LINKS = [
      "doslink: m.obj: it is read and would be written\n", ""),
     ("the map is OUT", {"files": ["m.obj"], "out": "x", "map": "x"}, [],
      "doslink: x: it would be the program and its map\n", ""),
+    ("32-bit segments", {"files": ["wide.obj", "x.obj", "wide.obj"]}, [],
+     2 * "doslink: warning: 32-bit segments of wide.obj are linked as 16-bit ones\n",
+     "wide.obj\nx.obj\nwide.obj\n"),
+    ("of which only faults are told", {"files": ["wide.obj"], "is_quiet": True}, [], "",
+     "wide.obj\n"),
+    ("some without bytes", {"files": ["empty.obj"]}, [], "", "empty.obj\n"),
+    ("absolute ones", {"files": ["absolute.obj"]}, [], "", "absolute.obj\n"),
 ]
 
 # what is asked for, and the path of the program
@@ -532,42 +549,77 @@ LOWERED = [
     ("a repeat count of more than 16 bits", False, False, [
         (0xA3, "01 00000000  00000100 0000 01 AA")], (49, 0)),
 ]
-# COMDEF of the modules a, b and so on, the names that they offer, whether case is ignored, and the
-# variables: the name, the elements, their size where they are far, and the first module; or a fault
-VARIABLES = [
-    ("one of two modules", ["0178 00 62 05", "0178 01 62 09"], "", False, "x 9 a"),
-    ("far ones", ["0178 00 61 05 02  0179 8001 61 810001 80", "0178 00 61 03 02"], "", False,
-     "x 5*2 a, y 256*128 a"),
-    ("lengths of four forms", ["0161 00 62 80  0162 00 62 818000  0163 00 62 84030201"
-                               "  0164 00 62 8804030201"], "", False,
-     "a 128 a, b 128 a, c 66051 a, d 16909060 a"),
-    ("one that a module offers", ["0178 00 62 05  0179 00 62 02"], "x", False, "y 2 a"),
-    ("one that differs by case", ["0178 00 62 05"], "X", False, "x 5 a"),
-    ("one that differs by case, which is ignored", ["0178 00 62 05", "0158 00 62 07"], "", True,
-     "x 7 a"),
-    ("one that is offered, by case alone", ["0178 00 62 05"], "X", True, ""),
-    ("near and far", ["0178 00 62 05", "", "0178 00 61 05 01"], "", False, "55 x in a and c"),
+# The COMDEF of the modules a, b and so on, the names that they offer, whether case is ignored, and
+# then the lengths of segments with the segment and the offset of each variable, or a fault.
+COMMUNALS = [
+    ("the greatest length", ["0178 00 62 05", "0178 00 62 09", "0178 00 62 02"], "", False,
+     "9 | x 1:0"),
+    ("the greatest count", ["0178 00 61 05 02", "0178 00 61 09 02"], "", False, "18 | x 1:0"),
+    ("in order of meeting", ["0179 00 62 01  0178 00 62 01", "017A 00 62 01  0178 00 62 01"], "",
+     False, "3 | y 1:0, x 1:1, z 1:2"),
+    ("at even places above a byte", ["0161 00 62 01  0162 00 62 02  0163 00 62 01  0164 00 62 00"
+                                     "  0165 00 62 03  0166 00 62 01"], "", False,
+     "10 | a 1:0, b 1:2, c 1:4, d 1:5, e 1:6, f 1:9"),
+    ("far ones behind near ones", ["0161 00 61 03 04  0162 00 62 05  0163 00 61 02 01"], "", False,
+     "5 12 2 | b 1:0, a 2:0, c 3:0"),
+    ("one of no bytes", ["0178 00 62 00"], "", False, "0 | x 1:0"),
+    ("a number's low byte first", ["0161 00 61 84030201 01"], "", False, "65536 515 | a 1:0"),
+    ("far ones alone", ["0161 00 61 00 04  0162 00 61 04 00"], "", False, "0 0 | a 1:0, b 2:0"),
+    ("numbers of each form", ["0161 00 62 80  0162 00 62 810001  0163 00 61 84010000 8803000000"],
+     "", False, "384 3 | a 1:0, b 1:128, c 2:0"),
+    ("a type index of two bytes", ["0161 8162 62 05"], "", False, "5 | a 1:0"),
+    ("a public wins", ["0178 00 62 05  0179 00 62 02", "0178 00 62 08"], "x", False, "2 | y 1:0"),
+    ("a public wins over those that clash", ["0178 00 62 05", "0178 00 61 08 01"], "x", False, ""),
+    ("a public in another case", ["0178 00 62 05"], "X", False, "5 | x 1:0"),
+    ("which is ignored", ["0178 00 62 05"], "X", True, ""),
+    ("spelled as it is first", ["0158 00 62 05", "0178 00 62 07"], "", True, "7 | X 1:0"),
+    ("none", [""], "", False, ""),
+    ("near and far", ["0178 00 62 05", "", "0178 00 61 05 01"], "", False,
+     "link: 55 NearAndFar \"x\" in a and c"),
     ("elements of two sizes", ["", "0178 00 61 05 01", "0178 00 61 01 05"], "", False,
-     "56 x in b and c"),
-    ("near and far, which is offered", ["0178 00 62 05", "0178 00 61 05 01"], "x", False, ""),
-    ("another type", ["0178 00 62 05", "0178 00 05 05"], "", False, "54 at 0 of b"),
-    ("one that is cut", ["0178 00 62 81FF"], "", False, "53 at 0 of a"),
-    ("a number of no form", ["0178 00 62 82"], "", False, "53 at 0 of a"),
+     "link: 56 ElementSizes \"x\" in b and c"),
+    ("in one module", ["0178 00 62 05  0178 00 61 05 01"], "", False,
+     "link: 55 NearAndFar \"x\" in a and a"),
+    ("a table of virtual functions", ["", "0178 00 05 0100"], "", False,
+     "b: 54 DataType at record 0"),
+    ("a type without its number", ["0178 00 05"], "", False, "a: 54 DataType at record 0"),
+    ("an entry that is cut", ["0178 00 61 05"], "", False, "a: 53 Body at record 0"),
+    ("a number of no form", ["0178 00 62 82"], "", False, "a: 53 Body at record 0"),
+    ("all of a segment", ["0178 00 62 81FEFF  0179 00 62 02"], "", False,
+     "65536 | x 1:0, y 1:65534"),
+    ("and nothing behind it", ["0178 00 62 84000001  0179 00 62 00"], "", False,
+     "link: 57 NearTooLong \"y\" in a"),
+    ("a byte more", ["0178 00 62 81FFFF", "0179 00 62 02"], "", False,
+     "link: 57 NearTooLong \"y\" in b"),
+    ("all of a far segment", ["0178 00 61 813333 05  0179 00 61 02 84000001"], "", False,
+     "65535 65536 65536 | x 1:0, y 2:0"),
+    ("more than one", ["0178 00 61 84010001 01  0179 00 61 01 01"], "", False,
+     "65536 1 1 | x 1:0, y 3:0"),
+    ("an element over an edge", ["0178 00 61 813433 05"], "", False,
+     "link: 58 CutElement \"x\" in a"),
+    ("near before far", ["0178 00 61 813433 05  0179 00 62 84010001"], "", False,
+     "link: 57 NearTooLong \"y\" in a"),
+    ("a segment too many", ["0179 00 62 00  0178 00 61 81FF7F 84000001"], "", False,
+     "link: 59 TooManySegments \"x\" in a"),
 ]
-# variables, and the lengths of the module's segments with its names, or a fault
-PLANS = [
-    ("at even places", "x 1, y 1, z 3, v 2", "8 | x 1:0, y 1:1, z 1:2, v 1:6"),
-    ("of one byte", "x 3, y 1", "4 | x 1:0, y 1:3"),
-    ("of none", "x 0", "0 | x 1:0"),
-    ("all of a segment", "x 65534, y 2", "65536 | x 1:0, y 1:65534"),
-    ("a byte more", "x 65535, y 1, z 1", "57 z"),
-    ("none behind all", "x 65536, y 0", "57 y"),
-    ("far ones", "x 3*4, y 0*9, z 2", "2 12 0 | z 1:0, x 2:0, y 3:0"),
-    ("of more than a segment", "x 65537*1, y 2*65536", "65536 1 65536 65536 | x 1:0, y 3:0"),
-    ("of a segment and odd elements", "x 13107*5", "65535 | x 1:0"),
-    ("of more than a segment and odd elements", "x 13108*5", "58 x"),
-    ("of one segment more than there may be", "y 1*1, x 32767*65536", "59 x"),
-]
+# the module of a near variable of 5 bytes and a far one of 65,536
+COMMUNAL_MODULE = [
+    (0x80, "08 636F6D6D756E616C"), (0x96, "06 4447524F5550  08 635F636F6D6D6F6E"),
+    (0x96, "03 425353  07 4641525F425353"), (0x98, "48 0500 02 03 00"), (0x9A, "01 FF 01"),
+    (0x98, "62 0000 04 04 00"), (0x90, "01 01 0178 0000 00"), (0x90, "00 02 0179 0000 00"),
+    (0x8A, "00")]
+COMMUNAL_OF_IT = "0178 00 62 05  0179 00 61 81FFFF 01  0179 00 61 84000001 01"
+# What a module lists; the first byte of a segment and its length, its indexes, the index of its
+# group's name, and whether near variables stand in it.
+OF_BSS = "06 4447524F5550  04 5F425353  03 425353  04 4155544F"
+NEAR_SEGMENTS = [
+    ("a public one", "48 0000", "02 03 00", "01", True),
+    ("of the other combinations", "5C 0000", "02 03 00", "01", True),
+    ("a private one", "40 0000", "02 03 00", "01", False),
+    ("a common one", "58 0000", "02 03 00", "01", False),
+    ("of another class", "48 0000", "02 02 00", "01", False),
+    ("of another name", "48 0000", "03 03 00", "01", False),
+    ("in another group", "48 0000", "02 03 00", "04", False)]
 
 # the lengths of segments of far data, and whether they share a frame
 FITTING = [([65_536], True), ([65_521], True), ([65_520, 16], True), ([65_520, 17], False)]
@@ -653,10 +705,6 @@ def check_directives():
         assert found == wanted, title
 
 
-def framed(made):
-    return b"".join(Spelling().framed(kind, bytes.fromhex(body)) for kind, body in made)
-
-
 def lowered(made, keeps_debug, shares_far_data):
     """The bytes of records that are lowered, or the fault and how many records stand before it."""
     try:
@@ -678,49 +726,35 @@ def check_lowering():
     assert place == len(framed(made[:3]))
 
 
-def variables_of(bodies, offered, ignores_case):
+def communal_answer(bodies, offered, ignores_case):
+    """The segments and variables of the module for COMDEFs of these bodies, or the fault's line."""
     taken = [
         linking.Module(word, framed([(0xB0, body)]), Names(offered=offered.encode().split()))
         for word, body in zip("abc", bodies)]
     try:
-        return communal.variables(taken, search.agreed(ignores_case))
+        found = communal.variables(taken, search.agreed(ignores_case))
+        content = communal.communal_module(found, [])
     except Fault as fault:
-        name = "" if fault.name is None else f" {fault.name.decode()}"
-        place = "" if fault.place is None else f" at {fault.place} of {fault.owner}"
-        words = f" in {' and '.join(fault.words)}" if fault.words else ""
-        return f"{fault.number}{name}{place}{words}"
+        return fault.line().partition(": ")[2].strip()
+    if content is None:
+        return ""
+    made = module.read(content, None)
+    lengths = " ".join(str(each.length) for each in made.segments)
+    places = [f"{each.name.decode()} {each.segment}:{each.offset}" for each in made.publics]
+    return f"{lengths} | {', '.join(places)}"
 
 
-def text_of(variable):
-    size = f"*{variable.size}" if variable.is_far else ""
-    return f"{variable.name.decode()} {variable.count}{size} {variable.word}"
-
-
-def variable_of(text):
-    name, _, length = text.partition(" ")
-    count, _, size = length.partition("*")
-    return communal.Variable(name.encode(), int(size) if size else None, int(count), "a")
-
-
-def plan_of(texts):
-    """The segments of a module and its names, as it is read again, or the fault."""
-    try:
-        made = communal.module_of([variable_of(text) for text in texts.split(", ")], [])
-    except Fault as fault:
-        return f"{fault.number} {fault.name.decode()}"
-    found = module.read(made, None)
-    lengths = " ".join(str(each.length) for each in found.segments)
-    names = [f"{each.name.decode()} {each.segment}:{each.offset}" for each in found.publics]
-    return f"{lengths} | {', '.join(names)}"
-
-
-def check_communal():
-    for title, bodies, offered, ignores_case, wanted in VARIABLES:
-        found = variables_of(bodies, offered, ignores_case)
-        found = found if isinstance(found, str) else ", ".join(map(text_of, found))
-        assert found == wanted, title
-    for title, texts, wanted in PLANS:
-        assert plan_of(texts) == wanted, title
+def check_communals():
+    for title, bodies, offered, ignores_case, wanted in COMMUNALS:
+        assert communal_answer(bodies, offered, ignores_case) == wanted, title
+    taken = [linking.Module("a", framed([(0xB0, COMMUNAL_OF_IT)]), Names())]
+    found = communal.variables(taken, search.agreed(False))
+    assert communal.communal_module(found, []) == framed(COMMUNAL_MODULE)
+    for title, segment, indexes, group, wanted in NEAR_SEGMENTS:
+        content = framed([
+            (0x80, "00"), (0x96, OF_BSS), (0x98, segment + indexes), (0x9A, group + "FF 01"),
+            (0x8A, "00")])
+        assert communal.has_near_segment(content) == wanted, title
 
 
 def module_of_bytes(length):
@@ -751,6 +785,6 @@ def check():
     check_search()
     check_order()
     check_lowering()
-    check_communal()
+    check_communals()
     check_directives()
     check_links()

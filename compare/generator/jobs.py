@@ -2,10 +2,11 @@
 
 from dataclasses import dataclass, field
 
+from generator.communals import at_limit, module_of_communals
 from generator.libraries import SMALL_PAGES, archive, damaged, library
 from generator.objects import (
     CLASSES, NAMES, SEGMENTS, TITLES, ObjectMaker, any_plan, module_of_far_data,
-    module_of_many_parts, segments_called)
+    module_of_long_externals, module_of_many_parts, segments_called)
 from model import ordering
 from model.directives import Job
 from model.placement import folded
@@ -19,6 +20,9 @@ FAR_LENGTHS = [(0xFFF0, 16), (0xFFF0, 17), (0xFFF1, 5), (0xFFE1, 15), (0x8000, 0
 RARE_EVERY = 100
 # the classes that have more than one segment that combines
 FULL_CLASSES = [b"BEGDATA", b"DATA", b"BSS", b"STACK"]
+COMMUNALS_EVERY = 15
+# lengths of a body that externals by indexes have by their names
+LONG_BODIES, LONG_EVERY = [65_534, 65_535], 150
 MEMBER_NAMES = [b"printf.o", b"exit.o", b"system.o", b"a_long_name_of_a_member.o", b"x"]
 DEFAULT_LIBRARIES = [b"SLIBCE", b"runtime.a", b"GRAPH.LIB", b"em87", b"slibce"]
 LINES_OF_NOTHING = [
@@ -61,6 +65,7 @@ class JobMaker:
         self.names = self.some_names()
         self.left = list(self.names)
         self.plan = any_plan(random, self.names)
+        self.plan.ignores_case = self.job.ignores_case
 
     def happens(self, likelihood):
         return self.random.random() < likelihood
@@ -101,6 +106,24 @@ class JobMaker:
             self.job.files.append(f"{number}.obj")
         self.folders, self.job.map = [], MAP
         return self.asked() if self.happens(0.2) else self.by_directives()
+
+    def make_communals(self, number):
+        """One module or two with communal variables at a limit."""
+        variables = at_limit(number)
+        half = self.random.choice([len(variables), self.random.randrange(len(variables))])
+        for place, part in enumerate([variables[:half], variables[half:]]):
+            self.files[f"{place}.obj"] = module_of_communals(
+                self.random, b"%d.C" % place, part)
+            self.job.files.append(f"{place}.obj")
+        self.folders, self.job.map = [], MAP
+        self.job.order = self.random.choice([None, None, ordering.DOSSEG])
+        return self.asked()
+
+    def make_long_externals(self, length):
+        """A record that is as long as one may be, or longer."""
+        self.files["long.obj"] = module_of_long_externals(length)
+        self.job.files, self.folders = ["long.obj"], []
+        return self.asked()
 
     def make_many_parts(self, count):
         """An order of so many parts."""
@@ -406,8 +429,12 @@ def case(random, number=1):
         return maker.make_many_parts(MOST_PARTS + number // MANY_EVERY % 2)
     if number % RARE_EVERY == 1:
         return maker.make_far_data(FAR_LENGTHS[number // RARE_EVERY % len(FAR_LENGTHS)])
-    if number % RARE_EVERY == 97:
-        return maker.make_listed()
     if number % RARE_EVERY == 98:
         return maker.make_bss_outside()
+    if number % RARE_EVERY == 99:
+        return maker.make_listed()
+    if number % LONG_EVERY == 3:
+        return maker.make_long_externals(LONG_BODIES[number // LONG_EVERY % len(LONG_BODIES)])
+    if number % COMMUNALS_EVERY == 2:
+        return maker.make_communals(number // COMMUNALS_EVERY)
     return maker.make()

@@ -5,6 +5,7 @@ Most link; a module of another plan has records that no link takes, and that nam
 
 from dataclasses import dataclass, field, replace
 
+from generator import communals
 from generator.spelling import RandomSpelling, reclosed
 from generator.widening import widened
 from model import records
@@ -18,8 +19,9 @@ SEGMENTS = [
     (b"INIT", b"CODES", 2, False, 1), (b"_NULL", b"BEGDATA", 2, True, 2),
     (b"_AFTERNULL", b"BEGDATA", 2, True, 2), (b"_DATA", b"DATA", 2, True, 6),
     (b"CONST", b"CONST", 2, True, 2), (b"_BSS", b"BSS", 2, True, 4),
-    (b"c_common", b"BSS", 2, True, 1),
-    (b"_BSS", b"BSS", 0, True, 1), (b"HUGE_BSS", b"BSS", 2, False, 2),
+    (b"c_common", b"BSS", 2, True, 1), (b"_BSS", b"DATA", 2, True, 1),
+    (b"_BSS", b"BSS", 0, True, 1), (b"_BSS", b"BSS", 7, False, 1),
+    (b"HUGE_BSS", b"BSS", 2, False, 2),
     (b"STACK", b"STACK", 5, True, 4), (b"OTHER", b"STACK", 5, False, 1),
     (b"FAR_DATA", b"FAR_DATA", 0, False, 3), (b"FAR_BSS", b"FAR_BSS", 0, False, 1),
     (b"HEAP", b"HEAP", 2, False, 1), (b"SHARED", b"DATA", 6, True, 1), (b"", b"", 2, False, 1),
@@ -53,7 +55,12 @@ class Plan:
     has_debug: float
     has_long: float
     is_wide: float
+    has_communals: float
+    ignores_case: bool = False
     libraries: list = field(default_factory=list)
+    # names of communal variables, and those that some module declares
+    communals: list = field(default_factory=list)
+    declared: list = field(default_factory=list)
 
 
 def segments_called(names):
@@ -68,7 +75,8 @@ def any_plan(random, names):
     return Plan(
         chosen, names, random.choice([0, 0, 0.3]), random.choice([0, 0, 0.2]),
         random.choice([0, 0, 0, 0.6]), random.choice([0, 0, 0.6]), random.choice([0, 0, 0.4]),
-        random.choice([0, 0, 0.6]))
+        random.choice([0, 0, 0.6]), random.choice([0, 0.3, 0.8]),
+        communals=random.sample([*communals.NAMES, *names, *MARKS], random.choice([1, 2, 3, 5])))
 
 
 class ObjectMaker:
@@ -82,6 +90,7 @@ class ObjectMaker:
         self.spelling = RandomSpelling(random)
         self.pieces = []
         self.names = [b"", GROUP]
+        self.externals = 0
         self.lengths = []
         self.grouped = []
         # threads that fix-ups of what is kept out set, for targets
@@ -109,10 +118,14 @@ class ObjectMaker:
         self.add_comments(library_name)
         self.define_segments()
         steps = [self.define_externals, self.define_publics, self.define_local_names]
+        if self.happens(self.plan.has_communals):
+            steps.append(self.define_communals)
+        if self.happens(0.2):
+            steps.append(self.add_lines)
         if self.happens(self.plan.has_others):
             steps += self.random.sample([
                 self.add_communal_externals, self.add_publics_of_32_bits, self.add_communal_data,
-                self.add_aliases, self.add_communal_variables, self.add_names_without_type],
+                self.add_aliases, self.add_names_without_type],
                 self.random.randrange(1, 4))
         self.random.shuffle(steps)
         for step in steps:
@@ -231,10 +244,34 @@ class ObjectMaker:
         if self.happens(0.1):
             # at times one twice
             names.append(self.random.choice([*names, *self.plan.names, *self.any_names()]))
-        self.externals = len(names)
+        if self.plan.declared and self.happens(0.3):
+            names.append(self.random.choice(self.plan.declared))
+        self.externals += len(names)
         half = self.random.randrange(len(names) + 1)
         for part in (names[:half], names[half:]):
             self.add(records.ExternalNames(part, [0] * len(part)))
+
+    def define_communals(self):
+        """Some of the plan's communal variables in one record or two, rarely local ones."""
+        known = self.plan.communals
+        names = self.random.sample(known, self.random.randrange(1, len(known) + 1))
+        names += [self.random.choice(names)] if self.happens(0.05) else []
+        half = self.random.randrange(len(names) + 1)
+        for part in filter(None, (names[:half], names[half:])):
+            is_local = self.happens(0.06)
+            part = [self.other_case(name) for name in part]
+            entries = [
+                communals.usual_entry(self.random, name, self.spelling.index(0)) for name in part]
+            kind = communals.LCOMDEF if is_local else communals.COMDEF
+            self.add_other(kind, b"".join(entries), 0.01)
+            self.externals += len(part)
+            self.plan.declared += [] if is_local else part
+
+    def other_case(self, name):
+        """A name, at times in another case where case is ignored."""
+        if self.happens(0.3 if self.plan.ignores_case else 0.01):
+            return self.random.choice([name.upper(), name.lower(), name.swapcase()])
+        return name
 
     def define_publics(self):
         """The names that it offers, rarely a mark."""
@@ -257,6 +294,11 @@ class ObjectMaker:
                 # no data wants it, so that the numbers of others stay
                 self.pieces.append(reclosed(self.random, 0xB4, self.counted(name) + b"\0"))
                 self.externals = 0
+
+    def add_lines(self):
+        """Numbers of lines, with the offset of each."""
+        lines = [(line, 2 * line) for line in range(self.random.randrange(3))]
+        self.add(records.LineNumbers(0, 1, lines))
 
     def counted(self, name):
         return records.name(name)
@@ -310,18 +352,6 @@ class ObjectMaker:
         kind, base, offset = self.random.choice([(0x8C, b"", b""), (0x90, b"\0\1", b"\0\0")])
         self.add_other(kind, base + entries[0] + offset + b"\0" + entries[1] + offset)
 
-    def add_communal_variables(self):
-        """Names that are neither wanted nor offered; a name mostly has one distance and size."""
-        for name in self.some_names():
-            is_far = sum(name) % 2 == 0 if self.happens(0.95) else self.happens(0.5)
-            size = 4 if self.happens(0.95) else self.random.choice([0, 1, 5, 10])
-            length = self.random.choice([b"\0", b"\1", b"\2", b"\3", b"\x81\0\1"])
-            if self.happens(0.02):
-                length = self.random.choice([b"\x84\0\0\1", b"\x84\1\0\1", b"\x88\xFF\xFF\xFF\0"])
-            variable = b"\x61" + length + bytes([size]) if is_far else b"\x62" + length
-            kind = 0xB8 if self.happens(0.2) else 0xB0
-            self.add_other(kind, self.counted(name) + b"\0" + variable)
-
     def add_data(self):
         """Bytes of some segments, with fix-ups to what is wanted and to other segments."""
         for number, length in enumerate(self.lengths, 1):
@@ -344,7 +374,7 @@ class ObjectMaker:
             block, place = records.Block(1, [block]), 9
         self.add(records.RepeatedData(number, 0, [block]))
         if self.happens(0.7):
-            place += self.random.choice([0, 0, 0, 1])
+            place += self.random.choice([0, 0, 0, 1, -2])
             self.add(records.FixupRecord([replace(self.fixup(), offset=place)]))
 
     def fixup(self):
@@ -360,6 +390,18 @@ class ObjectMaker:
             frame = Direct(Method.GROUP, self.group)
         location = self.random.choice([Location.OFFSET, Location.POINTER, Location.BASE])
         return Fixup(True, location, 0, Reference(frame, self.random.choice(targets), None))
+
+
+def module_of_long_externals(length):
+    """A module that wants a name by indexes, and by its names a record's body has such a length."""
+    spelling, size, count = records.Spelling(), 217, length // 217
+    names = [(size - 2) * b"a", (size - 2 + length % size) * b"b"]
+    indexes = (count - 1) * b"\1\0" + b"\2\0"
+    publics = [PublicName(name, 0, 0) for name in names]
+    return b"".join([
+        spelling.record(records.Header(b"LONG")), spelling.record(records.NameList(names)),
+        spelling.framed(0xBC, indexes), spelling.record(records.PublicNames(0, 0, 0, publics)),
+        spelling.record(records.ModuleEnd(False, None))])
 
 
 def module_of_many_parts(count):

@@ -4,6 +4,7 @@ They are those with numbers of 32 bits, those of a communal variable or of a nam
 the place of an external, and the other types of a header and of a list of names.
 """
 
+from generator import communals
 from generator.spelling import RandomSpelling, pieces
 
 # of each of these types the one with numbers of 32 bits is the next
@@ -71,10 +72,13 @@ class Widening:
             return self.widen_segment(reader)
         if kind in PUBLICS:
             return kind + 1, self.widen_publics(reader)
+        if kind == LINES:
+            return kind + 1, self.widen_lines(reader)
         if kind == ENDS:
             return kind + 1, self.widen_end(reader)
         if kind in (EXTERNALS, LOCAL_EXTERNALS) and self.happens(0.3):
-            return {EXTERNALS: 0xB0, LOCAL_EXTERNALS: 0xB8}[kind], self.communals(reader)
+            kinds = {EXTERNALS: communals.COMDEF, LOCAL_EXTERNALS: communals.LCOMDEF}
+            return kinds[kind], self.communals(reader)
         return kind, body
 
     def widen_segment(self, reader):
@@ -95,6 +99,12 @@ class Widening:
             front += reader.take_name() + self.wide(reader.take(2)) + reader.take_index()
         return front
 
+    def widen_lines(self, reader):
+        front = reader.take_index() + reader.take_index()
+        while reader.has_more():
+            front += reader.take(2) + self.wide(reader.take(2))
+        return front
+
     def widen_end(self, reader):
         front = reader.take(1)
         if not front[0] & 0x40:
@@ -102,24 +112,12 @@ class Widening:
         return front + self.reference(reader, True)
 
     def communals(self, reader):
-        """Externals as communal variables, near or far, rarely of another data type."""
+        """Externals as communal variables."""
         found = b""
         while reader.has_more():
-            name = reader.take_name()
-            data_type = 0x61 + sum(name) % 2
-            if self.happens(0.06):
-                data_type = self.random.choice([0x05, 0x61, 0x62])
-            size = b"\4" if self.happens(0.95) else self.length()
-            found += name + reader.take_index() + bytes([data_type]) + self.length()
-            found += size if data_type == 0x61 else b""
+            name = reader.take_name()[1:]
+            found += communals.usual_entry(self.random, name, reader.take_index())
         return found
-
-    def length(self):
-        """A length in any of its forms; rarely in none."""
-        if self.happens(0.01):
-            return b"\x82"
-        return self.random.choice([
-            b"\0", b"\2", b"\x80", b"\x81\0\2", b"\x84\0\0\1", b"\x88\0\0\1\0"])
 
     def widen_data(self, kind, reader):
         self.is_wide = self.happens(LIKELY)
@@ -153,6 +151,8 @@ class Widening:
             location = first >> 2 & 15
             if location == 1 and self.happens(0.5 if is_wide or self.is_wide else 0.2):
                 location = self.random.choice([9, 13])
+                # at times a self-relative one
+                first &= ~0x40 if self.happens(0.15) else 0xFF
             found += bytes([first & 0xC0 | location << 2 | place >> 8 & 3, place & 0xFF])
             found += self.reference(reader, is_wide)
         return FIXUPS + is_wide, found

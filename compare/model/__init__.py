@@ -20,6 +20,7 @@ The model spends no thought on speed.
 | `names` | the names that a module wants and offers |
 | `search` | which members a link takes, and which names it misses |
 | `ordering` | the module that fixes an order of segments and defines marks |
+| `communal` | communal variables, and the module that has them: faults 53 to 59 |
 | `lowering` | modules of records that a link takes, and with far data together: faults 48 to 52 |
 | `directives` | what words and directives ask for |
 | `linking` | what `doslink` answers and writes |

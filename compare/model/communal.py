@@ -1,206 +1,198 @@
-"""Communal variables: those of the modules of a link, and the module that has them.
+"""Communal variables, which modules declare and none defines, and the module that has them.
 
-A name that some module offers is no variable. The others have what the greatest of their
-declarations asks for: near ones in a segment of DGROUP, far ones in segments of their own.
+It stands behind all others. A near variable lies in its segment of DGROUP; a far one has segments
+of its own.
 """
 
 from dataclasses import dataclass
-from typing import Optional
 
 from model import module, records
 from model.faults import Fault
 from model.libraries import whole_frames
 from model.names import Ended, Entries
-from model.records import Spelling
+from model.ordering import GROUP, UNINITIALISED
+from model.records import WHOLE_SEGMENT, Spelling
 
-COMMUNAL = 0xB0
-# the bytes of a record that aren't its body
-AROUND_BODY = 4
+COMMUNAL_VARIABLES = 0xB0
+# data types
 FAR, NEAR = 0x61, 0x62
-# a number up to this one is its first byte; the bytes behind another first one
-MOST_IN_FIRST = 0x80
+# what a number has behind its first byte, where that is greater than the greatest of one byte
+LARGEST_OF_A_BYTE = 0x80
 BYTES_OF_NUMBER = {0x81: 2, 0x84: 3, 0x88: 4}
+TITLE = b"communal"
+# the segment of near variables, where some module has it in DGROUP and where none has
+NEAR_NAME, OWN_NEAR_NAME = b"_BSS", b"c_common"
+FAR_NAME = b"FAR_BSS"
+# alignments and combinations
+WORD, PARAGRAPH = 2, 3
+PRIVATE, PUBLIC = 0, 2
+MOST_SEGMENTS = records.LARGEST_INDEX
 # the faults
 BODY, DATA_TYPE, NEAR_AND_FAR, ELEMENT_SIZES = 53, 54, 55, 56
 NEAR_TOO_LONG, CUT_ELEMENT, TOO_MANY_SEGMENTS = 57, 58, 59
-TITLE, GROUP, CLASS, FAR_CLASS = b"communal", b"DGROUP", b"BSS", b"FAR_BSS"
-NAME_IN_BSS, OTHER_NAME = b"_BSS", b"c_common"
-WHOLE, MOST_SEGMENTS = 65_536, 32_767
-# the fields of a SEGDEF
-WORD_ALIGNED, PARAGRAPH_ALIGNED, PRIVATE, PUBLIC = 2, 3, 0, 2
 
 
-class Refused(Exception):
-    """A record is at fault: the number of a fault."""
+class OtherType(Exception):
+    """A variable is neither near nor far."""
 
-    def __init__(self, number):
-        super().__init__(number)
-        self.number = number
+
+@dataclass
+class Extent:
+    """How much room a variable wants: elements of a size, which is a byte where it is near."""
+
+    is_far: bool
+    count: int
+    size: int
+
+    @property
+    def length(self):
+        return self.count * self.size
 
 
 @dataclass
 class Variable:
-    """A variable: the size of its elements, or None where it is near, and how many there are.
-
-    A near one has so many bytes. `word` is that of the first module that declares it.
-    """
+    """A variable as the first module that declares it spells it, and the word for that module."""
 
     name: bytes
-    size: Optional[int]
-    count: int
+    extent: Extent
     word: str
 
-    @property
-    def is_far(self):
-        return self.size is not None
+    def widen(self, other):
+        """Has as many elements as another declaration of it; they have to be alike."""
+        own = self.extent
+        if own.is_far != other.extent.is_far:
+            raise self.fault(NEAR_AND_FAR, other.word)
+        if own.size != other.extent.size:
+            raise self.fault(ELEMENT_SIZES, other.word)
+        self.extent = Extent(own.is_far, max(own.count, other.extent.count), own.size)
 
-    @property
-    def length(self):
-        return self.count * self.size if self.is_far else self.count
+    def fault(self, number, *others):
+        """A fault that names it and its module, and others that declare it."""
+        fault = Fault(number, name=self.name)
+        fault.words = [self.word, *others]
+        return fault
 
 
 def number(entries):
-    """A number in one of its forms."""
+    """A number of a byte, or of those behind its first."""
     first = entries.byte()
-    if first <= MOST_IN_FIRST:
+    if first <= LARGEST_OF_A_BYTE:
         return first
     if first not in BYTES_OF_NUMBER:
         raise Ended
     return int.from_bytes(entries.bytes(BYTES_OF_NUMBER[first]), "little")
 
 
-def entry(entries, word):
-    """One entry of a COMDEF."""
-    name = entries.name()
-    entries.index()
+def extent(entries):
+    """A data type and the numbers behind it: one of a near variable, two of a far one."""
     data_type = entries.byte()
-    if data_type not in (FAR, NEAR):
-        raise Refused(DATA_TYPE)
-    count = number(entries)
-    return Variable(name, number(entries) if data_type == FAR else None, count, word)
+    if data_type == NEAR:
+        return Extent(False, number(entries), 1)
+    if data_type == FAR:
+        return Extent(True, number(entries), number(entries))
+    raise OtherType
 
 
-def declared(content, word):
-    """What a module declares, in its order; the first record at fault is told."""
-    found = []
+def declarations(content, word):
+    """What the records of a module declare, or the fault of the first that can't be read."""
+    place = 0
     for frame in whole_frames(content):
-        if frame.kind == COMMUNAL:
-            try:
-                found += entries_of(frame.body, word)
-            except Refused as refused:
-                place = frame.behind - len(frame.body) - AROUND_BODY
-                raise Fault(refused.number, word, place) from None
-    return found
+        entries = Entries(frame.body if frame.kind == COMMUNAL_VARIABLES else b"")
+        try:
+            while entries.has_more():
+                name = entries.name()
+                entries.index()
+                yield Variable(name, extent(entries), word)
+        except Ended:
+            raise Fault(BODY, word, place) from None
+        except OtherType:
+            raise Fault(DATA_TYPE, word, place) from None
+        place = frame.behind
 
 
-def entries_of(body, word):
-    """All entries of a COMDEF."""
-    entries, found = Entries(body), []
-    try:
-        while entries.has_more():
-            found.append(entry(entries, word))
-    except Ended:
-        raise Refused(BODY) from None
-    return found
+def variables(modules, key):
+    """One variable for each name that modules declare and none offers, in order of meeting.
+
+    Of each module the names that it offers are known, its bytes, and its word.
+    """
+    declared = [one for each in modules for one in declarations(each.content, each.word)]
+    offered = {key(name) for each in modules for name in each.names.offered}
+    found = {}
+    for each in declared:
+        if key(each.name) not in offered:
+            found.setdefault(key(each.name), each).widen(each)
+    return list(found.values())
 
 
-def fault_of(number, name, *words):
-    """A fault of a variable, with the words of modules that declare it."""
-    fault = Fault(number, name=name)
-    fault.words = list(words)
-    return fault
-
-
-def met(variable, other):
-    """A variable once another module declares it too."""
-    if variable.is_far != other.is_far:
-        raise fault_of(NEAR_AND_FAR, variable.name, variable.word, other.word)
-    if variable.size != other.size:
-        raise fault_of(ELEMENT_SIZES, variable.name, variable.word, other.word)
-    count = max(variable.count, other.count)
-    return Variable(variable.name, variable.size, count, variable.word)
-
-
-def variables(taken, key):
-    """The variables of modules, in order of first meeting."""
-    found = [each for one in taken for each in declared(one.content, one.word)]
-    offered = {key(name) for one in taken for name in one.names.offered}
-    variables_by_key = {}
-    for each in found:
-        name = key(each.name)
-        if name not in offered:
-            known = variables_by_key.get(name)
-            variables_by_key[name] = each if known is None else met(known, each)
-    return list(variables_by_key.values())
-
-
-def near_places(found):
-    """The offset of each near variable, and where they end."""
-    end, places = 0, []
-    for each in found:
-        begin = end + (end % 2 if each.length > 1 else 0)
-        end = begin + each.length
-        if begin >= WHOLE or end > WHOLE:
-            raise fault_of(NEAR_TOO_LONG, each.name, each.word)
-        places.append((each.name, begin))
+def near_places(near):
+    """Where near variables begin in their segment, and the length of that."""
+    places, end = [], 0
+    for each in near:
+        begin = end + (end % 2 if each.extent.length > 1 else 0)
+        end = begin + each.extent.length
+        if begin >= WHOLE_SEGMENT or end > WHOLE_SEGMENT:
+            raise each.fault(NEAR_TOO_LONG)
+        places.append(begin)
     return places, end
 
 
-def far_places(found, first):
-    """The first segment of each far variable, and the lengths of all segments from that one on."""
-    places, lengths = [], []
-    for each in found:
-        if each.length > WHOLE and WHOLE % each.size:
-            raise fault_of(CUT_ELEMENT, each.name, each.word)
-        whole, rest = divmod(each.length, WHOLE)
-        parts = whole + (rest > 0 or whole == 0)
-        begin = first + len(lengths)
-        if begin + parts > MOST_SEGMENTS + 1:
-            raise fault_of(TOO_MANY_SEGMENTS, each.name, each.word)
-        places.append((each.name, begin))
-        lengths += [WHOLE] * whole + ([rest] if parts > whole else [])
-    return places, lengths
+def far_lengths(variable, most):
+    """The lengths of the segments of a far variable, which may have so many."""
+    length, size = variable.extent.length, variable.extent.size
+    if length > WHOLE_SEGMENT and WHOLE_SEGMENT % size:
+        raise variable.fault(CUT_ELEMENT)
+    whole, rest = divmod(length, WHOLE_SEGMENT)
+    parts = [rest] if rest or not whole else []
+    if whole + len(parts) > most:
+        raise variable.fault(TOO_MANY_SEGMENTS)
+    return whole * [WHOLE_SEGMENT] + parts
 
 
-def is_bss(segment):
-    return (segment.kind, segment.name, segment.class_name) == ("public", NAME_IN_BSS, CLASS)
-
-
-def has_bss(content):
-    """Whether a module has the segment of compilers for data without values in DGROUP.
-
-    One that is at fault has not.
-    """
+def has_near_segment(content):
+    """Whether a module has the near segment of compilers, a public one, in DGROUP."""
     try:
         found = module.read(content, None)
     except Fault:
         return False
+    grouped = [
+        found.segments[index - 1]
+        for group in found.groups if group.name == GROUP for index in group.segments]
     return any(
-        is_bss(found.segments[index - 1])
-        for group in found.groups if group.name == GROUP for index in group.segments)
+        (each.kind, each.name, each.class_name) == ("public", NEAR_NAME, UNINITIALISED)
+        for each in grouped)
 
 
-def module_of(found, lowered):
-    """The bytes of the module that has variables beside lowered modules, or None without any."""
+def segment(alignment, combination, length, name, class_name):
+    return records.SegmentDefinition(alignment, combination, length, name, class_name, 0)
+
+
+def public(group, index, offset, variable):
+    return records.PublicNames(
+        group, index, None, [records.PublicName(variable.name, offset, 0)])
+
+
+def made_records(found, near_name):
+    """The records of the module: the near segment first, then those of far variables."""
+    near = [each for each in found if not each.extent.is_far]
+    places, end = near_places(near)
+    before = [segment(WORD, PUBLIC, end, 2, 3), records.GroupDefinition(1, [1])] if near else []
+    publics = [public(1, 1, place, each) for place, each in zip(places, near)]
+    far, first = [], 1 + (near != [])
+    for each in found:
+        if each.extent.is_far:
+            publics.append(public(0, first + len(far), 0, each))
+            far += [
+                segment(PARAGRAPH, PRIVATE, length, 4, 4)
+                for length in far_lengths(each, MOST_SEGMENTS + 1 - first - len(far))]
+    return [
+        records.Header(TITLE), records.NameList([GROUP, near_name]),
+        records.NameList([UNINITIALISED, FAR_NAME]), *before, *far, *publics,
+        records.ModuleEnd(False, None)]
+
+
+def communal_module(found, contents):
+    """The bytes of the module for modules of these bytes, or None where there is no variable."""
     if not found:
         return None
-    nears, end = near_places([each for each in found if not each.is_far])
-    fars, lengths = far_places([each for each in found if each.is_far], 2 if nears else 1)
-    name = NAME_IN_BSS if any(map(has_bss, lowered)) else OTHER_NAME
-    near_segment = [
-        records.SegmentDefinition(WORD_ALIGNED, PUBLIC, end, 2, 3, 0),
-        records.GroupDefinition(1, [1])]
-    made = [
-        records.Header(TITLE),
-        records.NameList([GROUP, name]), records.NameList([CLASS, FAR_CLASS]),
-        *(near_segment if nears else []),
-        *(records.SegmentDefinition(PARAGRAPH_ALIGNED, PRIVATE, length, 4, 4, 0)
-          for length in lengths),
-        *(public(1, 1, *each) for each in nears),
-        *(public(0, segment, each, 0) for each, segment in fars),
-        records.ModuleEnd(False, None)]
-    return b"".join(map(Spelling().record, made))
-
-
-def public(group, segment, name, offset):
-    return records.PublicNames(group, segment, None, [records.PublicName(name, offset, 0)])
+    near_name = NEAR_NAME if any(map(has_near_segment, contents)) else OWN_NEAR_NAME
+    return b"".join(map(Spelling().record, made_records(found, near_name)))

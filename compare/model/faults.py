@@ -25,15 +25,14 @@ COMMUNAL_NAMES = {
     53: "Body", 54: "DataType", 55: "NearAndFar", 56: "ElementSizes", 57: "NearTooLong",
     58: "CutElement", 59: "TooManySegments",
 }
+# all that doslink alone has
+DOSLINK_NAMES = {**LIBRARY_NAMES, **LOWERING_NAMES, **COMMUNAL_NAMES}
 # what else ends a job of doslink, without a number
 MISSING, TOO_MANY_PARTS, WORDS, READ_AND_WRITTEN, WRITTEN_TWICE = "M", "P", "W", "O", "T"
 OTHER_ENDS = {
     MISSING: "names are missing", TOO_MANY_PARTS: "TooManySegments", WORDS: "wrong words",
-    READ_AND_WRITTEN: "OUT is read",
-    WRITTEN_TWICE: "MAP is OUT",
+    READ_AND_WRITTEN: "OUT is read", WRITTEN_TWICE: "MAP is OUT",
 }
-# those that doslink alone has
-DOSLINK_NAMES = {**LIBRARY_NAMES, **LOWERING_NAMES, **COMMUNAL_NAMES}
 # the faults of devices, which have a status of their own
 DEVICE_FAULTS = (1, 40)
 
@@ -54,7 +53,7 @@ class Fault(Exception):
     """A fault: its number and, where it has them, what it is at.
 
     `owner` is an input's number, or how it is called; `place` that of a record, `byte` where in the
-    body fault 6 stands, and `name` that of a segment, a group or a public.
+    body fault 6 stands, and `name` that of a segment, a group, a public or a communal variable.
     """
 
     def __init__(self, number, owner=None, place=None, byte=None, name=None):
@@ -64,7 +63,7 @@ class Fault(Exception):
         self.place = place
         self.byte = byte
         self.name = name
-        # the words for modules that define a name twice
+        # the words for modules that define or declare a name
         self.words = []
 
     @property

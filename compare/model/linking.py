@@ -16,6 +16,7 @@ from model.faults import Fault, escaped, printed_name
 from model.names import Names, names_of
 
 PROGRAM = "doslink"
+# the words for modules that are made
 ORDER, COMMUNAL = "order", "communal"
 # what is put behind the name of a library that has no dot, in turn
 ENDINGS = ["", ".LIB", ".lib"]
@@ -46,7 +47,7 @@ class Module:
 
 
 def made_module(word, content):
-    """A module that is made, where it is, in a list."""
+    """A module that is made, in a list; none where there are no bytes."""
     return [] if content is None else [Module(word, content, Names())]
 
 
@@ -92,6 +93,8 @@ class Linking:
 
     def run(self):
         """Does the job, or raises a Fault or a Stop."""
+        if not self.job.files + self.job.libraries:
+            raise Stop(WRONG_WORDS, faults.WORDS, ["no file is named to be linked"])
         self.read_given()
         if self.job.has_default_libraries:
             self.add_default_libraries()
@@ -178,7 +181,10 @@ class Linking:
             replace(found[each.library][each.member], wanted=each.name) for each in choices]
 
     def places(self):
-        """The paths of the program and of the map, or None; neither may be a file that is read, nor both one."""
+        """The paths of the program and of the map, or None.
+
+        Neither may be a file that is read, nor both one.
+        """
         out = self.job.out
         if out is None:
             given = [*self.job.files, *self.job.libraries, "OUT"]
@@ -189,7 +195,8 @@ class Linking:
                 raise Stop(WRONG_WORDS, faults.READ_AND_WRITTEN, [
                     f"{path}: it is read and would be written"])
         if map_path == out:
-            raise Stop(WRONG_WORDS, faults.WRITTEN_TWICE, [f"{out}: it would be the program and its map"])
+            raise Stop(WRONG_WORDS, faults.WRITTEN_TWICE, [
+                f"{out}: it would be the program and its map"])
         return out, map_path
 
     def tell(self, taken):
@@ -200,8 +207,8 @@ class Linking:
                 self.answer.output += f"{each.word}{name}\n".encode()
 
     def check_names(self, taken, stock, variables):
-        """No name may be missing, but for those that the order's module defines."""
-        made = [self.key(each.name) for each in variables]
+        """No name may be missing, but for those of variables or that the order's module defines."""
+        made = {self.key(each.name) for each in variables}
         missing = [
             (name, line) for name, line in self.missing(taken, stock) if self.key(name) not in made]
         marks = [self.key(mark) for mark in MARKS]
@@ -230,7 +237,7 @@ class Linking:
         lowered = lowering.lowered_modules(
             [each.content for each in taken], [each.word for each in taken],
             self.job.keeps_debug, self.job.packs_far_data)
-        behind = made_module(COMMUNAL, communal.module_of(variables, lowered))
+        behind = made_module(COMMUNAL, communal.communal_module(variables, lowered))
         lowered += [each.content for each in behind]
         before = made_module(ORDER, self.order_module(lowered, taken))
         self.warn_of_wide_segments(lowered, taken)

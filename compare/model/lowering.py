@@ -8,6 +8,7 @@ record, and what stands behind the record that ends the module, stays as it is.
 from dataclasses import dataclass
 
 from model import module
+from model.communal import COMMUNAL_VARIABLES, OtherType, extent
 from model.faults import Fault
 from model.libraries import COMMENT, FRONT_OF_RECORD, whole_frames
 from model.names import LOCAL_NAME_LIST, NAME_LIST, Ended, Entries
@@ -18,15 +19,11 @@ SEGMENTS, DATA = (0x98, 0x99), (0xA0, 0xA1, 0xA2, 0xA3)
 REPEATED = (0xA2, 0xA3)
 FIXUPS, COMMUNAL_DATA = (0x9C, 0x9D), (0xC2, 0xC3)
 PUBLICS_32, LINES_32, END_32 = (0x91, 0xB7), 0x95, 0x8B
-# communal variables by the type of the externals that they become
-COMMUNALS = {0xB0: 0x8C, 0xB8: 0xB4}
+# communal variables, also local ones, by the type of the externals that they become
+COMMUNALS = {COMMUNAL_VARIABLES: 0x8C, 0xB8: 0xB4}
 COMMUNAL_EXTERNALS, EXTERNALS = 0xBC, 0x8C
 # a header and a list of names by the types of others that say the same
 SAME = {0x82: 0x80, LOCAL_NAME_LIST: NAME_LIST}
-# the lengths of a communal variable by its data type: far, near
-LENGTHS = {0x61: 2, 0x62: 1}
-# the bytes behind the first of a length
-BYTES_OF_LENGTH = {0x81: 2, 0x84: 3, 0x88: 4}
 DEBUG_CLASSES = (b"DEBSYM", b"DEBTYP", b"DWARF")
 FAR_DATA = b"FAR_DATA"
 # the fields of the byte that begins a SEGDEF: alignment, combination, whether it is as long as its
@@ -251,14 +248,10 @@ class Lowering:
         entries.name()
         entries.index()
         found = entries.body[place:entries.place]
-        data_type = entries.byte()
-        if data_type not in LENGTHS:
-            raise Obstacle(DATA_TYPE)
-        for _ in range(LENGTHS[data_type]):
-            first = entries.byte()
-            if first > 0x80 and first not in BYTES_OF_LENGTH:
-                raise Obstacle(BODY)
-            entries.bytes(BYTES_OF_LENGTH.get(first, 0))
+        try:
+            extent(entries)
+        except OtherType:
+            raise Obstacle(DATA_TYPE) from None
         return found
 
     def named(self, entries):
