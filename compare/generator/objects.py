@@ -122,6 +122,8 @@ class ObjectMaker:
             steps.append(self.define_communals)
         if self.happens(0.2):
             steps.append(self.add_lines)
+        if self.happens(0.05):
+            steps.append(self.add_communal_externals)
         if self.happens(self.plan.has_others):
             steps += self.random.sample([
                 self.add_communal_externals, self.add_publics_of_32_bits, self.add_communal_data,
@@ -322,7 +324,9 @@ class ObjectMaker:
 
     def add_communal_externals(self):
         indexes = self.listed(self.some_names())
-        self.add_other(0xBC, b"".join(self.spelling.index(index) + b"\0" for index in indexes))
+        entries = [self.spelling.index(index) + self.spelling.index(0) for index in indexes]
+        self.add_other(0xBC, b"".join(entries))
+        self.externals += len(indexes)
 
     def add_publics_of_32_bits(self):
         """Publics by another type of record, or of a frame."""
@@ -395,8 +399,9 @@ class ObjectMaker:
 def module_of_long_externals(length):
     """A module that wants a name by indexes, and by its names a record's body has such a length."""
     spelling, size, count = records.Spelling(), 217, length // 217
-    names = [(size - 2) * b"a", (size - 2 + length % size) * b"b"]
-    indexes = (count - 1) * b"\1\0" + b"\2\0"
+    # a name, its length and a type index of a byte, and at last one of two
+    names = [(size - 2) * b"a", (size - 3 + length % size) * b"b"]
+    indexes = (count - 1) * b"\1\0" + b"\2\x80\0"
     publics = [PublicName(name, 0, 0) for name in names]
     return b"".join([
         spelling.record(records.Header(b"LONG")), spelling.record(records.NameList(names)),
