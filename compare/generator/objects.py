@@ -240,8 +240,7 @@ class ObjectMaker:
         """The names that it wants, in one record or some, and at times marks."""
         names = list(self.wanted)
         if self.happens(self.plan.wants_marks):
-            mark = self.random.choice(MARKS)
-            mark = mark.upper() if self.happens(0.05) else mark
+            mark = self.other_case(self.random.choice(MARKS))
             names.insert(self.random.randrange(len(names) + 1), mark)
         if self.happens(0.1):
             # at times one twice
@@ -382,7 +381,7 @@ class ObjectMaker:
             self.add(records.FixupRecord([replace(self.fixup(), offset=place)]))
 
     def fixup(self):
-        """An offset or a pointer, to an external or to a segment."""
+        """An offset, a pointer or a base of an external or a segment, at times of bytes behind."""
         targets = [Direct(Method.SEGMENT, self.random.randrange(1, len(self.lengths) + 1))]
         if self.externals:
             targets += 3 * [Direct(
@@ -393,7 +392,8 @@ class ObjectMaker:
         if self.group and self.happens(0.3):
             frame = Direct(Method.GROUP, self.group)
         location = self.random.choice([Location.OFFSET, Location.POINTER, Location.BASE])
-        return Fixup(True, location, 0, Reference(frame, self.random.choice(targets), None))
+        behind = self.random.randrange(3) if self.happens(0.2) else None
+        return Fixup(True, location, 0, Reference(frame, self.random.choice(targets), behind))
 
 
 def module_of_long_externals(length):
