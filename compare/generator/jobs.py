@@ -18,6 +18,8 @@ MOST_PARTS, MANY_EVERY = 16_383, 500
 FAR_LENGTHS = [(0xFFF0, 16), (0xFFF0, 17), (0xFFF1, 5), (0xFFE1, 15), (0x8000, 0x8000)]
 # one seed in so many has such lengths, one a list of segments, and one BSS outside of DGROUP
 RARE_EVERY = 100
+# one job in so many has a line that is wrong, each in its turn, and one tells faults alone
+WRONG_EVERY, QUIET_EVERY = 25, 250
 # the classes that have more than one segment that combines
 FULL_CLASSES = [b"BEGDATA", b"DATA", b"BSS", b"STACK"]
 COMMUNALS_EVERY = 15
@@ -62,6 +64,8 @@ class JobMaker:
         self.files = {}
         self.job = Job(out=OUT)
         self.job.ignores_case = self.happens(0.3)
+        # directives that have to be among the others
+        self.required_lines = []
         self.names = self.some_names()
         self.left = list(self.names)
         self.plan = any_plan(random, self.names)
@@ -153,6 +157,19 @@ class JobMaker:
         self.add_some_objects()
         self.job.order = ordering.DOSSEG
         return self.asked()
+
+    def make_wrong(self, line):
+        """Directives of which one is wrong."""
+        self.folders, self.required_lines = [], [line]
+        self.add_some_objects()
+        return self.by_directives()
+
+    def make_quiet(self):
+        """Directives that ask for faults alone, where a default library isn't there."""
+        self.folders, self.required_lines = [], ["option quiet"]
+        self.plan.libraries = [b"NOWHERE"]
+        self.add_some_objects()
+        return self.by_directives()
 
     def add_some_objects(self):
         """Three of FILES, with a library for the names that they want, and a map."""
@@ -388,6 +405,7 @@ class JobMaker:
         lines += ["option caseignore"] if job.ignores_case else []
         lines += ["option dosseg"] if job.order == ordering.DOSSEG else []
         lines += [self.order_line()] if isinstance(job.order, list) else []
+        lines += self.required_lines
         lines += self.random.sample(LINES_OF_NOTHING, self.random.randrange(3))
         lines += ["format dos"] if self.happens(0.7) else []
         lines += [self.random.choice(LEFT_OUT)] if self.happens(0.2) else []
@@ -435,6 +453,10 @@ def case(random, number=1):
         return maker.make_listed()
     if number % LONG_EVERY == 3:
         return maker.make_long_externals(LONG_BODIES[number // LONG_EVERY % len(LONG_BODIES)])
+    if number % WRONG_EVERY == 8:
+        return maker.make_wrong(WRONG_LINES[number // WRONG_EVERY % len(WRONG_LINES)])
+    if number % QUIET_EVERY == 20:
+        return maker.make_quiet()
     if number % COMMUNALS_EVERY == 2:
         return maker.make_communals(number // COMMUNALS_EVERY)
     return maker.make()

@@ -89,7 +89,7 @@ class Widening:
         first |= self.random.choice([0, 1])
         if self.happens(0.5):
             return SEGMENTS, bytes([first]) + standing + length + reader.rest()
-        if self.happens(0.01):
+        if self.happens(0.03):
             # as long as offsets of 32 bits reach
             first, length = first | 2, b"\0\0"
         return SEGMENTS + 1, bytes([first]) + standing + self.wide(length) + reader.rest()
