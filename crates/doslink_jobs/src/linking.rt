@@ -35,8 +35,8 @@ fn tell_fault<A: Allocator + Copy>(
     };
     match fault {
         LinkFault::Memory => Err(AllocError),
-        LinkFault::Program(ProgramFault::DuplicatePublic { .. }) => {
-            push_duplicate(alloc, lines, fault, names, taken.handed, taken.words)
+        LinkFault::Program(ProgramFault::DuplicatePublic { name }) => {
+            push_duplicate(alloc, lines, name, names, taken.handed, taken.words)
         }
         _ => push_fault(alloc, lines, fault, word),
     }

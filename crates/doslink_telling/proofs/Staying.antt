@@ -1,6 +1,6 @@
 -- The names that stay missing, one by one.
 use Rattle.std.proofs.Common.{◌≡◌, ℕ, ◌+◌, ◌<◌, Bool, true, false, not, List, [], ◌∷◌, ◌++◌, cond, filter, length, map}
-use Rattle.std.proofs.Common.{take, get_or, sym, ap, ap₂, ◌∙◌, append-nil}
+use Rattle.std.proofs.Common.{take, get_or, sym, ap, ◌∙◌, append-nil}
 use Rattle.std.proofs.lemmas.List.{map-append, take_more}
 use Rattle.std.proofs.lemmas.List.Elements.{filter-append}
 use Rattle.omf_place.specs.declared.names.Names.{Names}

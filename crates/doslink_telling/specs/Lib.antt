@@ -1,1 +1,5 @@
+pub mod Words
+pub mod Lines
+pub mod Table
 pub mod Missing
+pub mod inside

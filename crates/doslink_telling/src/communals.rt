@@ -1,15 +1,22 @@
 //! The lines of faults of communal variables.
 
-use crate::lines::quoted_name;
-use itoa::Buffer;
+ghost use Rattle.std.specs.Prelude.{◌≡◌, ◌++◌, OnOk};
+ghost use Rattle.doslink_telling.specs.Lines as spec;
+ghost use Rattle.doslink_telling.specs.Lines.{IsTold};
+
+use crate::lines::{push_located, push_named};
+use crate::telling::word_at;
 use omf_communal::{ClashFault, Declaring, EntryFault, PlanFault, Variable, Whose};
 use std::alloc::{AllocError, Allocator};
 
 /// The number and the name of what is wrong with a record that declares communal variables.
-fn entry_label(fault: EntryFault) -> (&'static str, &'static str) {
+fn entry_label(fault: EntryFault) -> (u8, &'static str)
+    ensures number { result.0 ≡ (spec.entry_label fault).0 }
+    ensures name { result.1.now ≡ (spec.entry_label fault).1 }
+{
     match fault {
-        EntryFault::Body => ("53", "Body"),
-        EntryFault::DataType => ("54", "DataType"),
+        EntryFault::Body => (53, "Body"),
+        EntryFault::DataType => (54, "DataType"),
     }
 }
 
@@ -20,52 +27,16 @@ pub fn push_entry_fault<A: Allocator + Copy>(
     word: &[u8],
     place: u64,
     fault: EntryFault,
-) -> Result<(), AllocError> {
-    let (number, name) = entry_label(fault);
-    let mut digits = Buffer::new();
-    lines.extend_from_slice(b"doslink: ")?;
-    lines.extend_from_slice(word)?;
-    lines.extend_from_slice(b": ")?;
-    lines.extend_from_slice(number.as_bytes())?;
-    lines.extend_from_slice(b" ")?;
-    lines.extend_from_slice(name.as_bytes())?;
-    lines.extend_from_slice(b" at record ")?;
-    lines.extend_from_slice(digits.format(place).as_bytes())?;
-    lines.extend_from_slice(b"\n")
-}
-
-/// Appends the line of a fault of a name up to the modules that declare it.
-fn push_front<A: Allocator + Copy>(
-    alloc: A,
-    lines: &mut Vec<u8, A>,
-    label: (&str, &str),
-    name: &[u8],
-) -> Result<(), AllocError> {
-    let name = quoted_name(alloc, name)?;
-    lines.extend_from_slice(b"doslink: link: ")?;
-    lines.extend_from_slice(label.0.as_bytes())?;
-    lines.extend_from_slice(b" ")?;
-    lines.extend_from_slice(label.1.as_bytes())?;
-    lines.extend_from_slice(b" ")?;
-    lines.extend_from_slice(&name)
-}
-
-/// Appends a module that declares a name, by its word, behind what joins it to those before it.
-fn push_declaring<A: Allocator + Copy>(
-    lines: &mut Vec<u8, A>,
-    joint: &str,
-    words: &[Vec<u8, A>],
-    whose: Whose,
-) -> Result<(), AllocError> {
-    lines.extend_from_slice(joint.as_bytes())?;
-    if let Some(word) = words.get(whose.module) {
-        lines.extend_from_slice(word)?;
-    }
-    Ok(())
+) -> Result<(), AllocError>
+    ensures { OnOk result (lines.new.items ≡ lines.old.items ++ spec.entry_line word.now place fault) }
+{
+    push_located(lines, word, entry_label(fault), " at record ", place)
 }
 
 /// The name of a variable that a module declares.
-fn name_at<'a>(modules: &[Declaring<'_, 'a>], whose: Whose) -> &'a [u8] {
+fn name_at<'a>(modules: &[Declaring<'_, 'a>], whose: Whose) -> &'a [u8]
+    ensures { result.now ≡ spec.name_at modules.now whose }
+{
     if modules.len() <= whose.module {
         return b"";
     }
@@ -75,44 +46,115 @@ fn name_at<'a>(modules: &[Declaring<'_, 'a>], whose: Whose) -> &'a [u8] {
     }
 }
 
+/// Appends the line of a name that two modules declare.
+fn push_clashing<A: Allocator + Copy>(
+    alloc: A,
+    lines: &mut Vec<u8, A>,
+    label: (u8, &str),
+    first: Whose,
+    other: Whose,
+    modules: &[Declaring<'_, '_>],
+    words: &[Vec<u8, A>],
+) -> Result<(), AllocError>
+    ensures { OnOk result (lines.new.items ≡ lines.old.items
+        ++ spec.clashing (label.entry.0, label.entry.1.now) first other modules.now words.now) }
+{
+    let both = [word_at(words, first.module), word_at(words, other.module)];
+    push_named(
+        alloc,
+        lines,
+        label,
+        name_at(modules, first),
+        both.as_slice(),
+    )
+}
+
 /// Appends the line of a name whose declarations clash, with the modules that declare it. The words are those of the
 /// modules.
+///
+/// # Errors
+/// Want of memory, also where that is the fault.
 pub fn push_clash<A: Allocator + Copy>(
     alloc: A,
     lines: &mut Vec<u8, A>,
     fault: ClashFault,
     modules: &[Declaring<'_, '_>],
     words: &[Vec<u8, A>],
-) -> Result<(), AllocError> {
-    let (label, first, other) = match fault {
-        ClashFault::NearAndFar { first, other } => (("55", "NearAndFar"), first, other),
-        ClashFault::ElementSizes { first, other } => (("56", "ElementSizes"), first, other),
-        ClashFault::Memory => return Err(AllocError),
-    };
-    push_front(alloc, lines, label, name_at(modules, first))?;
-    push_declaring(lines, " in ", words, first)?;
-    push_declaring(lines, " and ", words, other)?;
-    lines.extend_from_slice(b"\n")
+) -> Result<(), AllocError>
+    ensures { OnOk result (IsTold (spec.clash_line fault modules.now words.now) lines.old.items lines.new.items) }
+{
+    match fault {
+        ClashFault::NearAndFar { first, other } => {
+            let label = (55, "NearAndFar");
+            push_clashing(alloc, lines, label, first, other, modules, words)
+        }
+        ClashFault::ElementSizes { first, other } => {
+            let label = (56, "ElementSizes");
+            push_clashing(alloc, lines, label, first, other, modules, words)
+        }
+        ClashFault::Memory => Err(AllocError),
+    }
+}
+
+/// Appends the line of a variable, by its index, with the first module that declares it. Nothing behind the last.
+fn push_declared<A: Allocator + Copy>(
+    alloc: A,
+    lines: &mut Vec<u8, A>,
+    label: (u8, &str),
+    index: usize,
+    variables: &[Variable<'_>],
+    words: &[Vec<u8, A>],
+) -> Result<(), AllocError>
+    ensures { OnOk result (lines.new.items ≡ lines.old.items
+        ++ spec.declared (label.entry.0, label.entry.1.now) index variables.now words.now) }
+{
+    match variables.get(index) {
+        Some(variable) => {
+            let word = [word_at(words, variable.first.module)];
+            push_named(alloc, lines, label, variable.name, word.as_slice())
+        }
+        None => Ok(()),
+    }
 }
 
 /// Appends the line of a variable that has no place, with the first module that declares it. The words are those of the
 /// modules.
+///
+/// # Errors
+/// Want of memory, also where that is the fault.
 pub fn push_unplaced<A: Allocator + Copy>(
     alloc: A,
     lines: &mut Vec<u8, A>,
     fault: PlanFault,
     variables: &[Variable<'_>],
     words: &[Vec<u8, A>],
-) -> Result<(), AllocError> {
-    let (label, index) = match fault {
-        PlanFault::NearTooLong { variable } => (("57", "NearTooLong"), variable),
-        PlanFault::CutElement { variable } => (("58", "CutElement"), variable),
-        PlanFault::TooManySegments { variable } => (("59", "TooManySegments"), variable),
-        PlanFault::Memory => return Err(AllocError),
-    };
-    if let Some(variable) = variables.get(index) {
-        push_front(alloc, lines, label, variable.name)?;
-        push_declaring(lines, " in ", words, variable.first)?;
+) -> Result<(), AllocError>
+    ensures { OnOk result (IsTold (spec.unplaced_line fault variables.now words.now) lines.old.items lines.new.items) }
+{
+    match fault {
+        PlanFault::NearTooLong { variable } => {
+            push_declared(
+                alloc,
+                lines,
+                (57, "NearTooLong"),
+                variable,
+                variables,
+                words,
+            )
+        }
+        PlanFault::CutElement { variable } => {
+            push_declared(alloc, lines, (58, "CutElement"), variable, variables, words)
+        }
+        PlanFault::TooManySegments { variable } => {
+            push_declared(
+                alloc,
+                lines,
+                (59, "TooManySegments"),
+                variable,
+                variables,
+                words,
+            )
+        }
+        PlanFault::Memory => Err(AllocError),
     }
-    lines.extend_from_slice(b"\n")
 }

@@ -1,75 +1,65 @@
 //! The lines of faults and warnings, with people's names for what is at fault.
-ghost use Rattle.std.specs.Prelude.{◌≡◌};
+ghost use Rattle.std.specs.Prelude.{◌≡◌, ◌++◌, IfOk, OnOk, drop, filter, length, codes, map};
+ghost use Rattle.std.specs.List.{enumerate_from, flat_map};
+ghost use Rattle.std.specs.Str.Lossy.{utf8_lossy};
 ghost use Rattle.omf_place.specs.Names.{agrees};
+ghost use Rattle.omf_search.specs.Results.{bytes_of};
+ghost use Rattle.omf_text.specs.FaultLines as omf;
+ghost use Rattle.doslink_telling.specs.Lines as spec;
+ghost use Rattle.doslink_telling.specs.Lines.{IsTold};
 
-use crate::lines::{Lines, quoted_name};
-use crate::telling::path_of;
+use crate::lines::{Lines, Part, push_located, push_name, push_named, push_parts};
+use crate::telling::{path_of, word_at};
 use doslink_files::InputFile;
 use doslink_stock::{Handed, StockFault};
-use itoa::Buffer;
 use omf_frame::IoFault;
 use omf_library::FormatFault;
 use omf_lower::Obstacle;
 use omf_place::Names;
-use omf_text::{LinkFault, ProgramFault, fault_line};
+use omf_text::{LinkFault, fault_line};
 use std::alloc::{AllocError, Allocator};
-
-/// What `fault_line` of `omf` begins each line with.
-const OMF: usize = "omf".len();
 
 /// Appends the line of a file that can't be opened or read.
 pub fn push_device_line<A: Allocator + Copy>(
     lines: &mut Vec<u8, A>,
     path: &str,
-) -> Result<(), AllocError> {
-    lines.extend_from_slice(b"doslink: ")?;
-    lines.extend_from_slice(path.as_bytes())?;
-    lines.extend_from_slice(b": 1 Device at record 0\n")
+) -> Result<(), AllocError>
+    ensures { OnOk result (lines.new.items ≡ lines.old.items ++ spec.device_line path.now) }
+{
+    push_located(lines, path.as_bytes(), (1, "Device"), " at record ", 0)
 }
 
 /// The number and the name that a fault of a library is printed with.
-fn format_label(fault: FormatFault) -> (&'static str, &'static str) {
+fn format_label(fault: FormatFault) -> (u8, &'static str)
+    ensures number { result.0 ≡ (spec.format_label fault).0 }
+    ensures name { result.1.now ≡ (spec.format_label fault).1 }
+{
     match fault {
-        FormatFault::PageSize => ("42", "PageSize"),
-        FormatFault::ZeroLength => ("43", "ZeroLength"),
-        FormatFault::Truncated => ("44", "Truncated"),
-        FormatFault::Closing => ("45", "Closing"),
-        FormatFault::Header => ("46", "Header"),
-        FormatFault::TooLong => ("47", "TooLong"),
+        FormatFault::PageSize => (42, "PageSize"),
+        FormatFault::ZeroLength => (43, "ZeroLength"),
+        FormatFault::Truncated => (44, "Truncated"),
+        FormatFault::Closing => (45, "Closing"),
+        FormatFault::Header => (46, "Header"),
+        FormatFault::TooLong => (47, "TooLong"),
     }
 }
 
-/// Appends the line of a library at fault.
-fn push_library_line<A: Allocator + Copy>(
-    lines: &mut Vec<u8, A>,
-    files: &[InputFile<A>],
-    file: usize,
-    place: usize,
-    fault: FormatFault,
-) -> Result<(), AllocError> {
-    let (number, name) = format_label(fault);
-    let mut digits = Buffer::new();
-    lines.extend_from_slice(b"doslink: ")?;
-    lines.extend_from_slice(path_of(files, file).as_bytes())?;
-    lines.extend_from_slice(b": ")?;
-    lines.extend_from_slice(number.as_bytes())?;
-    lines.extend_from_slice(b" ")?;
-    lines.extend_from_slice(name.as_bytes())?;
-    lines.extend_from_slice(b" at place ")?;
-    lines.extend_from_slice(digits.format(place).as_bytes())?;
-    lines.extend_from_slice(b"\n")
-}
-
 /// Appends the line of a library at fault, by what reading the files answered.
+///
+/// # Errors
+/// Want of memory, also where that is what it answered.
 pub fn push_stock_fault<A: Allocator + Copy>(
     lines: &mut Vec<u8, A>,
     files: &[InputFile<A>],
     fault: StockFault,
-) -> Result<(), AllocError> {
+) -> Result<(), AllocError>
+    ensures { OnOk result (IsTold (spec.stock_line files.now fault) lines.old.items lines.new.items) }
+{
     match fault {
         StockFault::Memory => Err(AllocError),
         StockFault::Library { file, place, fault } => {
-            push_library_line(lines, files, file, place, fault)
+            let path = path_of(files, file).as_bytes();
+            push_located(lines, path, format_label(fault), " at place ", place as u64)
         }
     }
 }
@@ -80,13 +70,17 @@ pub fn push_absent_line<A: Allocator + Copy>(
     lines: &mut Vec<u8, A>,
     library: &[u8],
     word: &[u8],
-) -> Result<(), AllocError> {
-    let name = quoted_name(alloc, library)?;
+) -> Result<(), AllocError>
+    ensures { OnOk result (lines.new.items ≡ lines.old.items ++ spec.absent_line library.now word.now) }
+{
     lines.extend_from_slice(b"doslink: warning: library ")?;
-    lines.extend_from_slice(&name)?;
-    lines.extend_from_slice(b" of ")?;
-    lines.extend_from_slice(word)?;
-    lines.extend_from_slice(b" was not found\n")
+    push_name(alloc, lines, library)?;
+    let parts = [
+        Part::Text(" of "),
+        Part::Bytes(word),
+        Part::Text(" was not found\n"),
+    ];
+    push_parts(lines, parts.as_slice())
 }
 
 /// Whether names agree.
@@ -99,88 +93,113 @@ pub(crate) fn agree(names: Names, one: &[u8], other: &[u8]) -> bool
     }
 }
 
-/// Appends the modules that offer a name, as the end of a line.
-fn push_offering<A: Allocator + Copy>(
-    lines: &mut Vec<u8, A>,
-    names: Names,
-    name: &[u8],
-    handed: &[Handed<'_, '_, A>],
-    words: &[Vec<u8, A>],
-) -> Result<(), AllocError> {
-    let mut is_first = true;
-    for (each, word) in handed.iter().zip(words) {
-        for offered in &each.entry.says.offered {
-            if agree(names, offered, name) {
-                let joint = if is_first { " in " } else { " and " };
-                lines.extend_from_slice(joint.as_bytes())?;
-                lines.extend_from_slice(word)?;
-                is_first = false;
-            }
-        }
-    }
-    lines.push(b'\n')?;
-    Ok(())
-}
-
-/// The line of a fault as `omf` writes it, `word` standing before its number, but with `doslink` in front.
-fn fault_text<A: Allocator + Copy>(
+/// The line of a fault as `omf` writes it, `word` standing before its number.
+fn omf_line<A: Allocator + Copy>(
     alloc: A,
     fault: &LinkFault<A>,
     word: &[u8],
-) -> Result<Vec<u8, A>, AllocError> {
-    let word = match str::from_utf8(word) {
-        Ok(word) => word,
-        Err(_) => "",
-    };
+) -> Result<Vec<u8, A>, AllocError>
+    ensures { IfOk result (λ line. line.items ≡ omf.fault_line fault.now (utf8_lossy word.now)) }
+{
+    let word = String::from_utf8_lossy(alloc, word)?;
     let mut line = Lines::new(alloc);
-    if let Err(IoFault) = fault_line(fault, word, &mut line) {
-        return Err(AllocError);
+    match fault_line(fault, word.as_str(), &mut line) {
+        Ok(()) => Ok(line.bytes),
+        Err(IoFault) => Err(AllocError),
     }
-    let mut text = Vec::from_slice(alloc, b"doslink")?;
-    if line.bytes.len() >= OMF {
-        text.extend_from_slice(&line.bytes[OMF..])?;
-    }
-    Ok(text)
 }
 
-/// Appends the line of a fault of the link, `word` being that for the input at fault, or for the file that was written.
+/// What stands behind `omf` in a line that begins so.
+fn behind_name(line: &[u8]) -> &[u8]
+    ensures { result.now ≡ drop (length (codes "omf")) line.now }
+{
+    match line {
+        [_, _, _, rest @ ..] => rest,
+        _ => b"",
+    }
+}
+
+/// Appends the line of a fault of the link, `word` being that for the input at fault, or for the file that was written:
+/// the line that `omf` prints, with `doslink` in place of its name.
 pub fn push_fault<A: Allocator + Copy>(
     alloc: A,
     lines: &mut Vec<u8, A>,
     fault: &LinkFault<A>,
     word: &[u8],
-) -> Result<(), AllocError> {
-    let text = fault_text(alloc, fault, word)?;
-    lines.extend_from_slice(&text)
+) -> Result<(), AllocError>
+    ensures { OnOk result (lines.new.items ≡ lines.old.items ++ spec.fault_line fault.now word.now) }
+{
+    let line = omf_line(alloc, fault, word)?;
+    lines.extend_from_slice(b"doslink")?;
+    lines.extend_from_slice(behind_name(&line))
 }
 
-/// Appends the line of a name that two modules publish, with these modules, for which these are the words.
+/// Appends the word for a module as often as it offers a name, these being the names that it offers.
+fn push_offering<'w, A: Allocator + Copy>(
+    found: &mut Vec<&'w [u8], A>,
+    names: Names,
+    name: &[u8],
+    offered: &[&[u8]],
+    word: &'w [u8],
+) -> Result<(), AllocError>
+    ensures { OnOk result (bytes_of found.new.items ≡ bytes_of found.old.items
+        ++ map (λ _. word.now) (filter (λ o. agrees names o name.now) (bytes_of offered.now))) }
+{
+    for each in offered {
+        if agree(names, each, name) {
+            found.push(word)?;
+        }
+    }
+    Ok(())
+}
+
+/// The words for the modules that offer a name, each as often as its module does.
+fn offering_words<'w, A: Allocator + Copy>(
+    alloc: A,
+    names: Names,
+    name: &[u8],
+    handed: &[Handed<'_, '_, A>],
+    words: &'w [Vec<u8, A>],
+) -> Result<Vec<&'w [u8], A>, AllocError>
+    ensures { IfOk result (λ found. bytes_of found.items
+        ≡ flat_map (spec.offering_words names name.now words.now) (enumerate_from 0 handed.now)) }
+{
+    let mut found = Vec::new(alloc);
+    for (index, each) in handed.iter().enumerate() {
+        let word = word_at(words, index);
+        push_offering(&mut found, names, name, &each.entry.says.offered, word)?;
+    }
+    Ok(found)
+}
+
+/// Appends the line of a name that modules publish more than once, with all that do. The words are those of the
+/// modules.
 pub fn push_duplicate<A: Allocator + Copy>(
     alloc: A,
     lines: &mut Vec<u8, A>,
-    fault: &LinkFault<A>,
+    name: &[u8],
     names: Names,
     handed: &[Handed<'_, '_, A>],
     words: &[Vec<u8, A>],
-) -> Result<(), AllocError> {
-    let text = fault_text(alloc, fault, b"")?;
-    match (fault, text.as_slice()) {
-        (LinkFault::Program(ProgramFault::DuplicatePublic { name }), [front @ .., _]) => {
-            lines.extend_from_slice(front)?;
-            push_offering(lines, names, name, handed, words)
-        }
-        _ => lines.extend_from_slice(&text),
-    }
+) -> Result<(), AllocError>
+    ensures { OnOk result (lines.new.items ≡ lines.old.items
+        ++ spec.duplicate_line names name.now handed.now words.now) }
+{
+    let found = offering_words(alloc, names, name, handed, words)?;
+    push_named(alloc, lines, (25, "DuplicatePublic"), name, &found)
 }
 
 /// The number and the name of what of a record can't be lowered.
-fn obstacle_label(obstacle: Obstacle) -> (&'static str, &'static str) {
+fn obstacle_label(obstacle: Obstacle) -> (u8, &'static str)
+    ensures number { result.0 ≡ (spec.obstacle_label obstacle).0 }
+    ensures name { result.1.now ≡ (spec.obstacle_label obstacle).1 }
+{
     match obstacle {
-        Obstacle::DataType => ("48", "DataType"),
-        Obstacle::Above16Bits => ("49", "Above16Bits"),
-        Obstacle::Location => ("50", "Location"),
-        Obstacle::Body => ("51", "Body"),
-        Obstacle::TooLong => ("52", "TooLong"),
+        Obstacle::DataType => (48, "DataType"),
+        Obstacle::Above16Bits => (49, "Above16Bits"),
+        Obstacle::Location => (50, "Location"),
+        Obstacle::Body => (51, "Body"),
+        Obstacle::TooLong => (52, "TooLong"),
     }
 }
 
@@ -190,45 +209,49 @@ pub fn push_obstacle<A: Allocator + Copy>(
     word: &[u8],
     place: u64,
     obstacle: Obstacle,
-) -> Result<(), AllocError> {
-    let (number, name) = obstacle_label(obstacle);
-    let mut digits = Buffer::new();
-    lines.extend_from_slice(b"doslink: ")?;
-    lines.extend_from_slice(word)?;
-    lines.extend_from_slice(b": ")?;
-    lines.extend_from_slice(number.as_bytes())?;
-    lines.extend_from_slice(b" ")?;
-    lines.extend_from_slice(name.as_bytes())?;
-    lines.extend_from_slice(b" at record ")?;
-    lines.extend_from_slice(digits.format(place).as_bytes())?;
-    lines.extend_from_slice(b"\n")
+) -> Result<(), AllocError>
+    ensures { OnOk result (lines.new.items ≡ lines.old.items ++ spec.obstacle_line word.now place obstacle) }
+{
+    push_located(lines, word, obstacle_label(obstacle), " at record ", place)
 }
 
 /// Appends the warning that 32-bit segments of the module for which this is the word are linked as ones of 16 bits.
 pub fn push_wide_line<A: Allocator + Copy>(
     lines: &mut Vec<u8, A>,
     word: &[u8],
-) -> Result<(), AllocError> {
-    lines.extend_from_slice(b"doslink: warning: 32-bit segments of ")?;
-    lines.extend_from_slice(word)?;
-    lines.extend_from_slice(b" are linked as 16-bit ones\n")
+) -> Result<(), AllocError>
+    ensures { OnOk result (lines.new.items ≡ lines.old.items ++ spec.wide_line word.now) }
+{
+    let parts = [
+        Part::Text("doslink: warning: 32-bit segments of "),
+        Part::Bytes(word),
+        Part::Text(" are linked as 16-bit ones\n"),
+    ];
+    push_parts(lines, parts.as_slice())
 }
 
 /// Appends the line of a path of a job that can't be used, and why.
-pub fn push_path_line<A: Allocator + Copy>(
+pub fn push_path_line<'p, A: Allocator + Copy>(
     lines: &mut Vec<u8, A>,
-    path: &str,
-    why: &str,
-) -> Result<(), AllocError> {
-    lines.extend_from_slice(b"doslink: ")?;
-    lines.extend_from_slice(path.as_bytes())?;
-    lines.extend_from_slice(b": ")?;
-    lines.extend_from_slice(why.as_bytes())?;
-    lines.extend_from_slice(b"\n")
+    path: &'p str,
+    why: &'p str,
+) -> Result<(), AllocError>
+    ensures { OnOk result (lines.new.items ≡ lines.old.items ++ spec.path_line path.now why.now) }
+{
+    let parts = [
+        Part::Text("doslink: "),
+        Part::Text(path),
+        Part::Text(": "),
+        Part::Text(why),
+        Part::Text("\n"),
+    ];
+    push_parts(lines, parts.as_slice())
 }
 
 /// Appends the line of an order that would have too many parts.
-pub fn push_order_line<A: Allocator + Copy>(lines: &mut Vec<u8, A>) -> Result<(), AllocError> {
+pub fn push_order_line<A: Allocator + Copy>(lines: &mut Vec<u8, A>) -> Result<(), AllocError>
+    ensures { OnOk result (lines.new.items ≡ lines.old.items ++ spec.order_line) }
+{
     lines.extend_from_slice(
         b"doslink: order: TooManySegments: there are more than 16,383 to order\n",
     )

@@ -16,4 +16,4 @@ pub use faults::{
 };
 pub use mapping::table;
 pub use missing::{Unmet, push_missing_lines, unmet_names};
-pub use telling::{handed_saids, handed_text, module_word, module_words};
+pub use telling::{handed_saids, handed_text, module_word, module_words, word_at};

@@ -1,19 +1,26 @@
 //! The table of a map: each module with its segments.
-ghost use Rattle.std.specs.Prelude.{◌<◌, ◌≡◌, length};
+ghost use Rattle.std.specs.Prelude.{◌<◌, ◌≡◌, [], ◌++◌, IfOk, OnOk, length, slice_get};
+ghost use Rattle.std.specs.Option.{unwrap_or};
+ghost use Rattle.omf_module.specs.Seen.{segment_seen};
 ghost use Rattle.omf_place.specs.Bounded.{IsBounded};
+ghost use Rattle.omf_place.specs.Layout.{places_of};
+ghost use Rattle.omf_text.specs.Printing.{hexadecimal};
+ghost use Rattle.omf_search.specs.Results.{bytes_of};
+ghost use Rattle.doslink_telling.specs.Table as spec;
 
-use crate::lines::quoted_name;
+use crate::lines::{Part, push_name, push_parts};
 use crate::missing::header_name;
 use omf_module::{Module, Segment};
 use omf_place::{Address, Layout};
-use omf_text::Hexadecimal;
 use std::alloc::{AllocError, Allocator};
 
-/// An address as a number, and `R` where it moves with the program, else `A`.
-fn place_of(address: Address) -> (u32, u8) {
+/// An address as a number, and ` R` where it moves with the program, else ` A`.
+fn place_of(address: Address) -> (u32, &'static str)
+    ensures { hexadecimal 6 result.0 ++ result.1.now ≡ spec.address_text address }
+{
     match address {
-        Address::Relocatable(start) => (start, b'R'),
-        Address::Absolute(start) => (start, b'A'),
+        Address::Relocatable(start) => (start, " R"),
+        Address::Absolute(start) => (start, " A"),
     }
 }
 
@@ -23,37 +30,37 @@ fn push_segment<A: Allocator + Copy>(
     text: &mut Vec<u8, A>,
     start: Address,
     segment: &Segment<'_>,
-) -> Result<(), AllocError> {
+) -> Result<(), AllocError>
+    ensures { OnOk result (text.new.items ≡ text.old.items ++ spec.segment_line start (segment_seen segment.now)) }
+{
     let (start, mark) = place_of(start);
-    let start = Hexadecimal::new(u64::from(start), 6);
-    let length = Hexadecimal::new(u64::from(segment.length), 6);
-    let name = quoted_name(alloc, segment.name)?;
-    let class = quoted_name(alloc, segment.class)?;
+    let parts = [
+        Part::Text(" "),
+        Part::Address(start),
+        Part::Text(mark),
+        Part::Text(" "),
+        Part::Address(segment.length),
+        Part::Text(" "),
+    ];
+    push_parts(text, parts.as_slice())?;
+    push_name(alloc, text, segment.name)?;
     text.extend_from_slice(b" ")?;
-    text.extend_from_slice(start.as_bytes())?;
-    text.extend_from_slice(b" ")?;
-    text.push(mark)?;
-    text.extend_from_slice(b" ")?;
-    text.extend_from_slice(length.as_bytes())?;
-    text.extend_from_slice(b" ")?;
-    text.extend_from_slice(&name)?;
-    text.extend_from_slice(b" ")?;
-    text.extend_from_slice(&class)?;
+    push_name(alloc, text, segment.class)?;
     text.extend_from_slice(b"\n")
 }
 
-/// Appends the segments of the module with this index.
+/// Appends the segments of a module, which has this index.
 fn push_segments<A: Allocator + Copy>(
     alloc: A,
     text: &mut Vec<u8, A>,
-    modules: &[Module<A>],
     layout: &Layout<A>,
     input: usize,
+    from: &Module<A>,
 ) -> Result<(), AllocError>
-    requires bounded { IsBounded modules.now layout.now }
-    requires input { input < length modules.now }
+    requires input { input < length layout.now.modules }
+    requires placed { length (places_of layout.now input).segments ≡ length from.now.segments }
+    ensures { OnOk result (text.new.items ≡ text.old.items ++ spec.segment_lines layout.now (input, from.now)) }
 {
-    let from = &modules[input];
     for segment in 0..from.segment_count() {
         let start = layout.part_start(input, segment);
         push_segment(alloc, text, start, &from.segment(segment))?;
@@ -67,12 +74,22 @@ fn push_module_line<A: Allocator + Copy>(
     text: &mut Vec<u8, A>,
     word: &[u8],
     bytes: &[u8],
-) -> Result<(), AllocError> {
-    let name = quoted_name(alloc, header_name(bytes).unwrap_or(b""))?;
-    text.extend_from_slice(&name)?;
-    text.extend_from_slice(b" ")?;
-    text.extend_from_slice(word)?;
-    text.extend_from_slice(b"\n")
+) -> Result<(), AllocError>
+    ensures { OnOk result (text.new.items ≡ text.old.items ++ spec.module_line word.now bytes.now) }
+{
+    push_name(alloc, text, header_name(bytes).unwrap_or(b""))?;
+    let parts = [Part::Text(" "), Part::Bytes(word), Part::Text("\n")];
+    push_parts(text, parts.as_slice())
+}
+
+/// The slice with this index; empty behind the last.
+fn slice_at<'s>(slices: &[&'s [u8]], index: usize) -> &'s [u8]
+    ensures { result.now ≡ unwrap_or (slice_get (bytes_of slices.now) index) [] }
+{
+    match slices.get(index) {
+        Some(slice) => slice,
+        None => b"",
+    }
 }
 
 /// The table of the modules that were linked, whose bytes and words these are.
@@ -84,15 +101,18 @@ pub fn table<A: Allocator + Copy>(
     words: &[&[u8]],
 ) -> Result<Vec<u8, A>, AllocError>
     requires { IsBounded modules.now layout.now }
+    ensures { IfOk result (λ text. text.items
+        ≡ spec.table modules.now layout.now (bytes_of inputs.now) (bytes_of words.now)) }
 {
     let mut text = Vec::from_slice(alloc, b"modules\n")?;
-    for input in 0..modules.len() {
-        if let Some(word) = words.get(input)
-            && let Some(bytes) = inputs.get(input)
-        {
-            push_module_line(alloc, &mut text, word, bytes)?;
-        }
-        push_segments(alloc, &mut text, modules, layout, input)?;
+    for (input, from) in modules.iter().enumerate() {
+        push_module_line(
+            alloc,
+            &mut text,
+            slice_at(words, input),
+            slice_at(inputs, input),
+        )?;
+        push_segments(alloc, &mut text, layout, input, from)?;
     }
     Ok(text)
 }

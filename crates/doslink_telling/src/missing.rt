@@ -1,8 +1,10 @@
 //! The names that no module and no library offers.
 ghost use Rattle.std.specs.Prelude.{◌≡◌, IfOk, map};
+ghost use Rattle.std.specs.Option.{option_copied};
 ghost use Rattle.omf_search.specs.Results.{module_said, wanted_said};
 ghost use Rattle.doslink_telling.specs.Missing as spec;
 ghost use Rattle.doslink_telling.specs.Missing.{unmet};
+ghost use Rattle.doslink_telling.specs.Table.{header_name};
 
 use crate::faults::agree;
 use crate::lines::quoted_name;
@@ -57,7 +59,9 @@ pub fn unmet_names<'a, A: Allocator + Copy>(
 }
 
 /// The name in the record that heads a module, 80H THEADR or 82H LHEADR, if the bytes begin with one.
-pub(crate) fn header_name(bytes: &[u8]) -> Option<&[u8]> {
+pub(crate) fn header_name(bytes: &[u8]) -> Option<&[u8]>
+    ensures { option_copied result ≡ header_name bytes.now }
+{
     match bytes {
         [0x80 | 0x82, _, _, len, rest @ ..] if usize::from(*len) <= rest.len() => {
             Some(&rest[..usize::from(*len)])

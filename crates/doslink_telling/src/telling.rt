@@ -1,20 +1,48 @@
 //! The words for modules, and the modules that are linked.
-ghost use Rattle.std.specs.Prelude.{◌≡◌, IfOk, map};
+ghost use Rattle.std.specs.Prelude.{◌≡◌, ◌++◌, IfOk, OnOk, Some, map};
+ghost use Rattle.std.specs.Option.{option_copied};
 ghost use Rattle.omf_search.specs.Results.{module_said};
-ghost use Rattle.doslink_stock.specs.Seen.{handed_held};
+ghost use Rattle.doslink_stock.specs.Seen.{entry_held, handed_held};
+ghost use Rattle.doslink_telling.specs.Words as spec;
 
-use crate::lines::{plain_name, quoted_name};
+use crate::lines::{plain_name, push_name};
 use doslink_files::InputFile;
 use doslink_stock::{Entry, Handed};
 use omf_search::Said;
 use std::alloc::{AllocError, Allocator};
 
-/// The path of the file with this index.
-pub(crate) fn path_of<A: Allocator + Copy>(files: &[InputFile<A>], file: usize) -> &str {
+/// The path of the file with this index; empty behind the last.
+pub(crate) fn path_of<A: Allocator + Copy>(files: &[InputFile<A>], file: usize) -> &str
+    ensures { result.now ≡ spec.path_of files.now file }
+{
     match files.get(file) {
         Some(file) => file.path.as_str(),
         None => "",
     }
+}
+
+/// The word with this index; empty behind the last.
+pub fn word_at<A: Allocator + Copy>(words: &[Vec<u8, A>], index: usize) -> &[u8]
+    ensures { result.now ≡ spec.word_at words.now index }
+{
+    match words.get(index) {
+        Some(word) => word.as_slice(),
+        None => b"",
+    }
+}
+
+/// Appends a member's name in parentheses.
+fn push_member<A: Allocator + Copy>(
+    alloc: A,
+    word: &mut Vec<u8, A>,
+    member: &[u8],
+) -> Result<(), AllocError>
+    ensures { OnOk result (word.new.items ≡ word.old.items ++ spec.member_end (Some member.now)) }
+{
+    let name = plain_name(alloc, member)?;
+    word.extend_from_slice(b"(")?;
+    word.extend_from_slice(&name)?;
+    word.extend_from_slice(b")")
 }
 
 /// The word for a module: its file's path, and behind it the member's name in parentheses.
@@ -22,13 +50,12 @@ pub fn module_word<A: Allocator + Copy>(
     alloc: A,
     files: &[InputFile<A>],
     entry: &Entry<'_, A>,
-) -> Result<Vec<u8, A>, AllocError> {
+) -> Result<Vec<u8, A>, AllocError>
+    ensures { IfOk result (λ word. word.items ≡ spec.module_word files.now (entry_held entry.now)) }
+{
     let mut word = Vec::from_slice(alloc, path_of(files, entry.file).as_bytes())?;
     if let Some(member) = entry.member {
-        let name = plain_name(alloc, member)?;
-        word.extend_from_slice(b"(")?;
-        word.extend_from_slice(&name)?;
-        word.extend_from_slice(b")")?;
+        push_member(alloc, &mut word, member)?;
     }
     Ok(word)
 }
@@ -38,7 +65,10 @@ pub fn module_words<A: Allocator + Copy>(
     alloc: A,
     files: &[InputFile<A>],
     handed: &[Handed<'_, '_, A>],
-) -> Result<Vec<Vec<u8, A>, A>, AllocError> {
+) -> Result<Vec<Vec<u8, A>, A>, AllocError>
+    ensures { IfOk result (λ words. map (λ w. w.items) words.items
+        ≡ map (λ h. spec.module_word files.now (handed_held h)) handed.now) }
+{
     let mut words = Vec::new(alloc);
     for each in handed {
         words.push(module_word(alloc, files, each.entry)?)?;
@@ -61,22 +91,36 @@ pub fn handed_saids<'h, 'a, A: Allocator + Copy>(
     Ok(all)
 }
 
+/// Appends the line of a module that is linked, with the name for which it was taken.
+fn push_handed<A: Allocator + Copy>(
+    alloc: A,
+    text: &mut Vec<u8, A>,
+    word: &[u8],
+    wanted: Option<&[u8]>,
+) -> Result<(), AllocError>
+    ensures { OnOk result (text.new.items ≡ text.old.items
+        ++ (word.now ++ spec.taken_end (option_copied wanted.entry))) }
+{
+    text.extend_from_slice(word)?;
+    if let Some(name) = wanted {
+        text.extend_from_slice(b" for ")?;
+        push_name(alloc, text, name)?;
+    }
+    text.extend_from_slice(b"\n")
+}
+
 /// Each module in its order, a line for each, with the name for which it was taken where it is a member. The words are
 /// those of the modules.
 pub fn handed_text<A: Allocator + Copy>(
     alloc: A,
     handed: &[Handed<'_, '_, A>],
     words: &[Vec<u8, A>],
-) -> Result<Vec<u8, A>, AllocError> {
+) -> Result<Vec<u8, A>, AllocError>
+    ensures { IfOk result (λ text. text.items ≡ spec.handed_text handed.now words.now) }
+{
     let mut text = Vec::new(alloc);
-    for (each, word) in handed.iter().zip(words) {
-        text.extend_from_slice(word)?;
-        if let Some(name) = each.wanted {
-            let name = quoted_name(alloc, name)?;
-            text.extend_from_slice(b" for ")?;
-            text.extend_from_slice(&name)?;
-        }
-        text.push(b'\n')?;
+    for (index, each) in handed.iter().enumerate() {
+        push_handed(alloc, &mut text, word_at(words, index), each.wanted)?;
     }
     Ok(text)
 }
