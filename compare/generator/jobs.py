@@ -272,8 +272,9 @@ class JobMaker:
                     # it is a module, and no library
                     content = ObjectMaker(self.random, self.plan, [], []).make(b"DEFAULT")
                 self.put(name.decode(), content, [*self.job.folders, *self.folders])
-        if self.plan.libraries and self.happens(0.03):
-            self.plan.libraries.append(b"\xE9LIB")
+        if self.plan.libraries and self.happens(0.06):
+            # one that is no text, or none
+            self.plan.libraries.append(self.random.choice([b"\xE9LIB", b""]))
 
     def ask(self):
         """The order, the program and the map, and what is told."""

@@ -36,7 +36,7 @@ class Job:
     is_quiet: bool = False
     # the map is asked for, by no name of its own
     maps_to_out: bool = False
-    # pairs of a line and what becomes of what it asks for
+    # pairs of where a line stands and what becomes of what it asks for
     warnings: list = field(default_factory=list)
 
 
@@ -243,6 +243,11 @@ class Line:
     number: int
     text: str
 
+    def place(self):
+        """Where it stands, as lines of faults and warnings say it."""
+        path = "" if self.path is None else f"{self.path}: "
+        return f"{path}line {self.number}"
+
 
 def lines_of(text, path=None):
     """The lines of a text; a carriage return before a line end is of that."""
@@ -273,14 +278,12 @@ def spoken(words, files):
 
 
 def read_directives(lines):
-    """The job of directives, or the first line at fault; warnings count over all lines."""
+    """The job of directives, or the first line at fault."""
     job = Job(packs_far_data=True)
-    for number, line in enumerate(lines, 1):
+    for line in lines:
         try:
-            read_directive(job, line.text, number)
+            read_directive(job, line.text, line.place())
         except Refused as refused:
-            path = "" if line.path is None else f"{line.path}: "
             raise DirectiveFault(
-                line.number,
-                f"{path}line {line.number}: {refused.text}: {line.text}") from None
+                line.number, f"{line.place()}: {refused.text}: {line.text}") from None
     return job

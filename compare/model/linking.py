@@ -133,13 +133,13 @@ class Linking:
         """Those that the modules taken name, until none of these names another.
 
         What is taken is found anew each time, from all libraries. One that isn't there is warned
-        of, and one that is among the files isn't there twice.
+        of, and one that is among the files isn't there twice. An empty name is none.
         """
         met = []
         while True:
             names = []
             for each in self.taken(self.stock()):
-                for name in each.names.libraries:
+                for name in filter(None, each.names.libraries):
                     if name not in met + [known for known, _ in names]:
                         names.append((name, each.word))
             for name, word in names:
@@ -355,7 +355,7 @@ def link_by_directives(words, files, folders=(), can_be_made=always):
         return Answer(WRONG_WORDS, error=told([fault.text]).encode(), fault=faults.WORDS)
     except directives.Unread as unread:
         return unread_answer(unread)
-    warnings = [f"warning: line {line}: {text}" for line, text in job.warnings]
+    warnings = [f"warning: {place}: {text}" for place, text in job.warnings]
     answer = link(job, files, folders, can_be_made)
     if not job.is_quiet:
         answer.error = told(warnings).encode() + answer.error

@@ -13,6 +13,9 @@ pub enum ReadFault {
     /// It can't be opened.
     #[error("the file can't be opened")]
     Absent,
+    /// It is a folder.
+    #[error("it is a folder")]
+    Folder,
     /// A read failed.
     #[error("the device failed")]
     Device,
@@ -64,10 +67,12 @@ impl<T: Drop> From<AllocFailed<T>> for FileFault<'_> {
 
 impl ReadFault {
     /// The same of the file of this name.
-    pub(crate) fn of(self, name: &str) -> FileFault<'_> {
+    pub fn of(self, name: &str) -> FileFault<'_> {
         match self {
             ReadFault::Memory => FileFault::Memory,
-            ReadFault::Absent | ReadFault::Device => FileFault::Unread { name },
+            ReadFault::Absent | ReadFault::Folder | ReadFault::Device => {
+                FileFault::Unread { name }
+            }
         }
     }
 }

@@ -20,7 +20,7 @@ fn extensions(name: &str) -> &'static [&'static str]
     }
 }
 
-/// The library of this name in a folder: the first file that can be opened.
+/// The library of this name in a folder: the first file that can be opened. What is a folder itself is passed over.
 fn find_in<W: World, A: Allocator + Copy>(
     alloc: A,
     world: &W,
@@ -34,7 +34,7 @@ fn find_in<W: World, A: Allocator + Copy>(
         let path = path_in(alloc, folder, name, extension)?;
         match read_file(alloc, world, path.as_str()) {
             Ok(bytes) => return Ok(Some(InputFile { path, bytes })),
-            Err(ReadFault::Absent) => {}
+            Err(ReadFault::Absent | ReadFault::Folder) => {}
             Err(fault) => return Err(fault),
         }
     }
@@ -43,7 +43,7 @@ fn find_in<W: World, A: Allocator + Copy>(
 
 /// The library of this name, looked up in this folder, and then in each of the others, in their order: the first file
 /// that can be opened, of the name as it stands and, where it has no dot, with `.LIB` or `.lib` at its end. None where
-/// there is no such file.
+/// there is no such file. A folder of such a name is passed over.
 ///
 /// # Errors
 /// Want of memory, or that the file can't be read to its end.

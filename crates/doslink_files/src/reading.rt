@@ -19,7 +19,7 @@ pub struct InputFile<A: Allocator + Copy = Global> {
 /// All bytes of the file at a path.
 ///
 /// # Errors
-/// Want of memory; else that the file can't be opened, or that it can't be read to its end.
+/// Want of memory; else that the file can't be opened, that it is a folder, or that it can't be read to its end.
 pub fn read_file<W: World, A: Allocator + Copy>(
     alloc: A,
     world: &W,
@@ -34,6 +34,7 @@ pub fn read_file<W: World, A: Allocator + Copy>(
     match file.read_to_end(&mut bytes) {
         Ok(_) => Ok(bytes),
         Err(error) if error.kind() == ErrorKind::OutOfMemory => Err(ReadFault::Memory),
+        Err(error) if error.kind() == ErrorKind::IsADirectory => Err(ReadFault::Folder),
         Err(_) => Err(ReadFault::Device),
     }
 }

@@ -48,7 +48,7 @@ fn is_known<A: Allocator + Copy>(libraries: &[DefaultLibrary<A>], name: &[u8]) -
 }
 
 /// The default libraries that the modules that a link takes of these name, each once, in order of meeting, without those
-/// that were met before.
+/// that were met before, and without the empty name.
 fn libraries_of<A: Allocator + Copy>(
     alloc: A,
     files: &[InputFile<A>],
@@ -60,7 +60,7 @@ fn libraries_of<A: Allocator + Copy>(
     let mut found = Vec::new(alloc);
     for each in &handed {
         for name in &each.entry.says.libraries {
-            if !is_known(met, name) && !is_known(&found, name) {
+            if !name.is_empty() && !is_known(met, name) && !is_known(&found, name) {
                 found.push(DefaultLibrary {
                     name: Vec::from_slice(alloc, name)?,
                     word: module_word(alloc, files, each.entry)?,
@@ -136,7 +136,7 @@ fn add_library<W: World, A: Allocator + Copy>(
 {
     match find_default(alloc, world, folders, library) {
         Ok(Some(file)) => Ok(add_file(files, file)?),
-        Ok(None) | Err(ReadFault::Absent) => {
+        Ok(None) | Err(ReadFault::Absent | ReadFault::Folder) => {
             Ok(push_absent_line(alloc, lines, &library.name, &library.word)?)
         }
         Err(ReadFault::Memory) => Err(Stop::Memory),

@@ -7,10 +7,9 @@ ghost use Rattle.doslink_jobs.specs.Runs as spec;
 ghost use Rattle.doslink_jobs.specs.Runs.{IsPart, IsTextOf};
 
 use crate::stop::{Stop, stop_at};
-use doslink_files::{FileFault, ReadFault, read_file};
+use doslink_files::read_file;
 use doslink_telling::push_path_line;
-use doslink_words::{DirectiveFault, Directives, WarningKind};
-use itoa::Buffer;
+use doslink_words::{DirectiveFault, Directives, Warning, WarningKind};
 use omf_files::World;
 use std::alloc::{AllocError, Global};
 
@@ -34,8 +33,7 @@ fn push_response<W: World>(
 {
     let bytes = match read_file(alloc, world, path) {
         Ok(bytes) => bytes,
-        Err(ReadFault::Memory) => return Err(Stop::Memory),
-        Err(_) => return Err(stop_at(lines, FileFault::Unread { name: path })),
+        Err(fault) => return Err(stop_at(lines, fault.of(path))),
     };
     match str::from_utf8(&bytes) {
         Ok(read) => Ok(text.push_str(read)?),
@@ -89,21 +87,23 @@ fn line_count(text: &str) -> usize {
 
 /// The directives of some words.
 #[derive(Drop)]
-pub(crate) struct Spoken {
+pub(crate) struct Spoken<'w> {
     /// The text of all, one word's behind the other's.
     pub text: String,
     /// How many lines stand before those of each word.
     pub starts: Vec<usize>,
+    /// The words.
+    pub words: &'w [&'w str],
 }
 
 /// The directives that words give: those of the files that words with `@` name, and other words as they stand, each with
 /// a line end behind it.
-pub(crate) fn directives_of<W: World>(
+pub(crate) fn directives_of<'w, W: World>(
     alloc: Global,
     world: &W,
-    words: &[&str],
+    words: &'w [&'w str],
     lines: &mut Vec<u8>,
-) -> Result<Spoken, Stop>
+) -> Result<Spoken<'w>, Stop>
     ensures { IfOk result (λ spoken. IsTextOf (W.bytes world.now) (texts words.now) (string_bytes spoken.text)) }
 {
     let mut text = String::new(alloc);
@@ -112,36 +112,37 @@ pub(crate) fn directives_of<W: World>(
         starts.push(line_count(text.as_str()))?;
         push_part(alloc, world, word, &mut text, lines)?;
     }
-    Ok(Spoken { text, starts })
+    Ok(Spoken {
+        text,
+        starts,
+        words,
+    })
 }
 
-/// The response file in which a line of the text stands, if it is in one, and how many lines stand before its own.
-fn place_of<'w>(words: &[&'w str], starts: &[usize], line: usize) -> (Option<&'w str>, usize) {
-    let mut place = (None, 0);
-    for (word, before) in words.iter().zip(starts) {
-        if *before < line {
-            place = (response_path(word), *before);
+impl<'w> Spoken<'w> {
+    /// The response file in which a line of the text stands, if it is in one, and the line's number there.
+    fn place_of(&self, line: usize) -> (Option<&'w str>, usize) {
+        let mut place = (None, line);
+        for (word, before) in self.words.iter().zip(&self.starts) {
+            if *before < line {
+                place = (response_path(word), line - *before);
+            }
         }
+        place
     }
-    place
 }
 
 /// The line of a directive that is wrong: its file, and the line's number there.
 pub(crate) fn directive_line(
     alloc: Global,
     fault: &DirectiveFault<'_>,
-    words: &[&str],
-    starts: &[usize],
+    spoken: &Spoken<'_>,
 ) -> Result<String, AllocError> {
     let DirectiveFault::Line { line, text, kind } = *fault else {
         return String::from_str(alloc, "doslink: memory\n");
     };
-    let (path, before) = place_of(words, starts, line);
-    let own = DirectiveFault::Line {
-        line: line.saturating_sub(before),
-        text,
-        kind,
-    };
+    let (path, line) = spoken.place_of(line);
+    let own = DirectiveFault::Line { line, text, kind };
     match path {
         Some(path) => format!(in alloc; "doslink: {path}: {own}\n"),
         None => format!(in alloc; "doslink: {own}\n"),
@@ -159,18 +160,30 @@ fn warning_text(kind: WarningKind) -> &'static str {
     }
 }
 
+/// The line of a warning: the file of its directive, and the line's number there.
+fn warning_line(
+    alloc: Global,
+    warning: &Warning,
+    spoken: &Spoken<'_>,
+) -> Result<String, AllocError> {
+    let (path, line) = spoken.place_of(warning.line);
+    let text = warning_text(warning.kind);
+    match path {
+        Some(path) => format!(in alloc; "doslink: warning: {path}: line {line}: {text}\n"),
+        None => format!(in alloc; "doslink: warning: line {line}: {text}\n"),
+    }
+}
+
 /// Appends a line for each warning.
 pub(crate) fn push_warnings(
+    alloc: Global,
     directives: &Directives<'_>,
+    spoken: &Spoken<'_>,
     lines: &mut Vec<u8>,
 ) -> Result<(), AllocError> {
     for warning in &directives.warnings {
-        let mut digits = Buffer::new();
-        lines.extend_from_slice(b"doslink: warning: line ")?;
-        lines.extend_from_slice(digits.format(warning.line).as_bytes())?;
-        lines.extend_from_slice(b": ")?;
-        lines.extend_from_slice(warning_text(warning.kind).as_bytes())?;
-        lines.extend_from_slice(b"\n")?;
+        let line = warning_line(alloc, warning, spoken)?;
+        lines.extend_from_slice(line.as_bytes())?;
     }
     Ok(())
 }

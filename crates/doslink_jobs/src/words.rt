@@ -87,6 +87,7 @@ fn run_parsed<W: World + Copy, O: Write + Drop, E: Sink>(
     alloc: Global,
     world: W,
     directives: &Directives<'_>,
+    spoken: &Spoken<'_>,
     folders: &[&str],
     output: &mut BufferedSink<O>,
     errors: &mut E,
@@ -97,7 +98,7 @@ fn run_parsed<W: World + Copy, O: Write + Drop, E: Sink>(
         (Tells E.written E.failures errors.old errors.new) result }
 {
     let mut lines = Vec::new(alloc);
-    if !directives.job.quiet && push_warnings(directives, &mut lines).is_err() {
+    if !directives.job.quiet && push_warnings(alloc, directives, spoken, &mut lines).is_err() {
         return out_of_memory(errors);
     }
     run_lines(
@@ -111,12 +112,11 @@ fn run_parsed<W: World + Copy, O: Write + Drop, E: Sink>(
     )
 }
 
-/// Does what directives ask for, and hands out the exit status. `words` are those that gave them.
+/// Does what directives ask for, and hands out the exit status.
 fn run_spoken<W: World + Copy, O: Write + Drop, E: Sink>(
     alloc: Global,
     world: W,
-    spoken: &Spoken,
-    words: &[&str],
+    spoken: &Spoken<'_>,
     folders: &[&str],
     output: &mut BufferedSink<O>,
     errors: &mut E,
@@ -127,8 +127,8 @@ fn run_spoken<W: World + Copy, O: Write + Drop, E: Sink>(
         (Tells E.written E.failures errors.old errors.new) result }
 {
     match parse_directives(alloc, spoken.text.as_str()) {
-        Ok(directives) => run_parsed(alloc, world, &directives, folders, output, errors),
-        Err(fault) => refuse_directives(alloc, &fault, words, &spoken.starts, errors),
+        Ok(directives) => run_parsed(alloc, world, &directives, spoken, folders, output, errors),
+        Err(fault) => refuse_directives(alloc, &fault, spoken, errors),
     }
 }
 
@@ -136,8 +136,7 @@ fn run_spoken<W: World + Copy, O: Write + Drop, E: Sink>(
 fn refuse_directives<E: Sink>(
     alloc: Global,
     fault: &DirectiveFault<'_>,
-    words: &[&str],
-    starts: &[usize],
+    spoken: &Spoken<'_>,
     errors: &mut E,
 ) -> u8
     requires { E.failures errors.old < 2 ^ 64 - 1 }
@@ -146,7 +145,7 @@ fn refuse_directives<E: Sink>(
     if matches!(fault, DirectiveFault::Memory) {
         return out_of_memory(errors);
     }
-    match directive_line(alloc, fault, words, starts) {
+    match directive_line(alloc, fault, spoken) {
         Ok(line) => wrong_words(line.as_str(), errors),
         Err(AllocError) => out_of_memory(errors),
     }
@@ -168,7 +167,7 @@ fn run_directives<W: World + Copy, O: Write + Drop, E: Sink>(
 {
     let mut lines = Vec::new(alloc);
     match directives_of(alloc, &world, words, &mut lines) {
-        Ok(spoken) => run_spoken(alloc, world, &spoken, words, folders, output, errors),
+        Ok(spoken) => run_spoken(alloc, world, &spoken, folders, output, errors),
         Err(stop) => finish(Err(stop), &lines, errors),
     }
 }

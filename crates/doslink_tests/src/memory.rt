@@ -65,27 +65,35 @@ impl Write for Pen<'_> {
     }
 }
 
-/// A file that is read.
+/// What is opened.
 #[derive(Drop)]
-pub(crate) struct Scroll<'f> {
-    rest: &'f [u8],
+pub(crate) enum Scroll<'f> {
+    /// A file, and what is left of it.
+    File(&'f [u8]),
+    /// A folder, which can't be read.
+    Folder,
 }
 
 impl Read for Scroll<'_> {
     fn read(&mut self, buf: &mut [u8]) -> io::Result<usize> {
-        let n = buf.len().min(self.rest.len());
-        let (front, rest) = self.rest.split_at(n);
+        let Scroll::File(left) = self else {
+            return Err(io::Error::from(ErrorKind::IsADirectory));
+        };
+        let n = buf.len().min(left.len());
+        let (front, rest) = left.split_at(n);
         buf[..n].copy_from_slice(front);
-        self.rest = rest;
+        *left = rest;
         Ok(n)
     }
 }
 
-/// Files that can be read by their paths, and a page for what is written.
+/// Files that can be read by their paths, folders, and a page for what is written.
 #[derive(Clone, Copy)]
 pub(crate) struct Desk<'f, 'p> {
     /// The files that can be read.
     pub(crate) files: &'f [(&'f str, &'f [u8])],
+    /// The folders.
+    pub(crate) folders: &'f [&'f str],
     /// What is written, of all files.
     pub(crate) written: &'p Page,
 }
@@ -98,7 +106,12 @@ impl<'f, 'p> World for Desk<'f, 'p> {
     fn open(&self, path: &str) -> io::Result<Scroll<'f>> {
         for (name, bytes) in self.files {
             if *name == path {
-                return Ok(Scroll { rest: bytes });
+                return Ok(Scroll::File(bytes));
+            }
+        }
+        for name in self.folders {
+            if *name == path {
+                return Ok(Scroll::Folder);
             }
         }
         Err(io::Error::from(ErrorKind::NotFound))

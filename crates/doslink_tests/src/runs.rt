@@ -1,7 +1,7 @@
 //! Runs over a world in memory.
 use crate::declaring::{BODY, CUT_ELEMENT, END, FAR, LONG, MANY, NEAR, OTHER_SIZE, TABLE};
 use crate::memory::{Desk, Page, Pen};
-use crate::modules::{ELSEWHERE, LIBRARY, LIKE, MARKS, NAMES, OFFERS, WANTS, WIDE};
+use crate::modules::{ELSEWHERE, LIBRARY, LIKE, MARKS, NAMELESS, NAMES, OFFERS, WANTS, WIDE};
 use doslink_jobs::{language_of, run_words};
 use omf_files::BufferedSink;
 use omf_frame::WriteSink;
@@ -36,6 +36,9 @@ doslink E.OBJ|0||doslink: warning: library \"NONE\" of E.OBJ was not found~
 doslink --no-default-libs E.OBJ|1||doslink: E.OBJ: \"f\" is missing: wanted by \"e.c\"~
 doslink A.OBJ F.OBJ F.OBJ|1||doslink: link: 25 DuplicatePublic \"f\" in F.OBJ and F.OBJ~
 doslink A.OBJ -l NONE|3||doslink: NONE: 1 Device at record 0~
+doslink A.OBJ -l LIBS|3||doslink: LIBS: 1 Device at record 0~
+doslink LIBS|3||doslink: LIBS: 1 Device at record 0~
+doslink -L LIBS H.OBJ F.OBJ|0||
 doslink -L LIBS A.OBJ -l OTHER|0||
 doslink M.OBJ|0||
 doslink --order dosseg A.OBJ F.OBJ|0||
@@ -43,7 +46,8 @@ doslink --order DATA,CODE A.OBJ F.OBJ F.OBJ|1||doslink: link: 25 DuplicatePublic
 doslink X.OBJ|3||doslink: X.OBJ: 1 Device at record 0~
 doslink A.OBJ CUT.LIB|1||doslink: CUT.LIB: 44 Truncated at place 63~
 doslink @WORDS|0|A.OBJ~RUN.LIB(b.c) for \"f\"~RUN.LIB(c.c) for \"g\"~|
-/bin/WLINK.EXE @LINES|0||doslink: warning: line 3: the map is not sorted~
+/bin/WLINK.EXE @LINES|0||doslink: warning: LINES: line 3: the map is not sorted~
+wlink sort @LINES|0||doslink: warning: line 1: the map is not sorted~doslink: warning: LINES: line 3: the map is not sorted~
 wlink @NONE|3||doslink: NONE: 1 Device at record 0~
 wlink @WRONG|2||doslink: WRONG: line 2: unknown directive: fill F.OBJ~
 wlink @LINES @WRONG|2||doslink: WRONG: line 2: unknown directive: fill F.OBJ~
@@ -107,6 +111,7 @@ fn told(alloc: Global, row: &str) -> Result<Vec<u8>, AllocError> {
         ("D.OBJ", LIKE.as_slice()),
         ("E.OBJ", NAMES.as_slice()),
         ("M.OBJ", MARKS.as_slice()),
+        ("H.OBJ", NAMELESS.as_slice()),
         ("RUN.LIB", LIBRARY.as_slice()),
         ("LIBS/OTHER.lib", LIBRARY.as_slice()),
         ("G.OBJ", ELSEWHERE.as_slice()),
@@ -132,6 +137,7 @@ fn told(alloc: Global, row: &str) -> Result<Vec<u8>, AllocError> {
     let error_page = Page::new(alloc);
     let desk = Desk {
         files: files.as_slice(),
+        folders: &["RUN", "LIBS", "LIBS/"],
         written: &written,
     };
     let words = row.split_ascii_whitespace().collect::<Vec<&str>>(alloc)?;
