@@ -1,78 +1,26 @@
 -- The canonical bodies of the records of the order module, and that each fits a frame.
-use Rattle.std.proofs.Common.{◌≡◌, ℕ, suc, ◌+◌, ◌*◌, ◌/◌, ◌%◌, ◌<◌, ◌≤◌, true, false, cond, eqb, inl, inr, List, []}
-use Rattle.std.proofs.Common.{◌∷◌, ◌++◌, length, map, get_or, Option, None, Some, IfSome, refl, sym, ap, subst, arith}
-use Rattle.std.proofs.Common.{ltb, length-append, lit<, lit≤}
+use Rattle.std.proofs.Common.{ℕ, ◌+◌, ◌*◌, ◌<◌, ◌≤◌, true, false, cond, eqb, List, [], ◌∷◌, ◌++◌, length, map, Option}
+use Rattle.std.proofs.Common.{None, Some, IfSome, refl, arith, length-append, lit<, lit≤}
 use Rattle.std.proofs.lemmas.List.{length-map}
-use Rattle.std.proofs.lemmas.Bool.{ltb-true}
 use Rattle.std.specs.List.{AllByRecursion, flat_map}
 use Rattle.std.specs.Option.{option_to_list}
 use Rattle.omf_module.specs.declared.Kind.{Kind}
 use Rattle.omf_module.specs.declared.Kind.TheVariants as kind
-use Rattle.omf_record.specs.Language.{IsBytes, Joined, each, Index, Name, One}
+use Rattle.omf_record.specs.Language.{Name}
 use Rattle.omf_record.specs.declared.segments.Alignment.{Alignment}
 use Rattle.omf_record.specs.declared.segments.SegmentDefinition.{SegmentDefinition}
 use Rattle.omf_record.specs.declared.externals.PublicBase.TheVariants.{InSegment}
 use Rattle.omf_record.specs.declared.segments.Alignment.TheVariants as align
 use Rattle.omf_record.specs.declared.segments.SegmentLength.TheVariants as len
-use Rattle.omf_record.specs.Record.{Theadr, Lnames, Segdef, Grpdef, Pubdef, Modend}
-use Rattle.omf_record.specs.Body.{Body, AbsoluteText, Acbp, BaseText, LengthText}
-use Rattle.omf_record.specs.inside.Fields.{ComponentText, PublicText, SegmentText}
+use Rattle.omf_record.specs.Record.{Lnames, Segdef, Grpdef, Pubdef}
+use Rattle.omf_record.specs.Body.{Body, BaseText}
+use Rattle.omf_record.specs.inside.Fields.{ComponentText, PublicText}
 use Rattle.omf_record.specs.Canonical as canon
 use Rattle.omf_record.specs.Canonical.{FitsFrame, canonical}
 use Rattle.omf_order.specs.Parts.{Part}
 use Rattle.omf_order.specs.Records.{alignment_of, public_of, combination_of, segment_index, segment_record}
-use Rattle.omf_order.specs.inside.Fits.{IsName}
-
-pub IsBytes-from : (bytes : List ℕ) → ((i : ℕ) → get_or bytes i 0 < 256) → IsBytes bytes
-IsBytes-from [] h = tt
-IsBytes-from (b ∷ bytes) h = (h 0, IsBytes-from bytes (λ i. h (suc i)))
-
-joined : {L M : List ℕ → Type 0} (a b : List ℕ) → L a → M b → Joined L M (a ++ b)
-joined a b l m = record { front = a; rest = b; parts = refl; first = l; second = m }
-
--- an index in its shortest form is one
-index_text : (n : ℕ) → n ≤ 32767 → Index n (canon.index n)
-index_text n h =
-    (elim (ltb n 128) as (λ b. ltb n 128 ≡ b → Index n (canon.index n)) [
-      | true ↦ λ e. let small : n ≤ 127 = omega (arith, ltb-true _ _ e) in rw e (inl (small, refl))
-      | false ↦ λ e. rw e (inr (h, refl))
-    ]) refl
-
-index_len : (n : ℕ) → length (canon.index n) ≤ 2
-index_len n = elim (ltb n 128) as (λ b. length (cond b (n ∷ []) ((128 + n / 256) ∷ n % 256 ∷ [])) ≤ 2) [
-  | true ↦ lit≤ tt
-  | false ↦ lit≤ tt
-]
-
-name_text : (n : List ℕ) → IsName n → Name n (canon.name n)
-name_text n h = (h.0, h.1, refl)
-
-each_text : {A : Type 0} (L : A → List ℕ → Type 0) (f : A → List ℕ) (xs : List A) → AllByRecursion (λ x. L x (f x)) xs
-    → each L xs (flat_map f xs)
-each_text L f [] h = refl
-each_text L f (x ∷ xs) h = joined (f x) (flat_map f xs) h.0 (each_text L f xs h.1)
-
-pub header_fits : (n : List ℕ) → IsName n → FitsFrame (Theadr n)
-unfolding Body canonical
-header_fits n h = record { body = name_text n h; short = omega (arith, h.0) }
-
-names_text : (ns : List (List ℕ)) → AllByRecursion IsName ns → AllByRecursion (λ n. Name n (canon.name n)) ns
-names_text [] h = tt
-names_text (n ∷ ns) h = (name_text n h.0, names_text ns h.1)
-
-pub names_fit : (a b : List ℕ) → IsName a → IsName b → FitsFrame (Lnames (a ∷ b ∷ []))
-unfolding Body canonical
-names_fit a b h k = record {
-  body = each_text Name canon.name (a ∷ b ∷ []) (name_text a h, (name_text b k, tt));
-  short =
-      omega (
-        arith,
-        h.0,
-        k.0,
-        length-append (canon.name a) (flat_map canon.name (b ∷ [])),
-        length-append (canon.name b) [],
-      );
-}
+use Rattle.omf_write.specs.inside.Fits.{IsName}
+use Rattle.omf_write.proofs.Bodies.{each_text, index_len, index_text, joined, name_text, segment_by}
 
 pub name_fits : (a : List ℕ) → IsName a → FitsFrame (Lnames (a ∷ []))
 unfolding Body canonical
@@ -81,38 +29,7 @@ name_fits a h = record {
   short = omega (arith, h.0, length-append (canon.name a) []);
 }
 
-pub end_fits : FitsFrame (Modend false None)
-unfolding Body canonical
-end_fits = record { body = (0, lit< tt, refl, refl); short = lit≤ tt }
-
 -- ---- SEGDEF
-
-segment_by : (s : SegmentDefinition) → One (Acbp s) (canon.acbp s ∷ []) → AbsoluteText s.alignment [] →
-    canon.absolute_text s.alignment ≡ [] →
-    LengthText s.length (canon.word 0) → canon.length_word s.length ≡ 0 → s.name ≤ 32767 → s.class ≤ 32767 →
-    s.overlay ≤ 32767 → FitsFrame (Segdef s)
-unfolding Body canonical
-segment_by s head absolute none len zero name class overlay =
-    let tail = canon.index s.name ++ (canon.index s.class ++ canon.index s.overlay) in
-    let is : canon.segment s ≡ (canon.acbp s ∷ []) ++ ([] ++ (canon.word 0 ++ tail)) = rw (none, zero) refl in
-    let text : SegmentText s ((canon.acbp s ∷ []) ++ ([] ++ (canon.word 0 ++ tail))) =
-    joined _ _ head
-    (joined _ _ absolute
-    (joined _ _ len
-    (joined _ _ (index_text s.name name) (joined _ _ (index_text s.class class) (index_text s.overlay overlay))))) in
-    record {
-      body = subst (SegmentText s) (sym is) text;
-      short = let l = ap length is in
-          omega (
-            arith,
-            l,
-            length-append (canon.index s.name) (canon.index s.class ++ canon.index s.overlay),
-            length-append (canon.index s.class) (canon.index s.overlay),
-            index_len s.name,
-            index_len s.class,
-            index_len s.overlay,
-          );
-    }
 
 -- an alignment of a SEGDEF that isn't absolute
 pub plain : (P : Alignment → Type 0) → P align.Byte → P align.Word → P align.DoubleWord → P align.Paragraph
@@ -150,29 +67,29 @@ with name class k a = record {
 by_kind : (name class : ℕ) → name ≤ 32767 → class ≤ 32767 → (k : Kind) → (bytes : ℕ)
     → FitsFrame (Segdef (with name class k (alignment_of bytes)))
 by_kind n c h j kind.Private = plain (λ a. FitsFrame (Segdef (with n c kind.Private a)))
-    (segment_by _ (32, lit< tt, (refl, refl, refl, refl), refl) refl refl (lit< tt, refl) refl h j (lit≤ tt))
-    (segment_by _ (64, lit< tt, (refl, refl, refl, refl), refl) refl refl (lit< tt, refl) refl h j (lit≤ tt))
-    (segment_by _ (160, lit< tt, (refl, refl, refl, refl), refl) refl refl (lit< tt, refl) refl h j (lit≤ tt))
-    (segment_by _ (96, lit< tt, (refl, refl, refl, refl), refl) refl refl (lit< tt, refl) refl h j (lit≤ tt))
-    (segment_by _ (128, lit< tt, (refl, refl, refl, refl), refl) refl refl (lit< tt, refl) refl h j (lit≤ tt))
+    (segment_by _ (32, lit< tt, (refl, refl, refl, refl), refl) refl refl (lit< tt, refl) h j (lit≤ tt))
+    (segment_by _ (64, lit< tt, (refl, refl, refl, refl), refl) refl refl (lit< tt, refl) h j (lit≤ tt))
+    (segment_by _ (160, lit< tt, (refl, refl, refl, refl), refl) refl refl (lit< tt, refl) h j (lit≤ tt))
+    (segment_by _ (96, lit< tt, (refl, refl, refl, refl), refl) refl refl (lit< tt, refl) h j (lit≤ tt))
+    (segment_by _ (128, lit< tt, (refl, refl, refl, refl), refl) refl refl (lit< tt, refl) h j (lit≤ tt))
 by_kind n c h j kind.Public = plain (λ a. FitsFrame (Segdef (with n c kind.Public a)))
-    (segment_by _ (40, lit< tt, (refl, refl, refl, refl), refl) refl refl (lit< tt, refl) refl h j (lit≤ tt))
-    (segment_by _ (72, lit< tt, (refl, refl, refl, refl), refl) refl refl (lit< tt, refl) refl h j (lit≤ tt))
-    (segment_by _ (168, lit< tt, (refl, refl, refl, refl), refl) refl refl (lit< tt, refl) refl h j (lit≤ tt))
-    (segment_by _ (104, lit< tt, (refl, refl, refl, refl), refl) refl refl (lit< tt, refl) refl h j (lit≤ tt))
-    (segment_by _ (136, lit< tt, (refl, refl, refl, refl), refl) refl refl (lit< tt, refl) refl h j (lit≤ tt))
+    (segment_by _ (40, lit< tt, (refl, refl, refl, refl), refl) refl refl (lit< tt, refl) h j (lit≤ tt))
+    (segment_by _ (72, lit< tt, (refl, refl, refl, refl), refl) refl refl (lit< tt, refl) h j (lit≤ tt))
+    (segment_by _ (168, lit< tt, (refl, refl, refl, refl), refl) refl refl (lit< tt, refl) h j (lit≤ tt))
+    (segment_by _ (104, lit< tt, (refl, refl, refl, refl), refl) refl refl (lit< tt, refl) h j (lit≤ tt))
+    (segment_by _ (136, lit< tt, (refl, refl, refl, refl), refl) refl refl (lit< tt, refl) h j (lit≤ tt))
 by_kind n c h j kind.Stack = plain (λ a. FitsFrame (Segdef (with n c kind.Stack a)))
-    (segment_by _ (52, lit< tt, (refl, refl, refl, refl), refl) refl refl (lit< tt, refl) refl h j (lit≤ tt))
-    (segment_by _ (84, lit< tt, (refl, refl, refl, refl), refl) refl refl (lit< tt, refl) refl h j (lit≤ tt))
-    (segment_by _ (180, lit< tt, (refl, refl, refl, refl), refl) refl refl (lit< tt, refl) refl h j (lit≤ tt))
-    (segment_by _ (116, lit< tt, (refl, refl, refl, refl), refl) refl refl (lit< tt, refl) refl h j (lit≤ tt))
-    (segment_by _ (148, lit< tt, (refl, refl, refl, refl), refl) refl refl (lit< tt, refl) refl h j (lit≤ tt))
+    (segment_by _ (52, lit< tt, (refl, refl, refl, refl), refl) refl refl (lit< tt, refl) h j (lit≤ tt))
+    (segment_by _ (84, lit< tt, (refl, refl, refl, refl), refl) refl refl (lit< tt, refl) h j (lit≤ tt))
+    (segment_by _ (180, lit< tt, (refl, refl, refl, refl), refl) refl refl (lit< tt, refl) h j (lit≤ tt))
+    (segment_by _ (116, lit< tt, (refl, refl, refl, refl), refl) refl refl (lit< tt, refl) h j (lit≤ tt))
+    (segment_by _ (148, lit< tt, (refl, refl, refl, refl), refl) refl refl (lit< tt, refl) h j (lit≤ tt))
 by_kind n c h j kind.Common = plain (λ a. FitsFrame (Segdef (with n c kind.Common a)))
-    (segment_by _ (56, lit< tt, (refl, refl, refl, refl), refl) refl refl (lit< tt, refl) refl h j (lit≤ tt))
-    (segment_by _ (88, lit< tt, (refl, refl, refl, refl), refl) refl refl (lit< tt, refl) refl h j (lit≤ tt))
-    (segment_by _ (184, lit< tt, (refl, refl, refl, refl), refl) refl refl (lit< tt, refl) refl h j (lit≤ tt))
-    (segment_by _ (120, lit< tt, (refl, refl, refl, refl), refl) refl refl (lit< tt, refl) refl h j (lit≤ tt))
-    (segment_by _ (152, lit< tt, (refl, refl, refl, refl), refl) refl refl (lit< tt, refl) refl h j (lit≤ tt))
+    (segment_by _ (56, lit< tt, (refl, refl, refl, refl), refl) refl refl (lit< tt, refl) h j (lit≤ tt))
+    (segment_by _ (88, lit< tt, (refl, refl, refl, refl), refl) refl refl (lit< tt, refl) h j (lit≤ tt))
+    (segment_by _ (184, lit< tt, (refl, refl, refl, refl), refl) refl refl (lit< tt, refl) h j (lit≤ tt))
+    (segment_by _ (120, lit< tt, (refl, refl, refl, refl), refl) refl refl (lit< tt, refl) h j (lit≤ tt))
+    (segment_by _ (152, lit< tt, (refl, refl, refl, refl), refl) refl refl (lit< tt, refl) h j (lit≤ tt))
 
 pub segment_fits : (place : ℕ) (p : Part) → place < 16383 → FitsFrame (segment_record place p)
 segment_fits place p h =

@@ -1,6 +1,6 @@
--- The plan for sound modules fits its records.
+-- What holds of the parts of a plan; the plan for sound modules fits its records.
 use Rattle.std.proofs.Common.{◌≡◌, ℕ, zero, suc, ◌+◌, ◌<◌, ◌≤◌, Bool, true, false, cond, eqb, ltb, All, List, [], ◌∷◌}
-use Rattle.std.proofs.Common.{◌++◌, length, take, drop, map, filter, insert, Option, Some, None, IfSome, refl, arith}
+use Rattle.std.proofs.Common.{length, take, drop, map, filter, insert, Option, Some, None, IfSome, refl, arith}
 use Rattle.std.proofs.Common.{length-append, length-take, length-drop, lit<, lit≤}
 use Rattle.std.proofs.lemmas.Bool.{ltb-true}
 use Rattle.std.specs.Prelude.{codes, position}
@@ -16,16 +16,13 @@ use Rattle.omf_order.specs.Segments.{placed, placed_in, grouped}
 use Rattle.omf_order.specs.Parts.{Part, first_parts, opens, part_of}
 use Rattle.omf_order.specs.Marks.{bss_end_names, data_end_names, is_wanted, wanted}
 use Rattle.omf_order.specs.Keys.{arranged, dosseg_key, in_order, key_by, selectors}
-use Rattle.omf_order.specs.Plan.{adds_bss, adds_end, behind_bss, bss_end_part, data_end_part, is_of, new_part, plan}
+use Rattle.omf_order.specs.Plan.{adds_bss, adds_end, behind_bss, bss_end_part, data_end_part, is_of, new_part, plan, plan_of}
 use Rattle.omf_order.specs.Plan.{with_bss, with_end}
-use Rattle.omf_order.specs.inside.Fits.{Fits, IsName, IsShortPart}
+use Rattle.omf_order.specs.inside.Fits.{Fits, IsShortPart}
+use Rattle.omf_write.specs.inside.Fits.{IsName}
+use Rattle.omf_write.proofs.Clean.{All-append}
 
 -- ---- what holds of each
-
-pub All-append : {X : Type 0} (P : X → Type 0) (xs ys : List X) → AllByRecursion P xs → AllByRecursion P ys
-    → AllByRecursion P (xs ++ ys)
-All-append P [] ys h k = k
-All-append P (x ∷ xs) ys h k = (h.0, All-append P xs ys h.1 k)
 
 pub All-filter : {X : Type 0} (P : X → Type 0) (p : X → Bool) (xs : List X) → AllByRecursion P xs
     → AllByRecursion P (filter p xs)
@@ -55,6 +52,66 @@ pub All-each : {X : Type 0} (P : X → Type 0) (xs : List X) → All P xs → Al
 All-each P [] h = tt
 All-each P (x ∷ xs) h = (h 0 x (omega arith), All-each P xs (λ i d l. h (suc i) d (omega (arith, l))))
 
+-- ---- what holds of the parts, by what holds of the segments
+
+module _ (P : Segment → Type 0) where
+  pub All-placed : (ms : List Module) → AllByRecursion (λ (m : Module). AllByRecursion P m.segments) ms
+      → AllByRecursion P (placed ms)
+  All-placed [] h = tt
+  All-placed (m ∷ ms) h =
+      All-append P (placed_in m) (placed ms)
+      (All-filter P (λ s. is_relocatable s.standing) m.segments h.0) (All-placed ms h.1)
+
+  All-numbered : (n : ℕ) (ss : List Segment) → AllByRecursion P ss
+      → AllByRecursion (λ (p : ℕ × Segment). P p.1) (enumerate_from n ss)
+  All-numbered n [] h = tt
+  All-numbered n (s ∷ ss) h = (h.0, All-numbered (n + 1) ss h.1)
+
+module _ (P : Segment → Type 0) (Q : Part → Type 0) (g : List Segment) (made : (s : Segment) → P s → Q (part_of g s)) where
+  All-made : (ps : List (ℕ × Segment)) → AllByRecursion (λ (p : ℕ × Segment). P p.1) ps
+      → AllByRecursion Q (map (λ (p : ℕ × Segment). part_of g p.1) ps)
+  All-made [] h = tt
+  All-made (p ∷ ps) h = (made p.1 h.0, All-made ps h.1)
+
+  pub All-first : (p : List Segment) → AllByRecursion P p → AllByRecursion Q (first_parts p g)
+  All-first p h =
+      All-made (filter (opens p) (enumerate_from 0 p))
+      (All-filter (λ (e : ℕ × Segment). P e.1) (opens p) (enumerate_from 0 p) (All-numbered P 0 p h))
+
+module _ (Q : Part → Type 0) where
+  All-arranged : (key : Part → ℕ) (n : ℕ) (ps : List Part) → AllByRecursion Q ps → AllByRecursion Q (arranged key n ps)
+  All-arranged key n ps h =
+      All-flat_map Q (λ k. filter (λ p. eqb (key p) k) ps) (range_with_len 0 n)
+      (λ k. All-filter Q (λ p. eqb (key p) k) ps h)
+
+  All-in_order : (order : Order) (adds : Bool) (ps : List Part) → AllByRecursion Q ps
+      → AllByRecursion Q (in_order order adds ps)
+  All-in_order Meeting adds ps h = h
+  All-in_order Dosseg adds ps h = All-arranged (dosseg_key adds) 6 ps h
+  All-in_order (Listed items) adds ps h =
+      All-arranged (key_by (selectors items.now)) (length (selectors items.now) + 1) ps h
+
+  All-with_bss : (first : List Part) (adds : Bool) → Q (new_part (codes "_BSS") (codes "BSS")) → AllByRecursion Q first
+      → AllByRecursion Q (with_bss first adds)
+  All-with_bss first true new h = All-append Q first _ h (new, tt)
+  All-with_bss first false new h = All-append Q first _ h tt
+
+  All-with_end : (os : List Part) (adds : Bool) → Q (new_part (codes "_END") (codes "_END")) → AllByRecursion Q os
+      → AllByRecursion Q (with_end os adds)
+  All-with_end os true new h =
+      All-append Q (take (behind_bss os) os) _ (All-take Q (behind_bss os) os h)
+      (new, All-drop Q (behind_bss os) os h)
+  All-with_end os false new h = h
+
+  -- what holds of the parts of the first segments, and of new ones, holds of all of a plan
+  pub All-planned : (order : Order) (first : List Part) (data_end bss_end : List (List ℕ)) →
+      Q (new_part (codes "_BSS") (codes "BSS")) → Q (new_part (codes "_END") (codes "_END")) → AllByRecursion Q first →
+      AllByRecursion Q (plan_of order first data_end bss_end).parts
+  All-planned order first data_end bss_end bss end h =
+      All-with_end _ (adds_end first bss_end) end
+      (All-in_order order (adds_bss first data_end bss_end) _
+      (All-with_bss first (adds_bss first data_end bss_end) bss h))
+
 -- ---- short names
 
 -- name and class of a segment have at most 255 bytes
@@ -66,40 +123,11 @@ short_segments : (ss : List Segment) → AllByRecursion SegmentFits ss → AllBy
 short_segments [] h = tt
 short_segments (s ∷ ss) h = (record { name = h.0.name; class = h.0.class }, short_segments ss h.1)
 
-short_placed : (ms : List Module) → AllByRecursion IsSound ms → AllByRecursion IsShort (placed ms)
-short_placed [] h = tt
-short_placed (m ∷ ms) h =
-    All-append IsShort (placed_in m) (placed ms)
-    (All-filter IsShort (λ s. is_relocatable s.standing) m.segments
-    (short_segments m.segments (All-each SegmentFits m.segments h.0.segments))) (short_placed ms h.1)
-
-short_numbered : (n : ℕ) (ss : List Segment) → AllByRecursion IsShort ss
-    → AllByRecursion (λ (p : ℕ × Segment). IsShort p.1) (enumerate_from n ss)
-short_numbered n [] h = tt
-short_numbered n (s ∷ ss) h = (h.0, short_numbered (n + 1) ss h.1)
-
-short_parts : (g : List Segment) (ps : List (ℕ × Segment)) → AllByRecursion (λ (p : ℕ × Segment). IsShort p.1) ps
-    → AllByRecursion IsShortPart (map (λ (p : ℕ × Segment). part_of g p.1) ps)
-short_parts g [] h = tt
-short_parts g (p ∷ ps) h = (record { name = h.0.name; class = h.0.class }, short_parts g ps h.1)
-
-short_first : (p g : List Segment) → AllByRecursion IsShort p → AllByRecursion IsShortPart (first_parts p g)
-short_first p g h =
-    short_parts g (filter (opens p) (enumerate_from 0 p))
-    (All-filter (λ (e : ℕ × Segment). IsShort e.1) (opens p) (enumerate_from 0 p) (short_numbered 0 p h))
-
-short_arranged : (key : Part → ℕ) (n : ℕ) (ps : List Part) → AllByRecursion IsShortPart ps
-    → AllByRecursion IsShortPart (arranged key n ps)
-short_arranged key n ps h =
-    All-flat_map IsShortPart (λ k. filter (λ p. eqb (key p) k) ps) (range_with_len 0 n)
-    (λ k. All-filter IsShortPart (λ p. eqb (key p) k) ps h)
-
-short_in_order : (order : Order) (adds : Bool) (ps : List Part) → AllByRecursion IsShortPart ps
-    → AllByRecursion IsShortPart (in_order order adds ps)
-short_in_order Meeting adds ps h = h
-short_in_order Dosseg adds ps h = short_arranged (dosseg_key adds) 6 ps h
-short_in_order (Listed items) adds ps h =
-    short_arranged (key_by (selectors items.now)) (length (selectors items.now) + 1) ps h
+short_modules : (ms : List Module) → AllByRecursion IsSound ms
+    → AllByRecursion (λ (m : Module). AllByRecursion IsShort m.segments) ms
+short_modules [] h = tt
+short_modules (m ∷ ms) h =
+    (short_segments m.segments (All-each SegmentFits m.segments h.0.segments), short_modules ms h.1)
 
 -- ---- places
 
@@ -149,18 +177,6 @@ bss_names = (
 
 -- ---- the plan
 
-short_with_bss : (first : List Part) (adds : Bool) → AllByRecursion IsShortPart first
-    → AllByRecursion IsShortPart (with_bss first adds)
-short_with_bss first true h = All-append IsShortPart first _ h (record { name = lit≤ tt; class = lit≤ tt }, tt)
-short_with_bss first false h = All-append IsShortPart first _ h tt
-
-short_with_end : (os : List Part) (adds : Bool) → AllByRecursion IsShortPart os
-    → AllByRecursion IsShortPart (with_end os adds)
-short_with_end os true all =
-    All-append IsShortPart (take (behind_bss os) os) _ (All-take IsShortPart (behind_bss os) os all)
-    (record { name = lit≤ tt; class = lit≤ tt }, All-drop IsShortPart (behind_bss os) os all)
-short_with_end os false all = all
-
 pub data_within : (names : List (List ℕ)) (parts : List Part)
     → IfSome (data_end_part names parts) (λ k. k < length parts)
 data_within [] parts = tt
@@ -184,16 +200,14 @@ plan_fits order names program sound count =
     let first = first_parts (placed program) (grouped program) in
     let data_end = wanted names program data_end_names in
     let bss_end = wanted names program bss_end_names in
-    let met = with_bss first (adds_bss first data_end bss_end) in
-    let os = in_order order (adds_bss first data_end bss_end) met in
-    let short : AllByRecursion IsShortPart first =
-    short_first (placed program) (grouped program) (short_placed program (All-each IsSound program sound)) in
+    let os = in_order order (adds_bss first data_end bss_end) (with_bss first (adds_bss first data_end bss_end)) in
     record {
       count = count;
       parts =
-          short_with_end os (adds_end first bss_end)
-          (short_in_order order (adds_bss first data_end bss_end) met
-          (short_with_bss first (adds_bss first data_end bss_end) short));
+          All-planned IsShortPart order first data_end bss_end (record { name = lit≤ tt; class = lit≤ tt })
+          (record { name = lit≤ tt; class = lit≤ tt })
+          (All-first IsShort IsShortPart (grouped program) (λ s h. record { name = h.name; class = h.class })
+          (placed program) (All-placed IsShort program (short_modules program (All-each IsSound program sound))));
       data_end = record {
         part = IfSome-below _ _ 16383 count (data_within data_end (with_end os (adds_end first bss_end)));
         names = All-filter IsName (is_wanted names program) data_end_names data_names;

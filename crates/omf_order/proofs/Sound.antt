@@ -1,100 +1,37 @@
 -- The bytes of an order module are those of a whole module that no check refuses.
-use Rattle.std.proofs.Common.{◌≡◌, ℕ, zero, suc, ◌+◌, ◌*◌, ◌<◌, ◌≤◌, Bool, true, false, ◌||◌, eqb, ltb, List, [], ◌∷◌}
-use Rattle.std.proofs.Common.{◌++◌, length, map, Option, Some, None, IfSome, refl, ap, sym, ◌∙◌, subst, arith, add-one}
-use Rattle.std.proofs.Common.{length-append, lit<, lit≤}
+use Rattle.std.proofs.Common.{◌≡◌, ℕ, ◌+◌, ◌*◌, ◌<◌, ◌≤◌, true, false, eqb, ltb, List, [], ◌∷◌, ◌++◌, length, map, Option}
+use Rattle.std.proofs.Common.{Some, None, IfSome, refl, ap, sym, ◌∙◌, subst, arith, add-one, length-append, lit<, lit≤}
 use Rattle.std.specs.Prelude.{codes}
-use Rattle.std.proofs.lemmas.Bool.{eqb-true, ltb-true}
+use Rattle.std.proofs.lemmas.Bool.{eqb-true}
 use Rattle.std.specs.List.{AllByRecursion}
-use Rattle.std.specs.Option.{option_map, option_to_list}
-use Rattle.omf_frame.specs.Frame.{AreFrames, closing_byte, place_limit}
-use Rattle.omf_frame.proofs.Frames.{framed-frame}
+use Rattle.std.specs.Option.{option_to_list}
 use Rattle.omf_record.specs.declared.externals.PublicBase.TheVariants.{InSegment}
-use Rattle.omf_record.specs.Record.{Record, Theadr, Coment, Modend, Extdef, Pubdef, Linnum, Lnames, Segdef, Grpdef}
-use Rattle.omf_record.specs.Record.{Fixupp, Ledata, Lidata}
-use Rattle.omf_record.specs.Body.{Body, kind_of}
+use Rattle.omf_record.specs.Record.{Record, Theadr, Modend, Pubdef, Lnames, Grpdef}
 use Rattle.omf_record.specs.Canonical.{FitsFrame, canonical}
-use Rattle.omf_record.specs.Records.{AreToEnd, Placed, frame_of_record, is_end}
-use Rattle.omf_record.proofs.RecordLaws.{body_bytes}
-use Rattle.omf_module.specs.declared.fault.CheckFault.{CheckFault}
-use Rattle.omf_module.specs.declared.fault.CheckFault.TheVariants.{GroupIndex, GroupOfAbsolute, NameIndex, SegmentIndex}
-use Rattle.omf_module.specs.Before.{along_from, entry, first}
+use Rattle.omf_record.specs.Records.{AreToEnd, Placed, is_end}
+use Rattle.omf_module.specs.declared.fault.CheckFault.TheVariants.{GroupIndex, NameIndex, SegmentIndex}
+use Rattle.omf_module.specs.Before.{entry, first}
 use Rattle.omf_module.specs.Bytes.{ModuleBytes}
-use Rattle.omf_module.specs.Faults.{begun, component_fault, fault, header_fault, is_absolute, is_beyond, items, when}
-use Rattle.omf_module.specs.Faults.{◌⊓◌}
+use Rattle.omf_module.specs.Faults.{component_fault, fault, is_absolute, is_beyond, when, ◌⊓◌}
 use Rattle.omf_module.specs.Module.{Segment}
-use Rattle.omf_module.specs.Tables.{groups, groups_in, names, names_in, segments, segments_in, standing_of}
+use Rattle.omf_module.specs.Tables.{groups, names, segments, standing_of}
 use Rattle.omf_module.specs.inside.Entries.{segment_of}
-use Rattle.omf_module.proofs.Lists.{along_push, flat_map_push}
-use Rattle.omf_module.proofs.Growing.{begun_push}
+use Rattle.omf_write.specs.Records.{record_bytes, records_bytes}
+use Rattle.omf_write.proofs.Bodies.{end_fits, header_fits, names_fit}
+use Rattle.omf_write.proofs.Clean.{All-append, Clean, Ready, are_bodies, are_frames, both_false, clean_by, clean_end}
+use Rattle.omf_write.proofs.Clean.{clean_first, component_ok, ended, length-record, nones, not_below, place_all}
+use Rattle.omf_write.proofs.Clean.{ready-as, ready-more}
 use Rattle.omf_order.specs.Parts.{Part}
 use Rattle.omf_order.specs.Plan.{Plan}
 use Rattle.omf_order.specs.Records.{combination_of, definition, group_records, last_records, mark_records}
-use Rattle.omf_order.specs.Records.{mark_segments, module_bytes, part_records, public_of, record_bytes, records}
-use Rattle.omf_order.specs.Records.{records_bytes, segment_index, segment_record}
+use Rattle.omf_order.specs.Records.{mark_segments, module_bytes, part_records, public_of, records, segment_index}
+use Rattle.omf_order.specs.Records.{segment_record}
 use Rattle.omf_order.specs.Segments.{dgroup}
-use Rattle.omf_order.specs.inside.Fits.{Fits, IsName, IsNamedPart}
-use Rattle.omf_order.proofs.Bodies.{end_fits, few_marks, group_fits, header_fits, name_fits, names_fit, plain}
-use Rattle.omf_order.proofs.Bodies.{publics_fit, segment_fits, small_marks}
-
--- ---- records one after the other
-
--- records as they stand from a place on
-abbrev pub place_all : (at : ℕ) → List Record → List Placed
-place_all at [] = []
-place_all at (r ∷ rs) =
-    record { place = at; body = canonical r; says = r } ∷ place_all (at + length (record_bytes r)) rs
-
-kind_small : (r : Record) → kind_of r < 256
-kind_small (Theadr name) = lit< tt
-kind_small (Coment kind class bytes) = lit< tt
-kind_small (Modend main start) = lit< tt
-kind_small (Extdef true ns) = lit< tt
-kind_small (Extdef false ns) = lit< tt
-kind_small (Pubdef true b ps) = lit< tt
-kind_small (Pubdef false b ps) = lit< tt
-kind_small (Linnum group segment lines) = lit< tt
-kind_small (Lnames ns) = lit< tt
-kind_small (Segdef s) = lit< tt
-kind_small (Grpdef name ss) = lit< tt
-kind_small (Fixupp ss) = lit< tt
-kind_small (Ledata segment offset bytes) = lit< tt
-kind_small (Lidata segment offset blocks) = lit< tt
-
-length-record : (r : Record) → length (record_bytes r) ≡ length (canonical r) + 4
-length-record r = omega (arith, length-append (canonical r) (closing_byte (kind_of r) (canonical r) ∷ []))
-
-are_frames : (at : ℕ) (rs : List Record) → AllByRecursion FitsFrame rs → at + length (records_bytes rs) < place_limit
-    → AreFrames at (map frame_of_record (place_all at rs)) (records_bytes rs)
-are_frames at [] fits h = refl
-are_frames at (r ∷ rs) fits h =
-    let sum : length (records_bytes (r ∷ rs)) ≡ length (record_bytes r) + length (records_bytes rs) =
-    length-append (record_bytes r) (records_bytes rs) in (
-      record_bytes r,
-      records_bytes rs,
-      refl,
-      refl,
-      omega (arith, h),
-      framed-frame (kind_of r) (canonical r) (kind_small r) (body_bytes r (canonical r) fits.0.body) fits.0.short,
-      are_frames (at + length (record_bytes r)) rs fits.1 (omega (arith, h, sum)),
-    )
-
-are_bodies : (at : ℕ) (rs : List Record) → AllByRecursion FitsFrame rs
-    → AllByRecursion (λ (r : Placed). Body r.says r.body) (place_all at rs)
-are_bodies at [] fits = tt
-are_bodies at (r ∷ rs) fits = (fits.0.body, are_bodies (at + length (record_bytes r)) rs fits.1)
+use Rattle.omf_order.specs.inside.Fits.{Fits, IsNamedPart}
+use Rattle.omf_write.specs.inside.Fits.{IsName}
+use Rattle.omf_order.proofs.Bodies.{few_marks, group_fits, name_fits, plain, publics_fit, segment_fits, small_marks}
 
 -- ---- the end
-
-ended : (fs : List Record) → AllByRecursion (λ r. is_end r ≡ false) fs → (rs : List Record)
-    → ((at : ℕ) → AreToEnd (place_all at rs)) → (at : ℕ) → AreToEnd (place_all at (fs ++ rs))
-ended [] none rs whole at = whole at
-ended (f ∷ fs) none rs whole at =
-    behind (place_all (at + length (record_bytes f)) (fs ++ rs))
-    (ended fs none.1 rs whole (at + length (record_bytes f)))
-  where
-    behind : (ps : List Placed) → AreToEnd ps → AreToEnd (record { place = at; body = canonical f; says = f } ∷ ps)
-    behind [] h = absurd h
-    behind (p ∷ ps) h = (none.0, h)
 
 open_parts : (place : ℕ) (ps : List Part) → AllByRecursion (λ r. is_end r ≡ false) (part_records place ps)
 open_parts place [] = tt
@@ -119,11 +56,6 @@ to_end p =
     (Modend false None ∷ []) (λ at. refl))))) 0
 
 -- ---- each fits its frame
-
-All-append : {X : Type 0} (P : X → Type 0) (xs ys : List X) → AllByRecursion P xs → AllByRecursion P ys
-    → AllByRecursion P (xs ++ ys)
-All-append P [] ys h k = k
-All-append P (x ∷ xs) ys h k = (h.0, All-append P xs ys h.1 k)
 
 fit_parts : (place : ℕ) (ps : List Part) → place + length ps ≤ 16383 → AllByRecursion IsNamedPart ps
     → AllByRecursion FitsFrame (part_records place ps)
@@ -206,91 +138,11 @@ count_all p h =
 
 -- ---- no check refuses it
 
--- no check refuses these behind those
-abbrev Clean : List Placed → List Placed → Type 0
-Clean before [] = Unit {0}
-Clean before (r ∷ rs) = (fault before r.says ≡ None) × Clean (before ++ r ∷ []) rs
-
--- what the checks find at a record
-abbrev found_at : List Placed → Placed → List (Option (ℕ × CheckFault))
-found_at front r = option_map (λ check. (r.place, check)) (fault front r.says) ∷ []
-
-clean_first : (before rs : List Placed) → Clean before rs → first (along_from before found_at rs) ≡ None
-clean_first before [] h = refl
-clean_first before (r ∷ rs) h =
-    ap (λ (o : Option CheckFault).
-    first {A = ℕ × CheckFault} (option_map (λ check. (r.place, check)) o ∷ along_from (before ++ r ∷ []) found_at rs))
-    h.0
-    ∙ clean_first (before ++ r ∷ []) rs h.1
-
--- what records say so far: how many names, segments and groups, and no segment is absolute
-record Ready (n s g : ℕ) (before : List Placed) : Type 0 where
-  is_begun : begun before ≡ true
-  name_count : length (names before) ≡ n
-  segment_count : length (segments before) ≡ s
-  group_count : length (groups before) ≡ g
-  relocatable : AllByRecursion (λ (x : Segment). is_absolute x.standing ≡ false) (segments before)
-
-names-push : (before : List Placed) (x : Placed) → names (before ++ x ∷ []) ≡ names before ++ names_in x.says
-names-push before x = flat_map_push (λ (placed : Placed). names_in placed.says) before x
-
-segments-push : (before : List Placed) (x : Placed)
-    → segments (before ++ x ∷ []) ≡ segments before ++ segments_in (names before) x.says
-segments-push before x = along_push (λ front (placed : Placed). segments_in (names front) placed.says) before x
-
-groups-push : (before : List Placed) (x : Placed)
-    → groups (before ++ x ∷ []) ≡ groups before ++ groups_in (names before) x.says
-groups-push before x = along_push (λ front (placed : Placed). groups_in (names front) placed.says) before x
-
--- one record more, by how many names, segments and groups it has
-ready-more : (n s g : ℕ) (before : List Placed) (x : Placed) → Ready n s g before →
-    AllByRecursion (λ (y : Segment). is_absolute y.standing ≡ false) (segments_in (names before) x.says) →
-    Ready (n + length (names_in x.says)) (s + length (segments_in (names before) x.says))
-    (g + length (groups_in (names before) x.says)) (before ++ x ∷ [])
-ready-more n s g before x r all = record {
-  is_begun = begun_push before x;
-  name_count =
-      ap length (names-push before x) ∙ length-append (names before) (names_in x.says)
-      ∙ ap (λ k. k + length (names_in x.says)) r.name_count;
-  segment_count =
-      ap length (segments-push before x) ∙ length-append (segments before) (segments_in (names before) x.says)
-      ∙ ap (λ k. k + length (segments_in (names before) x.says)) r.segment_count;
-  group_count =
-      ap length (groups-push before x) ∙ length-append (groups before) (groups_in (names before) x.says)
-      ∙ ap (λ k. k + length (groups_in (names before) x.says)) r.group_count;
-  relocatable =
-      subst (λ ss. AllByRecursion (λ (y : Segment). is_absolute y.standing ≡ false) ss) (sym (segments-push before x))
-      (All-append (λ (y : Segment). is_absolute y.standing ≡ false) (segments before)
-      (segments_in (names before) x.says) r.relocatable all);
-}
-
-ready-as : (n s g m t h : ℕ) (before : List Placed) → n ≡ m → s ≡ t → g ≡ h → Ready n s g before → Ready m t h before
-ready-as n s g m t h before e f k r = record {
-  is_begun = r.is_begun;
-  name_count = r.name_count ∙ e;
-  segment_count = r.segment_count ∙ f;
-  group_count = r.group_count ∙ k;
-  relocatable = r.relocatable;
-}
-
-clean_by : (before : List Placed) (r : Record) → begun before ≡ true → first (items before r) ≡ None
-    → fault before r ≡ None
-clean_by before r b h = ap (λ t. first (header_fault t r ∷ items before r)) b ∙ h
-
-not_below : (a b : ℕ) → b ≤ a → ltb a b ≡ false
-not_below a b h = (elim (ltb a b) as (λ t. ltb a b ≡ t → t ≡ false) [
-  | true ↦ λ e. absurd (let l = ltb-true _ _ e in omega (arith, l, h))
-  | false ↦ λ e. refl
-]) refl
-
 not_zero : (a : ℕ) → eqb (a + 1) 0 ≡ false
 not_zero a = (elim (eqb (a + 1) 0) as (λ t. eqb (a + 1) 0 ≡ t → t ≡ false) [
   | true ↦ λ e. absurd (let l = eqb-true _ _ e in omega (arith, l))
   | false ↦ λ e. refl
 ]) refl
-
-both_false : (a b : Bool) → a ≡ false → b ≡ false → (a || b) ≡ false
-both_false a b e f = ap (λ t. t || b) e ∙ f
 
 -- ---- the records of the parts
 
@@ -334,19 +186,9 @@ clean_parts place total (p ∷ ps) rest e k before at r =
 
 -- ---- what stands behind them
 
-component_ok : (ss : List Segment) (k : ℕ) → AllByRecursion (λ (x : Segment). is_absolute x.standing ≡ false) ss
-    → k < length ss → component_fault (entry ss (suc k)) ≡ None
-component_ok [] k all h = absurd (omega (arith, h))
-component_ok (s ∷ ss) zero all h = ap (λ t. when t GroupOfAbsolute) all.0
-component_ok (s ∷ ss) (suc k) all h = component_ok ss k all.1 (omega (arith, h))
-
 component_at : (ss : List Segment) (k : ℕ) → AllByRecursion (λ (x : Segment). is_absolute x.standing ≡ false) ss
     → k < length ss → component_fault (entry ss (segment_index k)) ≡ None
 component_at ss k all h = ap (λ n. component_fault (entry ss n)) (add-one k) ∙ component_ok ss k all h
-
-nones : (os : List (Option CheckFault)) → AllByRecursion (λ o. o ≡ None) os → first os ≡ None
-nones [] h = refl
-nones (o ∷ os) h = ap (λ x. first (x ∷ os)) h.0 ∙ nones os h.1
 
 components_ok : (ss : List Segment) (ks : List ℕ) →
     AllByRecursion (λ (x : Segment). is_absolute x.standing ≡ false) ss → AllByRecursion (λ k. k < length ss) ks →
@@ -374,9 +216,6 @@ mark_ok n s before names' place r h =
     (both_false _ _ (not_zero place)
     (not_below (length (segments before)) (place + 1) (omega (arith, r.segment_count, h))))
     ∙ ap (λ t. first (when t GroupIndex ∷ [])) (not_below (length (groups before)) 1 (omega (arith, r.group_count))))
-
-clean_end : (before : List Placed) (at : ℕ) → begun before ≡ true → Clean before (place_all at (Modend false None ∷ []))
-clean_end before at b = (clean_by before (Modend false None) b refl, tt)
 
 clean_mark : (n s : ℕ) (names' : List (List ℕ)) (o : Option ℕ) (rest : List Record) → IfSome o (λ k. k < s) →
     ((before : List Placed) (at : ℕ) → Ready n s 1 before → Clean before (place_all at rest)) →

@@ -9,7 +9,8 @@ use Rattle.omf_order.specs.inside.Fits.{IsShortPart}
 use Rattle.omf_order.specs.inside.Held.{part_view, parts_view}
 use Rattle.omf_record.specs.Record.{Record, Lnames}
 use Rattle.omf_order.specs.Parts.{Part}
-use Rattle.omf_order.specs.Records.{part_records, record_bytes, records_bytes, segment_record}
+use Rattle.omf_order.specs.Records.{part_records, segment_record}
+use Rattle.omf_write.specs.Records.{record_bytes, records_bytes}
 
 pub part_records-more : (place : ℕ) (ps : List Part) (p : Part)
     → part_records place (ps ++ p ∷ [])
@@ -71,19 +72,3 @@ bytes-whole out a b rs ss =
     ∙ append_assoc out (record_bytes a ++ record_bytes b) (records_bytes rs ++ records_bytes ss)
     ∙ ap (λ t. out ++ t) (append_assoc (record_bytes a) (record_bytes b) (records_bytes rs ++ records_bytes ss)
     ∙ ap (λ t. record_bytes a ++ (record_bytes b ++ t)) (sym (flat_map-append record_bytes rs ss)))
-
--- those behind the parts
-pub bytes-last : (out : List ℕ) (g m n : List Record) (e : Record)
-    → (((out ++ records_bytes g) ++ records_bytes m) ++ records_bytes n) ++ record_bytes e
-    ≡ out ++ records_bytes (g ++ (m ++ (n ++ e ∷ [])))
-bytes-last out g m n e =
-    append_assoc ((out ++ records_bytes g) ++ records_bytes m) (records_bytes n) (record_bytes e)
-    ∙ append_assoc (out ++ records_bytes g) (records_bytes m) (records_bytes n ++ record_bytes e)
-    ∙ append_assoc out (records_bytes g) (records_bytes m ++ (records_bytes n ++ record_bytes e))
-    ∙ ap (λ t. out ++ t)
-    (ap (λ t. records_bytes g ++ (records_bytes m ++ (records_bytes n ++ t))) (sym (append-nil (record_bytes e)))
-    ∙ sym
-    (flat_map-append record_bytes g (m ++ (n ++ e ∷ []))
-    ∙ ap (λ t. records_bytes g ++ t)
-    (flat_map-append record_bytes m (n ++ e ∷ [])
-    ∙ ap (λ t. records_bytes m ++ t) (flat_map-append record_bytes n (e ∷ [])))))

@@ -1,9 +1,7 @@
 -- The records of the order module (TIS OMF 1.1, the section of each), and its bytes.
 use Rattle.std.specs.Prelude.{ℕ, ◌+◌, ◌*◌, ◌==◌, false, List, [], ◌∷◌, ◌++◌, map, if◌then◌else◌, Option, None, Some}
 use Rattle.std.specs.Prelude.{codes}
-use Rattle.std.specs.List.{flat_map}
 use Rattle.std.specs.Option.{option_to_list}
-use Rattle.omf_frame.specs.Frame.{frame}
 use Rattle.omf_module.specs.declared.Kind.{Kind}
 use Rattle.omf_module.specs.declared.Kind.TheVariants as kind
 use Rattle.omf_record.specs.declared.segments.Alignment.{Alignment}
@@ -14,8 +12,7 @@ use Rattle.omf_record.specs.declared.segments.Alignment.TheVariants as align
 use Rattle.omf_record.specs.declared.segments.Combination.TheVariants as combine
 use Rattle.omf_record.specs.declared.segments.SegmentLength.TheVariants as len
 use Rattle.omf_record.specs.Record.{Record, Theadr, Lnames, Segdef, Grpdef, Pubdef, Modend, Public}
-use Rattle.omf_record.specs.Body.{kind_of}
-use Rattle.omf_record.specs.Canonical.{canonical}
+pub use Rattle.omf_write.specs.Records.{record_bytes, records_bytes}
 use Rattle.omf_order.specs.Segments.{dgroup}
 use Rattle.omf_order.specs.Parts.{Part}
 use Rattle.omf_order.specs.Plan.{Plan}
@@ -91,14 +88,6 @@ last_records p = group_records (mark_segments p) ++ (mark_records p.data_end.nam
 -- all records
 abbrev pub records : Plan → List Record
 records p = Theadr (codes "doslink") ∷ Lnames (dgroup ∷ []) ∷ (part_records 0 p.parts ++ last_records p)
-
--- a record as a frame, with its canonical body
-abbrev pub record_bytes : Record → List ℕ
-record_bytes r = frame (kind_of r) (canonical r)
-
--- records, one after the other
-abbrev pub records_bytes : List Record → List ℕ
-records_bytes rs = flat_map record_bytes rs
 
 -- the module
 abbrev pub module_bytes : Plan → List ℕ

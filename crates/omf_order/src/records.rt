@@ -3,43 +3,21 @@
 ghost use Rattle.std.specs.Prelude.{◌≡◌, ◌++◌, ◌<◌, ◌≤◌, [], ◌∷◌, IfOk, IfSome, OnOk, length, map};
 ghost use Rattle.std.specs.List.{AllByRecursion};
 ghost use Rattle.std.specs.Option.{option_to_list};
-ghost use Rattle.omf_record.specs.Body.{kind_of};
-ghost use Rattle.omf_record.specs.Canonical.{FitsFrame};
 ghost use Rattle.omf_record.specs.Record.{Lnames};
 ghost use Rattle.omf_record.specs.View.{view, public_view};
 ghost use Rattle.omf_order.specs.Records as records;
-ghost use Rattle.omf_order.specs.inside.Fits.{Fits, FitsMark, IsName, IsShortPart};
+ghost use Rattle.omf_write.specs.inside.Fits.{IsName};
+ghost use Rattle.omf_order.specs.inside.Fits.{Fits, FitsMark, IsShortPart};
 ghost use Rattle.omf_order.specs.inside.Held.{mark_view, names_view, part_view, parts_view, plan_view};
 
 use crate::parts::Part;
 use crate::planning::{Mark, Plan};
-use omf_frame::closing;
 use omf_module::Kind;
 use omf_record::{
     Alignment, Combination, Public, PublicBase, Record, SegmentDefinition, SegmentLength,
-    encode_record,
 };
+use omf_write::{put_end, put_header, put_names, put_record};
 use std::alloc::{AllocError, Allocator};
-
-/// Appends a record as a frame.
-fn put_record<A: Allocator + Copy>(
-    alloc: A,
-    kind: u8,
-    record: &Record<'_, A>,
-    out: &mut Vec<u8, A>,
-) -> Result<(), AllocError>
-    requires kind { kind ≡ kind_of (view «record».now) }
-    requires fits { FitsFrame (view «record».now) }
-    ensures { OnOk result (out.new.items ≡ out.old.items ++ records.record_bytes (view «record».now)) }
-{
-    let mut body = Vec::new(alloc);
-    encode_record(record, &mut body)?;
-    let length = body.len() + 1;
-    out.extend_from_slice(&[kind, (length % 256) as u8, (length / 256) as u8])?;
-    out.extend_from_slice(&body)?;
-    out.push(closing(kind, &body))?;
-    Ok(())
-}
 
 /// How a SEGDEF says an alignment.
 fn alignment_of(bytes: u16) -> Alignment
@@ -93,25 +71,6 @@ fn put_name<A: Allocator + Copy>(
 {
     let mut names = Vec::new(alloc);
     names.push(name)?;
-    put_record(alloc, 0x96, &Record::Lnames { names }, out)
-}
-
-/// Appends LNAMES with a name and a class.
-#[tactic(auto, unfolding(omf_record::specs::View::view))]
-fn put_names<A: Allocator + Copy>(
-    alloc: A,
-    name: &[u8],
-    class: &[u8],
-    out: &mut Vec<u8, A>,
-) -> Result<(), AllocError>
-    requires name { length name.now ≤ 255 }
-    requires class { length class.now ≤ 255 }
-    ensures { OnOk result
-        (out.new.items ≡ out.old.items ++ records.record_bytes (Lnames (name.now ∷ class.now ∷ []))) }
-{
-    let mut names = Vec::new(alloc);
-    names.push(name)?;
-    names.push(class)?;
     put_record(alloc, 0x96, &Record::Lnames { names }, out)
 }
 
@@ -262,7 +221,6 @@ fn put_mark<A: Allocator + Copy>(
 }
 
 /// Appends the records behind those of the parts.
-#[tactic(auto, unfolding(omf_record::specs::View::view))]
 fn put_last<A: Allocator + Copy>(
     alloc: A,
     plan: &Plan<'_, A>,
@@ -276,16 +234,10 @@ fn put_last<A: Allocator + Copy>(
     put_group(alloc, segments, out)?;
     put_mark(alloc, &plan.data_end, out)?;
     put_mark(alloc, &plan.bss_end, out)?;
-    let end = Record::Modend {
-        main: false,
-        start: None,
-    };
-    put_record(alloc, 0x8A, &end, out)?;
-    Ok(())
+    put_end(alloc, out)
 }
 
 /// Appends the records of a plan.
-#[tactic(auto, unfolding(omf_record::specs::View::view))]
 pub(crate) fn put_module<A: Allocator + Copy>(
     alloc: A,
     plan: &Plan<'_, A>,
@@ -294,9 +246,8 @@ pub(crate) fn put_module<A: Allocator + Copy>(
     requires { Fits (plan_view plan.now) }
     ensures { OnOk result (out.new.items ≡ out.old.items ++ records.module_bytes (plan_view plan.now)) }
 {
-    put_record(alloc, 0x80, &Record::Theadr { name: b"doslink" }, out)?;
+    put_header(alloc, b"doslink", out)?;
     put_name(alloc, b"DGROUP", out)?;
     put_parts(alloc, &plan.parts, out)?;
-    put_last(alloc, plan, out)?;
-    Ok(())
+    put_last(alloc, plan, out)
 }

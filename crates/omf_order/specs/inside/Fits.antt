@@ -1,7 +1,7 @@
 -- A plan whose records fit their frames.
-use Rattle.std.specs.Prelude.{ℕ, ◌<◌, ◌≤◌, List, length, IfSome}
+use Rattle.std.specs.Prelude.{ℕ, ◌<◌, ◌≤◌, length, IfSome}
 use Rattle.std.specs.List.{AllByRecursion}
-use Rattle.omf_frame.specs.Primitives.{IsBytes}
+use Rattle.omf_write.specs.inside.Fits.{IsName}
 use Rattle.omf_order.specs.Parts.{Part}
 use Rattle.omf_order.specs.Plan.{Mark, Plan}
 
@@ -9,10 +9,6 @@ use Rattle.omf_order.specs.Plan.{Mark, Plan}
 pub record IsShortPart (p : Part) : Type 0 where
   pub name : length p.name ≤ 255
   pub class : length p.class ≤ 255
-
--- at most 255 bytes
-abbrev pub IsName : List ℕ → Type 0
-IsName name = (length name ≤ 255) × IsBytes name
 
 -- name and class of a part are at most 255 bytes
 pub record IsNamedPart (p : Part) : Type 0 where

@@ -2,7 +2,8 @@ use Rattle.std.proofs.Common.{◌∙◌, ◌++◌, ◌∷◌, [], ap, map, subst
 use Rattle.omf_record.specs.Canonical.{FitsFrame}
 use Rattle.omf_record.specs.Record.{Lnames}
 use Rattle.omf_record.specs.View.{view}
-use Rattle.omf_order.proofs.Bodies.{IsBytes-from, name_fits}
+use Rattle.omf_order.proofs.Bodies.{name_fits}
+use Rattle.omf_write.proofs.Bodies.{IsBytes-from}
 use Rattle.omf_order.proofs.records.put_name.Goals as goal
 
 pub put_record-requires-clause-fits : goal.put_record-requires-clause-fits
