@@ -6,6 +6,5 @@ pub mod Selecting
 pub mod Steps
 pub mod FirstMet
 pub mod Fitting
-pub mod Dosseg
 pub mod Sound
 pub mod Naming

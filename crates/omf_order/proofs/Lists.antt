@@ -1,8 +1,8 @@
 -- Lists, one element more at a time.
-use Rattle.std.proofs.Common.{◌≡◌, ℕ, zero, suc, ◌+◌, ◌<◌, ◌≤◌, Bool, true, false, cond, not, ◌||◌, All, List, [], ◌∷◌}
-use Rattle.std.proofs.Common.{◌++◌, length, take, drop, insert, map, filter, get_or, unwrap_or, Option, Some, slice_get}
+use Rattle.std.proofs.Common.{◌≡◌, ℕ, zero, suc, ◌+◌, ◌<◌, ◌≤◌, Bool, true, false, cond, not, ◌&&◌, ◌||◌, All, List, []}
+use Rattle.std.proofs.Common.{◌∷◌, ◌++◌, length, take, drop, insert, map, filter, get_or, unwrap_or, Option, Some, slice_get}
 use Rattle.std.proofs.Common.{refl, ap, sym, ◌∙◌, arith, add-one, append-nil, append_assoc}
-use Rattle.std.proofs.lemmas.List.{map-append, take_more}
+use Rattle.std.proofs.lemmas.List.{map-append, take_all, take_more}
 use Rattle.std.proofs.lemmas.List.Elements.{filter-append, filter_map-append}
 use Rattle.std.proofs.lemmas.Grind.{flat_map-append}
 use Rattle.std.proofs.lemmas.List.Folds.{list_any-append, list_any_at}
@@ -35,13 +35,6 @@ pub filter_map_one : {X Y : Type 0} (f : X → Option Y) (xs : List X) (k : ℕ)
     → f x ≡ Some y → filter_map f (take (k + 1) xs) ≡ filter_map f (take k xs) ++ y ∷ []
 filter_map_one f xs k x y e is =
     ap (filter_map f) (take_one xs k x e) ∙ filter_map-append f (take k xs) (x ∷ []) ∙ rw is refl
-
--- all of them
-pub take_all : {X : Type 0} (k : ℕ) (xs : List X) → length xs ≤ k → take k xs ≡ xs
-take_all zero [] h = refl
-take_all (suc k) [] h = refl
-take_all zero (x ∷ xs) h = absurd (omega arith)
-take_all (suc k) (x ∷ xs) h = ap (λ ys. x ∷ ys) (take_all k xs (omega arith))
 
 -- ---- the lists of the code, by what they hold
 
@@ -125,3 +118,56 @@ map-insert f xs i x = map-append f (take i xs) (x ∷ drop i xs) ∙ rw (front f
     back f zero xs = refl
     back f (suc i) [] = refl
     back f (suc i) (x ∷ xs) = back f i xs
+
+-- ---- tests along the modules of a program
+
+-- one more
+pub any_turn : {X : Type 0} (p : X → Bool) (xs : List X) (i : ℕ) (x : X) → i < length xs → x ≡ get_or xs i x
+    → list_any p (take (i + 1) xs) ≡ (list_any p (take i xs) || p x)
+any_turn p xs i x h is =
+    ap (list_any p) (take_more xs i x h ∙ ap (λ y. take i xs ++ y ∷ []) (sym is))
+    ∙ list_any-append p (take i xs) (x ∷ []) ∙ ap (λ b. list_any p (take i xs) || b) (or_false (p x))
+  where
+    or_false : (b : Bool) → (b || false) ≡ b
+    or_false true = refl
+    or_false false = refl
+
+-- one that passes the second test: it isn't so that some pass the first and none the second
+pub refuted : {X : Type 0} (p q : X → Bool) (xs : List X) (i : ℕ) (x : X) → i < length xs → x ≡ get_or xs i x →
+    q x ≡ true → (list_any p xs && not (list_any q xs)) ≡ false
+refuted p q xs i x h is t =
+    ap (λ b. list_any p xs && not b) (list_any_at q xs i x h (ap q (sym is) ∙ t)) ∙ and_false (list_any p xs)
+  where
+    and_false : (b : Bool) → (b && false) ≡ false
+    and_false true = refl
+    and_false false = refl
+
+-- none passes the second: it is so where some pass the first
+pub unrefuted : {X : Type 0} (p q : X → Bool) (xs : List X) (i : ℕ) → length xs ≤ i → list_any q (take i xs) ≡ false
+    → list_any p (take i xs) ≡ (list_any p xs && not (list_any q xs))
+unrefuted p q xs i h none =
+    let all = take_all i xs h in
+    ap (list_any p) all ∙ sym (and_true (list_any p xs))
+    ∙ ap (λ b. list_any p xs && not b) (sym none ∙ ap (list_any q) all)
+  where
+    and_true : (b : Bool) → (b && true) ≡ b
+    and_true true = refl
+    and_true false = refl
+
+-- ---- lists that a loop makes, one element more
+
+-- what each gives
+pub map_turn : {C X : Type 0} (f : C → X) (xs : List C) (i : ℕ) (d : C) (old new : List X) → i < length xs →
+    new ≡ old ++ f (get_or xs i d) ∷ [] → old ≡ map f (take i xs) → new ≡ map f (take (i + 1) xs)
+map_turn f xs i d old new h is was =
+    is ∙ ap (λ ys. ys ++ f (get_or xs i d) ∷ []) was
+    ∙ sym (ap (map f) (take_more xs i d h) ∙ map-append f (take i xs) (get_or xs i d ∷ []))
+
+-- what each has
+pub flat_turn : {X Y : Type 0} (f : X → List Y) (xs : List X) (i : ℕ) (x : X) (old new : List Y) → i < length xs →
+    x ≡ get_or xs i x → new ≡ old ++ f x → old ≡ flat_map f (take i xs) → new ≡ flat_map f (take (i + 1) xs)
+flat_turn f xs i x old new h e is was =
+    is ∙ ap (λ ys. ys ++ f x) was
+    ∙ sym
+    (ap (flat_map f) (take_more xs i x h ∙ ap (λ y. take i xs ++ y ∷ []) (sym e))
+    ∙ flat_map-append f (take i xs) (x ∷ []) ∙ ap (λ ys. flat_map f (take i xs) ++ ys) (append-nil (f x)))

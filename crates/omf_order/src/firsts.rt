@@ -11,7 +11,7 @@ use std::hash::{BuildHasherDefault, FoldHasher, Hash};
 /// The place at which each key was first met. The hash has a fixed seed.
 type FirstPlaces<K, A> = IndexMap<K, usize, BuildHasherDefault<FoldHasher>, A>;
 
-/// Notes that a key is met at a place.
+/// Notes that a key is met at a place, unless it was met before.
 fn meet<K: Eq + Hash + Copy, A: Allocator + Copy>(
     met: &mut FirstPlaces<K, A>,
     key: K,
@@ -23,7 +23,10 @@ fn meet<K: Eq + Hash + Copy, A: Allocator + Copy>(
         ((q : K) → is_some (get K.eq met.old key) ≡ false →
         get K.eq met.new q ≡ cond (K.eq key q) (Some place) (get K.eq met.old q)) }
 {
-    met.entry(key)?.or_insert(place);
+    if met.contains_key(&key) {
+        return Ok(());
+    }
+    met.insert(key, place)?;
     Ok(())
 }
 

@@ -1,12 +1,10 @@
 //! What orders the parts: a part of a smaller key comes first.
 
-ghost use Rattle.std.specs.Prelude.{◌≡◌, ◌++◌, ◌<◌, IfOk, OnOk, map};
-ghost use Rattle.std.specs.List.{position_or_len};
+ghost use Rattle.std.specs.Prelude.{◌≡◌, ◌++◌, IfOk, OnOk, map};
 ghost use Rattle.omf_order.specs.Keys as keys;
 ghost use Rattle.omf_order.specs.inside.Held as held;
 ghost use Rattle.omf_order.specs.inside.Held.{part_view, selector_view};
 
-use crate::firsts::first_places;
 use crate::order::Item;
 use crate::parts::Part;
 use std::alloc::{AllocError, Allocator};
@@ -16,8 +14,7 @@ pub(crate) const DOSSEG_KEYS: usize = 6;
 
 /// The key of a part in the order of DOSSEG, where class BSS has a new part in DGROUP or not.
 pub(crate) fn dosseg_key(part: &Part<'_>, adds_bss: bool) -> usize
-    ensures key { result ≡ keys.dosseg_key adds_bss (part_view part.now) }
-    ensures small { result < 6 }
+    ensures { result ≡ keys.dosseg_key adds_bss (part_view part.now) }
 {
     if part.class.ends_with(b"CODE") {
         0
@@ -35,7 +32,7 @@ pub(crate) fn dosseg_key(part: &Part<'_>, adds_bss: bool) -> usize
 }
 
 /// What a list names: in a class the segments of a name, or all of them.
-#[derive(Clone, Copy, PartialEq, Eq, Hash)]
+#[derive(Clone, Copy)]
 pub(crate) struct Selector<'a> {
     pub class: &'a [u8],
     pub segment: Option<&'a [u8]>,
@@ -98,34 +95,25 @@ pub(crate) fn selectors_of<'a, A: Allocator + Copy>(
     Ok(all)
 }
 
-/// What selects each part in its class, by its name or not.
-fn selectors_for<'a, A: Allocator + Copy>(
-    alloc: A,
-    parts: &[Part<'a>],
-    by_name: bool,
-) -> Result<Vec<Selector<'a>, A>, AllocError>
-    ensures { IfOk result (λ v. v.items ≡ map (held.selector_for by_name) parts.now) }
+/// Whether a part is one of those that are named.
+fn selects(selector: &Selector<'_>, part: &Part<'_>) -> bool
+    ensures { result ≡ keys.selects (part_view part.now) (selector_view selector.now) }
 {
-    let mut all = Vec::new(alloc);
-    for part in parts {
-        all.push(Selector {
-            class: part.class,
-            segment: if by_name { Some(part.name) } else { None },
-        })?;
+    if part.class != selector.class {
+        return false;
     }
-    Ok(all)
+    match selector.segment {
+        Some(name) => part.name == name,
+        None => true,
+    }
 }
 
-/// For each part the place of the first of these that selects it by its class, and its name or not; or their number.
-pub(crate) fn selector_places<'a, A: Allocator + Copy>(
-    alloc: A,
-    parts: &[Part<'a>],
-    by_name: bool,
-    selectors: &[Selector<'a>],
-) -> Result<Vec<usize, A>, AllocError>
-    ensures { IfOk result (λ v. v.items ≡
-        map (λ p. position_or_len (held.same_selector (held.selector_for by_name p)) selectors.now) parts.now) }
+/// The key of a part by a list: the place of the first of these that selects it, or their number where none does.
+pub(crate) fn listed_key(selectors: &[Selector<'_>], part: &Part<'_>) -> usize
+    ensures { result ≡ keys.key_by (map selector_view selectors.now) (part_view part.now) }
 {
-    let asked = selectors_for(alloc, parts, by_name)?;
-    first_places(alloc, &asked, selectors)
+    selectors
+        .iter()
+        .position(|selector| selects(selector, part))
+        .unwrap_or(selectors.len())
 }

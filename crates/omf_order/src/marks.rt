@@ -68,7 +68,7 @@ fn is_wanted<A: Allocator + Copy>(modules: &[Module<A>], names: Names, name: &[u
         if is_public(each, names, name) {
             return false;
         }
-        wanted = wanted || is_external(each, names, name);
+        wanted |= is_external(each, names, name);
     }
     wanted
 }

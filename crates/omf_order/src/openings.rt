@@ -89,7 +89,7 @@ fn combined_keys<'a, A: Allocator + Copy>(
 }
 
 /// For each segment, the place of the first of the others that is of its class, or their number.
-pub(crate) fn class_places<'a, A: Allocator + Copy>(
+fn class_places<'a, A: Allocator + Copy>(
     alloc: A,
     asked: &[Segment<'a>],
     segments: &[Segment<'a>],
@@ -103,7 +103,7 @@ pub(crate) fn class_places<'a, A: Allocator + Copy>(
 }
 
 /// For each segment, the place of the first of the others of its kind, name and class, or their number.
-pub(crate) fn combined_places<'a, A: Allocator + Copy>(
+fn combined_places<'a, A: Allocator + Copy>(
     alloc: A,
     asked: &[Segment<'a>],
     segments: &[Segment<'a>],
@@ -114,4 +114,26 @@ pub(crate) fn combined_places<'a, A: Allocator + Copy>(
     let asked_keys = combined_keys(alloc, asked)?;
     let keys = combined_keys(alloc, segments)?;
     first_places(alloc, &asked_keys, &keys)
+}
+
+/// Where the classes and the combined segments of some segments are first met among others.
+#[derive(Drop)]
+pub(crate) struct Met<A: Allocator + Copy> {
+    /// For each segment, the place of the first of its class, or the number of the others.
+    pub classes: Vec<usize, A>,
+    /// For each segment, the place of the first of its kind, name and class, or the number of the others.
+    pub combined: Vec<usize, A>,
+}
+
+/// Where the classes and the combined segments of some segments are first met among others.
+pub(crate) fn first_met<'a, A: Allocator + Copy>(
+    alloc: A,
+    asked: &[Segment<'a>],
+    segments: &[Segment<'a>],
+) -> Result<Met<A>, AllocError>
+    ensures { IfOk result (λ m. held.AreMet asked.now segments.now m.classes.items m.combined.items) }
+{
+    let classes = class_places(alloc, asked, segments)?;
+    let combined = combined_places(alloc, asked, segments)?;
+    Ok(Met { classes, combined })
 }

@@ -5,12 +5,12 @@ ghost use Rattle.omf_order.specs.Parts as part;
 ghost use Rattle.omf_order.specs.inside.Held as held;
 ghost use Rattle.omf_module.specs.Seen.{segment_seen};
 
-use crate::openings::{class_places, combined_places, kind_of};
+use crate::openings::{Met, first_met, kind_of};
 use omf_module::{Kind, Segment, Standing};
 use std::alloc::{AllocError, Allocator};
 
 /// A segment of the order module. Its length is 0.
-#[derive(Clone, Copy, Debug)]
+#[derive(Clone, Copy)]
 pub(crate) struct Part<'a> {
     pub name: &'a [u8],
     pub class: &'a [u8],
@@ -90,6 +90,37 @@ fn push_first<'a, A: Allocator + Copy>(
     Ok(())
 }
 
+/// The parts that stand for the placed segments of a program, by where these are first met among themselves and among
+/// those in DGROUP.
+fn parts_by<'a, A: Allocator + Copy>(
+    alloc: A,
+    placed: &[Segment<'a>],
+    grouped: &[Segment<'_>],
+    own: &Met<A>,
+    of_group: &Met<A>,
+) -> Result<Vec<Part<'a>, A>, AllocError>
+    requires own { held.AreMet placed.now placed.now own.now.classes.items own.now.combined.items }
+    requires of_group { held.AreMet placed.now grouped.now
+        of_group.now.classes.items of_group.now.combined.items }
+    ensures { IfOk result (λ v. held.parts_view v.items ≡
+        part.first_parts (held.segments_view placed.now) (held.segments_view grouped.now)) }
+{
+    let mut parts = Vec::new(alloc);
+    for (place, segment) in placed.iter().enumerate() {
+        let first = first_of(segment, own.classes[place], own.combined[place]);
+        let is_found = is_within(of_group.combined[place], grouped);
+        let class_in_group = is_within(of_group.classes[place], grouped);
+        push_first(
+            &mut parts,
+            segment,
+            first == place,
+            is_found,
+            class_in_group,
+        )?;
+    }
+    Ok(parts)
+}
+
 /// The parts that stand for the placed segments of a program, where these others are in DGROUP: one for the first of
 /// each combined segment, and one for each private segment that is the first of its class.
 pub(crate) fn first_parts<'a, A: Allocator + Copy>(
@@ -100,22 +131,7 @@ pub(crate) fn first_parts<'a, A: Allocator + Copy>(
     ensures { IfOk result (λ v. held.parts_view v.items ≡
         part.first_parts (held.segments_view placed.now) (held.segments_view grouped.now)) }
 {
-    let classes = class_places(alloc, placed, placed)?;
-    let combined = combined_places(alloc, placed, placed)?;
-    let grouped_classes = class_places(alloc, placed, grouped)?;
-    let grouped_combined = combined_places(alloc, placed, grouped)?;
-    let mut parts = Vec::new(alloc);
-    for (place, segment) in placed.iter().enumerate() {
-        let first = first_of(segment, classes[place], combined[place]);
-        let is_found = is_within(grouped_combined[place], grouped);
-        let class_in_group = is_within(grouped_classes[place], grouped);
-        push_first(
-            &mut parts,
-            segment,
-            first == place,
-            is_found,
-            class_in_group,
-        )?;
-    }
-    Ok(parts)
+    let own = first_met(alloc, placed, placed)?;
+    let of_group = first_met(alloc, placed, grouped)?;
+    parts_by(alloc, placed, grouped, &own, &of_group)
 }

@@ -1,15 +1,16 @@
 //! Which parts the order module has, in what order, and what names it defines.
 
-ghost use Rattle.std.specs.Prelude.{◌≡◌, ◌<◌, ◌≤◌, List, IfOk, IfSome, OnOk, length, position, true};
+ghost use Rattle.std.specs.Prelude.{◌≡◌, ◌+◌, ◌<◌, ◌≤◌, List, IfOk, IfSome, OnOk, length, map, position, true};
 ghost use Rattle.std.specs.List.{list_any};
 ghost use Rattle.omf_order.specs.Keys as keys;
 ghost use Rattle.omf_order.specs.Parts as part;
 ghost use Rattle.omf_order.specs.Plan as planned;
+ghost use Rattle.omf_order.specs.Segments.{grouped, placed};
 ghost use Rattle.omf_order.specs.inside.Held as held;
-ghost use Rattle.omf_order.specs.inside.Held.{names_view, part_view, parts_view, plan_view};
+ghost use Rattle.omf_order.specs.inside.Held.{names_view, part_view, parts_view, plan_view, selector_view};
 
 use crate::arranging::arranged;
-use crate::keys::{DOSSEG_KEYS, dosseg_key, selector_places, selectors_of};
+use crate::keys::{DOSSEG_KEYS, Selector, dosseg_key, listed_key, selectors_of};
 use crate::marks::wanted_names;
 use crate::order::{Item, Order};
 use crate::parts::{Part, first_parts};
@@ -95,6 +96,22 @@ fn in_dosseg_order<'a, A: Allocator + Copy>(
     arranged(alloc, &keyed, DOSSEG_KEYS)
 }
 
+/// The parts in order of the first that selects them, and behind them those that none does.
+fn by_selectors<'a, A: Allocator + Copy>(
+    alloc: A,
+    parts: &[Part<'a>],
+    selectors: &[Selector<'_>],
+) -> Result<Vec<Part<'a>, A>, AllocError>
+    ensures { IfOk result (λ v. parts_view v.items ≡
+        keys.arranged (keys.key_by (map selector_view selectors.now)) (length selectors.now + 1) (parts_view parts.now)) }
+{
+    let mut keyed = Vec::new(alloc);
+    for part in parts {
+        keyed.push((listed_key(selectors, part), *part))?;
+    }
+    arranged(alloc, &keyed, selectors.len() + 1)
+}
+
 /// The parts in the order of a list.
 fn in_listed_order<'a, A: Allocator + Copy>(
     alloc: A,
@@ -104,13 +121,7 @@ fn in_listed_order<'a, A: Allocator + Copy>(
     ensures { IfOk result (λ v. parts_view v.items ≡ keys.in_listed_order items.now (parts_view parts.now)) }
 {
     let selectors = selectors_of(alloc, items)?;
-    let named = selector_places(alloc, parts, true, &selectors)?;
-    let whole = selector_places(alloc, parts, false, &selectors)?;
-    let mut keyed = Vec::new(alloc);
-    for (place, part) in parts.iter().enumerate() {
-        keyed.push((named[place].min(whole[place]), *part))?;
-    }
-    arranged(alloc, &keyed, selectors.len() + 1)
+    by_selectors(alloc, parts, &selectors)
 }
 
 /// The parts in an order.
@@ -274,6 +285,18 @@ fn plan_of<'a, A: Allocator + Copy>(
     plan_with(ordered, adds_end, data_end, bss_end)
 }
 
+/// The parts that the segments of a program open.
+fn opened_parts<'a, A: Allocator + Copy>(
+    alloc: A,
+    modules: &'a [Module<A>],
+) -> Result<Vec<Part<'a>, A>, AllocError>
+    ensures { IfOk result (λ v. parts_view v.items ≡ part.first_parts (placed modules.now) (grouped modules.now)) }
+{
+    let placed = placed_segments(alloc, modules)?;
+    let grouped = grouped_segments(alloc, modules)?;
+    first_parts(alloc, &placed, &grouped)
+}
+
 /// The plan of an order module.
 pub(crate) fn make_plan<'a, A: Allocator + Copy>(
     alloc: A,
@@ -283,9 +306,7 @@ pub(crate) fn make_plan<'a, A: Allocator + Copy>(
 ) -> Result<Plan<'a, A>, AllocError>
     ensures { IfOk result (λ p. plan_view p ≡ planned.plan order.entry names modules.now) }
 {
-    let placed = placed_segments(alloc, modules)?;
-    let grouped = grouped_segments(alloc, modules)?;
-    let first = first_parts(alloc, &placed, &grouped)?;
+    let first = opened_parts(alloc, modules)?;
     let data_end = wanted_names(alloc, modules, names, b"_edata", b"__edata")?;
     let bss_end = wanted_names(alloc, modules, names, b"_end", b"__end")?;
     plan_of(alloc, order, first, data_end, bss_end)

@@ -1,7 +1,7 @@
 -- What the code holds, as values.
-use Rattle.std.specs.Prelude.{ℕ, Bool, true, false, not, ◌==◌, ◌&&◌, ◌||◌, List, [], filter, map, Option, None, Some, Vec, if◌then◌else◌}
+use Rattle.std.specs.Prelude.{◌≡◌, ℕ, Bool, true, false, not, ◌==◌, ◌&&◌, ◌||◌, List, filter, length, map, Option}
 use Rattle.std.specs.Str.{bytes_eq}
-use Rattle.std.specs.List.{flat_map}
+use Rattle.std.specs.List.{position_or_len}
 use Rattle.std.specs.Option.{option_map}
 use Rattle.std.specs.Borrow.{Bor}
 use Rattle.omf_module.specs.declared.Kind.{Kind}
@@ -68,6 +68,13 @@ abbrev pub same_key : says.Segment → says.Segment → Bool
 same_key a b = same_joining (joining (kind_of a.standing)) (joining (kind_of b.standing))
     && (bytes_eq a.name b.name && same_class a b)
 
+-- the places at which the class, and the kind with name and class, of some segments are first met among others
+pub record AreMet (asked among : List Segment) (classes combined : List ℕ) : Type 0 where
+  pub by_class : classes ≡ map (λ s. position_or_len (same_class s) (segments_view among)) (segments_view asked)
+  pub by_key : combined ≡ map (λ s. position_or_len (same_key s) (segments_view among)) (segments_view asked)
+  pub class_count : length classes ≡ length asked
+  pub key_count : length combined ≡ length asked
+
 -- the part that stands for a segment whose kind, name and class one in DGROUP has, or not
 abbrev pub part_with : says.Segment → (is_found class_in_group : Bool) → Part
 part_with s is_found class_in_group = record {
@@ -87,21 +94,6 @@ is_found in_group class p = (p.in_group || not in_group) && bytes_eq p.class cla
 abbrev pub name_view : Option (Bor (List ℕ)) → Option (List ℕ)
 name_view o = option_map (λ n. n.now) o
 
--- what selects a part by its class, and its name or not
-abbrev pub selector_for : (by_name : Bool) → part.Part → held.Selector
-selector_for by_name p = record { class = p.class; segment = if by_name then Some p.name else None }
-
--- two names that may be there are one
-abbrev pub same_name : Option (Bor (List ℕ)) → Option (Bor (List ℕ)) → Bool
-same_name None None = true
-same_name None (Some m) = false
-same_name (Some n) None = false
-same_name (Some n) (Some m) = bytes_eq n.now m.now
-
--- two selectors are one
-abbrev pub same_selector : held.Selector → held.Selector → Bool
-same_selector s t = bytes_eq s.class.now t.class.now && same_name s.segment t.segment
-
 -- what a list selects
 abbrev pub selector_view : held.Selector → Selector
 selector_view s = record { class = s.class.now; segment = option_map (λ n. n.now) s.segment }
@@ -117,18 +109,6 @@ plan_view p = record {
   data_end = mark_view p.data_end;
   bss_end = mark_view p.bss_end;
 }
-
--- lists
-abbrev pub lists_view : {T A : Type 0} → List (Vec T A) → List (List T)
-lists_view vs = map (λ v. v.items) vs
-
--- none
-abbrev pub no_items : {T : Type 0} → List T
-no_items = []
-
--- their items, joined
-abbrev pub joined : {T A : Type 0} → List (Vec T A) → List T
-joined vs = flat_map (λ v. v.items) vs
 
 -- the items of a key
 abbrev pub of_key : {T : Type 0} → List (ℕ × T) → ℕ → List T

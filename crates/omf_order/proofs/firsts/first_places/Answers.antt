@@ -1,8 +1,10 @@
-use Rattle.std.proofs.Common.{◌≡◌, ◌∙◌, ℕ, Option, ap, arith, length, ◌+◌, unwrap_or}
+use Rattle.std.proofs.Common.{◌≡◌, ◌∙◌, ℕ, Option, ap, arith, length, map, ◌+◌, unwrap_or}
+use Rattle.std.specs.Map.{lookup}
 use Rattle.std.specs.List.{position_or_len}
 use Rattle.indexmap.specs.IndexMap.{get}
 use Rattle.omf_place.proofs.FirstMet.{map-turn, met-turn, place_from}
-use Rattle.omf_order.proofs.Lists.{place_is, take_all}
+use Rattle.std.proofs.lemmas.List.{take_all}
+use Rattle.omf_order.proofs.Lists.{place_is}
 use Rattle.omf_order.proofs.firsts.first_places.Goals as goal
 
 pub loop-place-preserved : goal.loop-place-preserved
@@ -28,3 +30,16 @@ loop-key-preserved g c =
     c.in_ok-push.ensures.items
     ∙ map-turn (λ x. position_or_len (eq x) keys) c.args.asked.now c.loop-key.key-index k c.loop-key.places.items
     c.place_of-place.result c.loop-key-test.true c.key-item.is c.loop-key.invariant place
+
+pub loop-place-init : goal.loop-place-init
+loop-place-init g c = let eq = g.K.PartialEq.eq in λ q. ap (λ es. lookup (eq q) es) c.new-met.ensures.empty
+
+pub loop-key-init : goal.loop-key-init
+loop-key-init g c = c.new-places.ensures.items
+
+pub returns : goal.returns
+returns g c =
+    let eq = g.K.PartialEq.eq in
+    let keys = c.args.keys.now in
+    c.loop-key.invariant
+    ∙ ap (map (λ k. position_or_len (eq k) keys)) (take_all c.loop-key.key-index c.args.asked.now (omega arith))

@@ -1,21 +1,10 @@
-use Rattle.std.proofs.Common.{◌<◌, ◌∙◌, ap, map, subst, sym, arith}
-use Rattle.std.specs.List.{AllByRecursion}
+use Rattle.std.proofs.Common.{◌∙◌, ap, map, arith}
 use Rattle.omf_place.proofs.Results.{IfOk-map}
 use Rattle.omf_order.specs.Keys.{arranged, dosseg_key}
 use Rattle.omf_order.specs.inside.Held.{part_view, parts_view}
-use Rattle.omf_order.proofs.ByKey.{arranged_view, keyed, keyed_below}
-use Rattle.omf_order.proofs.Dosseg.{dosseg_small}
-use Rattle.omf_order.proofs.Lists.{take_all}
+use Rattle.omf_order.proofs.ByKey.{arranged_view, keyed}
+use Rattle.std.proofs.lemmas.List.{take_all}
 use Rattle.omf_order.proofs.planning.in_dosseg_order.Goals as goal
-
-pub arranged-requires : goal.arranged-requires
-arranged-requires g c =
-    let key = dosseg_key c.args.adds_bss in
-    subst (AllByRecursion (λ p. p.0 < 6))
-    (sym
-    (c.deref.ensures.value ∙ c.loop-part.invariant
-    ∙ ap (keyed part_view key) (take_all c.loop-part.part-index c.args.parts.now (omega arith))))
-    (keyed_below part_view key 6 c.args.parts.now (λ x. dosseg_small c.args.adds_bss (part_view x)))
 
 pub returns : goal.returns
 returns g c =

@@ -2,7 +2,7 @@ use Rattle.std.proofs.Common.{◌≡◌, map, filter, take}
 use Rattle.std.specs.List.{enumerate_from}
 use Rattle.omf_order.specs.Parts.{opens, part_of}
 use Rattle.omf_order.specs.inside.Held.{parts_view, segments_view}
-use Rattle.omf_order.proofs.parts.first_parts.Given as goal
+use Rattle.omf_order.proofs.parts.parts_by.Given as goal
 
 abbrev pub invariant-loop-place : goal.invariant-loop-place
 invariant-loop-place g l =

@@ -1,9 +1,0 @@
-use Rattle.std.proofs.Common.{◌≡◌, map, take}
-use Rattle.omf_order.specs.Keys.{key_by}
-use Rattle.omf_order.specs.inside.Held.{part_view, selector_view}
-use Rattle.omf_order.proofs.ByKey.{keyed}
-use Rattle.omf_order.proofs.planning.in_listed_order.Given as goal
-
-abbrev pub invariant-loop-place : goal.invariant-loop-place
-invariant-loop-place g l =
-    l.keyed.items ≡ keyed part_view (key_by (map selector_view l.selectors.items)) (take l.place l.parts)
