@@ -20,8 +20,8 @@ use Rattle.omf_search.specs.declared.key.Key.TheVariants.{AsciiFolded}
 use Rattle.omf_search.specs.declared.likeness.Whose.TheVariants as whose
 use Rattle.omf_search.specs.declared.likeness.Offered as held
 use Rattle.omf_search.specs.inside.Keys.{same_key}
-use Rattle.omf_search.specs.inside.Likeness.{behind, is_behind, lesser, place_from}
-use Rattle.omf_search.specs.Likeness.{Offered, first_like, is_like, offered_names, offered_of}
+use Rattle.omf_search.specs.inside.Likeness.{behind, is_behind, lesser, like_among, place_from}
+use Rattle.omf_search.specs.Likeness.{Offered, is_like, offered_names, offered_of}
 use Rattle.omf_search.specs.declared.said.Member as held_member
 use Rattle.omf_search.specs.declared.said.Said as held_said
 use Rattle.omf_search.specs.Results.{bytes_of, member_said, module_said, offered_said}
@@ -281,21 +281,19 @@ item-copied xs i None e m = sym (slice_get_past xs i m)
 item-copied xs i (Some x) e m = sym (slice_get_read xs (length xs) i x.now refl m.0 e)
 
 -- one more name that is asked for
-pub like-turn : (ms : List Module) (bs : List Member) (asked : List (Bor (List ℕ))) (i : ℕ) (d : Bor (List ℕ))
-    (old : List (Option held.Offered)) (like : Option held.Offered) (offered : List held.Offered) → i < length asked →
-    map offered_said offered ≡ offered_names ms bs →
-    map (option_map offered_said) old ≡ map (first_like ms bs) (bytes_of (take i asked)) →
-    option_map offered_said like ≡ find (λ o. is_like (get_or asked i d).now o.name) (map offered_said offered) →
-    map (option_map offered_said) (old ++ like ∷ []) ≡ map (first_like ms bs) (bytes_of (take (i + 1) asked))
-like-turn ms bs asked i d old like offered h all was is =
+pub like-turn : (os : List Offered) (asked : List (Bor (List ℕ))) (i : ℕ) (d : Bor (List ℕ))
+    (old : List (Option held.Offered)) (like : Option held.Offered) → i < length asked →
+    map (option_map offered_said) old ≡ map (like_among os) (bytes_of (take i asked)) →
+    option_map offered_said like ≡ like_among os (get_or asked i d).now →
+    map (option_map offered_said) (old ++ like ∷ []) ≡ map (like_among os) (bytes_of (take (i + 1) asked))
+like-turn os asked i d old like h was is =
     let n = get_or asked i d in
     let more : bytes_of (take (i + 1) asked) ≡ bytes_of (take i asked) ++ n.now ∷ [] =
     map_more (λ b. b.now) asked i d h in
     map-append (option_map offered_said) old (like ∷ [])
-    ∙ ap (λ os. os ++ option_map offered_said like ∷ []) was
-    ∙ ap (λ o. map (first_like ms bs) (bytes_of (take i asked)) ++ o ∷ [])
-    (is ∙ ap (λ os. find (λ o. is_like n.now o.name) os) all)
-    ∙ sym (ap (map (first_like ms bs)) more ∙ map-append (first_like ms bs) (bytes_of (take i asked)) (n.now ∷ []))
+    ∙ ap (λ ls. ls ++ option_map offered_said like ∷ []) was
+    ∙ ap (λ o. map (like_among os) (bytes_of (take i asked)) ++ o ∷ []) is
+    ∙ sym (ap (map (like_among os)) more ∙ map-append (like_among os) (bytes_of (take i asked)) (n.now ∷ []))
 
 -- what all modules offer
 pub modules_all : (modules : List held_said.Said) (i : ℕ) (os : List Offered) → length modules ≤ i →

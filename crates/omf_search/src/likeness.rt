@@ -4,7 +4,7 @@ ghost use Rattle.std.specs.Prelude.{◌≡◌, ◌++◌, ℕ, List, Some, None, 
 ghost use Rattle.std.specs.Prelude.{option_copied};
 ghost use Rattle.std.specs.Borrow.{Bor};
 ghost use Rattle.std.specs.Option.{option_map, option_or};
-ghost use Rattle.omf_search.specs.inside.Likeness.{IsIndex, behind, is_behind, place_from, place_of};
+ghost use Rattle.omf_search.specs.inside.Likeness.{IsIndex, behind, is_behind, like_among, place_from, place_of};
 ghost use Rattle.omf_search.specs.inside.Likeness.{lesser as lesser_place};
 ghost use Rattle.omf_search.specs.Likeness.{first_like, is_like, offered_names as all_offered};
 ghost use Rattle.omf_search.specs.Likeness as like;
@@ -153,6 +153,24 @@ fn like_of<'a, A: Allocator + Copy>(
     }
 }
 
+/// For each of some names, the first offered one that is like it.
+fn likes_among<'a, A: Allocator + Copy>(
+    alloc: A,
+    places: &Places<'a, A>,
+    offered: &[Offered<'a>],
+    asked: &[&'a [u8]],
+) -> Result<Vec<Option<Offered<'a>>, A>, AllocError>
+    requires { IsIndex (map offered_said offered.now) places.now }
+    ensures { IfOk result (λ v. map (option_map offered_said) v.items ≡
+        map (like_among (map offered_said offered.now)) (bytes_of asked.now)) }
+{
+    let mut likes = Vec::new(alloc);
+    for name in asked {
+        likes.push(like_of(places, offered, name))?;
+    }
+    Ok(likes)
+}
+
 /// For each of some names, the first that modules or members of libraries offer, in this order, which differs from it
 /// in case and in an underscore in front at most.
 pub fn likes<'a, A: Allocator + Copy>(
@@ -166,9 +184,5 @@ pub fn likes<'a, A: Allocator + Copy>(
 {
     let offered = offered_names(alloc, modules, members)?;
     let places = index_likeness(alloc, &offered)?;
-    let mut likes = Vec::new(alloc);
-    for name in asked {
-        likes.push(like_of(&places, &offered, name))?;
-    }
-    Ok(likes)
+    likes_among(alloc, &places, &offered, asked)
 }

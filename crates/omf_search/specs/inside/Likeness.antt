@@ -1,5 +1,5 @@
 -- Where offered names that are like others stand.
-use Rattle.std.specs.Prelude.{◌≡◌, ℕ, ◌+◌, Bool, ◌==◌, ◌||◌, List, [], ◌∷◌, Option, Some, None, if◌then◌else◌, min}
+use Rattle.std.specs.Prelude.{◌≡◌, ℕ, ◌+◌, Bool, ◌==◌, ◌||◌, List, [], ◌∷◌, Option, Some, None, if◌then◌else◌, find, min}
 use Rattle.std.specs.Borrow.{Bor}
 use Rattle.std.specs.declared.hash.FoldHasher.{FoldHasher}
 use Rattle.std.specs.declared.hash.BuildHasherDefault.{BuildHasherDefault}
@@ -9,7 +9,7 @@ use Rattle.omf_place.specs.declared.names.Names.TheVariants as by
 use Rattle.omf_search.specs.declared.key.Key.{Key}
 use Rattle.omf_search.specs.declared.key.Key.TheVariants.{AsciiFolded}
 use Rattle.omf_search.specs.inside.Keys.{same_key}
-use Rattle.omf_search.specs.Likeness.{Offered}
+use Rattle.omf_search.specs.Likeness.{Offered, is_like}
 
 -- what stands behind the underscore in front, if there is one
 abbrev pub behind : List ℕ → Option (List ℕ)
@@ -38,3 +38,7 @@ abbrev pub lesser : Option ℕ → Option ℕ → Option ℕ
 lesser None o = o
 lesser (Some m) None = Some m
 lesser (Some m) (Some n) = Some (min m n)
+
+-- the first of these that is like a name
+abbrev pub like_among : List Offered → List ℕ → Option Offered
+like_among os name = find (λ o. is_like name o.name) os

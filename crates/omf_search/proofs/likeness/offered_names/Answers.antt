@@ -1,5 +1,7 @@
-use Rattle.std.proofs.Common.{map}
-use Rattle.omf_search.specs.Results.{module_said, offered_said}
+use Rattle.std.proofs.Common.{◌∙◌, ap, arith, map}
+use Rattle.std.proofs.lemmas.List.{take_all}
+use Rattle.omf_search.specs.Likeness.{offered_names}
+use Rattle.omf_search.specs.Results.{member_said, module_said, offered_said}
 use Rattle.omf_search.proofs.LikeSteps.{member-turn, module-turn, modules_all}
 use Rattle.omf_search.proofs.likeness.offered_names.Goals as goal
 
@@ -19,3 +21,12 @@ loop-member-preserved g c =
     member-turn (map module_said c.args.modules.now) c.args.members.now c.loop-member.member-index _
     (map offered_said c.loop-member.offered.items) (map offered_said c.push_offered-in-loop-member.new.offered.items)
     c.loop-member-test.true c.loop-member.invariant c.in_ok-push_offered-2.ensures
+
+pub loop-index-init : goal.loop-index-init
+loop-index-init g c = ap (map offered_said) c.new-offered.ensures.items
+
+pub returns : goal.returns
+returns g c =
+    c.loop-member.invariant
+    ∙ ap (λ bs. offered_names (map module_said c.args.modules.now) (map member_said bs))
+    (take_all c.loop-member.member-index c.args.members.now (omega arith))
