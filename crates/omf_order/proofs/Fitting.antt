@@ -16,7 +16,8 @@ use Rattle.omf_order.specs.Segments.{placed, placed_in, grouped}
 use Rattle.omf_order.specs.Parts.{Part, first_parts, opens, part_of}
 use Rattle.omf_order.specs.Marks.{bss_end_names, data_end_names, is_wanted, wanted}
 use Rattle.omf_order.specs.Keys.{arranged, dosseg_key, in_order, key_by, selectors}
-use Rattle.omf_order.specs.Plan.{adds_bss, adds_end, behind_bss, bss_end_part, data_end_part, is_of, new_part, plan, plan_of}
+use Rattle.omf_order.specs.Plan.{adds_bss, adds_end, behind_bss, bss_end_part, data_end_part, is_of, new_part, plan}
+use Rattle.omf_order.specs.Plan.{plan_of}
 use Rattle.omf_order.specs.Plan.{with_bss, with_end}
 use Rattle.omf_order.specs.inside.Fits.{Fits, IsShortPart}
 use Rattle.omf_write.specs.inside.Fits.{IsName}
@@ -67,7 +68,8 @@ module _ (P : Segment → Type 0) where
   All-numbered n [] h = tt
   All-numbered n (s ∷ ss) h = (h.0, All-numbered (n + 1) ss h.1)
 
-module _ (P : Segment → Type 0) (Q : Part → Type 0) (g : List Segment) (made : (s : Segment) → P s → Q (part_of g s)) where
+module _ (P : Segment → Type 0) (Q : Part → Type 0) (g : List Segment)
+    (made : (s : Segment) → P s → Q (part_of g s)) where
   All-made : (ps : List (ℕ × Segment)) → AllByRecursion (λ (p : ℕ × Segment). P p.1) ps
       → AllByRecursion Q (map (λ (p : ℕ × Segment). part_of g p.1) ps)
   All-made [] h = tt

@@ -1,6 +1,7 @@
 -- Lists, one element more at a time.
 use Rattle.std.proofs.Common.{◌≡◌, ℕ, zero, suc, ◌+◌, ◌<◌, ◌≤◌, Bool, true, false, cond, not, ◌&&◌, ◌||◌, All, List, []}
-use Rattle.std.proofs.Common.{◌∷◌, ◌++◌, length, take, drop, insert, map, filter, get_or, unwrap_or, Option, Some, slice_get}
+use Rattle.std.proofs.Common.{◌∷◌, ◌++◌, length, take, drop, insert, map, filter, get_or, unwrap_or, Option, Some}
+use Rattle.std.proofs.Common.{slice_get}
 use Rattle.std.proofs.Common.{refl, ap, sym, ◌∙◌, arith, add-one, append-nil, append_assoc}
 use Rattle.std.proofs.lemmas.List.{map-append, take_all, take_more}
 use Rattle.std.proofs.lemmas.List.Elements.{filter-append, filter_map-append}

@@ -18,10 +18,12 @@ loop-each-preserved g c =
     let each = c.each-item.result in
     record {
       publics =
-          any_turn P ms i each c.loop-each-test.true c.each-item.is ∙ ap (λ b. b || P each) c.loop-each.invariant.publics
+          any_turn P ms i each c.loop-each-test.true c.each-item.is
+          ∙ ap (λ b. b || P each) c.loop-each.invariant.publics
           ∙ sym c.is_public.ensures ∙ c.if-is_public.false;
       externals =
-          ap (λ b. c.loop-each.wanted || b) c.is_external-wanted.ensures ∙ ap (λ b. b || E each) c.loop-each.invariant.externals
+          ap (λ b. c.loop-each.wanted || b) c.is_external-wanted.ensures
+          ∙ ap (λ b. b || E each) c.loop-each.invariant.externals
           ∙ sym (any_turn E ms i each c.loop-each-test.true c.each-item.is);
     }
 
