@@ -11,18 +11,18 @@ use Rattle.omf_library.specs.Said.{bytes_said}
 use Rattle.omf_library.specs.Entries.{entries_up_to, entries, listed_name}
 use Rattle.omf_library.specs.Names.{texts}
 
--- names behind which those of the entries that are left make all of them
-pub record EntriesLeft {A : Type 0} (front : List ℕ → Option (A × List ℕ)) (names_of : List A → List (List ℕ))
-    (bytes rest : List ℕ) (old now : List (List ℕ)) : Type 0 where
+-- what is told, behind which what the entries that are left give makes all that the entries give
+pub record EntriesLeft {A B : Type 0} (front : List ℕ → Option (A × List ℕ)) (told_of : List A → List B)
+    (bytes rest : List ℕ) (old now : List B) : Type 0 where
   pub most : ℕ
   pub enough : length rest ≤ most
-  pub all : now ++ names_of (entries_up_to most front rest) ≡ old ++ names_of (entries front bytes)
+  pub all : now ++ told_of (entries_up_to most front rest) ≡ old ++ told_of (entries front bytes)
 
-pub left_first : {A : Type 0} (front : List ℕ → Option (A × List ℕ)) (names_of : List A → List (List ℕ))
-    (bytes : List ℕ) (old : List (List ℕ))
-    → EntriesLeft front names_of bytes bytes old old
+pub left_first : {A B : Type 0} (front : List ℕ → Option (A × List ℕ)) (told_of : List A → List B)
+    (bytes : List ℕ) (old : List B)
+    → EntriesLeft front told_of bytes bytes old old
 unfolding entries
-left_first front names_of bytes old = record { most = length bytes; enough = le_refl _; all = refl }
+left_first front told_of bytes old = record { most = length bytes; enough = le_refl _; all = refl }
 
 entries-more : {A : Type 0} (front : List ℕ → Option (A × List ℕ)) (most : ℕ) (rest after : List ℕ) (x : A)
     → front rest ≡ Some (x, after)
@@ -34,39 +34,39 @@ entries-none : {A : Type 0} (front : List ℕ → Option (A × List ℕ)) (most 
 entries-none front zero rest e = refl
 entries-none front (suc most) rest e = ap (λ o. option_map_or (λ (y, r). y ∷ entries_up_to most front r) o []) e
 
-left_next : {A : Type 0} (front : List ℕ → Option (A × List ℕ)) (names_of : List A → List (List ℕ))
-    (bytes rest after : List ℕ) (old now : List (List ℕ)) (x : A) (ys : List (List ℕ))
+left_next : {A B : Type 0} (front : List ℕ → Option (A × List ℕ)) (told_of : List A → List B)
+    (bytes rest after : List ℕ) (old now : List B) (x : A) (ys : List B)
     → front rest ≡ Some (x, after) → length after < length rest
-    → ((xs : List A) → names_of (x ∷ xs) ≡ ys ++ names_of xs)
+    → ((xs : List A) → told_of (x ∷ xs) ≡ ys ++ told_of xs)
     → (most : ℕ) → length rest ≤ most
-    → now ++ names_of (entries_up_to most front rest) ≡ old ++ names_of (entries front bytes)
-    → EntriesLeft front names_of bytes after old (now ++ ys)
-left_next front names_of bytes rest after old now x ys e shorter more zero enough all = absurd (omega arith)
-left_next front names_of bytes rest after old now x ys e shorter more (suc most) enough all = record {
+    → now ++ told_of (entries_up_to most front rest) ≡ old ++ told_of (entries front bytes)
+    → EntriesLeft front told_of bytes after old (now ++ ys)
+left_next front told_of bytes rest after old now x ys e shorter more zero enough all = absurd (omega arith)
+left_next front told_of bytes rest after old now x ys e shorter more (suc most) enough all = record {
   most = most;
   enough = omega arith;
   all =
-      append_assoc now ys _ ∙ ap (λ l. now ++ l) (sym (ap names_of (entries-more front most rest after x e) ∙ more _))
+      append_assoc now ys _ ∙ ap (λ l. now ++ l) (sym (ap told_of (entries-more front most rest after x e) ∙ more _))
       ∙ all;
 }
 
--- one entry more, whose names are these
-pub left_more : {A : Type 0} (front : List ℕ → Option (A × List ℕ)) (names_of : List A → List (List ℕ))
-    (bytes rest after : List ℕ) (old now : List (List ℕ)) (x : A) (ys : List (List ℕ))
-    → EntriesLeft front names_of bytes rest old now
+-- one entry more, which gives these
+pub left_more : {A B : Type 0} (front : List ℕ → Option (A × List ℕ)) (told_of : List A → List B)
+    (bytes rest after : List ℕ) (old now : List B) (x : A) (ys : List B)
+    → EntriesLeft front told_of bytes rest old now
     → front rest ≡ Some (x, after) → length after < length rest
-    → ((xs : List A) → names_of (x ∷ xs) ≡ ys ++ names_of xs)
-    → EntriesLeft front names_of bytes after old (now ++ ys)
-left_more front names_of bytes rest after old now x ys left e shorter more =
-    left_next front names_of bytes rest after old now x ys e shorter more left.most left.enough left.all
+    → ((xs : List A) → told_of (x ∷ xs) ≡ ys ++ told_of xs)
+    → EntriesLeft front told_of bytes after old (now ++ ys)
+left_more front told_of bytes rest after old now x ys left e shorter more =
+    left_next front told_of bytes rest after old now x ys e shorter more left.most left.enough left.all
 
 -- no entry is left
-pub left_none : {A : Type 0} (front : List ℕ → Option (A × List ℕ)) (names_of : List A → List (List ℕ))
-    (bytes rest : List ℕ) (old now : List (List ℕ))
-    → EntriesLeft front names_of bytes rest old now → front rest ≡ None → names_of [] ≡ []
-    → now ≡ old ++ names_of (entries front bytes)
-left_none front names_of bytes rest old now left e empty =
-    sym (append-nil now) ∙ ap (λ l. now ++ l) (sym (ap names_of (entries-none front left.most rest e) ∙ empty))
+pub left_none : {A B : Type 0} (front : List ℕ → Option (A × List ℕ)) (told_of : List A → List B)
+    (bytes rest : List ℕ) (old now : List B)
+    → EntriesLeft front told_of bytes rest old now → front rest ≡ None → told_of [] ≡ []
+    → now ≡ old ++ told_of (entries front bytes)
+left_none front told_of bytes rest old now left e empty =
+    sym (append-nil now) ∙ ap (λ l. now ++ l) (sym (ap told_of (entries-none front left.most rest e) ∙ empty))
     ∙ left.all
 
 -- names and one more
@@ -74,14 +74,14 @@ pub texts-push : (names : List (Bor (List ℕ))) (name : Bor (List ℕ))
     → texts (names ++ name ∷ []) ≡ texts names ++ name.now ∷ []
 texts-push names name = map-append (λ (x : Bor (List ℕ)). x.now) names (name ∷ [])
 
--- one entry more, that has no name
-pub left_skip : {A : Type 0} (front : List ℕ → Option (A × List ℕ)) (names_of : List A → List (List ℕ))
-    (bytes rest after : List ℕ) (old now : List (List ℕ)) (x : A)
-    → EntriesLeft front names_of bytes rest old now
-    → front rest ≡ Some (x, after) → length after < length rest → ((xs : List A) → names_of (x ∷ xs) ≡ names_of xs)
-    → EntriesLeft front names_of bytes after old now
-left_skip front names_of bytes rest after old now x left e shorter same =
-    let more = left_more front names_of bytes rest after old now x [] left e shorter same in
+-- one entry more, which gives nothing
+pub left_skip : {A B : Type 0} (front : List ℕ → Option (A × List ℕ)) (told_of : List A → List B)
+    (bytes rest after : List ℕ) (old now : List B) (x : A)
+    → EntriesLeft front told_of bytes rest old now
+    → front rest ≡ Some (x, after) → length after < length rest → ((xs : List A) → told_of (x ∷ xs) ≡ told_of xs)
+    → EntriesLeft front told_of bytes after old now
+left_skip front told_of bytes rest after old now x left e shorter same =
+    let more = left_more front told_of bytes rest after old now x [] left e shorter same in
     rw append-nil at more
 
 -- ---- the name of an index

@@ -1,0 +1,4 @@
+pub mod Reading
+pub mod Meaning
+pub mod Said
+pub mod inside
