@@ -1,6 +1,6 @@
 //! Each growth refused in turn.
 
-use crate::lowered::{PLAIN, told};
+use crate::lowered::{PLAIN, UNRENAMED, told};
 use refusing::Refusing;
 use rows::module_of;
 use std::test::*;
@@ -11,10 +11,10 @@ fn refused_growths(rt: HostRuntime) -> Result<(), Fail> {
     let alloc = rt.alloc();
     let lines = "80 01 41\n96 05 44 57 41 52 46\n98 28 02 00 01 01 01\nA0 01 00 00 11\n9C 40 01";
     let module = module_of(alloc, lines)?;
-    let wanted = told(alloc, alloc, &module, PLAIN)?;
+    let wanted = told(alloc, alloc, &module, PLAIN, &UNRENAMED)?;
     for number in 1..100u64 {
         let refusing = Refusing::nth(alloc, number);
-        let answer = told(&refusing, alloc, &module, PLAIN)?;
+        let answer = told(&refusing, alloc, &module, PLAIN, &UNRENAMED)?;
         if !refusing.has_refused() {
             assert_eq!(rt; answer.as_str(), wanted.as_str());
             break;

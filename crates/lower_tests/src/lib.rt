@@ -16,4 +16,6 @@ mod narrow;
 #[cfg(test)]
 mod places;
 #[cfg(test)]
+mod renamed;
+#[cfg(test)]
 mod taken;

@@ -2,7 +2,9 @@
 //!
 //! A row of a table has two modules: one, and what it is lowered to. Of a row with one module, that module stays.
 
+use omf_alias::Renaming;
 use omf_lower::{Lowering, LoweringFault, lower};
+use omf_place::Names;
 use rows::{bytes_of, read_row};
 use std::alloc::{AllocError, Allocator, Global};
 use std::process::Abort;
@@ -12,6 +14,12 @@ use std::test::*;
 pub const PLAIN: Lowering = Lowering {
     keep_debug: false,
     shares_far_data: false,
+};
+
+/// Where no name means another one.
+pub const UNRENAMED: Renaming<'static, 'static> = Renaming {
+    names: Names::Exact,
+    aliases: &[],
 };
 
 /// Bytes in hexadecimal digits.
@@ -29,8 +37,9 @@ pub fn told<A: Allocator + Copy>(
     alloc: Global,
     module: &[u8],
     lowering: Lowering,
+    renaming: &Renaming<'_, '_>,
 ) -> Result<String, Fail> {
-    match lower(own, module, lowering) {
+    match lower(own, module, lowering, renaming) {
         Ok(None) => Ok(format!(in alloc; "same")?),
         Ok(Some(bytes)) => Ok(digits_of(alloc, &bytes)?),
         Err(fault) => Ok(format!(in alloc; "{fault}")?),
@@ -39,6 +48,17 @@ pub fn told<A: Allocator + Copy>(
 
 /// Whether each module of a table is lowered as its row says.
 pub fn run<R: Abort>(rt: &R, alloc: Global, lowering: Lowering, table: &str) -> Result<(), Fail> {
+    run_renamed(rt, alloc, lowering, &UNRENAMED, table)
+}
+
+/// The same where names mean others.
+pub fn run_renamed<R: Abort>(
+    rt: &R,
+    alloc: Global,
+    lowering: Lowering,
+    renaming: &Renaming<'_, '_>,
+    table: &str,
+) -> Result<(), Fail> {
     for text in table.split("\n\n") {
         let row = read_row(alloc, text)?;
         let wanted = match row.inputs.as_slice() {
@@ -53,7 +73,7 @@ pub fn run<R: Abort>(rt: &R, alloc: Global, lowering: Lowering, table: &str) -> 
             )?,
         };
         if let [module, ..] = row.inputs.as_slice() {
-            let answer = told(alloc, alloc, module, lowering)?;
+            let answer = told(alloc, alloc, module, lowering, renaming)?;
             assert_eq!(rt; answer.as_str(), wanted.as_str(), "{text}");
         }
     }

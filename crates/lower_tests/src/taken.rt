@@ -1,6 +1,6 @@
 //! Lowered modules are read as `omf` reads them.
 
-use crate::lowered::PLAIN;
+use crate::lowered::{PLAIN, UNRENAMED};
 use omf_lower::{Lowering, lower};
 use rows::{module_of, read_modules};
 use std::alloc::Global;
@@ -15,7 +15,7 @@ fn expect_read<R: Abort>(
     lines: &str,
 ) -> Result<(), Fail> {
     let module = module_of(alloc, lines)?;
-    let lowered = lower(alloc, &module, lowering)?.ok_or("it is the same")?;
+    let lowered = lower(alloc, &module, lowering, &UNRENAMED)?.ok_or("it is the same")?;
     let before = vec![in alloc; module]?;
     assert!(rt; read_modules(alloc, &before).is_err());
     let after = vec![in alloc; lowered]?;

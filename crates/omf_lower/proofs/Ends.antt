@@ -4,6 +4,7 @@ use Rattle.std.proofs.Common.{sym, subst, ◌++◌, ◌/◌, ◌%◌, [], ◌∷
 use Rattle.std.specs.declared.result.Result.{Result}
 use Rattle.std.proofs.lemmas.Bool.{eqb-true}
 use Rattle.std.proofs.lemmas.Bool.Decides.{nat_tests}
+use Rattle.omf_alias.specs.Meaning.{Renaming}
 use Rattle.omf_frame.specs.Frame.{Frame}
 use Rattle.omf_library.specs.Records.{ends_module}
 use Rattle.omf_lower.specs.declared.lowering.Lowering.{Lowering}
@@ -11,7 +12,7 @@ use Rattle.omf_lower.specs.declared.fault.Obstacle.{Obstacle}
 use Rattle.omf_library.specs.Entries.{behind_base}
 use Rattle.omf_library.specs.Fields.{index_front}
 use Rattle.omf_lower.specs.Fields.{◌>>=◌, field, before, narrow, entries, any_entry}
-use Rattle.omf_lower.specs.Externals.{communal_front, named_front}
+use Rattle.omf_lower.specs.Externals.{communal_front, renamed_communal_front, named_front, renamed_front, alias_front}
 use Rattle.omf_lower.specs.Narrow.{public_front, line_front, block_front}
 use Rattle.omf_lower.specs.Fixups.{Reference, reference_front, narrowed, subrecord_front}
 use Rattle.omf_lower.specs.Content.{Content, Recipe, with_tail, made, of_bytes, empty_comment}
@@ -20,7 +21,7 @@ use Rattle.omf_lower.specs.Segments.{made_public, with_names, short_size}
 use Rattle.omf_lower.specs.Data.{Data, is_data}
 use Rattle.omf_lower.specs.Seen.{Seen, is_of_kept_out}
 use Rattle.omf_lower.specs.Records.{listing, stays_or, for_segment, for_publics, for_lines, for_wide_data, for_data}
-use Rattle.omf_lower.specs.Records.{for_fixups, for_start, for_end, for_other, recipe_for, content_for}
+use Rattle.omf_lower.specs.Records.{for_fixups, for_start, for_end, for_externals, for_other, recipe_for, content_for}
 use Rattle.omf_lower.specs.Law.{content_of, written_or}
 
 choose : {X : Type 0} (P : X → Type 0) (b : Bool) (x y : X) → (b ≡ true → P x) → (b ≡ false → P y) → P (cond b x y)
@@ -152,22 +153,34 @@ lines-keep : (body : List ℕ) (o : Result (ℕ × List ℕ) Obstacle)
 lines-keep body (Ok group) = lines-segment body (field (index_front group.1))
 lines-keep body (Err x) = tt
 
-other-keeps : (names : List (List ℕ)) (kind : ℕ) (body : List ℕ) → Keeps kind (for_other names kind body)
-other-keeps names kind body =
+externals-keep : (renaming : Renaming) (body : List ℕ) → Keeps 0x8C (for_externals renaming body)
+externals-keep renaming body =
+    choose (Keeps 0x8C) (any_entry (alias_front renaming) body)
+    (listing 0x8C [] (entries (renamed_front renaming) body)) (Ok None) (λ _. refl) (λ _. tt)
+
+other-keeps : (renaming : Renaming) (names : List (List ℕ)) (kind : ℕ) (body : List ℕ)
+    → Keeps kind (for_other renaming names kind body)
+other-keeps renaming names kind body =
+    choose (Keeps kind) (eqb kind 0x8C) (for_externals renaming body) _
+    (λ e. at_kind kind 0x8C (for_externals renaming body) e (externals-keep renaming body))
+    (λ _.
+    choose (Keeps kind) (eqb kind 0xC6) (Ok (Some empty_comment)) _
+    (λ e. at_kind kind 0xC6 (Ok (Some empty_comment)) e refl)
+    (λ _.
     choose (Keeps kind) (eqb kind 0x82) (Ok (Some (of_bytes 0x80 body))) _
     (λ e. at_kind kind 0x82 (Ok (Some (of_bytes 0x80 body))) e refl)
     (λ _.
     choose (Keeps kind) (eqb kind 0xCA) (Ok (Some (of_bytes 0x96 body))) _
     (λ e. at_kind kind 0xCA (Ok (Some (of_bytes 0x96 body))) e refl)
     (λ _.
-    choose (Keeps kind) (eqb kind 0xB0) (listing 0x8C [] (entries communal_front body)) _
-    (λ e. at_kind kind 0xB0 (listing 0x8C [] (entries communal_front body)) e refl)
+    choose (Keeps kind) (eqb kind 0xB0) (listing 0x8C [] (entries (renamed_communal_front renaming) body)) _
+    (λ e. at_kind kind 0xB0 (listing 0x8C [] (entries (renamed_communal_front renaming) body)) e refl)
     (λ _.
     choose (Keeps kind) (eqb kind 0xB8) (listing 0xB4 [] (entries communal_front body)) _
     (λ e. at_kind kind 0xB8 (listing 0xB4 [] (entries communal_front body)) e refl)
     (λ _.
-    choose (Keeps kind) (eqb kind 0xBC) (listing 0x8C [] (entries (named_front names) body)) _
-    (λ e. at_kind kind 0xBC (listing 0x8C [] (entries (named_front names) body)) e refl)
+    choose (Keeps kind) (eqb kind 0xBC) (listing 0x8C [] (entries (named_front renaming names) body)) _
+    (λ e. at_kind kind 0xBC (listing 0x8C [] (entries (named_front renaming names) body)) e refl)
     (λ _.
     choose (Keeps kind) (eqb kind 0x91) (for_publics 0x90 body) _
     (λ e. at_kind kind 0x91 (for_publics 0x90 body) e (publics-keep 0x90 0x91 body (field (behind_base body)) refl))
@@ -180,7 +193,7 @@ other-keeps names kind body =
     (λ _.
     choose (Keeps kind) (eqb kind 0x8B) (for_end body) (Ok None)
     (λ e. at_kind kind 0x8B (for_end body) e (end-keeps body))
-    (λ _. tt)))))))))
+    (λ _. tt)))))))))))
 
 recipe-keeps : (lowering : Lowering) (seen : Seen) (f : Frame) → Keeps f.kind (recipe_for lowering seen f)
 unfolding recipe_for
@@ -203,11 +216,11 @@ recipe-keeps lowering seen f =
     (fixups-keep seen.dropped seen.last 2 0x9C f.body refl))
     (λ _.
     choose (Keeps f.kind) (eqb f.kind 0x9D) (for_fixups seen.dropped seen.last 4 0x9D f.body)
-    (for_other seen.names f.kind f.body)
+    (for_other seen.renaming seen.names f.kind f.body)
     (λ e.
     at_kind f.kind 0x9D (for_fixups seen.dropped seen.last 4 0x9D f.body) e
     (fixups-keep seen.dropped seen.last 4 0x9D f.body refl))
-    (λ _. other-keeps seen.names f.kind f.body)))))
+    (λ _. other-keeps seen.renaming seen.names f.kind f.body)))))
 
 pub same_end : (lowering : Lowering) (seen : Seen) (f : Frame)
     → ends_module (written_or (content_of f) (content_for lowering seen f)).kind ≡ ends_module f.kind

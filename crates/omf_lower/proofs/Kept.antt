@@ -260,8 +260,9 @@ reads-all (suc most) lowering file = λ most' place number seen front tail enoug
 
 pub keeps_records : KeepsRecords
 unfolding lowered module_records
-keeps_records lowering file bytes made =
-    reads-all (length file) lowering file (length bytes) 0 0 nothing_seen [] bytes (omega arith) (omega arith) made
+keeps_records lowering renaming file bytes made =
+    reads-all (length file) lowering file (length bytes) 0 0 (nothing_seen renaming) [] bytes (omega arith)
+    (omega arith) made
 
 length-contents : (lowering : Lowering) (seen : Seen) (fs : List Frame)
     → length (lowered_contents lowering seen fs) ≡ length fs
@@ -269,6 +270,6 @@ length-contents lowering seen [] = refl
 length-contents lowering seen (f ∷ fs) = ap suc (length-contents lowering (seen_after lowering seen f) fs)
 
 pub keeps_count : KeepsCount
-keeps_count lowering file bytes made =
-    sym (length-map (module_records bytes 0) content_of) ∙ ap length (keeps_records lowering file bytes made)
-    ∙ length-contents lowering nothing_seen (module_records file 0)
+keeps_count lowering renaming file bytes made =
+    sym (length-map (module_records bytes 0) content_of) ∙ ap length (keeps_records lowering renaming file bytes made)
+    ∙ length-contents lowering (nothing_seen renaming) (module_records file 0)

@@ -7,3 +7,4 @@ pub mod Ends
 pub mod Kept
 pub mod Others
 pub mod Searched
+pub mod Renamed

@@ -13,7 +13,7 @@ second false x y e = refl
 
 pub other-recipe : (lowering : Lowering) (seen : Seen) (f : Frame) → is_data f.kind ≡ false → f.kind ≢ 0x98
     → f.kind ≢ 0x99 → f.kind ≢ 0x9C → f.kind ≢ 0x9D
-    → recipe_for lowering seen f ≡ for_other seen.names f.kind f.body
+    → recipe_for lowering seen f ≡ for_other seen.renaming seen.names f.kind f.body
 unfolding recipe_for
 other-recipe lowering seen f other a b c d =
     second (is_data f.kind) _ _ other

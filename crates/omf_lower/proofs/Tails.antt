@@ -6,8 +6,8 @@ use Rattle.std.proofs.lemmas.List.{append-nil}
 use Rattle.omf_library.specs.Members.{joined}
 use Rattle.omf_lower.specs.declared.fault.Obstacle.{Obstacle}
 use Rattle.omf_lower.specs.declared.entries.Tail.{Tail}
-use Rattle.omf_lower.specs.declared.entries.Tail.TheVariants.{Same, Communals, Named, Publics, Lines, Blocks, Threads}
-use Rattle.omf_lower.specs.declared.entries.Tail.TheVariants.{Fixups}
+use Rattle.omf_lower.specs.declared.entries.Tail.TheVariants.{Same, Communals, RenamedCommunals, Named, Renamed}
+use Rattle.omf_lower.specs.declared.entries.Tail.TheVariants.{Publics, Lines, Blocks, Threads, Fixups}
 use Rattle.omf_lower.specs.Fields.{◌>>=◌, entries_up_to, entries}
 use Rattle.omf_lower.specs.inside.Tails.{entry_front, tail_text}
 
@@ -106,7 +106,9 @@ same-text (b ∷ bs) =
 pub tail-entries : (tail : Tail) (bytes : List ℕ) → entries (entry_front tail) bytes ≡ tail_text tail bytes
 tail-entries Same bytes = same-text bytes
 tail-entries Communals bytes = refl
-tail-entries (Named names) bytes = refl
+tail-entries (RenamedCommunals renaming) bytes = refl
+tail-entries (Named renaming names) bytes = refl
+tail-entries (Renamed renaming) bytes = refl
 tail-entries Publics bytes = refl
 tail-entries Lines bytes = refl
 tail-entries Blocks bytes = refl

@@ -4,6 +4,7 @@ use Rattle.std.proofs.Common.{drop, cond, Option, None, Some, Vec, Ok, Err, refl
 use Rattle.std.specs.declared.result.Result.{Result}
 use Rattle.std.specs.Option.{option_map_or}
 use Rattle.std.specs.Result.{result_ok}
+use Rattle.omf_alias.specs.Meaning.{Renaming}
 use Rattle.omf_frame.specs.Frame.{Frame}
 use Rattle.omf_library.specs.declared.fault.LibraryFault.{LibraryFault}
 use Rattle.omf_library.specs.Records.{record_at, place_behind, ends_module, records_up_to, module_records}
@@ -60,7 +61,8 @@ lowered_from lowering seen number module' place fs =
     lowered_records lowering seen number module' (drop (end_of place fs) module') fs
 
 -- what is written, and what the records that are left give, make all
-pub record LoweringLeft (lowering : Lowering) (module' : List ℕ) (place number : ℕ) (seen : Seen) (d : Draft) : Type
+pub record LoweringLeft (lowering : Lowering) (renaming : Renaming) (module' : List ℕ) (place number : ℕ) (seen : Seen)
+    (d : Draft) : Type
     0 where
   pub most : ℕ
   pub enough : length module' ≤ place + most
@@ -68,12 +70,12 @@ pub record LoweringLeft (lowering : Lowering) (module' : List ℕ) (place number
   pub is_draft : IsDraft module' d place
   pub all : joined (drafted module' d place)
       (lowered_records lowering seen number module' (drop (end_of place (records_up_to most module' place)) module')
-      (records_up_to most module' place)) ≡ lowered lowering module'
+      (records_up_to most module' place)) ≡ lowered lowering renaming module'
 
-pub lowering_first : (lowering : Lowering) (module' : List ℕ)
-    → LoweringLeft lowering module' 0 0 nothing_seen fresh_draft
+pub lowering_first : (lowering : Lowering) (renaming : Renaming) (module' : List ℕ)
+    → LoweringLeft lowering renaming module' 0 0 (nothing_seen renaming) fresh_draft
 unfolding lowered module_records
-lowering_first lowering module' = record {
+lowering_first lowering renaming module' = record {
   most = length module';
   enough = omega arith;
   few = omega arith;
@@ -82,29 +84,32 @@ lowering_first lowering module' = record {
 }
 
 -- behind a record
-step_all : (lowering : Lowering) (module' : List ℕ) (place number : ℕ) (seen : Seen) (d new : Draft) (f : Frame)
+step_all : (lowering : Lowering) (renaming : Renaming) (module' : List ℕ) (place number : ℕ) (seen : Seen)
+    (d new : Draft) (f : Frame)
     (fs gs : List Frame) (bytes : List ℕ)
     → fs ≡ f ∷ gs → record_bytes lowering seen number module' f ≡ Ok bytes
     → drafted module' new (place_behind f) ≡ drafted module' d place ++ bytes
-    → joined (drafted module' d place) (lowered_from lowering seen number module' place fs) ≡ lowered lowering module'
+    → joined (drafted module' d place) (lowered_from lowering seen number module' place fs)
+    ≡ lowered lowering renaming module'
     → joined (drafted module' new (place_behind f))
     (lowered_from lowering (seen_after lowering seen f) (number + 1) module' (place_behind f) gs)
-    ≡ lowered lowering module'
-step_all lowering module' place number seen d new f fs gs bytes e is text all =
+    ≡ lowered lowering renaming module'
+step_all lowering renaming module' place number seen d new f fs gs bytes e is text all =
     let rest = lowered_from lowering (seen_after lowering seen f) (number + 1) module' (place_behind f) gs in
     ap (λ (l : List ℕ). joined l rest) text ∙ joined-append (drafted module' d place) bytes rest
     ∙ ap (λ r. joined (drafted module' d place) (result_and_then (λ (b : List ℕ). joined b rest) r)) (sym is)
     ∙ ap (λ l. joined (drafted module' d place) (lowered_from lowering seen number module' place l)) (sym e)
     ∙ all
 
-more_after : (lowering : Lowering) (module' : List ℕ) (place number : ℕ) (seen : Seen) (d new : Draft) (f : Frame)
+more_after : (lowering : Lowering) (renaming : Renaming) (module' : List ℕ) (place number : ℕ) (seen : Seen)
+    (d new : Draft) (f : Frame)
     (bytes : List ℕ)
-    → (left : LoweringLeft lowering module' place number seen d) → record_at module' place ≡ Ok f
+    → (left : LoweringLeft lowering renaming module' place number seen d) → record_at module' place ≡ Ok f
     → ends_module f.kind ≡ false
     → record_bytes lowering seen number module' f ≡ Ok bytes → Extends module' d new place (place_behind f) bytes
     → place < place_behind f → (most : ℕ) → left.most ≡ suc most
-    → LoweringLeft lowering module' (place_behind f) (number + 1) (seen_after lowering seen f) new
-more_after lowering module' place number seen d new f bytes left is goes made extends behind most e =
+    → LoweringLeft lowering renaming module' (place_behind f) (number + 1) (seen_after lowering seen f) new
+more_after lowering renaming module' place number seen d new f bytes left is goes made extends behind most e =
     let next = ap (λ n. records_up_to n module' place) e ∙ records-next most module' place f false is goes in
     record {
       most = most;
@@ -112,42 +117,49 @@ more_after lowering module' place number seen d new f bytes left is goes made ex
       few = omega (arith, left.few, behind);
       is_draft = extends.is_draft;
       all =
-          step_all lowering module' place number seen d new f _ (records_up_to most module' (place_behind f)) bytes next
+          step_all lowering renaming module' place number seen d new f _ (records_up_to most module' (place_behind f))
+          bytes next
           made extends.text left.all;
     }
 
 -- one record more
-pub lowering_more : (lowering : Lowering) (module' : List ℕ) (place number : ℕ) (seen : Seen) (d new : Draft)
+pub lowering_more : (lowering : Lowering) (renaming : Renaming) (module' : List ℕ) (place number : ℕ) (seen : Seen)
+    (d new : Draft)
     (f : Frame) (bytes : List ℕ)
-    → LoweringLeft lowering module' place number seen d → record_at module' place ≡ Ok f → ends_module f.kind ≡ false
+    → LoweringLeft lowering renaming module' place number seen d → record_at module' place ≡ Ok f
+    → ends_module f.kind ≡ false
     → record_bytes lowering seen number module' f ≡ Ok bytes → Extends module' d new place (place_behind f) bytes
     → place < place_behind f → place_behind f ≤ length module'
-    → LoweringLeft lowering module' (place_behind f) (number + 1) (seen_after lowering seen f) new
-lowering_more lowering module' place number seen d new f bytes left is goes made extends behind within =
+    → LoweringLeft lowering renaming module' (place_behind f) (number + 1) (seen_after lowering seen f) new
+lowering_more lowering renaming module' place number seen d new f bytes left is goes made extends behind within =
     let p = pred_of left.most 0 (omega (arith, left.enough)) in
-    more_after lowering module' place number seen d new f bytes left is goes made extends behind p.0 p.1
+    more_after lowering renaming module' place number seen d new f bytes left is goes made extends behind p.0 p.1
 
 -- the last record
-pub lowering_last : (lowering : Lowering) (module' : List ℕ) (place number : ℕ) (seen : Seen) (d new : Draft)
+pub lowering_last : (lowering : Lowering) (renaming : Renaming) (module' : List ℕ) (place number : ℕ) (seen : Seen)
+    (d new : Draft)
     (f : Frame) (bytes : List ℕ)
-    → LoweringLeft lowering module' place number seen d → record_at module' place ≡ Ok f → ends_module f.kind ≡ true
+    → LoweringLeft lowering renaming module' place number seen d → record_at module' place ≡ Ok f
+    → ends_module f.kind ≡ true
     → record_bytes lowering seen number module' f ≡ Ok bytes → Extends module' d new place (place_behind f) bytes
     → place < place_behind f → place_behind f ≤ length module'
-    → lowered lowering module' ≡ Ok (whole module' new)
-lowering_last lowering module' place number seen d new f bytes left is ends made extends behind within =
+    → lowered lowering renaming module' ≡ Ok (whole module' new)
+lowering_last lowering renaming module' place number seen d new f bytes left is ends made extends behind within =
     let p = pred_of left.most 0 (omega (arith, left.enough)) in
     let next : records_up_to left.most module' place ≡ f ∷ [] =
     ap (λ n. records_up_to n module' place) p.1 ∙ records-next p.0 module' place f true is ends in
-    let all = step_all lowering module' place number seen d new f _ [] bytes next made extends.text left.all in
+    let all = step_all lowering renaming module' place number seen d new f _ [] bytes next made extends.text left.all in
     sym all ∙ ap Ok (sym (whole-drafted module' new (place_behind f) extends.is_draft))
 
 -- a record that can't be lowered
-pub lowering_fault : (lowering : Lowering) (module' : List ℕ) (place number : ℕ) (seen : Seen) (d : Draft) (f : Frame)
+pub lowering_fault : (lowering : Lowering) (renaming : Renaming) (module' : List ℕ) (place number : ℕ) (seen : Seen)
+    (d : Draft) (f : Frame)
     (e : LoweringFault)
-    → LoweringLeft lowering module' place number seen d → record_at module' place ≡ Ok f → place < place_behind f
+    → LoweringLeft lowering renaming module' place number seen d → record_at module' place ≡ Ok f
+    → place < place_behind f
     → place_behind f ≤ length module'
-    → record_bytes lowering seen number module' f ≡ Err e → lowered lowering module' ≡ Err e
-lowering_fault lowering module' place number seen d f e left is behind within made =
+    → record_bytes lowering seen number module' f ≡ Err e → lowered lowering renaming module' ≡ Err e
+lowering_fault lowering renaming module' place number seen d f e left is behind within made =
     let p = pred_of left.most 0 (omega (arith, left.enough)) in
     let gs = cond (ends_module f.kind) [] (records_up_to p.0 module' (place_behind f)) in
     let next : records_up_to left.most module' place ≡ f ∷ gs =
@@ -157,25 +169,27 @@ lowering_fault lowering module' place number seen d f e left is behind within ma
     ∙ ap (λ r. joined (drafted module' d place) (result_and_then (λ (b : List ℕ). joined b rest) r)) made
 
 -- no record more
-pub lowering_none : (lowering : Lowering) (module' : List ℕ) (place number : ℕ) (seen : Seen) (d : Draft)
+pub lowering_none : (lowering : Lowering) (renaming : Renaming) (module' : List ℕ) (place number : ℕ) (seen : Seen)
+    (d : Draft)
     (e : LibraryFault)
-    → LoweringLeft lowering module' place number seen d → record_at module' place ≡ Err e
-    → lowered lowering module' ≡ Ok (whole module' d)
-lowering_none lowering module' place number seen d e left is =
+    → LoweringLeft lowering renaming module' place number seen d → record_at module' place ≡ Err e
+    → lowered lowering renaming module' ≡ Ok (whole module' d)
+lowering_none lowering renaming module' place number seen d e left is =
     sym left.all
     ∙ ap (λ l. joined (drafted module' d place) (lowered_from lowering seen number module' place l))
     (records-none left.most module' place e is)
     ∙ ap Ok (sym (whole-drafted module' d place left.is_draft))
 
 -- what was read is no record
-pub lowering_stop : (lowering : Lowering) (module' : List ℕ) (place number : ℕ) (seen : Seen) (d : Draft)
+pub lowering_stop : (lowering : Lowering) (renaming : Renaming) (module' : List ℕ) (place number : ℕ) (seen : Seen)
+    (d : Draft)
     (r : Result LentFrame LibraryFault)
-    → LoweringLeft lowering module' place number seen d → record_said r ≡ record_at module' place
+    → LoweringLeft lowering renaming module' place number seen d → record_said r ≡ record_at module' place
     → ((f : LentFrame) → r ≡ Ok f → ⊥)
-    → lowered lowering module' ≡ Ok (whole module' d)
-lowering_stop lowering module' place number seen d (Ok f) left is other = absurd (other f refl)
-lowering_stop lowering module' place number seen d (Err e) left is other =
-    lowering_none lowering module' place number seen d e left (sym is)
+    → lowered lowering renaming module' ≡ Ok (whole module' d)
+lowering_stop lowering renaming module' place number seen d (Ok f) left is other = absurd (other f refl)
+lowering_stop lowering renaming module' place number seen d (Err e) left is other =
+    lowering_none lowering renaming module' place number seen d e left (sym is)
 
 -- ---- answers
 
@@ -185,15 +199,17 @@ pub answers-whole : {A : Type 0} (module' : List ℕ) (stands : Result (List ℕ
 answers-whole module' stands d None is w = is ∙ ap Ok (sym w)
 answers-whole module' stands d (Some v) is w = is ∙ ap Ok (sym w)
 
-pub answers-fault : (A T : Type 0) (lowering : Lowering) (module' : List ℕ) (place number : ℕ) (seen : Seen)
+pub answers-fault : (A T : Type 0) (lowering : Lowering) (renaming : Renaming) (module' : List ℕ) (place number : ℕ)
+    (seen : Seen)
     (d new : Draft) (f : Frame) (e : LoweringFault)
-    → LoweringLeft lowering module' place number seen d → record_at module' place ≡ Ok f → place < place_behind f
+    → LoweringLeft lowering renaming module' place number seen d → record_at module' place ≡ Ok f
+    → place < place_behind f
     → place_behind f ≤ length module'
     → Goes {T = T} lowering seen number module' f d new (Err e)
-    → Answers {A = A} module' (lowered lowering module') (Err e)
-answers-fault A T lowering module' place number seen d new f (At n o) left is behind within goes =
-    lowering_fault lowering module' place number seen d f (At n o) left is behind within goes
-answers-fault A T lowering module' place number seen d new f Memory left is behind within goes = tt
+    → Answers {A = A} module' (lowered lowering renaming module') (Err e)
+answers-fault A T lowering renaming module' place number seen d new f (At n o) left is behind within goes =
+    lowering_fault lowering renaming module' place number seen d f (At n o) left is behind within goes
+answers-fault A T lowering renaming module' place number seen d new f Memory left is behind within goes = tt
 
 pub answers-memory : (A : Type 0) (module' : List ℕ) (stands : Result (List ℕ) LoweringFault) (e : LoweringFault)
     → e ≡ Memory → Answers {A = A} module' stands (Err e)

@@ -3,6 +3,7 @@
 use Rattle.std.specs.Prelude.{◌≡◌, ℕ, ◌+◌, List, [], ◌∷◌, take, drop, Vec, Some, None, Ok, Err}
 use Rattle.std.specs.declared.option.Option.{Option}
 use Rattle.std.specs.declared.result.Result.{Result}
+use Rattle.omf_alias.specs.Meaning.{Renaming}
 use Rattle.omf_frame.specs.Frame.{Frame}
 use Rattle.omf_library.specs.Records.{place_behind, module_records, result_and_then}
 use Rattle.omf_library.specs.Members.{joined}
@@ -25,10 +26,10 @@ lowered_records lowering seen number module' rest (f ∷ fs) = result_and_then
     (record_bytes lowering seen number module' f)
 
 -- the lowered module, or the first record that can't be lowered
-unfoldable pub lowered : Lowering → List ℕ → Result (List ℕ) LoweringFault
-lowered lowering module' =
+unfoldable pub lowered : Lowering → Renaming → List ℕ → Result (List ℕ) LoweringFault
+lowered lowering renaming module' =
     let records = module_records module' 0 in
-    lowered_records lowering nothing_seen 0 module' (drop (end_of 0 records) module') records
+    lowered_records lowering (nothing_seen renaming) 0 module' (drop (end_of 0 records) module') records
 
 -- the only answer, unless memory runs out: none says that the lowered module is the same
 abbrev pub Answers : {A : Type 0} → List ℕ → Result (List ℕ) LoweringFault

@@ -4,6 +4,7 @@ use Rattle.std.specs.Prelude.{slice_range, Some, None, Ok, Err}
 use Rattle.std.specs.declared.option.Option.{Option}
 use Rattle.std.specs.declared.result.Result.{Result}
 use Rattle.omf_frame.specs.Frame.{Frame, frame}
+use Rattle.omf_alias.specs.Meaning.{Renaming}
 use Rattle.omf_library.specs.Fields.{index_front}
 use Rattle.omf_library.specs.Entries.{behind_base}
 use Rattle.omf_library.specs.Records.{place_behind}
@@ -15,7 +16,7 @@ use Rattle.omf_lower.specs.declared.fault.LoweringFault.TheVariants.{At}
 use Rattle.omf_lower.specs.Fields.{◌>>=◌, field, before, narrow, entries, any_entry}
 use Rattle.omf_lower.specs.Content.{Content, Recipe, made, of_bytes, empty_comment}
 use Rattle.omf_lower.specs.Segments.{definition, segment_recipe}
-use Rattle.omf_lower.specs.Externals.{communal_front, named_front}
+use Rattle.omf_lower.specs.Externals.{communal_front, renamed_communal_front, named_front, renamed_front, alias_front}
 use Rattle.omf_lower.specs.Narrow.{public_front, line_front, block_front}
 use Rattle.omf_lower.specs.Data.{Data, is_data}
 use Rattle.omf_lower.specs.Fixups.{Reference, reference_front, narrowed, threads_front, fixups_front}
@@ -84,15 +85,22 @@ for_end (attribute ∷ rest) =
     if attribute / 64 % 2 == 0 then Ok (Some (of_bytes 0x8A (attribute ∷ rest)))
     else (field (reference_front 4 rest) >>= for_start attribute)
 
--- for names and externals: 82H LHEADR, CAH LLNAMES, B0H COMDEF, B8H LCOMDEF, BCH CEXTDEF; and for other records, of
--- 32 bits
-abbrev pub for_other : List (List ℕ) → ℕ → List ℕ → Result (Option Recipe) Obstacle
-for_other names kind body =
-    if kind == 0x82 then Ok (Some (of_bytes 0x80 body))
+-- for 8CH EXTDEF, where some name means another one
+abbrev pub for_externals : Renaming → List ℕ → Result (Option Recipe) Obstacle
+for_externals renaming body =
+    if any_entry (alias_front renaming) body then listing 0x8C [] (entries (renamed_front renaming) body) else Ok None
+
+-- for names and externals: 82H LHEADR, CAH LLNAMES, 8CH EXTDEF, B0H COMDEF, B8H LCOMDEF, BCH CEXTDEF, C6H ALIAS; and for
+-- other records, of 32 bits
+abbrev pub for_other : Renaming → List (List ℕ) → ℕ → List ℕ → Result (Option Recipe) Obstacle
+for_other renaming names kind body =
+    if kind == 0x8C then for_externals renaming body
+    else if kind == 0xC6 then Ok (Some empty_comment)
+    else if kind == 0x82 then Ok (Some (of_bytes 0x80 body))
     else if kind == 0xCA then Ok (Some (of_bytes 0x96 body))
-    else if kind == 0xB0 then listing 0x8C [] (entries communal_front body)
+    else if kind == 0xB0 then listing 0x8C [] (entries (renamed_communal_front renaming) body)
     else if kind == 0xB8 then listing 0xB4 [] (entries communal_front body)
-    else if kind == 0xBC then listing 0x8C [] (entries (named_front names) body)
+    else if kind == 0xBC then listing 0x8C [] (entries (named_front renaming names) body)
     else if kind == 0x91 then for_publics 0x90 body
     else if kind == 0xB7 then for_publics 0xB6 body
     else if kind == 0x95 then for_lines body
@@ -107,7 +115,7 @@ recipe_for lowering seen f =
     else if f.kind == 0x99 then for_segment lowering seen.names 4 0x99 f.body
     else if f.kind == 0x9C then for_fixups seen.dropped seen.last 2 0x9C f.body
     else if f.kind == 0x9D then for_fixups seen.dropped seen.last 4 0x9D f.body
-    else for_other seen.names f.kind f.body
+    else for_other seen.renaming seen.names f.kind f.body
 
 unfoldable pub content_for : Lowering → Seen → Frame → Result (Option Content) Obstacle
 content_for lowering seen f = made (recipe_for lowering seen f)

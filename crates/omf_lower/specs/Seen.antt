@@ -3,6 +3,7 @@ use Rattle.std.specs.Prelude.{ℕ, zero, suc, ◌==◌, Bool, false, ◌||◌, i
 use Rattle.std.specs.Prelude.{slice_index_or}
 use Rattle.std.specs.Option.{option_map_or, unwrap_or}
 use Rattle.omf_frame.specs.Frame.{Frame}
+use Rattle.omf_alias.specs.Meaning.{Renaming}
 use Rattle.omf_library.specs.Fields.{index_front}
 use Rattle.omf_library.specs.Names.{listed_in}
 use Rattle.omf_lower.specs.declared.lowering.Lowering.{Lowering}
@@ -18,10 +19,13 @@ pub record Seen : Type 0 where
   pub dropped : Bool
   -- the last record of data
   pub last : Data
+  -- the names that mean others
+  pub renaming : Renaming
 
 -- before the first record
-abbrev pub nothing_seen : Seen
-nothing_seen = record { names = []; kept_out = []; dropped = false; last = no_data }
+abbrev pub nothing_seen : Renaming → Seen
+nothing_seen renaming =
+    record { names = []; kept_out = []; dropped = false; last = no_data; renaming = renaming }
 
 -- whether the segment of a SEGDEF is kept out, whose length has so many bytes; a body that isn't one defines a segment
 -- that isn't
@@ -70,4 +74,5 @@ seen_after lowering seen f = record {
   kept_out = seen.kept_out ++ defined_in lowering seen.names f;
   dropped = dropped_by seen.kept_out seen.dropped f;
   last = last_by seen.last f;
+  renaming = seen.renaming;
 }

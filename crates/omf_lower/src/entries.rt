@@ -5,11 +5,12 @@ ghost use Rattle.omf_lower.specs.inside.Tails.{Puts, entry_front, tail_text};
 ghost use Rattle.omf_lower.specs.inside.Views.{entry_said};
 
 use crate::data::Data;
-use crate::externals::{take_communal, take_named};
+use crate::externals::{take_communal, take_named, take_renamed, take_renamed_communal};
 use crate::fault::{Obstacle, RecordFault};
 use crate::fixups::{take_fixup, take_thread};
 use crate::narrowing::{take_block, take_line, take_public};
 use crate::written::{Written, push_written};
+use omf_alias::Renaming;
 use std::alloc::Allocator;
 
 /// How the rest of a body is written.
@@ -17,10 +18,14 @@ use std::alloc::Allocator;
 pub(crate) enum Tail<'a> {
     /// As it stands.
     Same,
-    /// Communal variables as externals.
+    /// Communal variables as externals of their names.
     Communals,
-    /// Externals by the indexes of names as externals by names.
-    Named(&'a [&'a [u8]]),
+    /// Communal variables as externals of what their names mean.
+    RenamedCommunals(&'a Renaming<'a, 'a>),
+    /// Externals by the indexes of names as externals by what these mean.
+    Named(&'a Renaming<'a, 'a>, &'a [&'a [u8]]),
+    /// Externals by what their names mean.
+    Renamed(&'a Renaming<'a, 'a>),
     /// Public names with offsets of four bytes.
     Publics,
     /// Line numbers with offsets of four bytes.
@@ -42,7 +47,9 @@ fn take_entry<'a>(tail: Tail<'a>, bytes: &'a [u8]) -> Result<(Written<'a>, &'a [
     match tail {
         Tail::Same => Ok((Written::Same(bytes), &[])),
         Tail::Communals => take_communal(bytes),
-        Tail::Named(names) => take_named(names, bytes),
+        Tail::RenamedCommunals(renaming) => take_renamed_communal(renaming, bytes),
+        Tail::Named(renaming, names) => take_named(renaming, names, bytes),
+        Tail::Renamed(renaming) => take_renamed(renaming, bytes),
         Tail::Publics => take_public(bytes),
         Tail::Lines => take_line(bytes),
         Tail::Blocks => take_block(bytes),

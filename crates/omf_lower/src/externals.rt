@@ -1,14 +1,17 @@
-//! Externals of COMDEF, LCOMDEF and CEXTDEF, as those of EXTDEF.
+//! Externals, and those of COMDEF, LCOMDEF and CEXTDEF as these, by what their names mean.
 
 ghost use Rattle.std.specs.Prelude.{◌≡◌, ◌<◌, ◌≤◌, IfOk, IfSome, length};
+ghost use Rattle.omf_alias.specs.Said.{renaming_said};
 ghost use Rattle.omf_library.specs.Names.{texts};
 ghost use Rattle.omf_library.specs.Said.{bytes_said};
 ghost use Rattle.omf_lower.specs.Externals as externals;
-ghost use Rattle.omf_lower.specs.inside.Views.{entry_said, rest_said};
+ghost use Rattle.omf_lower.specs.Fields.{any_entry};
+ghost use Rattle.omf_lower.specs.inside.Views.{change_said, entry_said, rest_said, text_said};
 
 use crate::fault::Obstacle;
 use crate::fields::before;
 use crate::written::Written;
+use omf_alias::{Renaming, meaning};
 use omf_library::{listed_name, take_bytes, take_index, take_name};
 
 /// The bytes behind so many. None where there are fewer.
@@ -62,7 +65,7 @@ fn behind_data_type(bytes: &[u8]) -> Result<&[u8], Obstacle>
     }
 }
 
-/// What is written for the communal variable at the front, and the bytes behind it.
+/// What is written for the communal variable at the front, whose name is local, and the bytes behind it.
 #[tactic(auto, unfolding(crate::specs::Externals::communal_front))]
 pub(crate) fn take_communal(bytes: &[u8]) -> Result<(Written<'_>, &[u8]), Obstacle>
     ensures said { entry_said result ≡ externals.communal_front bytes.now }
@@ -74,21 +77,101 @@ pub(crate) fn take_communal(bytes: &[u8]) -> Result<(Written<'_>, &[u8]), Obstac
     Ok((Written::Same(before(bytes, rest)), after))
 }
 
+/// What a name means. One of which the aliases go on for ever stays.
+fn renamed<'a>(renaming: &Renaming<'a, 'a>, name: &'a [u8]) -> &'a [u8]
+    ensures { result.now ≡ externals.renamed (renaming_said renaming.now) name.now }
+{
+    match meaning(renaming, name) {
+        Some(meaning) => meaning,
+        None => name,
+    }
+}
+
+/// What a name means, behind its length, and bytes behind it.
+fn with_meaning<'a>(
+    renaming: &Renaming<'a, 'a>,
+    name: &'a [u8],
+    rest: &'a [u8],
+) -> Result<Written<'a>, Obstacle>
+    ensures { text_said result ≡ externals.renamed_text (renaming_said renaming.now) name.now rest.now }
+{
+    let name = renamed(renaming, name);
+    if 255 < name.len() {
+        return Err(Obstacle::TooLong);
+    }
+    Ok(Written::Named(name.len() as u8, name, rest))
+}
+
+/// What is written for the external at the front, and the bytes behind it.
+#[tactic(auto, unfolding(crate::specs::Externals::renamed_front))]
+pub(crate) fn take_renamed<'a>(
+    renaming: &Renaming<'a, 'a>,
+    bytes: &'a [u8],
+) -> Result<(Written<'a>, &'a [u8]), Obstacle>
+    ensures said { entry_said result ≡ externals.renamed_front (renaming_said renaming.now) bytes.now }
+    ensures shorter { IfOk result (λ x. length x.1.now < length bytes.now) }
+{
+    let (name, rest) = take_name(bytes).ok_or(Obstacle::Body)?;
+    let (_, after) = take_index(rest).ok_or(Obstacle::Body)?;
+    let written = with_meaning(renaming, name, before(rest, after))?;
+    Ok((written, after))
+}
+
+/// What is written for the communal variable at the front, and the bytes behind it.
+#[tactic(auto, unfolding(crate::specs::Externals::renamed_communal_front))]
+pub(crate) fn take_renamed_communal<'a>(
+    renaming: &Renaming<'a, 'a>,
+    bytes: &'a [u8],
+) -> Result<(Written<'a>, &'a [u8]), Obstacle>
+    ensures said { entry_said result ≡ externals.renamed_communal_front (renaming_said renaming.now) bytes.now }
+    ensures shorter { IfOk result (λ x. length x.1.now < length bytes.now) }
+{
+    let (name, rest) = take_name(bytes).ok_or(Obstacle::Body)?;
+    let (_, behind) = take_index(rest).ok_or(Obstacle::Body)?;
+    let after = behind_data_type(behind)?;
+    let written = with_meaning(renaming, name, before(rest, behind))?;
+    Ok((written, after))
+}
+
+/// Whether the external at the front means another name, and the bytes behind it. None where none is there.
+#[tactic(auto, unfolding(crate::specs::Externals::alias_front))]
+fn take_alias<'a>(renaming: &Renaming<'a, 'a>, bytes: &'a [u8]) -> Option<(bool, &'a [u8])>
+    ensures said { change_said result ≡ externals.alias_front (renaming_said renaming.now) bytes.now }
+    ensures shorter { IfSome result (λ x. length x.1.now < length bytes.now) }
+{
+    let (name, rest) = take_name(bytes)?;
+    let (_, after) = take_index(rest)?;
+    Some((renamed(renaming, name) != name, after))
+}
+
+/// Whether some external means another name, before what isn't one.
+pub(crate) fn has_alias<'a>(renaming: &Renaming<'a, 'a>, bytes: &'a [u8]) -> bool
+    ensures { result ≡ any_entry (externals.alias_front (renaming_said renaming.now)) bytes.now }
+{
+    let mut rest = bytes;
+    while let Some((is_alias, after)) = take_alias(renaming, rest) {
+        if is_alias {
+            return true;
+        }
+        rest = after;
+    }
+    false
+}
+
 /// What is written for the external at the front by the index of its name, and the bytes behind it.
 #[tactic(auto, unfolding(crate::specs::Externals::named_front))]
 pub(crate) fn take_named<'a>(
+    renaming: &Renaming<'a, 'a>,
     names: &'a [&'a [u8]],
     bytes: &'a [u8],
 ) -> Result<(Written<'a>, &'a [u8]), Obstacle>
-    ensures said { entry_said result ≡ externals.named_front (texts names.now) bytes.now }
+    ensures said { entry_said result
+        ≡ externals.named_front (renaming_said renaming.now) (texts names.now) bytes.now }
     ensures shorter { IfOk result (λ x. length x.1.now < length bytes.now) }
 {
     let (index, rest) = take_index(bytes).ok_or(Obstacle::Body)?;
     let (_, after) = take_index(rest).ok_or(Obstacle::Body)?;
     let name = listed_name(names, index).ok_or(Obstacle::Body)?;
-    if 255 < name.len() {
-        return Err(Obstacle::TooLong);
-    }
-    let written = Written::Named(name.len() as u8, name, before(rest, after));
+    let written = with_meaning(renaming, name, before(rest, after))?;
     Ok((written, after))
 }

@@ -5,7 +5,7 @@ ghost use Rattle.omf_library.specs.Said.{bytes_said, name_said};
 ghost use Rattle.omf_lower.specs.Fields.{any_entry};
 ghost use Rattle.omf_lower.specs.Fixups as fixups;
 ghost use Rattle.omf_lower.specs.inside.Views.{data_view, entry_said, fixup_said, reference_said, reference_view};
-ghost use Rattle.omf_lower.specs.inside.Views.{rest_said, subrecord_said, text_said};
+ghost use Rattle.omf_lower.specs.inside.Views.{change_said, rest_said, text_said};
 
 use crate::data::{Data, located};
 use crate::fault::Obstacle;
@@ -191,7 +191,7 @@ fn is_wide(location: u8) -> bool
 /// it. None where none is there.
 #[tactic(auto, unfolding(crate::specs::Fixups::subrecord_front))]
 fn take_subrecord(width: usize, bytes: &[u8]) -> Option<(bool, &[u8])>
-    ensures said { subrecord_said result ≡ fixups.subrecord_front width bytes.now }
+    ensures said { change_said result ≡ fixups.subrecord_front width bytes.now }
     ensures shorter { IfSome result (λ x. length x.1.now < length bytes.now) }
 {
     let [first, rest @ ..] = bytes else {

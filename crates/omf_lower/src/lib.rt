@@ -19,6 +19,6 @@ mod segments;
 mod written;
 
 pub use fault::{LoweringFault, Obstacle};
-pub use laws::records_are_kept;
+pub use laws::{externals_are_renamed, records_are_kept};
 pub use lowering::{Lowering, lower};
 pub use places::record_place;

@@ -1,10 +1,12 @@
 //! Modules, lowered.
 
+ghost use Rattle.omf_alias.specs.Said.{renaming_said};
 ghost use Rattle.omf_lower.specs.Module.{Answers, lowered};
 
 use crate::draft::Draft;
 use crate::fault::LoweringFault;
 use crate::seen::Seen;
+use omf_alias::Renaming;
 use omf_library::{ends_module, record_at};
 use std::alloc::Allocator;
 
@@ -17,19 +19,21 @@ pub struct Lowering {
     pub shares_far_data: bool,
 }
 
-/// The module lowered, or None where it is the same; else the first record that can't be lowered.
+/// The module lowered, with what names mean in the place of its externals' names, or None where it is the same; else the
+/// first record that can't be lowered.
 ///
 /// The lowered module has a record for each record of the module, and each that needs no lowering is the same. What is
 /// no record, and what stands behind the record that ends the module, is handed on as it stands. `Memory` comes only
 /// where memory was refused.
-pub fn lower<A: Allocator + Copy>(
+pub fn lower<'a, A: Allocator + Copy>(
     alloc: A,
-    module: &[u8],
+    module: &'a [u8],
     lowering: Lowering,
+    renaming: &Renaming<'a, 'a>,
 ) -> Result<Option<Vec<u8, A>>, LoweringFault>
-    ensures { Answers «module».now (lowered lowering «module».now) result }
+    ensures { Answers «module».now (lowered lowering (renaming_said renaming.now) «module».now) result }
 {
-    let mut seen = Seen::new(alloc);
+    let mut seen = Seen::new(alloc, renaming);
     let mut draft = Draft::new(alloc);
     let mut place = 0;
     let mut number = 0;

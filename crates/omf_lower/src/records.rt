@@ -1,6 +1,7 @@
 //! What is written for a record of a module.
 
 ghost use Rattle.std.specs.Prelude.{◌≡◌, ◌<◌, [], IfSome, length};
+ghost use Rattle.omf_alias.specs.Said.{renaming_said};
 ghost use Rattle.omf_frame.specs.Lending.{plain_frame};
 ghost use Rattle.omf_library.specs.Entries.{behind_base};
 ghost use Rattle.omf_library.specs.Names.{texts};
@@ -12,6 +13,7 @@ ghost use Rattle.omf_lower.specs.inside.Views.{data_view, reference_view, seen_v
 
 use crate::data::{Data, is_data};
 use crate::entries::Tail;
+use crate::externals::has_alias;
 use crate::fault::{Obstacle, RecordFault};
 use crate::fields::{before, narrow};
 use crate::fixups::{Reference, has_wide, narrowed, take_reference};
@@ -20,6 +22,7 @@ use crate::recipe::{Content, Recipe, empty_comment, made, of_bytes};
 use crate::seen::{Seen, is_of_kept_out};
 use crate::segments::for_segment;
 use crate::written::Written;
+use omf_alias::Renaming;
 use omf_frame::Frame;
 use omf_library::{take_bytes, take_index};
 use std::alloc::Allocator;
@@ -161,20 +164,37 @@ fn for_end(body: &[u8]) -> Result<Option<Recipe<'_>>, Obstacle>
     for_start(*attribute, &start)
 }
 
+/// What is written for externals, where some name means another one. None where they stay.
+fn for_externals<'a>(
+    renaming: &'a Renaming<'a, 'a>,
+    body: &'a [u8],
+) -> Result<Option<Recipe<'a>>, Obstacle>
+    ensures { recipes_said result ≡ records.for_externals (renaming_said renaming.now) body.now }
+{
+    if has_alias(renaming, body) {
+        Ok(Some(entry_by_entry(0x8C, Tail::Renamed(renaming), body)))
+    } else {
+        Ok(None)
+    }
+}
+
 /// What is written for names and externals, and for other records of 32 bits. None where the record stays.
 fn for_other<'a>(
+    renaming: &'a Renaming<'a, 'a>,
     names: &'a [&'a [u8]],
     kind: u8,
     body: &'a [u8],
 ) -> Result<Option<Recipe<'a>>, Obstacle>
-    ensures { recipes_said result ≡ records.for_other (texts names.now) kind body.now }
+    ensures { recipes_said result ≡ records.for_other (renaming_said renaming.now) (texts names.now) kind body.now }
 {
     match kind {
+        0x8C => for_externals(renaming, body),
+        0xC6 => Ok(Some(empty_comment())),
         0x82 => Ok(Some(of_bytes(0x80, body))),
         0xCA => Ok(Some(of_bytes(0x96, body))),
-        0xB0 => Ok(Some(entry_by_entry(0x8C, Tail::Communals, body))),
+        0xB0 => Ok(Some(entry_by_entry(0x8C, Tail::RenamedCommunals(renaming), body))),
         0xB8 => Ok(Some(entry_by_entry(0xB4, Tail::Communals, body))),
-        0xBC => Ok(Some(entry_by_entry(0x8C, Tail::Named(names), body))),
+        0xBC => Ok(Some(entry_by_entry(0x8C, Tail::Named(renaming, names), body))),
         0x91 => for_publics(0x90, body),
         0xB7 => for_publics(0xB6, body),
         0x95 => for_lines(body),
@@ -201,7 +221,7 @@ pub(crate) fn recipe_for<'a, A: Allocator + Copy>(
         0x99 => for_segment(lowering, &seen.names, 4, 0x99, frame.body),
         0x9C => for_fixups(seen.dropped, seen.last, 2, 0x9C, frame.body),
         0x9D => for_fixups(seen.dropped, seen.last, 4, 0x9D, frame.body),
-        _ => for_other(&seen.names, frame.kind, frame.body),
+        _ => for_other(&seen.renaming, &seen.names, frame.kind, frame.body),
     }
 }
 

@@ -1,6 +1,7 @@
 //! What is known of a module from its records so far.
 
 ghost use Rattle.std.specs.Prelude.{◌≡◌, ◌++◌, OnOk};
+ghost use Rattle.omf_alias.specs.Said.{renaming_said};
 ghost use Rattle.omf_frame.specs.Lending.{plain_frame};
 ghost use Rattle.omf_library.specs.Names.{texts};
 ghost use Rattle.omf_lower.specs.Seen as seen;
@@ -9,6 +10,7 @@ ghost use Rattle.omf_lower.specs.inside.Views.{data_view, seen_view};
 use crate::data::{Data, data_of, is_data, no_data};
 use crate::lowering::Lowering;
 use crate::segments::{is_kept_out, read_definition};
+use omf_alias::Renaming;
 use omf_frame::Frame;
 use omf_library::{push_listed, take_index};
 use std::alloc::{AllocError, Allocator};
@@ -24,6 +26,8 @@ pub(crate) struct Seen<'a, A: Allocator + Copy> {
     pub(crate) dropped: bool,
     /// The last record of data.
     pub(crate) last: Data<'a>,
+    /// The names that mean others.
+    pub(crate) renaming: Renaming<'a, 'a>,
 }
 
 /// Whether a record of this type is COMDAT.
@@ -115,14 +119,15 @@ fn last_by<'a>(last: &Data<'a>, frame: &Frame<'a>) -> Data<'a>
 
 impl<'a, A: Allocator + Copy> Seen<'a, A> {
     /// Before the first record.
-    pub(crate) fn new(alloc: A) -> Seen<'a, A>
-        ensures { seen_view result ≡ seen.nothing_seen }
+    pub(crate) fn new(alloc: A, renaming: &Renaming<'a, 'a>) -> Seen<'a, A>
+        ensures { seen_view result ≡ seen.nothing_seen (renaming_said renaming.now) }
     {
         Seen {
             names: Vec::new(alloc),
             kept_out: Vec::new(alloc),
             dropped: false,
             last: no_data(),
+            renaming: *renaming,
         }
     }
 

@@ -2,6 +2,7 @@
 use Rattle.std.specs.Prelude.{ℕ, Bool, List, [], ◌∷◌, ◌++◌, Option, None, Some, Ok, Err}
 use Rattle.std.specs.declared.result.Result.{Result}
 use Rattle.std.specs.Borrow.{Bor}
+use Rattle.omf_alias.specs.Said.{renaming_said}
 use Rattle.omf_library.specs.Names.{texts}
 use Rattle.omf_library.specs.Said.{bytes_said}
 use Rattle.omf_lower.specs.declared.fault.Obstacle.{Obstacle}
@@ -74,10 +75,10 @@ abbrev pub fixup_said : Option (ℕ × reference.Reference) → Option (ℕ × R
 fixup_said None = None
 fixup_said (Some (low, r)) = Some (low, reference_view r)
 
--- whether a subrecord is of 32 bits, and the bytes behind it
-abbrev pub subrecord_said : Option (Bool × Bor (List ℕ)) → Option (Bool × List ℕ)
-subrecord_said None = None
-subrecord_said (Some (is, rest)) = Some (is, rest.now)
+-- whether an entry is to be changed, and the bytes behind it
+abbrev pub change_said : Option (Bool × Bor (List ℕ)) → Option (Bool × List ℕ)
+change_said None = None
+change_said (Some (is, rest)) = Some (is, rest.now)
 
 -- data
 abbrev pub data_view : data'.Data → Data
@@ -104,4 +105,5 @@ seen_view s = record {
   kept_out = s.kept_out.items;
   dropped = s.dropped;
   last = data_view s.last;
+  renaming = renaming_said s.renaming;
 }
