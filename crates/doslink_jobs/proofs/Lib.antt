@@ -1,4 +1,5 @@
 pub mod Adding
+pub mod Endless
 pub mod Bss
 pub mod Declaring
 pub mod Doing

@@ -1,17 +1,21 @@
 -- What a job has done where it ends well, and how a run ends. `told` are the bytes of files by their paths, where the
 -- world tells them.
-use Rattle.std.specs.Prelude.{◌≡◌, ◌⊎◌, ℕ, Bool, true, false, All, List, [], ◌∷◌, ◌++◌, map, IfSome, Ok, if◌then◌else◌}
+use Rattle.std.specs.Prelude.{◌≡◌, ◌⊎◌, ℕ, Bool, true, false, All, List, [], ◌∷◌, ◌++◌, map, IfSome, None, Ok}
+use Rattle.std.specs.Prelude.{if◌then◌else◌}
 use Rattle.std.specs.declared.option.Option.{Option}
 use Rattle.std.specs.declared.result.Result.{Result}
-use Rattle.std.specs.List.{list_any}
+use Rattle.std.specs.List.{flat_map, list_any}
 use Rattle.std.specs.Option.{option_to_list}
 use Rattle.clap.specs.Words.{Text}
+use Rattle.omf_alias.specs.Meaning.{Renaming, endless}
+use Rattle.omf_alias.specs.Reading.{Alias, aliases_of}
 use Rattle.omf_frame.specs.declared.device.IoFault.{IoFault}
 use Rattle.omf_frame.specs.Device.{Writes}
 use Rattle.omf_place.specs.declared.names.Names.{Names}
 use Rattle.omf_place.specs.declared.names.Names.TheVariants.{AsciiFolded, Exact}
 use Rattle.omf_commands.specs.Outcome.{IsFaultless}
 use Rattle.omf_communal.specs.Deciding.{Variable}
+use Rattle.omf_library.specs.Records.{module_records}
 use Rattle.omf_lower.specs.declared.lowering.Lowering.{Lowering}
 use Rattle.omf_lower.specs.Module.{lowered}
 use Rattle.doslink_words.specs.declared.job.Job.{Job}
@@ -40,14 +44,25 @@ pub record IsLoweringFor (job : Job) (lowering : Lowering) : Type 0 where
   pub debug : lowering.keep_debug ≡ job.keep_debug
   pub far_data : lowering.shares_far_data ≡ true → job.packs_far_data ≡ true
 
--- these are the modules lowered
-abbrev pub AreLowered : Lowering → (modules inputs : List (List ℕ)) → Type 0
-AreLowered lowering modules inputs = map (lowered lowering) modules ≡ map Ok inputs
+-- the aliases of modules, in the order of these
+abbrev pub link_aliases : (modules : List (List ℕ)) → List Alias
+link_aliases modules = flat_map (λ m. aliases_of (module_records m 0)) modules
 
--- these are the modules lowered as a job asks for
-abbrev pub AreLoweredFor : Job → (modules inputs : List (List ℕ)) → Type 0
-AreLoweredFor job modules inputs =
-    (lowering : Lowering) × IsLoweringFor job lowering × AreLowered lowering modules inputs
+-- what names mean in the modules of a job: the aliases of each hold for all
+abbrev pub renaming_of : Job → (modules : List (List ℕ)) → Renaming
+renaming_of job modules = record { names = names_of job.ignore_case; aliases = link_aliases modules }
+
+-- these are the modules lowered
+abbrev pub AreLowered : Lowering → Renaming → (modules inputs : List (List ℕ)) → Type 0
+AreLowered lowering renaming modules inputs = map (lowered lowering renaming) modules ≡ map Ok inputs
+
+-- these are the modules lowered as a job asks for, with what names mean by all aliases; none of these goes round for
+-- ever
+pub record AreLoweredFor (job : Job) (modules inputs : List (List ℕ)) : Type 0 where
+  pub lowering : Lowering
+  pub is_lowering : IsLoweringFor job lowering
+  pub ends : endless (renaming_of job modules) (link_aliases modules) ≡ None
+  pub are_lowered : AreLowered lowering (renaming_of job modules) modules inputs
 
 -- A link was done of the modules that it takes: none of their names is missing, those of their communal variables being
 -- offered too, and lowered, with the module of these variables behind them and the order module in front of all, where

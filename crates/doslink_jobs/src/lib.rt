@@ -1,6 +1,7 @@
 //! What `doslink` does: object modules and libraries become a program.
 #![tactic(auto)]
 
+mod aliases;
 mod communals;
 mod defaults;
 mod directives;

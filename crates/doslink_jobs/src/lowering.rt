@@ -1,16 +1,20 @@
 //! The modules of a link, lowered: what compilers write in place of what `link` takes is rewritten.
 ghost use Rattle.std.specs.Prelude.{◌≡◌, IfOk, map};
+ghost use Rattle.omf_alias.specs.Said.{renaming_said};
 ghost use Rattle.doslink_stock.specs.Seen.{handed_held};
 ghost use Rattle.doslink_link.specs.Linking.{bytes_of};
 ghost use Rattle.doslink_jobs.specs.Jobs.{AreLowered, AreLoweredFor, IsLoweringFor};
 ghost use Rattle.doslink_jobs.specs.inside.Inputs.{lowered_bytes};
 
+use crate::aliases::{aliases_of, check_aliases};
+use crate::inputs::options_of;
 use crate::ordering::read_modules;
 use crate::stop::{Stop, stop_after};
 use crate::taking::Taken;
 use doslink_stock::Handed;
 use doslink_telling::push_obstacle;
 use doslink_words::Job;
+use omf_alias::Renaming;
 use omf_lower::{Lowering, LoweringFault, lower, record_place};
 use omf_module::Module;
 use std::alloc::{AllocError, Allocator};
@@ -74,15 +78,16 @@ pub(crate) fn lower_modules<'a, A: Allocator + Copy>(
     alloc: A,
     taken: &Taken<'_, '_, 'a, A>,
     lowering: Lowering,
+    renaming: &Renaming<'_, 'a>,
     lines: &mut Vec<u8, A>,
 ) -> Result<Vec<LoweredModule<'a, A>, A>, Stop>
-    ensures { IfOk result (λ v. AreLowered lowering (map (λ h. (handed_held h).bytes) taken.now.handed.now)
-        (map lowered_bytes v.items)) }
+    ensures { IfOk result (λ v. AreLowered lowering (renaming_said renaming.now)
+        (map (λ h. (handed_held h).bytes) taken.now.handed.now) (map lowered_bytes v.items)) }
 {
     let mut modules = Vec::new(alloc);
     for each in taken.handed {
         let own = each.entry.bytes;
-        match lower(alloc, own, lowering) {
+        match lower(alloc, own, lowering, &*renaming) {
             Ok(lowered) => modules.push(LoweredModule { own, lowered })?,
             Err(fault) => return Err(stop_at_record(taken, modules.len(), own, fault, lines)),
         }
@@ -154,10 +159,11 @@ fn shares_far_data<A: Allocator + Copy>(
 }
 
 /// How a job lowers its modules.
-fn lowering_of<A: Allocator + Copy>(
+fn lowering_of<'a, A: Allocator + Copy>(
     alloc: A,
     job: &Job<'_>,
-    taken: &Taken<'_, '_, '_, A>,
+    taken: &Taken<'_, '_, 'a, A>,
+    renaming: &Renaming<'_, 'a>,
     lines: &mut Vec<u8, A>,
 ) -> Result<Lowering, Stop>
     ensures { IfOk result (IsLoweringFor job.now) }
@@ -169,7 +175,7 @@ fn lowering_of<A: Allocator + Copy>(
     if !job.packs_far_data {
         return Ok(plain);
     }
-    let modules = lower_modules(alloc, taken, plain, lines)?;
+    let modules = lower_modules(alloc, taken, plain, renaming, lines)?;
     let shares_far_data = shares_far_data(alloc, &modules)?;
     Ok(Lowering {
         keep_debug: job.keep_debug,
@@ -187,6 +193,12 @@ pub(crate) fn lower_for<'a, A: Allocator + Copy>(
     ensures { IfOk result (λ v. AreLoweredFor job.now (map (λ h. (handed_held h).bytes) taken.now.handed.now)
         (map lowered_bytes v.items)) }
 {
-    let lowering = lowering_of(alloc, job, taken, lines)?;
-    lower_modules(alloc, taken, lowering, lines)
+    let aliases = aliases_of(alloc, taken)?;
+    let renaming = Renaming {
+        names: options_of(job).names,
+        aliases: &aliases,
+    };
+    check_aliases(alloc, taken, &renaming, lines)?;
+    let lowering = lowering_of(alloc, job, taken, &renaming, lines)?;
+    lower_modules(alloc, taken, lowering, &renaming, lines)
 }

@@ -81,6 +81,11 @@ obstacle_label obstacle.TooLong = (52, codes "TooLong")
 abbrev pub obstacle_line : (word : List ℕ) (place : ℕ) → Obstacle → List ℕ
 obstacle_line word place fault = located word (obstacle_label fault) (codes " at record ") place
 
+-- the line of an alias that goes round for ever, by the place of its record in its module
+abbrev pub endless_line : (word : List ℕ) (place : ℕ) (name : List ℕ) → List ℕ
+endless_line word place name = concat (codes "doslink: " ∷ word ∷ codes ": 60 EndlessAlias " ∷ printed_name name
+    ∷ codes " at record " ∷ decimal place ∷ codes "\n" ∷ [])
+
 -- the label of what is wrong with a record that declares communal variables
 abbrev pub entry_label : EntryFault → ℕ × List ℕ
 entry_label entry.Body = (53, codes "Body")

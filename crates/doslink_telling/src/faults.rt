@@ -8,10 +8,11 @@ ghost use Rattle.omf_text.specs.FaultLines as omf;
 ghost use Rattle.doslink_telling.specs.Lines as spec;
 ghost use Rattle.doslink_telling.specs.Lines.{IsTold};
 
-use crate::lines::{Lines, Part, push_located, push_name, push_named, push_parts};
+use crate::lines::{Lines, Part, push_located, push_name, push_named, push_parts, quoted_name};
 use crate::telling::{path_of, word_at};
 use doslink_files::InputFile;
 use doslink_stock::{Handed, StockFault};
+use omf_alias::agree;
 use omf_frame::IoFault;
 use omf_library::FormatFault;
 use omf_lower::Obstacle;
@@ -81,16 +82,6 @@ pub fn push_absent_line<A: Allocator + Copy>(
         Part::Text(" was not found\n"),
     ];
     push_parts(lines, parts.as_slice())
-}
-
-/// Whether names agree.
-pub(crate) fn agree(names: Names, one: &[u8], other: &[u8]) -> bool
-    ensures { result ≡ agrees names one.now other.now }
-{
-    match names {
-        Names::Exact => one == other,
-        Names::AsciiFolded => one.eq_ignore_ascii_case(other),
-    }
 }
 
 /// The line of a fault as `omf` writes it, `word` standing before its number.
@@ -213,6 +204,30 @@ pub fn push_obstacle<A: Allocator + Copy>(
     ensures { OnOk result (lines.new.items ≡ lines.old.items ++ spec.obstacle_line word.now place obstacle) }
 {
     push_located(lines, word, obstacle_label(obstacle), " at record ", place)
+}
+
+/// Appends the line of an alias that goes round for ever, by the place of its record in the module for which this is the
+/// word.
+pub fn push_endless_alias<A: Allocator + Copy>(
+    alloc: A,
+    lines: &mut Vec<u8, A>,
+    word: &[u8],
+    place: u64,
+    name: &[u8],
+) -> Result<(), AllocError>
+    ensures { OnOk result (lines.new.items ≡ lines.old.items ++ spec.endless_line word.now place name.now) }
+{
+    let quoted = quoted_name(alloc, name)?;
+    let parts = [
+        Part::Text("doslink: "),
+        Part::Bytes(word),
+        Part::Text(": 60 EndlessAlias "),
+        Part::Bytes(&quoted),
+        Part::Text(" at record "),
+        Part::Count(place),
+        Part::Text("\n"),
+    ];
+    push_parts(lines, parts.as_slice())
 }
 
 /// Appends the warning that 32-bit segments of the module for which this is the word are linked as ones of 16 bits.

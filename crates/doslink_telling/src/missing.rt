@@ -6,11 +6,11 @@ ghost use Rattle.doslink_telling.specs.Missing as spec;
 ghost use Rattle.doslink_telling.specs.Missing.{unmet};
 ghost use Rattle.doslink_telling.specs.Table.{header_name};
 
-use crate::faults::agree;
 use crate::lines::quoted_name;
 use crate::telling::{handed_saids, module_word};
 use doslink_files::InputFile;
 use doslink_stock::{Entry, Handed, Stock, members_of};
+use omf_alias::agree;
 use omf_place::Names;
 use omf_search::{Offered, Said, Wanted, Whose, likes, missing};
 use std::alloc::{AllocError, Allocator};

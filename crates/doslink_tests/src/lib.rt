@@ -2,6 +2,8 @@
 #![tactic(auto)]
 
 #[cfg(test)]
+mod aliasing;
+#[cfg(test)]
 mod declaring;
 #[cfg(test)]
 mod memory;

@@ -1,4 +1,5 @@
 //! Runs over a world in memory.
+use crate::aliasing::{ALIAS, CALLS, CASE, ROUND};
 use crate::declaring::{BODY, CUT_ELEMENT, END, FAR, LONG, MANY, NEAR, OTHER_SIZE, TABLE};
 use crate::memory::{Desk, Page, Pen};
 use crate::modules::{ELSEWHERE, LIBRARY, LIKE, MARKS, NAMELESS, NAMES, OFFERS, WANTS, WIDE};
@@ -83,6 +84,19 @@ doslink A.OBJ NEAR.OBJ CUT.OBJ|1||doslink: link: 58 CutElement \"g\" in CUT.OBJ~
 doslink A.OBJ NEAR.OBJ MANY.OBJ|1||doslink: link: 59 TooManySegments \"g\" in MANY.OBJ~
 ";
 
+/// Runs with aliases, in the same form.
+const ALIAS_RUNS: &str = "\
+doslink CALLS.OBJ F.OBJ|0||
+doslink -v CALLS.OBJ ALIAS.OBJ RUN.LIB|0|CALLS.OBJ~ALIAS.OBJ~RUN.LIB(c.c) for \"g\"~|
+doslink ALIAS.OBJ CALLS.OBJ RUN.LIB|0||
+doslink NEAR.OBJ ALIAS.OBJ CALLS.OBJ RUN.LIB|0||
+doslink CALLS.OBJ ALIAS.OBJ|1||doslink: ALIAS.OBJ: \"g\" is missing: wanted by \"n.c\"~
+doslink CALLS.OBJ ROUND.OBJ|1||doslink: ROUND.OBJ: 60 EndlessAlias \"f\" at record 8~
+doslink CALLS.OBJ ALIAS.OBJ ROUND.OBJ RUN.LIB|0||
+doslink CALLS.OBJ CASE.OBJ F.OBJ|0||
+doslink --ignore-case CALLS.OBJ CASE.OBJ F.OBJ|1||doslink: CASE.OBJ: 60 EndlessAlias \"F\" at record 8~
+";
+
 /// What a run told, as a row of the table has it.
 fn row_of(
     alloc: Global,
@@ -131,6 +145,10 @@ fn told(alloc: Global, row: &str) -> Result<Vec<u8>, AllocError> {
         ("CUT.OBJ", CUT_ELEMENT.as_slice()),
         ("MANY.OBJ", MANY.as_slice()),
         ("END.OBJ", END.as_slice()),
+        ("CALLS.OBJ", CALLS.as_slice()),
+        ("ALIAS.OBJ", ALIAS.as_slice()),
+        ("ROUND.OBJ", ROUND.as_slice()),
+        ("CASE.OBJ", CASE.as_slice()),
     ];
     let written = Page::new(alloc);
     let output_page = Page::new(alloc);
@@ -185,6 +203,13 @@ fn runs_tell_these_lines(rt: HostRuntime) -> Result<(), Fail> {
 #[test]
 fn communal_runs_tell_these_lines(rt: HostRuntime) -> Result<(), Fail> {
     let wrong = first_wrong(rt.alloc(), COMMUNAL_RUNS)?;
+    assert_eq!(rt; wrong, None);
+    Ok(())
+}
+
+#[test]
+fn alias_runs_tell_these_lines(rt: HostRuntime) -> Result<(), Fail> {
+    let wrong = first_wrong(rt.alloc(), ALIAS_RUNS)?;
     assert_eq!(rt; wrong, None);
     Ok(())
 }

@@ -1,4 +1,5 @@
 use Rattle.std.proofs.Common.{map, take}
+use Rattle.omf_alias.specs.Said.{renaming_said}
 use Rattle.doslink_stock.specs.Seen.{handed_held}
 use Rattle.doslink_jobs.specs.Jobs.{AreLowered}
 use Rattle.doslink_jobs.specs.inside.Inputs.{lowered_bytes}
@@ -6,5 +7,6 @@ use Rattle.doslink_jobs.proofs.lowering.lower_modules.Given as goal
 
 abbrev pub invariant-loop-each : goal.invariant-loop-each
 invariant-loop-each g l =
-    AreLowered l.fn.lowering (map (λ h. (handed_held h).bytes) (take l.each-index l.fn.taken.handed.now))
+    AreLowered l.fn.lowering (renaming_said l.fn.renaming)
+    (map (λ h. (handed_held h).bytes) (take l.each-index l.fn.taken.handed.now))
     (map lowered_bytes l.modules.items)
