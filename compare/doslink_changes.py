@@ -252,10 +252,10 @@ LOWERING = [
     Change("a segment of 32 bits stays one", "lowering.py", "first & ~USE_32", "first"),
     Change("another header stays", "lowering.py", "{0x82: 0x80, ", "{"),
     Change("another list of names stays", "lowering.py", ", LOCAL_NAME_LIST: NAME_LIST}", "}"),
-    Change("local variables are externals of others", "lowering.py", "0xB8: 0xB4", "0xB8: 0x8C"),
-    Change("local variables stay", "lowering.py", ", 0xB8: 0xB4}", "}"),
+    Change("local variables are externals of others", "lowering.py", "= 0xB8, 0xB4", "= 0xB8, 0x8C"),
+    Change("local variables stay", "lowering.py", "if kind == LOCAL_COMMUNALS:", "if kind == 0:"),
     Change("communal variables stay", "lowering.py",
-           "COMMUNALS = {COMMUNAL_VARIABLES: 0x8C, ", "COMMUNALS = {"),
+           "if kind == COMMUNAL_VARIABLES:", "if kind == 0:"),
     Change("a local variable of another type is cut", "lowering.py",
            "raise Obstacle(DATA_TYPE)", "raise Obstacle(BODY)"),
     Change("line numbers of 32 bits stay", "lowering.py", "if kind == LINES_32:", "if kind == 0:"),
@@ -284,11 +284,11 @@ LOWERING = [
     Change("externals by indexes stay", "lowering.py",
            "if kind == COMMUNAL_EXTERNALS:", "if kind == 0:"),
     Change("externals by indexes count from 0", "lowering.py",
-           "        name = self.names[index - 1]\n",
-           "        name = self.names[index % len(self.names)]\n"),
+           "self.renamed(self.names[index - 1])",
+           "self.renamed(self.names[index % len(self.names)])"),
     Change("an external by an index has no type", "lowering.py",
-           "+ name + entries.body[place:entries.place]\n\n    def public",
-           "+ name + b'\\0'\n\n    def public"),
+           "self.names[index - 1]) + entries.body[place:entries.place]",
+           "self.names[index - 1]) + b'\\0'"),
     Change("publics of 32 bits stay", "lowering.py", "if kind in PUBLICS_32:", "if kind == 0:"),
     Change("local publics of 32 bits stay", "lowering.py", "(0x91, 0xB7)", "(0x91,)"),
     Change("an end of 32 bits stays", "lowering.py", "if kind == END_32:", "if kind == 0:"),
@@ -328,6 +328,40 @@ LOWERING = [
     Change("what can't be lowered is told at the place behind it", "lowering.py",
            "raise Fault(obstacle.number, owner, place)",
            "raise Fault(obstacle.number, owner, frame.behind)"),
+]
+
+ALIASES = [
+    Change("aliases stay", "lowering.py",
+           "        if kind == ALIAS:\n            return COMMENT, NOTHING\n", ""),
+    Change("an alias means itself", "aliases.py",
+           "return lambda name: meaning(found, name, key)", "return lambda name: name"),
+    Change("one alias is followed", "aliases.py",
+           "        name = following[0]\n", "        return following[0]\n"),
+    Change("the last alias of a name counts", "aliases.py", "following[0]", "following[-1]"),
+    Change("aliases agree by their case", "aliases.py",
+           "if key(each.name) == key(name)]", "if each.name == name]"),
+    Change("the alias stands for the name behind it", "aliases.py",
+           "yield Alias(name, substitute, place)", "yield Alias(substitute, name, place)"),
+    Change("an endless alias is told by the link", "aliases.py",
+           "Fault(ENDLESS, word, alias", "Fault(ENDLESS, None, alias"),
+    Change("an endless alias is told behind its record", "aliases.py",
+           "yield Alias(name, substitute, place)", "yield Alias(name, substitute, frame.behind)"),
+    Change("an endless alias is told without its name", "aliases.py",
+           ", name=alias.name)", ")"),
+    Change("externals keep their names", "lowering.py",
+           "if kind == EXTERNALS and self.has_alias(Entries(body)):", "if False:"),
+    Change("externals by indexes keep their names", "lowering.py",
+           "return self.renamed(self.names[index - 1])",
+           "return bytes([len(self.names[index - 1])]) + self.names[index - 1]"),
+    Change("communal variables keep their names", "lowering.py",
+           "return EXTERNALS, self.each(entries, self.communal)",
+           "return EXTERNALS, self.each(entries, self.local_communal)"),
+    Change("local variables have other names", "lowering.py",
+           "return LOCAL_EXTERNALS, self.each(entries, self.local_communal)",
+           "return LOCAL_EXTERNALS, self.each(entries, self.communal)"),
+    Change("an external that has another name has no type", "lowering.py",
+           "return self.renamed(name) + entries.body[place:entries.place]",
+           "return self.renamed(name) + b'\\0'"),
 ]
 
 COMMUNAL = [
@@ -675,4 +709,4 @@ DIRECTIVES = [
 ]
 
 CHANGES = [
-    *LIBRARIES, *NAMES, *SEARCH, *ORDER, *LOWERING, *COMMUNAL, *LINKING, *DIRECTIVES]
+    *LIBRARIES, *NAMES, *SEARCH, *ORDER, *LOWERING, *ALIASES, *COMMUNAL, *LINKING, *DIRECTIVES]

@@ -2,11 +2,14 @@
 
 The model must give them. They are what the rules say of libraries, of the names of a module, of
 what is taken for them, of the module that fixes an order, of modules that are lowered, of communal
-variables, and of directives.
+variables, of aliases, and of directives.
 """
 
+import functools
+
 from model import (
-    communal, directives, libraries, linking, lowering, module, names, ordering, records, search)
+    aliases, communal, directives, libraries, linking, lowering, module, names, ordering, records,
+    search)
 from model.directives import Job
 from model.faults import Fault
 from model.names import Names
@@ -622,6 +625,48 @@ NEAR_SEGMENTS = [
     ("of another name", "48 0000", "03 03 00", "01", False),
     ("in another group", "48 0000", "02 03 00", "04", False)]
 
+# title, whether case is ignored, aliases, a name, and what it means
+MEANINGS = [
+    ("no alias", False, "b c", "a", "a"),
+    ("an alias of an alias", False, "b c  a b", "a", "c"),
+    ("the first of two", False, "a b  a c", "a", "b"),
+    ("by case", False, "a b", "A", "A"),
+    ("without case", True, "a B  b C", "A", "C"),
+    ("of itself", False, "a a", "a", None),
+    ("in a circle", False, "d a  a b  b a", "d", None),
+    ("beside a circle", False, "d e  a b  b a", "d", "e"),
+]
+# title, records of aliases, and the place, the name and the other name of each
+ALIASES = [
+    ("pairs", [(0xC6, "0161 026262 0163 00")], [(0, b"a", b"bb"), (0, b"c", b"")]),
+    ("two records", [(0x88, "00DA"), (0xC6, "0161 0162"), (0xC6, "0163 0164")],
+     [(6, b"a", b"b"), (14, b"c", b"d")]),
+    ("one that is cut", [(0xC6, "0161 0162 0163")], [(0, b"a", b"b")]),
+    ("of another type", [(0x8C, "0161 0162")], []),
+]
+# title, the aliases of the modules a, b and so on, and the fault
+ENDLESS = [
+    ("in one module", ["0161 0162", "0163 0163"], 'doslink: b: 60 EndlessAlias "c" at record 0\n'),
+    ("in two", ["0161 0162", "0162 0161"], 'doslink: a: 60 EndlessAlias "a" at record 0\n'),
+    ("one that leads there", ["0164 0161 0161 0161"],
+     'doslink: a: 60 EndlessAlias "d" at record 0\n'),
+]
+# title, aliases, records, and the same as lowered
+RENAMED = [
+    ("externals", "a bb", [(0x8C, "0178 00 0161 8001"), (0x8C, "0141 00")],
+     [(0x8C, "0178 00 026262 8001"), (0x8C, "0141 00")]),
+    ("externals by indexes", "a bb", [(0x96, "0161"), (0xBC, "01 00")],
+     [(0x96, "0161"), (0x8C, "026262 00")]),
+    ("communal variables", "a bb", [(0xB0, "0161 00 62 01 0178 8001 61 01 02")],
+     [(0x8C, "026262 00 0178 8001")]),
+    ("others", "a bb",
+     [(0xC6, "0161 026262"), (0xB4, "0161 00"), (0x90, "00 01 0161 0000 00"),
+      (0xB8, "0161 00 62 01")],
+     [(0x88, "00DA"), (0xB4, "0161 00"), (0x90, "00 01 0161 0000 00"), (0xB4, "0161 00")]),
+    ("one that is cut behind one that stays", "a bb", [(0x8C, "0178 00 0261")],
+     [(0x8C, "0178 00 0261")]),
+]
+
 # the lengths of segments of far data, and whether they share a frame
 FITTING = [([65_536], True), ([65_521], True), ([65_520, 16], True), ([65_520, 17], False)]
 
@@ -706,10 +751,10 @@ def check_directives():
         assert found == wanted, title
 
 
-def lowered(made, keeps_debug, shares_far_data):
+def lowered(made, keeps_debug, shares_far_data, means=lowering.itself):
     """The bytes of records that are lowered, or the fault and how many records stand before it."""
     try:
-        return lowering.lowered(framed(made), keeps_debug, shares_far_data)
+        return lowering.lowered(framed(made), keeps_debug, shares_far_data, means=means)
     except Fault as fault:
         places = [len(framed(made[:count])) for count in range(len(made))]
         return fault.number, places.index(fault.place)
@@ -743,6 +788,38 @@ def communal_answer(bodies, offered, ignores_case):
     lengths = " ".join(str(each.length) for each in made.segments)
     places = [f"{each.name.decode()} {each.segment}:{each.offset}" for each in made.publics]
     return f"{lengths} | {', '.join(places)}"
+
+
+def alias_list(text):
+    """Aliases of words in pairs, of a record at place 0."""
+    words = text.encode().split()
+    return [aliases.Alias(one, other, 0) for one, other in zip(words[::2], words[1::2])]
+
+
+def endless(bodies):
+    """The line of the first alias of modules that goes round for ever."""
+    modules = [
+        linking.Module(word, framed([(0xC6, body)]), Names()) for word, body in zip("abc", bodies)]
+    try:
+        aliases.meanings(modules, search.agreed(False))
+    except Fault as fault:
+        return fault.line(program="doslink")
+    return None
+
+
+def check_aliases():
+    for title, ignores_case, pairs, name, wanted in MEANINGS:
+        found = aliases.meaning(alias_list(pairs), name.encode(), search.agreed(ignores_case))
+        assert found == (None if wanted is None else wanted.encode()), title
+    for title, made, wanted in ALIASES:
+        found = [(each.place, each.name, each.substitute) for each in aliases.aliases(framed(made))]
+        assert found == wanted, title
+    for title, bodies, wanted in ENDLESS:
+        assert endless(bodies) == wanted, title
+    for title, pairs, made, wanted in RENAMED:
+        found = alias_list(pairs)
+        means = functools.partial(aliases.meaning, found, key=search.agreed(False))
+        assert lowered(made, False, False, means) == framed(wanted), title
 
 
 def check_communals():
@@ -786,6 +863,7 @@ def check():
     check_search()
     check_order()
     check_lowering()
+    check_aliases()
     check_communals()
     check_directives()
     check_links()

@@ -56,6 +56,7 @@ class Plan:
     has_long: float
     is_wide: float
     has_communals: float
+    has_aliases: float
     ignores_case: bool = False
     libraries: list = field(default_factory=list)
     # names of communal variables, and those that some module declares
@@ -75,7 +76,7 @@ def any_plan(random, names):
     return Plan(
         chosen, names, random.choice([0, 0, 0.3]), random.choice([0, 0, 0.2]),
         random.choice([0, 0, 0, 0.6]), random.choice([0, 0, 0.6]), random.choice([0, 0, 0.4]),
-        random.choice([0, 0, 0.6]), random.choice([0, 0.3, 0.8]),
+        random.choice([0, 0, 0.6]), random.choice([0, 0.3, 0.8]), random.choice([0, 0, 0.4]),
         communals=random.sample([*communals.NAMES, *names, *MARKS], random.choice([1, 2, 3, 5])))
 
 
@@ -120,6 +121,8 @@ class ObjectMaker:
         steps = [self.define_externals, self.define_publics, self.define_local_names]
         if self.happens(self.plan.has_communals):
             steps.append(self.define_communals)
+        if self.happens(self.plan.has_aliases):
+            steps.append(self.define_aliases)
         if self.happens(0.2):
             steps.append(self.add_lines)
         if self.happens(0.05):
@@ -343,6 +346,16 @@ class ObjectMaker:
             attributes = self.random.choice([0, 0x10]) | allocation
             front = bytes([flags, attributes, 1]) + bytes(width) + b"\0"
             self.add_other(kind, front + base + self.spelling.index(index) + bytes(3))
+
+    def define_aliases(self):
+        """Aliases of names, mostly of those that modules offer, and rarely one of itself."""
+        offered = [*self.wanted, *self.offered]
+        pairs = [
+            (self.random.choice([*offered, *self.plan.names]), self.random.choice(offered))
+            for _ in range(self.random.choice([1, 1, 2, 3]) if offered else 0)]
+        pairs = [(a, b) for a, b in pairs if a != b or self.happens(0.1)]
+        if pairs:
+            self.add_other(0xC6, b"".join(self.counted(a) + self.counted(b) for a, b in pairs), 0.05)
 
     def add_aliases(self):
         aliases = [*self.some_names(), *self.some_names()]

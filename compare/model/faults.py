@@ -25,8 +25,10 @@ COMMUNAL_NAMES = {
     53: "Body", 54: "DataType", 55: "NearAndFar", 56: "ElementSizes", 57: "NearTooLong",
     58: "CutElement", 59: "TooManySegments",
 }
+# that of an alias that goes round for ever
+ALIAS_NAMES = {60: "EndlessAlias"}
 # all that doslink alone has
-DOSLINK_NAMES = {**LIBRARY_NAMES, **LOWERING_NAMES, **COMMUNAL_NAMES}
+DOSLINK_NAMES = {**LIBRARY_NAMES, **LOWERING_NAMES, **COMMUNAL_NAMES, **ALIAS_NAMES}
 # what else ends a job of doslink, without a number
 MISSING, TOO_MANY_PARTS, WORDS, READ_AND_WRITTEN, WRITTEN_TWICE = "M", "P", "W", "O", "T"
 OTHER_ENDS = {
@@ -76,12 +78,12 @@ class Fault(Exception):
         whose = files[self.owner] if isinstance(self.owner, int) else self.owner or "link"
         name = {**NAMES, **DOSLINK_NAMES}[self.number]
         line = f"{program}: {whose}: {self.number} {name}"
+        if self.name is not None:
+            line += f" {printed_name(self.name)}"
         if self.place is not None:
             line += f" at {'place' if self.number in LIBRARY_NAMES else 'record'} {self.place}"
         if self.byte is not None:
             line += f" byte {self.byte}"
-        if self.name is not None:
-            line += f" {printed_name(self.name)}"
         line += f" in {' and '.join(self.words)}" if self.words else ""
         return line + "\n"
 

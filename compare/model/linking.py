@@ -9,7 +9,7 @@ from dataclasses import dataclass, replace
 from typing import Optional
 
 from model import (
-    communal, directives, faults, image, libraries, lowering, module, ordering, printing,
+    aliases, communal, directives, faults, image, libraries, lowering, module, ordering, printing,
     program_file, search)
 from model.commands import Answer, Output
 from model.faults import Fault, escaped, printed_name
@@ -236,7 +236,7 @@ class Linking:
         """The program of the modules as they are lowered, between those that are made."""
         lowered = lowering.lowered_modules(
             [each.content for each in taken], [each.word for each in taken],
-            self.job.keeps_debug, self.job.packs_far_data)
+            self.job.keeps_debug, self.job.packs_far_data, aliases.meanings(taken, self.key))
         behind = made_module(COMMUNAL, communal.communal_module(variables, lowered))
         lowered += [each.content for each in behind]
         before = made_module(ORDER, self.order_module(lowered, taken))

@@ -11,7 +11,7 @@ from model import module
 from model.communal import COMMUNAL_VARIABLES, OtherType, extent
 from model.faults import Fault
 from model.libraries import COMMENT, FRONT_OF_RECORD, whole_frames
-from model.names import LOCAL_NAME_LIST, NAME_LIST, Ended, Entries
+from model.names import ALIAS, LOCAL_NAME_LIST, NAME_LIST, Ended, Entries
 from model.records import LONGEST_BODY, Spelling
 
 # of each of these types the second one has values of 32 bits
@@ -19,8 +19,8 @@ SEGMENTS, DATA = (0x98, 0x99), (0xA0, 0xA1, 0xA2, 0xA3)
 REPEATED = (0xA2, 0xA3)
 FIXUPS, COMMUNAL_DATA = (0x9C, 0x9D), (0xC2, 0xC3)
 PUBLICS_32, LINES_32, END_32 = (0x91, 0xB7), 0x95, 0x8B
-# communal variables, also local ones, by the type of the externals that they become
-COMMUNALS = {COMMUNAL_VARIABLES: 0x8C, 0xB8: 0xB4}
+# local communal variables, and local externals, which they become
+LOCAL_COMMUNALS, LOCAL_EXTERNALS = 0xB8, 0xB4
 COMMUNAL_EXTERNALS, EXTERNALS = 0xBC, 0x8C
 # a header and a list of names by the types of others that say the same
 SAME = {0x82: 0x80, LOCAL_NAME_LIST: NAME_LIST}
@@ -189,7 +189,9 @@ def located(data, place):
 class Lowering:
     """Lowers one record of a module after the other."""
 
-    def __init__(self, keeps_debug, shares_far_data):
+    def __init__(self, keeps_debug, shares_far_data, means):
+        # what a name means
+        self.means = means
         self.keeps_debug = keeps_debug
         self.shares_far_data = shares_far_data
         self.names = []
@@ -218,8 +220,14 @@ class Lowering:
 
     def lower_other(self, kind, body):
         entries = Entries(body)
-        if kind in COMMUNALS:
-            return COMMUNALS[kind], self.each(entries, self.communal)
+        if kind == ALIAS:
+            return COMMENT, NOTHING
+        if kind == EXTERNALS and self.has_alias(Entries(body)):
+            return EXTERNALS, self.each(entries, self.external)
+        if kind == COMMUNAL_VARIABLES:
+            return EXTERNALS, self.each(entries, self.communal)
+        if kind == LOCAL_COMMUNALS:
+            return LOCAL_EXTERNALS, self.each(entries, self.local_communal)
         if kind == COMMUNAL_EXTERNALS:
             return EXTERNALS, self.each(entries, self.named)
         if kind in PUBLICS_32:
@@ -243,16 +251,25 @@ class Lowering:
         return found
 
     def communal(self, entries):
-        """A name and a type index; what its variable is isn't told here."""
+        """What a name means, and a type index; what its variable is isn't told here."""
+        found = self.external(entries)
+        self.skip_extent(entries)
+        return found
+
+    def local_communal(self, entries):
+        """A name and a type index, as they stand."""
         place = entries.place
         entries.name()
         entries.index()
         found = entries.body[place:entries.place]
+        self.skip_extent(entries)
+        return found
+
+    def skip_extent(self, entries):
         try:
             extent(entries)
         except OtherType:
             raise Obstacle(DATA_TYPE) from None
-        return found
 
     def named(self, entries):
         """The name of an index, and a type index."""
@@ -260,8 +277,30 @@ class Lowering:
         entries.index()
         if not 1 <= index <= len(self.names):
             raise Obstacle(BODY)
-        name = self.names[index - 1]
-        return bytes([len(name)]) + name + entries.body[place:entries.place]
+        return self.renamed(self.names[index - 1]) + entries.body[place:entries.place]
+
+    def renamed(self, name):
+        """What a name means, behind its length."""
+        means = self.means(name)
+        return bytes([len(means)]) + means
+
+    def external(self, entries):
+        """What a name means, and a type index."""
+        name, place = entries.name(), entries.place
+        entries.index()
+        return self.renamed(name) + entries.body[place:entries.place]
+
+    def has_alias(self, entries):
+        """Whether an external means another name, before what isn't one."""
+        try:
+            while entries.has_more():
+                name = entries.name()
+                entries.index()
+                if self.means(name) != name:
+                    return True
+        except Ended:
+            pass
+        return False
 
     def public(self, entries):
         place = entries.place
@@ -386,9 +425,14 @@ class Lowering:
         return bytes([first & 0xC0 | location << 2 | place >> 8, place & 0xFF])
 
 
-def lowered(content, keeps_debug, shares_far_data, owner=None):
+def itself(name):
+    """What a name means where none means another one."""
+    return name
+
+
+def lowered(content, keeps_debug, shares_far_data, owner=None, means=itself):
     """The bytes of a module that is lowered, or the fault of its first record that can't be."""
-    lowering, found, place = Lowering(keeps_debug, shares_far_data), [], 0
+    lowering, found, place = Lowering(keeps_debug, shares_far_data, means), [], 0
     for frame in whole_frames(content):
         try:
             kind, body = lowering.lower(frame.kind, frame.body)
@@ -419,15 +463,16 @@ def fits_a_frame(contents):
     return sum(-(-length // PARAGRAPH) * PARAGRAPH for length in lengths) <= FRAME
 
 
-def lowered_modules(contents, words, keeps_debug, packs_far_data):
+def lowered_modules(contents, words, keeps_debug, packs_far_data, means=itself):
     """The bytes of modules that are lowered; far data shares a frame where it fits in one.
 
+    `means` says what a name means.
     A fault is told by the word for its module.
     """
     pairs = list(zip(contents, words))
-    plain = [lowered(content, keeps_debug, False, word) for content, word in pairs]
+    plain = [lowered(content, keeps_debug, False, word, means) for content, word in pairs]
     if packs_far_data and fits_a_frame(plain):
-        return [lowered(content, keeps_debug, True, word) for content, word in pairs]
+        return [lowered(content, keeps_debug, True, word, means) for content, word in pairs]
     return plain
 
 
