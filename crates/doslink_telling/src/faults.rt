@@ -8,7 +8,9 @@ ghost use Rattle.omf_text.specs.FaultLines as omf;
 ghost use Rattle.doslink_telling.specs.Lines as spec;
 ghost use Rattle.doslink_telling.specs.Lines.{IsTold};
 
-use crate::lines::{Lines, Part, push_located, push_name, push_named, push_parts, quoted_name};
+use crate::lines::{
+    Lines, Part, push_front, push_located, push_name, push_named, push_parts, push_place,
+};
 use crate::telling::{path_of, word_at};
 use doslink_files::InputFile;
 use doslink_stock::{Handed, StockFault};
@@ -217,17 +219,9 @@ pub fn push_endless_alias<A: Allocator + Copy>(
 ) -> Result<(), AllocError>
     ensures { OnOk result (lines.new.items ≡ lines.old.items ++ spec.endless_line word.now place name.now) }
 {
-    let quoted = quoted_name(alloc, name)?;
-    let parts = [
-        Part::Text("doslink: "),
-        Part::Bytes(word),
-        Part::Text(": 60 EndlessAlias "),
-        Part::Bytes(&quoted),
-        Part::Text(" at record "),
-        Part::Count(place),
-        Part::Text("\n"),
-    ];
-    push_parts(lines, parts.as_slice())
+    push_front(lines, word, ": 60 EndlessAlias ")?;
+    push_name(alloc, lines, name)?;
+    push_place(lines, " at record ", place)
 }
 
 /// Appends the warning that 32-bit segments of the module for which this is the word are linked as ones of 16 bits.

@@ -143,6 +143,32 @@ pub(crate) fn push_name<A: Allocator + Copy>(
     lines.extend_from_slice(&quoted)
 }
 
+/// Appends the front of a line about what the word stands for, and a text behind it.
+pub(crate) fn push_front<'p, A: Allocator + Copy>(
+    lines: &mut Vec<u8, A>,
+    word: &'p [u8],
+    text: &'p str,
+) -> Result<(), AllocError>
+    ensures { OnOk result (lines.new.items ≡ lines.old.items
+        ++ concat (codes "doslink: " ∷ word.now ∷ text.now ∷ [])) }
+{
+    let parts = [Part::Text("doslink: "), Part::Bytes(word), Part::Text(text)];
+    push_parts(lines, parts.as_slice())
+}
+
+/// Appends a place, behind what says what is counted up to it, and ends the line.
+pub(crate) fn push_place<'p, A: Allocator + Copy>(
+    lines: &mut Vec<u8, A>,
+    at: &'p str,
+    place: u64,
+) -> Result<(), AllocError>
+    ensures { OnOk result (lines.new.items ≡ lines.old.items
+        ++ concat (at.now ∷ decimal place ∷ codes "\n" ∷ [])) }
+{
+    let parts = [Part::Text(at), Part::Count(place), Part::Text("\n")];
+    push_parts(lines, parts.as_slice())
+}
+
 /// Appends the line of a fault at a place of what the word stands for. `at` says before the place what is counted up to
 /// it.
 pub(crate) fn push_located<'p, A: Allocator + Copy>(
