@@ -1,6 +1,6 @@
 //! The members of archives.
 
-use crate::files::run;
+use crate::files::{What, run};
 use std::test::*;
 
 #[test]
@@ -8,7 +8,7 @@ fn members_of_archives(rt: HostRuntime) -> Result<(), Fail> {
     run(
         &rt,
         rt.alloc(),
-        false,
+        What::Members,
         "\
 text !<arch>
 ar / 5
@@ -61,7 +61,7 @@ fn faults_of_archives(rt: HostRuntime) -> Result<(), Fail> {
     run(
         &rt,
         rt.alloc(),
-        false,
+        What::Members,
         "\
 text !<arch>
 ar a.o/ 3

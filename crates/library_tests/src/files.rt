@@ -4,9 +4,9 @@
 //! file `lib 16` is the header record of a library with pages of 16 bytes; `pad 16` zeros up to a multiple of 16;
 //! `ar a.o/ 8` the header of an archive's member; `text` a text and a line end; `raw` bytes in hexadecimal digits. Any
 //! other line is a record: the bytes of its type and its body in hexadecimal digits, where `41*3` stands for
-//! `41 41 41`. A line that begins with `#` is a comment.
+//! `41 41 41`. A line that begins with `#` is a comment. Of places each name that is asked for stands before its own.
 
-use omf_library::{Member, ModuleNames, members, module_names};
+use omf_library::{Member, ModuleNames, members, module_frames, module_names, wanting_place};
 use rows::{bytes_of, put_record};
 use std::alloc::{AllocError, Allocator, Global};
 use std::process::Abort;
@@ -88,7 +88,7 @@ fn is_own(file: &[u8], member: &Member<'_>) -> bool {
 }
 
 /// The members, each by its place, its length and its name, or the fault.
-pub fn told_members<A: Allocator + Copy>(
+fn told_members<A: Allocator + Copy>(
     alloc: A,
     words: Global,
     file: &[u8],
@@ -137,7 +137,7 @@ fn push_said<A: Allocator + Copy>(
 }
 
 /// The names of a module.
-pub fn told_names<A: Allocator + Copy>(
+fn told_names<A: Allocator + Copy>(
     alloc: A,
     words: Global,
     file: &[u8],
@@ -150,21 +150,88 @@ pub fn told_names<A: Allocator + Copy>(
     Ok(text)
 }
 
+/// Appends each of some names, with the place of the first record that wants it, and `-` where none does.
+fn push_places<A: Allocator + Copy>(
+    alloc: A,
+    text: &mut String,
+    file: &[u8],
+    names: &[&str],
+) -> Result<(), AllocError> {
+    let frames = module_frames(alloc, file)?;
+    for (number, name) in names.iter().enumerate() {
+        if number > 0 {
+            text.push_str(", ")?;
+        }
+        match wanting_place(alloc, &frames, name.as_bytes())? {
+            Some(place) => write!(text, "{name} {place}")?,
+            None => write!(text, "{name} -")?,
+        }
+    }
+    Ok(())
+}
+
+/// The names that a row of places asks for: each stands before its place.
+fn asked_names(words: Global, wanted: &str) -> Result<Vec<&str>, AllocError> {
+    let mut names = Vec::new(words);
+    for pair in wanted.split(", ") {
+        let (name, _) = pair.split_once(' ').unwrap_or((pair, ""));
+        names.push(name)?;
+    }
+    Ok(names)
+}
+
+/// The names that a row asks for, each with the place of the first record that wants it.
+fn told_places<A: Allocator + Copy>(
+    alloc: A,
+    words: Global,
+    file: &[u8],
+    wanted: &str,
+) -> Result<String, AllocError> {
+    let names = asked_names(words, wanted)?;
+    let mut text = format!(in words; "")?;
+    match push_places(alloc, &mut text, file, &names) {
+        Ok(()) => Ok(text),
+        Err(_) => format!(in words; "no memory"),
+    }
+}
+
+/// What of a file is told.
+#[derive(Clone, Copy)]
+pub enum What {
+    /// The members.
+    Members,
+    /// The names of the module.
+    Names,
+    /// The places of the records that want some names first.
+    Places,
+}
+
+/// What is told of a file, for what is wanted.
+pub fn told<A: Allocator + Copy>(
+    alloc: A,
+    words: Global,
+    what: What,
+    file: &[u8],
+    wanted: &str,
+) -> Result<String, AllocError> {
+    match what {
+        What::Members => told_members(alloc, words, file),
+        What::Names => told_names(alloc, words, file),
+        What::Places => told_places(alloc, words, file, wanted),
+    }
+}
+
 /// What is told is what is wanted.
 pub fn same<R: Abort>(rt: &R, told: &str, wanted: &str) {
     assert_eq!(rt; told, wanted);
 }
 
-/// What is told of each file of a table is what is wanted: of its members, or of its names.
-pub fn run<R: Abort>(rt: &R, alloc: Global, of_names: bool, table: &str) -> Result<(), Fail> {
+/// What is told of each file of a table is what is wanted.
+pub fn run<R: Abort>(rt: &R, alloc: Global, what: What, table: &str) -> Result<(), Fail> {
     for row in table.split("\n\n") {
         let (lines, wanted) = row.split_once("\n= ").unwrap_or((row, ""));
         let file = file_of(alloc, lines)?;
-        let told = if of_names {
-            told_names(alloc, alloc, &file)?
-        } else {
-            told_members(alloc, alloc, &file)?
-        };
+        let told = told(alloc, alloc, what, &file, wanted)?;
         same(rt, told.as_str(), wanted);
     }
     Ok(())

@@ -1,6 +1,6 @@
 //! Each growth refused in turn.
 
-use crate::files::{file_of, same, told_members, told_names};
+use crate::files::{What, file_of, same, told};
 use refusing::Refusing;
 use std::alloc::Global;
 use std::process::Abort;
@@ -10,18 +10,14 @@ use std::test::*;
 fn refused<R: Abort>(
     rt: &R,
     alloc: Global,
-    of_names: bool,
+    what: What,
     lines: &str,
     wanted: &str,
 ) -> Result<(), Fail> {
     let file = file_of(alloc, lines)?;
     for number in 1..100u64 {
         let refusing = Refusing::nth(alloc, number);
-        let told = if of_names {
-            told_names(&refusing, alloc, &file)?
-        } else {
-            told_members(&refusing, alloc, &file)?
-        };
+        let told = told(&refusing, alloc, what, &file, wanted)?;
         if !refusing.has_refused() {
             same(rt, told.as_str(), wanted);
             break;
@@ -34,11 +30,12 @@ fn refused<R: Abort>(
 #[test]
 fn refused_growths(rt: HostRuntime) -> Result<(), Fail> {
     let library = "lib 16\n80 01 41\n8A 00\npad 16\nraw F1";
-    refused(&rt, rt.alloc(), false, library, "[16 11 A]")?;
+    refused(&rt, rt.alloc(), What::Members, library, "[16 11 A]")?;
     let archive = "text !<arch>\nar a.o/ 1\nraw 41";
-    refused(&rt, rt.alloc(), false, archive, "[68 1 a.o]")?;
-    refused(&rt, rt.alloc(), false, "raw 41", "[0 1 ]")?;
+    refused(&rt, rt.alloc(), What::Members, archive, "[68 1 a.o]")?;
+    refused(&rt, rt.alloc(), What::Members, "raw 41", "[0 1 ]")?;
     let module = "96 01 61\n8C 01 62 00\n90 00 01 01 63 00 00 00\nBC 01 00\n88 00 9F 6C";
     let names = "wants b a, offers c, libraries l";
-    refused(&rt, rt.alloc(), true, module, names)
+    refused(&rt, rt.alloc(), What::Names, module, names)?;
+    refused(&rt, rt.alloc(), What::Places, module, "a 24, b 6, c -")
 }

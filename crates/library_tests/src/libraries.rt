@@ -1,6 +1,6 @@
 //! The members of libraries of DOS.
 
-use crate::files::run;
+use crate::files::{What, run};
 use std::test::*;
 
 #[test]
@@ -8,7 +8,7 @@ fn members_of_libraries(rt: HostRuntime) -> Result<(), Fail> {
     run(
         &rt,
         rt.alloc(),
-        false,
+        What::Members,
         "\
 lib 16
 80 01 41
@@ -81,7 +81,7 @@ fn faults_of_libraries(rt: HostRuntime) -> Result<(), Fail> {
     run(
         &rt,
         rt.alloc(),
-        false,
+        What::Members,
         "\
 raw F0
 = place 0: the library ends inside it or before it

@@ -1,6 +1,6 @@
 //! The names of modules.
 
-use crate::files::run;
+use crate::files::{What, run};
 use std::test::*;
 
 #[test]
@@ -8,7 +8,7 @@ fn names_of_modules(rt: HostRuntime) -> Result<(), Fail> {
     run(
         &rt,
         rt.alloc(),
-        true,
+        What::Names,
         "\
 80 01 4D
 8C 01 61 00 02 62 63 81 00
@@ -85,5 +85,52 @@ raw 96 00 00
 
 raw 41 42
 = wants, offers, libraries",
+    )
+}
+
+#[test]
+fn first_records_that_want_names(rt: HostRuntime) -> Result<(), Fail> {
+    run(
+        &rt,
+        rt.alloc(),
+        What::Places,
+        "\
+80 01 4D
+8C 01 61 00 02 62 63 81 00
+8C 01 61 00 01 64 00
+90 00 01 01 65 00 00 00
+8A 00
+= a 6, bc 6, d 18, e -, b -
+
+C6 01 61 01 62
+8C 01 63 00 01 61 00 01 62 00
+= a 8, b 0, c 8
+
+# by the names listed before
+BC 01 00
+96 01 61 01 62
+CA 01 63
+BC 01 00 03 00
+8C 01 61 00
+= a 20, b -, c 20
+
+# local and communal names
+B0 01 61 00 62 01
+B4 01 61 00
+BC 01 00
+8C 01 62 00
+= a -, b 22
+
+# behind the end
+8C 01 61 00
+8A 00
+8C 01 62 00
+= a 0, b -
+
+# behind a fault
+8C 01 61 00
+raw 96 00 00
+8C 01 62 00
+= a 0, b -",
     )
 }

@@ -5,3 +5,4 @@ pub mod Walking
 pub mod Spaces
 pub mod Digits
 pub mod Told
+pub mod Asking

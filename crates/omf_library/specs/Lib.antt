@@ -3,6 +3,7 @@ pub mod Said
 pub mod Records
 pub mod Entries
 pub mod Names
+pub mod Wanting
 pub mod Members
 pub mod Library
 pub mod Archive

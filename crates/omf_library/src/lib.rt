@@ -10,6 +10,7 @@ mod library;
 mod names;
 mod number;
 mod records;
+mod wanting;
 
 pub use entries::listed_name;
 pub use fault::{FormatFault, LibraryFault};
@@ -17,3 +18,4 @@ pub use fields::{take_bytes, take_index, take_name};
 pub use files::{FileKind, Member, file_kind, members};
 pub use names::{ModuleNames, module_names, push_listed};
 pub use records::{ends_module, module_frames, record_at};
+pub use wanting::wanting_place;

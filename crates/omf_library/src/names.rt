@@ -50,7 +50,7 @@ pub fn push_listed<'a, A: Allocator + Copy>(
 
 /// Appends the names that a record wants: those of EXTDEF and CEXTDEF, and those that ALIAS stands for.
 #[tactic(auto, unfolding(crate::specs::Names::wanted_in))]
-fn push_wanted<'a, A: Allocator + Copy>(
+pub(crate) fn push_wanted<'a, A: Allocator + Copy>(
     frame: &Frame<'a>,
     listed: &[&'a [u8]],
     wanted: &mut Vec<&'a [u8], A>,
