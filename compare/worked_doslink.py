@@ -131,6 +131,18 @@ NAMES = [
     ("behind the other end", [(0x8B, "00"), (0x8C, "0161 00")], "", ""),
 ]
 
+# title, bodies of records, a name, and where the records begin that want it
+WANTED_AT = [
+    ("two externals", [(0x8C, "0161 00"), (0x8C, "0162 00 0161 00"), (0x8C, "0162 00")], "a",
+     [0, 7]),
+    ("behind a header", [(0x80, "0161"), (0x8C, "0161 00")], "a", [6]),
+    ("a name that is listed", [(0x96, "0161 0162"), (0xBC, "01 00"), (0xBC, "02 00")], "b", [14]),
+    ("one that is listed too late", [(0xBC, "01 00"), (0x96, "0161"), (0xBC, "01 00")], "a", [12]),
+    ("an alias", [(0xC6, "0161 0162"), (0xC6, "0162 0161")], "b", [0]),
+    ("communal and local names", [(0xB0, "0161 00 62 02"), (0xB4, "0161 00")], "a", []),
+    ("behind the end", [(0x8A, "00"), (0x8C, "0161 00")], "a", []),
+]
+
 # title, modules and libraries of modules as names wanted and offered, whether case is ignored, and
 # the library and member that are taken, the name, and the module that wants it
 SEARCHES = [
@@ -389,10 +401,10 @@ LINKS = [
     ("a module in the place of a library", {"files": ["m.obj"], "libraries": ["x.obj"]}, [],
      PROGRAM, "m.obj\nx.obj\n"),
     ("nothing to take", {"files": ["m.obj"], "libraries": ["x.a"]}, [],
-     'doslink: m.obj: "x" is missing: wanted by "M"\n', "m.obj\n"),
+     'doslink: m.obj: "x" is missing: record 26 (0000001A), wanted by "M"\n', "m.obj\n"),
     ("names that nothing uses", {"files": ["w.obj"], "libraries": ["x.lib"]}, [],
-     'doslink: w.obj: "_X" is missing: wanted by "W"; "x" is in x.lib(X)\n'
-     'doslink: w.obj: "y" is missing: wanted by "W"\n', "w.obj\n"),
+     'doslink: w.obj: "_X" is missing: record 26 (0000001A), wanted by "W"; "x" is in x.lib(X)\n'
+     'doslink: w.obj: "y" is missing: record 26 (0000001A), wanted by "W"\n', "w.obj\n"),
     ("a library without an end", {"files": ["m.obj"], "libraries": ["cut.lib"]}, [],
      f"doslink: cut.lib: 44 Truncated at place {len(LIBRARY) - 1}\n", ""),
     ("a file that isn't there comes first", {"files": ["cut.lib", "none.obj"]}, [],
@@ -406,9 +418,9 @@ LINKS = [
     ("LIB is for default libraries", {"files": ["m.obj"], "libraries": ["L"]}, ["g"],
      "doslink: L: 1 Device at record 0\n", ""),
     ("a default library of this folder", {"files": ["t.obj"]}, ["f"],
-     'doslink: t.obj: "x" is missing: wanted by "T"\n', "t.obj\n"),
+     'doslink: t.obj: "x" is missing: record 26 (0000001A), wanted by "T"\n', "t.obj\n"),
     ("no default libraries", {"files": ["t.obj"], "has_default_libraries": False}, ["f"],
-     'doslink: t.obj: "x" is missing: wanted by "T"\n', "t.obj\n"),
+     'doslink: t.obj: "x" is missing: record 26 (0000001A), wanted by "T"\n', "t.obj\n"),
     ("a default library that isn't there", {"files": ["two.obj", "m.obj", "x.lib"]}, ["g"],
      'doslink: warning: library "Y" of two.obj was not found\n',
      'two.obj\nm.obj\nx.lib(X) for "x"\n'),
@@ -710,6 +722,9 @@ def check_libraries():
         assert members_of(content) == wanted, title
     for title, bodies, *wanted in NAMES:
         assert names_of(bodies) == wanted, title
+    for title, bodies, name, wanted in WANTED_AT:
+        places = names.wanting_places(framed(bodies), name.encode())
+        assert list(places) == wanted, title
 
 
 def check_search():

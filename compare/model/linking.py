@@ -13,7 +13,7 @@ from model import (
     program_file, search)
 from model.commands import Answer, Output
 from model.faults import Fault, escaped, printed_name
-from model.names import Names, names_of
+from model.names import Names, names_of, wanting_places
 
 PROGRAM = "doslink"
 # the words for modules that are made
@@ -218,15 +218,17 @@ class Linking:
             raise Stop(INPUT, faults.MISSING, lines)
 
     def missing(self, taken, stock):
-        """Each name that is missing, and a line: who wants it, and where one like it is."""
+        """Each name that is missing, and a line: who wants it, where, and where one like it is."""
         members = [member for members in stock[1] for member in members]
         lacking = search.missing(
             [each.names for each in taken], [each.names for each in members], self.key)
         for each in lacking:
             wanter = taken[each.wanted_by]
+            place = next(wanting_places(wanter.content, each.name))
             line = f"{wanter.word}: {printed_name(each.name)} is missing"
+            line += f": record {place} ({place:08X})"
             title = title_of(wanter.content)
-            line += "" if title is None else f": wanted by {printed_name(title)}"
+            line += "" if title is None else f", wanted by {printed_name(title)}"
             if each.like is not None:
                 like_of = [*taken, *members][each.like_of].word
                 line += f"; {printed_name(each.like)} is in {like_of}"

@@ -157,3 +157,15 @@ def add(names, frame):
         STEPS[frame.kind](names, Entries(frame.body))
     except Ended:
         pass
+
+
+def wanting_places(content, name):
+    """Where the records of a module begin that want a name, one after the other."""
+    names, place = Names(), 0
+    for frame in whole_frames(content):
+        before = len(names.wanted)
+        if frame.kind in STEPS:
+            add(names, frame)
+        if name in names.wanted[before:]:
+            yield place
+        place = frame.behind

@@ -1,8 +1,8 @@
 //! The modules that a link takes: told, and looked through for names that are missing.
-ghost use Rattle.std.specs.Prelude.{◌≡◌, [], ◌∷◌, ◌++◌, OnOk, map};
+ghost use Rattle.std.specs.Prelude.{◌≡◌, [], ◌∷◌, ◌++◌, IfOk, OnOk, map};
 ghost use Rattle.omf_communal.specs.Deciding.{variable_said};
 ghost use Rattle.doslink_stock.specs.Seen.{handed_held};
-ghost use Rattle.doslink_telling.specs.Missing.{unmet};
+ghost use Rattle.doslink_telling.specs.Missing.{unmet, wants_marks};
 ghost use Rattle.doslink_jobs.specs.Communals.{offering};
 ghost use Rattle.omf_files.specs.Files.{sink_failures};
 
@@ -81,8 +81,10 @@ pub(crate) fn check_names<'m, 'a, A: Allocator + Copy>(
     variables: &[Variable<'a>],
     lines: &mut Vec<u8, A>,
 ) -> Result<bool, Stop>
-    ensures { OnOk result (unmet names (map (λ h. (handed_held h).says) handed.now
+    ensures met { OnOk result (unmet names (map (λ h. (handed_held h).says) handed.now
         ++ offering (map variable_said variables.now) ∷ []) ≡ []) }
+    ensures marks { IfOk result (λ marks. marks ≡ wants_marks names (map (λ h. (handed_held h).says) handed.now
+        ++ offering (map variable_said variables.now) ∷ [])) }
 {
     let communal = variable_names(alloc, variables)?;
     let mut says = handed_saids(alloc, handed)?;

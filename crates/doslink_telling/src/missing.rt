@@ -3,17 +3,23 @@ ghost use Rattle.std.specs.Prelude.{◌≡◌, IfOk, map};
 ghost use Rattle.std.specs.Option.{option_copied};
 ghost use Rattle.omf_search.specs.Results.{module_said, wanted_said};
 ghost use Rattle.doslink_telling.specs.Missing as spec;
-ghost use Rattle.doslink_telling.specs.Missing.{unmet};
+ghost use Rattle.doslink_telling.specs.Missing.{unmet, wants_marks};
 ghost use Rattle.doslink_telling.specs.Table.{header_name};
 
 use crate::lines::quoted_name;
 use crate::telling::{handed_saids, module_word};
 use doslink_files::InputFile;
 use doslink_stock::{Entry, Handed, Stock, members_of};
+use itoa::Buffer;
 use omf_alias::agree;
+use omf_library::{module_frames, wanting_place};
 use omf_place::Names;
 use omf_search::{Offered, Said, Wanted, Whose, likes, missing};
+use omf_text::Hexadecimal;
 use std::alloc::{AllocError, Allocator};
+
+/// How many hexadecimal digits `show` prints of a place.
+const PLACE_DIGITS: usize = 8;
 
 /// Whether a name is one that the order module defines where it is wanted.
 fn is_mark(names: Names, name: &[u8]) -> bool
@@ -40,7 +46,8 @@ pub fn unmet_names<'a, A: Allocator + Copy>(
     names: Names,
     says: &[Said<'_, 'a>],
 ) -> Result<Unmet<'a, A>, AllocError>
-    ensures { IfOk result (λ u. map wanted_said u.missing.items ≡ unmet names (map module_said says.now)) }
+    ensures missing { IfOk result (λ u. map wanted_said u.missing.items ≡ unmet names (map module_said says.now)) }
+    ensures marks { IfOk result (λ u. u.marks ≡ wants_marks names (map module_said says.now)) }
 {
     let wanted = missing(alloc, names, says)?;
     let mut others = Vec::new(alloc);
@@ -101,6 +108,26 @@ fn push_like<A: Allocator + Copy>(
     lines.extend_from_slice(&word)
 }
 
+/// Appends the record of a module that wants a name first, by its place in the module, as faults have it and as `show`
+/// prints it.
+fn push_record<A: Allocator + Copy>(
+    alloc: A,
+    lines: &mut Vec<u8, A>,
+    wanter: &Entry<'_, A>,
+    name: &[u8],
+) -> Result<(), AllocError> {
+    let frames = module_frames(alloc, wanter.bytes)?;
+    let Some(place) = wanting_place(alloc, &frames, name)? else {
+        return Ok(());
+    };
+    let mut digits = Buffer::new();
+    lines.extend_from_slice(b": record ")?;
+    lines.extend_from_slice(digits.format(place).as_bytes())?;
+    lines.extend_from_slice(b" (")?;
+    lines.extend_from_slice(Hexadecimal::new(place, PLACE_DIGITS).as_bytes())?;
+    lines.extend_from_slice(b")")
+}
+
 /// Appends the line of a missing name up to what may be like it.
 fn push_front<A: Allocator + Copy>(
     alloc: A,
@@ -110,15 +137,16 @@ fn push_front<A: Allocator + Copy>(
     name: &[u8],
 ) -> Result<(), AllocError> {
     let word = module_word(alloc, files, wanter)?;
-    let name = quoted_name(alloc, name)?;
+    let quoted = quoted_name(alloc, name)?;
     lines.extend_from_slice(b"doslink: ")?;
     lines.extend_from_slice(&word)?;
     lines.extend_from_slice(b": ")?;
-    lines.extend_from_slice(&name)?;
+    lines.extend_from_slice(&quoted)?;
     lines.extend_from_slice(b" is missing")?;
+    push_record(alloc, lines, wanter, name)?;
     if let Some(header) = header_name(wanter.bytes) {
         let header = quoted_name(alloc, header)?;
-        lines.extend_from_slice(b": wanted by ")?;
+        lines.extend_from_slice(b", wanted by ")?;
         lines.extend_from_slice(&header)?;
     }
     Ok(())
@@ -140,7 +168,8 @@ fn likes_of<'a, A: Allocator + Copy>(
     likes(alloc, &asked, &modules, &members)
 }
 
-/// Appends a line for each missing name: the module that wants it, and where a name like it is offered.
+/// Appends a line for each missing name: the module that wants it, the first of its records that does, and where a name
+/// like it is offered.
 pub fn push_missing_lines<'m, 'a, A: Allocator + Copy>(
     alloc: A,
     lines: &mut Vec<u8, A>,

@@ -2,7 +2,9 @@
 use crate::aliasing::{ALIAS, CALLS, CASE, ROUND};
 use crate::declaring::{BODY, CUT_ELEMENT, END, FAR, LONG, MANY, NEAR, OTHER_SIZE, TABLE};
 use crate::memory::{Desk, Page, Pen};
-use crate::modules::{ELSEWHERE, LIBRARY, LIKE, MARKS, NAMELESS, NAMES, OFFERS, WANTS, WIDE};
+use crate::modules::{
+    ELSEWHERE, HEADLESS, KEEPS, LIBRARY, LIKE, MARKS, NAMELESS, NAMES, OFFERS, WANTS, WIDE,
+};
 use doslink_jobs::{language_of, run_words};
 use omf_files::BufferedSink;
 use omf_frame::WriteSink;
@@ -31,10 +33,10 @@ doslink A.OBJ F.OBJ|0||
 doslink -v A.OBJ F.OBJ RUN.LIB|0|A.OBJ~F.OBJ~|
 doslink -v A.OBJ RUN.LIB|0|A.OBJ~RUN.LIB(b.c) for \"f\"~RUN.LIB(c.c) for \"g\"~|
 doslink A.OBJ -l RUN|0||
-doslink A.OBJ|1||doslink: A.OBJ: \"f\" is missing: wanted by \"a.c\"~
-doslink A.OBJ D.OBJ|1||doslink: A.OBJ: \"f\" is missing: wanted by \"a.c\"; \"_f\" is in D.OBJ~
+doslink A.OBJ|1||doslink: A.OBJ: \"f\" is missing: record 28 (0000001C), wanted by \"a.c\"~
+doslink A.OBJ D.OBJ|1||doslink: A.OBJ: \"f\" is missing: record 28 (0000001C), wanted by \"a.c\"; \"_f\" is in D.OBJ~
 doslink E.OBJ|0||doslink: warning: library \"NONE\" of E.OBJ was not found~
-doslink --no-default-libs E.OBJ|1||doslink: E.OBJ: \"f\" is missing: wanted by \"e.c\"~
+doslink --no-default-libs E.OBJ|1||doslink: E.OBJ: \"f\" is missing: record 47 (0000002F), wanted by \"e.c\"~
 doslink A.OBJ F.OBJ F.OBJ|1||doslink: link: 25 DuplicatePublic \"f\" in F.OBJ and F.OBJ~
 doslink A.OBJ -l NONE|3||doslink: NONE: 1 Device at record 0~
 doslink A.OBJ -l LIBS|3||doslink: LIBS: 1 Device at record 0~
@@ -61,6 +63,15 @@ doslink G.OBJ|0||doslink: warning: library \"NONE\" of G.OBJ was not found~
 doslink --keep-debug A.OBJ F.OBJ|0||
 doslink WIDE.OBJ|0||doslink: warning: 32-bit segments of WIDE.OBJ are linked as 16-bit ones~
 wlink|2||doslink: no file is named to be linked~
+";
+
+/// Runs in which names are missing, in the same form.
+const MISSING_RUNS: &str = "\
+doslink K.OBJ|1||\
+doslink: K.OBJ: \"kept\" is missing: record 33 (00000021), wanted by \"k.c\"~\
+doslink: K.OBJ: \"f\" is missing: record 39 (00000027), wanted by \"k.c\"~
+doslink K.OBJ F.OBJ|1||doslink: K.OBJ: \"kept\" is missing: record 33 (00000021), wanted by \"k.c\"~
+doslink N.OBJ|1||doslink: N.OBJ: \"n\" is missing: record 0 (00000000)~
 ";
 
 /// Runs with communal variables, in the same form.
@@ -126,6 +137,8 @@ fn told(alloc: Global, row: &str) -> Result<Vec<u8>, AllocError> {
         ("E.OBJ", NAMES.as_slice()),
         ("M.OBJ", MARKS.as_slice()),
         ("H.OBJ", NAMELESS.as_slice()),
+        ("K.OBJ", KEEPS.as_slice()),
+        ("N.OBJ", HEADLESS.as_slice()),
         ("RUN.LIB", LIBRARY.as_slice()),
         ("LIBS/OTHER.lib", LIBRARY.as_slice()),
         ("G.OBJ", ELSEWHERE.as_slice()),
@@ -196,6 +209,13 @@ fn first_wrong(alloc: Global, rows: &str) -> Result<Option<String>, AllocError> 
 #[test]
 fn runs_tell_these_lines(rt: HostRuntime) -> Result<(), Fail> {
     let wrong = first_wrong(rt.alloc(), RUNS)?;
+    assert_eq!(rt; wrong, None);
+    Ok(())
+}
+
+#[test]
+fn runs_with_missing_names_tell_these_lines(rt: HostRuntime) -> Result<(), Fail> {
+    let wrong = first_wrong(rt.alloc(), MISSING_RUNS)?;
     assert_eq!(rt; wrong, None);
     Ok(())
 }

@@ -27,7 +27,7 @@ returns g c =
     ap (λ n. unmet n (says ++ offering vs ∷ [])) (sym c.options_of-names.ensures)
     ∙ ap (λ l. unmet c.options_of-names.result.names (says ++ offering (map variable_said l) ∷ []))
     (sym c.deref-2.ensures.value)
-    ∙ c.in_ok-marks.ensures in
+    ∙ c.in_ok-marks.ensures.met in
     let takes = subst (λ n. Takes n os ms (map handed_held found)) c.options_of-names.ensures c.in_ok-found.ensures in
     OnOk-weaker (IsFaultless g.row.A.Denot names (input_list inputs)) (IsLinkedStock g.row.A.Denot job os ms)
     (λ faultless. of-inputs g.row.A.Denot job os ms (map handed_held handed) vs inputs
