@@ -1,10 +1,11 @@
 //! A program and its map, written to files.
 ghost use Rattle.std.specs.Prelude.{◌≡◌, ◌+◌, ◌-◌, ◌^◌, ◌<◌, ◌≤◌, [], IfOk, OnOk};
 ghost use Rattle.std.specs.Io.KnownBytes.{Keeps};
-ghost use Rattle.omf_commands.specs.Outcome.{IsFaultless};
+ghost use Rattle.omf_commands.specs.Outcome.{IsFaultless, Outcome};
 ghost use Rattle.omf_files.specs.Files.{held_back, sink_bytes, sink_failures};
 ghost use Rattle.omf_place.specs.Bounded.{IsBounded};
-ghost use Rattle.doslink_link.specs.Linking.{WritesProgramOf, bytes_of};
+ghost use Rattle.doslink_link.specs.Linking.{WritesBy, WritesProgramOf, bytes_of};
+ghost use Rattle.doslink_jobs.specs.inside.Flushed.{IsFlushed};
 
 use doslink_link::link_bytes;
 use doslink_telling::table;
@@ -15,26 +16,29 @@ use omf_text::LinkFault;
 use std::alloc::Allocator;
 use std::io::Write;
 
-/// The answer once what the sink holds back is written. A failure there comes first.
+/// The answer, once what the sink holds back is handed on where it is no fault.
 fn flushed<W: Write + Drop, T: Drop, A: Allocator + Copy>(
     sink: &mut BufferedSink<W, A>,
     answer: Result<T, LinkFault<A>>,
 ) -> Result<T, LinkFault<A>>
     requires { sink_failures sink.old < 2 ^ 64 - 1 }
-    ensures answer { OnOk result (result ≡ answer) }
+    ensures answer { IsFlushed answer result }
     ensures same { Keeps (sink_bytes W.contents sink.old) (sink_bytes W.contents sink.new) }
     ensures whole { OnOk result (held_back sink.new ≡ []) }
 {
-    match sink.flush() {
-        Ok(()) => answer,
-        Err(_) => Err(LinkFault::Output),
+    match answer {
+        Ok(done) => match sink.flush() {
+            Ok(()) => Ok(done),
+            Err(_) => Err(LinkFault::Output),
+        },
+        Err(fault) => Err(fault),
     }
 }
 
 /// Links the inputs, and writes the program to a sink, all of which is handed on to its writer.
 ///
 /// # Errors
-/// Those of `link_bytes`; where handing on fails, that comes first.
+/// Those of `link_bytes`; the sink's too where handing on fails.
 #[tactic(auto, using(crate::proofs::Failures::at_most_one))]
 pub fn link_into<W: Write + Drop, A: Allocator + Copy>(
     alloc: A,
@@ -43,8 +47,11 @@ pub fn link_into<W: Write + Drop, A: Allocator + Copy>(
     sink: &mut BufferedSink<W, A>,
 ) -> Result<Report<A>, LinkFault<A>>
     requires { sink_failures sink.old ≡ 0 }
-    // No fault stands in the inputs where it succeeds.
-    ensures linked { OnOk result (IsFaultless A options.now.names (bytes_of inputs.now)) }
+    // A program is answered exactly where no fault stands in the inputs, else the only one.
+    ensures outcome { Outcome options.now.names (bytes_of inputs.now) result }
+    // What is written is the file of the program, a front of it where the sink failed, and after a refusal nothing.
+    ensures written { WritesBy options.now.names (bytes_of inputs.now) (sink_bytes W.contents sink.old)
+        (sink_bytes W.contents sink.new) result }
     // The file that was written holds the program of the inputs' records at each paragraph.
     ensures headline { OnOk result (WritesProgramOf options.now.names (bytes_of inputs.now)
         (sink_bytes W.contents sink.old) (sink_bytes W.contents sink.new)) }
@@ -63,7 +70,7 @@ fn link_to<W: Write + Drop, A: Allocator + Copy>(
     inputs: &[&[u8]],
     out: W,
 ) -> Result<Report<A>, LinkFault<A>>
-    ensures linked { OnOk result (IsFaultless A options.now.names (bytes_of inputs.now)) }
+    ensures outcome { Outcome options.now.names (bytes_of inputs.now) result }
     ensures bounded { IfOk result (λ report. IsBounded report.modules.items report.layout) }
 {
     let mut sink = BufferedSink::new(alloc, out)?;

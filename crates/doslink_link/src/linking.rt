@@ -3,7 +3,7 @@ ghost use Rattle.std.specs.Prelude.{◌≡◌, ◌+◌, ◌-◌, ◌^◌, ◌<�
 ghost use Rattle.omf_place.specs.Bounded.{IsBounded};
 ghost use Rattle.omf_commands.specs.Outcome.{Outcome};
 ghost use Rattle.omf_commands.specs.Reading.{sink_failures};
-ghost use Rattle.doslink_link.specs.Linking.{WritesProgramOf, bytes_of};
+ghost use Rattle.doslink_link.specs.Linking.{WritesBy, WritesProgramOf, bytes_of};
 
 use omf_commands::{Options, Report, link};
 use omf_frame::{MemSource, Sink};
@@ -41,6 +41,8 @@ pub fn link_bytes<K: Sink, A: Allocator + Copy>(
     ensures sink { K.failures sink.new ≡ K.failures sink.old + sink_failures result }
     // A program is answered exactly where no fault stands in the inputs, else the only one.
     ensures outcome { Outcome options.now.names (bytes_of inputs.now) result }
+    // What is written is the file of the program, a front of it where the sink failed, and after a refusal nothing.
+    ensures written { WritesBy options.now.names (bytes_of inputs.now) (K.written sink.old) (K.written sink.new) result }
     // The file that was written holds the program of the inputs' records at each paragraph.
     ensures headline { OnOk result
         (WritesProgramOf options.now.names (bytes_of inputs.now) (K.written sink.old) (K.written sink.new)) }
