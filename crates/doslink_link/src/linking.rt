@@ -42,7 +42,8 @@ pub fn link_bytes<K: Sink, A: Allocator + Copy>(
     // A program is answered exactly where no fault stands in the inputs, else the only one.
     ensures outcome { Outcome options.now.names (bytes_of inputs.now) result }
     // What is written is the file of the program, a front of it where the sink failed, and after a refusal nothing.
-    ensures written { WritesBy options.now.names (bytes_of inputs.now) (K.written sink.old) (K.written sink.new) result }
+    ensures written { WritesBy options.now.names (bytes_of inputs.now) (K.written sink.old) (K.written sink.new)
+        result }
     // The file that was written holds the program of the inputs' records at each paragraph.
     ensures headline { OnOk result
         (WritesProgramOf options.now.names (bytes_of inputs.now) (K.written sink.old) (K.written sink.new)) }
