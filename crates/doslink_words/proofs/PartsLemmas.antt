@@ -1,111 +1,154 @@
 -- What holds of loops over the parts of a directive.
 use Rattle.std.proofs.Common.{◌≡◌, ℕ, ◌+◌, ◌<◌, ◌≤◌, Bool, true, false, cond, List, [], ◌∷◌, ◌++◌, length, drop, get_or}
-use Rattle.std.proofs.Common.{Option, None, Result, Ok, Err, refl, sym, ap, ◌∙◌, ◌⊎◌, ◌-◌, arith, inl, inr, length-drop}
-use Rattle.std.proofs.Common.{not, subst, suc, take}
-use Rattle.std.specs.List.{onto_first, position_or_len}
+use Rattle.std.proofs.Common.{Option, None, Result, Ok, Err, sym, ap, ◌∙◌, ◌⊎◌, ◌-◌, arith, inl, inr, length-drop}
+use Rattle.std.proofs.Common.{not, subst, take}
+use Rattle.std.specs.List.{drop-map, position_or_len, take-map}
 use Rattle.std.specs.Borrow.{Bor}
-use Rattle.std.proofs.lemmas.List.{drop-drop, get_or-map, length-map, map-append, take_all}
-use Rattle.doslink_words.specs.declared.job.OrderItem.{OrderItem}
-use Rattle.std.specs.List.{drop-map, take-map}
-use Rattle.std.proofs.lemmas.List.Sums.{prefix_len-drop_all, prefix_len-drop_no, prefix_len-drop_yes}
-use Rattle.std.proofs.lemmas.List.Splits.{slice_split_first}
-use Rattle.doslink_words.specs.declared.faults.DirectiveFault.{DirectiveFault}
-use Rattle.doslink_words.specs.inside.Faults.{IsFaultAt}
-use Rattle.std.proofs.lemmas.List.{at_drop_more, at_drop_all}
+use Rattle.std.proofs.lemmas.Bool.{cases_lt, not-true}
+use Rattle.std.proofs.lemmas.List.{at_drop_all, at_drop_more, drop-drop, get_or-map, length-map, map_push, take_all}
+use Rattle.std.proofs.lemmas.List.Splits.{slice_split_first, slice_split_none}
+use Rattle.std.proofs.lemmas.List.Sums.{prefix_len-drop_no, prefix_len-drop_yes}
+use Rattle.std.proofs.lemmas.List.Sums.{prefix_len-le-length, prefix_len_passes}
 use Rattle.clap.specs.Words.{Text}
+use Rattle.doslink_words.specs.declared.faults.DirectiveFault.{DirectiveFault}
 use Rattle.doslink_words.specs.declared.faults.DirectiveFaultKind.{DirectiveFaultKind}
+use Rattle.doslink_words.specs.declared.faults.DirectiveFaultKind.TheVariants.{UnclosedQuote}
+use Rattle.doslink_words.specs.declared.faults.LineFault.{LineFault}
+use Rattle.doslink_words.specs.declared.faults.LineFault.TheVariants.{Memory, Wrong}
+use Rattle.doslink_words.specs.declared.faults.SplitFault.{SplitFault}
+use Rattle.doslink_words.specs.declared.faults.SplitFault.TheVariants as split_fault
+use Rattle.doslink_words.specs.declared.job.OrderItem.{OrderItem}
+use Rattle.doslink_words.specs.declared.tokens.Syntax.TheVariants.{Directives}
 use Rattle.doslink_words.specs.declared.tokens.Token.{Token}
 use Rattle.doslink_words.specs.Directives.{and_then, is_comma, one_name, option_meaning, option_of, parts, with_names}
 use Rattle.doslink_words.specs.Directives.{with_options, line_meaning, lines_meaning, on_line, order_item, says_nothing}
 use Rattle.doslink_words.specs.Directives.{tokens_meaning, with_items, FaultyLine, Means}
 use Rattle.doslink_words.specs.Said.{Said, SaidItem, item_of, items_of}
 use Rattle.doslink_words.specs.Tokens.{Piece, Comma, texts, tokens}
-use Rattle.doslink_words.specs.inside.Tokens.{piece_of, pieces}
-use Rattle.doslink_words.specs.declared.tokens.Syntax.TheVariants.{Directives}
-use Rattle.doslink_words.specs.declared.faults.DirectiveFaultKind.TheVariants.{UnclosedQuote}
-use Rattle.doslink_words.specs.declared.faults.LineFault.{LineFault}
-use Rattle.doslink_words.specs.declared.faults.LineFault.TheVariants.{Memory, Wrong}
+use Rattle.doslink_words.specs.inside.Faults.{IsFaultAt}
 use Rattle.doslink_words.specs.inside.Follows.{Follows, split_line_fault}
-use Rattle.doslink_words.specs.declared.faults.SplitFault.{SplitFault}
-use Rattle.doslink_words.specs.declared.faults.SplitFault.TheVariants as split_fault
+use Rattle.doslink_words.specs.inside.Tokens.{piece_of, pieces}
 use Rattle.std.specs.Option.{option_map_or}
 
 -- how many tokens stand before the first comma
 abbrev pub part_len : List Piece → ℕ
 part_len = position_or_len is_comma
 
-take_one_more : (n : ℕ) (p : Piece) (ps : List Piece) → take (1 + n) (p ∷ ps) ≡ p ∷ take n ps
-take_one_more n p ps = let e : 1 + n ≡ suc n = omega arith in ap (λ (m : ℕ). take m (p ∷ ps)) e
-
-first_step : (b : Bool) (p : Piece) (ps : List Piece) (more : List (List Piece))
-    → parts ps ≡ take (part_len ps) ps ∷ more
-    → (rest : List (List Piece))
-    × (cond b ([] ∷ parts ps) (onto_first p (parts ps)) ≡ take (cond (not b) (1 + part_len ps) 0) (p ∷ ps) ∷ rest)
-first_step true p ps more is = (parts ps, refl)
-first_step false p ps more is =
-    (more, ap (onto_first p) is ∙ ap (λ (xs : List Piece). xs ∷ more) (sym (take_one_more (part_len ps) p ps)))
-
--- the first part stands before the first comma
-first_part : (ps : List Piece) → (more : List (List Piece)) × (parts ps ≡ take (part_len ps) ps ∷ more)
-first_part [] = ([], refl)
-first_part (p ∷ ps) = let before = first_part ps in first_step (is_comma p) p ps before.0 before.1
-
-last_step : (b : Bool) (p : Piece) (ps : List Piece) → (part_len ps ≡ length ps → parts ps ≡ ps ∷ [])
-    → cond (not b) (1 + part_len ps) 0 ≡ length (p ∷ ps)
-    → cond b ([] ∷ parts ps) (onto_first p (parts ps)) ≡ (p ∷ ps) ∷ []
-last_step true p ps before e = absurd (omega (arith, e))
-last_step false p ps before e = ap (onto_first p) (before (omega (arith, e)))
-
--- with no comma there is one part
-last_part : (ps : List Piece) → part_len ps ≡ length ps → parts ps ≡ ps ∷ []
-last_part [] e = refl
-last_part (p ∷ ps) e = last_step (is_comma p) p ps (last_part ps) e
-
--- what stands at places of tokens
-part_at : (ops : List Token) (start n : ℕ) → pieces (take n (drop start ops)) ≡ take n (drop start (pieces ops))
-part_at ops start n = sym (ap (take n) (drop-map piece_of start ops) ∙ take-map piece_of n (drop start ops))
-
--- a part of operands: where it begins and ends, and the tokens that it has
-pub record IsPart (ops : List Token) (start end : ℕ) (part : List Token) : Type 0 where
+-- a part of operands: where it begins, and where it ends
+pub record IsPart (ops : List Token) (start end : ℕ) : Type 0 where
   pub within : start ≤ length ops
   pub ends : end ≡ start + part_len (drop start (pieces ops))
-  pub is : part ≡ take (end - start) (drop start ops)
 
-part_pieces : (ops : List Token) (start end : ℕ) (part : List Token) → IsPart ops start end part
-    → pieces part ≡ take (part_len (drop start (pieces ops))) (drop start (pieces ops))
-part_pieces ops start end part here =
-    let long : end - start ≡ part_len (drop start (pieces ops)) = omega (arith, here.ends) in
-    ap pieces here.is ∙ (part_at ops start (end - start) ∙ ap (λ (n : ℕ). take n (drop start (pieces ops))) long)
+-- the tokens of a part, and those from its first one on
+abbrev pub part_of : List Token → (start end : ℕ) → List Piece
+part_of ops start end = pieces (take (end - start) (drop start ops))
 
-rest_len : (ops : List Token) (start : ℕ) → length (drop start (pieces ops)) ≡ length ops - start
-rest_len ops start = length-drop start (pieces ops) ∙ ap (λ (n : ℕ). n - start) (length-map ops piece_of)
+abbrev pub from : List Token → (start : ℕ) → List Piece
+from ops start = drop start (pieces ops)
 
--- the part and those behind it: any, none, and those behind the comma
-part_any : (ops : List Token) (start end : ℕ) (part : List Token) → IsPart ops start end part
-    → (more : List (List Piece)) × (parts (drop start (pieces ops)) ≡ pieces part ∷ more)
-part_any ops start end part here =
-    let first = first_part (drop start (pieces ops)) in
-    (first.0, first.1 ∙ ap (λ (p : List Piece). p ∷ first.0) (sym (part_pieces ops start end part here)))
+module _ (ops : List Token) (start end : ℕ) (here : IsPart ops start end) where
+  from_len : length (from ops start) ≡ length ops - start
+  from_len = length-drop start (pieces ops) ∙ ap (λ (n : ℕ). n - start) (length-map ops piece_of)
 
-part_none : (ops : List Token) (start end : ℕ) (part : List Token) → IsPart ops start end part → end ≡ length ops
-    → parts (drop start (pieces ops)) ≡ pieces part ∷ []
-part_none ops start end part here last =
-    let rest = drop start (pieces ops) in
-    let whole : part_len rest ≡ length rest = omega (arith, here.ends, here.within, last, rest_len ops start) in
-    last_part rest whole
-    ∙ ap (λ (p : List Piece). p ∷ [])
-    (sym (part_pieces ops start end part here ∙ take_all (part_len rest) rest (omega (arith, whole))))
+  part_is : part_of ops start end ≡ take (part_len (from ops start)) (from ops start)
+  part_is =
+      let long : end - start ≡ part_len (from ops start) = omega (arith, here.ends) in
+      sym (ap (take (end - start)) (drop-map piece_of start ops) ∙ take-map piece_of (end - start) (drop start ops))
+      ∙ ap (λ (n : ℕ). take n (from ops start)) long
 
-part_more : (ops : List Token) (start end : ℕ) (part : List Token) → IsPart ops start end part → end < length ops
-    → parts (drop start (pieces ops)) ≡ pieces part ∷ parts (drop (end + 1) (pieces ops))
-part_more ops start end part here more =
-    let rest = drop start (pieces ops) in
-    let inside : part_len rest < length rest = omega (arith, here.ends, here.within, more, rest_len ops start) in
-    let behind : start + (part_len rest + 1) ≡ end + 1 = omega (arith, here.ends) in
-    slice_split_first is_comma rest Comma inside
-    ∙ (ap (λ (p : List Piece). p ∷ parts (drop (part_len rest + 1) rest)) (sym (part_pieces ops start end part here))
-    ∙ ap (λ (ps : List Piece). pieces part ∷ parts ps)
-    (drop-drop (part_len rest + 1) start (pieces ops) ∙ ap (λ (n : ℕ). drop n (pieces ops)) behind))
+  -- what commas separate from a part on, where it is the last, where a comma stands behind it, and in both cases
+  parts_none : end ≡ length ops → parts (from ops start) ≡ part_of ops start end ∷ []
+  parts_none last =
+      let rest = from ops start in
+      let whole : part_len rest ≡ length rest = omega (arith, here.ends, here.within, last, from_len) in
+      slice_split_none is_comma rest
+      (λ k d lt. not-true _ (prefix_len_passes (λ p. not (is_comma p)) rest k d (omega (arith, whole, lt))))
+      ∙ ap (λ (p : List Piece). p ∷ []) (sym (part_is ∙ take_all (part_len rest) rest (omega (arith, whole))))
+
+  parts_more : end < length ops → parts (from ops start) ≡ part_of ops start end ∷ parts (from ops (end + 1))
+  parts_more more =
+      let rest = from ops start in
+      let inside : part_len rest < length rest = omega (arith, here.ends, here.within, more, from_len) in
+      let behind : start + (part_len rest + 1) ≡ end + 1 = omega (arith, here.ends) in
+      slice_split_first is_comma rest Comma inside
+      ∙ (ap (λ (p : List Piece). p ∷ parts (drop (part_len rest + 1) rest)) (sym part_is)
+      ∙ ap (λ (ps : List Piece). part_of ops start end ∷ parts ps)
+      (drop-drop (part_len rest + 1) start (pieces ops) ∙ ap (from ops) behind))
+
+  parts_any : (more : List (List Piece)) × (parts (from ops start) ≡ part_of ops start end ∷ more)
+  parts_any =
+      let few = prefix_len-le-length (λ p. not (is_comma p)) (from ops start) in
+      elim (cases_lt end (length ops)) [
+        | inl inside ↦ (parts (from ops (end + 1)), parts_more inside)
+        | inr past ↦ ([], parts_none (omega (arith, here.ends, here.within, past, few, from_len)))
+      ]
+
+  -- ---- names
+
+  pub names_fault : (had : List Text) (kind : DirectiveFaultKind) → one_name (part_of ops start end) ≡ Err kind
+      → with_names had (parts (from ops start)) ≡ Err kind
+  names_fault had kind is =
+      ap (with_names had) parts_any.1
+      ∙ ap (λ (r : Result Text DirectiveFaultKind). and_then r (λ name. with_names (had ++ (name ∷ [])) parts_any.0)) is
+
+  pub names_more : (had : List Text) (name : Text) → end < length ops → one_name (part_of ops start end) ≡ Ok name
+      → with_names had (parts (from ops start)) ≡ with_names (had ++ (name ∷ [])) (parts (from ops (end + 1)))
+  names_more had name more is =
+      ap (with_names had) (parts_more more)
+      ∙ ap
+      (λ (r : Result Text DirectiveFaultKind).
+      and_then r (λ name. with_names (had ++ (name ∷ [])) (parts (from ops (end + 1))))) is
+
+  pub names_end : (had : List Text) (name : Text) → end ≡ length ops → one_name (part_of ops start end) ≡ Ok name
+      → with_names had (parts (from ops start)) ≡ Ok (had ++ (name ∷ []))
+  names_end had name last is =
+      ap (with_names had) (parts_none last)
+      ∙ ap (λ (r : Result Text DirectiveFaultKind). and_then r (λ name. Ok (had ++ (name ∷ [])))) is
+
+  -- ---- options
+
+  options_all : (line : ℕ) (said : Said) (more : List (List Piece)) (o : Text × Option Text)
+      → parts (from ops start) ≡ part_of ops start end ∷ more → option_of (part_of ops start end) ≡ Ok o
+      → with_options line (parts (from ops start)) said
+      ≡ and_then (option_meaning line o.0 o.1 said) (with_options line more)
+  options_all line said more o are is =
+      ap (λ (ps : List (List Piece)). with_options line ps said) are
+      ∙ ap
+      (λ (r : Result (Text × Option Text) DirectiveFaultKind).
+      and_then r (λ o. and_then (option_meaning line o.0 o.1 said) (with_options line more))) is
+
+  pub options_wrong : (line : ℕ) (said : Said) (kind : DirectiveFaultKind)
+      → option_of (part_of ops start end) ≡ Err kind → with_options line (parts (from ops start)) said ≡ Err kind
+  options_wrong line said kind is =
+      ap (λ (ps : List (List Piece)). with_options line ps said) parts_any.1
+      ∙ ap
+      (λ (r : Result (Text × Option Text) DirectiveFaultKind).
+      and_then r (λ o. and_then (option_meaning line o.0 o.1 said) (with_options line parts_any.0))) is
+
+  pub options_fault : (line : ℕ) (said after : Said) (o : Text × Option Text) (r : Result Unit LineFault)
+      (f : LineFault) (whole : Result Said DirectiveFaultKind) → option_of (part_of ops start end) ≡ Ok o
+      → Follows (Err f) (option_meaning line o.0 o.1 said) after → r ≡ Err f
+      → whole ≡ with_options line (parts (from ops start)) said → Follows r whole after
+  options_fault line said after o r Memory whole is follows e same = rw e tt
+  options_fault line said after o r (Wrong kind) whole is follows e same =
+      rw e
+      (same
+      ∙ (options_all line said parts_any.0 o parts_any.1 is
+      ∙ ap (λ (m : Result Said DirectiveFaultKind). and_then m (with_options line parts_any.0)) follows))
+
+  pub options_more : (line : ℕ) (said next : Said) (o : Text × Option Text) → end < length ops
+      → option_of (part_of ops start end) ≡ Ok o → option_meaning line o.0 o.1 said ≡ Ok next
+      → with_options line (parts (from ops start)) said ≡ with_options line (parts (from ops (end + 1))) next
+  options_more line said next o more is means =
+      options_all line said _ o (parts_more more) is
+      ∙ ap (λ (m : Result Said DirectiveFaultKind). and_then m (with_options line (parts (from ops (end + 1))))) means
+
+  pub options_end : (line : ℕ) (said next : Said) (o : Text × Option Text) → end ≡ length ops
+      → option_of (part_of ops start end) ≡ Ok o → option_meaning line o.0 o.1 said ≡ Ok next
+      → with_options line (parts (from ops start)) said ≡ Ok next
+  options_end line said next o last is means =
+      options_all line said [] o (parts_none last) is
+      ∙ ap (λ (m : Result Said DirectiveFaultKind). and_then m (with_options line [])) means
 
 -- where a part ends: at a comma, behind a token that is none, and behind the last
 module _ (ops : List Token) (end : ℕ) where
@@ -128,84 +171,6 @@ module _ (ops : List Token) (end : ℕ) where
       prefix_len-drop_yes (λ p. not (is_comma p)) (pieces ops) end (piece_of d) (pieces_inside inside)
       (ap not (comma_at d inside ∙ (sym is ∙ e)))
 
-  pub ends_last : length ops ≤ end → part_len (drop end (pieces ops)) ≡ 0
-  ends_last done = prefix_len-drop_all (λ p. not (is_comma p)) (pieces ops) end (omega (arith, length-map ops piece_of))
-
--- ---- names
-
-module _ (ops : List Token) (start end : ℕ) (part : List Token) (here : IsPart ops start end part) where
-  pub names_fault : (had : List Text) (kind : DirectiveFaultKind) → one_name (pieces part) ≡ Err kind
-      → with_names had (parts (drop start (pieces ops))) ≡ Err kind
-  names_fault had kind is =
-      let any = part_any ops start end part here in
-      ap (with_names had) any.1
-      ∙ ap (λ (r : Result Text DirectiveFaultKind). and_then r (λ name. with_names (had ++ (name ∷ [])) any.0)) is
-
-  pub names_more : (had : List Text) (name : Text) → end < length ops → one_name (pieces part) ≡ Ok name
-      → with_names had (parts (drop start (pieces ops)))
-      ≡ with_names (had ++ (name ∷ [])) (parts (drop (end + 1) (pieces ops)))
-  names_more had name more is =
-      ap (with_names had) (part_more ops start end part here more)
-      ∙ ap
-      (λ (r : Result Text DirectiveFaultKind).
-      and_then r (λ name. with_names (had ++ (name ∷ [])) (parts (drop (end + 1) (pieces ops))))) is
-
-  pub names_end : (had : List Text) (name : Text) → end ≡ length ops → one_name (pieces part) ≡ Ok name
-      → with_names had (parts (drop start (pieces ops))) ≡ Ok (had ++ (name ∷ []))
-  names_end had name last is =
-      ap (with_names had) (part_none ops start end part here last)
-      ∙ ap (λ (r : Result Text DirectiveFaultKind). and_then r (λ name. Ok (had ++ (name ∷ [])))) is
-
-  -- ---- options
-
-  options_all : (line : ℕ) (said : Said) (more : List (List Piece)) (o : Text × Option Text)
-      → parts (drop start (pieces ops)) ≡ pieces part ∷ more → option_of (pieces part) ≡ Ok o
-      → with_options line (parts (drop start (pieces ops))) said
-      ≡ and_then (option_meaning line o.0 o.1 said) (with_options line more)
-  options_all line said more o are is =
-      ap (λ (ps : List (List Piece)). with_options line ps said) are
-      ∙ ap
-      (λ (r : Result (Text × Option Text) DirectiveFaultKind).
-      and_then r (λ o. and_then (option_meaning line o.0 o.1 said) (with_options line more))) is
-
-  pub options_wrong : (line : ℕ) (said : Said) (kind : DirectiveFaultKind) → option_of (pieces part) ≡ Err kind
-      → with_options line (parts (drop start (pieces ops))) said ≡ Err kind
-  options_wrong line said kind is =
-      let any = part_any ops start end part here in
-      ap (λ (ps : List (List Piece)). with_options line ps said) any.1
-      ∙ ap
-      (λ (r : Result (Text × Option Text) DirectiveFaultKind).
-      and_then r (λ o. and_then (option_meaning line o.0 o.1 said) (with_options line any.0))) is
-
-  pub options_fault : (line : ℕ) (said after : Said) (o : Text × Option Text) (r : Result Unit LineFault)
-      (f : LineFault) (whole : Result Said DirectiveFaultKind) → option_of (pieces part) ≡ Ok o
-      → Follows (Err f) (option_meaning line o.0 o.1 said) after → r ≡ Err f
-      → whole ≡ with_options line (parts (drop start (pieces ops))) said → Follows r whole after
-  options_fault line said after o r Memory whole is follows e same = rw e tt
-  options_fault line said after o r (Wrong kind) whole is follows e same =
-      let any = part_any ops start end part here in
-      rw e
-      (same
-      ∙ (options_all line said any.0 o any.1 is
-      ∙ ap (λ (m : Result Said DirectiveFaultKind). and_then m (with_options line any.0)) follows))
-
-  pub options_more : (line : ℕ) (said next : Said) (o : Text × Option Text) → end < length ops
-      → option_of (pieces part) ≡ Ok o → option_meaning line o.0 o.1 said ≡ Ok next
-      → with_options line (parts (drop start (pieces ops))) said
-      ≡ with_options line (parts (drop (end + 1) (pieces ops))) next
-  options_more line said next o more is means =
-      options_all line said _ o (part_more ops start end part here more) is
-      ∙ ap
-      (λ (m : Result Said DirectiveFaultKind). and_then m (with_options line (parts (drop (end + 1) (pieces ops)))))
-      means
-
-  pub options_end : (line : ℕ) (said next : Said) (o : Text × Option Text) → end ≡ length ops
-      → option_of (pieces part) ≡ Ok o → option_meaning line o.0 o.1 said ≡ Ok next
-      → with_options line (parts (drop start (pieces ops))) said ≡ Ok next
-  options_end line said next o last is means =
-      options_all line said [] o (part_none ops start end part here last) is
-      ∙ ap (λ (m : Result Said DirectiveFaultKind). and_then m (with_options line [])) means
-
 -- ---- the items of an order
 
 pub items_more : (had new : List OrderItem) (before middle after : List Token) (k n : Token) (item : OrderItem)
@@ -218,7 +183,7 @@ items_more had new before middle after k n item one two is put =
     (λ (r : Result SaidItem DirectiveFaultKind).
     and_then r (λ item. with_items (items_of had ++ (item ∷ [])) (pieces after))) is
     ∙ ap (λ (is : List SaidItem). with_items is (pieces after))
-    (sym (ap items_of put ∙ map-append item_of had (item ∷ []))))
+    (sym (ap items_of put ∙ map_push item_of had item)))
 
 -- ---- faults
 

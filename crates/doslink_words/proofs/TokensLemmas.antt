@@ -7,19 +7,19 @@ use Rattle.std.specs.Option.{option_map, option_and_then}
 use Rattle.std.specs.Str.{IsUtf8, IsCharBoundary}
 use Rattle.std.specs.List.{position_or_len, prefix_len}
 use Rattle.std.specs.Char.{is_ascii_whitespace}
-use Rattle.std.proofs.lemmas.List.{append-nil, at_drop_all, at_drop_more, get_or-map, length-map, map-append, take_all}
-use Rattle.std.specs.Borrow.{Bor}
+use Rattle.std.proofs.lemmas.List.{append-nil, take_all}
 use Rattle.std.proofs.lemmas.Grind.{get_or_after_one}
 use Rattle.std.proofs.lemmas.Str.{IsUtf8-drop}
 use Rattle.std.specs.Str.Pattern.{HasCharAt}
 use Rattle.std.specs.Prelude.{unwrap_or}
 use Rattle.std.proofs.lemmas.List.Sums.{prefix_len-le-length, prefix_len_stops}
+use Rattle.std.proofs.lemmas.Bool.{not-false}
 use Rattle.std.proofs.lemmas.Bool.Decides.{nat_tests}
 use Rattle.clap.specs.Words.{Text}
 use Rattle.doslink_words.specs.declared.tokens.Syntax.{Syntax}
 use Rattle.doslink_words.specs.declared.tokens.Syntax.TheVariants.{Words, Directives}
 use Rattle.doslink_words.specs.Tokens.{Piece, ends_word, is_quote, mark_of, after_space, word_len, token, tokens_below}
-use Rattle.doslink_words.specs.Tokens.{tokens, if_empty, text_of, texts, words}
+use Rattle.doslink_words.specs.Tokens.{tokens, if_empty, text_of, words}
 use Rattle.doslink_words.specs.inside.Tokens.{piece_of, pieces, said_mark}
 use Rattle.doslink_words.specs.declared.faults.SplitFault.{SplitFault}
 use Rattle.doslink_words.specs.declared.faults.SplitFault.TheVariants.{Memory, UnclosedQuote}
@@ -51,10 +51,6 @@ first-mark syntax text bytes r mark same is found =
     mark-ascii syntax (get_or text 0 0) (piece_of mark)
     (sym (ap (λ (bs : Text). mark_of syntax (get_or bs 0 0)) same) ∙ (sym is ∙ ap said_mark found))
 
-not_false : (b : Bool) → not b ≡ false → b ≡ true
-not_false true e = refl
-not_false false e = sym e
-
 -- a word is no longer than its text
 pub word_len-le : (syntax : Syntax) (text : Text) → 0 < length text → word_len syntax text ≤ length text
 word_len-le syntax [] h = absurd (omega arith)
@@ -68,7 +64,7 @@ word-boundary syntax (byte ∷ text) h = (
   λ inside high.
       let n = position_or_len (ends_word syntax) text in
       let ends =
-      not_false (ends_word syntax (get_or text n 0))
+      not-false (ends_word syntax (get_or text n 0))
       (prefix_len_stops (λ b. not (ends_word syntax b)) text 0 (omega arith)) in
       let small = ends_word-ascii syntax (get_or text n 0) ends in
       let P : ℕ → Type 0 = λ v. 128 ≤ v in
@@ -200,32 +196,6 @@ pub words-are : (text : Text) (ts : List Token) (ws : List Text) → tokens Word
     → ws ≡ map text_of (pieces ts) → words text ≡ Some ws
 unfolding words
 words-are text ts ws is same = ap (option_map (map text_of)) is ∙ ap (λ (xs : List Text). Some xs) (sym same)
-
--- a list of which something is made, item by item
-pub one_made : {X Y : Type 0} (f : X → Y) (all : List X) (had : List Y) (i : ℕ) (x : X) → i < length all
-    → get_or all i x ≡ x → had ++ map f (drop i all) ≡ (had ++ (f x ∷ [])) ++ map f (drop (i + 1) all)
-one_made {X} {Y} f all had i x inside here =
-    ap (λ (ys : List Y). had ++ ys)
-    (at_drop_more (map f) all i x inside ∙ ap (λ (z : X). f z ∷ map f (drop (i + 1) all)) here)
-    ∙ sym (append_assoc had (f x ∷ []) (map f (drop (i + 1) all)))
-
--- the texts of tokens, one by one
-pub text_made : (ts : List Token) (had new : List (Bor Text)) (i : ℕ) (d : Token) (t : Bor Text) → i < length ts
-    → t.now ≡ text_of (piece_of (get_or ts i d)) → new ≡ had ++ (t ∷ [])
-    → map text_of (pieces ts) ≡ texts had ++ map text_of (drop i (pieces ts))
-    → map text_of (pieces ts) ≡ texts new ++ map text_of (drop (i + 1) (pieces ts))
-text_made ts had new i d t inside is put before =
-    let token = piece_of (get_or ts i d) in
-    let there : i < length (pieces ts) = omega (arith, length-map ts piece_of) in
-    let more : texts new ≡ texts had ++ (text_of token ∷ []) =
-    ap texts put ∙ (map-append (λ s. s.now) had (t ∷ []) ∙ ap (λ (x : Text). texts had ++ (x ∷ [])) is) in
-    before
-    ∙ (one_made text_of (pieces ts) (texts had) i token there (get_or-map piece_of ts i d token inside)
-    ∙ ap (λ (w : List Text). w ++ map text_of (drop (i + 1) (pieces ts))) (sym more))
-
-pub all_made : {X Y : Type 0} (f : X → Y) (all : List X) (had : List Y) (i : ℕ) → length all ≤ i
-    → had ++ map f (drop i all) ≡ had
-all_made {X} {Y} f all had i done = ap (λ (ys : List Y). had ++ ys) (at_drop_all (map f) all i done) ∙ append-nil had
 
 pub words-none : (text : Text) (fault : SplitFault)
     → (fault ≡ Memory) ⊎ ((fault ≡ UnclosedQuote) × (tokens Words text ≡ None))

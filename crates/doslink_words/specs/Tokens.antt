@@ -4,8 +4,8 @@ use Rattle.std.specs.Prelude.{Option, Some, None, if◌then◌else◌}
 use Rattle.std.specs.Option.{option_map, option_map_or, option_and_then}
 use Rattle.std.specs.List.{before_first, after_first, position_or_len, prefix_len}
 use Rattle.std.specs.Char.{is_ascii_whitespace}
-use Rattle.std.specs.Borrow.{Bor}
 use Rattle.clap.specs.Words.{Text}
+pub use Rattle.command_line.specs.Values.{texts}
 use Rattle.doslink_words.specs.declared.tokens.Syntax.{Syntax}
 use Rattle.doslink_words.specs.declared.tokens.Syntax.TheVariants.{Words, Directives}
 
@@ -87,7 +87,3 @@ text_of Equals = 61 ∷ []
 -- the words of a text
 unfoldable pub words : Text → Option (List Text)
 words text = option_map (map text_of) (tokens Words text)
-
--- the texts of references
-abbrev pub texts : List (Bor Text) → List Text
-texts = map (λ s. s.now)

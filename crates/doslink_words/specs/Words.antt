@@ -1,12 +1,13 @@
 -- The command line: what it takes, and which job its values are.
-use Rattle.std.specs.Prelude.{◌≡◌, ◌==◌, Bool, true, false, not, List, [], Option, Some, None, map, codes}
+use Rattle.std.specs.Prelude.{◌≡◌, ◌==◌, ℕ, true, false, not, List, [], Option, Some, None, map, codes}
 use Rattle.std.specs.Prelude.{if◌then◌else◌}
 use Rattle.std.specs.Option.{option_map, unwrap_or}
 use Rattle.std.specs.List.{slice_split}
 use Rattle.clap.specs.Words.{App, Row, Rule, Text, all_of, fault_of, first_of, matches_of, new_app, new_rule}
-use Rattle.clap.specs.Words.{one_of, with_rule}
-use Rattle.clap.specs.Lexer.{usize_max}
+use Rattle.clap.specs.Words.{with_rule}
 use Rattle.clap.specs.declared.builder.action.ArgAction.TheVariants.{Append, SetTrue}
+use Rattle.command_line.specs.Rules.{case_rule, files_rule, flag_rule, map_rule}
+pub use Rattle.command_line.specs.Values.{IsFlag}
 use Rattle.doslink_words.specs.declared.job.Job.{Job}
 use Rattle.doslink_words.specs.Keywords.{is_keyword}
 use Rattle.doslink_words.specs.Said.{SaidOrder, Meeting, Dosseg, Listed, Class, At, map_of, order_of}
@@ -16,21 +17,17 @@ use Rattle.doslink_words.specs.Tokens.{texts}
 abbrev pub out_rule : Rule
 out_rule = record (new_rule (codes "OUT")) { short = Some 111 }
 
--- the map that is written: `-m MAP`
-abbrev pub map_rule : Rule
-map_rule = record (new_rule (codes "MAP")) { short = Some 109 }
+-- an option with a value by its letter, any number of times
+abbrev pub list_rule : Text → ℕ → Rule
+list_rule name short = record (new_rule name) { short = Some short; action = Some Append }
 
--- a folder of libraries, any number of times: `-L FOLDER`
+-- a folder of libraries: `-L FOLDER`
 abbrev pub folder_rule : Rule
-folder_rule = record (new_rule (codes "FOLDER")) { short = Some 76; action = Some Append }
+folder_rule = list_rule (codes "FOLDER") 76
 
--- a library, any number of times: `-l LIB`
+-- a library: `-l LIB`
 abbrev pub library_rule : Rule
-library_rule = record (new_rule (codes "LIB")) { short = Some 108; action = Some Append }
-
--- `--ignore-case`, a flag whose value is true where it is given and else false
-abbrev pub case_rule : Rule
-case_rule = record (new_rule (codes "ignore-case")) { long = Some (codes "ignore-case"); action = Some SetTrue }
+library_rule = list_rule (codes "LIB") 108
 
 -- the order of classes: `--order dosseg`, `--order CLASS,CLASS,..`
 abbrev pub order_rule : Rule
@@ -38,23 +35,15 @@ order_rule = record (new_rule (codes "ORDER")) { long = Some (codes "order") }
 
 -- `--no-default-libs`, a flag
 abbrev pub no_defaults_rule : Rule
-no_defaults_rule =
-    record (new_rule (codes "no-default-libs")) { long = Some (codes "no-default-libs"); action = Some SetTrue }
+no_defaults_rule = flag_rule (codes "no-default-libs")
 
 -- `--keep-debug`, a flag
 abbrev pub debug_rule : Rule
-debug_rule = record (new_rule (codes "keep-debug")) { long = Some (codes "keep-debug"); action = Some SetTrue }
+debug_rule = flag_rule (codes "keep-debug")
 
 -- `-v`, a flag
 abbrev pub verbose_rule : Rule
 verbose_rule = record (new_rule (codes "verbose")) { short = Some 118; action = Some SetTrue }
-
--- one or more files
-abbrev pub files_rule : Rule
-files_rule = record (new_rule (codes "FILES")) {
-  required = true;
-  range = Some (record { start_inclusive = 1; end_inclusive = usize_max });
-}
 
 -- the command before it has arguments
 abbrev pub bare_command : App
@@ -77,12 +66,6 @@ doslink_command =
 -- the values of an argument, none where it isn't given
 abbrev pub values_of : Text → List Row → List Text
 values_of id rows = unwrap_or (all_of id rows) []
-
--- what a flag is: its value, or false where it has none
-pub record IsFlag (id : Text) (rows : List Row) (flag : Bool) : Type 0 where
-  pub given : one_of id rows ≡ Some (codes "true") → flag ≡ true
-  pub other : one_of id rows ≡ Some (codes "false") → flag ≡ false
-  pub none : one_of id rows ≡ None → flag ≡ false
 
 -- an order as a word: DOSSEG by its name, else classes, which commas separate
 abbrev pub order_asked : Option Text → SaidOrder

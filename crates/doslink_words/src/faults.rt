@@ -76,7 +76,7 @@ pub enum DirectiveFaultKind {
 }
 
 // Why a line can't be followed.
-#[derive(Clone, Copy, Debug)]
+#[derive(Clone, Copy)]
 pub(crate) enum LineFault {
     // There was no memory.
     Memory,

@@ -5,7 +5,7 @@ ghost use Rattle.doslink_words.specs.Keywords as spec;
 use crate::job::WarningKind;
 
 /// What a line is about.
-#[derive(Clone, Copy, Debug, PartialEq, Eq)]
+#[derive(Clone, Copy)]
 pub(crate) enum Directive {
     /// `file`: object modules.
     File,
@@ -30,7 +30,7 @@ pub(crate) enum Directive {
 }
 
 /// What an option is about.
-#[derive(Clone, Copy, Debug, PartialEq, Eq)]
+#[derive(Clone, Copy)]
 pub(crate) enum Switch {
     /// `map`: a map is written.
     Map,
@@ -43,7 +43,7 @@ pub(crate) enum Switch {
 }
 
 /// What an option that takes no value is about.
-#[derive(Clone, Copy, Debug, PartialEq, Eq)]
+#[derive(Clone, Copy)]
 pub(crate) enum Plain {
     /// `quiet`: nothing is told but faults.
     Quiet,

@@ -13,7 +13,7 @@ use crate::keywords::is;
 use std::alloc::{AllocError, Global};
 
 /// What splits a text.
-#[derive(Clone, Copy, Debug, PartialEq, Eq)]
+#[derive(Clone, Copy)]
 pub(crate) enum Syntax {
     /// Words stand between white space.
     Words,
@@ -22,7 +22,7 @@ pub(crate) enum Syntax {
 }
 
 /// A token of a text.
-#[derive(Clone, Copy, Debug)]
+#[derive(Clone, Copy)]
 pub(crate) enum Token<'a> {
     /// What stands without quotes.
     Word(&'a str),

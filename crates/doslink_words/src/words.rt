@@ -3,7 +3,6 @@ ghost use Rattle.std.specs.Prelude.{◌≡◌, ◌==◌, IfErr, IfOk, [], false,
 ghost use Rattle.std.specs.List.{slice_split};
 ghost use Rattle.std.specs.Option.{option_map};
 ghost use Rattle.clap.specs.Words.{app_of, fault_of, found_of, is_simple_and_free, kind_of, rows_of, rule_of};
-ghost use Rattle.clap.specs.Words.{with_rule};
 ghost use Rattle.clap.specs.declared.Command.{out-Command as fields_of};
 ghost use Rattle.clap.specs.declared.error.ErrorKind.TheVariants.{OutOfMemory};
 ghost use Rattle.doslink_words.specs.Said.{At, Class, items_of, map_of, order_of};
@@ -14,9 +13,9 @@ ghost use Rattle.doslink_words.specs.declared.words.WordsFault.TheVariants.{Memo
 
 use crate::job::{Job, MapFile, Order, OrderItem};
 use crate::keywords::is;
-use clap::builder::ValueRange;
 use clap::error::ErrorKind;
 use clap::{Arg, ArgAction, ArgMatches, Command};
+use command_line::{case_flag, files, flag, map_option, with_arg};
 use std::alloc::{AllocError, Global};
 use thiserror::Error;
 
@@ -60,47 +59,15 @@ fn out_option<'a>(alloc: Global) -> Arg<'a>
     )
 }
 
-// The map that is written, where one is asked for.
-fn map_option<'a>(alloc: Global) -> Arg<'a>
-    ensures rule { rule_of result ≡ spec.map_rule }
+// An option with a value that may be given any number of times.
+fn list_option<'a>(alloc: Global, id: &'a str, short: char, help: &'a str) -> Arg<'a>
+    ensures rule { rule_of result ≡ spec.list_rule id.entry.now short }
     ensures local { result.global ≡ false }
 {
-    Arg::new(alloc, "MAP")
-        .short('m')
-        .help("The map to write after it, another file than OUT")
-}
-
-// A folder of libraries.
-fn folder_option<'a>(alloc: Global) -> Arg<'a>
-    ensures rule { rule_of result ≡ spec.folder_rule }
-    ensures local { result.global ≡ false }
-{
-    Arg::new(alloc, "FOLDER")
-        .short('L')
+    Arg::new(alloc, id)
+        .short(short)
         .action(ArgAction::Append)
-        .help("A folder to look up libraries in, in the order given")
-}
-
-// A library.
-fn library_option<'a>(alloc: Global) -> Arg<'a>
-    ensures rule { rule_of result ≡ spec.library_rule }
-    ensures local { result.global ≡ false }
-{
-    Arg::new(alloc, "LIB")
-        .short('l')
-        .action(ArgAction::Append)
-        .help("A library to search, in the order given")
-}
-
-// Whether names agree without regard to case.
-fn case_flag<'a>(alloc: Global) -> Arg<'a>
-    ensures rule { rule_of result ≡ spec.case_rule }
-    ensures local { result.global ≡ false }
-{
-    Arg::new(alloc, "ignore-case")
-        .long("ignore-case")
-        .action(ArgAction::SetTrue)
-        .help("Names agree without regard to case: for Pascal, and assemblers that write capitals")
+        .help(help)
 }
 
 // The order of classes.
@@ -113,28 +80,6 @@ fn order_option<'a>(alloc: Global) -> Arg<'a>
     )
 }
 
-// Whether the libraries that modules name are left out.
-fn no_defaults_flag<'a>(alloc: Global) -> Arg<'a>
-    ensures rule { rule_of result ≡ spec.no_defaults_rule }
-    ensures local { result.global ≡ false }
-{
-    Arg::new(alloc, "no-default-libs")
-        .long("no-default-libs")
-        .action(ArgAction::SetTrue)
-        .help("Search no library that only a module names")
-}
-
-// Whether segments of debugging stay in the program.
-fn debug_flag<'a>(alloc: Global) -> Arg<'a>
-    ensures rule { rule_of result ≡ spec.debug_rule }
-    ensures local { result.global ≡ false }
-{
-    Arg::new(alloc, "keep-debug")
-        .long("keep-debug")
-        .action(ArgAction::SetTrue)
-        .help("Keep segments of the classes DEBSYM, DEBTYP and DWARF in the program")
-}
-
 // Whether what is done is told.
 fn verbose_flag<'a>(alloc: Global) -> Arg<'a>
     ensures rule { rule_of result ≡ spec.verbose_rule }
@@ -144,27 +89,6 @@ fn verbose_flag<'a>(alloc: Global) -> Arg<'a>
         .short('v')
         .action(ArgAction::SetTrue)
         .help("Tell what is linked, and why")
-}
-
-// The files that are linked, one or more.
-fn files<'a>(alloc: Global) -> Arg<'a>
-    ensures rule { rule_of result ≡ spec.files_rule }
-    ensures local { result.global ≡ false }
-{
-    Arg::new(alloc, "FILES")
-        .required(true)
-        .num_args(ValueRange::from(1..))
-        .help("The object modules to link, one in each file, in their order")
-}
-
-// The command with one argument more.
-fn with_arg<'a>(command: Command<'a>, arg: Arg<'a>) -> Result<Command<'a>, AllocError>
-    requires local { arg.global ≡ false }
-    requires above { (fields_of command).has_globals ≡ false }
-    ensures app { IfOk result (λ c. app_of c ≡ with_rule (app_of command.entry) (rule_of arg.entry)) }
-    ensures local { IfOk result (λ c. (fields_of c).has_globals ≡ false) }
-{
-    command.arg(arg)
 }
 
 // The command `doslink` before it has arguments.
@@ -185,11 +109,12 @@ fn files_command<'a>(alloc: Global) -> Result<Command<'a>, AllocError>
     ensures app { IfOk result (λ c. app_of c ≡ spec.files_command) }
     ensures local { IfOk result (λ c. (fields_of c).has_globals ≡ false) }
 {
-    let command = bare_command(alloc)?;
-    let command = with_arg(command, out_option(alloc))?;
-    let command = with_arg(command, map_option(alloc))?;
-    let command = with_arg(command, folder_option(alloc))?;
-    let command = with_arg(command, library_option(alloc))?;
+    let folders = "A folder to look up libraries in, in the order given";
+    let libraries = "A library to search, in the order given";
+    let command = with_arg(bare_command(alloc), out_option(alloc));
+    let command = with_arg(command, map_option(alloc));
+    let command = with_arg(command, list_option(alloc, "FOLDER", 'L', folders));
+    let command = with_arg(command, list_option(alloc, "LIB", 'l', libraries));
     with_arg(command, files(alloc))
 }
 
@@ -198,11 +123,12 @@ fn doslink_command<'a>(alloc: Global) -> Result<Command<'a>, AllocError>
     ensures app { IfOk result (λ c. app_of c ≡ spec.doslink_command) }
     ensures local { IfOk result (λ c. (fields_of c).has_globals ≡ false) }
 {
-    let command = files_command(alloc)?;
-    let command = with_arg(command, case_flag(alloc))?;
-    let command = with_arg(command, order_option(alloc))?;
-    let command = with_arg(command, no_defaults_flag(alloc))?;
-    let command = with_arg(command, debug_flag(alloc))?;
+    let no_defaults = "Search no library that only a module names";
+    let debug = "Keep segments of the classes DEBSYM, DEBTYP and DWARF in the program";
+    let command = with_arg(files_command(alloc), case_flag(alloc));
+    let command = with_arg(command, order_option(alloc));
+    let command = with_arg(command, flag(alloc, "no-default-libs", no_defaults));
+    let command = with_arg(command, flag(alloc, "keep-debug", debug));
     with_arg(command, verbose_flag(alloc))
 }
 

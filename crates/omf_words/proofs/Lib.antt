@@ -1,3 +1,1 @@
-pub mod WordsRequired
-pub mod WordsTaken
 pub mod WordsValues

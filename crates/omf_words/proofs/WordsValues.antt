@@ -1,99 +1,31 @@
--- What the getters give, by the rows of the matches, and the subcommand that the command enters.
-use Rattle.std.proofs.Common.{◌≡◌, ◌<◌, ◌≤◌, ◌∙◌, ◌&&◌, ◌||◌, ◌⊎◌, ℕ, Bool, List, [], ◌∷◌, length, Option, Some, None}
-use Rattle.std.proofs.Common.{Result, Ok, Err, IsSome, IsOk, codes, map, option_map, is_some, false, true, refl, sym}
-use Rattle.std.proofs.Common.{ap, ap₂, subst, arith, inl, inr, true≢false}
-use Rattle.std.specs.Prelude.{find, option_and_then, slice_get, IsSomeAnd, unwrap_or}
+-- What the values of the subcommand that the command enters give.
+use Rattle.std.proofs.Common.{◌≡◌, ◌<◌, ◌∙◌, ◌&&◌, ◌||◌, ◌⊎◌, ℕ, Bool, List, [], length, Some}
+use Rattle.std.proofs.Common.{Result, Ok, Err, IsSome, IsOk, codes, is_some, false, true, refl, sym, ap, subst, arith}
+use Rattle.std.proofs.Common.{inl, inr, true≢false}
+use Rattle.std.specs.Prelude.{IsSomeAnd}
 use Rattle.std.specs.List.{list_any}
 use Rattle.std.specs.Str.{bytes_eq}
 use Rattle.std.specs.Int.{from_be_bytes, to_be_bytes, w16}
 use Rattle.std.specs.Borrow.{Bor}
-use Rattle.std.specs.Box.{box_value}
+use Rattle.std.proofs.lemmas.Bool.{both_ways, false_from_ne_true}
 use Rattle.std.proofs.lemmas.List.{length-map}
 use Rattle.std.proofs.lemmas.Nat.{be_bytes_2}
 use Rattle.std.proofs.lemmas.Slice.Eq.{bytes_eq-Decides}
 use Rattle.hex.specs.Hex.{decode_of, decode_sized}
 use Rattle.hex.specs.declared.error.FromHexError.{FromHexError}
 use Rattle.hex.proofs.HexLemmas.{IsOk-decode_sized, decode_of-ok, decode_sized-ok, decode_sized-twice}
-use Rattle.clap.specs.Words.{App, HasMatchesOf, Row, Text, all_of, built, fault_of, first_of, first_value, found_of}
-use Rattle.clap.specs.Words.{has_subcommand, is_simple, is_simple_and_free, matched_of, one_text, raw_values, rows_of}
-use Rattle.clap.specs.Words.{subcommand_name_of, subcommand_of, subcommand_rows, subcommand_rows_of}
-use Rattle.clap.specs.Kinds.{FailsBy}
-use Rattle.clap.specs.declared.error.Error.{Error}
-use Rattle.clap.specs.declared.parser.matches.ArgMatches.{ArgMatches}
-use Rattle.clap.specs.declared.parser.matches.ArgMatches.TheViews.{out-ArgMatches, out-SubCommand}
-use Rattle.clap.specs.declared.parser.matches.Found.{Found}
-use Rattle.clap.proofs.CallerLemmas.{some_of_text}
+use Rattle.clap.specs.Words.{Row, Text, all_of, built, fault_of, first_of, is_simple, is_simple_and_free, subcommand_of}
 use Rattle.clap.proofs.OnLiterals.{clap_on_literals}
-use Rattle.clap.proofs.TakesLemmas.{some_rows}
-use Rattle.clap.proofs.WalkLemmas.{first_value-rows, one_text-rows, raw_values-rows}
+use Rattle.command_line.specs.Values.{texts}
+use Rattle.command_line.proofs.Parses.{simple_from_free}
+use Rattle.command_line.proofs.Required.{enters_one, is_entered, required_given, wants_values}
+use Rattle.command_line.proofs.Taken.{is_settled_app, takes_where_no_fault}
 use Rattle.omf_words.specs.declared.words.Job.{Job}
 use Rattle.omf_words.specs.declared.words.WordsFault.{WordsFault}
 use Rattle.omf_words.specs.declared.words.WordsFault.TheVariants.{Help, Wrong, Memory}
-use Rattle.omf_words.specs.Words.{HasTooManyFiles, HasWrongParagraph, IsFlag, IsFourDigits, IsJobFor, IsJobOf}
-use Rattle.omf_words.specs.Words.{IsRefusalFor, omf_command, texts}
+use Rattle.omf_words.specs.Words.{HasTooManyFiles, HasWrongParagraph, IsFourDigits, IsJobFor, IsJobOf}
+use Rattle.omf_words.specs.Words.{IsRefusalFor, omf_command}
 use Rattle.omf_words.specs.inside.Words.{IsEntered, IsRefusalOf, IsWrong}
-use Rattle.omf_words.proofs.WordsTaken.{is_settled_app, takes_where_no_fault}
-use Rattle.omf_words.proofs.WordsRequired.{enters_one, is_entered, required_given, wants_values}
-
--- ---- values
-
-pub value_there : (f : Found) (id : Text) (o : Option (Bor Text)) → option_map (λ s. s.now) o ≡ first_value f id
-    → IsSome (first_of id (rows_of f)) → IsSome o
-value_there f id o is there = some_of_text (λ s. s.now) o (first_of id (rows_of f)) (is ∙ first_value-rows f id) there
-
--- the value of an argument that may be missing
-pub value_or_none : (f : Found) (id : Text) (o : Option (Bor Text)) → option_map (λ s. s.now) o ≡ first_value f id
-    → first_of id (rows_of f) ≡ option_map (λ s. s.now) o
-value_or_none f id o is = sym (is ∙ first_value-rows f id)
-
--- a flag is what its value says
-pub flag_of : (f : Found) (id : Text) (flag : Bool) → (one_text f id ≡ Some (codes "true") → flag ≡ true)
-    → (one_text f id ≡ Some (codes "false") → flag ≡ false) → (one_text f id ≡ None → flag ≡ false)
-    → IsFlag id (rows_of f) flag
-flag_of f id flag given other none = record {
-  given = λ e. given (one_text-rows f id ∙ e);
-  other = λ e. other (one_text-rows f id ∙ e);
-  none = λ e. none (one_text-rows f id ∙ e);
-}
-
-pub value_given : (f : Found) (id : Text) (o : Option (Bor Text)) (text : Bor Text)
-    → option_map (λ s. s.now) o ≡ first_value f id → o ≡ Some text
-    → first_of id (rows_of f) ≡ Some text.now
-value_given f id o text is given = value_or_none f id o is ∙ ap (option_map (λ s. s.now)) given
-
--- the values of an argument that has one
-values_there : (id : Text) (rows : List Row) → IsSome (first_of id rows)
-    → (vs : List Text) × (all_of id rows ≡ Some vs) × (1 ≤ length vs)
-values_there id rows there = go (find (λ r. bytes_eq r.id id) rows) there
-  where
-    go : (o : Option Row) → IsSome (option_and_then (λ r. slice_get r.values 0) o)
-        → (vs : List Text) × (option_map (λ r. r.values) o ≡ Some vs) × (1 ≤ length vs)
-    go None e = absurd (true≢false (sym e))
-    go (Some r) e = (r.values, refl, some r.values e)
-      where
-        some : (vs : List Text) → IsSome (slice_get vs 0) → 1 ≤ length vs
-        some [] e = absurd (true≢false (sym e))
-        some (v ∷ vs) e = omega arith
-
-pub all_there : (f : Found) (id : Text) (o : Option (Bor (List (Bor Text))))
-    → option_map (λ s. map (λ v. v.now) s.now) o ≡ option_map raw_values (matched_of f id)
-    → IsSome (first_of id (rows_of f)) → IsSome o
-all_there f id o is there =
-    let vs = values_there id (rows_of f) there in
-    some_of_text (λ s. map (λ v. v.now) s.now) o (Some vs.0) (is ∙ (raw_values-rows f id ∙ vs.1)) refl
-
-pub all_given : (f : Found) (id : Text) (o : Option (Bor (List (Bor Text)))) (list : Bor (List (Bor Text)))
-    → option_map (λ s. map (λ v. v.now) s.now) o ≡ option_map raw_values (matched_of f id)
-    → o ≡ Some list → all_of id (rows_of f) ≡ Some (texts list.now)
-all_given f id o list is given = sym (raw_values-rows f id) ∙ (sym is ∙ ap (option_map (λ s. texts s.now)) given)
-
-pub one_or_more : (id : Text) (rows : List Row) (list : List (Bor Text)) → IsSome (first_of id rows)
-    → all_of id rows ≡ Some (texts list) → 1 ≤ length list
-one_or_more id rows list there is =
-    let vs = values_there id rows there in
-    let same : texts list ≡ vs.0 = ap (λ o. unwrap_or o []) (sym is ∙ vs.1) in
-    let long : length list ≡ length vs.0 = sym (length-map list (λ s. s.now)) ∙ ap length same in
-    omega (arith, long, vs.2)
 
 -- ---- the paragraph
 
@@ -191,11 +123,7 @@ load_values name rows entered is =
     (subst (λ n. IsEntered n rows) is entered)
 
 differs : (x name : Text) → (name ≡ x → ⊥) → bytes_eq x name ≡ false
-differs x name other = go (bytes_eq x name) refl
-  where
-    go : (b : Bool) → bytes_eq x name ≡ b → b ≡ false
-    go true e = absurd (other (sym ((bytes_eq-Decides x name).0 e)))
-    go false e = refl
+differs x name other = false_from_ne_true _ (λ e. other (sym ((bytes_eq-Decides x name).0 e)))
 
 pub one_of_five : (name : Text) (rows : List Row) → IsEntered name rows → (name ≡ codes "show" → ⊥)
     → (name ≡ codes "check" → ⊥) → (name ≡ codes "rewrite" → ⊥) → (name ≡ codes "link" → ⊥)
@@ -215,13 +143,12 @@ one_of_five name rows entered show check rewrite link load =
 
 -- ---- the command
 
-pub omf_is_simple : is_simple omf_command ≡ true
-unfolding omf_command clap_on_literals
-omf_is_simple = refl
-
 pub omf_is_free : is_simple_and_free omf_command ≡ true
 unfolding omf_command clap_on_literals
 omf_is_free = refl
+
+pub omf_is_simple : is_simple omf_command ≡ true
+omf_is_simple = simple_from_free omf_command omf_is_free
 
 omf_is_settled : is_settled_app (built omf_command) ≡ true
 unfolding omf_command clap_on_literals
@@ -241,56 +168,11 @@ pub entered_here : (words : List Text) (name : Text) (rows : List Row) → fault
     → subcommand_of omf_command words ≡ Some (name, rows) → IsEntered name rows
 entered_here words name rows e met =
     let law = required_given omf_command words name rows omf_wants_values e met in
-    let other =
-    differs (codes "help") name
-    (λ is. absurd (true≢false (sym ((bytes_eq-Decides name (codes "help")).1 is) ∙ law.0))) in
-    own_subcommand name rows other law.1
+    own_subcommand name rows
+    (differs (codes "help") name (λ is. both_ways _ law.0 ((bytes_eq-Decides name (codes "help")).1 is))) law.1
 
 pub one_entered : (words : List Text) → fault_of omf_command words ≡ [] → IsSome (subcommand_of omf_command words)
 one_entered words e = enters_one omf_command words omf_wants_values e
-
--- what the matches of a parse of the command give
-pub matches_give : (a : App) (words : List Text) (m : ArgMatches) → a ≡ omf_command → HasMatchesOf a words m
-    → subcommand_rows_of m ≡ subcommand_of omf_command words
-matches_give a words m is matched = (matched (ap is_simple is ∙ omf_is_simple)).1 ∙ ap (λ b. subcommand_of b words) is
-
-pub subcommand_there : (words : List Text) (m : ArgMatches) (o : Option (Bor Text × Bor ArgMatches))
-    → is_some o ≡ has_subcommand m
-    → subcommand_rows_of m ≡ subcommand_of omf_command words → fault_of omf_command words ≡ [] → IsSome o
-subcommand_there words m o same is e =
-    same ∙ (some_rows (out-ArgMatches m).subcommand ∙ (ap is_some is ∙ one_entered words e))
-
--- a name and rows that stand in the two columns of an option stand in it as a pair
-both_of : {X N R : Type 0} (f : X → N × R) (o : Option X) (n : N) (r : R) → Some n ≡ option_map (λ x. (f x).0) o
-    → Some r ≡ option_map (λ p. p.1) (option_map f o)
-    → option_map f o ≡ Some (n, r)
-both_of f None n r named rowed = absurd (cc)
-both_of {X} {N} {R} f (Some x) n r named rowed =
-    ap (λ (p : N × R). Some p)
-    (ap₂ (λ (a : N) (b : R). (a, b)) (sym (ap (λ (o : Option N). unwrap_or o n) named))
-    (sym (ap (λ (o : Option R). unwrap_or o r) rowed)))
-
-pub subcommand_is : (words : List Text) (m : ArgMatches) (o : Option (Bor Text × Bor ArgMatches))
-    (p : Bor Text × Bor ArgMatches) → option_map (λ q. q.0.now) o ≡ subcommand_name_of m
-    → option_map (λ q. rows_of (found_of q.1.now)) o
-    ≡ option_map (λ q. q.1) (subcommand_rows (out-ArgMatches m).subcommand)
-    → subcommand_rows_of m ≡ subcommand_of omf_command words → o ≡ Some p
-    → subcommand_of omf_command words ≡ Some (p.0.now, rows_of (found_of p.1.now))
-subcommand_is words m o p named rowed is given =
-    sym is
-    ∙ both_of
-    (λ b. ((out-SubCommand (box_value b)).name.now, rows_of (found_of (out-SubCommand (box_value b)).matches)))
-    (out-ArgMatches m).subcommand p.0.now
-    (rows_of (found_of p.1.now)) (ap (option_map (λ q. q.0.now)) (sym given) ∙ named)
-    (ap (option_map (λ q. rows_of (found_of q.1.now))) (sym given) ∙ rowed)
-
--- no fault stands in the words of a parse that succeeds
-pub no_fault : {T : Type 0} (a : App) (words : List Text) (r : Result T Error) (m : T) → a ≡ omf_command
-    → (is_simple_and_free a ≡ true → FailsBy (fault_of a words) r) → r ≡ Ok m → fault_of omf_command words ≡ []
-no_fault a words r m is fails met =
-    let here : fault_of a words ≡ [] =
-    subst (FailsBy (fault_of a words)) met (fails (ap is_simple_and_free is ∙ omf_is_free)) in
-    ap (λ b. fault_of b words) (sym is) ∙ here
 
 pub job_for : (words : List Text) (name : Text) (rows : List Row) (job : Job) → fault_of omf_command words ≡ []
     → subcommand_of omf_command words ≡ Some (name, rows) → IsJobOf name rows job

@@ -1,14 +1,12 @@
 -- The command line: what each subcommand takes, and which job its values are.
-use Rattle.std.specs.Prelude.{◌≡◌, ◌≤◌, ◌<◌, ◌⊎◌, ⊤, Bool, true, false, None, List, length}
-use Rattle.std.specs.Prelude.{map, Some, IsSomeAnd, option_map, codes, Ok}
+use Rattle.std.specs.Prelude.{◌≡◌, ◌≤◌, ◌<◌, ◌⊎◌, ⊤, true, List, length, Some, IsSomeAnd, option_map, codes, Ok}
 use Rattle.std.specs.Int.{to_be_bytes, w16}
 use Rattle.std.specs.List.{AllPass}
-use Rattle.std.specs.Borrow.{Bor}
 use Rattle.hex.specs.Hex.{decode_of, is_hex_digit}
-use Rattle.clap.specs.Words.{App, Row, Rule, Text, all_of, first_of, one_of, new_app, new_rule, subcommand_of, takes}
+use Rattle.clap.specs.Words.{App, Row, Rule, Text, all_of, first_of, new_app, new_rule, subcommand_of, takes}
 use Rattle.clap.specs.Words.{with_rule, with_subcommand}
-use Rattle.clap.specs.Lexer.{usize_max}
-use Rattle.clap.specs.declared.builder.action.ArgAction.TheVariants.{SetTrue}
+use Rattle.command_line.specs.Rules.{case_rule, files_rule, map_rule}
+pub use Rattle.command_line.specs.Values.{IsFlag, texts}
 use Rattle.omf_words.specs.declared.words.WordsFault.{WordsFault}
 use Rattle.omf_words.specs.declared.words.WordsFault.TheVariants.{Help, Wrong, Memory}
 use Rattle.omf_words.specs.declared.words.Job.{Job}
@@ -22,27 +20,9 @@ needed name = record (new_rule name) { required = true }
 abbrev pub out_rule : Rule
 out_rule = record (needed (codes "OUT")) { short = Some 111 }
 
--- the map that is written, a value that may be missing: `-m MAP`
-abbrev pub map_rule : Rule
-map_rule = record (new_rule (codes "MAP")) { short = Some 109 }
-
--- `--ignore-case`, a flag whose value is true where it is given and else false
-abbrev pub case_rule : Rule
-case_rule = record (new_rule (codes "ignore-case")) { long = Some (codes "ignore-case"); action = Some SetTrue }
-
--- one or more files
-abbrev pub files_rule : Rule
-files_rule = record (needed (codes "FILES")) {
-  range = Some (record { start_inclusive = 1; end_inclusive = usize_max });
-}
-
--- `show FILE`
-abbrev pub show_command : App
-show_command = with_rule (new_app (codes "show")) (needed (codes "FILE"))
-
--- `check FILE`
-abbrev pub check_command : App
-check_command = with_rule (new_app (codes "check")) (needed (codes "FILE"))
+-- `NAME FILE`
+abbrev pub file_command : Text → App
+file_command name = with_rule (new_app name) (needed (codes "FILE"))
 
 -- `rewrite IN OUT`
 abbrev pub rewrite_command : App
@@ -68,21 +48,12 @@ bare_command =
 unfoldable pub omf_command : App
 omf_command =
     with_subcommand (with_subcommand (with_subcommand (with_subcommand (with_subcommand bare_command
-    show_command.top) check_command.top) rewrite_command.top) link_command.top) load_command.top
-
--- the texts of references
-abbrev pub texts : List (Bor Text) → List Text
-texts = map (λ s. s.now)
+    (file_command (codes "show")).top) (file_command (codes "check")).top) rewrite_command.top) link_command.top)
+    load_command.top
 
 -- a paragraph: exactly four hexadecimal digits, capital or small
 abbrev pub IsFourDigits : Text → Type 0
 IsFourDigits digits = (length digits ≡ 4) × AllPass is_hex_digit digits
-
--- what a flag is: its value, or false where it has none
-pub record IsFlag (id : Text) (rows : List Row) (flag : Bool) : Type 0 where
-  pub given : one_of id rows ≡ Some (codes "true") → flag ≡ true
-  pub other : one_of id rows ≡ Some (codes "false") → flag ≡ false
-  pub none : one_of id rows ≡ None → flag ≡ false
 
 -- `job` is what these values of the subcommand `name` ask for
 abbrev pub IsJobOf : Text → List Row → Job → Type 0

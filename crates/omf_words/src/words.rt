@@ -1,7 +1,7 @@
 //! The words of the command line.
 ghost use Rattle.std.specs.Prelude.{◌≡◌, ◌⊎◌, IfErr, IfOk, IsSome, Some, codes, false, true};
 ghost use Rattle.clap.specs.Words.{App, app_of, first_of, found_of, is_simple, kind_of, rows_of, rule_of, takes};
-ghost use Rattle.clap.specs.Words.{with_rule, with_subcommand};
+ghost use Rattle.clap.specs.Words.{with_subcommand};
 ghost use Rattle.clap.specs.declared.Command.{out-Command as fields_of};
 ghost use Rattle.clap.specs.declared.error.ErrorKind.TheVariants.{OutOfMemory};
 ghost use Rattle.omf_words.specs.declared.words.WordsFault.TheVariants.{Memory};
@@ -10,9 +10,9 @@ ghost use Rattle.omf_words.specs.inside.Words as inside;
 ghost use Rattle.omf_words.specs.Words.{IsJobFor, IsJobOf, IsRefusalFor, texts};
 ghost use Rattle.omf_words.specs.inside.Words.{IsEntered, IsRefusalOf};
 
-use clap::builder::ValueRange;
 use clap::error::ErrorKind;
-use clap::{Arg, ArgAction, ArgMatches, Command};
+use clap::{Arg, ArgMatches, Command};
+use command_line::{case_flag, files, map_option, with_arg};
 use hex::FromHex;
 use std::alloc::{AllocError, Global};
 use thiserror::Error;
@@ -108,67 +108,13 @@ fn out_option<'a>(alloc: Global) -> Arg<'a>
         .help("The program to write, none of FILES")
 }
 
-// The map that is written, where one is asked for.
-fn map_option<'a>(alloc: Global) -> Arg<'a>
-    ensures rule { rule_of result ≡ spec.map_rule }
-    ensures local { result.global ≡ false }
-{
-    Arg::new(alloc, "MAP")
-        .short('m')
-        .help("The map to write after it, another file than OUT")
-}
-
-// Whether names agree without regard to case.
-fn case_flag<'a>(alloc: Global) -> Arg<'a>
-    ensures rule { rule_of result ≡ spec.case_rule }
-    ensures local { result.global ≡ false }
-{
-    Arg::new(alloc, "ignore-case")
-        .long("ignore-case")
-        .action(ArgAction::SetTrue)
-        .help("Names agree without regard to case: for Pascal, and assemblers that write capitals")
-}
-
-// The files that are linked, one or more.
-fn files<'a>(alloc: Global) -> Arg<'a>
-    ensures rule { rule_of result ≡ spec.files_rule }
-    ensures local { result.global ≡ false }
-{
-    needed(alloc, "FILES").num_args(ValueRange::from(1..)).help(
-        "The object modules to link, one in each file, in their order",
-    )
-}
-
-// The command with one argument more.
-fn with_arg<'a>(command: Command<'a>, arg: Arg<'a>) -> Result<Command<'a>, AllocError>
-    requires local { arg.global ≡ false }
-    requires above { (fields_of command).has_globals ≡ false }
-    ensures app { IfOk result (λ c. app_of c ≡ with_rule (app_of command.entry) (rule_of arg.entry)) }
+// A subcommand that takes one object module.
+fn file_command<'a>(alloc: Global, name: &'a str, about: &'a str) -> Result<Command<'a>, AllocError>
+    ensures app { IfOk result (λ c. app_of c ≡ spec.file_command name.entry.now) }
     ensures local { IfOk result (λ c. (fields_of c).has_globals ≡ false) }
 {
-    command.arg(arg)
-}
-
-// The subcommand `show`.
-fn show_command<'a>(alloc: Global) -> Result<Command<'a>, AllocError>
-    ensures app { IfOk result (λ c. app_of c ≡ spec.show_command) }
-    ensures local { IfOk result (λ c. (fields_of c).has_globals ≡ false) }
-{
-    let command = Command::new(alloc, "show").about(
-        "Prints what each record of an object module says",
-    );
-    with_arg(command, needed(alloc, "FILE").help("The object module"))
-}
-
-// The subcommand `check`.
-fn check_command<'a>(alloc: Global) -> Result<Command<'a>, AllocError>
-    ensures app { IfOk result (λ c. app_of c ≡ spec.check_command) }
-    ensures local { IfOk result (λ c. (fields_of c).has_globals ≡ false) }
-{
-    let command = Command::new(alloc, "check").about(
-        "Says whether an object module is sound, or names its first fault",
-    );
-    with_arg(command, needed(alloc, "FILE").help("The object module"))
+    let command = Command::new(alloc, name).about(about);
+    with_arg(Ok(command), needed(alloc, "FILE").help("The object module"))
 }
 
 // The subcommand `rewrite`.
@@ -179,7 +125,7 @@ fn rewrite_command<'a>(alloc: Global) -> Result<Command<'a>, AllocError>
     let command = Command::new(alloc, "rewrite").about(
         "Writes the records of an object module in their canonical form",
     );
-    let command = with_arg(command, needed(alloc, "IN").help("The object module"))?;
+    let command = with_arg(Ok(command), needed(alloc, "IN").help("The object module"));
     with_arg(
         command,
         needed(alloc, "OUT").help("The file to write, another one than IN"),
@@ -194,9 +140,9 @@ fn link_command<'a>(alloc: Global) -> Result<Command<'a>, AllocError>
     let command = Command::new(alloc, "link")
         .about("Links object modules into a program; a refused link writes nothing")
         .after_help(STATUSES);
-    let command = with_arg(command, out_option(alloc))?;
-    let command = with_arg(command, map_option(alloc))?;
-    let command = with_arg(command, case_flag(alloc))?;
+    let command = with_arg(Ok(command), out_option(alloc));
+    let command = with_arg(command, map_option(alloc));
+    let command = with_arg(command, case_flag(alloc));
     with_arg(command, files(alloc))
 }
 
@@ -208,7 +154,7 @@ fn load_command<'a>(alloc: Global) -> Result<Command<'a>, AllocError>
     let command = Command::new(alloc, "load").about(
         "Prints registers and memory of a program as it is loaded at a paragraph",
     );
-    let command = with_arg(command, needed(alloc, "FILE").help("The program"))?;
+    let command = with_arg(Ok(command), needed(alloc, "FILE").help("The program"));
     with_arg(
         command,
         needed(alloc, "PARAGRAPH").help(
@@ -249,8 +195,18 @@ fn bare_command<'a>(alloc: Global) -> Result<Command<'a>, AllocError>
 fn omf_command<'a>(alloc: Global) -> Result<Command<'a>, AllocError>
     ensures { IfOk result (λ c. app_of c ≡ spec.omf_command) }
 {
-    let command = with_command(bare_command(alloc), show_command(alloc));
-    let command = with_command(command, check_command(alloc));
+    let show = file_command(
+        alloc,
+        "show",
+        "Prints what each record of an object module says",
+    );
+    let check = file_command(
+        alloc,
+        "check",
+        "Says whether an object module is sound, or names its first fault",
+    );
+    let command = with_command(bare_command(alloc), show);
+    let command = with_command(command, check);
     let command = with_command(command, rewrite_command(alloc));
     let command = with_command(command, link_command(alloc));
     with_command(command, load_command(alloc))

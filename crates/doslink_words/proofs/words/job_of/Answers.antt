@@ -1,8 +1,9 @@
 use Rattle.std.proofs.Common.{◌∙◌, ap, codes, option_map, refl}
 use Rattle.clap.specs.Words.{found_of}
+use Rattle.clap.proofs.WalkLemmas.{first_value-rows}
+use Rattle.command_line.proofs.Values.{contrary_flag, flag_of}
 use Rattle.doslink_words.specs.Said.{At}
 use Rattle.doslink_words.specs.Words.{order_asked}
-use Rattle.doslink_words.proofs.WordsLemmas.{contrary_flag, flag_of, value_or_none}
 use Rattle.doslink_words.proofs.words.job_of.Goals as goal
 
 pub returns : goal.returns
@@ -10,18 +11,15 @@ returns c =
     let f = found_of c.args.values.now in
     record {
       files = c.in_ok-values_of.ensures;
-      out = value_or_none f (codes "OUT") c.get_str.result c.get_str.ensures;
-      map =
-          c.map_asked.ensures
-          ∙ ap (option_map At) (value_or_none f (codes "MAP") c.get_str-2.result c.get_str-2.ensures);
+      out = c.get_str.ensures ∙ first_value-rows f (codes "OUT");
+      map = c.map_asked.ensures ∙ ap (option_map At) (c.get_str-2.ensures ∙ first_value-rows f (codes "MAP"));
       folders = c.in_ok-values_of-2.ensures;
       libraries = c.in_ok-values_of-3.ensures;
       ignore_case =
           flag_of f (codes "ignore-case") c.get_flag.result c.get_flag.ensures.value c.get_flag.ensures.other
           c.get_flag.ensures.none;
       order =
-          c.in_ok-order_asked.ensures
-          ∙ ap order_asked (value_or_none f (codes "ORDER") c.get_str-3.result c.get_str-3.ensures);
+          c.in_ok-order_asked.ensures ∙ ap order_asked (c.get_str-3.ensures ∙ first_value-rows f (codes "ORDER"));
       default_libraries =
           contrary_flag f (codes "no-default-libs") c.get_flag-2.result c.get_flag-2.ensures.value
           c.get_flag-2.ensures.other c.get_flag-2.ensures.none;

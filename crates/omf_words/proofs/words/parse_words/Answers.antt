@@ -1,9 +1,10 @@
 use Rattle.std.proofs.Common.{◌∙◌, ap}
 use Rattle.std.proofs.lemmas.Result.{IfErr-weaker, IfOk-weaker}
 use Rattle.clap.specs.Words.{takes}
-use Rattle.omf_words.specs.Words.{texts}
-use Rattle.omf_words.proofs.WordsValues.{entered_here, job_for, matches_give, memory_refuses, no_fault, omf_is_simple}
-use Rattle.omf_words.proofs.WordsValues.{refusal_for, subcommand_is, subcommand_there}
+use Rattle.command_line.proofs.Parses.{no_fault, subcommand_given, subcommand_is, subcommand_there}
+use Rattle.omf_words.specs.Words.{omf_command, texts}
+use Rattle.omf_words.proofs.WordsValues.{entered_here, job_for, memory_refuses, omf_is_free, omf_is_simple, one_entered}
+use Rattle.omf_words.proofs.WordsValues.{refusal_for}
 use Rattle.omf_words.proofs.words.parse_words.Goals as goal
 
 pub returns-in_default-clause-refused : goal.returns-in_default-clause-refused
@@ -19,38 +20,38 @@ pub unwrap-requires : goal.unwrap-requires
 unwrap-requires c =
     let words = texts c.args.words.now in
     let none =
-    no_fault _ words c.try_get_matches_from.result _ c.in-Ok.ensures c.try_get_matches_from.ensures.kinds
-    c.in-Ok-try_get_matches_from.is in
+    no_fault omf_command _ words c.in-Ok.ensures omf_is_free c.try_get_matches_from.result _
+    c.try_get_matches_from.ensures.kinds c.in-Ok-try_get_matches_from.is in
     let met =
-    matches_give _ words c.in-Ok-try_get_matches_from.matches c.in-Ok.ensures
+    subcommand_given omf_command _ words c.in-Ok.ensures omf_is_free c.in-Ok-try_get_matches_from.matches
     c.in-Ok-try_get_matches_from.ensures.matches in
-    subcommand_there words c.in-Ok-try_get_matches_from.matches c.subcommand.result c.subcommand.ensures.variant met
-    none
+    subcommand_there c.in-Ok-try_get_matches_from.matches c.subcommand.result _ c.subcommand.ensures.variant met
+    (one_entered words none)
 
 pub job_of-requires : goal.job_of-requires
 job_of-requires c =
     let words = texts c.args.words.now in
     let none =
-    no_fault _ words c.try_get_matches_from.result _ c.in-Ok.ensures c.try_get_matches_from.ensures.kinds
-    c.in-Ok-try_get_matches_from.is in
+    no_fault omf_command _ words c.in-Ok.ensures omf_is_free c.try_get_matches_from.result _
+    c.try_get_matches_from.ensures.kinds c.in-Ok-try_get_matches_from.is in
     let met =
-    matches_give _ words c.in-Ok-try_get_matches_from.matches c.in-Ok.ensures
+    subcommand_given omf_command _ words c.in-Ok.ensures omf_is_free c.in-Ok-try_get_matches_from.matches
     c.in-Ok-try_get_matches_from.ensures.matches in
     entered_here words _ _ none
-    (subcommand_is words c.in-Ok-try_get_matches_from.matches c.subcommand.result c.unwrap.result
+    (subcommand_is c.in-Ok-try_get_matches_from.matches c.subcommand.result c.unwrap.result _
     c.subcommand.ensures.name c.subcommand.ensures.rows met c.unwrap.ensures)
 
 pub returns-clause-job : goal.returns-clause-job
 returns-clause-job c =
     let words = texts c.args.words.now in
     let none =
-    no_fault _ words c.try_get_matches_from.result _ c.in-Ok.ensures c.try_get_matches_from.ensures.kinds
-    c.in-Ok-try_get_matches_from.is in
+    no_fault omf_command _ words c.in-Ok.ensures omf_is_free c.try_get_matches_from.result _
+    c.try_get_matches_from.ensures.kinds c.in-Ok-try_get_matches_from.is in
     let met =
-    matches_give _ words c.in-Ok-try_get_matches_from.matches c.in-Ok.ensures
+    subcommand_given omf_command _ words c.in-Ok.ensures omf_is_free c.in-Ok-try_get_matches_from.matches
     c.in-Ok-try_get_matches_from.ensures.matches in
     let entered =
-    subcommand_is words c.in-Ok-try_get_matches_from.matches c.subcommand.result c.unwrap.result
+    subcommand_is c.in-Ok-try_get_matches_from.matches c.subcommand.result c.unwrap.result _
     c.subcommand.ensures.name c.subcommand.ensures.rows met c.unwrap.ensures in
     IfOk-weaker c.job_of.result _ _ (λ job fits. job_for words _ _ job none entered fits) c.job_of.ensures.ok
 
@@ -58,10 +59,10 @@ pub returns-clause-refused : goal.returns-clause-refused
 returns-clause-refused c = λ taken.
     let words = texts c.args.words.now in
     let met =
-    matches_give _ words c.in-Ok-try_get_matches_from.matches c.in-Ok.ensures
+    subcommand_given omf_command _ words c.in-Ok.ensures omf_is_free c.in-Ok-try_get_matches_from.matches
     c.in-Ok-try_get_matches_from.ensures.matches in
     let entered =
-    subcommand_is words c.in-Ok-try_get_matches_from.matches c.subcommand.result c.unwrap.result
+    subcommand_is c.in-Ok-try_get_matches_from.matches c.subcommand.result c.unwrap.result _
     c.subcommand.ensures.name c.subcommand.ensures.rows met c.unwrap.ensures in
     IfErr-weaker c.job_of.result _ _ (λ fault fits. refusal_for words _ _ fault entered fits) c.job_of.ensures.err
 

@@ -1,11 +1,15 @@
+use Rattle.std.proofs.Common.{◌∙◌, ap, option_map, sym}
 use Rattle.clap.specs.Words.{found_of}
-use Rattle.omf_words.proofs.WordsValues.{value_given, value_there}
+use Rattle.clap.proofs.CallerLemmas.{some_of_text}
+use Rattle.clap.proofs.WalkLemmas.{first_value-rows}
 use Rattle.omf_words.proofs.words.value.Goals as goal
 
 pub unwrap-requires : goal.unwrap-requires
-unwrap-requires c = value_there (found_of c.args.values.now) c.args.id.now c.get_str.result c.get_str.ensures c.requires
+unwrap-requires c =
+    let is = c.get_str.ensures ∙ first_value-rows (found_of c.args.values.now) c.args.id.now in
+    some_of_text (λ s. s.now) c.get_str.result _ is c.requires
 
 pub returns : goal.returns
 returns c =
-    value_given (found_of c.args.values.now) c.args.id.now c.get_str.result c.unwrap.result c.get_str.ensures
-    c.unwrap.ensures
+    let is = c.get_str.ensures ∙ first_value-rows (found_of c.args.values.now) c.args.id.now in
+    sym is ∙ ap (option_map (λ s. s.now)) c.unwrap.ensures

@@ -1,15 +1,15 @@
 -- A command takes the words in which no fault stands.
-use Rattle.std.proofs.Common.{◌≡◌, ◌≤◌, ◌+◌, ◌&&◌, ◌||◌, ℕ, Bool, cond, codes, true, false, not, zero, suc, refl, ap₂}
+use Rattle.std.proofs.Common.{◌≡◌, ◌≤◌, ◌+◌, ◌&&◌, ◌||◌, ℕ, Bool, cond, codes, true, false, not, zero, suc, refl}
 use Rattle.std.proofs.Common.{arith, List, [], ◌∷◌, length, drop, min, Option, Some, None, is_some, true≢false}
 use Rattle.std.specs.Prelude.{encode_utf8, slice_get, find}
 use Rattle.std.specs.List.{list_all, list_any}
 use Rattle.std.specs.Option.{option_map_or}
 use Rattle.std.specs.Str.{bytes_eq, chars}
-use Rattle.std.proofs.lemmas.Bool.{le-leb}
+use Rattle.std.proofs.lemmas.Bool.{and_from, le-leb}
 use Rattle.clap.specs.Lexer.{long_of, short_of}
 use Rattle.clap.specs.Matches.{count_text}
 use Rattle.clap.specs.Facts.{explicit_source, parser_of_value, unwrap_or_range}
-use Rattle.clap.specs.Kinds.{Kinds, check_kinds, or_else, range_kinds, value_kinds, values_kinds}
+use Rattle.clap.specs.Kinds.{Kinds, or_else, range_kinds, value_kinds, values_kinds}
 use Rattle.clap.specs.ValueTests.{accepts}
 use Rattle.clap.specs.Walk.{Held, Names, Row, Rule, Step, Text, Waiting, Walk, next, trailing, subcommand, value}
 use Rattle.clap.specs.Walk.{action_of, answers_to, arg_by_id, arg_by_index, arg_by_long, arg_by_short, attached_value}
@@ -31,10 +31,8 @@ use Rattle.clap.specs.declared.builder.action.ArgAction.TheVariants as action
 use Rattle.clap.specs.declared.builder.value_parser.ValueParser.{ValueParser}
 use Rattle.clap.specs.declared.error.kind.ErrorKind.TheVariants as kind
 use Rattle.clap.proofs.WalkLemmas.{both}
-use Rattle.omf_words.proofs.WordsRequired.{no_kind, steps}
-
-and_true : (a b : Bool) → a ≡ true → b ≡ true → (a && b) ≡ true
-and_true a b p q = ap₂ (λ x y. x && y) p q
+use Rattle.command_line.proofs.Steps.{no_kind, none_wanted, steps}
+use Rattle.command_line.proofs.Lists.{all_from_none, found_passes, there_from_given}
 
 -- ---- values
 
@@ -50,7 +48,7 @@ values_passed : (a : Rule) (vs : List Text) → values_kinds a.ignore_case (pars
 values_passed a [] e = refl
 values_passed a (v ∷ vs) e =
     let two = steps (value_kinds a.ignore_case (parser_of_value a.parser) v) _ e in
-    and_true _ _ (value_passed a.ignore_case (parser_of_value a.parser) v two.0) (values_passed a vs two.1)
+    and_from _ _ (value_passed a.ignore_case (parser_of_value a.parser) v two.0) (values_passed a vs two.1)
 
 in_range : (least most n : ℕ) → range_kinds least most n ≡ [] → (least ≤ n) × (n ≤ most)
 in_range least most n e = grind (arith, e)
@@ -68,7 +66,7 @@ set_passed : (again : Bool) (a : Rule) (vs : List Text) (rows : List Row)
     → ((not (has_row a.id rows) || again) && values_pass a vs) ≡ true
 set_passed again a vs rows e =
     let two = steps (repeat_fault again a.id rows) _ e in
-    and_true _ _ (not_repeated again (has_row a.id rows) two.0) (values_passed a vs two.1)
+    and_from _ _ (not_repeated again (has_row a.id rows) two.0) (values_passed a vs two.1)
 
 count_passed : (a : Rule) (vs : List Text) (rows : List Row) → count_fault a vs rows ≡ []
     → count_passes a vs rows ≡ true
@@ -93,8 +91,8 @@ use_passed : (again : Bool) (a : Rule) (vs : List Text) (rows : List Row) → us
 use_passed again a vs rows e =
     let two = steps (range_kinds (unwrap_or_range a.range).start_inclusive (most_values a) (length vs)) _ e in
     let range = in_range (unwrap_or_range a.range).start_inclusive (most_values a) (length vs) two.0 in
-    and_true _ _ (le-leb _ _ range.0)
-    (and_true _ _ (le-leb _ _ range.1) (action_passed (action_of a) again a (values_or_missing a vs) rows two.1))
+    and_from _ _ (le-leb _ _ range.0)
+    (and_from _ _ (le-leb _ _ range.1) (action_passed (action_of a) again a (values_or_missing a vs) rows two.1))
 
 module _ (c : List Rule) (again : Bool) where
   settle_passed : (h : Held) → settle_fault c again h ≡ [] → settle_passes c again h ≡ true
@@ -115,7 +113,7 @@ module _ (c : List Rule) (again : Bool) where
       → react_passes c again a vs h ≡ true
   react_passed a vs h e =
       let two = steps (settle_fault c again h) _ e in
-      and_true _ _ (settle_passed h two.0) (use_passed again a vs (settled c h).rows two.1)
+      and_from _ _ (settle_passed h two.0) (use_passed again a vs (settled c h).rows two.1)
 
   option_passed : (a : Rule) (v : Option Text) (h : Held) → option_fault c again a v h ≡ []
       → option_passes c again a v h ≡ true
@@ -149,7 +147,7 @@ module _ (c : List Rule) (again : Bool) where
       go true e = option_passed a (attached_value rest) h e
       go false e =
           let two = steps (react_fault c again a [] h) _ e in
-          and_true _ _ (react_passed a [] h two.0) (step (reacted c a [] h) two.1)
+          and_from _ _ (react_passed a [] h two.0) (step (reacted c a [] h) two.1)
 
   step_passed_by : (o : Option ℕ) (flags : Text) (skip : ℕ) (h : Held) (fault : Text → ℕ → Held → Kinds)
       (pass : Text → ℕ → Held → Bool)
@@ -248,7 +246,7 @@ module _ (s : Shape) (names : Names) where
       go true e = refl
       go false e =
           let two = steps (word_fault s names w.is_trailing w.waiting word w.held) _ e in
-          and_true _ _ (word_passed w.is_trailing w.waiting word w.held two.0)
+          and_from _ _ (word_passed w.is_trailing w.waiting word w.held two.0)
           (step_passed w.position met.0 met.1 two.1)
 
   walk_passed : (w : Walk) (words : List Text) → walk_fault s names w words ≡ [] → walk_passes s names w words ≡ true
@@ -256,15 +254,9 @@ module _ (s : Shape) (names : Names) where
   walk_passed w [] e = refl
   walk_passed w (word ∷ words) e =
       let two = steps (turn_fault s names w word) _ e in
-      and_true _ _ (turn_passed w word two.0) (walk_passed (walked s.rules names w word) words two.1)
+      and_from _ _ (turn_passed w word two.0) (walk_passed (walked s.rules names w word) words two.1)
 
 -- ---- after the walk
-
-all_fail : (a b d : Bool) → check_kinds a b d ≡ [] → (a ≡ false) × (b ≡ false) × (d ≡ false)
-all_fail true b d e = absurd (no_kind _ _ e)
-all_fail false true d e = absurd (no_kind _ _ e)
-all_fail false false true e = absurd (no_kind _ _ e)
-all_fail false false false e = (refl, refl, refl)
 
 help_passed : (has wants any : Bool) → (not has && (wants && not any)) ≡ false → (not wants || (has || any)) ≡ true
 help_passed has false any e = refl
@@ -277,25 +269,12 @@ subcommand_passed has false e = refl
 subcommand_passed true true e = refl
 subcommand_passed false true e = absurd (true≢false e)
 
-each_given : (c : List Rule) (rows : List Row) → list_any (λ a. a.required && not (is_given a.id rows)) c ≡ false
-    → list_all (λ a. not a.required || is_given a.id rows) c ≡ true
-each_given [] rows e = refl
-each_given (a ∷ c) rows e = go a.required (is_given a.id rows) (each_given c rows) e
-  where
-    go : (r g : Bool)
-        → (list_any (λ x. x.required && not (is_given x.id rows)) c ≡ false
-        → list_all (λ x. not x.required || is_given x.id rows) c ≡ true)
-        → ((r && not g) || list_any (λ x. x.required && not (is_given x.id rows)) c) ≡ false
-        → ((not r || g) && list_all (λ x. not x.required || is_given x.id rows) c) ≡ true
-    go false g rec e = rec e
-    go true true rec e = rec e
-    go true false rec e = absurd (true≢false e)
-
 required_passed : (lifted : Bool) (c : List Rule) (rows : List Row)
     → (not lifted && list_any (λ a. a.required && not (is_given a.id rows)) c) ≡ false
     → (lifted || list_all (λ a. not a.required || is_given a.id rows) c) ≡ true
 required_passed true c rows e = refl
-required_passed false c rows e = each_given c rows e
+required_passed false c rows e =
+    all_from_none _ _ c (λ a. there_from_given a.required (is_given a.id rows) (is_given a.id rows) (λ given. given)) e
 
 -- the defaults pass, and no argument has a rule on another
 abbrev pub is_settled : Shape → Bool
@@ -311,35 +290,26 @@ level_passed s names words has below fine e =
     let second = steps below _ first.1 in
     let third = steps (settle_fault s.rules s.args_override_self end) _ second.1 in
     let fourth = steps (defaults_fault (settled s.rules end).rows s.rules) _ third.1 in
-    let checks = all_fail _ _ _ fourth.1 in
+    let checks = none_wanted _ _ _ fourth.1 in
     let two = both (list_all default_passes s.rules) _ fine in
     let valid : is_valid s rows has ≡ true =
-    and_true _ _
+    and_from _ _
     (help_passed has s.arg_required_else_help (list_any (λ (r : Row). explicit_source r.source) rows) checks.0)
-    (and_true _ _ (subcommand_passed has s.subcommand_required checks.1)
-    (and_true _ _ two.1 (required_passed (s.subcommand_negates_reqs && has) s.rules rows checks.2))) in (
-      and_true _ _ (walk_passed s names (walk_from nothing_held) words first.0)
-          (and_true _ _ (settle_passed s.rules s.args_override_self end third.0) (and_true _ _ two.0 valid)),
+    (and_from _ _ (subcommand_passed has s.subcommand_required checks.1)
+    (and_from _ _ two.1 (required_passed (s.subcommand_negates_reqs && has) s.rules rows checks.2))) in (
+      and_from _ _ (walk_passed s names (walk_from nothing_held) words first.0)
+          (and_from _ _ (settle_passed s.rules s.args_override_self end third.0) (and_from _ _ two.0 valid)),
       second.0,
     )
 
 abbrev pub is_settled_app : App → Bool
 is_settled_app a = is_settled a.top && list_all is_settled a.subs
 
-found_settled : (p : Shape → Bool) (subs : List Shape) → list_all is_settled subs ≡ true
-    → option_map_or is_settled (find p subs) true ≡ true
-found_settled p [] e = refl
-found_settled p (s ∷ subs) e = go (p s) (both _ _ e).0 (found_settled p subs (both _ _ e).1)
-  where
-    go : (b : Bool) → is_settled s ≡ true → option_map_or is_settled (find p subs) true ≡ true
-        → option_map_or is_settled (cond b (Some s) (find p subs)) true ≡ true
-    go true here rest = here
-    go false here rest = rest
-
 entered_passed : (a : App) (stop : Option (Text × List Text)) → list_all is_settled a.subs ≡ true
     → entered_fault a stop ≡ [] → entered_passes a stop ≡ true
 entered_passed a None fine e = refl
-entered_passed a (Some p) fine e = go (find (λ s. answers_to p.0 (label_of s)) a.subs) (found_settled _ a.subs fine) e
+entered_passed a (Some p) fine e =
+    go (find (λ s. answers_to p.0 (label_of s)) a.subs) (found_passes is_settled _ a.subs fine) e
   where
     go : (o : Option Shape) → option_map_or is_settled o true ≡ true
         → option_map_or (λ s. level_fault s [] nothing_held p.1 false []) o [] ≡ []
@@ -356,4 +326,4 @@ takes_where_no_fault a words simple fine e =
     let stop = (walk b.top.rules (names_of b) nothing_held ws).stopped in
     let two = both (is_settled b.top) _ fine in
     let level = level_passed b.top (names_of b) ws (is_some (entered b stop)) (entered_fault b stop) two.0 e in
-    and_true _ _ simple (and_true _ _ (entered_passed b stop two.1 level.1) level.0)
+    and_from _ _ simple (and_from _ _ (entered_passed b stop two.1 level.1) level.0)
