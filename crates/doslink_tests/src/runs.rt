@@ -101,7 +101,7 @@ doslink CALLS.OBJ F.OBJ|0||
 doslink -v CALLS.OBJ ALIAS.OBJ RUN.LIB|0|CALLS.OBJ~ALIAS.OBJ~RUN.LIB(c.c) for \"g\"~|
 doslink ALIAS.OBJ CALLS.OBJ RUN.LIB|0||
 doslink NEAR.OBJ ALIAS.OBJ CALLS.OBJ RUN.LIB|0||
-doslink CALLS.OBJ ALIAS.OBJ|1||doslink: ALIAS.OBJ: \"g\" is missing: wanted by \"n.c\"~
+doslink CALLS.OBJ ALIAS.OBJ|1||doslink: ALIAS.OBJ: \"g\" is missing: record 8 (00000008), wanted by \"n.c\"~
 doslink CALLS.OBJ ROUND.OBJ|1||doslink: ROUND.OBJ: 60 EndlessAlias \"f\" at record 8~
 doslink CALLS.OBJ ALIAS.OBJ ROUND.OBJ RUN.LIB|0||
 doslink CALLS.OBJ CASE.OBJ F.OBJ|0||

@@ -1,11 +1,22 @@
 //! Lowered modules are read as `omf` reads them.
 
 use crate::lowered::{PLAIN, UNRENAMED};
+use omf_alias::Renaming;
 use omf_lower::{Lowering, lower};
 use rows::{module_of, read_modules};
 use std::alloc::Global;
 use std::process::Abort;
 use std::test::*;
+
+/// The bytes of a module that has to be lowered.
+fn changed(
+    alloc: Global,
+    module: &[u8],
+    lowering: Lowering,
+    renaming: &Renaming<'_, '_>,
+) -> Result<Vec<u8>, Fail> {
+    Ok(lower(alloc, module, lowering, renaming)?.ok_or("it is the same")?)
+}
 
 /// Whether a module is read once it is lowered, and not before.
 fn expect_read<R: Abort>(
@@ -15,7 +26,7 @@ fn expect_read<R: Abort>(
     lines: &str,
 ) -> Result<(), Fail> {
     let module = module_of(alloc, lines)?;
-    let lowered = lower(alloc, &module, lowering, &UNRENAMED)?.ok_or("it is the same")?;
+    let lowered = changed(alloc, &module, lowering, &UNRENAMED)?;
     let before = vec![in alloc; module]?;
     assert!(rt; read_modules(alloc, &before).is_err());
     let after = vec![in alloc; lowered]?;
