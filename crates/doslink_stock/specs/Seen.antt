@@ -4,6 +4,7 @@ use Rattle.omf_search.specs.Results.{bytes_of, names_said}
 use Rattle.doslink_stock.specs.declared.stock.Entry.{Entry}
 use Rattle.doslink_stock.specs.declared.searching.Handed.{Handed}
 use Rattle.doslink_stock.specs.Files.{Held}
+use Rattle.doslink_stock.specs.Search.{TakenFor}
 
 -- a module of a file
 abbrev pub entry_held : {A : Type 0} → Entry A → Held
@@ -19,3 +20,7 @@ entry_held e = record {
 -- a module that is linked
 abbrev pub handed_held : {A : Type 0} → Handed A → Held
 handed_held h = entry_held h.entry.now
+
+-- the same, and the name for which it was taken
+abbrev pub handed_taken : {A : Type 0} → Handed A → TakenFor
+handed_taken h = record { held = handed_held h; wanted = option_copied h.wanted }

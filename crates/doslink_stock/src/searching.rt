@@ -1,9 +1,10 @@
 //! The modules that are handed on to the link: the object files, and the members of libraries that they take.
-ghost use Rattle.std.specs.Prelude.{◌≡◌, ◌++◌, IfOk, OnOk, map, slice_get};
+ghost use Rattle.std.specs.Prelude.{◌≡◌, ◌++◌, IfOk, OnOk, map};
+ghost use Rattle.std.specs.List.{filter_map};
 ghost use Rattle.std.specs.Option.{option_to_list};
 ghost use Rattle.omf_search.specs.Results.{choice_said, member_said, module_said};
-ghost use Rattle.doslink_stock.specs.Search.{Takes, candidates, taken};
-ghost use Rattle.doslink_stock.specs.Seen.{entry_held, handed_held};
+ghost use Rattle.doslink_stock.specs.Search.{TakesFor, candidates, member_taken, object_taken};
+ghost use Rattle.doslink_stock.specs.Seen.{entry_held, handed_taken};
 
 use crate::stock::{Entry, Stock};
 use omf_place::Names;
@@ -58,8 +59,8 @@ fn push_objects<'m, 'a, A: Allocator + Copy>(
     handed: &mut Vec<Handed<'m, 'a, A>, A>,
     entries: &'m [Entry<'a, A>],
 ) -> Result<(), AllocError>
-    ensures { OnOk result (map handed_held handed.new.items
-        ≡ map handed_held handed.old.items ++ map entry_held entries.now) }
+    ensures { OnOk result (map handed_taken handed.new.items ≡ map handed_taken handed.old.items
+        ++ map (λ e. object_taken (entry_held e)) entries.now) }
 {
     for entry in entries {
         handed.push(Handed {
@@ -76,8 +77,8 @@ fn push_choice<'m, 'a, A: Allocator + Copy>(
     entries: &'m [Entry<'a, A>],
     choice: &Choice<'_, 'a>,
 ) -> Result<(), AllocError>
-    ensures { OnOk result (map handed_held handed.new.items ≡ map handed_held handed.old.items
-        ++ option_to_list (slice_get (map entry_held entries.now) choice.now.member.member)) }
+    ensures { OnOk result (map handed_taken handed.new.items ≡ map handed_taken handed.old.items
+        ++ option_to_list (member_taken (map entry_held entries.now) (choice_said choice.now))) }
 {
     if let Some(entry) = entries.get(choice.member.member) {
         handed.push(Handed {
@@ -94,8 +95,8 @@ fn push_chosen<'m, 'a, A: Allocator + Copy>(
     entries: &'m [Entry<'a, A>],
     choices: &[Choice<'_, 'a>],
 ) -> Result<(), AllocError>
-    ensures { OnOk result (map handed_held handed.new.items ≡ map handed_held handed.old.items
-        ++ taken (map entry_held entries.now) (map choice_said choices.now)) }
+    ensures { OnOk result (map handed_taken handed.new.items ≡ map handed_taken handed.old.items
+        ++ filter_map (member_taken (map entry_held entries.now)) (map choice_said choices.now)) }
 {
     for choice in choices {
         push_choice(handed, entries, choice)?;
@@ -103,14 +104,15 @@ fn push_chosen<'m, 'a, A: Allocator + Copy>(
     Ok(())
 }
 
-/// The modules to be linked, in order: the object files, and behind them the members of libraries that they take.
+/// The modules to be linked, in order: the object files, and behind them the members of libraries that they take,
+/// each with the name for which it was taken.
 pub fn search<'m, 'a, A: Allocator + Copy>(
     alloc: A,
     stock: &'m Stock<'a, A>,
     names: Names,
 ) -> Result<Vec<Handed<'m, 'a, A>, A>, AllocError>
-    ensures { IfOk result (λ v. Takes names (map entry_held stock.now.objects.items)
-        (map entry_held stock.now.members.items) (map handed_held v.items)) }
+    ensures { IfOk result (λ v. TakesFor names (map entry_held stock.now.objects.items)
+        (map entry_held stock.now.members.items) (map handed_taken v.items)) }
 {
     let modules = saids(alloc, &stock.objects)?;
     let members = members_of(alloc, &stock.members)?;

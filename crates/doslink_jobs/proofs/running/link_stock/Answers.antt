@@ -3,7 +3,7 @@ use Rattle.omf_communal.specs.Deciding.{variable_said}
 use Rattle.omf_commands.specs.Outcome.{IsFaultless}
 use Rattle.doslink_stock.specs.Search.{Takes}
 use Rattle.doslink_telling.specs.Missing.{unmet}
-use Rattle.doslink_stock.specs.Seen.{entry_held, handed_held}
+use Rattle.doslink_stock.specs.Seen.{entry_held, handed_held, handed_taken}
 use Rattle.doslink_jobs.specs.Communals.{AreVariablesOf, offering}
 use Rattle.doslink_jobs.specs.Jobs.{names_of}
 use Rattle.doslink_jobs.specs.inside.Inputs.{AreInputsFor, IsLinkedStock, input_list}
@@ -28,7 +28,8 @@ returns g c =
     ∙ ap (λ l. unmet c.options_of-names.result.names (says ++ offering (map variable_said l) ∷ []))
     (sym c.deref-2.ensures.value)
     ∙ c.in_ok-marks.ensures.met in
-    let takes = subst (λ n. Takes n os ms (map handed_held found)) c.options_of-names.ensures c.in_ok-found.ensures in
+    let takes = subst (λ n. Takes n os ms (map handed_held found)) c.options_of-names.ensures
+    (map handed_taken found, c.in_ok-found.ensures, map-map handed_taken (λ t. t.held) found) in
     OnOk-weaker (IsFaultless g.row.A.Denot names (input_list inputs)) (IsLinkedStock g.row.A.Denot job os ms)
     (λ faultless. of-inputs g.row.A.Denot job os ms (map handed_held handed) vs inputs
     (subst (λ hs. Takes names os ms (map handed_held hs)) (sym c.as_slice-handed.ensures.value) takes)

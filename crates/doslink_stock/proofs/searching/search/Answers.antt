@@ -1,8 +1,9 @@
 use Rattle.std.proofs.Common.{◌≡◌, ◌∙◌, ◌++◌, map, ap, ap₂, subst}
+use Rattle.std.specs.List.{filter_map}
 use Rattle.omf_search.specs.Results.{choice_said, member_said, module_said}
 use Rattle.omf_search.specs.Search.{Chooses}
-use Rattle.doslink_stock.specs.Search.{candidates, taken}
-use Rattle.doslink_stock.specs.Seen.{entry_held, handed_held}
+use Rattle.doslink_stock.specs.Search.{candidates, member_taken, object_taken}
+use Rattle.doslink_stock.specs.Seen.{entry_held, handed_taken}
 use Rattle.doslink_stock.proofs.Walks.{map-map}
 use Rattle.doslink_stock.proofs.searching.search.Goals as goal
 
@@ -25,6 +26,8 @@ returns g c =
       chosen,
       c.in_ok-push_chosen.ensures ∙ ap₂ (λ l t. l ++ t)
           (c.in_ok-push_objects.ensures
-          ∙ ap₂ (λ l t. map handed_held l ++ map entry_held t) c.new-handed.ensures.items c.deref-5.ensures.value)
-          (ap₂ (λ e l. taken (map entry_held e) (map choice_said l)) c.deref-6.ensures.value c.deref-7.ensures.value),
+          ∙ ap₂ (λ l t. map handed_taken l ++ map (λ e. object_taken (entry_held e)) t) c.new-handed.ensures.items
+          c.deref-5.ensures.value ∙ map-map entry_held object_taken objects)
+          (ap₂ (λ e l. filter_map (member_taken (map entry_held e)) (map choice_said l)) c.deref-6.ensures.value
+          c.deref-7.ensures.value),
     )
