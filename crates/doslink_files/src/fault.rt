@@ -1,5 +1,6 @@
 //! Why files aren't read.
 ghost use Rattle.std.specs.Prelude.{◌≡◌};
+ghost use Rattle.doslink_files.specs.Files.{IsUnread};
 
 use std::alloc::{AllocError, AllocFailed};
 use thiserror::Error;
@@ -67,7 +68,9 @@ impl<T: Drop> From<AllocFailed<T>> for FileFault<'_> {
 
 impl ReadFault {
     /// The same of the file of this name.
-    pub fn of(self, name: &str) -> FileFault<'_> {
+    pub fn of(self, name: &str) -> FileFault<'_>
+        ensures { IsUnread name.now result }
+    {
         match self {
             ReadFault::Memory => FileFault::Memory,
             ReadFault::Absent | ReadFault::Folder | ReadFault::Device => {

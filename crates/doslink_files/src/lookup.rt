@@ -1,6 +1,7 @@
 //! Libraries that are looked up in folders.
-ghost use Rattle.std.specs.Prelude.{◌≡◌, [], ◌∷◌, IfOk, IfSome, map};
-ghost use Rattle.doslink_files.specs.Files.{AreFound, IsFound, IsFoundIn, contents};
+ghost use Rattle.std.specs.Prelude.{◌≡◌, [], ◌∷◌, IfErr, IfOk, IfSome, map, string_bytes};
+ghost use Rattle.doslink_files.specs.Files.{AreTold, Each, IsFound, IsOneUnread, IsPathIn, IsPathOf, IsTold, contents};
+ghost use Rattle.doslink_files.specs.Files.{file_paths};
 ghost use Rattle.doslink_files.specs.Paths as spec;
 
 use crate::fault::{FileFault, ReadFault};
@@ -27,8 +28,10 @@ fn find_in<W: World, A: Allocator + Copy>(
     folder: &str,
     name: &str,
 ) -> Result<Option<InputFile<A>>, ReadFault>
-    ensures { IfOk result (λ found. IfSome found
-        (λ file. IsFoundIn (W.bytes world.now) folder.now name.now file.bytes.items)) }
+    ensures path { IfOk result (λ found. IfSome found
+        (λ file. IsPathIn folder.now name.now (string_bytes file.path))) }
+    ensures told { IfOk result (λ found. IfSome found
+        (λ file. IsTold (W.bytes world.now (string_bytes file.path)) file.bytes.items)) }
 {
     for extension in extensions(name) {
         let path = path_in(alloc, folder, name, extension)?;
@@ -54,7 +57,8 @@ pub fn find_library<W: World, A: Allocator + Copy>(
     name: &str,
 ) -> Result<Option<InputFile<A>>, ReadFault>
     ensures { IfOk result (λ found. IfSome found
-        (λ file. IsFound (W.bytes world.now) (map (λ f. f.now) folders.now) name.now file.bytes.items)) }
+        (λ file. IsFound (W.bytes world.now) (map (λ f. f.now) folders.now) name.now (string_bytes file.path)
+        file.bytes.items)) }
 {
     if let Some(file) = find_in(alloc, world, "", name)? {
         return Ok(Some(file));
@@ -77,8 +81,10 @@ pub fn find_libraries<'a, W: World, A: Allocator + Copy>(
     folders: &[&str],
     names: &[&'a str],
 ) -> Result<Vec<InputFile<A>, A>, FileFault<'a>>
-    ensures { IfOk result (λ files. AreFound (W.bytes world.now) (map (λ f. f.now) folders.now)
-        (map (λ n. n.now) names.now) (contents files.items)) }
+    ensures paths { IfOk result (λ files. Each (IsPathOf (map (λ f. f.now) folders.now)) (map (λ n. n.now) names.now)
+        (file_paths files.items)) }
+    ensures told { IfOk result (λ files. AreTold (W.bytes world.now) (file_paths files.items) (contents files.items)) }
+    ensures unread { IfErr result (IsOneUnread (map (λ n. n.now) names.now)) }
 {
     let mut files = Vec::new(alloc);
     for name in names {

@@ -1,6 +1,6 @@
 //! Files that are read whole.
-ghost use Rattle.std.specs.Prelude.{◌≡◌, IfOk, map, string_bytes};
-ghost use Rattle.doslink_files.specs.Files.{AreTold, IsTold, contents};
+ghost use Rattle.std.specs.Prelude.{◌≡◌, IfErr, IfOk, map, string_bytes};
+ghost use Rattle.doslink_files.specs.Files.{AreTold, IsOneUnread, IsTold, contents, file_paths};
 
 use crate::fault::{FileFault, ReadFault};
 use omf_files::World;
@@ -48,7 +48,10 @@ pub fn read_files<'a, W: World, A: Allocator + Copy>(
     world: &W,
     paths: &[&'a str],
 ) -> Result<Vec<InputFile<A>, A>, FileFault<'a>>
-    ensures { IfOk result (λ files. AreTold (W.bytes world.now) (map (λ p. p.now) paths.now) (contents files.items)) }
+    ensures paths { IfOk result (λ files. file_paths files.items ≡ map (λ p. p.now) paths.now) }
+    ensures told { IfOk result
+        (λ files. AreTold (W.bytes world.now) (map (λ p. p.now) paths.now) (contents files.items)) }
+    ensures unread { IfErr result (IsOneUnread (map (λ p. p.now) paths.now)) }
 {
     let mut files = Vec::new(alloc);
     for path in paths {

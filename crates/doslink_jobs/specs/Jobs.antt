@@ -90,7 +90,7 @@ IsLinked A job files = IsLinkOf A job (TakesOf (names_of job.ignore_case) files)
 
 -- these are the bytes of a library that was looked up under some name
 abbrev pub IsLibrary : (told : Text → Option (List ℕ)) → (folders : List Text) → (bytes : List ℕ) → Type 0
-IsLibrary told folders bytes = (name : Text) × IsFound told folders name bytes
+IsLibrary told folders bytes = (name path : Text) × IsFound told folders name path bytes
 
 -- these are default libraries of a job, which may ask for none
 pub record AreDefaults (told : Text → Option (List ℕ)) (folders : List Text) (job : Job) (files : List (List ℕ))

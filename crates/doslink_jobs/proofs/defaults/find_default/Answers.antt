@@ -1,4 +1,4 @@
-use Rattle.std.proofs.Common.{map}
+use Rattle.std.proofs.Common.{map, string_bytes}
 use Rattle.std.proofs.lemmas.Result.{IfOk-weaker}
 use Rattle.doslink_files.specs.Files.{IsFound}
 use Rattle.doslink_jobs.specs.Jobs.{IsLibrary}
@@ -10,6 +10,7 @@ returns-in-Ok g c =
     let told = g.W.World.bytes c.args.world.now in
     let folders = map (λ f. f.now) c.args.folders.now in
     IfOk-weaker c.find_library.result _ _
-    (λ found. some-weaker (λ file. IsFound told folders c.in-Ok.name.now file.bytes.items)
-    (λ file. IsLibrary told folders file.bytes.items) found (λ file is. (c.in-Ok.name.now, is)))
+    (λ found. some-weaker (λ file. IsFound told folders c.in-Ok.name.now (string_bytes file.path) file.bytes.items)
+    (λ file. IsLibrary told folders file.bytes.items) found
+    (λ file is. (c.in-Ok.name.now, string_bytes file.path, is)))
     c.find_library.ensures
