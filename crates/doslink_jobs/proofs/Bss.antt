@@ -84,21 +84,13 @@ pub has-one : (bytes : List ℕ) (new : Option (List ℕ)) (one : Module) (has :
 has-one bytes new one has whole is other (records, (front, rest, splits, sound), same) =
     is ∙ ap has_bss ((whole records front rest sound (ap Some splits)).0 ∙ sym same)
 
-none-read : (bytes : List ℕ) (new : Option (List ℕ)) (f : ModuleFault) → IsOfBytes f
+-- none that is at fault
+pub none-read : (bytes : List ℕ) (new : Option (List ℕ)) (f : ModuleFault) → IsOfBytes f
     → ((rs : List Placed) (front rest : List ℕ) → ModuleBytes rs front → Some bytes ≡ Some (front ++ rest)
     → IsModule (λ (m : Module). m) (module_of rs) rest new (Err f))
     → (other : Module) → IsRead bytes other → ⊥
 none-read bytes new f of whole other (records, (front, rest, splits, sound), same) =
     not-module (λ (m : Module). m) (module_of records) rest new f of (whole records front rest sound (ap Some splits))
-
--- none that can't be read
-pub has-none : (bytes : List ℕ) (new : Option (List ℕ)) (r : Result Bool Stop) (f : ModuleFault)
-    → IfOk r (λ has. IsOfBytes f)
-    → ((rs : List Placed) (front rest : List ℕ) → ModuleBytes rs front → Some bytes ≡ Some (front ++ rest)
-    → IsModule (λ (m : Module). m) (module_of rs) rest new (Err f))
-    → IfOk r (λ has. (other : Module) → IsRead bytes other → has ≡ has_bss other)
-has-none bytes new (Ok has) f of whole = λ other read. absurd (none-read bytes new f of whole other read)
-has-none bytes new (Err stop) f of whole = tt
 
 -- none of none
 pub none-yet : (read : List Module) → AreRead [] read → false ≡ list_any has_bss read

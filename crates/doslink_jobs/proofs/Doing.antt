@@ -22,8 +22,7 @@ use Rattle.doslink_jobs.specs.inside.Adding.{AddsDefaults, AreGiven}
 use Rattle.doslink_jobs.specs.inside.Inputs.{AreInputsFor, IsLinkedStock, input_list, lowered_bytes, module_list}
 use Rattle.doslink_jobs.specs.inside.Stops.{status_of}
 use Rattle.omf_search.specs.Said.{Module, Wanted}
-use Rattle.doslink_telling.specs.Missing.{unmet}
-use Rattle.doslink_jobs.specs.Orders.{IsOrderModule}
+use Rattle.doslink_telling.specs.Missing.{unmet, wants_marks}
 
 pub OnOk-weaker : {T E : Type 0} (P Q : Type 0) → (P → Q) → (r : Result T E) → OnOk r P → OnOk r Q
 OnOk-weaker P Q weaker (Ok done) p = weaker p
@@ -34,17 +33,12 @@ pub OnOk-then : {E F : Type 0} (P : Type 0) (answer : Result (Unit {0}) E) (r : 
 OnOk-then P answer (Ok done) same p = subst (λ a. OnOk a P) same p
 OnOk-then P answer (Err fault) same p = tt
 
--- what holds of what a value is seen as
-pub some-map : {X Y : Type 0} (f : X → Y) (P : Y → Type 0) (o : Option X) → IfSome o (λ x. P (f x))
-    → IfSome (option_map f o) P
-some-map f P None some = tt
-some-map f P (Some x) some = some
-
 -- a link was done of these inputs for the modules that it takes
 pub of-inputs : (A : Type 0) (job : Job) (os ms handed : List Held) (vs : List Variable) (inputs : Inputs A)
     → Takes (names_of job.ignore_case) os ms handed → AreVariablesOf (names_of job.ignore_case) handed vs
     → unmet (names_of job.ignore_case) (map (λ m. m.says) handed ++ offering vs ∷ []) ≡ []
-    → AreInputsFor job handed vs inputs
+    → AreInputsFor job (wants_marks (names_of job.ignore_case) (map (λ m. m.says) handed ++ offering vs ∷ [])) handed vs
+    inputs
     → IsFaultless A (names_of job.ignore_case) (input_list inputs) → IsLinkedStock A job os ms
 of-inputs A job os ms handed vs inputs takes variables met are faultless = record {
   modules = handed;
@@ -57,8 +51,7 @@ of-inputs A job os ms handed vs inputs takes variables met are faultless = recor
   met = met;
   lowered = are.lowered;
   placed = are.placed;
-  ordered = some-map (λ v. v.items) (IsOrderModule (names_of job.ignore_case) (list_any (λ m. m.dosseg) handed)
-      (order_of job.order) (module_list inputs.modules.items inputs.communal)) inputs.order are.ordered;
+  ordered = are.ordered;
   faultless = faultless;
 }
 
@@ -117,13 +110,3 @@ pub none-unmet : {X : Type 0} (names : Names) (said : X → Wanted) (items slice
 none-unmet names said items [] says modules are is none same =
     ap (unmet names) (sym same) ∙ sym are ∙ ap (map said) (sym is)
 none-unmet names said items (x ∷ xs) says modules are is none same = absurd (omega (arith, none))
-
--- an order module is one for what is the same
-pub order-for : {A : Type 0} (o : Option (Vec ℕ A)) (asked : SaidOrder) (names other : Names) (dosseg asks : Bool)
-    (inputs others : List (List ℕ)) → names ≡ other → dosseg ≡ asks → inputs ≡ others
-    → IfSome o (λ b. IsOrderModule names dosseg asked inputs b.items)
-    → IfSome o (λ b. IsOrderModule other asks asked others b.items)
-order-for o asked names other dosseg asks inputs others same ask are is =
-    subst (λ i. IfSome o (λ b. IsOrderModule other asks asked i b.items)) are
-    (subst (λ d. IfSome o (λ b. IsOrderModule other d asked inputs b.items)) ask
-    (subst (λ n. IfSome o (λ b. IsOrderModule n dosseg asked inputs b.items)) same is))

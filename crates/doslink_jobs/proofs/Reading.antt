@@ -1,9 +1,10 @@
 -- Modules that are read, one behind the other.
-use Rattle.std.proofs.Common.{◌≡◌, ℕ, ◌+◌, ◌<◌, Bool, Vec, List, [], ◌∷◌, ◌++◌, length, map, take, get_or, Some, None}
-use Rattle.std.proofs.Common.{Result, Ok, Err, IfOk, IfSome, sym, subst, ap, ap₂, ◌∙◌}
+use Rattle.std.proofs.Common.{◌≡◌, ℕ, zero, suc, ◌+◌, ◌<◌, Bool, Vec, List, [], ◌∷◌, ◌++◌, length, map, take, get_or}
+use Rattle.std.proofs.Common.{Some, None, Ok, arith, refl, sym, subst, ap, ap₂, ◌∙◌}
 use Rattle.std.proofs.lemmas.List.{map-append, take_more}
 use Rattle.std.specs.declared.option.Option.{Option}
 use Rattle.std.specs.Borrow.{Bor}
+use Rattle.std.specs.Option.{option_map}
 use Rattle.omf_record.specs.Records.{Placed}
 use Rattle.omf_module.specs.Module.{Module}
 use Rattle.omf_module.specs.Reading.{Reads}
@@ -11,13 +12,11 @@ use Rattle.omf_module.specs.Tables.{module_of}
 use Rattle.doslink_link.specs.Linking.{AllBeginWith, BeginsWith, bytes_of}
 use Rattle.omf_order.specs.Answer.{Answers}
 use Rattle.omf_order.specs.Plan.{plan}
-use Rattle.omf_order.specs.declared.fault.OrderFault.{OrderFault}
-use Rattle.omf_order.specs.declared.fault.OrderFault.TheVariants.{Memory, TooManySegments}
 use Rattle.omf_order.specs.declared.order.Order.{Order}
 use Rattle.omf_place.specs.declared.names.Names.{Names}
 use Rattle.doslink_words.specs.Said.{SaidOrder}
-use Rattle.doslink_jobs.specs.Orders.{AreRead, IsOrderModule, order_asked, order_said}
-use Rattle.doslink_jobs.specs.inside.Reading.{IsRead}
+use Rattle.doslink_jobs.specs.Orders.{AreRead, AreUnread, IsOrderFor, IsOrderModule, order_asked, order_said}
+use Rattle.doslink_jobs.specs.inside.Reading.{IsRead, IsNoModule}
 
 -- what reading answers is what the bytes begin with
 pub read-begins : (bytes : List ℕ) (new : Option (List ℕ)) (one : Module) → Reads (λ m. m) (Some bytes) new (Ok one)
@@ -46,18 +45,36 @@ AreRead-next inputs i d old new one h (lists, all, are) (records, begins, is) pu
       pushed ∙ ap₂ (λ l m. l ++ m ∷ []) are is ∙ sym (map-append module_of lists (records ∷ [])),
     )
 
+-- the records that one of some inputs begins with
+begins-at : (lists : List (List Placed)) (inputs : List (Bor (List ℕ))) (i : ℕ) (d : Bor (List ℕ)) → i < length inputs
+    → AllBeginWith lists (bytes_of inputs) → (records : List Placed) × BeginsWith records (get_or inputs i d).now
+begins-at lists [] i d h all = absurd (omega arith)
+begins-at [] (x ∷ xs) i d h all = absurd all
+begins-at (l ∷ ls) (x ∷ xs) zero d h all = (l, all.0)
+begins-at (l ∷ ls) (x ∷ xs) (suc i) d h all = begins-at ls xs i d (omega arith) all.1
+
+-- inputs aren't read where one of them isn't
+pub unread-at : (inputs : List (Bor (List ℕ))) (i : ℕ) (d : Bor (List ℕ)) → i < length inputs
+    → IsNoModule (get_or inputs i d).now → AreUnread (bytes_of inputs)
+unread-at inputs i d h none modules (lists, all, are) =
+    let (records, begins) = begins-at lists inputs i d h all in
+    none (module_of records) (records, begins, refl)
+
 -- what making an order module answers
-pub in-order : {A : Type 0} (names : Names) (dosseg : Bool) (asked : SaidOrder) (inputs : List (List ℕ))
-    (modules : List Module) (order : Order) → AreRead inputs modules → order_said order ≡ order_asked asked dosseg
-    → (r : Result (Option (Vec ℕ A)) OrderFault) → Answers order (plan order names modules) r
-    → IfOk r (λ o. IfSome o (λ b. IsOrderModule names dosseg asked inputs b.items))
-in-order names dosseg asked inputs modules order read is (Ok None) answers = tt
-in-order names dosseg asked inputs modules order read is (Ok (Some b)) answers = record {
-  modules = modules;
-  order = order;
-  read = read;
-  in_order = is;
-  planned = answers.2;
-}
-in-order names dosseg asked inputs modules order read is (Err Memory) answers = tt
-in-order names dosseg asked inputs modules order read is (Err TooManySegments) answers = tt
+pub in-order : {A : Type 0} (names : Names) (dosseg : Bool) (asked : SaidOrder) (modules : List Module) (order : Order)
+    → order_said order ≡ order_asked asked dosseg → (made : Option (Vec ℕ A))
+    → Answers order (plan order names modules) (Ok made)
+    → IsOrderFor names dosseg asked modules (option_map (λ v. v.items) made)
+in-order names dosseg asked modules order is None answers =
+    record { order = order; in_order = is; planned = answers }
+in-order names dosseg asked modules order is (Some b) answers =
+    record { order = order; in_order = is; planned = (answers.0, answers.2) }
+
+-- an order module is one for what is the same
+pub order-for : (bytes : Option (List ℕ)) (asked : SaidOrder) (names other : Names) (marks dosseg asks : Bool)
+    (inputs others : List (List ℕ)) → names ≡ other → dosseg ≡ asks → inputs ≡ others
+    → IsOrderModule names marks dosseg asked inputs bytes → IsOrderModule other marks asks asked others bytes
+order-for bytes asked names other marks dosseg asks inputs others same ask are is =
+    subst (λ i. IsOrderModule other marks asks asked i bytes) are
+    (subst (λ d. IsOrderModule other marks d asked inputs bytes) ask
+    (subst (λ n. IsOrderModule n marks dosseg asked inputs bytes) same is))

@@ -1,6 +1,6 @@
 -- What a job has done where it ends well, and how a run ends. `told` are the bytes of files by their paths, where the
 -- world tells them.
-use Rattle.std.specs.Prelude.{◌≡◌, ◌⊎◌, ℕ, Bool, true, false, All, List, [], ◌∷◌, ◌++◌, map, IfSome, None, Ok}
+use Rattle.std.specs.Prelude.{◌≡◌, ◌⊎◌, ℕ, Bool, true, false, All, List, [], ◌∷◌, ◌++◌, map, None, Ok}
 use Rattle.std.specs.Prelude.{if◌then◌else◌}
 use Rattle.std.specs.declared.option.Option.{Option}
 use Rattle.std.specs.declared.result.Result.{Result}
@@ -23,7 +23,7 @@ use Rattle.doslink_words.specs.Said.{order_of}
 use Rattle.doslink_words.specs.Tokens.{texts}
 use Rattle.doslink_stock.specs.Search.{Takes}
 use Rattle.doslink_stock.specs.Files.{Held, members, objects}
-use Rattle.doslink_telling.specs.Missing.{unmet}
+use Rattle.doslink_telling.specs.Missing.{unmet, wants_marks}
 use Rattle.doslink_jobs.specs.Communals.{AreVariablesOf, IsCommunalModule, offering}
 use Rattle.doslink_jobs.specs.Orders.{IsOrderModule}
 use Rattle.doslink_files.specs.Files.{AreFound, AreTold, IsFound}
@@ -78,8 +78,9 @@ pub record IsLinkOf (A : Type 0) (job : Job) (takes : List Held → Type 0) : Ty
   pub met : unmet (names_of job.ignore_case) (map (λ m. m.says) modules ++ offering variables ∷ []) ≡ []
   pub lowered : AreLoweredFor job (map (λ m. m.bytes) modules) inputs
   pub placed : IsCommunalModule inputs variables communal
-  pub ordered : IfSome order (IsOrderModule (names_of job.ignore_case) (list_any (λ m. m.dosseg) modules)
-      (order_of job.order) (inputs ++ option_to_list communal))
+  pub ordered : IsOrderModule (names_of job.ignore_case)
+      (wants_marks (names_of job.ignore_case) (map (λ m. m.says) modules ++ offering variables ∷ []))
+      (list_any (λ m. m.dosseg) modules) (order_of job.order) (inputs ++ option_to_list communal) order
   pub faultless : IsFaultless A (names_of job.ignore_case) (option_to_list order ++ (inputs ++ option_to_list communal))
 
 -- the same of the modules of files

@@ -1,5 +1,7 @@
 -- The order module of a link.
-use Rattle.std.specs.Prelude.{◌≡◌, ℕ, Bool, List, map, if◌then◌else◌}
+use Rattle.std.specs.Prelude.{◌≡◌, ◌⊎◌, ◌&&◌, ℕ, Bool, not, true, false, List, map, None, MatchOption}
+use Rattle.std.specs.Prelude.{if◌then◌else◌}
+use Rattle.std.specs.declared.option.Option.{Option}
 use Rattle.omf_record.specs.Records.{Placed}
 use Rattle.omf_module.specs.Module.{Module}
 use Rattle.omf_module.specs.Tables.{module_of}
@@ -7,7 +9,7 @@ use Rattle.omf_order.specs.declared.order.Item.{Item}
 use Rattle.omf_order.specs.declared.order.Item.TheVariants as item
 use Rattle.omf_order.specs.declared.order.Order.{Order}
 use Rattle.omf_order.specs.declared.order.Order.TheVariants as order
-use Rattle.omf_order.specs.Plan.{plan}
+use Rattle.omf_order.specs.Plan.{is_needless, plan}
 use Rattle.omf_order.specs.Records.{module_bytes}
 use Rattle.omf_place.specs.declared.names.Names.{Names}
 use Rattle.doslink_link.specs.Linking.{AllBeginWith}
@@ -33,11 +35,29 @@ order_asked Meeting dosseg = if dosseg then Dosseg else Meeting
 order_asked Dosseg dosseg = Dosseg
 order_asked (Listed items) dosseg = Listed items
 
--- these bytes are the order module for the modules that inputs begin with, in the order that is asked for
-pub record IsOrderModule (names : Names) (dosseg : Bool) (asked : SaidOrder) (inputs : List (List ℕ)) (bytes : List ℕ)
-    : Type 0 where
-  pub modules : List Module
+-- neither is an order asked for nor a mark wanted
+abbrev pub is_unasked : (marks dosseg : Bool) → SaidOrder → Bool
+is_unasked marks dosseg Meeting = not dosseg && not marks
+is_unasked marks dosseg Dosseg = false
+is_unasked marks dosseg (Listed items) = false
+
+-- these bytes are the order module for modules, in the order that is asked for; there are none exactly where it would
+-- change nothing
+pub record IsOrderFor (names : Names) (dosseg : Bool) (asked : SaidOrder) (modules : List Module)
+    (bytes : Option (List ℕ)) : Type 0 where
   pub order : Order
-  pub read : AreRead inputs modules
   pub in_order : order_said order ≡ order_asked asked dosseg
-  pub planned : bytes ≡ module_bytes (plan order names modules)
+  pub planned : MatchOption bytes (is_needless order (plan order names modules) ≡ true)
+      (λ b. (is_needless order (plan order names modules) ≡ false) × (b ≡ module_bytes (plan order names modules)))
+
+-- some input begins with no module
+abbrev pub AreUnread : (inputs : List (List ℕ)) → Type 0
+AreUnread inputs = (modules : List Module) → AreRead inputs modules → ⊥
+
+-- These bytes are the order module for the modules that inputs begin with. There are none too where neither an order is
+-- asked for nor a mark wanted, and where an input begins with no module.
+abbrev pub IsOrderModule : (names : Names) (marks dosseg : Bool) (asked : SaidOrder) (inputs : List (List ℕ))
+    (bytes : Option (List ℕ)) → Type 0
+IsOrderModule names marks dosseg asked inputs bytes =
+    (((is_unasked marks dosseg asked ≡ true) ⊎ AreUnread inputs) × (bytes ≡ None))
+    ⊎ ((modules : List Module) × AreRead inputs modules × IsOrderFor names dosseg asked modules bytes)

@@ -10,20 +10,20 @@ ghost use Rattle.doslink_link.specs.Linking.{bytes_of};
 ghost use Rattle.doslink_jobs.specs.Communals.{AreVariablesOf, IsCommunalModule, declared_by};
 ghost use Rattle.doslink_jobs.specs.inside.Inputs.{lowered_bytes};
 ghost use Rattle.doslink_jobs.specs.inside.Declaring.{declared_said};
-ghost use Rattle.doslink_jobs.specs.inside.Reading.{IsOfBytes, IsRead, TellsBss};
+ghost use Rattle.doslink_jobs.specs.inside.Reading.{IsRead, TellsBss};
 
 use crate::lowering::LoweredModule;
+use crate::ordering::pass_unread;
 use crate::stop::{Stop, stop_after};
 use crate::taking::Taken;
-use doslink_telling::{push_clash, push_entry_fault, push_fault, push_unplaced};
+use doslink_telling::{push_clash, push_entry_fault, push_unplaced};
 use omf_communal::{
     ClashFault, Communal, CommunalFault, Declaring, PlanFault, Variable, communal_module,
     communals, has_bss, variables,
 };
 use omf_frame::MemSource;
-use omf_module::{FaultKind, ModuleFault, read_module};
+use omf_module::read_module;
 use omf_place::Names;
-use omf_text::LinkFault;
 use std::alloc::{AllocError, Allocator};
 
 /// What a module declares, and the names that it offers.
@@ -120,29 +120,6 @@ pub(crate) fn variable_names<'a, A: Allocator + Copy>(
     Ok(names)
 }
 
-/// What a module that can't be read has: not the segment `_BSS`, where its bytes are at fault, which the link names. That
-/// its source failed is told by its word.
-fn unread<A: Allocator + Copy>(
-    alloc: A,
-    word: &[u8],
-    fault: ModuleFault,
-    lines: &mut Vec<u8, A>,
-) -> Result<bool, Stop>
-    ensures { IfOk result (λ _. IsOfBytes fault) }
-{
-    match fault {
-        ModuleFault::Memory => Err(Stop::Memory),
-        ModuleFault::Record {
-            place,
-            kind: FaultKind::Device,
-        } => {
-            push_fault(alloc, lines, &LinkFault::Device { input: 0, place }, word)?;
-            Err(Stop::Device)
-        }
-        ModuleFault::Record { .. } => Ok(false),
-    }
-}
-
 /// Whether the module that these bytes begin with has the segment `_BSS` in DGROUP. The word is that of the module.
 fn has_bss_in<A: Allocator + Copy>(
     alloc: A,
@@ -155,7 +132,10 @@ fn has_bss_in<A: Allocator + Copy>(
     let mut source = MemSource::over(bytes, usize::MAX, None);
     match read_module(alloc, &mut source) {
         Ok(one) => Ok(has_bss(&one)),
-        Err(fault) => unread(alloc, word, fault, lines),
+        Err(fault) => {
+            pass_unread(alloc, word, fault, lines)?;
+            Ok(false)
+        }
     }
 }
 

@@ -1,6 +1,7 @@
 //! The modules of a link, as they are handed to it.
-ghost use Rattle.std.specs.Prelude.{◌≡◌, IfOk, IfSome, map};
+ghost use Rattle.std.specs.Prelude.{◌≡◌, IfOk, map};
 ghost use Rattle.std.specs.List.{list_any};
+ghost use Rattle.std.specs.Option.{option_map};
 ghost use Rattle.omf_communal.specs.Deciding.{variable_said};
 ghost use Rattle.doslink_link.specs.Linking.{bytes_of};
 ghost use Rattle.doslink_stock.specs.Seen.{handed_held};
@@ -11,16 +12,14 @@ ghost use Rattle.doslink_jobs.specs.inside.Inputs.{AreInputsFor, input_list, mad
 
 use crate::communals::communal_bytes;
 use crate::lowering::{LoweredModule, lower_for, lowered_slices};
-use crate::ordering::{Asked, order_bytes};
+use crate::ordering::{Asked, is_unasked, order_bytes, read_modules};
 use crate::stop::Stop;
 use crate::taking::Taken;
 use crate::widths::warn_of_wide_segments;
 use doslink_stock::Handed;
-use doslink_telling::push_order_line;
 use doslink_words::Job;
 use omf_commands::Options;
 use omf_communal::Variable;
-use omf_order::OrderFault;
 use omf_text::LinkFault;
 use std::alloc::{AllocError, Allocator};
 
@@ -152,25 +151,26 @@ pub(crate) fn in_own_bytes<A: Allocator + Copy>(
     }
 }
 
-/// The order module for lowered modules and the module of their communal variables, where one is needed.
+/// The order module for lowered modules and the module of their communal variables, where one is needed. None too where
+/// one of them is at fault, which the link names.
 fn order_of<A: Allocator + Copy>(
     alloc: A,
     modules: &[LoweredModule<'_, A>],
     communal: &Option<Vec<u8, A>>,
     asked: &Asked<'_, '_>,
+    taken: &Taken<'_, '_, '_, A>,
     lines: &mut Vec<u8, A>,
 ) -> Result<Option<Vec<u8, A>>, Stop>
-    ensures { IfOk result (λ o. IfSome o (λ bytes. IsOrderModule asked.now.names asked.now.dosseg
-        (said.order_of asked.now.order.now) (module_list modules.now communal.now) bytes.items)) }
+    ensures { IfOk result (λ o. IsOrderModule asked.now.names asked.now.marks asked.now.dosseg
+        (said.order_of asked.now.order.now) (module_list modules.now communal.now) (option_map (λ v. v.items) o)) }
 {
+    if is_unasked(asked) {
+        return Ok(None);
+    }
     let slices = module_slices(alloc, modules, communal)?;
-    match order_bytes(alloc, &slices, asked) {
-        Ok(order) => Ok(order),
-        Err(OrderFault::Memory) => Err(Stop::Memory),
-        Err(OrderFault::TooManySegments) => {
-            push_order_line(lines)?;
-            Err(Stop::Input)
-        }
+    match read_modules(alloc, &slices, taken, lines)? {
+        Some(read) => order_bytes(alloc, &read, asked, lines),
+        None => Ok(None),
     }
 }
 
@@ -191,7 +191,7 @@ pub(crate) fn inputs_of<'a, A: Allocator + Copy>(
     marks: bool,
     lines: &mut Vec<u8, A>,
 ) -> Result<Inputs<'a, A>, Stop>
-    ensures { IfOk result (λ inputs. AreInputsFor job.now (map handed_held taken.now.handed.now)
+    ensures { IfOk result (λ inputs. AreInputsFor job.now marks (map handed_held taken.now.handed.now)
         (map variable_said variables.now) inputs) }
 {
     let modules = lower_for(alloc, job, taken, lines)?;
@@ -202,7 +202,7 @@ pub(crate) fn inputs_of<'a, A: Allocator + Copy>(
         marks,
         names: options_of(job).names,
     };
-    let order = order_of(alloc, &modules, &communal, &asked, lines)?;
+    let order = order_of(alloc, &modules, &communal, &asked, taken, lines)?;
     warn_of_wide_segments(alloc, job, &modules, taken, lines)?;
     Ok(Inputs {
         order,

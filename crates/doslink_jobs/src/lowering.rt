@@ -146,13 +146,15 @@ fn far_data_fits<A: Allocator + Copy>(modules: &[Module<A>]) -> bool {
     total <= FRAME
 }
 
-/// Whether the far data of these modules shares a frame. It does not, where a module can't be read.
+/// Whether the far data of these modules shares a frame. It does not, where a module is at fault.
 fn shares_far_data<A: Allocator + Copy>(
     alloc: A,
     modules: &[LoweredModule<'_, A>],
-) -> Result<bool, AllocError> {
+    taken: &Taken<'_, '_, '_, A>,
+    lines: &mut Vec<u8, A>,
+) -> Result<bool, Stop> {
     let slices = lowered_slices(alloc, modules)?;
-    match read_modules(alloc, &slices)? {
+    match read_modules(alloc, &slices, taken, lines)? {
         Some(modules) => Ok(far_data_fits(&modules)),
         None => Ok(false),
     }
@@ -176,7 +178,7 @@ fn lowering_of<'a, A: Allocator + Copy>(
         return Ok(plain);
     }
     let modules = lower_modules(alloc, taken, plain, renaming, lines)?;
-    let shares_far_data = shares_far_data(alloc, &modules)?;
+    let shares_far_data = shares_far_data(alloc, &modules, taken, lines)?;
     Ok(Lowering {
         keep_debug: job.keep_debug,
         shares_far_data,

@@ -1,42 +1,81 @@
 //! The order module, where one is asked for.
-ghost use Rattle.std.specs.Prelude.{◌≡◌, IfOk, IfSome, map};
+ghost use Rattle.std.specs.Prelude.{◌≡◌, IfOk, MatchOption, OnOk, map};
+ghost use Rattle.std.specs.Option.{option_map};
 ghost use Rattle.doslink_link.specs.Linking.{bytes_of};
 ghost use Rattle.doslink_words.specs.Said as said;
 ghost use Rattle.doslink_words.specs.Said.{order_of};
 ghost use Rattle.doslink_jobs.specs.Orders as spec;
-ghost use Rattle.doslink_jobs.specs.Orders.{AreRead, IsOrderModule};
+ghost use Rattle.doslink_jobs.specs.Orders.{AreRead, AreUnread, IsOrderFor};
 ghost use Rattle.doslink_jobs.specs.inside.Listed.{listed};
-ghost use Rattle.doslink_jobs.specs.inside.Reading.{IsRead};
+ghost use Rattle.doslink_jobs.specs.inside.Reading.{IsOfBytes, IsRead, IsNoModule};
 
+use crate::stop::Stop;
+use crate::taking::Taken;
+use doslink_telling::{push_fault, push_order_line};
 use doslink_words::{Order, OrderItem};
 use omf_frame::MemSource;
-use omf_module::{Module, ModuleFault, read_module};
+use omf_module::{FaultKind, Module, ModuleFault, read_module};
 use omf_order::{Item, OrderFault, order_module};
 use omf_place::Names;
+use omf_text::LinkFault;
 use std::alloc::{AllocError, Allocator};
 
-/// The module that these bytes begin with. None where it can't be read.
-fn read_bytes<A: Allocator + Copy>(alloc: A, bytes: &[u8]) -> Result<Option<Module<A>>, AllocError>
-    ensures { IfOk result (λ o. IfSome o (λ one. IsRead bytes.now one)) }
+/// Goes on behind a module that can't be read, where its bytes are at fault, which the link names. That its source
+/// failed is told by its word.
+pub(crate) fn pass_unread<A: Allocator + Copy>(
+    alloc: A,
+    word: &[u8],
+    fault: ModuleFault,
+    lines: &mut Vec<u8, A>,
+) -> Result<(), Stop>
+    ensures { OnOk result (IsOfBytes fault) }
+{
+    match fault {
+        ModuleFault::Memory => Err(Stop::Memory),
+        ModuleFault::Record {
+            place,
+            kind: FaultKind::Device,
+        } => {
+            push_fault(alloc, lines, &LinkFault::Device { input: 0, place }, word)?;
+            Err(Stop::Device)
+        }
+        ModuleFault::Record { .. } => Ok(()),
+    }
+}
+
+/// The module that these bytes begin with. None where they are at fault. The word is that of the module.
+fn read_bytes<A: Allocator + Copy>(
+    alloc: A,
+    bytes: &[u8],
+    word: &[u8],
+    lines: &mut Vec<u8, A>,
+) -> Result<Option<Module<A>>, Stop>
+    ensures { IfOk result (λ o. MatchOption o (IsNoModule bytes.now) (λ one. IsRead bytes.now one)) }
 {
     let mut source = MemSource::over(bytes, usize::MAX, None);
     match read_module(alloc, &mut source) {
         Ok(one) => Ok(Some(one)),
-        Err(ModuleFault::Memory) => Err(AllocError),
-        Err(ModuleFault::Record { .. }) => Ok(None),
+        Err(fault) => {
+            pass_unread(alloc, word, fault, lines)?;
+            Ok(None)
+        }
     }
 }
 
-/// The modules that these bytes begin with. None where one can't be read.
+/// The modules that these bytes begin with, those of the modules that are taken being first. None where some are at
+/// fault.
 pub(crate) fn read_modules<A: Allocator + Copy>(
     alloc: A,
     inputs: &[&[u8]],
-) -> Result<Option<Vec<Module<A>, A>>, AllocError>
-    ensures { IfOk result (λ o. IfSome o (λ modules. AreRead (bytes_of inputs.now) modules.items)) }
+    taken: &Taken<'_, '_, '_, A>,
+    lines: &mut Vec<u8, A>,
+) -> Result<Option<Vec<Module<A>, A>>, Stop>
+    ensures { IfOk result (λ o. MatchOption o (AreUnread (bytes_of inputs.now))
+        (λ modules. AreRead (bytes_of inputs.now) modules.items)) }
 {
     let mut modules = Vec::new(alloc);
     for bytes in inputs {
-        match read_bytes(alloc, bytes)? {
+        match read_bytes(alloc, bytes, taken.word(modules.len()), lines)? {
             Some(one) => modules.push(one)?,
             None => return Ok(None),
         }
@@ -109,26 +148,35 @@ fn order_asked<'i>(order: &Order<'_>, dosseg: bool, items: &'i [Item<'i>]) -> om
     }
 }
 
-/// The bytes of the order module for the modules of these bytes, where one is asked for and needed. None too where the
-/// modules can't be read, so that the link names what is at fault.
-///
-/// # Errors
-/// Want of memory, or more segments than an order module can have.
+/// Whether neither an order is asked for nor a mark wanted.
+pub(crate) fn is_unasked(asked: &Asked<'_, '_>) -> bool
+    ensures { result ≡ spec.is_unasked asked.now.marks asked.now.dosseg (order_of asked.now.order.now) }
+{
+    match asked.order {
+        Order::Meeting => !asked.dosseg && !asked.marks,
+        Order::Dosseg | Order::Listed(_) => false,
+    }
+}
+
+/// The bytes of the order module for modules, in the order that is asked for. None where it would change nothing. That
+/// it would have too many segments is told.
 pub(crate) fn order_bytes<A: Allocator + Copy>(
     alloc: A,
-    inputs: &[&[u8]],
+    modules: &[Module<A>],
     asked: &Asked<'_, '_>,
-) -> Result<Option<Vec<u8, A>>, OrderFault>
-    ensures { IfOk result (λ o. IfSome o (λ bytes. IsOrderModule asked.now.names asked.now.dosseg
-        (order_of asked.now.order.now) (bytes_of inputs.now) bytes.items)) }
+    lines: &mut Vec<u8, A>,
+) -> Result<Option<Vec<u8, A>>, Stop>
+    ensures { IfOk result (λ o. IsOrderFor asked.now.names asked.now.dosseg (order_of asked.now.order.now) modules.now
+        (option_map (λ v. v.items) o)) }
 {
-    if matches!(asked.order, Order::Meeting) && !asked.dosseg && !asked.marks {
-        return Ok(None);
-    }
-    let Some(modules) = read_modules(alloc, inputs)? else {
-        return Ok(None);
-    };
     let items = listed_items(alloc, asked.order)?;
     let order = order_asked(asked.order, asked.dosseg, &items);
-    order_module(alloc, &modules, order, asked.names)
+    match order_module(alloc, modules, order, asked.names) {
+        Ok(made) => Ok(made),
+        Err(OrderFault::Memory) => Err(Stop::Memory),
+        Err(OrderFault::TooManySegments) => {
+            push_order_line(lines)?;
+            Err(Stop::Input)
+        }
+    }
 }

@@ -1,5 +1,5 @@
 -- The modules of a link, as they are handed to it.
-use Rattle.std.specs.Prelude.{ℕ, IfSome, List, ◌++◌, map, Vec}
+use Rattle.std.specs.Prelude.{ℕ, Bool, List, ◌++◌, map, Vec}
 use Rattle.std.specs.declared.option.Option.{Option}
 use Rattle.std.specs.List.{list_any}
 use Rattle.std.specs.Option.{option_map, option_map_or, option_to_list}
@@ -30,14 +30,13 @@ module_list modules communal = map lowered_bytes modules ++ made_bytes communal
 abbrev pub input_list : {A : Type 0} → Inputs A → List (List ℕ)
 input_list inputs = made_bytes inputs.order ++ module_list inputs.modules.items inputs.communal
 
--- these are the inputs for the modules that a link takes, and their communal variables
-pub record AreInputsFor {A : Type 0} (job : Job) (modules : List Held) (vs : List Variable) (inputs : Inputs A)
-    : Type 0 where
+-- these are the inputs for the modules that a link takes, and their communal variables; marks are wanted or not
+pub record AreInputsFor {A : Type 0} (job : Job) (marks : Bool) (modules : List Held) (vs : List Variable)
+    (inputs : Inputs A) : Type 0 where
   pub lowered : AreLoweredFor job (map (λ m. m.bytes) modules) (map lowered_bytes inputs.modules.items)
   pub placed : IsCommunalModule (map lowered_bytes inputs.modules.items) vs (option_map (λ v. v.items) inputs.communal)
-  pub ordered : IfSome inputs.order (λ bytes. IsOrderModule (names_of job.ignore_case)
-      (list_any (λ m. m.dosseg) modules) (order_of job.order) (module_list inputs.modules.items inputs.communal)
-      bytes.items)
+  pub ordered : IsOrderModule (names_of job.ignore_case) marks (list_any (λ m. m.dosseg) modules) (order_of job.order)
+      (module_list inputs.modules.items inputs.communal) (option_map (λ v. v.items) inputs.order)
 
 -- a link was done of the modules that it takes of these objects and members
 abbrev pub IsLinkedStock : (A : Type 0) → Job → (objects members : List Held) → Type 0

@@ -15,6 +15,10 @@ use Rattle.doslink_jobs.specs.Orders.{AreRead}
 abbrev pub IsRead : (bytes : List ℕ) → Module → Type 0
 IsRead bytes one = (records : List Placed) × BeginsWith records bytes × (one ≡ module_of records)
 
+-- bytes begin with no module
+abbrev pub IsNoModule : (bytes : List ℕ) → Type 0
+IsNoModule bytes = (one : Module) → IsRead bytes one → ⊥
+
 -- the bytes are at fault: neither was memory refused, nor did a device fail
 abbrev pub IsOfBytes : ModuleFault → Type 0
 IsOfBytes fault.Memory = ⊥

@@ -7,8 +7,8 @@ use Rattle.doslink_words.specs.Said.{order_of}
 use Rattle.doslink_jobs.specs.Communals.{IsCommunalModule}
 use Rattle.doslink_jobs.specs.Jobs.{AreLoweredFor, names_of}
 use Rattle.doslink_jobs.specs.inside.Inputs.{lowered_bytes, module_list}
-use Rattle.doslink_jobs.proofs.Doing.{order-for}
 use Rattle.doslink_jobs.proofs.Lists.{map-map}
+use Rattle.doslink_jobs.proofs.Reading.{order-for}
 use Rattle.doslink_jobs.proofs.inputs.inputs_of.Goals as goal
 
 pub returns : goal.returns
@@ -22,8 +22,9 @@ returns g c =
           c.in_ok-modules.ensures;
       placed = subst (λ ms. IsCommunalModule (map lowered_bytes ms) (map variable_said c.args.variables.now)
           (option_map (λ v. v.items) c.in_ok-communal.communal)) c.deref.ensures.value c.in_ok-communal.ensures;
-      ordered = order-for c.in_ok-order.order (order_of job.order) c.options_of.result.names (names_of job.ignore_case)
-          c.asks_dosseg.result _ (module_list c.deref-2.result.now c.in_ok-communal.communal)
+      ordered = order-for (option_map (λ v. v.items) c.in_ok-order.order) (order_of job.order)
+          c.options_of.result.names (names_of job.ignore_case) c.args.marks c.asks_dosseg.result _
+          (module_list c.deref-2.result.now c.in_ok-communal.communal)
           (module_list modules c.in_ok-communal.communal) c.options_of.ensures
           (c.asks_dosseg.ensures ∙ list_any-map (λ m. m.dosseg) handed_held handed)
           (ap (λ ms. module_list ms c.in_ok-communal.communal) c.deref-2.ensures.value) c.in_ok-order.ensures;

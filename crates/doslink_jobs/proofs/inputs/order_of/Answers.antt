@@ -1,11 +1,34 @@
-use Rattle.std.proofs.Common.{ap, refl, ◌∙◌}
+use Rattle.std.proofs.Common.{◌≡◌, ap, inl, inr, refl, subst, sym, ◌∙◌}
+use Rattle.std.proofs.lemmas.Result.{IfOk-weaker}
+use Rattle.std.specs.Option.{option_map}
 use Rattle.doslink_link.specs.Linking.{bytes_of}
 use Rattle.doslink_words.specs.Said.{order_of}
-use Rattle.doslink_jobs.proofs.Doing.{order-for}
+use Rattle.doslink_jobs.specs.Orders.{AreRead, AreUnread, IsOrderFor}
+use Rattle.doslink_jobs.specs.inside.Inputs.{module_list}
 use Rattle.doslink_jobs.proofs.inputs.order_of.Goals as goal
 
-pub returns-in-Ok : goal.returns-in-Ok
-returns-in-Ok g c =
+pub returns-then-is_unasked : goal.returns-then-is_unasked
+returns-then-is_unasked g c = inl (inl (sym c.is_unasked.ensures ∙ c.if-is_unasked.true), refl)
+
+pub returns-in-Some : goal.returns-in-Some
+returns-in-Some g c =
     let asked = c.args.asked.now in
-    order-for c.in-Ok.order (order_of asked.order.now) asked.names asked.names asked.dosseg asked.dosseg _ _ refl refl
-    (ap bytes_of c.deref.ensures.value ∙ c.in_ok-slices.ensures) c.in-Ok.ensures
+    let same : bytes_of c.deref.result.now ≡ module_list c.args.modules.now c.args.communal.now =
+    ap bytes_of c.deref.ensures.value ∙ c.in_ok-slices.ensures in
+    let read = c.in-Some.read.items in
+    let are = rw c.in-Some.is at c.in_ok-read.ensures in
+    IfOk-weaker c.order_bytes.result _ _
+    (λ made is. inr (
+      read,
+      subst (λ inputs. AreRead inputs read) same are,
+      subst (λ ms. IsOrderFor asked.names asked.dosseg (order_of asked.order.now) ms (option_map (λ v. v.items) made))
+          c.deref-2.ensures.value is,
+    ))
+    c.order_bytes.ensures
+
+pub returns-in-None : goal.returns-in-None
+returns-in-None g c =
+    let same : bytes_of c.deref.result.now ≡ module_list c.args.modules.now c.args.communal.now =
+    ap bytes_of c.deref.ensures.value ∙ c.in_ok-slices.ensures in
+    let none = rw c.in-None.is at c.in_ok-read.ensures in
+    inl (inr (subst AreUnread same none), refl)

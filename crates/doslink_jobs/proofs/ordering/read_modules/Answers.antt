@@ -1,4 +1,4 @@
-use Rattle.doslink_jobs.proofs.Reading.{AreRead-next}
+use Rattle.doslink_jobs.proofs.Reading.{AreRead-next, unread-at}
 use Rattle.doslink_jobs.proofs.ordering.read_modules.Goals as goal
 
 pub loop-bytes-preserved : goal.loop-bytes-preserved
@@ -7,3 +7,8 @@ loop-bytes-preserved g c =
     AreRead-next c.args.inputs.now c.loop-bytes.bytes-index _ c.loop-bytes.modules.items c.push.new.self.items
     c.in-Some.one
     c.loop-bytes-test.true c.loop-bytes.invariant read c.in_ok-push-in-Some.ensures.items
+
+pub returns-in-None : goal.returns-in-None
+returns-in-None g c =
+    let none = rw c.in-None.is at c.in_ok-one.ensures in
+    unread-at c.args.inputs.now c.loop-bytes.bytes-index _ c.loop-bytes-test.true none
