@@ -4,6 +4,7 @@ pub mod Bss
 pub mod Declaring
 pub mod Doing
 pub mod Failures
+pub mod FarData
 pub mod Lists
 pub mod Lowered
 pub mod Reading

@@ -53,11 +53,11 @@ renaming-is job modules names aliases agreed gathered = ap₂ renamed agreed gat
 
 -- the modules are lowered as the job asks for
 pub lowered-for : (job : Job) (modules inputs : List (List ℕ)) (lowering : Lowering) (r : Renaming)
-    → r ≡ renaming_of job modules → IsLoweringFor job lowering → endless r (link_aliases modules) ≡ None
+    → r ≡ renaming_of job modules → IsLoweringFor job r modules lowering → endless r (link_aliases modules) ≡ None
     → AreLowered lowering r modules inputs → AreLoweredFor job modules inputs
 lowered-for job modules inputs lowering r same is ends are = record {
   lowering = lowering;
-  is_lowering = is;
+  is_lowering = subst (λ x. IsLoweringFor job x modules lowering) same is;
   ends = subst (λ x. endless x (link_aliases modules) ≡ None) same ends;
   are_lowered = subst (λ x. AreLowered lowering x modules inputs) same are;
 }

@@ -25,6 +25,7 @@ use Rattle.doslink_stock.specs.Search.{Takes}
 use Rattle.doslink_stock.specs.Files.{Held, members, objects}
 use Rattle.doslink_telling.specs.Missing.{unmet, wants_marks}
 use Rattle.doslink_jobs.specs.Communals.{AreVariablesOf, IsCommunalModule, offering}
+use Rattle.doslink_jobs.specs.FarData.{TellsFit}
 use Rattle.doslink_jobs.specs.Orders.{IsOrderModule}
 use Rattle.doslink_files.specs.Files.{AreFound, AreTold, IsFound}
 
@@ -39,11 +40,6 @@ abbrev pub TakesOf : Names → (files : List (List ℕ)) → (modules : List Hel
 TakesOf names files modules =
     (offered : List Held) × (members files ≡ Ok offered) × Takes names (objects files) offered modules
 
--- how a job lowers modules: far data shares a frame only where the job packs it
-pub record IsLoweringFor (job : Job) (lowering : Lowering) : Type 0 where
-  pub debug : lowering.keep_debug ≡ job.keep_debug
-  pub far_data : lowering.shares_far_data ≡ true → job.packs_far_data ≡ true
-
 -- the aliases of modules, in the order of these
 abbrev pub link_aliases : (modules : List (List ℕ)) → List Alias
 link_aliases modules = flat_map (λ m. aliases_of (module_records m 0)) modules
@@ -56,11 +52,24 @@ renaming_of job modules = record { names = names_of job.ignore_case; aliases = l
 abbrev pub AreLowered : Lowering → Renaming → (modules inputs : List (List ℕ)) → Type 0
 AreLowered lowering renaming modules inputs = map (lowered lowering renaming) modules ≡ map Ok inputs
 
+-- how a job lowers modules whose far data shares no frame
+abbrev pub plain_lowering : Job → Lowering
+plain_lowering job = record { keep_debug = job.keep_debug; shares_far_data = false }
+
+-- How a job lowers modules, with what names mean in them. Far data shares a frame exactly where the job packs it and
+-- all of it fits in one, as it is in the modules lowered without that.
+pub record IsLoweringFor (job : Job) (renaming : Renaming) (modules : List (List ℕ)) (lowering : Lowering) : Type 0
+    where
+  pub debug : lowering.keep_debug ≡ job.keep_debug
+  pub packed : job.packs_far_data ≡ true → (plain : List (List ℕ))
+      × AreLowered (plain_lowering job) renaming modules plain × TellsFit plain lowering.shares_far_data
+  pub apart : job.packs_far_data ≡ false → lowering.shares_far_data ≡ false
+
 -- these are the modules lowered as a job asks for, with what names mean by all aliases; none of these goes round for
 -- ever
 pub record AreLoweredFor (job : Job) (modules inputs : List (List ℕ)) : Type 0 where
   pub lowering : Lowering
-  pub is_lowering : IsLoweringFor job lowering
+  pub is_lowering : IsLoweringFor job (renaming_of job modules) modules lowering
   pub ends : endless (renaming_of job modules) (link_aliases modules) ≡ None
   pub are_lowered : AreLowered lowering (renaming_of job modules) modules inputs
 

@@ -1,4 +1,5 @@
 pub mod Communals
+pub mod FarData
 pub mod Jobs
 pub mod Orders
 pub mod Runs

@@ -1,8 +1,11 @@
 //! The modules of a link, lowered: what compilers write in place of what `link` takes is rewritten.
-ghost use Rattle.std.specs.Prelude.{◌≡◌, IfOk, map};
+ghost use Rattle.std.specs.Prelude.{◌≡◌, ◌+◌, ◌≤◌, IfOk, map, min, nat_le, sum_by};
 ghost use Rattle.omf_alias.specs.Said.{renaming_said};
+ghost use Rattle.omf_module.specs.Seen.{segment_seen};
 ghost use Rattle.doslink_stock.specs.Seen.{handed_held};
 ghost use Rattle.doslink_link.specs.Linking.{bytes_of};
+ghost use Rattle.doslink_jobs.specs.FarData as spec;
+ghost use Rattle.doslink_jobs.specs.FarData.{TellsFit};
 ghost use Rattle.doslink_jobs.specs.Jobs.{AreLowered, AreLoweredFor, IsLoweringFor};
 ghost use Rattle.doslink_jobs.specs.inside.Inputs.{lowered_bytes};
 
@@ -15,12 +18,9 @@ use doslink_stock::Handed;
 use doslink_telling::push_obstacle;
 use doslink_words::Job;
 use omf_alias::Renaming;
-use omf_lower::{Lowering, LoweringFault, lower, record_place};
-use omf_module::Module;
+use omf_lower::{Lowering, LoweringFault, is_far_data, lower, record_place};
+use omf_module::{Module, Segment};
 use std::alloc::{AllocError, Allocator};
-
-/// The class whose segments share a frame under WLINK.
-const FAR_DATA: &[u8] = b"FAR_DATA";
 
 /// The bytes of a frame at most.
 const FRAME: u64 = 65_536;
@@ -124,38 +124,66 @@ pub(crate) fn lowered_slices<'m, A: Allocator + Copy>(
     Ok(slices)
 }
 
-/// The bytes of the segments of class FAR_DATA in a module, each rounded up to whole paragraphs, and those before; more
-/// than a frame has as soon as they don't fit in one.
-fn far_data_of<A: Allocator + Copy>(module: &Module<A>, before: u64) -> u64 {
+/// The bytes of a segment of class FAR_DATA, in whole paragraphs; none of another one.
+fn far_bytes(segment: &Segment<'_>) -> u64
+    ensures value { result ≡ spec.far_bytes (segment_seen segment.now) }
+    ensures small { result ≤ 4294967310 }
+{
+    if is_far_data(segment.class) {
+        (u64::from(segment.length) + 15) / 16 * 16
+    } else {
+        0
+    }
+}
+
+/// A length and more bytes: at most one more than a frame has.
+fn sum_up_to_frame(length: u64, bytes: u64) -> u64
+    requires length { length ≤ 65537 }
+    requires bytes { bytes ≤ 4294967310 }
+    ensures { result ≡ min (length + bytes) 65537 }
+{
+    (length + bytes).min(FRAME + 1)
+}
+
+/// The far data of a module, and so many bytes before: at most one more than a frame has.
+fn far_data_of<A: Allocator + Copy>(one: &Module<A>, before: u64) -> u64
+    requires { before ≤ 65537 }
+    ensures { result ≡ min (before + sum_by spec.far_bytes one.now.segments) 65537 }
+{
     let mut total = before;
-    for index in 0..module.segment_count() {
-        let segment = module.segment(index);
-        if segment.class == FAR_DATA && total <= FRAME {
-            total += (u64::from(segment.length) + 15) / 16 * 16;
-        }
+    for index in 0..one.segment_count() {
+        let segment = one.segment(index);
+        let bytes = far_bytes(&segment);
+        let sum = sum_up_to_frame(total, bytes);
+        total = sum;
     }
     total
 }
 
-/// Whether the segments of class FAR_DATA fit in one frame.
-fn far_data_fits<A: Allocator + Copy>(modules: &[Module<A>]) -> bool {
+/// Whether the far data of modules fits in one frame.
+fn far_data_fits<A: Allocator + Copy>(modules: &[Module<A>]) -> bool
+    ensures { result ≡ nat_le (spec.far_data_length modules.now) 65536 }
+{
     let mut total = 0;
-    for module in modules {
-        total = far_data_of(module, total);
+    for one in modules {
+        let sum = far_data_of(one, total);
+        total = sum;
     }
     total <= FRAME
 }
 
-/// Whether the far data of these modules shares a frame. It does not, where a module is at fault.
+/// Whether the far data of these modules fits in one frame. It does not, where a module is at fault.
 fn shares_far_data<A: Allocator + Copy>(
     alloc: A,
     modules: &[LoweredModule<'_, A>],
     taken: &Taken<'_, '_, '_, A>,
     lines: &mut Vec<u8, A>,
-) -> Result<bool, Stop> {
+) -> Result<bool, Stop>
+    ensures { IfOk result (TellsFit (map lowered_bytes modules.now)) }
+{
     let slices = lowered_slices(alloc, modules)?;
     match read_modules(alloc, &slices, taken, lines)? {
-        Some(modules) => Ok(far_data_fits(&modules)),
+        Some(read) => Ok(far_data_fits(&read)),
         None => Ok(false),
     }
 }
@@ -168,7 +196,8 @@ fn lowering_of<'a, A: Allocator + Copy>(
     renaming: &Renaming<'_, 'a>,
     lines: &mut Vec<u8, A>,
 ) -> Result<Lowering, Stop>
-    ensures { IfOk result (IsLoweringFor job.now) }
+    ensures { IfOk result (IsLoweringFor job.now (renaming_said renaming.now)
+        (map (λ h. (handed_held h).bytes) taken.now.handed.now)) }
 {
     let plain = Lowering {
         keep_debug: job.keep_debug,

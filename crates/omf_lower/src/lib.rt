@@ -22,3 +22,4 @@ pub use fault::{LoweringFault, Obstacle};
 pub use laws::{externals_are_renamed, records_are_kept};
 pub use lowering::{Lowering, lower};
 pub use places::record_place;
+pub use segments::is_far_data;

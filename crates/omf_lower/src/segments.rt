@@ -72,8 +72,8 @@ fn is_debug(class: &[u8]) -> bool
     class == b"DEBSYM".as_slice() || class == b"DEBTYP".as_slice() || class == b"DWARF".as_slice()
 }
 
-/// Whether data that is reached by far pointers has this class.
-fn is_far_data(class: &[u8]) -> bool
+/// Whether data that is reached by far pointers has this class: FAR_DATA.
+pub fn is_far_data(class: &[u8]) -> bool
     ensures { result ≡ is_far_data class.now }
 {
     class == b"FAR_DATA".as_slice()

@@ -1,0 +1,25 @@
+use Rattle.std.proofs.Common.{◌≡◌, ap, inl, inr, leb, map, refl, subst, ◌∙◌}
+use Rattle.doslink_link.specs.Linking.{bytes_of}
+use Rattle.doslink_jobs.specs.FarData.{far_data_length}
+use Rattle.doslink_jobs.specs.Orders.{AreRead, AreUnread}
+use Rattle.doslink_jobs.specs.inside.Inputs.{lowered_bytes}
+use Rattle.doslink_jobs.proofs.lowering.shares_far_data.Goals as goal
+
+pub returns-in-Some : goal.returns-in-Some
+returns-in-Some g c =
+    let same : bytes_of c.deref.result.now ≡ map lowered_bytes c.args.modules.now =
+    ap bytes_of c.deref.ensures.value ∙ c.in_ok-slices.ensures in
+    let read = c.in-Some.read.items in
+    let are = rw c.in-Some.is at c.in_ok-read.ensures in
+    inl (
+      read,
+      subst (λ inputs. AreRead inputs read) same are,
+      c.far_data_fits.ensures ∙ ap (λ ms. leb (far_data_length ms) 65536) c.deref-2.ensures.value,
+    )
+
+pub returns-in-None : goal.returns-in-None
+returns-in-None g c =
+    let same : bytes_of c.deref.result.now ≡ map lowered_bytes c.args.modules.now =
+    ap bytes_of c.deref.ensures.value ∙ c.in_ok-slices.ensures in
+    let none = rw c.in-None.is at c.in_ok-read.ensures in
+    inr (subst AreUnread same none, refl)
