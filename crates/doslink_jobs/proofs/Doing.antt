@@ -85,7 +85,8 @@ done A told folders all job given files folded (named, libraries, first, second,
       defaults = defaults;
       are_named = first;
       are_libraries = second;
-      are_defaults = subst (λ fs. AreDefaults told fs job defaults) folded are;
+      are_defaults = subst (λ fs. AreDefaults told fs job (named ++ libraries) defaults) folded
+          (subst (λ g. AreDefaults told all job g defaults) is are);
       linked = subst (IsLinked A job) (added ∙ ap (λ l. l ++ defaults) is) linked;
     }
 

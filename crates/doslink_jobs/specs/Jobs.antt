@@ -1,10 +1,10 @@
 -- What a job has done where it ends well, and how a run ends. `told` are the bytes of files by their paths, where the
 -- world tells them.
-use Rattle.std.specs.Prelude.{◌≡◌, ◌⊎◌, ℕ, Bool, true, false, All, List, [], ◌∷◌, ◌++◌, map, None, Ok}
+use Rattle.std.specs.Prelude.{◌≡◌, ◌⊎◌, ℕ, Bool, true, false, List, [], ◌∷◌, ◌++◌, map, None, Ok}
 use Rattle.std.specs.Prelude.{if◌then◌else◌}
 use Rattle.std.specs.declared.option.Option.{Option}
 use Rattle.std.specs.declared.result.Result.{Result}
-use Rattle.std.specs.List.{flat_map, list_any}
+use Rattle.std.specs.List.{Contains, flat_map, list_any}
 use Rattle.std.specs.Option.{option_to_list}
 use Rattle.clap.specs.Words.{Text}
 use Rattle.omf_alias.specs.Meaning.{Renaming, endless}
@@ -98,14 +98,35 @@ IsLinked A job files = IsLinkOf A job (TakesOf (names_of job.ignore_case) files)
 
 -- ---- a job
 
--- these are the bytes of a library that was looked up under some name
-abbrev pub IsLibrary : (told : Text → Option (List ℕ)) → (folders : List Text) → (bytes : List ℕ) → Type 0
-IsLibrary told folders bytes = (name path : Text) × IsFound told folders name path bytes
+-- one of these modules names this default library
+abbrev pub IsNamedBy : (modules : List Held) → (name : List ℕ) → Type 0
+IsNamedBy modules name = (m : Held) × Contains modules m × Contains m.libraries name
 
--- these are default libraries of a job, which may ask for none
-pub record AreDefaults (told : Text → Option (List ℕ)) (folders : List Text) (job : Job) (files : List (List ℕ))
+-- a module that a link takes of these files names this default library
+abbrev pub AsksFor : Names → (files : List (List ℕ)) → (name : List ℕ) → Type 0
+AsksFor names files name = (modules : List Held) × TakesOf names files modules × IsNamedBy modules name
+
+-- the same of the first of these files, however many
+abbrev pub AsksEarly : Names → (files : List (List ℕ)) → (name : List ℕ) → Type 0
+AsksEarly names files name = (front rest : List (List ℕ)) × (files ≡ front ++ rest) × AsksFor names front name
+
+-- these are the bytes of a library that was looked up by a name for which the first of the files ask
+abbrev pub IsDefault : (told : Text → Option (List ℕ)) → (folders : List Text) → Names → (files : List (List ℕ))
+    → (bytes : List ℕ) → Type 0
+IsDefault told folders names files bytes =
+    (name path : Text) × IsFound told folders name path bytes × AsksEarly names files name
+
+-- each of these files is such a library, the first of the files before it asking
+abbrev pub AreAsked : (told : Text → Option (List ℕ)) → (folders : List Text) → Names → (before files : List (List ℕ))
+    → Type 0
+AreAsked told folders names before [] = Unit {0}
+AreAsked told folders names before (bytes ∷ files) =
+    IsDefault told folders names before bytes × AreAsked told folders names (before ++ bytes ∷ []) files
+
+-- these are default libraries of a job behind the files that were given; it may ask for none
+pub record AreDefaults (told : Text → Option (List ℕ)) (folders : List Text) (job : Job) (given files : List (List ℕ))
     : Type 0 where
-  pub found : All (IsLibrary told folders) files
+  pub asked : AreAsked told folders (names_of job.ignore_case) given files
   pub none : job.default_libraries ≡ false → files ≡ []
 
 -- A job was done: its files, its libraries and default libraries were read and linked, in this order. Default libraries
@@ -116,7 +137,7 @@ pub record IsDone (A : Type 0) (told : Text → Option (List ℕ)) (folders : Li
   pub defaults : List (List ℕ)
   pub are_named : AreTold told (texts job.files.items) named
   pub are_libraries : AreFound told (texts job.folders.items) (texts job.libraries.items) libraries
-  pub are_defaults : AreDefaults told (texts job.folders.items ++ folders) job defaults
+  pub are_defaults : AreDefaults told (texts job.folders.items ++ folders) job (named ++ libraries) defaults
   pub linked : IsLinked A job (named ++ libraries ++ defaults)
 
 -- ---- a run

@@ -1,13 +1,18 @@
 //! The default libraries that comments of modules name.
-ghost use Rattle.std.specs.Prelude.{◌≡◌, ◌⊎◌, [], ◌∷◌, ◌++◌, IfOk, IfSome, OnOk, map};
-ghost use Rattle.doslink_files.specs.Files.{contents};
+ghost use Rattle.std.specs.Prelude.{◌≡◌, ◌⊎◌, All, List, [], ◌∷◌, ◌++◌, IfOk, IfSome, OnOk, map, string_bytes};
+ghost use Rattle.std.specs.List.{Contains};
+ghost use Rattle.omf_place.specs.declared.names.Names as agreeing;
+ghost use Rattle.doslink_files.specs.Files.{IsFound, contents};
 ghost use Rattle.doslink_link.specs.Linking.{bytes_of};
-ghost use Rattle.doslink_jobs.specs.Jobs.{IsLibrary};
-ghost use Rattle.doslink_jobs.specs.inside.Adding.{AddsFound};
+ghost use Rattle.doslink_stock.specs.Files.{Held};
+ghost use Rattle.doslink_stock.specs.Search.{Takes};
+ghost use Rattle.doslink_stock.specs.Seen.{entry_held, handed_held};
+ghost use Rattle.doslink_jobs.specs.Jobs.{AsksEarly, AsksFor, IsNamedBy};
+ghost use Rattle.doslink_jobs.specs.inside.Adding.{AddsFound, AddsNamed};
 
 use crate::stop::Stop;
 use doslink_files::{InputFile, ReadFault, find_library};
-use doslink_stock::{Stock, read_stock, search};
+use doslink_stock::{Entry, Handed, Stock, read_stock, search};
 use doslink_telling::{module_word, push_absent_line, push_device_line, push_stock_fault};
 use omf_files::World;
 use omf_place::Names;
@@ -18,9 +23,9 @@ const MOST_ROUNDS: usize = 65_536;
 
 /// A default library, and the word for the first module that names it.
 #[derive(Drop)]
-struct DefaultLibrary<A: Allocator + Copy> {
-    name: Vec<u8, A>,
-    word: Vec<u8, A>,
+pub(crate) struct DefaultLibrary<A: Allocator + Copy> {
+    pub name: Vec<u8, A>,
+    pub word: Vec<u8, A>,
 }
 
 /// The bytes of the files.
@@ -47,28 +52,75 @@ fn is_known<A: Allocator + Copy>(libraries: &[DefaultLibrary<A>], name: &[u8]) -
     false
 }
 
-/// The default libraries that the modules that a link takes of these name, each once, in order of meeting, without those
-/// that were met before, and without the empty name.
+/// Appends the default library of a name that a module names, unless it was met before, is there, or has no name.
+fn push_library<A: Allocator + Copy>(
+    alloc: A,
+    files: &[InputFile<A>],
+    met: &[DefaultLibrary<A>],
+    found: &mut Vec<DefaultLibrary<A>, A>,
+    entry: &Entry<'_, A>,
+    name: &[u8],
+) -> Result<(), AllocError>
+    ensures { OnOk result (AddsNamed (λ n. n ≡ name.now) found.old.items found.new.items) }
+{
+    if name.is_empty() || is_known(met, name) || is_known(found, name) {
+        return Ok(());
+    }
+    let name = Vec::from_slice(alloc, name)?;
+    let word = module_word(alloc, files, entry)?;
+    found.push(DefaultLibrary { name, word })?;
+    Ok(())
+}
+
+/// Appends the default libraries that a module names.
+fn push_libraries<A: Allocator + Copy>(
+    alloc: A,
+    files: &[InputFile<A>],
+    met: &[DefaultLibrary<A>],
+    found: &mut Vec<DefaultLibrary<A>, A>,
+    entry: &Entry<'_, A>,
+) -> Result<(), AllocError>
+    ensures { OnOk result
+        (AddsNamed (Contains (entry_held entry.now).libraries) found.old.items found.new.items) }
+{
+    for name in &entry.says.libraries {
+        push_library(alloc, files, met, found, entry, name)?;
+    }
+    Ok(())
+}
+
+/// The default libraries that modules name, each once, in order of meeting, without those that were met before, and
+/// without the empty name.
 fn libraries_of<A: Allocator + Copy>(
+    alloc: A,
+    files: &[InputFile<A>],
+    met: &[DefaultLibrary<A>],
+    handed: &[Handed<'_, '_, A>],
+) -> Result<Vec<DefaultLibrary<A>, A>, AllocError>
+    ensures { IfOk result
+        (λ found. All (λ l. IsNamedBy (map handed_held handed.now) l.name.items) found.items) }
+{
+    let mut found = Vec::new(alloc);
+    for each in handed {
+        push_libraries(alloc, files, met, &mut found, each.entry)?;
+    }
+    Ok(found)
+}
+
+/// The same of the modules that a link takes of these.
+fn taken_libraries<A: Allocator + Copy>(
     alloc: A,
     files: &[InputFile<A>],
     names: Names,
     met: &[DefaultLibrary<A>],
     stock: &Stock<'_, A>,
-) -> Result<Vec<DefaultLibrary<A>, A>, AllocError> {
+) -> Result<Vec<DefaultLibrary<A>, A>, AllocError>
+    ensures { IfOk result (λ found. (modules : List Held)
+        × Takes names (map entry_held stock.now.objects.items) (map entry_held stock.now.members.items) modules
+        × All (λ l. IsNamedBy modules l.name.items) found.items) }
+{
     let handed = search(alloc, stock, names)?;
-    let mut found = Vec::new(alloc);
-    for each in &handed {
-        for name in &each.entry.says.libraries {
-            if !name.is_empty() && !is_known(met, name) && !is_known(&found, name) {
-                found.push(DefaultLibrary {
-                    name: Vec::from_slice(alloc, name)?,
-                    word: module_word(alloc, files, each.entry)?,
-                })?;
-            }
-        }
-    }
-    Ok(found)
+    libraries_of(alloc, files, met, &handed)
 }
 
 /// The same of what the files hold.
@@ -78,10 +130,12 @@ fn named_libraries<A: Allocator + Copy>(
     names: Names,
     met: &[DefaultLibrary<A>],
     lines: &mut Vec<u8, A>,
-) -> Result<Vec<DefaultLibrary<A>, A>, Stop> {
+) -> Result<Vec<DefaultLibrary<A>, A>, Stop>
+    ensures { IfOk result (λ found. All (λ l. AsksFor names (contents files.now) l.name.items) found.items) }
+{
     let slices = slices_of(alloc, files)?;
     match read_stock(alloc, &slices) {
-        Ok(stock) => Ok(libraries_of(alloc, files, names, met, &stock)?),
+        Ok(stock) => Ok(taken_libraries(alloc, files, names, met, &stock)?),
         Err(fault) => {
             push_stock_fault(lines, files, fault)?;
             Err(Stop::Input)
@@ -113,8 +167,8 @@ fn find_default<W: World, A: Allocator + Copy>(
     folders: &[&str],
     library: &DefaultLibrary<A>,
 ) -> Result<Option<InputFile<A>>, ReadFault>
-    ensures { IfOk result (λ found. IfSome found (λ file. IsLibrary (W.bytes world.now)
-        (map (λ f. f.now) folders.now) file.bytes.items)) }
+    ensures { IfOk result (λ found. IfSome found (λ file. IsFound (W.bytes world.now) (map (λ f. f.now) folders.now)
+        library.now.name.items (string_bytes file.path) file.bytes.items)) }
 {
     match str::from_utf8(&library.name) {
         Ok(name) => find_library(alloc, world, folders, name),
@@ -131,7 +185,9 @@ fn add_library<W: World, A: Allocator + Copy>(
     files: &mut Vec<InputFile<A>, A>,
     lines: &mut Vec<u8, A>,
 ) -> Result<(), Stop>
-    ensures { OnOk result (AddsFound (W.bytes world.now) (map (λ f. f.now) folders.now) (contents files.old.items)
+    ensures { OnOk result ((asking : agreeing.Names)
+        → AsksEarly asking (contents files.old.items) library.now.name.items
+        → AddsFound (W.bytes world.now) (map (λ f. f.now) folders.now) asking (contents files.old.items)
         (contents files.new.items)) }
 {
     match find_default(alloc, world, folders, library) {
@@ -156,7 +212,9 @@ fn add_found<W: World, A: Allocator + Copy>(
     files: &mut Vec<InputFile<A>, A>,
     lines: &mut Vec<u8, A>,
 ) -> Result<(), Stop>
-    ensures { OnOk result (AddsFound (W.bytes world.now) (map (λ f. f.now) folders.now) (contents files.old.items)
+    ensures { OnOk result ((asking : agreeing.Names)
+        → All (λ l. AsksEarly asking (contents files.old.items) l.name.items) found.now
+        → AddsFound (W.bytes world.now) (map (λ f. f.now) folders.now) asking (contents files.old.items)
         (contents files.new.items)) }
 {
     for library in found {
@@ -174,8 +232,8 @@ pub(crate) fn add_default_libraries<W: World, A: Allocator + Copy>(
     files: &mut Vec<InputFile<A>, A>,
     lines: &mut Vec<u8, A>,
 ) -> Result<(), Stop>
-    ensures { OnOk result (AddsFound (W.bytes world.now) (map (λ f. f.now) folders.now) (contents files.old.items)
-        (contents files.new.items)) }
+    ensures { OnOk result (AddsFound (W.bytes world.now) (map (λ f. f.now) folders.now) names
+        (contents files.old.items) (contents files.new.items)) }
 {
     let mut met = Vec::new(alloc);
     'rounds: for _ in 0..MOST_ROUNDS {
