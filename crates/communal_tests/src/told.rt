@@ -1,10 +1,10 @@
 //! What is told of communal variables, as text.
 
 use omf_communal::{
-    ClashFault, Communal, CommunalFault, Declaring, Extent, PlanFault, Variable, communal_module,
-    communals, has_bss, variables,
+    ClashFault, Communal, CommunalFault, Declaring, Extent, PlanFault, Scope, Variable,
+    communal_module, communals, has_bss, local_module, local_names, variables,
 };
-use omf_library::{ModuleNames, module_names};
+use omf_library::{ModuleNames, module_frames, module_names};
 use omf_module::{Module, ModuleFault, Standing, SymbolBase};
 use omf_place::Names;
 use rows::{read_modules, read_row};
@@ -21,6 +21,8 @@ pub enum Asked {
     Variables(Names),
     /// The module that has these.
     Module { in_bss: bool },
+    /// The second with the variables that the first declares as local to it: what it has behind its own records.
+    Local { in_bss: bool },
     /// Whether one of them has `_BSS` in DGROUP.
     Bss,
 }
@@ -55,7 +57,7 @@ fn told_communals<A: Allocator + Copy>(
     text: &mut String,
     bytes: &[u8],
 ) -> Result<(), AllocError> {
-    match communals(alloc, bytes) {
+    match communals(alloc, bytes, Scope::Program) {
         Ok(told) => {
             for each in &told {
                 let place = each.place;
@@ -75,7 +77,7 @@ fn read_all<'a, A: Allocator + Copy>(
 ) -> Result<Vec<Read<'a, A>, A>, CommunalFault> {
     let mut all = Vec::new(alloc);
     for bytes in inputs {
-        let communals = communals(alloc, bytes)?;
+        let communals = communals(alloc, bytes, Scope::Program)?;
         let names = module_names(alloc, bytes)?;
         all.push(Read { communals, names })?;
     }
@@ -189,6 +191,16 @@ fn reread(alloc: Global, text: &mut String, bytes: &[u8]) -> Result<(), AllocErr
     }
 }
 
+/// Why variables have no place.
+fn push_plan_fault(text: &mut String, fault: PlanFault) -> Result<(), AllocError> {
+    match fault {
+        PlanFault::NearTooLong { variable } => write!(text, "57 {variable}"),
+        PlanFault::CutElement { variable } => write!(text, "58 {variable}"),
+        PlanFault::TooManySegments { variable } => write!(text, "59 {variable}"),
+        PlanFault::Memory => text.push_str("no memory"),
+    }
+}
+
 /// The module that has the variables of modules.
 fn told_module<A: Allocator + Copy>(
     alloc: A,
@@ -204,10 +216,83 @@ fn told_module<A: Allocator + Copy>(
     match communal_module(alloc, &variables, in_bss) {
         Ok(None) => text.push_str("none"),
         Ok(Some(bytes)) => reread(words, text, &bytes),
-        Err(PlanFault::NearTooLong { variable }) => write!(text, "57 {variable}"),
-        Err(PlanFault::CutElement { variable }) => write!(text, "58 {variable}"),
-        Err(PlanFault::TooManySegments { variable }) => write!(text, "59 {variable}"),
-        Err(PlanFault::Memory) => text.push_str("no memory"),
+        Err(fault) => push_plan_fault(text, fault),
+    }
+}
+
+/// Appends the bytes, each in hexadecimal digits.
+fn push_bytes(text: &mut String, bytes: &[u8]) -> Result<(), AllocError> {
+    for byte in bytes {
+        write!(text, " {byte:02X}")?;
+    }
+    Ok(())
+}
+
+/// Appends the records of a module from that with a number on, as type and body, and what stands behind them.
+fn push_records(
+    alloc: Global,
+    text: &mut String,
+    bytes: &[u8],
+    first: usize,
+) -> Result<(), AllocError> {
+    let frames = module_frames(alloc, bytes)?;
+    let mut end = 0;
+    for (number, frame) in frames.iter().enumerate() {
+        if first <= number {
+            let kind = frame.kind;
+            write!(text, "{kind:02X}")?;
+            push_bytes(text, frame.body)?;
+            text.push_str("; ")?;
+        }
+        end = (frame.place as usize).saturating_add(frame.body.len().saturating_add(4));
+    }
+    if let Some(rest) = bytes.get(end..) {
+        push_bytes(text, rest)?;
+    }
+    Ok(())
+}
+
+/// The variables that one module declares as local to it, by the local publics of another.
+fn locals<'a, A: Allocator + Copy>(
+    alloc: A,
+    own: &'a [u8],
+    lowered: &'a [u8],
+) -> Result<Vec<Variable<'a>, A>, ClashFault> {
+    let communals = match communals(alloc, own, Scope::Module) {
+        Ok(communals) => communals,
+        Err(_) => return Err(ClashFault::Memory),
+    };
+    let offered = local_names(alloc, lowered)?;
+    let declaring = [Declaring {
+        communals: communals.as_slice(),
+        offered: offered.as_slice(),
+    }];
+    variables(alloc, Names::Exact, &declaring)
+}
+
+/// A module with the variables that another declares as local to it.
+fn told_local<A: Allocator + Copy>(
+    alloc: A,
+    words: Global,
+    text: &mut String,
+    in_bss: bool,
+    inputs: &[Vec<u8>],
+) -> Result<(), AllocError> {
+    let [own, lowered, ..] = inputs else {
+        return text.push_str("one module");
+    };
+    let variables = match locals(alloc, own, lowered) {
+        Ok(variables) => variables,
+        Err(fault) => return write!(text, "{fault}"),
+    };
+    match local_module(alloc, lowered, &variables, in_bss) {
+        Ok(None) => text.push_str("same"),
+        Ok(Some(bytes)) => {
+            let first = module_frames(words, lowered)?.len().saturating_sub(1);
+            push_records(words, text, &bytes, first)?;
+            reread(words, text, &bytes)
+        }
+        Err(fault) => push_plan_fault(text, fault),
     }
 }
 
@@ -232,6 +317,7 @@ pub fn told<A: Allocator + Copy>(
     let mut text = String::new(words);
     match asked {
         Asked::Bss => told_bss(words, &mut text, inputs)?,
+        Asked::Local { in_bss } => told_local(alloc, words, &mut text, in_bss, inputs)?,
         Asked::Communals => {
             for bytes in inputs {
                 told_communals(alloc, &mut text, bytes)?;

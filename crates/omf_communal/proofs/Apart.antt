@@ -8,6 +8,7 @@ use Rattle.std.specs.List.{range_with_len}
 use Rattle.omf_communal.specs.declared.declarations.Extent.{Extent}
 use Rattle.omf_communal.specs.declared.declarations.Extent.TheVariants.{Near, Far}
 use Rattle.omf_communal.specs.declared.fault.PlanFault.TheVariants.{NearTooLong, CutElement, TooManySegments}
+use Rattle.omf_communal.specs.declared.places.Before.{Before}
 use Rattle.omf_communal.specs.Apart.{AreApart, ArePlaced, FarRow, NearRow, Sized, far_of, fars, near_of, nears}
 use Rattle.omf_communal.specs.Deciding.{Variable}
 use Rattle.omf_communal.specs.Plan.{Place, far_first, far_lengths, far_lengths_of, far_next, far_place, far_places}
@@ -17,21 +18,21 @@ use Rattle.omf_communal.proofs.Fitting.{and-parts, both, length-parts, made, mad
 
 -- ---- near ones
 
-one_near : (at index : ℕ) (name : List ℕ) (e : Extent) (ps : List Place) (end : ℕ) (ss : List Sized) (qs : List Place) →
-    near_place at index name e ≡ Ok ps →
-    NearRow (near_next at e) end ss qs → NearRow at end (near_of name e ++ ss) (ps ++ qs)
-one_near at index name (Far count size) ps end ss qs e h =
+one_near : (before : Before) (at index : ℕ) (name : List ℕ) (e : Extent) (ps : List Place) (end : ℕ) (ss : List Sized) (qs : List Place) →
+    near_place before at index name e ≡ Ok ps →
+    NearRow before (near_next at e) end ss qs → NearRow before at end (near_of name e ++ ss) (ps ++ qs)
+one_near before at index name (Far count size) ps end ss qs e h =
     let is : [] ≡ ps = cc in
-    subst (λ xs. NearRow at end ss (xs ++ qs)) is h
-one_near at index name (Near n) ps end ss qs e h =
+    subst (λ xs. NearRow before at end ss (xs ++ qs)) is h
+one_near before at index name (Near n) ps end ss qs e h =
     let start = near_start at n in
-    let p : Place = record { name = name; group = 1; segment = 1; offset = start } in
+    let p : Place = record { name = name; group = before.groups + 1; segment = before.segments + 1; offset = start } in
     let s : Sized = record { name = name; bytes = n } in
     (elim (fits_near start n) as (λ b.
-    cond b (Ok (p ∷ [])) (Err (NearTooLong index)) ≡ Ok ps → NearRow at end (s ∷ ss) (ps ++ qs)) [
+    cond b (Ok (p ∷ [])) (Err (NearTooLong index)) ≡ Ok ps → NearRow before at end (s ∷ ss) (ps ++ qs)) [
       | true ↦ λ u.
           let is : p ∷ [] ≡ ps = cc in
-          subst (λ xs. NearRow at end (s ∷ ss) (xs ++ qs)) is
+          subst (λ xs. NearRow before at end (s ∷ ss) (xs ++ qs)) is
           (record { name = refl; group = refl; segment = refl; behind = behind at n }, h)
       | false ↦ λ u. absurd (cc)
     ]) e
@@ -39,32 +40,32 @@ one_near at index name (Near n) ps end ss qs e h =
     behind : (at n : ℕ) → at ≤ near_start at n
     behind at n = elim (leb n 1) as (λ b. at ≤ cond b at (at + at % 2)) [ true ↦ omega arith | false ↦ omega arith ]
 
-near_row : (at index : ℕ) (vs : List Variable) (ps : List Place) → near_places at index vs ≡ Ok ps
-    → NearRow at (near_end at vs) (nears vs) ps
-near_row at index [] ps e = let is : [] ≡ ps = cc in subst (NearRow at at []) is (omega arith)
-near_row at index (v ∷ vs) ps e =
+near_row : (before : Before) (at index : ℕ) (vs : List Variable) (ps : List Place) → near_places before at index vs ≡ Ok ps
+    → NearRow before at (near_end at vs) (nears vs) ps
+near_row before at index [] ps e = let is : [] ≡ ps = cc in subst (NearRow before at at []) is (omega arith)
+near_row before at index (v ∷ vs) ps e =
     let next = near_next at v.extent in
-    let parts = both (near_place at index v.name v.extent) (near_places next (index + 1) vs) ps e in
-    subst (NearRow at (near_end next vs) (nears (v ∷ vs))) (sym parts.4)
-    (one_near at index v.name v.extent parts.0 (near_end next vs) (nears vs) parts.1 parts.2
-    (near_row next (index + 1) vs parts.1 parts.3))
+    let parts = both (near_place before at index v.name v.extent) (near_places before next (index + 1) vs) ps e in
+    subst (NearRow before at (near_end next vs) (nears (v ∷ vs))) (sym parts.4)
+    (one_near before at index v.name v.extent parts.0 (near_end next vs) (nears vs) parts.1 parts.2
+    (near_row before next (index + 1) vs parts.1 parts.3))
 
-near_short : (at index : ℕ) (vs : List Variable) (ps : List Place) → at ≤ 65536 → near_places at index vs ≡ Ok ps
+near_short : (before : Before) (at index : ℕ) (vs : List Variable) (ps : List Place) → at ≤ 65536 → near_places before at index vs ≡ Ok ps
     → near_end at vs ≤ 65536
-near_short at index [] ps h e = h
-near_short at index (v ∷ vs) ps h e =
-    let parts = both (near_place at index v.name v.extent) (near_places (near_next at v.extent) (index + 1) vs) ps e in
-    near_short (near_next at v.extent) (index + 1) vs parts.1 (next_short at index v.name v.extent parts.0 h parts.2)
+near_short before at index [] ps h e = h
+near_short before at index (v ∷ vs) ps h e =
+    let parts = both (near_place before at index v.name v.extent) (near_places before (near_next at v.extent) (index + 1) vs) ps e in
+    near_short before (near_next at v.extent) (index + 1) vs parts.1 (next_short before at index v.name v.extent parts.0 h parts.2)
     parts.3
   where
-    next_short : (at index : ℕ) (name : List ℕ) (e : Extent) (ps : List Place) → at ≤ 65536
-        → near_place at index name e ≡ Ok ps → near_next at e ≤ 65536
-    next_short at index name (Far count size) ps h e = h
-    next_short at index name (Near n) ps h e =
+    next_short : (before : Before) (at index : ℕ) (name : List ℕ) (e : Extent) (ps : List Place) → at ≤ 65536
+        → near_place before at index name e ≡ Ok ps → near_next at e ≤ 65536
+    next_short before at index name (Far count size) ps h e = h
+    next_short before at index name (Near n) ps h e =
         let start = near_start at n in
         (elim (fits_near start n) as (λ b.
         fits_near start n ≡ b
-        → cond b (Ok (record { name = name; group = 1; segment = 1; offset = start } ∷ [])) (Err (NearTooLong index))
+        → cond b (Ok (record { name = name; group = before.groups + 1; segment = before.segments + 1; offset = start } ∷ [])) (Err (NearTooLong index))
         ≡ Ok ps → start + n ≤ 65536) [
           | true ↦ λ t u. leb-true _ _ (and-parts (ltb start 65536) (leb (start + n) 65536) t).1
           | false ↦ λ t u. absurd (cc)
@@ -134,35 +135,38 @@ far_row segment index (v ∷ vs) ps e =
 -- ---- the whole
 
 -- without near ones the near segment ends where it begins
-no_near : (at index : ℕ) (vs : List Variable) → near_places at index vs ≡ Ok [] → nears vs ≡ []
-no_near at index vs e = empty (nears vs) (near_end at vs) at (near_row at index vs [] e)
+no_near : (before : Before) (at index : ℕ) (vs : List Variable) → near_places before at index vs ≡ Ok [] → nears vs ≡ []
+no_near before at index vs e = empty (nears vs) (near_end at vs) at (near_row before at index vs [] e)
   where
-    empty : (ss : List Sized) (end at : ℕ) → NearRow at end ss [] → ss ≡ []
+    empty : (ss : List Sized) (end at : ℕ) → NearRow before at end ss [] → ss ≡ []
     empty [] end at h = refl
     empty (s ∷ ss) end at h = absurd h
 
-apart_with : (vs : List Variable) (near far : List Place) → near_places 0 0 vs ≡ Ok near →
-    far_places (far_first near) 0 vs ≡ Ok far →
-    AreApart vs (record { near = near_segment near (near_end 0 vs); far = far_lengths vs; places = near ++ far })
-apart_with vs [] far n f = record {
+apart_with : (before : Before) (vs : List Variable) (near far : List Place) → near_places before 0 0 vs ≡ Ok near →
+    far_places (far_first before near) 0 vs ≡ Ok far →
+    AreApart before vs
+    (record { near = near_segment near (near_end 0 vs); far = far_lengths vs; places = near ++ far })
+apart_with before vs [] far n f = record {
   near = [];
   far = far;
   all = refl;
-  in_near = subst (λ ss. NearRow 0 0 ss []) (sym (no_near 0 0 vs n)) (omega arith);
+  in_near = subst (λ ss. NearRow before 0 0 ss []) (sym (no_near before 0 0 vs n)) (omega arith);
   short = omega arith;
-  in_far = far_row 1 0 vs far f;
+  in_far =
+      subst (λ s. FarRow s (far_lengths vs) (fars vs) far) (omega arith) (far_row (before.segments + 1) 0 vs far f);
 }
-apart_with vs (p ∷ ps) far n f = record {
+apart_with before vs (p ∷ ps) far n f = record {
   near = p ∷ ps;
   far = far;
   all = refl;
-  in_near = near_row 0 0 vs (p ∷ ps) n;
-  short = near_short 0 0 vs (p ∷ ps) (omega arith) n;
-  in_far = far_row 2 0 vs far f;
+  in_near = near_row before 0 0 vs (p ∷ ps) n;
+  short = near_short before 0 0 vs (p ∷ ps) (omega arith) n;
+  in_far =
+      subst (λ s. FarRow s (far_lengths vs) (fars vs) far) (omega arith) (far_row (before.segments + 2) 0 vs far f);
 }
 
 pub placed : ArePlaced
-placed vs p e =
-    let one = made vs (near_places 0 0 vs) p e in
-    let two = made_with vs one.0 (far_places (far_first one.0) 0 vs) p one.2 in
-    subst (AreApart vs) two.2 (apart_with vs one.0 two.0 one.1 two.1)
+placed before vs p e =
+    let one = made before vs p e in
+    let two = made_with before vs one.0 (far_places (far_first before one.0) 0 vs) p one.2 in
+    subst (AreApart before vs) two.2 (apart_with before vs one.0 two.0 one.1 two.1)

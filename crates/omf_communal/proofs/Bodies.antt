@@ -18,6 +18,7 @@ use Rattle.omf_record.specs.Body.{Body, AbsoluteText, Acbp, BaseText, LengthText
 use Rattle.omf_record.specs.inside.Fields.{ComponentText, PublicText, SegmentText}
 use Rattle.omf_record.specs.Canonical as canon
 use Rattle.omf_record.specs.Canonical.{FitsFrame, canonical}
+use Rattle.omf_communal.specs.declared.places.Before.{Before}
 use Rattle.omf_communal.specs.inside.Planned.{IsBase, IsName}
 use Rattle.omf_communal.specs.Records.{dgroup, far_definition, far_names, length_of, near_definition, near_name}
 use Rattle.omf_communal.specs.Records.{near_names}
@@ -98,14 +99,21 @@ pub end_fits : FitsFrame (Modend false None)
 unfolding Body canonical
 end_fits = record { body = (0, lit< tt, refl, refl); short = lit≤ tt }
 
-pub group_fits : FitsFrame (Grpdef 1 (1 ∷ []))
+pub group_fits : (name segment : ℕ) → name ≤ 32767 → segment ≤ 32767 → FitsFrame (Grpdef name (segment ∷ []))
 unfolding Body canonical
-group_fits = record {
+group_fits name segment n s = record {
   body =
-      joined (canon.index 1) (flat_map canon.component (1 ∷ [])) (index_text 1 (lit≤ tt))
-      (each_text ComponentText canon.component (1 ∷ [])
-      (joined (0xFF ∷ []) (canon.index 1) (lit< tt, refl) (index_text 1 (lit≤ tt)), tt));
-  short = lit≤ tt;
+      joined (canon.index name) (flat_map canon.component (segment ∷ [])) (index_text name n)
+      (each_text ComponentText canon.component (segment ∷ [])
+      (joined (0xFF ∷ []) (canon.index segment) (lit< tt, refl) (index_text segment s), tt));
+  short =
+      omega (
+        arith,
+        length-append (canon.index name) (flat_map canon.component (segment ∷ [])),
+        length-append (canon.component segment) [],
+        index_len name,
+        index_len segment,
+      );
 }
 
 -- ---- SEGDEF
@@ -151,42 +159,55 @@ by_length definition whole word n h =
       | false ↦ λ e. word n (below n h e)
     ]) refl
 
-abbrev pub near_with : SegmentLength → SegmentDefinition
-near_with l =
-    record { alignment = align.Word; combination = combine.Public2; length = l; name = 2; class = 3; overlay = 0 }
+abbrev pub near_with : Before → SegmentLength → SegmentDefinition
+near_with before l = record {
+  alignment = align.Word;
+  combination = combine.Public2;
+  length = l;
+  name = before.names + 2;
+  class = before.names + 3;
+  overlay = 0;
+}
 
-abbrev pub far_with : SegmentLength → SegmentDefinition
-far_with l =
-    record { alignment = align.Paragraph; combination = combine.Private; length = l; name = 4; class = 4; overlay = 0 }
+abbrev pub far_with : Before → SegmentLength → SegmentDefinition
+far_with before l = record {
+  alignment = align.Paragraph;
+  combination = combine.Private;
+  length = l;
+  name = before.names + 4;
+  class = before.names + 4;
+  overlay = 0;
+}
 
-pub near_fits : (n : ℕ) → n ≤ 65536 → FitsFrame (Segdef (near_definition n))
-near_fits n h = by_length near_with
-    (segment_by (near_with len.Whole) (74, lit< tt, (refl, refl, refl, refl), refl) refl refl (lit< tt, refl) (lit≤ tt)
-    (lit≤ tt) (lit≤ tt))
+pub near_fits : (before : Before) (n : ℕ) → before.names + 4 ≤ 32767 → n ≤ 65536
+    → FitsFrame (Segdef (near_definition before n))
+near_fits before n room h = by_length (near_with before)
+    (segment_by (near_with before len.Whole) (74, lit< tt, (refl, refl, refl, refl), refl) refl refl (lit< tt, refl)
+    (omega (arith, room)) (omega (arith, room)) (lit≤ tt))
     (λ m small.
-    segment_by (near_with (len.Word m)) (72, lit< tt, (refl, refl, refl, refl), refl) refl refl (small, refl) (lit≤ tt)
-    (lit≤ tt) (lit≤ tt)) n h
+    segment_by (near_with before (len.Word m)) (72, lit< tt, (refl, refl, refl, refl), refl) refl refl (small, refl)
+    (omega (arith, room)) (omega (arith, room)) (lit≤ tt)) n h
 
-pub far_fits : (n : ℕ) → n ≤ 65536 → FitsFrame (Segdef (far_definition n))
-far_fits n h = by_length far_with
-    (segment_by (far_with len.Whole) (98, lit< tt, (refl, refl, refl, refl), refl) refl refl (lit< tt, refl) (lit≤ tt)
-    (lit≤ tt) (lit≤ tt))
+pub far_fits : (before : Before) (n : ℕ) → before.names + 4 ≤ 32767 → n ≤ 65536
+    → FitsFrame (Segdef (far_definition before n))
+far_fits before n room h = by_length (far_with before)
+    (segment_by (far_with before len.Whole) (98, lit< tt, (refl, refl, refl, refl), refl) refl refl (lit< tt, refl) room
+    room (lit≤ tt))
     (λ m small.
-    segment_by (far_with (len.Word m)) (96, lit< tt, (refl, refl, refl, refl), refl) refl refl (small, refl) (lit≤ tt)
-    (lit≤ tt) (lit≤ tt)) n h
+    segment_by (far_with before (len.Word m)) (96, lit< tt, (refl, refl, refl, refl), refl) refl refl (small, refl) room
+    room (lit≤ tt)) n h
 
--- ---- PUBDEF
+-- ---- PUBDEF and LPUBDEF
 
-pub public_fits : (group segment offset : ℕ) (name : List ℕ) → group ≤ 1 → 0 < segment → segment ≤ 32767 →
-    offset < 65536 → IsName name →
-    FitsFrame (Pubdef false (InSegment group segment) (record { name = name; offset = offset; type_index = 0 } ∷ []))
+pub public_fits : (local : Bool) (group segment offset : ℕ) (name : List ℕ) → group ≤ 32767 → 0 < segment →
+    segment ≤ 32767 → offset < 65536 → IsName name →
+    FitsFrame (Pubdef local (InSegment group segment) (record { name = name; offset = offset; type_index = 0 } ∷ []))
 unfolding Body canonical
-public_fits group segment offset name g positive small o named =
+public_fits local group segment offset name g positive small o named =
     let p : Public = record { name = name; offset = offset; type_index = 0 } in
     let front = canon.index group ++ canon.index segment in
     let base_text : BaseText (InSegment group segment) front =
-    joined (canon.index group) (canon.index segment) (index_text group (omega (arith, g)))
-    (positive, index_text segment small) in
+    joined (canon.index group) (canon.index segment) (index_text group g) (positive, index_text segment small) in
     let text : PublicText p (canon.public p) =
     joined (canon.name name) (canon.word offset ++ canon.index 0) (name_text name named)
     (joined (canon.word offset) (canon.index 0) (o, refl) (index_text 0 (lit≤ tt))) in
@@ -207,7 +228,8 @@ public_fits group segment offset name g positive small o named =
     }
 
 -- the same by a base
-pub base_fits : (base : PublicBase) (offset : ℕ) (name : List ℕ) → IsBase base → offset < 65536 → IsName name →
-    FitsFrame (Pubdef false base (record { name = name; offset = offset; type_index = 0 } ∷ []))
-base_fits (AtFrame group frame) offset name h o named = absurd h
-base_fits (InSegment group segment) offset name h o named = public_fits group segment offset name h.0 h.1 h.2 o named
+pub base_fits : (local : Bool) (base : PublicBase) (offset : ℕ) (name : List ℕ) → IsBase base → offset < 65536 →
+    IsName name → FitsFrame (Pubdef local base (record { name = name; offset = offset; type_index = 0 } ∷ []))
+base_fits local (AtFrame group frame) offset name h o named = absurd h
+base_fits local (InSegment group segment) offset name h o named =
+    public_fits local group segment offset name h.0 h.1 h.2 o named

@@ -1,6 +1,6 @@
 -- Records one after the other, that fit their frames and that no check refuses.
 use Rattle.std.proofs.Common.{◌≡◌, ℕ, zero, suc, ◌+◌, ◌<◌, ◌≤◌, Bool, true, false, ◌||◌, ltb, List, [], ◌∷◌, ◌++◌}
-use Rattle.std.proofs.Common.{length, map, Option, None, refl, ap, sym, ◌∙◌, subst, arith, length-append, lit<}
+use Rattle.std.proofs.Common.{length, map, Option, None, refl, ap, ◌∙◌, arith, length-append, lit<}
 use Rattle.std.proofs.lemmas.Bool.{ltb-true}
 use Rattle.std.specs.List.{AllByRecursion}
 use Rattle.std.specs.Option.{option_map}
@@ -105,31 +105,29 @@ clean_first before (r ∷ rs) h =
     h.0
     ∙ clean_first (before ++ r ∷ []) rs h.1
 
--- what records say so far: how many names, segments and groups, and no segment is absolute
+-- what records say so far: how many names, segments and groups
 pub record Ready (n s g : ℕ) (before : List Placed) : Type 0 where
   pub is_begun : begun before ≡ true
   pub name_count : length (names before) ≡ n
   pub segment_count : length (segments before) ≡ s
   pub group_count : length (groups before) ≡ g
-  pub relocatable : AllByRecursion (λ (x : Segment). is_absolute x.standing ≡ false) (segments before)
 
-names-push : (before : List Placed) (x : Placed) → names (before ++ x ∷ []) ≡ names before ++ names_in x.says
+pub names-push : (before : List Placed) (x : Placed) → names (before ++ x ∷ []) ≡ names before ++ names_in x.says
 names-push before x = flat_map_push (λ (placed : Placed). names_in placed.says) before x
 
-segments-push : (before : List Placed) (x : Placed)
+pub segments-push : (before : List Placed) (x : Placed)
     → segments (before ++ x ∷ []) ≡ segments before ++ segments_in (names before) x.says
 segments-push before x = along_push (λ front (placed : Placed). segments_in (names front) placed.says) before x
 
-groups-push : (before : List Placed) (x : Placed)
+pub groups-push : (before : List Placed) (x : Placed)
     → groups (before ++ x ∷ []) ≡ groups before ++ groups_in (names before) x.says
 groups-push before x = along_push (λ front (placed : Placed). groups_in (names front) placed.says) before x
 
 -- one record more, by how many names, segments and groups it has
 pub ready-more : (n s g : ℕ) (before : List Placed) (x : Placed) → Ready n s g before →
-    AllByRecursion (λ (y : Segment). is_absolute y.standing ≡ false) (segments_in (names before) x.says) →
     Ready (n + length (names_in x.says)) (s + length (segments_in (names before) x.says))
     (g + length (groups_in (names before) x.says)) (before ++ x ∷ [])
-ready-more n s g before x r all = record {
+ready-more n s g before x r = record {
   is_begun = begun_push before x;
   name_count =
       ap length (names-push before x) ∙ length-append (names before) (names_in x.says)
@@ -140,10 +138,6 @@ ready-more n s g before x r all = record {
   group_count =
       ap length (groups-push before x) ∙ length-append (groups before) (groups_in (names before) x.says)
       ∙ ap (λ k. k + length (groups_in (names before) x.says)) r.group_count;
-  relocatable =
-      subst (λ ss. AllByRecursion (λ (y : Segment). is_absolute y.standing ≡ false) ss) (sym (segments-push before x))
-      (All-append (λ (y : Segment). is_absolute y.standing ≡ false) (segments before)
-      (segments_in (names before) x.says) r.relocatable all);
 }
 
 pub ready-as : (n s g m t h : ℕ) (before : List Placed) → n ≡ m → s ≡ t → g ≡ h → Ready n s g before
@@ -153,7 +147,6 @@ ready-as n s g m t h before e f k r = record {
   name_count = r.name_count ∙ e;
   segment_count = r.segment_count ∙ f;
   group_count = r.group_count ∙ k;
-  relocatable = r.relocatable;
 }
 
 pub clean_by : (before : List Placed) (r : Record) → begun before ≡ true → first (items before r) ≡ None
@@ -169,11 +162,13 @@ not_below a b h = (elim (ltb a b) as (λ t. ltb a b ≡ t → t ≡ false) [
 pub both_false : (a b : Bool) → a ≡ false → b ≡ false → (a || b) ≡ false
 both_false a b e f = ap (λ t. t || b) e ∙ f
 
-pub component_ok : (ss : List Segment) (k : ℕ) → AllByRecursion (λ (x : Segment). is_absolute x.standing ≡ false) ss
-    → k < length ss → component_fault (entry ss (suc k)) ≡ None
-component_ok [] k all h = absurd (omega (arith, h))
-component_ok (s ∷ ss) zero all h = ap (λ t. when t GroupOfAbsolute) all.0
-component_ok (s ∷ ss) (suc k) all h = component_ok ss k all.1 (omega (arith, h))
+-- the segment behind others may stand in a group
+pub component_last : (ss : List Segment) (x : Segment) (k : ℕ) → length ss ≡ k → is_absolute x.standing ≡ false
+    → component_fault (entry (ss ++ x ∷ []) (suc k)) ≡ None
+component_last [] x zero e h = ap (λ t. when t GroupOfAbsolute) h
+component_last [] x (suc k) e h = absurd (omega (arith, e))
+component_last (s ∷ ss) x zero e h = absurd (omega (arith, e))
+component_last (s ∷ ss) x (suc k) e h = component_last ss x k (omega (arith, e)) h
 
 pub nones : (os : List (Option CheckFault)) → AllByRecursion (λ o. o ≡ None) os → first os ≡ None
 nones [] h = refl

@@ -12,6 +12,7 @@ use Rattle.omf_communal.specs.declared.fault.EntryFault.{EntryFault}
 use Rattle.omf_communal.specs.declared.fault.CommunalFault.{CommunalFault}
 use Rattle.omf_communal.specs.declared.fault.CommunalFault.TheVariants.{Malformed, Memory}
 use Rattle.omf_communal.specs.declared.declarations.Communal as lent
+use Rattle.omf_communal.specs.declared.declarations.Scope.{Scope}
 use Rattle.omf_communal.specs.Entries.{Entry, entries, entries_up_to, entry_front}
 use Rattle.omf_communal.specs.Reading.{Communal, IsFault, plain_communal, at_record, communal_at, communals_in}
 use Rattle.omf_communal.specs.Reading.{communals_of, entries_at}
@@ -96,47 +97,47 @@ left_fault place body rest old now f left h some =
 -- ---- records
 
 -- the records from a place of the list on
-abbrev pub records_left : List LentFrame → ℕ → Result (List Communal) CommunalFault
-records_left frames i = communals_of (map plain_frame (drop i frames))
+abbrev pub records_left : Scope → List LentFrame → ℕ → Result (List Communal) CommunalFault
+records_left s frames i = communals_of s (map plain_frame (drop i frames))
 
-records_next : (frames : List LentFrame) (i : ℕ) (x : LentFrame) → i < length frames → x ≡ get_or frames i x →
-    records_left frames i
-    ≡ result_and_then (λ cs. joined cs (records_left frames (i + 1))) (communals_in (plain_frame x))
-records_next frames i x h e =
-    ap (λ (fs : List LentFrame). communals_of (map plain_frame fs))
+records_next : (s : Scope) (frames : List LentFrame) (i : ℕ) (x : LentFrame) → i < length frames → x ≡ get_or frames i x →
+    records_left s frames i
+    ≡ result_and_then (λ cs. joined cs (records_left s frames (i + 1))) (communals_in s (plain_frame x))
+records_next s frames i x h e =
+    ap (λ (fs : List LentFrame). communals_of s (map plain_frame fs))
     (drop_more frames i x h ∙ ap (λ y. y ∷ drop (i + 1) frames) (sym e))
 
 -- one record more
-pub record_more : (frames : List LentFrame) (i : ℕ) (x : LentFrame) (told more : List Communal)
+pub record_more : (s : Scope) (frames : List LentFrame) (i : ℕ) (x : LentFrame) (told more : List Communal)
     (all : Result (List Communal) CommunalFault) → i < length frames → x ≡ get_or frames i x →
-    joined told (records_left frames i) ≡ all → joined told (communals_in (plain_frame x)) ≡ Ok more →
-    joined more (records_left frames (i + 1)) ≡ all
-record_more frames i x told more all h e was is =
-    sym (ap (joined told) (records_next frames i x h e)
-    ∙ behind_one told (communals_in (plain_frame x)) (records_left frames (i + 1)) more is) ∙ was
+    joined told (records_left s frames i) ≡ all → joined told (communals_in s (plain_frame x)) ≡ Ok more →
+    joined more (records_left s frames (i + 1)) ≡ all
+record_more s frames i x told more all h e was is =
+    sym (ap (joined told) (records_next s frames i x h e)
+    ∙ behind_one told (communals_in s (plain_frame x)) (records_left s frames (i + 1)) more is) ∙ was
 
 -- a record at fault
-pub record_fault : (frames : List LentFrame) (i : ℕ) (x : LentFrame) (told : List Communal)
+pub record_fault : (s : Scope) (frames : List LentFrame) (i : ℕ) (x : LentFrame) (told : List Communal)
     (all : Result (List Communal) CommunalFault) (f : CommunalFault) → i < length frames → x ≡ get_or frames i x →
-    joined told (records_left frames i) ≡ all → communals_in (plain_frame x) ≡ Err f → all ≡ Err f
-record_fault frames i x told all f h e was is =
+    joined told (records_left s frames i) ≡ all → communals_in s (plain_frame x) ≡ Err f → all ≡ Err f
+record_fault s frames i x told all f h e was is =
     sym was
     ∙ ap (joined told)
-    (records_next frames i x h e ∙ ap (result_and_then (λ cs. joined cs (records_left frames (i + 1)))) is)
+    (records_next s frames i x h e ∙ ap (result_and_then (λ cs. joined cs (records_left s frames (i + 1)))) is)
 
 -- before the first record
-pub records_first : (frames : List LentFrame) (told : List lent.Communal) → told ≡ []
-    → joined (map plain_communal told) (records_left frames 0) ≡ communals_of (map plain_frame frames)
-records_first frames told e =
-    ap (λ (cs : List lent.Communal). joined (map plain_communal cs) (records_left frames 0)) e
-    ∙ joined-nil (communals_of (map plain_frame frames))
+pub records_first : (s : Scope) (frames : List LentFrame) (told : List lent.Communal) → told ≡ []
+    → joined (map plain_communal told) (records_left s frames 0) ≡ communals_of s (map plain_frame frames)
+records_first s frames told e =
+    ap (λ (cs : List lent.Communal). joined (map plain_communal cs) (records_left s frames 0)) e
+    ∙ joined-nil (communals_of s (map plain_frame frames))
 
 -- behind the last
-pub records_end : (frames : List LentFrame) (i : ℕ) (told : List Communal) (all : Result (List Communal) CommunalFault)
-    → length frames ≤ i → joined told (records_left frames i) ≡ all → all ≡ Ok told
-records_end frames i told all h was =
+pub records_end : (s : Scope) (frames : List LentFrame) (i : ℕ) (told : List Communal) (all : Result (List Communal) CommunalFault)
+    → length frames ≤ i → joined told (records_left s frames i) ≡ all → all ≡ Ok told
+records_end s frames i told all h was =
     joined-end told all
-    (ap (joined told) (sym (at_drop_all (λ (fs : List LentFrame). communals_of (map plain_frame fs)) frames i h)) ∙ was)
+    (ap (joined told) (sym (at_drop_all (λ (fs : List LentFrame). communals_of s (map plain_frame fs)) frames i h)) ∙ was)
 
 -- a fault of a part is one of the whole
 pub fault-through : {A B : Type 0} (e : CommunalFault) (r : Result A CommunalFault) (all : Result B CommunalFault)

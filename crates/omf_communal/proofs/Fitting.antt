@@ -1,9 +1,9 @@
 -- A plan has indexes, offsets and lengths that records can say.
-use Rattle.std.proofs.Common.{◌≡◌, ℕ, ◌+◌, ◌-◌, ◌*◌, ◌<◌, ◌≤◌, Bool, true, false, cond, ◌&&◌, ltb, leb, min, List, []}
+use Rattle.std.proofs.Common.{◌≡◌, ℕ, ◌+◌, ◌-◌, ◌*◌, ◌<◌, ◌≤◌, Bool, true, false, cond, ◌&&◌, ◌||◌, ltb, leb, min, List, []}
 use Rattle.std.proofs.Common.{◌∷◌, ◌++◌, length, map, Option, Some, None, IfSome, Ok, Err, refl, ap, sym, subst, ◌∙◌}
-use Rattle.std.proofs.Common.{arith, length-append, lit<, lit≤}
+use Rattle.std.proofs.Common.{arith, length-append, lit≤}
 use Rattle.std.proofs.lemmas.List.{length-map}
-use Rattle.std.proofs.lemmas.Bool.{leb-true, ltb-false, ltb-true}
+use Rattle.std.proofs.lemmas.Bool.{leb-false, leb-true, ltb-false, ltb-true}
 use Rattle.std.proofs.lemmas.List.FromFn.{length-range_with_len}
 use Rattle.std.specs.declared.result.Result.{Result}
 use Rattle.std.specs.List.{AllByRecursion, range_with_len}
@@ -14,8 +14,9 @@ use Rattle.omf_communal.specs.declared.declarations.Extent.{Extent}
 use Rattle.omf_communal.specs.declared.declarations.Extent.TheVariants.{Near, Far}
 use Rattle.omf_communal.specs.declared.fault.PlanFault.{PlanFault}
 use Rattle.omf_communal.specs.declared.fault.PlanFault.TheVariants.{NearTooLong, CutElement, TooManySegments}
+use Rattle.omf_communal.specs.declared.places.Before.{Before}
 use Rattle.omf_communal.specs.Deciding.{Variable}
-use Rattle.omf_communal.specs.Plan.{Place, Plan, far_first, far_lengths, far_lengths_of, far_next, far_place}
+use Rattle.omf_communal.specs.Plan.{Place, Plan, far_first, far_lengths, far_lengths_of, far_next, far_place, is_full}
 use Rattle.omf_communal.specs.Plan.{far_places, fits_near, is_cut, near_end, near_next, near_place, near_places}
 use Rattle.omf_communal.specs.Plan.{near_segment, near_start, part_count, part_lengths, plan, plan_with}
 use Rattle.omf_communal.specs.Whole.{IsNamed}
@@ -23,7 +24,6 @@ use Rattle.omf_communal.specs.Whole.{IsNamed}
 -- a place in one of so many segments, of one of so many groups or none
 pub record FitsPlace (groups segments : ℕ) (p : Place) : Type 0 where
   pub group : p.group ≤ groups
-  pub group_one : p.group ≤ 1
   pub positive : 0 < p.segment
   pub segment : p.segment ≤ segments
   pub offset : p.offset < 65536
@@ -34,11 +34,39 @@ abbrev pub count_of : Option ℕ → ℕ
 count_of None = 0
 count_of (Some n) = 1
 
-pub record Fits (p : Plan) : Type 0 where
+-- how many groups and segments there are with those of a plan
+abbrev pub groups_with : Before → Plan → ℕ
+groups_with before p = before.groups + count_of p.near
+
+abbrev pub segments_with : Before → Plan → ℕ
+segments_with before p = before.segments + count_of p.near + length p.far
+
+pub record Fits (before : Before) (p : Plan) : Type 0 where
+  pub names : before.names + 4 ≤ 32767
   pub near : IfSome p.near (λ n. n ≤ 65536)
   pub far : AllByRecursion (λ n. n ≤ 65536) p.far
-  pub count : count_of p.near + length p.far ≤ 32767
-  pub places : AllByRecursion (FitsPlace (count_of p.near) (count_of p.near + length p.far)) p.places
+  pub groups : groups_with before p ≤ 32767
+  pub segments : segments_with before p ≤ 32767
+  pub places : AllByRecursion (FitsPlace (groups_with before p) (segments_with before p)) p.places
+
+-- indexes for four names, a segment and a group
+pub record HasRoom (before : Before) : Type 0 where
+  pub names : before.names + 4 ≤ 32767
+  pub segments : before.segments < 32767
+  pub groups : before.groups < 32767
+
+pub or-parts : (a b : Bool) → (a || b) ≡ false → (a ≡ false) × (b ≡ false)
+or-parts true b e = absurd (cc)
+or-parts false b e = (refl, e)
+
+pub has_room : (before : Before) → is_full before ≡ false → HasRoom before
+has_room before e =
+    let one = or-parts (ltb 32763 before.names) (leb 32767 before.segments || leb 32767 before.groups) e in
+    let two = or-parts (leb 32767 before.segments) (leb 32767 before.groups) one.1 in
+    let n = ltb-false 32763 before.names one.0 in
+    let s = leb-false 32767 before.segments two.0 in
+    let g = leb-false 32767 before.groups two.1 in
+    record { names = omega (arith, n); segments = omega (arith, s); groups = omega (arith, g) }
 
 All-append : {X : Type 0} (P : X → Type 0) (xs ys : List X) → AllByRecursion P xs → AllByRecursion P ys
     → AllByRecursion P (xs ++ ys)
@@ -65,44 +93,44 @@ and-parts false b e = absurd (cc)
 
 -- ---- near ones
 
-record IsNear (p : Place) : Type 0 where
-  group : p.group ≡ 1
-  segment : p.segment ≡ 1
+record IsNear (before : Before) (p : Place) : Type 0 where
+  group : p.group ≡ before.groups + 1
+  segment : p.segment ≡ before.segments + 1
   offset : p.offset < 65536
   name : IsName p.name
 
-near_one : (at index : ℕ) (name : List ℕ) (e : Extent) (ps : List Place) → at ≤ 65536 → IsName name
-    → near_place at index name e ≡ Ok ps → AllByRecursion IsNear ps × (near_next at e ≤ 65536)
-near_one at index name (Far count size) ps h named e =
+near_one : (before : Before) (at index : ℕ) (name : List ℕ) (e : Extent) (ps : List Place) → at ≤ 65536 → IsName name
+    → near_place before at index name e ≡ Ok ps → AllByRecursion (IsNear before) ps × (near_next at e ≤ 65536)
+near_one before at index name (Far count size) ps h named e =
     let is : [] ≡ ps = cc in
-    (subst (λ qs. AllByRecursion IsNear qs) is tt, h)
-near_one at index name (Near n) ps h named e =
+    (subst (λ qs. AllByRecursion (IsNear before) qs) is tt, h)
+near_one before at index name (Near n) ps h named e =
     let start = near_start at n in
-    let p : Place = record { name = name; group = 1; segment = 1; offset = start } in
+    let p : Place = record { name = name; group = before.groups + 1; segment = before.segments + 1; offset = start } in
     (elim (fits_near start n) as (λ b.
     fits_near start n ≡ b → cond b (Ok (p ∷ [])) (Err (NearTooLong index)) ≡ Ok ps
-    → AllByRecursion IsNear ps × (start + n ≤ 65536)) [
+    → AllByRecursion (IsNear before) ps × (start + n ≤ 65536)) [
       | true ↦ λ t u.
           let parts = and-parts (ltb start 65536) (leb (start + n) 65536) t in
           let is : p ∷ [] ≡ ps = cc in
           let low : start < 65536 = ltb-true _ _ parts.0 in (
-            subst (λ qs. AllByRecursion IsNear qs) is
+            subst (λ qs. AllByRecursion (IsNear before) qs) is
                 (record { group = refl; segment = refl; offset = low; name = named }, tt),
             leb-true _ _ parts.1,
           )
       | false ↦ λ t u. absurd (cc)
     ]) refl e
 
-near_all : (at index : ℕ) (vs : List Variable) (ps : List Place) → at ≤ 65536 → AllByRecursion IsNamed vs
-    → near_places at index vs ≡ Ok ps → AllByRecursion IsNear ps × (near_end at vs ≤ 65536)
-near_all at index [] ps h named e =
+near_all : (before : Before) (at index : ℕ) (vs : List Variable) (ps : List Place) → at ≤ 65536 → AllByRecursion IsNamed vs
+    → near_places before at index vs ≡ Ok ps → AllByRecursion (IsNear before) ps × (near_end at vs ≤ 65536)
+near_all before at index [] ps h named e =
     let is : [] ≡ ps = cc in
-    (subst (λ qs. AllByRecursion IsNear qs) is tt, h)
-near_all at index (v ∷ vs) ps h named e =
-    let parts = both (near_place at index v.name v.extent) (near_places (near_next at v.extent) (index + 1) vs) ps e in
-    let one = near_one at index v.name v.extent parts.0 h named.0 parts.2 in
-    let rest = near_all (near_next at v.extent) (index + 1) vs parts.1 one.1 named.1 parts.3 in
-    (subst (λ qs. AllByRecursion IsNear qs) (sym parts.4) (All-append IsNear parts.0 parts.1 one.0 rest.0), rest.1)
+    (subst (λ qs. AllByRecursion (IsNear before) qs) is tt, h)
+near_all before at index (v ∷ vs) ps h named e =
+    let parts = both (near_place before at index v.name v.extent) (near_places before (near_next at v.extent) (index + 1) vs) ps e in
+    let one = near_one before at index v.name v.extent parts.0 h named.0 parts.2 in
+    let rest = near_all before (near_next at v.extent) (index + 1) vs parts.1 one.1 named.1 parts.3 in
+    (subst (λ qs. AllByRecursion (IsNear before) qs) (sym parts.4) (All-append (IsNear before) parts.0 parts.1 one.0 rest.0), rest.1)
 
 -- ---- far ones
 
@@ -201,10 +229,10 @@ small_all (v ∷ vs) =
 
 -- ---- the whole
 
-near_fits : (s : ℕ) → 1 ≤ s → (p : Place) → IsNear p → FitsPlace 1 s p
-near_fits s h p n = record {
+near_fits : (before : Before) (s : ℕ) → before.segments + 1 ≤ s → (p : Place) → IsNear before p
+    → FitsPlace (before.groups + 1) s p
+near_fits before s h p n = record {
   group = omega (arith, n.group);
-  group_one = omega (arith, n.group);
   positive = omega (arith, n.segment);
   segment = omega (arith, n.segment, h);
   offset = n.offset;
@@ -214,42 +242,50 @@ near_fits s h p n = record {
 far_fits : (g low high s : ℕ) → 0 < low → high ≤ s + 1 → (p : Place) → IsFar low high p → FitsPlace g s p
 far_fits g low high s positive h p f = record {
   group = omega (arith, f.group);
-  group_one = omega (arith, f.group);
   positive = omega (arith, f.from, positive);
   segment = omega (arith, f.to, h);
   offset = omega (arith, f.offset);
   name = f.name;
 }
 
-with_near : (vs : List Variable) (near far : List Place) → AllByRecursion IsNear near → near_end 0 vs ≤ 65536 →
-    AllByRecursion IsNamed vs → far_places (far_first near) 0 vs ≡ Ok far →
-    Fits (record { near = near_segment near (near_end 0 vs); far = far_lengths vs; places = near ++ far })
-with_near vs [] far n end named e =
-    let fars = far_all 1 0 vs far (lit≤ tt) named e in
+with_near : (before : Before) (vs : List Variable) (near far : List Place) → HasRoom before →
+    AllByRecursion (IsNear before) near → near_end 0 vs ≤ 65536 → AllByRecursion IsNamed vs →
+    far_places (far_first before near) 0 vs ≡ Ok far →
+    Fits before (record { near = near_segment near (near_end 0 vs); far = far_lengths vs; places = near ++ far })
+with_near before vs [] far room n end named e =
+    let first = before.segments + 1 in
+    let fars = far_all first 0 vs far (omega (arith, room.segments)) named e in
     let s = length (far_lengths vs) in
     record {
+      names = room.names;
       near = tt;
       far = small_all vs;
-      count = omega (arith, fars.1);
+      groups = omega (arith, room.groups);
+      segments = omega (arith, fars.1);
       places =
-          All-all (IsFar 1 (1 + s)) (FitsPlace 0 (0 + s)) far (far_fits 0 1 (1 + s) (0 + s) (lit< tt) (omega arith))
-          fars.0;
+          All-all (IsFar first (first + s)) (FitsPlace (before.groups + 0) (before.segments + 0 + s)) far
+          (far_fits (before.groups + 0) first (first + s) (before.segments + 0 + s) (omega arith) (omega arith)) fars.0;
     }
-with_near vs (p ∷ ps) far n end named e =
-    let fars = far_all 2 0 vs far (lit≤ tt) named e in
+with_near before vs (p ∷ ps) far room n end named e =
+    let first = before.segments + 2 in
+    let fars = far_all first 0 vs far (omega (arith, room.segments)) named e in
     let s = length (far_lengths vs) in
+    let all = before.segments + 1 + s in
     record {
+      names = room.names;
       near = end;
       far = small_all vs;
-      count = omega (arith, fars.1);
+      groups = omega (arith, room.groups);
+      segments = omega (arith, fars.1);
       places =
-          All-append (FitsPlace 1 (1 + s)) (p ∷ ps) far
-          (All-all IsNear (FitsPlace 1 (1 + s)) (p ∷ ps) (near_fits (1 + s) (omega arith)) n)
-          (All-all (IsFar 2 (2 + s)) (FitsPlace 1 (1 + s)) far (far_fits 1 2 (2 + s) (1 + s) (lit< tt) (omega arith))
-          fars.0);
+          All-append (FitsPlace (before.groups + 1) all) (p ∷ ps) far
+          (All-all (IsNear before) (FitsPlace (before.groups + 1) all) (p ∷ ps) (near_fits before all (omega arith)) n)
+          (All-all (IsFar first (first + s)) (FitsPlace (before.groups + 1) all) far
+          (far_fits (before.groups + 1) first (first + s) all (omega arith) (omega arith)) fars.0);
     }
 
-pub made_with : (vs : List Variable) (near : List Place) (r : Result (List Place) PlanFault) (p : Plan) →
+pub made_with : (before : Before) (vs : List Variable) (near : List Place) (r : Result (List Place) PlanFault)
+    (p : Plan) →
     result_and_then
     (λ far.
     let q : Result Plan PlanFault =
@@ -258,22 +294,40 @@ pub made_with : (vs : List Variable) (near : List Place) (r : Result (List Place
     (far : List Place) × (r ≡ Ok far)
     × ((let q : Plan =
     record { near = near_segment near (near_end 0 vs); far = far_lengths vs; places = near ++ far } in q) ≡ p)
-made_with vs near (Ok far) p e = (
+made_with before vs near (Ok far) p e = (
   far,
   refl,
   (let q : Plan = record { near = near_segment near (near_end 0 vs); far = far_lengths vs; places = near ++ far } in
       let r : Result Plan PlanFault = Ok q in let u : r ≡ Ok p = e in cc),
 )
-made_with vs near (Err f) p e = absurd (cc)
+made_with before vs near (Err f) p e = absurd (cc)
 
-pub made : (vs : List Variable) (r : Result (List Place) PlanFault) (p : Plan) → result_and_then (plan_with vs) r ≡ Ok p
-    → (near : List Place) × (r ≡ Ok near) × (plan_with vs near ≡ Ok p)
-made vs (Ok near) p e = (near, refl, e)
-made vs (Err f) p e = absurd (cc)
+-- where there is a plan, there is room
+pub planned : (before : Before) (vs : List Variable) (p : Plan) → plan before vs ≡ Ok p
+    → HasRoom before × (result_and_then (plan_with before vs) (near_places before 0 0 vs) ≡ Ok p)
+planned before vs p e =
+    (elim (is_full before) as (λ b.
+    is_full before ≡ b
+    → cond b (Err (TooManySegments 0)) (result_and_then (plan_with before vs) (near_places before 0 0 vs)) ≡ Ok p
+    → HasRoom before × (result_and_then (plan_with before vs) (near_places before 0 0 vs) ≡ Ok p)) [
+      | true ↦ λ t u. absurd (cc)
+      | false ↦ λ t u. (has_room before t, u)
+    ]) refl e
 
-pub plan_fits : (vs : List Variable) (p : Plan) → AllByRecursion IsNamed vs → plan vs ≡ Ok p → Fits p
-plan_fits vs p named e =
-    let one = made vs (near_places 0 0 vs) p e in
-    let two = made_with vs one.0 (far_places (far_first one.0) 0 vs) p one.2 in
-    let nears = near_all 0 0 vs one.0 (lit≤ tt) named one.1 in
-    subst Fits two.2 (with_near vs one.0 two.0 nears.0 nears.1 named two.1)
+pub made : (before : Before) (vs : List Variable) (p : Plan) → plan before vs ≡ Ok p
+    → (near : List Place) × (near_places before 0 0 vs ≡ Ok near) × (plan_with before vs near ≡ Ok p)
+made before vs p e = by (near_places before 0 0 vs) (planned before vs p e).1
+  where
+    by : (r : Result (List Place) PlanFault) → result_and_then (plan_with before vs) r ≡ Ok p
+        → (near : List Place) × (r ≡ Ok near) × (plan_with before vs near ≡ Ok p)
+    by (Ok near) u = (near, refl, u)
+    by (Err f) u = absurd (cc)
+
+pub plan_fits : (before : Before) (vs : List Variable) (p : Plan) → AllByRecursion IsNamed vs → plan before vs ≡ Ok p
+    → Fits before p
+plan_fits before vs p named e =
+    let one = made before vs p e in
+    let two = made_with before vs one.0 (far_places (far_first before one.0) 0 vs) p one.2 in
+    let nears = near_all before 0 0 vs one.0 (lit≤ tt) named one.1 in
+    subst (Fits before) two.2
+    (with_near before vs one.0 two.0 (planned before vs p e).0 nears.0 nears.1 named two.1)

@@ -7,6 +7,7 @@ use Rattle.omf_library.specs.Members.{joined}
 use Rattle.omf_library.specs.Records.{result_and_then}
 use Rattle.omf_communal.specs.declared.declarations.Variable as lent
 use Rattle.omf_communal.specs.declared.fault.PlanFault.{PlanFault}
+use Rattle.omf_communal.specs.declared.places.Before.{Before}
 use Rattle.omf_communal.specs.Deciding.{Variable, variable_said}
 use Rattle.omf_communal.specs.Plan.{Place, far_lengths, far_lengths_of, far_next, far_place, far_places, near_end}
 use Rattle.omf_communal.specs.Plan.{near_next, near_place, near_places}
@@ -26,27 +27,28 @@ left-more vs i x h e = ap (map variable_said) (drop_more vs i x h ∙ ap (λ y. 
 
 -- ---- near ones
 
-module _ (vs : List lent.Variable) (i : ℕ) (x : lent.Variable) (h : i < length vs) (e : x ≡ get_or vs i x) (at : ℕ)
+module _ (before : Before) (vs : List lent.Variable) (i : ℕ) (x : lent.Variable) (h : i < length vs)
+    (e : x ≡ get_or vs i x) (at : ℕ)
     (old : List Place) (all : Result (List Place) PlanFault)
-    (was : joined old (near_places at i (left vs i)) ≡ all) where
-  near_is : near_places at i (left vs i)
-      ≡ result_and_then (λ ps. joined ps (near_places (near_next at x.extent) (i + 1) (left vs (i + 1))))
-      (near_place at i x.name.now x.extent)
-  near_is = ap (near_places at i) (left-more vs i x h e)
+    (was : joined old (near_places before at i (left vs i)) ≡ all) where
+  near_is : near_places before at i (left vs i)
+      ≡ result_and_then (λ ps. joined ps (near_places before (near_next at x.extent) (i + 1) (left vs (i + 1))))
+      (near_place before at i x.name.now x.extent)
+  near_is = ap (near_places before at i) (left-more vs i x h e)
 
-  pub near_more : (new : List Place) → joined old (near_place at i x.name.now x.extent) ≡ Ok new
-      → joined new (near_places (near_next at x.extent) (i + 1) (left vs (i + 1))) ≡ all
+  pub near_more : (new : List Place) → joined old (near_place before at i x.name.now x.extent) ≡ Ok new
+      → joined new (near_places before (near_next at x.extent) (i + 1) (left vs (i + 1))) ≡ all
   near_more new is =
       sym (ap (joined old) near_is
-      ∙ behind_one old (near_place at i x.name.now x.extent)
-      (near_places (near_next at x.extent) (i + 1) (left vs (i + 1))) new is) ∙ was
+      ∙ behind_one old (near_place before at i x.name.now x.extent)
+      (near_places before (near_next at x.extent) (i + 1) (left vs (i + 1))) new is) ∙ was
 
-  pub near_fault : (f : PlanFault) → near_place at i x.name.now x.extent ≡ Err f → all ≡ Err f
+  pub near_fault : (f : PlanFault) → near_place before at i x.name.now x.extent ≡ Err f → all ≡ Err f
   near_fault f is =
       sym was
       ∙ ap (joined old)
       (near_is
-      ∙ ap (result_and_then (λ ps. joined ps (near_places (near_next at x.extent) (i + 1) (left vs (i + 1))))) is)
+      ∙ ap (result_and_then (λ ps. joined ps (near_places before (near_next at x.extent) (i + 1) (left vs (i + 1))))) is)
 
 pub near_end-more : (vs : List lent.Variable) (i : ℕ) (x : lent.Variable) (at all : ℕ) → i < length vs
     → x ≡ get_or vs i x → near_end at (left vs i) ≡ all → near_end (near_next at x.extent) (left vs (i + 1)) ≡ all
@@ -86,17 +88,17 @@ far_lengths-more vs i x old new all h e was is =
 
 -- ---- the first and the last
 
-pub near_first : (vs : List lent.Variable) (ps : List held.Place) → ps ≡ []
-    → joined (places_said ps) (near_places 0 0 (left vs 0)) ≡ near_places 0 0 (map variable_said vs)
-near_first vs ps e =
-    ap (λ (qs : List held.Place). joined (places_said qs) (near_places 0 0 (left vs 0))) e
-    ∙ joined-nil (near_places 0 0 (map variable_said vs))
+pub near_first : (before : Before) (vs : List lent.Variable) (ps : List held.Place) → ps ≡ []
+    → joined (places_said ps) (near_places before 0 0 (left vs 0)) ≡ near_places before 0 0 (map variable_said vs)
+near_first before vs ps e =
+    ap (λ (qs : List held.Place). joined (places_said qs) (near_places before 0 0 (left vs 0))) e
+    ∙ joined-nil (near_places before 0 0 (map variable_said vs))
 
-pub near_last : (vs : List lent.Variable) (i at : ℕ) (ps : List Place) (all : Result (List Place) PlanFault)
-    → length vs ≤ i → joined ps (near_places at i (left vs i)) ≡ all → all ≡ Ok ps
-near_last vs i at ps all h was =
+pub near_last : (before : Before) (vs : List lent.Variable) (i at : ℕ) (ps : List Place) (all : Result (List Place) PlanFault)
+    → length vs ≤ i → joined ps (near_places before at i (left vs i)) ≡ all → all ≡ Ok ps
+near_last before vs i at ps all h was =
     joined-end ps all
-    (ap (joined ps) (sym (at_drop_all (λ (us : List lent.Variable). near_places at i (map variable_said us)) vs i h))
+    (ap (joined ps) (sym (at_drop_all (λ (us : List lent.Variable). near_places before at i (map variable_said us)) vs i h))
     ∙ was)
 
 pub near_end-last : (vs : List lent.Variable) (i at all : ℕ) → length vs ≤ i → near_end at (left vs i) ≡ all → at ≡ all

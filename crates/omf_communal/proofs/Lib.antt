@@ -7,9 +7,12 @@ pub mod Widening
 pub mod Laying
 pub mod Bodies
 pub mod Putting
+pub mod Walking
 pub mod Searching
 pub mod Fitting
 pub mod Clean
 pub mod Sound
+pub mod Counting
+pub mod Extending
 pub mod Once
 pub mod Apart

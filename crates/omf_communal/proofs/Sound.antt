@@ -1,6 +1,6 @@
--- The bytes of the module are those of a whole module that no check refuses.
-use Rattle.std.proofs.Common.{◌≡◌, ℕ, ◌+◌, ◌<◌, ◌≤◌, Bool, false, eqb, ltb, List, [], ◌∷◌, ◌++◌, length, map, Option}
-use Rattle.std.proofs.Common.{Some, None, IfSome, refl, ap, ◌∙◌, arith}
+-- The bytes of the module of a program's variables are those of a whole module that no check refuses.
+use Rattle.std.proofs.Common.{◌≡◌, ℕ, ◌+◌, ◌<◌, ◌≤◌, Bool, false, ◌||◌, eqb, List, [], ◌∷◌, ◌++◌, length, map}
+use Rattle.std.proofs.Common.{Option, Some, None, IfSome, refl, ap, sym, ◌∙◌, subst, arith, add-one, append_assoc}
 use Rattle.std.specs.Prelude.{codes}
 use Rattle.std.specs.List.{AllByRecursion}
 use Rattle.std.proofs.lemmas.Bool.{ne_eqb}
@@ -15,175 +15,251 @@ use Rattle.omf_module.specs.Faults.{component_fault, fault, is_absolute, is_beyo
 use Rattle.omf_module.specs.Tables.{groups, names, segments}
 use Rattle.omf_module.specs.inside.Entries.{segment_of}
 use Rattle.omf_communal.proofs.Clean.{All-append, Clean, Ready, are_bodies, are_frames, both_false, clean_by, clean_end}
-use Rattle.omf_communal.proofs.Clean.{clean_first, component_ok, ended, nones, not_below, place_all, ready-as}
-use Rattle.omf_communal.proofs.Clean.{ready-more}
-use Rattle.omf_communal.specs.Plan.{Place, Plan}
-use Rattle.omf_communal.specs.Records.{far_definition, far_record, last_records, module_bytes, far_names}
-use Rattle.omf_communal.specs.Records.{near_definition, near_names, near_records, place_record, record_bytes, records}
+use Rattle.omf_communal.proofs.Clean.{clean_first, component_last, ended, nones, not_below, place_all, ready-as}
+use Rattle.omf_communal.proofs.Clean.{ready-more, segments-push}
+use Rattle.omf_communal.specs.declared.places.Before.{Before}
+use Rattle.omf_communal.specs.Plan.{Place, Plan, nothing_before}
+use Rattle.omf_communal.specs.Records.{far_record, module_bytes, far_names, near_definition, near_names}
+use Rattle.omf_communal.specs.Records.{near_records, place_record, placed_records, record_bytes, records}
+use Rattle.omf_communal.specs.Records.{variable_records}
 use Rattle.omf_communal.specs.Whole.{AreWhole}
 use Rattle.omf_communal.proofs.Bodies.{end_fits, far_fits, group_fits, header_fits, far_names_fit, near_fits}
 use Rattle.omf_communal.proofs.Bodies.{near_names_fit, public_fits}
-use Rattle.omf_communal.proofs.Fitting.{Fits, FitsPlace, count_of, plan_fits}
+use Rattle.omf_communal.proofs.Fitting.{Fits, FitsPlace, count_of, groups_with, plan_fits, segments_with}
 
--- ---- the end
+-- ---- none of them ends a module
 
-open_near : (o : Option ℕ) → AllByRecursion (λ r. is_end r ≡ false) (near_records o)
-open_near None = tt
-open_near (Some n) = (refl, (refl, tt))
+open_near : (b : Before) (o : Option ℕ) → AllByRecursion (λ r. is_end r ≡ false) (near_records b o)
+open_near b None = tt
+open_near b (Some n) = (refl, (refl, tt))
 
-open_far : (ns : List ℕ) → AllByRecursion (λ r. is_end r ≡ false) (map far_record ns)
-open_far [] = tt
-open_far (n ∷ ns) = (refl, open_far ns)
+open_far : (b : Before) (ns : List ℕ) → AllByRecursion (λ r. is_end r ≡ false) (map (far_record b) ns)
+open_far b [] = tt
+open_far b (n ∷ ns) = (refl, open_far b ns)
 
-open_places : (ps : List Place) → AllByRecursion (λ r. is_end r ≡ false) (map place_record ps)
-open_places [] = tt
-open_places (p ∷ ps) = (refl, open_places ps)
+open_places : (local : Bool) (ps : List Place) → AllByRecursion (λ r. is_end r ≡ false) (map (place_record local) ps)
+open_places local [] = tt
+open_places local (p ∷ ps) = (refl, open_places local ps)
+
+pub open_all : (local in_bss : Bool) (b : Before) (p : Plan)
+    → AllByRecursion (λ r. is_end r ≡ false) (variable_records local in_bss b p)
+open_all local in_bss b p =
+    let P = λ (r : Record). is_end r ≡ false in (
+      refl,
+      (
+        refl,
+        All-append P (near_records b p.near) _ (open_near b p.near)
+            (All-append P (map (far_record b) p.far) _ (open_far b p.far) (open_places local p.places)),
+      ),
+    )
 
 to_end : (in_bss : Bool) (p : Plan) → AreToEnd (place_all 0 (records in_bss p))
 to_end in_bss p =
-    ended (Theadr (codes "communal") ∷ near_names in_bss ∷ far_names ∷ []) (refl, (refl, (refl, tt))) (last_records p)
-    (ended (near_records p.near) (open_near p.near) _
-    (ended (map far_record p.far) (open_far p.far) _
-    (ended (map place_record p.places) (open_places p.places) (Modend false None ∷ []) (λ at. refl)))) 0
+    ended (Theadr (codes "communal") ∷ variable_records false in_bss nothing_before p)
+    (refl, open_all false in_bss nothing_before p) (Modend false None ∷ []) (λ at. refl) 0
 
 -- ---- each fits its frame
 
-fit_near : (o : Option ℕ) → IfSome o (λ n. n ≤ 65536) → AllByRecursion FitsFrame (near_records o)
-fit_near None h = tt
-fit_near (Some n) h = (near_fits n h, (group_fits, tt))
-
-fit_far : (ns : List ℕ) → AllByRecursion (λ n. n ≤ 65536) ns → AllByRecursion FitsFrame (map far_record ns)
-fit_far [] h = tt
-fit_far (n ∷ ns) h = (far_fits n h.0, fit_far ns h.1)
-
-fit_places : (g s : ℕ) (ps : List Place) → s ≤ 32767 → AllByRecursion (FitsPlace g s) ps
-    → AllByRecursion FitsFrame (map place_record ps)
-fit_places g s [] h fits = tt
-fit_places g s (p ∷ ps) h fits = (
-  public_fits p.group p.segment p.offset p.name fits.0.group_one fits.0.positive (omega (arith, fits.0.segment, h))
-      fits.0.offset fits.0.name,
-  fit_places g s ps h fits.1,
+fit_near : (b : Before) (o : Option ℕ) → b.names + 4 ≤ 32767 → b.segments + count_of o ≤ 32767
+    → IfSome o (λ n. n ≤ 65536) → AllByRecursion FitsFrame (near_records b o)
+fit_near b None room more h = tt
+fit_near b (Some n) room more h = (
+  near_fits b n room h,
+  (group_fits (b.names + 1) (b.segments + 1) (omega (arith, room)) (omega (arith, more)), tt),
 )
 
-fit_all : (in_bss : Bool) (p : Plan) → Fits p → AllByRecursion FitsFrame (records in_bss p)
-fit_all in_bss p f = (
-  header_fits,
+fit_far : (b : Before) (ns : List ℕ) → b.names + 4 ≤ 32767 → AllByRecursion (λ n. n ≤ 65536) ns
+    → AllByRecursion FitsFrame (map (far_record b) ns)
+fit_far b [] room h = tt
+fit_far b (n ∷ ns) room h = (far_fits b n room h.0, fit_far b ns room h.1)
+
+fit_places : (local : Bool) (g s : ℕ) (ps : List Place) → g ≤ 32767 → s ≤ 32767 → AllByRecursion (FitsPlace g s) ps
+    → AllByRecursion FitsFrame (map (place_record local) ps)
+fit_places local g s [] h k fits = tt
+fit_places local g s (p ∷ ps) h k fits = (
+  public_fits local p.group p.segment p.offset p.name (omega (arith, fits.0.group, h)) fits.0.positive
+      (omega (arith, fits.0.segment, k)) fits.0.offset fits.0.name,
+  fit_places local g s ps h k fits.1,
+)
+
+pub fit_all : (local in_bss : Bool) (b : Before) (p : Plan) → Fits b p
+    → AllByRecursion FitsFrame (variable_records local in_bss b p)
+fit_all local in_bss b p f = (
+  near_names_fit in_bss,
   (
-    near_names_fit in_bss,
-    (
-      far_names_fit,
-      All-append FitsFrame (near_records p.near) _ (fit_near p.near f.near)
-          (All-append FitsFrame (map far_record p.far) _ (fit_far p.far f.far)
-          (All-append FitsFrame (map place_record p.places) _ (fit_places _ _ p.places f.count f.places)
-          (end_fits, tt))),
-    ),
+    far_names_fit,
+    All-append FitsFrame (near_records b p.near) _
+        (fit_near b p.near f.names (omega (arith, f.segments)) f.near)
+        (All-append FitsFrame (map (far_record b) p.far) _ (fit_far b p.far f.names f.far)
+        (fit_places local (groups_with b p) (segments_with b p) p.places f.groups f.segments f.places)),
   ),
 )
 
--- ---- no check refuses it
+-- ---- no check refuses them
 
-relocatable_near : (ns : List (List ℕ)) (n : ℕ) → is_absolute (segment_of ns (near_definition n)).standing ≡ false
-relocatable_near ns n = refl
+relocatable_near : (b : Before) (ns : List (List ℕ)) (n : ℕ)
+    → is_absolute (segment_of ns (near_definition b n)).standing ≡ false
+relocatable_near b ns n = refl
 
-relocatable_far : (ns : List (List ℕ)) (n : ℕ) → is_absolute (segment_of ns (far_definition n)).standing ≡ false
-relocatable_far ns n = refl
-
-near_ok : (s g n : ℕ) (before : List Placed) → Ready 4 s g before → fault before (Segdef (near_definition n)) ≡ None
-near_ok s g n before r =
-    clean_by before (Segdef (near_definition n)) r.is_begun
+near_ok : (b : Before) (s g n : ℕ) (before : List Placed) → Ready (b.names + 4) s g before
+    → fault before (Segdef (near_definition b n)) ≡ None
+near_ok b s g n before r =
+    clean_by before (Segdef (near_definition b n)) r.is_begun
     (ap (λ t. first (when t NameIndex ∷ []))
-    (both_false _ _ (not_below (length (names before)) 2 (omega (arith, r.name_count)))
-    (not_below (length (names before)) 3 (omega (arith, r.name_count)))))
+    (both_false _ _ (not_below (length (names before)) (b.names + 2) (omega (arith, r.name_count)))
+    (not_below (length (names before)) (b.names + 3) (omega (arith, r.name_count)))))
 
-far_ok : (s g n : ℕ) (before : List Placed) → Ready 4 s g before → fault before (far_record n) ≡ None
-far_ok s g n before r =
-    clean_by before (far_record n) r.is_begun
+far_ok : (b : Before) (s g n : ℕ) (before : List Placed) → Ready (b.names + 4) s g before
+    → fault before (far_record b n) ≡ None
+far_ok b s g n before r =
+    clean_by before (far_record b n) r.is_begun
     (ap (λ t. first (when t NameIndex ∷ []))
-    (both_false _ _ (not_below (length (names before)) 4 (omega (arith, r.name_count)))
-    (not_below (length (names before)) 4 (omega (arith, r.name_count)))))
-
-group_ok : (before : List Placed) → Ready 4 1 0 before → fault before (Grpdef 1 (1 ∷ [])) ≡ None
-group_ok before r =
-    clean_by before (Grpdef 1 (1 ∷ [])) r.is_begun
-    (nones (when (ltb (length (names before)) 1) NameIndex ∷ component_fault (entry (segments before) 1) ∷ []) (
-      ap (λ t. when t NameIndex) (not_below (length (names before)) 1 (omega (arith, r.name_count))),
-      (component_ok (segments before) 0 r.relocatable (omega (arith, r.segment_count)), tt),
-    ))
+    (both_false _ _ (not_below (length (names before)) (b.names + 4) (omega (arith, r.name_count)))
+    (not_below (length (names before)) (b.names + 4) (omega (arith, r.name_count)))))
 
 not_none : (n : ℕ) → 0 < n → eqb n 0 ≡ false
 not_none n h = ne_eqb n 0 (λ e. omega (arith, h, e))
 
-place_ok : (s g : ℕ) (p : Place) (before : List Placed) → Ready 4 s g before → FitsPlace g s p
-    → fault before (place_record p) ≡ None
-place_ok s g p before r f =
-    clean_by before (place_record p) r.is_begun
+-- the group of the near segment, right behind it
+group_ok : (b : Before) (s g n at : ℕ) (before : List Placed) → Ready (b.names + 4) b.segments g before →
+    Ready (b.names + 4) s g
+    (before ++ record { place = at; body = canonical (Segdef (near_definition b n)); says = Segdef (near_definition b n) }
+    ∷ []) →
+    fault
+    (before ++ record { place = at; body = canonical (Segdef (near_definition b n)); says = Segdef (near_definition b n) }
+    ∷ [])
+    (Grpdef (b.names + 1) ((b.segments + 1) ∷ [])) ≡ None
+group_ok b s g n at before r r2 =
+    let defined : Placed =
+    record { place = at; body = canonical (Segdef (near_definition b n)); says = Segdef (near_definition b n) } in
+    let all = before ++ defined ∷ [] in
+    clean_by all (Grpdef (b.names + 1) ((b.segments + 1) ∷ [])) r2.is_begun
+    (nones
+    (when (eqb (b.names + 1) 0 || is_beyond (names all) (b.names + 1)) NameIndex
+    ∷ component_fault (entry (segments all) (b.segments + 1)) ∷ []) (
+      ap (λ t. when t NameIndex)
+          (both_false _ _ (not_none (b.names + 1) (omega arith))
+          (not_below (length (names all)) (b.names + 1) (omega (arith, r2.name_count)))),
+      (
+        ap (λ ss. component_fault (entry ss (b.segments + 1))) (segments-push before defined)
+            ∙ ap (λ i. component_fault (entry (segments before ++ segment_of (names before) (near_definition b n) ∷ []) i))
+            (add-one b.segments)
+            ∙ component_last (segments before) (segment_of (names before) (near_definition b n)) b.segments r.segment_count
+            (relocatable_near b (names before) n),
+        tt,
+      ),
+    ))
+
+place_ok : (local : Bool) (n s g : ℕ) (p : Place) (before : List Placed) → Ready n s g before → FitsPlace g s p
+    → fault before (place_record local p) ≡ None
+place_ok local n s g p before r f =
+    clean_by before (place_record local p) r.is_begun
     (ap (λ t. first ((when t SegmentIndex ⊓ when (is_beyond (groups before) p.group) GroupIndex) ∷ []))
     (both_false _ _ (not_none p.segment f.positive)
     (not_below (length (segments before)) p.segment (omega (arith, r.segment_count, f.segment))))
     ∙ ap (λ t. first (when t GroupIndex ∷ []))
     (not_below (length (groups before)) p.group (omega (arith, r.group_count, f.group))))
 
--- what follows some records is clean
-abbrev Follows : (s g : ℕ) → List Record → Type 0
-Follows s g rest = (before : List Placed) (at : ℕ) → Ready 4 s g before → Clean before (place_all at rest)
+-- what follows records with so many names, segments and groups is clean
+abbrev pub Follows : (n s g : ℕ) → List Record → Type 0
+Follows n s g rest = (before : List Placed) (at : ℕ) → Ready n s g before → Clean before (place_all at rest)
 
-clean_places : (s g : ℕ) (ps : List Place) (rest : List Record) → AllByRecursion (FitsPlace g s) ps → Follows s g rest
-    → Follows s g (map place_record ps ++ rest)
-clean_places s g [] rest f k before at r = k before at r
-clean_places s g (p ∷ ps) rest f k before at r = (
-  place_ok s g p before r f.0,
-  clean_places s g ps rest f.1 k _ _ (ready-as (4 + 0) (s + 0) (g + 0) 4 s g _ refl (omega arith) (omega arith)
-      (ready-more 4 s g before (record { place = at; body = canonical (place_record p); says = place_record p }) r tt)),
+clean_places : (local : Bool) (n s g : ℕ) (ps : List Place) (rest : List Record) → AllByRecursion (FitsPlace g s) ps
+    → Follows n s g rest → Follows n s g (map (place_record local) ps ++ rest)
+clean_places local n s g [] rest f k before at r = k before at r
+clean_places local n s g (p ∷ ps) rest f k before at r = (
+  place_ok local n s g p before r f.0,
+  clean_places local n s g ps rest f.1 k _ _
+      (ready-as (n + 0) (s + 0) (g + 0) n s g _ (omega arith) (omega arith) (omega arith)
+      (ready-more n s g before
+      (record { place = at; body = canonical (place_record local p); says = place_record local p }) r)),
 )
 
-clean_far : (s g t : ℕ) (ns : List ℕ) (rest : List Record) → t ≡ s + length ns → Follows t g rest
-    → Follows s g (map far_record ns ++ rest)
-clean_far s g t [] rest e k before at r = k before at (ready-as 4 s g 4 t g before refl (omega (arith, e)) refl r)
-clean_far s g t (n ∷ ns) rest e k before at r = (
-  far_ok s g n before r,
-  clean_far (s + 1) g t ns rest (omega (arith, e)) k _ _
-      (ready-as (4 + 0) (s + 1) (g + 0) 4 (s + 1) g _ refl refl (omega arith)
-      (ready-more 4 s g before (record { place = at; body = canonical (far_record n); says = far_record n }) r
-      (relocatable_far (names before) n, tt))),
+clean_far : (b : Before) (s g t : ℕ) (ns : List ℕ) (rest : List Record) → t ≡ s + length ns
+    → Follows (b.names + 4) t g rest → Follows (b.names + 4) s g (map (far_record b) ns ++ rest)
+clean_far b s g t [] rest e k before at r =
+    k before at (ready-as (b.names + 4) s g (b.names + 4) t g before refl (omega (arith, e)) refl r)
+clean_far b s g t (n ∷ ns) rest e k before at r = (
+  far_ok b s g n before r,
+  clean_far b (s + 1) g t ns rest (omega (arith, e)) k _ _
+      (ready-as (b.names + 4 + 0) (s + 1) (g + 0) (b.names + 4) (s + 1) g _ (omega arith) refl (omega arith)
+      (ready-more (b.names + 4) s g before
+      (record { place = at; body = canonical (far_record b n); says = far_record b n }) r)),
 )
 
-clean_near : (o : Option ℕ) (rest : List Record) → Follows (count_of o) (count_of o) rest
-    → Follows 0 0 (near_records o ++ rest)
-clean_near None rest k before at r = k before at r
-clean_near (Some n) rest k before at r =
-    let defined : Placed =
-    record { place = at; body = canonical (Segdef (near_definition n)); says = Segdef (near_definition n) } in
-    let next = at + length (record_bytes (Segdef (near_definition n))) in
-    let r2 : Ready 4 1 0 (before ++ defined ∷ []) =
-    ready-more 4 0 0 before defined r (relocatable_near (names before) n, tt) in
-    let grouped : Placed = record { place = next; body = canonical (Grpdef 1 (1 ∷ [])); says = Grpdef 1 (1 ∷ []) } in
-    let r3 : Ready 4 1 1 ((before ++ defined ∷ []) ++ grouped ∷ []) =
-    ready-more 4 1 0 (before ++ defined ∷ []) grouped r2 tt in
-    (near_ok 0 0 n before r, (group_ok (before ++ defined ∷ []) r2, k _ _ r3))
+clean_near : (b : Before) (o : Option ℕ) (rest : List Record)
+    → Follows (b.names + 4) (b.segments + count_of o) (b.groups + count_of o) rest
+    → Follows (b.names + 4) b.segments b.groups (near_records b o ++ rest)
+clean_near b None rest k before at r =
+    k before at
+    (ready-as (b.names + 4) b.segments b.groups (b.names + 4) (b.segments + 0) (b.groups + 0) before refl (omega arith)
+    (omega arith) r)
+clean_near b (Some n) rest k before at r =
+    let s = Segdef (near_definition b n) in
+    let d = Grpdef (b.names + 1) ((b.segments + 1) ∷ []) in
+    let defined : Placed = record { place = at; body = canonical s; says = s } in
+    let next = at + length (record_bytes s) in
+    let r2 : Ready (b.names + 4) (b.segments + 1) b.groups (before ++ defined ∷ []) =
+    ready-as (b.names + 4 + 0) (b.segments + 1) (b.groups + 0) (b.names + 4) (b.segments + 1) b.groups _ (omega arith)
+    refl (omega arith) (ready-more (b.names + 4) b.segments b.groups before defined r) in
+    let grouped : Placed = record { place = next; body = canonical d; says = d } in
+    let r3 : Ready (b.names + 4) (b.segments + 1) (b.groups + 1) ((before ++ defined ∷ []) ++ grouped ∷ []) =
+    ready-as (b.names + 4 + 0) (b.segments + 1 + 0) (b.groups + 1) (b.names + 4) (b.segments + 1) (b.groups + 1) _
+    (omega arith) (omega arith) refl
+    (ready-more (b.names + 4) (b.segments + 1) b.groups (before ++ defined ∷ []) grouped r2) in
+    (near_ok b b.segments b.groups n before r, (group_ok b (b.segments + 1) b.groups n at before r r2, k _ _ r3))
 
-clean_all : (in_bss : Bool) (p : Plan) → Fits p → Clean [] (place_all 0 (records in_bss p))
-clean_all in_bss p f = (
-  refl,
-  (
-    refl,
-    (
+-- the names, and all behind them
+pub clean_variables : (local in_bss : Bool) (b : Before) (p : Plan) (rest : List Record) → Fits b p
+    → Follows (b.names + 4) (segments_with b p) (groups_with b p) rest
+    → Follows b.names b.segments b.groups (variable_records local in_bss b p ++ rest)
+clean_variables local in_bss b p rest f k before at r =
+    let near = near_records b p.near in
+    let far = map (far_record b) p.far in
+    let places = map (place_record local) p.places in
+    let all = near ++ (far ++ (places ++ rest)) in
+    let same : placed_records local b p ++ rest ≡ all =
+    append_assoc near (far ++ places) rest ∙ ap (λ rs. near ++ rs) (append_assoc far places rest) in
+    let one : Placed = record { place = at; body = canonical (near_names in_bss); says = near_names in_bss } in
+    let at2 = at + length (record_bytes (near_names in_bss)) in
+    let two : Placed = record { place = at2; body = canonical far_names; says = far_names } in
+    let r2 = ready-more b.names b.segments b.groups before one r in
+    let r3 : Ready (b.names + 4) b.segments b.groups ((before ++ one ∷ []) ++ two ∷ []) =
+    ready-as (b.names + 2 + 2) (b.segments + 0 + 0) (b.groups + 0 + 0) (b.names + 4) b.segments b.groups _ (omega arith)
+    (omega arith) (omega arith)
+    (ready-more (b.names + 2) (b.segments + 0) (b.groups + 0) (before ++ one ∷ []) two r2) in
+    let g = groups_with b p in (
+      clean_by before (near_names in_bss) r.is_begun refl,
+      (
+        clean_by (before ++ one ∷ []) far_names r2.is_begun refl,
+        subst (λ rs. Clean ((before ++ one ∷ []) ++ two ∷ []) (place_all (at2 + length (record_bytes far_names)) rs))
+            (sym same)
+            (clean_near b p.near (far ++ (places ++ rest))
+            (clean_far b (b.segments + count_of p.near) g (segments_with b p) p.far (places ++ rest) refl
+            (clean_places local (b.names + 4) (segments_with b p) g p.places rest f.places k)) _ _ r3),
+      ),
+    )
+
+clean_all : (in_bss : Bool) (p : Plan) → Fits nothing_before p → Clean [] (place_all 0 (records in_bss p))
+clean_all in_bss p f =
+    let header : Placed =
+    record { place = 0; body = canonical (Theadr (codes "communal")); says = Theadr (codes "communal") } in (
       refl,
-      clean_near p.near (map far_record p.far ++ (map place_record p.places ++ Modend false None ∷ []))
-          (clean_far (count_of p.near) (count_of p.near) (count_of p.near + length p.far) p.far
-          (map place_record p.places ++ Modend false None ∷ []) refl
-          (clean_places (count_of p.near + length p.far) (count_of p.near) p.places (Modend false None ∷ []) f.places
-          (λ before at r. clean_end before at r.is_begun))) _ _
-          (record { is_begun = refl; name_count = refl; segment_count = refl; group_count = refl; relocatable = tt }),
-    ),
-  ),
-)
+      clean_variables false in_bss nothing_before p (Modend false None ∷ []) f
+          (λ before at r. clean_end before at r.is_begun) (header ∷ []) _
+          (record { is_begun = refl; name_count = refl; segment_count = refl; group_count = refl }),
+    )
 
 -- ---- the whole
 
-module_sound : (in_bss : Bool) (p : Plan) → Fits p → length (module_bytes in_bss p) < place_limit
+module_sound : (in_bss : Bool) (p : Plan) → Fits nothing_before p → length (module_bytes in_bss p) < place_limit
     → ModuleBytes (place_all 0 (records in_bss p)) (module_bytes in_bss p)
 module_sound in_bss p f short =
-    let fits = fit_all in_bss p f in
+    let fits : AllByRecursion FitsFrame (records in_bss p) = (
+      header_fits,
+      All-append FitsFrame (variable_records false in_bss nothing_before p) (Modend false None ∷ [])
+          (fit_all false in_bss nothing_before p f) (end_fits, tt),
+    ) in
     record {
       records = (are_frames 0 (records in_bss p) fits (omega (arith, short)), are_bodies 0 (records in_bss p) fits);
       ended = to_end in_bss p;
@@ -192,4 +268,4 @@ module_sound in_bss p f short =
 
 pub whole : AreWhole
 whole in_bss vs p named is short =
-    (place_all 0 (records in_bss p), module_sound in_bss p (plan_fits vs p named is) short)
+    (place_all 0 (records in_bss p), module_sound in_bss p (plan_fits nothing_before vs p named is) short)

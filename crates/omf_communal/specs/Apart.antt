@@ -2,6 +2,7 @@
 use Rattle.std.specs.Prelude.{◌≡◌, ℕ, ◌+◌, ◌*◌, ◌≤◌, List, [], ◌∷◌, ◌++◌, length, sum, Option, None, Some, Ok}
 use Rattle.omf_communal.specs.declared.declarations.Extent.{Extent}
 use Rattle.omf_communal.specs.declared.declarations.Extent.TheVariants.{Near, Far}
+use Rattle.omf_communal.specs.declared.places.Before.{Before}
 use Rattle.omf_communal.specs.Deciding.{Variable}
 use Rattle.omf_communal.specs.Plan.{Place, Plan, plan}
 
@@ -28,19 +29,20 @@ abbrev pub fars : List Variable → List Sized
 fars [] = []
 fars (v ∷ vs) = far_of v.name v.extent ++ fars vs
 
--- a near variable stands in the first segment, of the group DGROUP, and begins at or behind a byte
-pub record IsNearAt (at : ℕ) (s : Sized) (p : Place) : Type 0 where
+-- a near variable stands in the first segment behind those before, in the group behind those before, which is DGROUP,
+-- and begins at or behind a byte
+pub record IsNearAt (before : Before) (at : ℕ) (s : Sized) (p : Place) : Type 0 where
   pub name : p.name ≡ s.name
-  pub group : p.group ≡ 1
-  pub segment : p.segment ≡ 1
+  pub group : p.group ≡ before.groups + 1
+  pub segment : p.segment ≡ before.segments + 1
   pub behind : at ≤ p.offset
 
 -- near ones stand at places one behind the other, from a byte on up to an end
-abbrev pub NearRow : (at end : ℕ) → List Sized → List Place → Type 0
-NearRow at end [] [] = at ≤ end
-NearRow at end [] (p ∷ ps) = ⊥
-NearRow at end (s ∷ ss) [] = ⊥
-NearRow at end (s ∷ ss) (p ∷ ps) = IsNearAt at s p × NearRow (p.offset + s.bytes) end ss ps
+abbrev pub NearRow : Before → (at end : ℕ) → List Sized → List Place → Type 0
+NearRow before at end [] [] = at ≤ end
+NearRow before at end [] (p ∷ ps) = ⊥
+NearRow before at end (s ∷ ss) [] = ⊥
+NearRow before at end (s ∷ ss) (p ∷ ps) = IsNearAt before at s p × NearRow before (p.offset + s.bytes) end ss ps
 
 -- a far variable stands at the begin of a segment, of no group, and its own segments, from that one on, have its bytes
 pub record IsFarAt (index : ℕ) (own : List ℕ) (s : Sized) (p : Place) : Type 0 where
@@ -68,14 +70,14 @@ near_count None = 0
 near_count (Some length) = 1
 
 -- all variables have places: near ones in the near segment, of at most 65,536 bytes, and far ones behind it
-pub record AreApart (vs : List Variable) (p : Plan) : Type 0 where
+pub record AreApart (before : Before) (vs : List Variable) (p : Plan) : Type 0 where
   pub near : List Place
   pub far : List Place
   pub all : p.places ≡ near ++ far
-  pub in_near : NearRow 0 (near_length p.near) (nears vs) near
+  pub in_near : NearRow before 0 (near_length p.near) (nears vs) near
   pub short : near_length p.near ≤ 65536
-  pub in_far : FarRow (near_count p.near + 1) p.far (fars vs) far
+  pub in_far : FarRow (before.segments + near_count p.near + 1) p.far (fars vs) far
 
 -- so they are in each plan
 abbrev pub ArePlaced : Type 0
-ArePlaced = (vs : List Variable) (p : Plan) → plan vs ≡ Ok p → AreApart vs p
+ArePlaced = (before : Before) (vs : List Variable) (p : Plan) → plan before vs ≡ Ok p → AreApart before vs p

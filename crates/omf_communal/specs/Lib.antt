@@ -6,8 +6,10 @@ pub mod Deciding
 pub mod Plan
 pub mod Records
 pub mod Answers
+pub mod Locals
 pub mod Bss
 pub mod Whole
+pub mod Extended
 pub mod Once
 pub mod Apart
 pub mod inside

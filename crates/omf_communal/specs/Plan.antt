@@ -1,6 +1,6 @@
--- Where the variables of a program stand: near ones behind each other in one segment of DGROUP, far ones each in
--- segments of its own.
-use Rattle.std.specs.Prelude.{ℕ, ◌+◌, ◌-◌, ◌*◌, ◌/◌, ◌%◌, ◌==◌, Bool, not, ◌&&◌, max, min, nat_lt, nat_le}
+-- Where variables stand: near ones behind each other in one segment of DGROUP, far ones each in segments of its own.
+-- The segments and the group are counted from those on that stand before them in their module.
+use Rattle.std.specs.Prelude.{ℕ, ◌+◌, ◌-◌, ◌*◌, ◌/◌, ◌%◌, ◌==◌, Bool, not, ◌&&◌, ◌||◌, max, min, nat_lt, nat_le}
 use Rattle.std.specs.Prelude.{if◌then◌else◌, List, [], ◌∷◌, ◌++◌, map, Option, Some, None, Ok, Err}
 use Rattle.std.specs.declared.result.Result.{Result}
 use Rattle.std.specs.List.{range_with_len}
@@ -10,9 +10,10 @@ use Rattle.omf_communal.specs.declared.declarations.Extent.{Extent}
 use Rattle.omf_communal.specs.declared.declarations.Extent.TheVariants.{Near, Far}
 use Rattle.omf_communal.specs.declared.fault.PlanFault.{PlanFault}
 use Rattle.omf_communal.specs.declared.fault.PlanFault.TheVariants.{NearTooLong, CutElement, TooManySegments}
+use Rattle.omf_communal.specs.declared.places.Before.{Before}
 use Rattle.omf_communal.specs.Deciding.{Variable}
 
--- a name of the module: its group and its segment, 0 for no group, and its offset in the segment
+-- the name of a variable: its group and its segment, 0 for no group, and its offset in the segment
 pub record Place : Type 0 where
   pub name : List ℕ
   pub group : ℕ
@@ -22,6 +23,21 @@ pub record Place : Type 0 where
 -- the greatest length of a segment
 abbrev pub segment_limit : ℕ
 segment_limit = 65536
+
+-- ---- what stands before the variables
+
+-- the greatest index of a name, a segment or a group
+abbrev pub index_limit : ℕ
+index_limit = 32767
+
+-- nothing does in a module of their own
+abbrev pub nothing_before : Before
+nothing_before = record { names = 0; segments = 0; groups = 0 }
+
+-- no indexes are left for four names, a segment and a group
+abbrev pub is_full : Before → Bool
+is_full before =
+    nat_lt (index_limit - 4) before.names || (nat_le index_limit before.segments || nat_le index_limit before.groups)
 
 -- ---- near variables
 
@@ -38,20 +54,25 @@ near_next at (Far count size) = at
 abbrev pub fits_near : (start length : ℕ) → Bool
 fits_near start length = nat_lt start segment_limit && nat_le (start + length) segment_limit
 
--- the place of a near variable, that with this index, behind so many bytes of the first segment
-abbrev pub near_place : (at index : ℕ) → (name : List ℕ) → Extent → Result (List Place) PlanFault
-near_place at index name (Far count size) = Ok []
-near_place at index name (Near length) =
+-- the place of a near variable, that with this index, behind so many bytes of the first segment of the variables
+abbrev pub near_place : Before → (at index : ℕ) → (name : List ℕ) → Extent → Result (List Place) PlanFault
+near_place before at index name (Far count size) = Ok []
+near_place before at index name (Near length) =
     if fits_near (near_start at length) length
-    then Ok (record { name = name; group = 1; segment = 1; offset = near_start at length } ∷ [])
+    then Ok (record {
+      name = name;
+      group = before.groups + 1;
+      segment = before.segments + 1;
+      offset = near_start at length;
+    } ∷ [])
     else Err (NearTooLong index)
 
 -- the places of the near ones of these variables, the first of which has this index, or the first that is at fault
-abbrev pub near_places : (at index : ℕ) → List Variable → Result (List Place) PlanFault
-near_places at index [] = Ok []
-near_places at index (v ∷ vs) =
-    result_and_then (λ ps. joined ps (near_places (near_next at v.extent) (index + 1) vs))
-    (near_place at index v.name v.extent)
+abbrev pub near_places : Before → (at index : ℕ) → List Variable → Result (List Place) PlanFault
+near_places before at index [] = Ok []
+near_places before at index (v ∷ vs) =
+    result_and_then (λ ps. joined ps (near_places before (near_next at v.extent) (index + 1) vs))
+    (near_place before at index v.name v.extent)
 
 -- where they end
 abbrev pub near_end : ℕ → List Variable → ℕ
@@ -82,10 +103,6 @@ abbrev pub far_lengths_of : Extent → List ℕ
 far_lengths_of (Near length) = []
 far_lengths_of (Far count size) = part_lengths (count * size)
 
--- the greatest index of a segment
-abbrev pub index_limit : ℕ
-index_limit = 32767
-
 -- the place of a far variable, that with this index, in this segment and those behind it
 abbrev pub far_place : (segment index : ℕ) → (name : List ℕ) → Extent → Result (List Place) PlanFault
 far_place segment index name (Near length) = Ok []
@@ -108,7 +125,7 @@ far_lengths (v ∷ vs) = far_lengths_of v.extent ++ far_lengths vs
 
 -- ---- the whole
 
--- the segments of the module, and the names in them: the near segment, if there is one, is the first
+-- the segments of variables, and the names in them: the near segment, if there is one, is the first
 pub record Plan : Type 0 where
   pub near : Option ℕ
   pub far : List ℕ
@@ -119,17 +136,19 @@ abbrev pub near_segment : List Place → (end : ℕ) → Option ℕ
 near_segment [] end = None
 near_segment (p ∷ ps) end = Some end
 
--- the first far segment
-abbrev pub far_first : List Place → ℕ
-far_first [] = 1
-far_first (p ∷ ps) = 2
+-- the first far segment, by the places of near variables
+abbrev pub far_first : Before → List Place → ℕ
+far_first before [] = before.segments + 1
+far_first before (p ∷ ps) = before.segments + 2
 
 -- the plan for variables whose near ones have these places
-abbrev pub plan_with : List Variable → List Place → Result Plan PlanFault
-plan_with vs near = result_and_then
+abbrev pub plan_with : Before → List Variable → List Place → Result Plan PlanFault
+plan_with before vs near = result_and_then
     (λ far. Ok (record { near = near_segment near (near_end 0 vs); far = far_lengths vs; places = near ++ far }))
-    (far_places (far_first near) 0 vs)
+    (far_places (far_first before near) 0 vs)
 
--- the plan for variables
-abbrev pub plan : List Variable → Result Plan PlanFault
-plan vs = result_and_then (plan_with vs) (near_places 0 0 vs)
+-- the plan for variables behind what stands before them
+abbrev pub plan : Before → List Variable → Result Plan PlanFault
+plan before vs =
+    if is_full before then Err (TooManySegments 0)
+    else result_and_then (plan_with before vs) (near_places before 0 0 vs)

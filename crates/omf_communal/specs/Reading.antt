@@ -1,10 +1,13 @@
--- The communal variables that a module declares: the entries of its records of type B0H (TIS OMF 1.1, "COMDEF").
+-- The communal variables that a module declares: the entries of its records of type B0H (TIS OMF 1.1, "COMDEF") and, of
+-- those that it alone knows, B8H (TIS OMF 1.1, "LCOMDEF").
 use Rattle.std.specs.Prelude.{◌≡◌, ℕ, ◌==◌, if◌then◌else◌, List, [], ◌∷◌, map, Ok, Err}
 use Rattle.std.specs.declared.result.Result.{Result}
 use Rattle.omf_frame.specs.Frame.{Frame}
 use Rattle.omf_library.specs.Members.{joined}
 use Rattle.omf_library.specs.Records.{result_and_then}
 use Rattle.omf_communal.specs.declared.declarations.Extent.{Extent}
+use Rattle.omf_communal.specs.declared.declarations.Scope.{Scope}
+use Rattle.omf_communal.specs.declared.declarations.Scope.TheVariants as scope
 use Rattle.omf_communal.specs.declared.fault.EntryFault.{EntryFault}
 use Rattle.omf_communal.specs.declared.fault.CommunalFault.{CommunalFault}
 use Rattle.omf_communal.specs.declared.fault.CommunalFault.TheVariants.{Malformed, Memory}
@@ -30,18 +33,23 @@ abbrev pub at_record : ℕ → Result (List Entry) EntryFault → Result (List C
 at_record place (Ok es) = Ok (map (communal_at place) es)
 at_record place (Err fault) = Err (Malformed place fault)
 
--- what a COMDEF with this body declares
+-- what a record with this body declares
 abbrev pub entries_at : ℕ → List ℕ → Result (List Communal) CommunalFault
 entries_at place body = at_record place (entries body)
 
--- what a record declares
-abbrev pub communals_in : Frame → Result (List Communal) CommunalFault
-communals_in f = if f.kind == 0xB0 then entries_at f.place f.body else Ok []
+-- the type of the records that declare variables of a scope: COMDEF and LCOMDEF, whose bodies are alike
+abbrev pub record_type : Scope → ℕ
+record_type scope.Program = 0xB0
+record_type scope.Module = 0xB8
 
--- what records declare, in their order, or the first fault
-abbrev pub communals_of : List Frame → Result (List Communal) CommunalFault
-communals_of [] = Ok []
-communals_of (f ∷ fs) = result_and_then (λ cs. joined cs (communals_of fs)) (communals_in f)
+-- what a record declares of a scope
+abbrev pub communals_in : Scope → Frame → Result (List Communal) CommunalFault
+communals_in s f = if f.kind == record_type s then entries_at f.place f.body else Ok []
+
+-- what records declare of a scope, in their order, or the first fault
+abbrev pub communals_of : Scope → List Frame → Result (List Communal) CommunalFault
+communals_of s [] = Ok []
+communals_of s (f ∷ fs) = result_and_then (λ cs. joined cs (communals_of s fs)) (communals_in s f)
 
 -- these variables are those
 abbrev pub AreTold : List lent.Communal → Result (List Communal) CommunalFault → Type 0

@@ -1,5 +1,6 @@
--- The records of the module (TIS OMF 1.1, the section of each), and its bytes.
-use Rattle.std.specs.Prelude.{ℕ, ◌==◌, Bool, false, List, [], ◌∷◌, ◌++◌, map, if◌then◌else◌, Option, None, Some, codes}
+-- The records of variables (TIS OMF 1.1, the section of each), and the bytes of the module that has those of a program.
+use Rattle.std.specs.Prelude.{ℕ, ◌+◌, ◌==◌, Bool, false, List, [], ◌∷◌, ◌++◌, map, if◌then◌else◌, Option, None}
+use Rattle.std.specs.Prelude.{Some, codes}
 use Rattle.std.specs.List.{flat_map}
 use Rattle.omf_frame.specs.Frame.{frame}
 use Rattle.omf_record.specs.declared.segments.SegmentLength.{SegmentLength}
@@ -11,7 +12,8 @@ use Rattle.omf_record.specs.declared.segments.SegmentLength.TheVariants as len
 use Rattle.omf_record.specs.Record.{Record, Theadr, Lnames, Segdef, Grpdef, Pubdef, Modend}
 use Rattle.omf_record.specs.Body.{kind_of}
 use Rattle.omf_record.specs.Canonical.{canonical}
-use Rattle.omf_communal.specs.Plan.{Place, Plan}
+use Rattle.omf_communal.specs.declared.places.Before.{Before}
+use Rattle.omf_communal.specs.Plan.{Place, Plan, nothing_before}
 
 -- the name of the group
 abbrev pub dgroup : List ℕ
@@ -25,40 +27,41 @@ near_name in_bss = if in_bss then codes "_BSS" else codes "c_common"
 abbrev pub length_of : ℕ → SegmentLength
 length_of length = if length == 65536 then len.Whole else len.Word length
 
--- the near segment: public, at an even address, with the second name and the third as its class
-abbrev pub near_definition : (length : ℕ) → SegmentDefinition
-near_definition length = record {
+-- the near segment: public, at an even address, with the second name of the variables and the third as its class
+abbrev pub near_definition : Before → (length : ℕ) → SegmentDefinition
+near_definition before length = record {
   alignment = align.Word;
   combination = combine.Public2;
   length = length_of length;
-  name = 2;
-  class = 3;
+  name = before.names + 2;
+  class = before.names + 3;
   overlay = 0;
 }
 
 -- a far segment: private, at a paragraph, with the fourth name, also as its class
-abbrev pub far_definition : (length : ℕ) → SegmentDefinition
-far_definition length = record {
+abbrev pub far_definition : Before → (length : ℕ) → SegmentDefinition
+far_definition before length = record {
   alignment = align.Paragraph;
   combination = combine.Private;
   length = length_of length;
-  name = 4;
-  class = 4;
+  name = before.names + 4;
+  class = before.names + 4;
   overlay = 0;
 }
 
 -- the near segment, if there is one, and the group DGROUP of it
-abbrev pub near_records : Option ℕ → List Record
-near_records None = []
-near_records (Some length) = Segdef (near_definition length) ∷ Grpdef 1 (1 ∷ []) ∷ []
+abbrev pub near_records : Before → Option ℕ → List Record
+near_records before None = []
+near_records before (Some length) =
+    Segdef (near_definition before length) ∷ Grpdef (before.names + 1) ((before.segments + 1) ∷ []) ∷ []
 
 -- a far segment
-abbrev pub far_record : (length : ℕ) → Record
-far_record length = Segdef (far_definition length)
+abbrev pub far_record : Before → (length : ℕ) → Record
+far_record before length = Segdef (far_definition before length)
 
--- a name of the module
-abbrev pub place_record : Place → Record
-place_record p = Pubdef false (InSegment p.group p.segment)
+-- the name of a variable, known to its module alone or to all
+abbrev pub place_record : (local : Bool) → Place → Record
+place_record local p = Pubdef local (InSegment p.group p.segment)
     (record { name = p.name; offset = p.offset; type_index = 0 } ∷ [])
 
 -- the names of the group and the near segment; the class of that one, and the name of far segments and their class
@@ -69,13 +72,18 @@ abbrev pub far_names : Record
 far_names = Lnames (codes "BSS" ∷ codes "FAR_BSS" ∷ [])
 
 -- what comes behind the names
-abbrev pub last_records : Plan → List Record
-last_records p = near_records p.near
-    ++ (map far_record p.far ++ (map place_record p.places ++ Modend false None ∷ []))
+abbrev pub placed_records : (local : Bool) → Before → Plan → List Record
+placed_records local before p =
+    near_records before p.near ++ (map (far_record before) p.far ++ map (place_record local) p.places)
 
--- all records
+-- all records of variables
+abbrev pub variable_records : (local in_bss : Bool) → Before → Plan → List Record
+variable_records local in_bss before p = near_names in_bss ∷ far_names ∷ placed_records local before p
+
+-- the records of the module of a program's variables
 abbrev pub records : (in_bss : Bool) → Plan → List Record
-records in_bss p = Theadr (codes "communal") ∷ near_names in_bss ∷ far_names ∷ last_records p
+records in_bss p =
+    Theadr (codes "communal") ∷ (variable_records false in_bss nothing_before p ++ Modend false None ∷ [])
 
 -- a record as a frame, with its canonical body
 abbrev pub record_bytes : Record → List ℕ

@@ -6,7 +6,7 @@ use Rattle.omf_frame.specs.Primitives.{IsBytes}
 use Rattle.omf_module.specs.Bytes.{ModuleBytes}
 use Rattle.omf_record.specs.Records.{Placed}
 use Rattle.omf_communal.specs.Deciding.{Variable}
-use Rattle.omf_communal.specs.Plan.{Plan, plan}
+use Rattle.omf_communal.specs.Plan.{Plan, nothing_before, plan}
 use Rattle.omf_communal.specs.Records.{module_bytes}
 
 -- the name of a variable is at most 255 bytes
@@ -20,5 +20,5 @@ IsWhole in_bss p = (rs : List Placed) × ModuleBytes rs (module_bytes in_bss p)
 -- so they are for all variables that have places, where the module is no longer than an input may be
 abbrev pub AreWhole : Type 0
 AreWhole =
-    (in_bss : Bool) (vs : List Variable) (p : Plan) → AllByRecursion IsNamed vs → plan vs ≡ Ok p →
+    (in_bss : Bool) (vs : List Variable) (p : Plan) → AllByRecursion IsNamed vs → plan nothing_before vs ≡ Ok p →
     length (module_bytes in_bss p) < place_limit → IsWhole in_bss p

@@ -2,6 +2,15 @@
 
 ghost use Rattle.std.specs.Prelude.{◌≤◌, length};
 
+/// Who knows a communal variable.
+#[derive(Clone, Copy, Debug, PartialEq, Eq)]
+pub enum Scope {
+    /// All modules of a program: COMDEF declares it.
+    Program,
+    /// Its own module alone: LCOMDEF declares it.
+    Module,
+}
+
 /// How far a communal variable lies, and how long it is.
 #[derive(Clone, Copy, Debug, PartialEq, Eq)]
 pub enum Extent {

@@ -1,6 +1,7 @@
 //! Laws of the definitions, each the contract of a function that does nothing.
 
 ghost use Rattle.omf_communal.specs.Apart.{ArePlaced};
+ghost use Rattle.omf_communal.specs.Extended.{AreExtended};
 ghost use Rattle.omf_communal.specs.Once.{AreOnce};
 ghost use Rattle.omf_communal.specs.Whole.{AreWhole};
 
@@ -19,4 +20,10 @@ pub fn one_variable_for_each_name()
 /// segments of its own, which have its bytes.
 pub fn places_are_apart()
     ensures { ArePlaced }
+{}
+
+/// A whole module with variables that are local to it is a whole module. It says all that it said before, by the same
+/// indexes, and behind that the segments, the group and the local publics of the variables' plan.
+pub fn local_module_is_whole()
+    ensures { AreExtended }
 {}

@@ -10,6 +10,7 @@ mod fault;
 mod fields;
 mod key;
 mod laws;
+mod locals;
 mod making;
 mod modules;
 mod places;
@@ -19,8 +20,11 @@ mod records;
 
 pub use bss::has_bss;
 pub use deciding::variables;
-pub use declarations::{Communal, Declaring, Extent, Variable, Whose};
+pub use declarations::{Communal, Declaring, Extent, Scope, Variable, Whose};
 pub use fault::{ClashFault, CommunalFault, EntryFault, PlanFault};
-pub use laws::{communal_module_is_whole, one_variable_for_each_name, places_are_apart};
+pub use laws::{
+    communal_module_is_whole, local_module_is_whole, one_variable_for_each_name, places_are_apart,
+};
+pub use locals::{local_module, local_names};
 pub use making::communal_module;
 pub use reading::communals;

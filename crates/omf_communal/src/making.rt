@@ -8,7 +8,7 @@ ghost use Rattle.omf_communal.specs.Deciding.{variable_said};
 
 use crate::declarations::Variable;
 use crate::fault::PlanFault;
-use crate::planning::make_plan;
+use crate::planning::{make_plan, whole_room};
 use crate::records::put_module;
 use std::alloc::Allocator;
 
@@ -29,7 +29,7 @@ pub fn communal_module<A: Allocator + Copy>(
     if variables.is_empty() {
         return Ok(None);
     }
-    let plan = make_plan(alloc, variables)?;
+    let plan = make_plan(alloc, whole_room(), variables)?;
     let mut bytes = Vec::new(alloc);
     put_module(alloc, in_bss, &plan, &mut bytes)?;
     Ok(Some(bytes))

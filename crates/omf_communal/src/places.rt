@@ -1,10 +1,32 @@
-//! Places and segments of the module.
+//! Places and segments of variables, and what stands before these.
 
 ghost use Rattle.std.specs.Prelude.{◌<◌, ◌≤◌, length};
 
 use std::alloc::Allocator;
 
-/// A name of the module.
+/// What stands in a module before its variables.
+#[derive(Clone, Copy)]
+pub(crate) struct Before {
+    /// How many names it lists.
+    pub names: u64,
+    /// How many segments it defines.
+    pub segments: u64,
+    /// How many groups it defines.
+    pub groups: u64,
+}
+
+/// What stands in a module before its variables, where there are indexes left for four names, a segment and a group.
+#[derive(Clone, Copy)]
+pub(crate) struct Room {
+    pub names: u16,
+    pub segments: u16,
+    pub groups: u16,
+    ghost names_in: { names ≤ 32763 },
+    ghost segments_in: { segments ≤ 32766 },
+    ghost groups_in: { groups ≤ 32766 },
+}
+
+/// The name of a variable.
 #[derive(Clone, Copy)]
 pub(crate) struct Place<'a> {
     pub name: &'a [u8],
@@ -14,12 +36,12 @@ pub(crate) struct Place<'a> {
     pub segment: u16,
     pub offset: u16,
     ghost short: { length name.now ≤ 255 },
-    ghost group_in: { group ≤ 1 },
+    ghost group_in: { group ≤ 32767 },
     ghost segment_positive: { 0 < segment },
     ghost segment_in: { segment ≤ 32767 },
 }
 
-/// A segment of the module.
+/// A segment of variables.
 #[derive(Clone, Copy)]
 pub(crate) struct Part {
     /// In bytes.

@@ -1,4 +1,4 @@
-//! Where the variables of a program stand.
+//! Where variables stand.
 
 ghost use Rattle.std.specs.Prelude.{◌≡◌, ◌+◌, ◌*◌, ◌<◌, ◌≤◌, ◌++◌, Ok, IfOk, OnOk, length, map, MatchResult};
 ghost use Rattle.omf_library.specs.Members.{joined};
@@ -6,20 +6,21 @@ ghost use Rattle.omf_communal.specs.Answers.{IsPlanFault};
 ghost use Rattle.omf_communal.specs.Deciding.{variable_said};
 ghost use Rattle.omf_communal.specs.Plan as planned;
 ghost use Rattle.std.specs.Option.{option_map};
-ghost use Rattle.omf_communal.specs.inside.Planned.{parts_said, places_said, plan_said, AreFars, AreNears};
+ghost use Rattle.omf_communal.specs.inside.Planned.{parts_said, places_said, plan_said, room_said};
+ghost use Rattle.omf_communal.specs.inside.Planned.{AreFars, AreNears, IsRoom};
 
 use crate::declarations::{Extent, Variable};
 use crate::fault::PlanFault;
-use crate::places::{Nears, Part, Place};
+use crate::places::{Before, Nears, Part, Place, Room};
 use std::alloc::{AllocError, Allocator};
 
 /// The greatest length of a segment.
 const SEGMENT_LIMIT: u64 = 65_536;
 
-/// The greatest index of a segment.
+/// The greatest index of a name, a segment or a group.
 const INDEX_LIMIT: u64 = 32_767;
 
-/// What the module has.
+/// The segments of variables, and their names.
 #[derive(Drop)]
 pub(crate) struct Plan<'a, A: Allocator + Copy> {
     /// The segment of near variables, the first, if there is one.
@@ -27,6 +28,34 @@ pub(crate) struct Plan<'a, A: Allocator + Copy> {
     /// The segments of far variables.
     pub far: Vec<Part, A>,
     pub places: Vec<Place<'a>, A>,
+}
+
+/// The room behind what stands before variables. None where no indexes are left for four names, a segment and a group.
+pub(crate) fn room_behind(before: Before) -> Option<Room>
+    ensures { IsRoom before result }
+{
+    let is_full = before.names > INDEX_LIMIT - 4
+        || before.segments >= INDEX_LIMIT
+        || before.groups >= INDEX_LIMIT;
+    if is_full {
+        return None;
+    }
+    Some(Room {
+        names: before.names as u16,
+        segments: before.segments as u16,
+        groups: before.groups as u16,
+    })
+}
+
+/// The room of a module that has nothing but variables.
+pub(crate) fn whole_room() -> Room
+    ensures { room_said result ≡ planned.nothing_before }
+{
+    Room {
+        names: 0,
+        segments: 0,
+        groups: 0,
+    }
 }
 
 /// Where a near variable of a length begins behind so many bytes.
@@ -48,6 +77,7 @@ fn near_end(start: u64, length: u32) -> u64
 
 /// Adds the place of a near variable behind so many bytes, and says where the bytes behind it begin.
 fn push_near<'a, A: Allocator + Copy>(
+    room: Room,
     places: &mut Vec<Place<'a>, A>,
     at: u64,
     index: usize,
@@ -56,8 +86,9 @@ fn push_near<'a, A: Allocator + Copy>(
     requires { at ≤ 65536 }
     ensures placed { MatchResult result
         (λ _. joined (places_said places.old.items)
-        (planned.near_place at index variable.now.name.now variable.now.extent) ≡ Ok (places_said places.new.items))
-        (λ e. IsPlanFault e (planned.near_place at index variable.now.name.now variable.now.extent)) }
+        (planned.near_place (room_said room) at index variable.now.name.now variable.now.extent)
+        ≡ Ok (places_said places.new.items))
+        (λ e. IsPlanFault e (planned.near_place (room_said room) at index variable.now.name.now variable.now.extent)) }
     ensures next { IfOk result (λ next. next ≡ planned.near_next at variable.now.extent) }
     ensures small { IfOk result (λ next. next ≤ 65536) }
 {
@@ -71,8 +102,8 @@ fn push_near<'a, A: Allocator + Copy>(
     }
     places.push(Place {
         name: variable.name,
-        group: 1,
-        segment: 1,
+        group: room.groups + 1,
+        segment: room.segments + 1,
         offset: start as u16,
     })?;
     Ok(end)
@@ -81,16 +112,17 @@ fn push_near<'a, A: Allocator + Copy>(
 /// The places of the near variables, behind each other.
 fn near_places<'a, A: Allocator + Copy>(
     alloc: A,
+    room: Room,
     variables: &[Variable<'a>],
 ) -> Result<Nears<'a, A>, PlanFault>
     ensures { MatchResult result
-        (λ n. AreNears (map variable_said variables.now) n)
-        (λ e. IsPlanFault e (planned.near_places 0 0 (map variable_said variables.now))) }
+        (λ n. AreNears (room_said room) (map variable_said variables.now) n)
+        (λ e. IsPlanFault e (planned.near_places (room_said room) 0 0 (map variable_said variables.now))) }
 {
     let mut places = Vec::new(alloc);
     let mut end = 0;
     for (index, variable) in variables.iter().enumerate() {
-        end = push_near(&mut places, end, index, variable)?;
+        end = push_near(room, &mut places, end, index, variable)?;
     }
     Ok(Nears { places, end })
 }
@@ -190,7 +222,7 @@ fn far_places<'a, A: Allocator + Copy>(
     variables: &[Variable<'a>],
 ) -> Result<Fars<'a, A>, PlanFault>
     requires positive { 0 < first }
-    requires small { first ≤ 2 }
+    requires small { first ≤ 32768 }
     ensures { MatchResult result
         (λ f. AreFars first (map variable_said variables.now) f)
         (λ e. IsPlanFault e (planned.far_places first 0 (map variable_said variables.now))) }
@@ -221,27 +253,32 @@ fn near_segment<A: Allocator + Copy>(nears: &Nears<'_, A>) -> Option<Part>
 }
 
 /// The index of the first segment of far variables, where these near ones have places.
-fn far_first(places: &[Place<'_>]) -> u64
-    ensures first { result ≡ planned.far_first (places_said places.now) }
+fn far_first(room: Room, places: &[Place<'_>]) -> u64
+    ensures first { result ≡ planned.far_first (room_said room) (places_said places.now) }
     ensures positive { 0 < result }
-    ensures small { result ≤ 2 }
+    ensures small { result ≤ 32768 }
 {
-    if places.is_empty() { 1 } else { 2 }
+    if places.is_empty() {
+        u64::from(room.segments) + 1
+    } else {
+        u64::from(room.segments) + 2
+    }
 }
 
-/// The plan for the variables of a program.
+/// The plan for variables behind what leaves this room.
 pub(crate) fn make_plan<'a, A: Allocator + Copy>(
     alloc: A,
+    room: Room,
     variables: &[Variable<'a>],
 ) -> Result<Plan<'a, A>, PlanFault>
     ensures { MatchResult result
-        (λ p. planned.plan (map variable_said variables.now) ≡ Ok (plan_said p))
-        (λ e. IsPlanFault e (planned.plan (map variable_said variables.now))) }
+        (λ p. planned.plan (room_said room) (map variable_said variables.now) ≡ Ok (plan_said p))
+        (λ e. IsPlanFault e (planned.plan (room_said room) (map variable_said variables.now))) }
 {
-    let nears = near_places(alloc, variables)?;
+    let nears = near_places(alloc, room, variables)?;
     let near = near_segment(&nears);
     let mut places = nears.places;
-    let fars = far_places(alloc, far_first(&places), variables)?;
+    let fars = far_places(alloc, far_first(room, &places), variables)?;
     places.extend_from_slice(&fars.places)?;
     Ok(Plan {
         near,

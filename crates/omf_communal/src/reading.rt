@@ -4,17 +4,25 @@ ghost use Rattle.std.specs.Prelude.{◌≡◌, Ok, map, MatchResult};
 ghost use Rattle.omf_frame.specs.Lending.{plain_frame};
 ghost use Rattle.omf_library.specs.Members.{joined};
 ghost use Rattle.omf_library.specs.Records.{module_records};
+ghost use Rattle.omf_communal.specs.Reading as reading;
 ghost use Rattle.omf_communal.specs.Reading.{plain_communal, entries_at, communals_in, communals_of, AreTold, IsFault};
 
-use crate::declarations::Communal;
+use crate::declarations::{Communal, Scope};
 use crate::entries::take_entry;
 use crate::fault::CommunalFault;
 use omf_frame::Frame;
 use omf_library::module_frames;
 use std::alloc::Allocator;
 
-/// The type of a record that declares communal variables.
-const COMDEF: u8 = 0xB0;
+/// The type of the records that declare communal variables of a scope.
+fn record_type(scope: Scope) -> u8
+    ensures { result ≡ reading.record_type scope }
+{
+    match scope {
+        Scope::Program => 0xB0,
+        Scope::Module => 0xB8,
+    }
+}
 
 /// Appends the variables that a record with this body, which begins at the place, declares.
 fn push_entries<'a, A: Allocator + Copy>(
@@ -43,37 +51,38 @@ fn push_entries<'a, A: Allocator + Copy>(
     Ok(())
 }
 
-/// Appends the variables that a record declares.
+/// Appends the variables of a scope that a record declares.
 fn push_communals<'a, A: Allocator + Copy>(
+    scope: Scope,
     frame: &Frame<'a>,
     told: &mut Vec<Communal<'a>, A>,
 ) -> Result<(), CommunalFault>
     ensures { MatchResult result
-        (λ _. joined (map plain_communal told.old.items) (communals_in (plain_frame frame.now))
+        (λ _. joined (map plain_communal told.old.items) (communals_in scope (plain_frame frame.now))
         ≡ Ok (map plain_communal told.new.items))
-        (λ e. IsFault e (communals_in (plain_frame frame.now))) }
+        (λ e. IsFault e (communals_in scope (plain_frame frame.now))) }
 {
-    if frame.kind == COMDEF {
+    if frame.kind == record_type(scope) {
         push_entries(frame.place, frame.body, told)
     } else {
         Ok(())
     }
 }
 
-/// The communal variables that the module declares whose records begin the bytes, in their order, up to the first
-/// record that ends a module or before the first that is no record; else the first fault. Names that are local to the
-/// module (LCOMDEF) aren't among them.
+/// The communal variables of a scope that the module declares whose records begin the bytes, in their order, up to the
+/// first record that ends a module or before the first that is no record; else the first fault.
 pub fn communals<'a, A: Allocator + Copy>(
     alloc: A,
     bytes: &'a [u8],
+    scope: Scope,
 ) -> Result<Vec<Communal<'a>, A>, CommunalFault>
-    ensures { MatchResult result (λ v. AreTold v.items (communals_of (module_records bytes.now 0)))
-        (λ e. IsFault e (communals_of (module_records bytes.now 0))) }
+    ensures { MatchResult result (λ v. AreTold v.items (communals_of scope (module_records bytes.now 0)))
+        (λ e. IsFault e (communals_of scope (module_records bytes.now 0))) }
 {
     let frames = module_frames(alloc, bytes)?;
     let mut told = Vec::new(alloc);
     for frame in &frames {
-        push_communals(frame, &mut told)?;
+        push_communals(scope, frame, &mut told)?;
     }
     Ok(told)
 }

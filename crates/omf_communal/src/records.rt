@@ -1,6 +1,6 @@
-//! The records of the module.
+//! The records of variables, and those of the module that has those of a program.
 
-ghost use Rattle.std.specs.Prelude.{◌≡◌, ◌++◌, ◌≤◌, [], ◌∷◌, false, Some, OnOk, length, map};
+ghost use Rattle.std.specs.Prelude.{◌≡◌, ◌++◌, ◌≤◌, [], ◌∷◌, Some, OnOk, if◌then◌else◌, length, map};
 ghost use Rattle.std.specs.Option.{option_map};
 ghost use Rattle.omf_communal.specs.Records.{record_bytes, records_bytes};
 ghost use Rattle.omf_record.specs.Body.{kind_of};
@@ -8,10 +8,10 @@ ghost use Rattle.omf_record.specs.Canonical.{FitsFrame};
 ghost use Rattle.omf_record.specs.Record.{Lnames, Pubdef};
 ghost use Rattle.omf_record.specs.View.{view};
 ghost use Rattle.omf_communal.specs.Records as records;
-ghost use Rattle.omf_communal.specs.inside.Planned.{parts_said, places_said, plan_said, IsBase};
+ghost use Rattle.omf_communal.specs.inside.Planned.{parts_said, places_said, plan_said, room_said, IsBase};
 
-use crate::places::{Part, Place};
-use crate::planning::Plan;
+use crate::places::{Part, Place, Room};
+use crate::planning::{Plan, whole_room};
 use omf_frame::closing;
 use omf_record::{
     Alignment, Combination, Public, PublicBase, Record, SegmentDefinition, SegmentLength,
@@ -54,41 +54,45 @@ fn length_of(part: &Part) -> SegmentLength
 #[tactic(auto, unfolding(omf_record::specs::View::view))]
 fn put_near<A: Allocator + Copy>(
     alloc: A,
+    room: Room,
     part: &Part,
     out: &mut Vec<u8, A>,
 ) -> Result<(), AllocError>
-    ensures { OnOk result
-        (out.new.items ≡ out.old.items ++ records_bytes (records.near_records (Some part.now.length))) }
+    ensures { OnOk result (out.new.items ≡
+        out.old.items ++ records_bytes (records.near_records (room_said room) (Some part.now.length))) }
 {
     let segment = SegmentDefinition {
         alignment: Alignment::Word,
         combination: Combination::Public2,
         length: length_of(part),
-        name: 2,
-        class: 3,
+        name: room.names + 2,
+        class: room.names + 3,
         overlay: 0,
     };
     put_record(alloc, 0x98, &Record::Segdef { segment }, out)?;
     let mut segments = Vec::new(alloc);
-    segments.push(1)?;
-    put_record(alloc, 0x9A, &Record::Grpdef { name: 1, segments }, out)
+    segments.push(room.segments + 1)?;
+    let name = room.names + 1;
+    put_record(alloc, 0x9A, &Record::Grpdef { name, segments }, out)
 }
 
 /// Appends the SEGDEF of a far segment.
 #[tactic(auto, unfolding(omf_record::specs::View::view))]
 fn put_far<A: Allocator + Copy>(
     alloc: A,
+    room: Room,
     part: &Part,
     out: &mut Vec<u8, A>,
 ) -> Result<(), AllocError>
-    ensures { OnOk result (out.new.items ≡ out.old.items ++ record_bytes (records.far_record part.now.length)) }
+    ensures { OnOk result (out.new.items ≡
+        out.old.items ++ record_bytes (records.far_record (room_said room) part.now.length)) }
 {
     let segment = SegmentDefinition {
         alignment: Alignment::Paragraph,
         combination: Combination::Private,
         length: length_of(part),
-        name: 4,
-        class: 4,
+        name: room.names + 4,
+        class: room.names + 4,
         overlay: 0,
     };
     put_record(alloc, 0x98, &Record::Segdef { segment }, out)
@@ -97,22 +101,31 @@ fn put_far<A: Allocator + Copy>(
 /// Appends the SEGDEFs of the far segments.
 fn put_fars<A: Allocator + Copy>(
     alloc: A,
+    room: Room,
     parts: &[Part],
     out: &mut Vec<u8, A>,
 ) -> Result<(), AllocError>
     ensures { OnOk result (out.new.items ≡
-        out.old.items ++ records_bytes (map records.far_record (parts_said parts.now))) }
+        out.old.items ++ records_bytes (map (records.far_record (room_said room)) (parts_said parts.now))) }
 {
     for part in parts {
-        put_far(alloc, part, out)?;
+        put_far(alloc, room, part, out)?;
     }
     Ok(())
 }
 
-/// Appends the PUBDEF of a name in a segment of a group, or of none where that is 0.
+/// The type of PUBDEF, or of LPUBDEF.
+fn public_type(local: bool) -> u8
+    ensures { result ≡ if local then 0xB6 else 0x90 }
+{
+    if local { 0xB6 } else { 0x90 }
+}
+
+/// Appends the PUBDEF or LPUBDEF of a name in a segment of a group, or of none where that is 0.
 #[tactic(auto, unfolding(omf_record::specs::View::view))]
 fn put_public<A: Allocator + Copy>(
     alloc: A,
+    local: bool,
     name: &[u8],
     base: PublicBase,
     offset: u16,
@@ -120,7 +133,7 @@ fn put_public<A: Allocator + Copy>(
 ) -> Result<(), AllocError>
     requires short { length name.now ≤ 255 }
     requires base { IsBase base }
-    ensures { OnOk result (out.new.items ≡ out.old.items ++ record_bytes (Pubdef false base
+    ensures { OnOk result (out.new.items ≡ out.old.items ++ record_bytes (Pubdef local base
         (record { name = name.now; offset = offset; type_index = 0 } ∷ []))) }
 {
     let mut publics = Vec::new(alloc);
@@ -131,9 +144,9 @@ fn put_public<A: Allocator + Copy>(
     })?;
     put_record(
         alloc,
-        0x90,
+        public_type(local),
         &Record::Pubdef {
-            local: false,
+            local,
             base,
             publics,
         },
@@ -141,21 +154,22 @@ fn put_public<A: Allocator + Copy>(
     )
 }
 
-/// Appends the PUBDEFs of the names of the module.
+/// Appends the PUBDEFs or LPUBDEFs of the names of variables.
 fn put_places<A: Allocator + Copy>(
     alloc: A,
+    local: bool,
     places: &[Place<'_>],
     out: &mut Vec<u8, A>,
 ) -> Result<(), AllocError>
     ensures { OnOk result (out.new.items ≡
-        out.old.items ++ records_bytes (map records.place_record (places_said places.now))) }
+        out.old.items ++ records_bytes (map (records.place_record local) (places_said places.now))) }
 {
     for place in places {
         let base = PublicBase::InSegment {
             group: place.group,
             segment: place.segment,
         };
-        put_public(alloc, place.name, base, place.offset, out)?;
+        put_public(alloc, local, place.name, base, place.offset, out)?;
     }
     Ok(())
 }
@@ -190,39 +204,53 @@ fn put_names<A: Allocator + Copy>(
 /// Appends the near segment and its group, if there is one.
 fn put_nears<A: Allocator + Copy>(
     alloc: A,
+    room: Room,
     near: &Option<Part>,
     out: &mut Vec<u8, A>,
 ) -> Result<(), AllocError>
     ensures { OnOk result (out.new.items ≡ out.old.items
-        ++ records_bytes (records.near_records (option_map (λ p. p.length) near.now))) }
+        ++ records_bytes (records.near_records (room_said room) (option_map (λ p. p.length) near.now))) }
 {
     match near {
-        Some(part) => put_near(alloc, part, out),
+        Some(part) => put_near(alloc, room, part, out),
         None => Ok(()),
     }
 }
 
 /// Appends the records behind the names.
-#[tactic(auto, unfolding(omf_record::specs::View::view))]
-fn put_last<A: Allocator + Copy>(
+fn put_placed<A: Allocator + Copy>(
     alloc: A,
+    local: bool,
+    room: Room,
     plan: &Plan<'_, A>,
     out: &mut Vec<u8, A>,
 ) -> Result<(), AllocError>
-    ensures { OnOk result
-        (out.new.items ≡ out.old.items ++ records_bytes (records.last_records (plan_said plan.now))) }
+    ensures { OnOk result (out.new.items ≡
+        out.old.items ++ records_bytes (records.placed_records local (room_said room) (plan_said plan.now))) }
 {
-    put_nears(alloc, &plan.near, out)?;
-    put_fars(alloc, &plan.far, out)?;
-    put_places(alloc, &plan.places, out)?;
-    let end = Record::Modend {
-        main: false,
-        start: None,
-    };
-    put_record(alloc, 0x8A, &end, out)
+    put_nears(alloc, room, &plan.near, out)?;
+    put_fars(alloc, room, &plan.far, out)?;
+    put_places(alloc, local, &plan.places, out)
 }
 
-/// Appends the records of a plan.
+/// Appends the records of variables, which are local to their module or not.
+pub(crate) fn put_variables<A: Allocator + Copy>(
+    alloc: A,
+    local: bool,
+    in_bss: bool,
+    room: Room,
+    plan: &Plan<'_, A>,
+    out: &mut Vec<u8, A>,
+) -> Result<(), AllocError>
+    ensures { OnOk result (out.new.items ≡
+        out.old.items ++ records_bytes (records.variable_records local in_bss (room_said room) (plan_said plan.now))) }
+{
+    put_names(alloc, b"DGROUP", near_name(in_bss), out)?;
+    put_names(alloc, b"BSS", b"FAR_BSS", out)?;
+    put_placed(alloc, local, room, plan, out)
+}
+
+/// Appends the records of the module that has the variables of a program.
 #[tactic(auto, unfolding(omf_record::specs::View::view))]
 pub(crate) fn put_module<A: Allocator + Copy>(
     alloc: A,
@@ -233,7 +261,10 @@ pub(crate) fn put_module<A: Allocator + Copy>(
     ensures { OnOk result (out.new.items ≡ out.old.items ++ records.module_bytes in_bss (plan_said plan.now)) }
 {
     put_record(alloc, 0x80, &Record::Theadr { name: b"communal" }, out)?;
-    put_names(alloc, b"DGROUP", near_name(in_bss), out)?;
-    put_names(alloc, b"BSS", b"FAR_BSS", out)?;
-    put_last(alloc, plan, out)
+    put_variables(alloc, false, in_bss, whole_room(), plan, out)?;
+    let end = Record::Modend {
+        main: false,
+        start: None,
+    };
+    put_record(alloc, 0x8A, &end, out)
 }

@@ -16,6 +16,6 @@ pub use entries::listed_name;
 pub use fault::{FormatFault, LibraryFault};
 pub use fields::{take_bytes, take_index, take_name};
 pub use files::{FileKind, Member, file_kind, members};
-pub use names::{ModuleNames, module_names, push_listed};
+pub use names::{ModuleNames, module_names, push_listed, push_publics};
 pub use records::{ends_module, module_frames, record_at};
 pub use wanting::wanting_place;

@@ -87,7 +87,7 @@ fn push_offered<'a, A: Allocator + Copy>(
 }
 
 /// Appends the names of a PUBDEF's body, whose offsets have so many bytes.
-fn push_publics<'a, A: Allocator + Copy>(
+pub fn push_publics<'a, A: Allocator + Copy>(
     offset: usize,
     body: &'a [u8],
     offered: &mut Vec<&'a [u8], A>,

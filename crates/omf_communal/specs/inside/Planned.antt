@@ -1,16 +1,18 @@
 -- Plans as the code holds them.
-use Rattle.std.specs.Prelude.{◌≡◌, ℕ, ◌<◌, ◌≤◌, List, length, map, Ok}
+use Rattle.std.specs.Prelude.{◌≡◌, ℕ, ◌<◌, ◌≤◌, true, false, List, length, map, Ok, Option, Some, None}
 use Rattle.std.specs.Option.{option_map}
 use Rattle.omf_communal.specs.declared.planning.Fars.{Fars}
+use Rattle.omf_communal.specs.declared.places.Before.{Before}
 use Rattle.omf_communal.specs.declared.places.Nears.{Nears}
 use Rattle.omf_communal.specs.declared.places.Part.{Part}
 use Rattle.omf_communal.specs.declared.places.Place as lent
+use Rattle.omf_communal.specs.declared.places.Room.{Room}
 use Rattle.omf_communal.specs.declared.planning.Plan as held
 use Rattle.omf_frame.specs.Primitives.{IsBytes}
 use Rattle.omf_record.specs.declared.externals.PublicBase.{PublicBase}
 use Rattle.omf_record.specs.declared.externals.PublicBase.TheVariants.{AtFrame, InSegment}
 use Rattle.omf_communal.specs.Deciding.{Variable}
-use Rattle.omf_communal.specs.Plan.{Place, Plan, far_lengths, far_places, near_end, near_places}
+use Rattle.omf_communal.specs.Plan.{Place, Plan, is_full, far_lengths, far_places, near_end, near_places}
 
 -- a place
 abbrev pub place_said : lent.Place → Place
@@ -32,9 +34,18 @@ plan_said p = record {
   places = places_said p.places.items;
 }
 
+-- what stands before variables
+abbrev pub room_said : Room → Before
+room_said r = record { names = r.names; segments = r.segments; groups = r.groups }
+
+-- the room behind what stands before, if it isn't full
+abbrev pub IsRoom : Before → Option Room → Type 0
+IsRoom before None = is_full before ≡ true
+IsRoom before (Some room) = (is_full before ≡ false) × (room_said room ≡ before)
+
 -- the places of the near ones of these variables
-pub record AreNears {A : Type 0} (vs : List Variable) (n : Nears A) : Type 0 where
-  pub places : near_places 0 0 vs ≡ Ok (places_said n.places.items)
+pub record AreNears {A : Type 0} (before : Before) (vs : List Variable) (n : Nears A) : Type 0 where
+  pub places : near_places before 0 0 vs ≡ Ok (places_said n.places.items)
   pub ends : n.end ≡ near_end 0 vs
 
 -- the segments and places of the far ones, from this segment on
@@ -45,7 +56,7 @@ pub record AreFars {A : Type 0} (first : ℕ) (vs : List Variable) (f : Fars A) 
 -- the indexes of a base are those of a group, or none, and of a segment
 abbrev pub IsBase : PublicBase → Type 0
 IsBase (AtFrame group frame) = ⊥
-IsBase (InSegment group segment) = (group ≤ 1) × (0 < segment) × (segment ≤ 32767)
+IsBase (InSegment group segment) = (group ≤ 32767) × (0 < segment) × (segment ≤ 32767)
 
 -- at most 255 bytes
 abbrev pub IsName : List ℕ → Type 0

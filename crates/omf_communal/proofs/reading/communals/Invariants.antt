@@ -7,5 +7,5 @@ use Rattle.omf_communal.proofs.reading.communals.Given as goal
 
 abbrev pub invariant-loop-frame : goal.invariant-loop-frame
 invariant-loop-frame g l =
-    joined (map plain_communal l.told.items) (records_left l.frame-items l.frame-index)
-    ≡ communals_of (map plain_frame l.frame-items)
+    joined (map plain_communal l.told.items) (records_left l.fn.scope l.frame-items l.frame-index)
+    ≡ communals_of l.fn.scope (map plain_frame l.frame-items)

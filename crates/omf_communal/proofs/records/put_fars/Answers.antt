@@ -1,10 +1,11 @@
 use Rattle.omf_communal.specs.Records.{far_record}
 use Rattle.omf_communal.specs.declared.places.Part.{Part}
+use Rattle.omf_communal.specs.inside.Planned.{room_said}
 use Rattle.omf_communal.proofs.Putting.{put-turn}
 use Rattle.omf_communal.proofs.records.put_fars.Goals as goal
 
 pub loop-part-preserved : goal.loop-part-preserved
 loop-part-preserved g c =
-    put-turn (λ (p : Part). p.length) far_record c.args.parts.now c.loop-part.part-index c.part-item.result
+    put-turn (λ (p : Part). p.length) (far_record (room_said c.args.room)) c.args.parts.now c.loop-part.part-index c.part-item.result
     c.args.out.now.items c.loop-part.out.items _ c.loop-part-test.true c.part-item.is c.loop-part.invariant
     c.in_ok-put_far.ensures

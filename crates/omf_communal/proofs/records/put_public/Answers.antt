@@ -1,4 +1,4 @@
-use Rattle.std.proofs.Common.{◌∙◌, ◌++◌, [], ◌∷◌, ap, map, false, subst, sym, arith}
+use Rattle.std.proofs.Common.{◌∙◌, ◌++◌, [], ◌∷◌, ap, map, subst, sym, arith}
 use Rattle.omf_record.specs.Canonical.{FitsFrame}
 use Rattle.omf_record.specs.Record.{Pubdef}
 use Rattle.omf_record.specs.View.{public_view, view}
@@ -10,7 +10,7 @@ pub put_record-requires-clause-fits : goal.put_record-requires-clause-fits
 unfolding view
 put_record-requires-clause-fits g c =
     let p : Public = record { name = c.args.name; offset = c.args.offset; type_index = 0 } in
-    subst (λ ps. FitsFrame (Pubdef false c.args.base (map public_view ps)))
+    subst (λ ps. FitsFrame (Pubdef c.args.local c.args.base (map public_view ps)))
     (sym (c.in_ok-push.ensures.items ∙ ap (λ ps. ps ++ p ∷ []) c.new-publics.ensures.items))
-    (base_fits c.args.base c.args.offset c.args.name.now c.requires.base (omega arith)
+    (base_fits c.args.local c.args.base c.args.offset c.args.name.now c.requires.base (omega arith)
     (c.requires.short, IsBytes-from c.args.name.now (λ i. omega (arith, c.type_inv.name i))))

@@ -1,0 +1,9 @@
+use Rattle.std.proofs.Common.{◌≡◌, map, take}
+use Rattle.std.specs.List.{flat_map}
+use Rattle.omf_frame.specs.Lending.{plain_frame}
+use Rattle.omf_library.specs.Names.{listed_in, texts}
+use Rattle.omf_communal.proofs.locals.name_count.Given as goal
+
+abbrev pub invariant-loop-frame : goal.invariant-loop-frame
+invariant-loop-frame g l =
+    texts l.names.items ≡ flat_map listed_in (map plain_frame (take l.frame-index l.frames))
