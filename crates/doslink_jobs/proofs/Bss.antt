@@ -19,7 +19,8 @@ use Rattle.doslink_jobs.specs.declared.lowering.LoweredModule.{LoweredModule}
 use Rattle.doslink_jobs.specs.declared.stop.Stop.{Stop}
 use Rattle.doslink_jobs.specs.Orders.{AreRead}
 use Rattle.doslink_jobs.specs.inside.Inputs.{lowered_bytes}
-use Rattle.doslink_jobs.specs.inside.Reading.{IsOfBytes, IsRead, TellsBss}
+use Rattle.doslink_jobs.specs.inside.Reading.{IsOfBytes, IsRead}
+use Rattle.doslink_jobs.specs.Communals.{TellsBss}
 
 -- bytes that are at fault begin with no module
 pub not-module : {A : Type 0} (view : A → Module) (m : Module) (rest : List ℕ) (new : Option (List ℕ)) (f : ModuleFault)

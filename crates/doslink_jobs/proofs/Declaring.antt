@@ -6,6 +6,7 @@ use Rattle.omf_communal.specs.declared.declarations.Variable as variable
 use Rattle.omf_communal.specs.Deciding.{variable_said}
 use Rattle.omf_communal.specs.Modules.{bytes_of}
 use Rattle.omf_communal.specs.Modules as communal
+use Rattle.omf_communal.specs.declared.declarations.Scope.TheVariants as scope
 use Rattle.omf_communal.specs.Reading.{Communal, communals_of, plain_communal}
 use Rattle.omf_library.specs.Records.{module_records, result_and_then}
 use Rattle.omf_search.specs.declared.said.Said.{Said}
@@ -24,7 +25,7 @@ said_with offered cs = record { communals = cs; offered = offered }
 
 -- what a module declares
 pub declared-one : {A : Type 0} (h : Handed A) (cs : List lent.Communal) (offered : List (Bor (List ℕ)))
-    → communals_of (module_records (handed_held h).bytes 0) ≡ Ok (map plain_communal cs)
+    → communals_of scope.Program (module_records (handed_held h).bytes 0) ≡ Ok (map plain_communal cs)
     → offered ≡ h.entry.now.says.offered.items
     → Ok (said_with (bytes_of offered) (map plain_communal cs)) ≡ declared_by (handed_held h)
 declared-one h cs offered is same =

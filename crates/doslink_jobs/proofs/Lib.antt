@@ -6,6 +6,7 @@ pub mod Doing
 pub mod Failures
 pub mod FarData
 pub mod Lists
+pub mod LocalModules
 pub mod Lowered
 pub mod Reading
 pub mod Texts

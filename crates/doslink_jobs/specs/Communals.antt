@@ -1,8 +1,9 @@
 -- The communal variables of a link, and the module that has them.
-use Rattle.std.specs.Prelude.{◌≡◌, ℕ, List, [], map, Ok}
+use Rattle.std.specs.Prelude.{◌≡◌, ℕ, Bool, List, [], map, Ok}
 use Rattle.std.specs.declared.option.Option.{Option}
 use Rattle.std.specs.declared.result.Result.{Result}
 use Rattle.std.specs.List.{list_any}
+use Rattle.omf_communal.specs.declared.declarations.Scope.TheVariants as scope
 use Rattle.omf_communal.specs.declared.fault.CommunalFault.{CommunalFault}
 use Rattle.omf_communal.specs.Answers.{communal_module}
 use Rattle.omf_communal.specs.Bss.{has_bss}
@@ -19,7 +20,7 @@ use Rattle.doslink_jobs.specs.Orders.{AreRead}
 -- the communal variables that a module declares, and the names that it offers; or its first record at fault
 abbrev pub declared_by : Held → Result communal.Module CommunalFault
 declared_by m = result_and_then (λ cs. Ok (record { communals = cs; offered = m.says.offered }))
-    (communals_of (module_records m.bytes 0))
+    (communals_of scope.Program (module_records m.bytes 0))
 
 -- these are the communal variables of modules
 pub record AreVariablesOf (names : Names) (modules : List Held) (vs : List Variable) : Type 0 where
@@ -30,6 +31,10 @@ pub record AreVariablesOf (names : Names) (modules : List Held) (vs : List Varia
 -- what the module of variables says of names: it offers theirs
 abbrev pub offering : List Variable → search.Module
 offering vs = record { wanted = []; offered = map (λ v. v.name) vs }
+
+-- this says whether the modules that inputs begin with have the segment `_BSS` in DGROUP
+abbrev pub TellsBss : (inputs : List (List ℕ)) → Bool → Type 0
+TellsBss inputs in_bss = (read : List Module) → AreRead inputs read → in_bss ≡ list_any has_bss read
 
 -- These bytes are the module of variables for the modules that inputs begin with; there are none where there are no
 -- variables.

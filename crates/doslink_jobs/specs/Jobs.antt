@@ -26,6 +26,7 @@ use Rattle.doslink_stock.specs.Files.{Held, members, objects}
 use Rattle.doslink_telling.specs.Missing.{unmet, wants_marks}
 use Rattle.doslink_jobs.specs.Communals.{AreVariablesOf, IsCommunalModule, offering}
 use Rattle.doslink_jobs.specs.FarData.{TellsFit}
+use Rattle.doslink_jobs.specs.Locals.{HaveLocals}
 use Rattle.doslink_jobs.specs.Orders.{IsOrderModule}
 use Rattle.doslink_files.specs.Files.{AreFound, AreTold, IsFound}
 
@@ -74,18 +75,20 @@ pub record AreLoweredFor (job : Job) (modules inputs : List (List ℕ)) : Type 0
   pub are_lowered : AreLowered lowering (renaming_of job modules) modules inputs
 
 -- A link was done of the modules that it takes: none of their names is missing, those of their communal variables being
--- offered too, and lowered, with the module of these variables behind them and the order module in front of all, where
--- there are these, they have no fault.
+-- offered too, and lowered, each with the variables that are local to it, with the module of communal variables behind
+-- them and the order module in front of all, where there are these, they have no fault.
 pub record IsLinkOf (A : Type 0) (job : Job) (takes : List Held → Type 0) : Type 0 where
   pub modules : List Held
   pub variables : List Variable
+  pub lowered : List (List ℕ)
   pub inputs : List (List ℕ)
   pub communal : Option (List ℕ)
   pub order : Option (List ℕ)
   pub taken : takes modules
   pub are_variables : AreVariablesOf (names_of job.ignore_case) modules variables
   pub met : unmet (names_of job.ignore_case) (map (λ m. m.says) modules ++ offering variables ∷ []) ≡ []
-  pub lowered : AreLoweredFor job (map (λ m. m.bytes) modules) inputs
+  pub are_lowered : AreLoweredFor job (map (λ m. m.bytes) modules) lowered
+  pub have_locals : HaveLocals (names_of job.ignore_case) (map (λ m. m.bytes) modules) lowered inputs
   pub placed : IsCommunalModule inputs variables communal
   pub ordered : IsOrderModule (names_of job.ignore_case)
       (wants_marks (names_of job.ignore_case) (map (λ m. m.says) modules ++ offering variables ∷ []))

@@ -3,14 +3,15 @@ ghost use Rattle.std.specs.Prelude.{◌≡◌, IfOk, Ok, map};
 ghost use Rattle.std.specs.Option.{option_map};
 ghost use Rattle.omf_communal.specs.Bss as bss;
 ghost use Rattle.omf_communal.specs.Deciding.{variable_said};
+ghost use Rattle.omf_communal.specs.Deciding as agreed;
 ghost use Rattle.omf_communal.specs.Modules.{module_said};
 ghost use Rattle.omf_module.specs.Module as spec;
 ghost use Rattle.doslink_stock.specs.Seen.{handed_held};
 ghost use Rattle.doslink_link.specs.Linking.{bytes_of};
-ghost use Rattle.doslink_jobs.specs.Communals.{AreVariablesOf, IsCommunalModule, declared_by};
+ghost use Rattle.doslink_jobs.specs.Communals.{AreVariablesOf, IsCommunalModule, TellsBss, declared_by};
 ghost use Rattle.doslink_jobs.specs.inside.Inputs.{lowered_bytes};
 ghost use Rattle.doslink_jobs.specs.inside.Declaring.{declared_said};
-ghost use Rattle.doslink_jobs.specs.inside.Reading.{IsRead, TellsBss};
+ghost use Rattle.doslink_jobs.specs.inside.Reading.{IsRead};
 
 use crate::lowering::LoweredModule;
 use crate::ordering::pass_unread;
@@ -18,7 +19,7 @@ use crate::stop::{Stop, stop_after};
 use crate::taking::Taken;
 use doslink_telling::{push_clash, push_entry_fault, push_unplaced};
 use omf_communal::{
-    ClashFault, Communal, CommunalFault, Declaring, PlanFault, Variable, communal_module,
+    ClashFault, Communal, CommunalFault, Declaring, PlanFault, Scope, Variable, communal_module,
     communals, has_bss, variables,
 };
 use omf_frame::MemSource;
@@ -35,17 +36,16 @@ pub(crate) struct Declared<'m, 'a, A: Allocator + Copy> {
     pub offered: &'m [&'a [u8]],
 }
 
-/// Tells that a record that declares communal variables is at fault, and stops.
-fn stop_at_entry<A: Allocator + Copy>(
-    taken: &Taken<'_, '_, '_, A>,
-    index: usize,
+/// Tells that a record that declares communal variables is at fault, and stops. The word is that of its module.
+pub(crate) fn stop_at_entry<A: Allocator + Copy>(
+    word: &[u8],
     fault: CommunalFault,
     lines: &mut Vec<u8, A>,
 ) -> Stop {
     let CommunalFault::Malformed { place, fault } = fault else {
         return Stop::Memory;
     };
-    stop_after(push_entry_fault(lines, taken.word(index), place, fault))
+    stop_after(push_entry_fault(lines, word, place, fault))
 }
 
 /// What each module that a link takes declares. The first record at fault is told.
@@ -59,12 +59,12 @@ fn declared_of<'m, 'a, A: Allocator + Copy>(
 {
     let mut all = Vec::new(alloc);
     for each in taken.handed {
-        match communals(alloc, each.entry.bytes) {
+        match communals(alloc, each.entry.bytes, Scope::Program) {
             Ok(communals) => all.push(Declared {
                 communals,
                 offered: each.entry.says.offered.as_slice(),
             })?,
-            Err(fault) => return Err(stop_at_entry(taken, all.len(), fault, lines)),
+            Err(fault) => return Err(stop_at_entry(taken.word(all.len()), fault, lines)),
         }
     }
     Ok(all)
@@ -87,6 +87,26 @@ fn declarings<'d, 'a, A: Allocator + Copy>(
     Ok(all)
 }
 
+/// The variables that modules declare, in order of first meeting. Declarations that clash are told, with the words of
+/// the modules.
+pub(crate) fn agreed_variables<'a, A: Allocator + Copy>(
+    alloc: A,
+    names: Names,
+    declared: &[Declared<'_, 'a, A>],
+    words: &[Vec<u8, A>],
+    lines: &mut Vec<u8, A>,
+) -> Result<Vec<Variable<'a>, A>, Stop>
+    ensures { IfOk result (λ v. agreed.variables names (map declared_said declared.now)
+        ≡ Ok (map variable_said v.items)) }
+{
+    let modules = declarings(alloc, declared)?;
+    match variables(alloc, names, &modules) {
+        Ok(variables) => Ok(variables),
+        Err(ClashFault::Memory) => Err(Stop::Memory),
+        Err(fault) => Err(stop_after(push_clash(alloc, lines, fault, &modules, words))),
+    }
+}
+
 /// The communal variables of the modules that a link takes, in order of first meeting. Declarations that clash are told.
 pub(crate) fn variables_of<'a, A: Allocator + Copy>(
     alloc: A,
@@ -98,12 +118,7 @@ pub(crate) fn variables_of<'a, A: Allocator + Copy>(
         (map variable_said v.items)) }
 {
     let declared = declared_of(alloc, taken, lines)?;
-    let modules = declarings(alloc, &declared)?;
-    match variables(alloc, names, &modules) {
-        Ok(variables) => Ok(variables),
-        Err(ClashFault::Memory) => Err(Stop::Memory),
-        Err(fault) => Err(stop_after(push_clash(alloc, lines, fault, &modules, taken.words))),
-    }
+    agreed_variables(alloc, names, &declared, taken.words, lines)
 }
 
 /// The names of communal variables.
@@ -140,7 +155,7 @@ fn has_bss_in<A: Allocator + Copy>(
 }
 
 /// Whether some lowered module has the segment `_BSS` in DGROUP.
-fn is_in_bss<A: Allocator + Copy>(
+pub(crate) fn is_in_bss<A: Allocator + Copy>(
     alloc: A,
     modules: &[LoweredModule<'_, A>],
     taken: &Taken<'_, '_, '_, A>,

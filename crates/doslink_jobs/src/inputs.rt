@@ -11,6 +11,7 @@ ghost use Rattle.doslink_jobs.specs.Orders.{IsOrderModule};
 ghost use Rattle.doslink_jobs.specs.inside.Inputs.{AreInputsFor, input_list, made_bytes, module_list};
 
 use crate::communals::communal_bytes;
+use crate::locals::with_locals;
 use crate::lowering::{LoweredModule, lower_for, lowered_slices};
 use crate::ordering::{Asked, is_unasked, order_bytes, read_modules};
 use crate::stop::Stop;
@@ -181,8 +182,9 @@ fn asks_dosseg<A: Allocator + Copy>(handed: &[Handed<'_, '_, A>]) -> bool
     handed.iter().any(|each| each.entry.says.dosseg)
 }
 
-/// The modules of a link as they are handed to it: those that it takes, lowered, the module of their communal variables
-/// behind them, and the order module in front of all. Segments of 32 bits are warned of.
+/// The modules of a link as they are handed to it: those that it takes, lowered, with the variables that are local to
+/// each, the module of their communal variables behind them, and the order module in front of all. Segments of 32 bits
+/// are warned of.
 pub(crate) fn inputs_of<'a, A: Allocator + Copy>(
     alloc: A,
     job: &Job<'_>,
@@ -194,13 +196,15 @@ pub(crate) fn inputs_of<'a, A: Allocator + Copy>(
     ensures { IfOk result (λ inputs. AreInputsFor job.now marks (map handed_held taken.now.handed.now)
         (map variable_said variables.now) inputs) }
 {
-    let modules = lower_for(alloc, job, taken, lines)?;
+    let names = options_of(job).names;
+    let lowered = lower_for(alloc, job, taken, lines)?;
+    let modules = with_locals(alloc, names, lowered, taken, lines)?;
     let communal = communal_bytes(alloc, &modules, taken, variables, lines)?;
     let asked = Asked {
         order: &job.order,
         dosseg: asks_dosseg(taken.handed),
         marks,
-        names: options_of(job).names,
+        names,
     };
     let order = order_of(alloc, &modules, &communal, &asked, taken, lines)?;
     warn_of_wide_segments(alloc, job, &modules, taken, lines)?;

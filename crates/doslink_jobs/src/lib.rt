@@ -7,6 +7,7 @@ mod defaults;
 mod directives;
 mod inputs;
 mod linking;
+mod locals;
 mod lowering;
 mod ordering;
 mod paths;

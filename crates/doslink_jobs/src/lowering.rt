@@ -7,7 +7,7 @@ ghost use Rattle.doslink_link.specs.Linking.{bytes_of};
 ghost use Rattle.doslink_jobs.specs.FarData as spec;
 ghost use Rattle.doslink_jobs.specs.FarData.{TellsFit};
 ghost use Rattle.doslink_jobs.specs.Jobs.{AreLowered, AreLoweredFor, IsLoweringFor};
-ghost use Rattle.doslink_jobs.specs.inside.Inputs.{lowered_bytes};
+ghost use Rattle.doslink_jobs.specs.inside.Inputs.{lowered_bytes, own_bytes};
 
 use crate::aliases::{aliases_of, check_aliases};
 use crate::inputs::options_of;
@@ -32,6 +32,9 @@ pub(crate) struct LoweredModule<'a, A: Allocator + Copy> {
     pub own: &'a [u8],
     /// Its lowered bytes, where these are others.
     pub lowered: Option<Vec<u8, A>>,
+    /// The number of the record that ends it, where records stand in front of that which its own bytes haven't; else
+    /// the greatest number.
+    pub end: u64,
 }
 
 impl<A: Allocator + Copy> LoweredModule<'_, A> {
@@ -48,7 +51,7 @@ impl<A: Allocator + Copy> LoweredModule<'_, A> {
     /// The place of a record in the module's own bytes, by that in the bytes that are linked.
     pub(crate) fn own_place(&self, place: u64) -> u64 {
         match &self.lowered {
-            Some(bytes) => record_place(self.own, record_number(bytes, place)),
+            Some(bytes) => record_place(self.own, record_number(bytes, place).min(self.end)),
             None => place,
         }
     }
@@ -81,14 +84,19 @@ pub(crate) fn lower_modules<'a, A: Allocator + Copy>(
     renaming: &Renaming<'_, 'a>,
     lines: &mut Vec<u8, A>,
 ) -> Result<Vec<LoweredModule<'a, A>, A>, Stop>
-    ensures { IfOk result (λ v. AreLowered lowering (renaming_said renaming.now)
+    ensures own { IfOk result (λ v. map own_bytes v.items ≡ map (λ h. (handed_held h).bytes) taken.now.handed.now) }
+    ensures lowered { IfOk result (λ v. AreLowered lowering (renaming_said renaming.now)
         (map (λ h. (handed_held h).bytes) taken.now.handed.now) (map lowered_bytes v.items)) }
 {
     let mut modules = Vec::new(alloc);
     for each in taken.handed {
         let own = each.entry.bytes;
         match lower(alloc, own, lowering, &*renaming) {
-            Ok(lowered) => modules.push(LoweredModule { own, lowered })?,
+            Ok(lowered) => modules.push(LoweredModule {
+                own,
+                lowered,
+                end: u64::MAX,
+            })?,
             Err(fault) => return Err(stop_at_record(taken, modules.len(), own, fault, lines)),
         }
     }
@@ -221,7 +229,8 @@ pub(crate) fn lower_for<'a, A: Allocator + Copy>(
     taken: &Taken<'_, '_, 'a, A>,
     lines: &mut Vec<u8, A>,
 ) -> Result<Vec<LoweredModule<'a, A>, A>, Stop>
-    ensures { IfOk result (λ v. AreLoweredFor job.now (map (λ h. (handed_held h).bytes) taken.now.handed.now)
+    ensures own { IfOk result (λ v. map own_bytes v.items ≡ map (λ h. (handed_held h).bytes) taken.now.handed.now) }
+    ensures lowered { IfOk result (λ v. AreLoweredFor job.now (map (λ h. (handed_held h).bytes) taken.now.handed.now)
         (map lowered_bytes v.items)) }
 {
     let aliases = aliases_of(alloc, taken)?;

@@ -40,6 +40,11 @@ impl<'t, A: Allocator + Copy> Taken<'t, '_, '_, A> {
             None => b"",
         }
     }
+
+    /// The words from that for the module with this index on; none behind the last.
+    pub(crate) fn words_from(&self, index: usize) -> &'t [Vec<u8, A>] {
+        &self.words[index.min(self.words.len())..]
+    }
 }
 
 /// Writes a text to standard output.

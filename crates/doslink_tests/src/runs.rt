@@ -1,6 +1,7 @@
 //! Runs over a world in memory.
 use crate::aliasing::{ALIAS, CALLS, CASE, ROUND};
 use crate::declaring::{BODY, CUT_ELEMENT, END, FAR, LONG, MANY, NEAR, OTHER_SIZE, TABLE};
+use crate::declaring::{LOCAL, LOCAL_CLASH, LOCAL_LONG, LOCAL_START, LOCAL_TABLE};
 use crate::memory::{Desk, Page, Pen};
 use crate::modules::{
     ELSEWHERE, HEADLESS, KEEPS, LIBRARY, LIKE, MARKS, NAMELESS, NAMES, OFFERS, WANTS, WIDE,
@@ -93,6 +94,14 @@ doslink A.OBJ TABLE.OBJ|1||doslink: TABLE.OBJ: 54 DataType at record 8~
 doslink A.OBJ NEAR.OBJ LONG.OBJ|1||doslink: link: 57 NearTooLong \"g\" in LONG.OBJ~
 doslink A.OBJ NEAR.OBJ CUT.OBJ|1||doslink: link: 58 CutElement \"g\" in CUT.OBJ~
 doslink A.OBJ NEAR.OBJ MANY.OBJ|1||doslink: link: 59 TooManySegments \"g\" in MANY.OBJ~
+doslink LOCAL.OBJ|0||
+doslink LOCAL.OBJ LOCAL.OBJ NEAR.OBJ|0||
+doslink LOCAL.OBJ A.OBJ F.OBJ|0||
+doslink LOCAL.OBJ A.OBJ|1||doslink: A.OBJ: \"f\" is missing: record 28 (0000001C), wanted by \"a.c\"~
+doslink LSTART.OBJ|1||doslink: LSTART.OBJ: 27 Unresolved at record 24~
+doslink LOCAL.OBJ LCLASH.OBJ|1||doslink: link: 55 NearAndFar \"f\" in LCLASH.OBJ and LCLASH.OBJ~
+doslink LOCAL.OBJ LLONG.OBJ|1||doslink: link: 57 NearTooLong \"g\" in LLONG.OBJ~
+doslink LOCAL.OBJ LTABLE.OBJ|1||doslink: LTABLE.OBJ: 48 DataType at record 8~
 ";
 
 /// Runs with aliases, in the same form.
@@ -105,6 +114,7 @@ doslink CALLS.OBJ ALIAS.OBJ|1||doslink: ALIAS.OBJ: \"g\" is missing: record 8 (0
 doslink CALLS.OBJ ROUND.OBJ|1||doslink: ROUND.OBJ: 60 EndlessAlias \"f\" at record 8~
 doslink CALLS.OBJ ALIAS.OBJ ROUND.OBJ RUN.LIB|0||
 doslink CALLS.OBJ CASE.OBJ F.OBJ|0||
+doslink -v LOCAL.OBJ ALIAS.OBJ RUN.LIB|0|LOCAL.OBJ~ALIAS.OBJ~RUN.LIB(c.c) for \"g\"~|
 doslink --ignore-case CALLS.OBJ CASE.OBJ F.OBJ|1||doslink: CASE.OBJ: 60 EndlessAlias \"F\" at record 8~
 ";
 
@@ -162,6 +172,11 @@ fn told(alloc: Global, row: &str) -> Result<Vec<u8>, AllocError> {
         ("ALIAS.OBJ", ALIAS.as_slice()),
         ("ROUND.OBJ", ROUND.as_slice()),
         ("CASE.OBJ", CASE.as_slice()),
+        ("LOCAL.OBJ", LOCAL.as_slice()),
+        ("LSTART.OBJ", LOCAL_START.as_slice()),
+        ("LCLASH.OBJ", LOCAL_CLASH.as_slice()),
+        ("LLONG.OBJ", LOCAL_LONG.as_slice()),
+        ("LTABLE.OBJ", LOCAL_TABLE.as_slice()),
     ];
     let written = Page::new(alloc);
     let output_page = Page::new(alloc);

@@ -12,7 +12,12 @@ use Rattle.doslink_jobs.specs.declared.inputs.Inputs.{Inputs}
 use Rattle.doslink_jobs.specs.declared.lowering.LoweredModule.{LoweredModule}
 use Rattle.doslink_jobs.specs.Jobs.{AreLoweredFor, IsLinkOf, names_of}
 use Rattle.doslink_jobs.specs.Communals.{IsCommunalModule}
+use Rattle.doslink_jobs.specs.Locals.{HaveLocals}
 use Rattle.doslink_jobs.specs.Orders.{IsOrderModule}
+
+-- the bytes of the module itself
+abbrev pub own_bytes : {A : Type 0} → LoweredModule A → List ℕ
+own_bytes m = m.own.now
 
 -- the bytes that are linked of a module
 abbrev pub lowered_bytes : {A : Type 0} → LoweredModule A → List ℕ
@@ -33,7 +38,10 @@ input_list inputs = made_bytes inputs.order ++ module_list inputs.modules.items 
 -- these are the inputs for the modules that a link takes, and their communal variables; marks are wanted or not
 pub record AreInputsFor {A : Type 0} (job : Job) (marks : Bool) (modules : List Held) (vs : List Variable)
     (inputs : Inputs A) : Type 0 where
-  pub lowered : AreLoweredFor job (map (λ m. m.bytes) modules) (map lowered_bytes inputs.modules.items)
+  pub lowered : List (List ℕ)
+  pub are_lowered : AreLoweredFor job (map (λ m. m.bytes) modules) lowered
+  pub have_locals : HaveLocals (names_of job.ignore_case) (map (λ m. m.bytes) modules) lowered
+      (map lowered_bytes inputs.modules.items)
   pub placed : IsCommunalModule (map lowered_bytes inputs.modules.items) vs (option_map (λ v. v.items) inputs.communal)
   pub ordered : IsOrderModule (names_of job.ignore_case) marks (list_any (λ m. m.dosseg) modules) (order_of job.order)
       (module_list inputs.modules.items inputs.communal) (option_map (λ v. v.items) inputs.order)

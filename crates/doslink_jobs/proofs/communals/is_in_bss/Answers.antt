@@ -3,7 +3,8 @@ use Rattle.std.proofs.lemmas.List.{take_all}
 use Rattle.omf_communal.specs.Bss.{has_bss}
 use Rattle.omf_module.specs.Module.{Module}
 use Rattle.doslink_jobs.specs.inside.Inputs.{lowered_bytes}
-use Rattle.doslink_jobs.specs.inside.Reading.{IsRead, TellsBss}
+use Rattle.doslink_jobs.specs.inside.Reading.{IsRead}
+use Rattle.doslink_jobs.specs.Communals.{TellsBss}
 use Rattle.doslink_jobs.proofs.Bss.{TellsBss-next, none-yet, or-else, or-then}
 use Rattle.doslink_jobs.proofs.communals.is_in_bss.Goals as goal
 use Rattle.doslink_jobs.proofs.communals.is_in_bss.Goals.{then-found, else-found}

@@ -1,6 +1,6 @@
 use Rattle.std.proofs.Common.{map, take}
 use Rattle.doslink_jobs.specs.inside.Inputs.{lowered_bytes}
-use Rattle.doslink_jobs.specs.inside.Reading.{TellsBss}
+use Rattle.doslink_jobs.specs.Communals.{TellsBss}
 use Rattle.doslink_jobs.proofs.communals.is_in_bss.Given as goal
 
 abbrev pub invariant-loop-index : goal.invariant-loop-index

@@ -6,6 +6,7 @@ use Rattle.doslink_stock.specs.Seen.{handed_held}
 use Rattle.doslink_words.specs.Said.{order_of}
 use Rattle.doslink_jobs.specs.Communals.{IsCommunalModule}
 use Rattle.doslink_jobs.specs.Jobs.{AreLoweredFor, names_of}
+use Rattle.doslink_jobs.specs.Locals.{HaveLocals}
 use Rattle.doslink_jobs.specs.inside.Inputs.{lowered_bytes, module_list}
 use Rattle.doslink_jobs.proofs.Lists.{map-map}
 use Rattle.doslink_jobs.proofs.Reading.{order-for}
@@ -15,11 +16,19 @@ pub returns : goal.returns
 returns g c =
     let job = c.args.job.now in
     let handed = c.args.taken.now.handed.now in
+    let lowered = c.in_ok-lowered.lowered.items in
     let modules = c.in_ok-modules.modules.items in
     record {
-      lowered =
-          subst (λ ms. AreLoweredFor job ms (map lowered_bytes modules)) (map-map handed_held (λ m. m.bytes) handed)
-          c.in_ok-modules.ensures;
+      lowered = map lowered_bytes lowered;
+      are_lowered =
+          subst (λ ms. AreLoweredFor job ms (map lowered_bytes lowered)) (map-map handed_held (λ m. m.bytes) handed)
+          c.in_ok-lowered.ensures.lowered;
+      have_locals =
+          subst (λ names. HaveLocals names (map (λ m. m.bytes) (map handed_held handed)) (map lowered_bytes lowered)
+          (map lowered_bytes modules)) c.options_of.ensures
+          (subst (λ own. HaveLocals c.options_of.result.names own (map lowered_bytes lowered)
+          (map lowered_bytes modules)) (c.in_ok-lowered.ensures.own ∙ map-map handed_held (λ m. m.bytes) handed)
+          c.in_ok-modules.ensures);
       placed = subst (λ ms. IsCommunalModule (map lowered_bytes ms) (map variable_said c.args.variables.now)
           (option_map (λ v. v.items) c.in_ok-communal.communal)) c.deref.ensures.value c.in_ok-communal.ensures;
       ordered = order-for (option_map (λ v. v.items) c.in_ok-order.order) (order_of job.order)

@@ -6,8 +6,8 @@ use Rattle.doslink_jobs.specs.inside.Inputs.{lowered_bytes}
 use Rattle.doslink_jobs.proofs.Lowered.{lowered-for, renaming-is}
 use Rattle.doslink_jobs.proofs.lowering.lower_for.Goals as goal
 
-pub returns : goal.returns
-returns g c =
+pub returns-clause-lowered : goal.returns-clause-lowered
+returns-clause-lowered g c =
     let job = c.args.job.now in
     let modules = map (λ h. (handed_held h).bytes) c.args.taken.now.handed.now in
     let same =
@@ -17,4 +17,4 @@ returns g c =
     (λ v are.
     lowered-for job modules (map lowered_bytes v.items) c.in_ok-lowering.lowering _ same c.in_ok-lowering.ensures
     c.in_ok-check_aliases.ensures are)
-    c.lower_modules.ensures
+    c.lower_modules.ensures.lowered

@@ -1,15 +1,23 @@
 use Rattle.std.proofs.Common.{sym, ap, ◌∙◌}
 use Rattle.omf_alias.specs.Said.{renaming_said}
 use Rattle.omf_lower.specs.Module.{lowered}
+use Rattle.doslink_stock.proofs.Walks.{map-step}
 use Rattle.doslink_stock.specs.Seen.{handed_held}
+use Rattle.doslink_jobs.specs.inside.Inputs.{own_bytes}
 use Rattle.doslink_jobs.proofs.Lowered.{answer-lowered, lowered-next}
 use Rattle.doslink_jobs.proofs.lowering.lower_modules.Goals as goal
 
 pub loop-each-preserved : goal.loop-each-preserved
-loop-each-preserved g c =
-    lowered-next c.args.lowering (renaming_said c.args.renaming.now) c.args.taken.now.handed.now c.loop-each.each-index
-    c.each-item.result
-    c.loop-each.modules.items c.push.new.self.items _ c.loop-each-test.true c.loop-each.invariant
-    (ap (λ h. lowered c.args.lowering (renaming_said c.args.renaming.now) (handed_held h).bytes) (sym c.each-item.is)
-    ∙ answer-lowered _ _ c.in-Ok.lowered c.in-Ok.ensures)
-    c.in_ok-push-in-Ok.ensures.items
+loop-each-preserved g c = record {
+  own =
+      map-step own_bytes (λ h. (handed_held h).bytes) c.args.taken.now.handed.now c.loop-each.each-index
+      c.each-item.result c.loop-each.modules.items c.push.new.self.items _ c.loop-each-test.true
+      c.in_ok-push-in-Ok.ensures.items (ap (λ h. (handed_held h).bytes) c.each-item.is) c.loop-each.invariant.own;
+  lowered =
+      lowered-next c.args.lowering (renaming_said c.args.renaming.now) c.args.taken.now.handed.now
+      c.loop-each.each-index c.each-item.result
+      c.loop-each.modules.items c.push.new.self.items _ c.loop-each-test.true c.loop-each.invariant.lowered
+      (ap (λ h. lowered c.args.lowering (renaming_said c.args.renaming.now) (handed_held h).bytes) (sym c.each-item.is)
+      ∙ answer-lowered _ _ c.in-Ok.lowered c.in-Ok.ensures)
+      c.in_ok-push-in-Ok.ensures.items;
+}

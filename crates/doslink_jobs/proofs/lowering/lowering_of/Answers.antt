@@ -16,7 +16,7 @@ returns g c = record {
   debug = refl;
   packed = λ packs. (
     map lowered_bytes c.in_ok-modules.modules.items,
-    c.in_ok-modules.ensures,
+    c.in_ok-modules.ensures.lowered,
     subst (λ ms. TellsFit (map lowered_bytes ms) c.in_ok-shares_far_data.shares_far_data) c.deref.ensures.value
         c.in_ok-shares_far_data.ensures,
   );

@@ -1,0 +1,66 @@
+-- The variables that are local to modules, one module after the other.
+use Rattle.std.proofs.Common.{◌≡◌, ℕ, ◌+◌, ◌<◌, Bool, List, [], ◌∷◌, ◌++◌, map, take, length, get_or, Ok}
+use Rattle.std.proofs.Common.{refl, sym, ap, subst, ◌∙◌}
+use Rattle.std.specs.List.{AllByRecursion}
+use Rattle.std.proofs.lemmas.List.{map-append, take_more}
+use Rattle.omf_communal.specs.declared.declarations.Scope.TheVariants as scope
+use Rattle.omf_communal.specs.Deciding.{Variable}
+use Rattle.omf_communal.specs.Locals.{local_module}
+use Rattle.omf_communal.specs.Reading.{communals_of}
+use Rattle.omf_library.specs.Records.{module_records}
+use Rattle.omf_place.specs.declared.names.Names.{Names}
+use Rattle.doslink_jobs.specs.declared.communals.Declared.{Declared}
+use Rattle.doslink_jobs.specs.declared.lowering.LoweredModule.{LoweredModule}
+use Rattle.doslink_jobs.specs.Communals.{TellsBss}
+use Rattle.doslink_jobs.specs.Locals.{EachHasLocals, HasLocals, IsPlaced}
+use Rattle.doslink_jobs.specs.inside.Declaring.{DeclareNone, declared_said}
+use Rattle.doslink_jobs.specs.inside.Inputs.{lowered_bytes, own_bytes}
+
+-- one module more
+pub each-more : (names : Names) (all os ls bs : List (List ℕ)) (o l b : List ℕ) → EachHasLocals names all os ls bs
+    → HasLocals names all o l b → EachHasLocals names all (os ++ o ∷ []) (ls ++ l ∷ []) (bs ++ b ∷ [])
+each-more names all [] [] [] o l b e h = (h, tt)
+each-more names all [] [] (z ∷ bs) o l b e h = absurd e
+each-more names all [] (y ∷ ls) bs o l b e h = absurd e
+each-more names all (x ∷ os) [] bs o l b e h = absurd e
+each-more names all (x ∷ os) (y ∷ ls) [] o l b e h = absurd e
+each-more names all (x ∷ os) (y ∷ ls) (z ∷ bs) o l b e h = (e.0, each-more names all os ls bs o l b e.1 h)
+
+-- where no module declares one, each is the same
+pub none-declared : {A : Type 0} (names : Names) (all : List (List ℕ)) (modules : List (LoweredModule A))
+    → DeclareNone (map own_bytes modules)
+    → EachHasLocals names all (map own_bytes modules) (map lowered_bytes modules) (map lowered_bytes modules)
+none-declared names all [] none = tt
+none-declared names all (m ∷ ms) none =
+    let here : HasLocals names all (own_bytes m) (lowered_bytes m) (lowered_bytes m) =
+    record { declared = []; variables = []; are_declared = none.0; agreed = refl; placed = refl } in
+    (here, none-declared names all ms none.1)
+
+-- where variables stand, where there are some
+pub is-placed : (all : List (List ℕ)) (in_bss : Bool) (vs : List Variable) (lowered linked : List ℕ)
+    → TellsBss all in_bss → local_module in_bss vs lowered ≡ Ok linked → IsPlaced all vs lowered linked
+is-placed all in_bss [] lowered linked tells e = let is : lowered ≡ linked = cc in sym is
+is-placed all in_bss (v ∷ vs) lowered linked tells e = (in_bss, tells, e)
+
+All-push : {X : Type 0} (P : X → Type 0) (xs : List X) (x : X) → AllByRecursion P xs → P x
+    → AllByRecursion P (xs ++ x ∷ [])
+All-push P [] x h p = (p, tt)
+All-push P (y ∷ xs) x h p = (h.0, All-push P xs x h.1 p)
+
+-- no module so far declares one, nor does the next
+pub none-more : {A : Type 0} (modules : List (LoweredModule A)) (i : ℕ) (d : LoweredModule A) → i < length modules
+    → d ≡ get_or modules i d
+    → DeclareNone (map own_bytes (take i modules))
+    → communals_of scope.Module (module_records (own_bytes d) 0) ≡ Ok []
+    → DeclareNone (map own_bytes (take (i + 1) modules))
+none-more modules i d h is before here =
+    subst DeclareNone
+    (sym (map-append own_bytes (take i modules) (d ∷ []))
+    ∙ sym (ap (map own_bytes) (take_more modules i d h ∙ ap (λ y. take i modules ++ y ∷ []) (sym is))))
+    (All-push (λ bytes. communals_of scope.Module (module_records bytes 0) ≡ Ok []) (map own_bytes (take i modules))
+    (own_bytes d) before here)
+
+-- what one module alone declares
+pub said-alone : {A : Type 0} (old new : List (Declared A)) (d : Declared A) → new ≡ old ++ d ∷ [] → old ≡ []
+    → map declared_said new ≡ declared_said d ∷ []
+said-alone old new d pushed none = ap (map declared_said) (pushed ∙ ap (λ l. l ++ d ∷ []) none)

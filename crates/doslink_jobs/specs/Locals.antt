@@ -1,0 +1,35 @@
+-- The variables that are local to the modules of a link.
+use Rattle.std.specs.Prelude.{◌≡◌, ℕ, Bool, List, [], ◌∷◌, Ok}
+use Rattle.omf_communal.specs.declared.declarations.Scope.TheVariants as scope
+use Rattle.omf_communal.specs.Deciding.{Variable}
+use Rattle.omf_communal.specs.Locals.{local_module, local_variables}
+use Rattle.omf_communal.specs.Reading.{Communal, communals_of}
+use Rattle.omf_library.specs.Records.{module_records}
+use Rattle.omf_place.specs.declared.names.Names.{Names}
+use Rattle.doslink_jobs.specs.Communals.{TellsBss}
+
+-- A lowered module, one of these, with variables that are local to it: the same, where there are none. Near ones stand
+-- in `_BSS` where one of the lowered modules has that in DGROUP.
+abbrev pub IsPlaced : (all : List (List ℕ)) → List Variable → (lowered linked : List ℕ) → Type 0
+IsPlaced all [] lowered linked = linked ≡ lowered
+IsPlaced all (v ∷ vs) lowered linked =
+    (in_bss : Bool) × TellsBss all in_bss × (local_module in_bss (v ∷ vs) lowered ≡ Ok linked)
+
+-- a lowered module, one of these, with the variables that the module itself declares as local to it
+pub record HasLocals (names : Names) (all : List (List ℕ)) (own lowered linked : List ℕ) : Type 0 where
+  pub declared : List Communal
+  pub variables : List Variable
+  pub are_declared : communals_of scope.Module (module_records own 0) ≡ Ok declared
+  pub agreed : local_variables names declared lowered ≡ Ok variables
+  pub placed : IsPlaced all variables lowered linked
+
+-- so has each
+abbrev pub EachHasLocals : Names → (all own lowered linked : List (List ℕ)) → Type 0
+EachHasLocals names all [] [] [] = Unit {0}
+EachHasLocals names all (own ∷ owns) (lowered ∷ more) (linked ∷ rest) =
+    HasLocals names all own lowered linked × EachHasLocals names all owns more rest
+EachHasLocals names all _ _ _ = ⊥
+
+-- these are lowered modules with the variables that each module itself declares as local to it
+abbrev pub HaveLocals : Names → (own lowered linked : List (List ℕ)) → Type 0
+HaveLocals names own lowered linked = EachHasLocals names lowered own lowered linked

@@ -1,0 +1,130 @@
+//! The variables that are local to the modules of a link.
+ghost use Rattle.std.specs.Prelude.{◌≡◌, ℕ, false, List, IfOk, Ok, map};
+ghost use Rattle.std.specs.Option.{option_map_or};
+ghost use Rattle.omf_communal.specs.declared.declarations.Scope.TheVariants as scope;
+ghost use Rattle.omf_communal.specs.Reading.{communals_of, plain_communal};
+ghost use Rattle.omf_library.specs.Records.{module_records};
+ghost use Rattle.doslink_jobs.specs.Locals.{HasLocals, HaveLocals};
+ghost use Rattle.doslink_jobs.specs.Communals.{TellsBss};
+ghost use Rattle.doslink_jobs.specs.inside.Inputs.{lowered_bytes, own_bytes};
+ghost use Rattle.doslink_jobs.specs.inside.Declaring.{DeclareNone};
+
+use crate::communals::{Declared, agreed_variables, is_in_bss, stop_at_entry};
+use crate::lowering::LoweredModule;
+use crate::stop::{Stop, stop_after};
+use crate::taking::Taken;
+use doslink_telling::push_unplaced;
+use omf_communal::{Communal, PlanFault, Scope, communals, local_module, local_names};
+use omf_library::module_frames;
+use omf_place::Names;
+use std::alloc::{AllocError, Allocator};
+
+/// The variables that a module declares as local to it. Its first record at fault is told.
+fn declared_in<'a, A: Allocator + Copy>(
+    alloc: A,
+    own: &'a [u8],
+    word: &[u8],
+    lines: &mut Vec<u8, A>,
+) -> Result<Vec<Communal<'a>, A>, Stop>
+    ensures { IfOk result (λ v.
+        communals_of scope.Module (module_records own.now 0) ≡ Ok (map plain_communal v.items)) }
+{
+    match communals(alloc, own, Scope::Module) {
+        Ok(declared) => Ok(declared),
+        Err(fault) => Err(stop_at_entry(word, fault, lines)),
+    }
+}
+
+/// Whether some module declares variables that are local to it.
+fn declare_some<A: Allocator + Copy>(
+    alloc: A,
+    modules: &[LoweredModule<'_, A>],
+    taken: &Taken<'_, '_, '_, A>,
+    lines: &mut Vec<u8, A>,
+) -> Result<bool, Stop>
+    ensures { IfOk result (λ some. some ≡ false → DeclareNone (map own_bytes modules.now)) }
+{
+    for (index, one) in modules.iter().enumerate() {
+        let declared = declared_in(alloc, one.own, taken.word(index), lines)?;
+        if !declared.is_empty() {
+            return Ok(true);
+        }
+    }
+    Ok(false)
+}
+
+/// The bytes that are linked of a lowered module, where those with the variables that are local to it are others. A
+/// variable that has no place is told. The words are those of this module and others behind it.
+fn linked_bytes<A: Allocator + Copy>(
+    alloc: A,
+    names: Names,
+    in_bss: bool,
+    one: &LoweredModule<'_, A>,
+    words: &[Vec<u8, A>],
+    lines: &mut Vec<u8, A>,
+) -> Result<Option<Vec<u8, A>>, Stop>
+    ensures { IfOk result (λ o. (all : List (List ℕ)) → TellsBss all in_bss →
+        HasLocals names all (own_bytes one.now) (lowered_bytes one.now)
+        (option_map_or (λ v. v.items) o (lowered_bytes one.now))) }
+{
+    let word = match words.first() {
+        Some(word) => word.as_slice(),
+        None => b"",
+    };
+    let publics = local_names(alloc, one.bytes())?;
+    let mut declared = Vec::new(alloc);
+    declared.push(Declared {
+        communals: declared_in(alloc, one.own, word, lines)?,
+        offered: publics.as_slice(),
+    })?;
+    let variables = agreed_variables(alloc, names, &declared, words, lines)?;
+    match local_module(alloc, one.bytes(), &variables, in_bss) {
+        Ok(bytes) => Ok(bytes),
+        Err(PlanFault::Memory) => Err(Stop::Memory),
+        Err(fault) => Err(stop_after(push_unplaced(alloc, lines, fault, &variables, words))),
+    }
+}
+
+/// A lowered module with these bytes in place of its own, where there are some. Records stand in front of the one that
+/// ends it.
+fn relinked<'a, A: Allocator + Copy>(
+    alloc: A,
+    one: LoweredModule<'a, A>,
+    bytes: Option<Vec<u8, A>>,
+) -> Result<LoweredModule<'a, A>, AllocError>
+    ensures { IfOk result (λ m. lowered_bytes m ≡ option_map_or (λ v. v.items) bytes (lowered_bytes one.entry)) }
+{
+    let Some(bytes) = bytes else {
+        return Ok(one);
+    };
+    let records = module_frames(alloc, one.own)?;
+    Ok(LoweredModule {
+        own: one.own,
+        lowered: Some(bytes),
+        end: records.len().saturating_sub(1) as u64,
+    })
+}
+
+/// Lowered modules with the variables that each itself declares as local to it. A variable that has no place is told.
+pub(crate) fn with_locals<'a, A: Allocator + Copy>(
+    alloc: A,
+    names: Names,
+    modules: Vec<LoweredModule<'a, A>, A>,
+    taken: &Taken<'_, '_, 'a, A>,
+    lines: &mut Vec<u8, A>,
+) -> Result<Vec<LoweredModule<'a, A>, A>, Stop>
+    ensures { IfOk result (λ v. HaveLocals names (map own_bytes modules.entry.items)
+        (map lowered_bytes modules.entry.items) (map lowered_bytes v.items)) }
+{
+    if !declare_some(alloc, &modules, taken, lines)? {
+        return Ok(modules);
+    }
+    let in_bss = is_in_bss(alloc, &modules, taken, lines)?;
+    let mut all = Vec::new(alloc);
+    for one in modules {
+        let words = taken.words_from(all.len());
+        let bytes = linked_bytes(alloc, names, in_bss, &one, words, lines)?;
+        all.push(relinked(alloc, one, bytes)?)?;
+    }
+    Ok(all)
+}
