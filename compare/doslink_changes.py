@@ -324,7 +324,8 @@ LOWERING = [
            "return is_wide and linked.body[2:] != b\"\" and (\n"
            "        linked.body[0] & BIG != 0 or any(linked.body[1:3]))", "return is_wide"),
     Change("32-bit segments of debuggers are told", "lowering.py",
-           "whole_frames(lowered_content)))", "whole_frames(content)))"),
+           "whole_frames(content), whole_frames(lowered_content)))",
+           "whole_frames(content), whole_frames(content)))"),
     Change("what can't be lowered is told at the place behind it", "lowering.py",
            "raise Fault(obstacle.number, owner, place)",
            "raise Fault(obstacle.number, owner, frame.behind)"),
@@ -365,8 +366,8 @@ ALIASES = [
 ]
 
 COMMUNAL = [
-    Change("local variables are made", "communal.py",
-           "frame.kind == COMMUNAL_VARIABLES", "frame.kind in (COMMUNAL_VARIABLES, 0xB8)"),
+    Change("local variables are made for all", "communal.py",
+           "frame.kind == kind", "frame.kind in (kind, 0xB8)"),
     Change("variables are never made", "communal.py",
            "    if not found:\n        return None\n", "    return None\n"),
     Change("near is far", "communal.py", "FAR, NEAR = 0x61, 0x62", "FAR, NEAR = 0x62, 0x61"),
@@ -546,6 +547,45 @@ COMMUNAL = [
            "                continue\n"),
 ]
 
+LOCAL = [
+    Change("local variables stand in their module nowhere", "local.py",
+           "    if not found or home.end is None:\n", "    if True:\n"),
+    Change("local variables are known to all", "local.py",
+           "return records.LocalPublicNames(", "return records.PublicNames("),
+    Change("a local public doesn't win", "local.py",
+           "{key(name) for name in home.publics}", "set()"),
+    Change("a public wins over a local variable", "local.py",
+           "{key(name) for name in home.publics}",
+           "{key(name) for name in home.publics + each.names.offered}"),
+    Change("a local public of another spelling doesn't win", "local.py",
+           "{key(name) for name in home.publics}", "set(home.publics)"),
+    Change("names of local variables count from the first", "local.py",
+           "names, segments, groups = home.names,", "names, segments, groups = 0,"),
+    Change("segments of local variables count from the first", "local.py",
+           "home.names, home.segments, home.groups\n", "home.names, 0, home.groups\n"),
+    Change("the group of local variables is the first", "local.py",
+           "home.names, home.segments, home.groups\n", "home.names, home.segments, 0\n"),
+    Change("near local variables have no group", "local.py",
+           "local_public(groups, segments, place", "local_public(0, segments, place"),
+    Change("near local variables are private", "local.py",
+           "segment(WORD, PUBLIC, end", "segment(WORD, PRIVATE, end"),
+    Change("far local variables combine", "local.py",
+           "segment(PARAGRAPH, PRIVATE, length", "segment(PARAGRAPH, PUBLIC, length"),
+    Change("far local variables stand in one segment", "local.py",
+           "local_public(0, segments + 1, 0", "local_public(0, home.segments + 1, 0"),
+    Change("near local variables are always of _BSS", "local.py",
+           "NEAR_NAME if any(map(has_near_segment, contents)) else OWN_NEAR_NAME", "NEAR_NAME"),
+    Change("a module's own _BSS counts for its local variables", "local.py",
+           "        with_own(each, content, near_name, key) for",
+           "        with_own(\n"
+           "            each, content,\n"
+           "            NEAR_NAME if has_near_segment(content) else OWN_NEAR_NAME, key)\n"
+           "        for"),
+    Change("faults in records of local variables are told at their place", "lowering.py",
+           "    number = min(number, own - 1) if own < linked else number\n", ""),
+]
+
+
 LINKING = [
     Change("a library among FILES comes behind those of -l", "linking.py",
            "            self.add(self.found(name, self.job.folders) or name)\n",
@@ -719,4 +759,5 @@ DIRECTIVES = [
 ]
 
 CHANGES = [
-    *LIBRARIES, *NAMES, *SEARCH, *ORDER, *LOWERING, *ALIASES, *COMMUNAL, *LINKING, *DIRECTIVES]
+    *LIBRARIES, *NAMES, *SEARCH, *ORDER, *LOWERING, *ALIASES, *COMMUNAL, *LOCAL, *LINKING,
+    *DIRECTIVES]

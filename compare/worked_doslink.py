@@ -2,14 +2,14 @@
 
 The model must give them. They are what the rules say of libraries, of the names of a module, of
 what is taken for them, of the module that fixes an order, of modules that are lowered, of communal
-variables, of aliases, and of directives.
+variables, also local ones, of aliases, and of directives.
 """
 
 import functools
 
 from model import (
-    aliases, communal, directives, libraries, linking, lowering, module, names, ordering, records,
-    search)
+    aliases, communal, directives, libraries, linking, local, lowering, module, names, ordering,
+    records, search)
 from model.directives import Job
 from model.faults import Fault
 from model.names import Names
@@ -679,6 +679,35 @@ RENAMED = [
      [(0x8C, "0178 00 0261")]),
 ]
 
+# What modules declare as local, what they are lowered to, and what then stands behind the records
+# of that in front of its end; or the fault's line.
+END = (0x8A, "00")
+HOME = [
+    (0x80, "0141"), (0x96, "00 04434F4445"), (0x98, "28 0200 02 02 01"), (0xB4, "0178 00")]
+LOCAL_NAMES = [
+    (0x96, "06 4447524F5550  08 635F636F6D6D6F6E"), (0x96, "03 425353  07 4641525F425353")]
+LOCALS = [
+    ("behind the module's own", "0178 00 62 05  0179 00 61 03 02", HOME, [
+        *LOCAL_NAMES, (0x98, "48 0500 04 05 00"), (0x9A, "03 FF 02"), (0x98, "60 0600 06 06 00"),
+        (0xB6, "01 02 0178 0000 00"), (0xB6, "00 03 0179 0000 00")]),
+    ("the greatest length", "0178 00 62 05  0178 00 62 09", HOME, [
+        *LOCAL_NAMES, (0x98, "48 0900 04 05 00"), (0x9A, "03 FF 02"),
+        (0xB6, "01 02 0178 0000 00")]),
+    ("by indexes of two bytes", "0178 00 62 02", [(0x80, "0141"), (0x96, "00" * 127)], [
+        *LOCAL_NAMES, (0x98, "48 0200 8081 8082 00"), (0x9A, "8080 FF 01"),
+        (0xB6, "01 01 0178 0000 00")]),
+    ("a local public wins", "0178 00 62 02", [*HOME, (0xB6, "00 01 0178 0000 00")], []),
+    ("a public doesn't", "0178 00 61 02 01", [*HOME, (0x90, "00 01 0178 0000 00")], [
+        *LOCAL_NAMES, (0x98, "60 0200 06 06 00"), (0xB6, "00 02 0178 0000 00")]),
+    ("near and far", "0178 00 62 02  0178 00 61 02 01", HOME,
+     "link: 55 NearAndFar \"x\" in a and a"),
+    ("too long", "0178 00 62 84010001", HOME, "link: 57 NearTooLong \"x\" in a"),
+    ("the last index", "0178 00 61 01 01", [(0x80, "0141"), (0x96, "00" * 32_763)], [
+        *LOCAL_NAMES, (0x98, "60 0100 FFFF FFFF 00"), (0xB6, "00 01 0178 0000 00")]),
+    ("no index left", "0178 00 61 01 01", [(0x80, "0141"), (0x96, "00" * 32_764)],
+     "link: 59 TooManySegments \"x\" in a"),
+]
+
 # the lengths of segments of far data, and whether they share a frame
 FITTING = [([65_536], True), ([65_521], True), ([65_520, 16], True), ([65_520, 17], False)]
 
@@ -850,6 +879,21 @@ def check_communals():
         assert communal.has_near_segment(content) == wanted, title
 
 
+def local_answer(body, home):
+    """The bytes of a module with the variables that this LCOMDEF declares, or the fault's line."""
+    declaring = linking.Module("a", framed([(0xB8, body)]), Names())
+    try:
+        return local.with_locals([declaring], [framed([*home, END])], search.agreed(False))[0]
+    except Fault as fault:
+        return fault.line().partition(": ")[2].strip()
+
+
+def check_locals():
+    for title, body, home, wanted in LOCALS:
+        wanted = wanted if isinstance(wanted, str) else framed([*home, *wanted, END])
+        assert local_answer(body, home) == wanted, title
+
+
 def module_of_bytes(length):
     """A module of far data of a length, which is big where it is 65,536."""
     return framed([
@@ -880,5 +924,6 @@ def check():
     check_lowering()
     check_aliases()
     check_communals()
+    check_locals()
     check_directives()
     check_links()

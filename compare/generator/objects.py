@@ -256,13 +256,13 @@ class ObjectMaker:
             self.add(records.ExternalNames(part, [0] * len(part)))
 
     def define_communals(self):
-        """Some of the plan's communal variables in one record or two, rarely local ones."""
+        """Some of the plan's communal variables in one record or two, at times local ones."""
         known = self.plan.communals
         names = self.random.sample(known, self.random.randrange(1, len(known) + 1))
         names += [self.random.choice(names)] if self.happens(0.05) else []
         half = self.random.randrange(len(names) + 1)
         for part in filter(None, (names[:half], names[half:])):
-            is_local = self.happens(0.06)
+            is_local = self.happens(0.15)
             part = [self.other_case(name) for name in part]
             entries = [
                 communals.usual_entry(self.random, name, self.spelling.index(0)) for name in part]
@@ -292,7 +292,7 @@ class ObjectMaker:
     def define_local_names(self):
         """Names that other modules don't see."""
         if self.happens(0.15):
-            name = self.random.choice([*self.plan.names, *MARKS])
+            name = self.random.choice([*self.plan.names, *self.plan.communals, *MARKS])
             self.add(records.LocalPublicNames(0, 1, None, [PublicName(name, 0, 0)]))
             if self.happens(0.5):
                 # no data wants it, so that the numbers of others stay

@@ -93,11 +93,11 @@ def extent(entries):
     raise OtherType
 
 
-def declarations(content, word):
+def declarations(content, word, kind=COMMUNAL_VARIABLES):
     """What the records of a module declare, or the fault of the first that can't be read."""
     place = 0
     for frame in whole_frames(content):
-        entries = Entries(frame.body if frame.kind == COMMUNAL_VARIABLES else b"")
+        entries = Entries(frame.body if frame.kind == kind else b"")
         try:
             while entries.has_more():
                 name = entries.name()
@@ -117,6 +117,11 @@ def variables(modules, key):
     """
     declared = [one for each in modules for one in declarations(each.content, each.word)]
     offered = {key(name) for each in modules for name in each.names.offered}
+    return merged(declared, offered, key)
+
+
+def merged(declared, offered, key):
+    """One variable for each name that is declared and not offered, in order of meeting."""
     found = {}
     for each in declared:
         if key(each.name) not in offered:

@@ -9,8 +9,8 @@ from dataclasses import dataclass, replace
 from typing import Optional
 
 from model import (
-    aliases, communal, directives, faults, image, libraries, lowering, module, ordering, printing,
-    program_file, search)
+    aliases, communal, directives, faults, image, libraries, local, lowering, module, ordering,
+    printing, program_file, search)
 from model.commands import Answer, Output
 from model.faults import Fault, escaped, printed_name
 from model.names import Names, names_of, wanting_places
@@ -235,10 +235,12 @@ class Linking:
             yield each.name, line
 
     def linked(self, taken, variables):
-        """The program of the modules as they are lowered, between those that are made."""
+        """The program of the modules as they are lowered, with what is local to each, between those
+        that are made."""
         lowered = lowering.lowered_modules(
             [each.content for each in taken], [each.word for each in taken],
             self.job.keeps_debug, self.job.packs_far_data, aliases.meanings(taken, self.key))
+        lowered = local.with_locals(taken, lowered, self.key)
         behind = made_module(COMMUNAL, communal.communal_module(variables, lowered))
         lowered += [each.content for each in behind]
         before = made_module(ORDER, self.order_module(lowered, taken))

@@ -501,8 +501,13 @@ def record_places(content):
 
 
 def own_place(content, lowered_content, place):
-    """The place in a module of a record that has a place in the module as it was lowered."""
+    """The place in a module of a record that has a place in the module as it is linked.
+
+    Records that were put in front of the end have the place of that.
+    """
     if content == lowered_content:
         return place
     number = list(record_places(lowered_content)).index(place)
+    own, linked = len(list(whole_frames(content))), len(list(whole_frames(lowered_content)))
+    number = min(number, own - 1) if own < linked else number
     return list(record_places(content))[number]
