@@ -18,7 +18,8 @@ use Rattle.omf_communal.proofs.Fitting.{and-parts, both, length-parts, made, mad
 
 -- ---- near ones
 
-one_near : (before : Before) (at index : ℕ) (name : List ℕ) (e : Extent) (ps : List Place) (end : ℕ) (ss : List Sized) (qs : List Place) →
+one_near : (before : Before) (at index : ℕ) (name : List ℕ) (e : Extent) (ps : List Place) (end : ℕ) (ss : List Sized)
+    (qs : List Place) →
     near_place before at index name e ≡ Ok ps →
     NearRow before (near_next at e) end ss qs → NearRow before at end (near_of name e ++ ss) (ps ++ qs)
 one_near before at index name (Far count size) ps end ss qs e h =
@@ -40,7 +41,8 @@ one_near before at index name (Near n) ps end ss qs e h =
     behind : (at n : ℕ) → at ≤ near_start at n
     behind at n = elim (leb n 1) as (λ b. at ≤ cond b at (at + at % 2)) [ true ↦ omega arith | false ↦ omega arith ]
 
-near_row : (before : Before) (at index : ℕ) (vs : List Variable) (ps : List Place) → near_places before at index vs ≡ Ok ps
+near_row : (before : Before) (at index : ℕ) (vs : List Variable) (ps : List Place)
+    → near_places before at index vs ≡ Ok ps
     → NearRow before at (near_end at vs) (nears vs) ps
 near_row before at index [] ps e = let is : [] ≡ ps = cc in subst (NearRow before at at []) is (omega arith)
 near_row before at index (v ∷ vs) ps e =
@@ -50,12 +52,16 @@ near_row before at index (v ∷ vs) ps e =
     (one_near before at index v.name v.extent parts.0 (near_end next vs) (nears vs) parts.1 parts.2
     (near_row before next (index + 1) vs parts.1 parts.3))
 
-near_short : (before : Before) (at index : ℕ) (vs : List Variable) (ps : List Place) → at ≤ 65536 → near_places before at index vs ≡ Ok ps
+near_short : (before : Before) (at index : ℕ) (vs : List Variable) (ps : List Place) → at ≤ 65536
+    → near_places before at index vs ≡ Ok ps
     → near_end at vs ≤ 65536
 near_short before at index [] ps h e = h
 near_short before at index (v ∷ vs) ps h e =
-    let parts = both (near_place before at index v.name v.extent) (near_places before (near_next at v.extent) (index + 1) vs) ps e in
-    near_short before (near_next at v.extent) (index + 1) vs parts.1 (next_short before at index v.name v.extent parts.0 h parts.2)
+    let parts =
+    both (near_place before at index v.name v.extent) (near_places before (near_next at v.extent) (index + 1) vs) ps
+    e in
+    near_short before (near_next at v.extent) (index + 1) vs parts.1
+    (next_short before at index v.name v.extent parts.0 h parts.2)
     parts.3
   where
     next_short : (before : Before) (at index : ℕ) (name : List ℕ) (e : Extent) (ps : List Place) → at ≤ 65536
@@ -65,7 +71,9 @@ near_short before at index (v ∷ vs) ps h e =
         let start = near_start at n in
         (elim (fits_near start n) as (λ b.
         fits_near start n ≡ b
-        → cond b (Ok (record { name = name; group = before.groups + 1; segment = before.segments + 1; offset = start } ∷ [])) (Err (NearTooLong index))
+        → cond b
+        (Ok (record { name = name; group = before.groups + 1; segment = before.segments + 1; offset = start } ∷ []))
+        (Err (NearTooLong index))
         ≡ Ok ps → start + n ≤ 65536) [
           | true ↦ λ t u. leb-true _ _ (and-parts (ltb start 65536) (leb (start + n) 65536) t).1
           | false ↦ λ t u. absurd (cc)

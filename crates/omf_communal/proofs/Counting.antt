@@ -18,7 +18,8 @@ use Rattle.omf_record.specs.Records.{AreBeforeEnd, AreToEnd, Placed, frame_of_re
 use Rattle.omf_library.specs.Entries.{entries, entries_up_to}
 use Rattle.omf_library.specs.Fields.{name_front}
 use Rattle.omf_library.specs.Names.{listed_in}
-use Rattle.omf_library.specs.Records.{ends_module, module_records, place_behind, record_at, record_or_fault, records_up_to}
+use Rattle.omf_library.specs.Records.{ends_module, module_records, place_behind, record_at, record_or_fault}
+use Rattle.omf_library.specs.Records.{records_up_to}
 use Rattle.omf_module.specs.Before.{along_from}
 use Rattle.omf_module.specs.Tables.{groups_in, names, names_in, segments_in}
 use Rattle.omf_communal.specs.Extended.{counted}

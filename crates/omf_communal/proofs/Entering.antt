@@ -100,7 +100,8 @@ left_fault place body rest old now f left h some =
 abbrev pub records_left : Scope → List LentFrame → ℕ → Result (List Communal) CommunalFault
 records_left s frames i = communals_of s (map plain_frame (drop i frames))
 
-records_next : (s : Scope) (frames : List LentFrame) (i : ℕ) (x : LentFrame) → i < length frames → x ≡ get_or frames i x →
+records_next : (s : Scope) (frames : List LentFrame) (i : ℕ) (x : LentFrame) → i < length frames →
+    x ≡ get_or frames i x →
     records_left s frames i
     ≡ result_and_then (λ cs. joined cs (records_left s frames (i + 1))) (communals_in s (plain_frame x))
 records_next s frames i x h e =
@@ -133,11 +134,13 @@ records_first s frames told e =
     ∙ joined-nil (communals_of s (map plain_frame frames))
 
 -- behind the last
-pub records_end : (s : Scope) (frames : List LentFrame) (i : ℕ) (told : List Communal) (all : Result (List Communal) CommunalFault)
+pub records_end : (s : Scope) (frames : List LentFrame) (i : ℕ) (told : List Communal)
+    (all : Result (List Communal) CommunalFault)
     → length frames ≤ i → joined told (records_left s frames i) ≡ all → all ≡ Ok told
 records_end s frames i told all h was =
     joined-end told all
-    (ap (joined told) (sym (at_drop_all (λ (fs : List LentFrame). communals_of s (map plain_frame fs)) frames i h)) ∙ was)
+    (ap (joined told) (sym (at_drop_all (λ (fs : List LentFrame). communals_of s (map plain_frame fs)) frames i h))
+    ∙ was)
 
 -- a fault of a part is one of the whole
 pub fault-through : {A B : Type 0} (e : CommunalFault) (r : Result A CommunalFault) (all : Result B CommunalFault)

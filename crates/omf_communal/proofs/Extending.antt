@@ -1,6 +1,7 @@
 -- A module with variables that are local to it is whole, and says all that it said before.
 use Rattle.std.proofs.Common.{◌≡◌, ℕ, suc, ◌+◌, ◌-◌, ◌<◌, Bool, true, false, cond, eqb, ltb, List, []}
-use Rattle.std.proofs.Common.{◌∷◌, ◌++◌, length, map, take, drop, Option, Some, None, Result, Ok, Err, refl, ap, ap₂, sym}
+use Rattle.std.proofs.Common.{◌∷◌, ◌++◌, length, map, take, drop, Option, Some, None, Result, Ok, Err, refl, ap, ap₂}
+use Rattle.std.proofs.Common.{sym}
 use Rattle.std.proofs.Common.{subst, ◌∙◌, arith, append_assoc, length-append, slice_get, nat_le}
 use Rattle.std.specs.Prelude.{codes, unwrap_or}
 use Rattle.std.specs.List.{AllByRecursion, enumerate_from, flat_map}
@@ -34,7 +35,8 @@ use Rattle.omf_module.specs.Bytes.{ModuleBytes}
 use Rattle.omf_module.specs.Faults.{Tables, begun, fault, frame_fault, items, location_fault, misses}
 use Rattle.omf_module.specs.Faults.{header_fault, number, start_fault, tables, target_fault, when, ◌⊓◌}
 use Rattle.omf_module.specs.Module.{Group, Segment}
-use Rattle.omf_module.specs.Tables.{data_records, externals, fixups, groups, groups_in, name_at, names, names_in, publics}
+use Rattle.omf_module.specs.Tables.{data_records, externals, fixups, groups, groups_in, name_at, names, names_in}
+use Rattle.omf_module.specs.Tables.{publics}
 use Rattle.omf_module.specs.Tables.{publics_in, segments, segments_in, start, start_in, stretches, stretches_in}
 use Rattle.omf_module.specs.Tables.{externals_in, frame_thread, frame_used, module_of, subrecords, subrecords_in}
 use Rattle.omf_module.specs.Tables.{data_record, fixup_in, fixups_in, start_of, target_thread, target_used}
@@ -43,7 +45,8 @@ use Rattle.omf_module.proofs.Growing.{last_option}
 use Rattle.omf_communal.specs.declared.places.Before.{Before}
 use Rattle.omf_communal.specs.declared.fault.PlanFault.{PlanFault}
 use Rattle.omf_communal.specs.Deciding.{Variable}
-use Rattle.omf_communal.specs.Extended.{AreExtended, Extends, IsExtended, counted, far_segment, local_public, near_groups}
+use Rattle.omf_communal.specs.Extended.{AreExtended, Extends, IsExtended, counted, far_segment, local_public}
+use Rattle.omf_communal.specs.Extended.{near_groups}
 use Rattle.omf_communal.specs.Extended.{near_segments, start_said}
 use Rattle.omf_communal.specs.Locals.{before_in, end_place, inserted, local_module, with_variables}
 use Rattle.omf_communal.specs.Plan.{Place, Plan, plan}
@@ -265,7 +268,8 @@ module _ (before : List Placed) (at : ℕ) (rs : List Record) (all : AllByRecurs
   pub same-subrecords : subrecords (before ++ place_all at rs) ≡ subrecords before
   same-subrecords =
       flat-placed subrecords_in before at rs
-      ∙ ap (λ l. subrecords before ++ l) (none-given subrecords_in no_subrecords rs all) ∙ append-nil (subrecords before)
+      ∙ ap (λ l. subrecords before ++ l) (none-given subrecords_in no_subrecords rs all)
+      ∙ append-nil (subrecords before)
 
   pub same-externals : externals (before ++ place_all at rs) ≡ externals before
   same-externals =
@@ -339,7 +343,8 @@ near_segment-is in_bss b before n h =
       length = segment_len (length_of n);
       standing = Relocatable 2 Public;
     } ∷ []) class
-    ∙ ap (λ x. record { name = near_name in_bss; class = codes "BSS"; length = x; standing = Relocatable 2 Public } ∷ [])
+    ∙ ap
+    (λ x. record { name = near_name in_bss; class = codes "BSS"; length = x; standing = Relocatable 2 Public } ∷ [])
     (length-is n)
 
 far_segment-is : (in_bss : Bool) (b : Before) (before : List Placed) (n : ℕ) → Named in_bss b before
@@ -575,7 +580,9 @@ end-kept before after says e b c same longer h =
     by : (main : Bool) (s : Option Reference) → fault before (Modend main s) ≡ None → fault after (Modend main s) ≡ None
     by main None f = clean_by after (Modend main None) c refl
     by main (Some r) f =
-        let parts = first-one _ (sym (ap (λ t. first (header_fault t (Modend main (Some r)) ∷ items before (Modend main (Some r)))) b) ∙ f) in
+        let parts =
+        first-one _
+        (sym (ap (λ t. first (header_fault t (Modend main (Some r)) ∷ items before (Modend main (Some r)))) b) ∙ f) in
         let frames = λ (rs : List Placed). frame_used (frame_thread (subrecords rs)) r.frame in
         let targets = λ (rs : List Placed). target_used (target_thread (subrecords rs)) r.target in
         let one = least-none (frame_fault (tables before) (frames before)) _ parts in
@@ -766,7 +773,8 @@ module _ (in_bss : Bool) (b : Before) (p : Plan) (init : List Placed) (at : ℕ)
   front-segments : segments front ≡ segments init ++ (near_segments in_bss p.near ++ map far_segment p.far)
   front-segments =
       along_from_append segments_by [] init more
-      ∙ ap (λ l. segments init ++ l) (all-segments in_bss b p behind-names (at2 + length (record_bytes far_names)) named)
+      ∙ ap (λ l. segments init ++ l)
+      (all-segments in_bss b p behind-names (at2 + length (record_bytes far_names)) named)
 
   front-groups : groups front ≡ groups init ++ near_groups b p.near
   front-groups =
@@ -949,7 +957,8 @@ module _ (in_bss : Bool) (v : Variable) (vs : List Variable) (rs : List Placed) 
       (map frame_of_record more-placed ++ frame_of_record end-placed ∷ []) framed.one (added-bytes ++ framed.two)
       framed.first
       (subst
-      (λ n. AreFrames n (map frame_of_record more-placed ++ frame_of_record end-placed ∷ []) (added-bytes ++ framed.two))
+      (λ n.
+      AreFrames n (map frame_of_record more-placed ++ frame_of_record end-placed ∷ []) (added-bytes ++ framed.two))
       (omega arith) both))
 
   new-bodies : AllByRecursion (λ (r : Placed). Body r.says r.body) all-placed

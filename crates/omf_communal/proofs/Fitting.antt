@@ -1,5 +1,6 @@
 -- A plan has indexes, offsets and lengths that records can say.
-use Rattle.std.proofs.Common.{◌≡◌, ℕ, ◌+◌, ◌-◌, ◌*◌, ◌<◌, ◌≤◌, Bool, true, false, cond, ◌&&◌, ◌||◌, ltb, leb, min, List, []}
+use Rattle.std.proofs.Common.{◌≡◌, ℕ, ◌+◌, ◌-◌, ◌*◌, ◌<◌, ◌≤◌, Bool, true, false, cond, ◌&&◌, ◌||◌, ltb, leb, min, List}
+use Rattle.std.proofs.Common.{[]}
 use Rattle.std.proofs.Common.{◌∷◌, ◌++◌, length, map, Option, Some, None, IfSome, Ok, Err, refl, ap, sym, subst, ◌∙◌}
 use Rattle.std.proofs.Common.{arith, length-append, lit≤}
 use Rattle.std.proofs.lemmas.List.{length-map}
@@ -121,16 +122,20 @@ near_one before at index name (Near n) ps h named e =
       | false ↦ λ t u. absurd (cc)
     ]) refl e
 
-near_all : (before : Before) (at index : ℕ) (vs : List Variable) (ps : List Place) → at ≤ 65536 → AllByRecursion IsNamed vs
+near_all : (before : Before) (at index : ℕ) (vs : List Variable) (ps : List Place) → at ≤ 65536
+    → AllByRecursion IsNamed vs
     → near_places before at index vs ≡ Ok ps → AllByRecursion (IsNear before) ps × (near_end at vs ≤ 65536)
 near_all before at index [] ps h named e =
     let is : [] ≡ ps = cc in
     (subst (λ qs. AllByRecursion (IsNear before) qs) is tt, h)
 near_all before at index (v ∷ vs) ps h named e =
-    let parts = both (near_place before at index v.name v.extent) (near_places before (near_next at v.extent) (index + 1) vs) ps e in
+    let parts =
+    both (near_place before at index v.name v.extent) (near_places before (near_next at v.extent) (index + 1) vs) ps
+    e in
     let one = near_one before at index v.name v.extent parts.0 h named.0 parts.2 in
     let rest = near_all before (near_next at v.extent) (index + 1) vs parts.1 one.1 named.1 parts.3 in
-    (subst (λ qs. AllByRecursion (IsNear before) qs) (sym parts.4) (All-append (IsNear before) parts.0 parts.1 one.0 rest.0), rest.1)
+    (subst (λ qs. AllByRecursion (IsNear before) qs) (sym parts.4)
+    (All-append (IsNear before) parts.0 parts.1 one.0 rest.0), rest.1)
 
 -- ---- far ones
 

@@ -48,7 +48,8 @@ module _ (before : Before) (vs : List lent.Variable) (i : ℕ) (x : lent.Variabl
       sym was
       ∙ ap (joined old)
       (near_is
-      ∙ ap (result_and_then (λ ps. joined ps (near_places before (near_next at x.extent) (i + 1) (left vs (i + 1))))) is)
+      ∙ ap (result_and_then (λ ps. joined ps (near_places before (near_next at x.extent) (i + 1) (left vs (i + 1)))))
+      is)
 
 pub near_end-more : (vs : List lent.Variable) (i : ℕ) (x : lent.Variable) (at all : ℕ) → i < length vs
     → x ≡ get_or vs i x → near_end at (left vs i) ≡ all → near_end (near_next at x.extent) (left vs (i + 1)) ≡ all
@@ -94,11 +95,13 @@ near_first before vs ps e =
     ap (λ (qs : List held.Place). joined (places_said qs) (near_places before 0 0 (left vs 0))) e
     ∙ joined-nil (near_places before 0 0 (map variable_said vs))
 
-pub near_last : (before : Before) (vs : List lent.Variable) (i at : ℕ) (ps : List Place) (all : Result (List Place) PlanFault)
+pub near_last : (before : Before) (vs : List lent.Variable) (i at : ℕ) (ps : List Place)
+    (all : Result (List Place) PlanFault)
     → length vs ≤ i → joined ps (near_places before at i (left vs i)) ≡ all → all ≡ Ok ps
 near_last before vs i at ps all h was =
     joined-end ps all
-    (ap (joined ps) (sym (at_drop_all (λ (us : List lent.Variable). near_places before at i (map variable_said us)) vs i h))
+    (ap (joined ps)
+    (sym (at_drop_all (λ (us : List lent.Variable). near_places before at i (map variable_said us)) vs i h))
     ∙ was)
 
 pub near_end-last : (vs : List lent.Variable) (i at all : ℕ) → length vs ≤ i → near_end at (left vs i) ≡ all → at ≡ all

@@ -123,10 +123,12 @@ not_none n h = ne_eqb n 0 (λ e. omega (arith, h, e))
 -- the group of the near segment, right behind it
 group_ok : (b : Before) (s g n at : ℕ) (before : List Placed) → Ready (b.names + 4) b.segments g before →
     Ready (b.names + 4) s g
-    (before ++ record { place = at; body = canonical (Segdef (near_definition b n)); says = Segdef (near_definition b n) }
+    (before
+    ++ record { place = at; body = canonical (Segdef (near_definition b n)); says = Segdef (near_definition b n) }
     ∷ []) →
     fault
-    (before ++ record { place = at; body = canonical (Segdef (near_definition b n)); says = Segdef (near_definition b n) }
+    (before
+    ++ record { place = at; body = canonical (Segdef (near_definition b n)); says = Segdef (near_definition b n) }
     ∷ [])
     (Grpdef (b.names + 1) ((b.segments + 1) ∷ [])) ≡ None
 group_ok b s g n at before r r2 =
@@ -142,9 +144,11 @@ group_ok b s g n at before r r2 =
           (not_below (length (names all)) (b.names + 1) (omega (arith, r2.name_count)))),
       (
         ap (λ ss. component_fault (entry ss (b.segments + 1))) (segments-push before defined)
-            ∙ ap (λ i. component_fault (entry (segments before ++ segment_of (names before) (near_definition b n) ∷ []) i))
+            ∙ ap
+            (λ i. component_fault (entry (segments before ++ segment_of (names before) (near_definition b n) ∷ []) i))
             (add-one b.segments)
-            ∙ component_last (segments before) (segment_of (names before) (near_definition b n)) b.segments r.segment_count
+            ∙ component_last (segments before) (segment_of (names before) (near_definition b n)) b.segments
+            r.segment_count
             (relocatable_near b (names before) n),
         tt,
       ),

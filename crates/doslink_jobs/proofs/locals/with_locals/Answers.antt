@@ -26,7 +26,8 @@ loop-one-preserved g c =
     let here = subst (HasLocals names all (own_bytes one) (lowered_bytes one)) (sym c.in_ok-relinked.ensures)
     (c.in_ok-bytes.ensures all tells) in
     let more = each-more names all (map own_bytes so_far) (map lowered_bytes so_far)
-    (map lowered_bytes c.loop-one.all.items) (own_bytes one) (lowered_bytes one) (lowered_bytes c.in_ok-relinked.field-0) c.loop-one.invariant here in
+    (map lowered_bytes c.loop-one.all.items) (own_bytes one) (lowered_bytes one)
+    (lowered_bytes c.in_ok-relinked.field-0) c.loop-one.invariant here in
     let pushed = ap (map lowered_bytes) c.in_ok-push.ensures.items
     ∙ map-append lowered_bytes c.loop-one.all.items (c.in_ok-relinked.field-0 ∷ []) in
     subst (λ bs. EachHasLocals names all own lowered bs) (sym pushed)

@@ -38,7 +38,8 @@ returns-in_err-end g c =
     let p = err_from_is_err_and c.from_residual.result c.from_residual.ensures.1 in
     rw (p.1, p.2)
     (fault-through _ _ _ c.in_err-end.ensures.placed (λ f is.
-    near_fault (room_said c.args.room) c.args.variables.now c.loop-index.index c.index-variables-index.result c.loop-index-test.true
+    near_fault (room_said c.args.room) c.args.variables.now c.loop-index.index c.index-variables-index.result
+    c.loop-index-test.true
     c.index-variables-index.is c.loop-index.end (places_said c.loop-index.places.items) _ c.loop-index.invariant.all f
     is))
 
@@ -48,7 +49,8 @@ returns g c =
     let before = room_said c.args.room in
     record {
       places =
-          near_last before vs c.loop-index.index c.loop-index.end (places_said c.loop-index.places.items) _ (omega arith)
+          near_last before vs c.loop-index.index c.loop-index.end (places_said c.loop-index.places.items) _
+          (omega arith)
           c.loop-index.invariant.all;
       ends = near_end-last vs c.loop-index.index c.loop-index.end _ (omega arith) c.loop-index.invariant.ends;
     }

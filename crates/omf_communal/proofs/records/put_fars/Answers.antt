@@ -6,6 +6,7 @@ use Rattle.omf_communal.proofs.records.put_fars.Goals as goal
 
 pub loop-part-preserved : goal.loop-part-preserved
 loop-part-preserved g c =
-    put-turn (λ (p : Part). p.length) (far_record (room_said c.args.room)) c.args.parts.now c.loop-part.part-index c.part-item.result
+    put-turn (λ (p : Part). p.length) (far_record (room_said c.args.room)) c.args.parts.now c.loop-part.part-index
+    c.part-item.result
     c.args.out.now.items c.loop-part.out.items _ c.loop-part-test.true c.part-item.is c.loop-part.invariant
     c.in_ok-put_far.ensures

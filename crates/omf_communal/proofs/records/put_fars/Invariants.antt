@@ -5,4 +5,6 @@ use Rattle.omf_communal.proofs.records.put_fars.Given as goal
 
 abbrev pub invariant-loop-part : goal.invariant-loop-part
 invariant-loop-part g l =
-    l.out.items ≡ l.initial.out.items ++ records_bytes (map (far_record (room_said l.fn.room)) (parts_said (take l.part-index l.parts)))
+    l.out.items
+    ≡ l.initial.out.items
+    ++ records_bytes (map (far_record (room_said l.fn.room)) (parts_said (take l.part-index l.parts)))

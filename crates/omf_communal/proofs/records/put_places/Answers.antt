@@ -5,5 +5,6 @@ use Rattle.omf_communal.proofs.records.put_places.Goals as goal
 
 pub loop-place-preserved : goal.loop-place-preserved
 loop-place-preserved g c =
-    put-turn place_said (place_record c.args.local) c.args.places.now c.loop-place.place-index c.place-item.result c.args.out.now.items
+    put-turn place_said (place_record c.args.local) c.args.places.now c.loop-place.place-index c.place-item.result
+    c.args.out.now.items
     c.loop-place.out.items _ c.loop-place-test.true c.place-item.is c.loop-place.invariant c.in_ok-put_public.ensures

@@ -5,4 +5,5 @@ use Rattle.omf_communal.proofs.records.put_places.Given as goal
 
 abbrev pub invariant-loop-place : goal.invariant-loop-place
 invariant-loop-place g l =
-    l.out.items ≡ l.initial.out.items ++ records_bytes (map (place_record l.fn.local) (places_said (take l.place-index l.places)))
+    l.out.items
+    ≡ l.initial.out.items ++ records_bytes (map (place_record l.fn.local) (places_said (take l.place-index l.places)))
