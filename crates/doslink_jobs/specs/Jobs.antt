@@ -60,11 +60,11 @@ plain_lowering job = record { keep_debug = job.keep_debug; shares_far_data = fal
 -- How a job lowers modules, with what names mean in them. Far data shares a frame exactly where the job packs it and
 -- all of it fits in one, as it is in the modules lowered without that.
 pub record IsLoweringFor (job : Job) (renaming : Renaming) (modules : List (List ℕ)) (lowering : Lowering) : Type 0
-    where
-  pub debug : lowering.keep_debug ≡ job.keep_debug
-  pub packed : job.packs_far_data ≡ true → (plain : List (List ℕ))
-      × AreLowered (plain_lowering job) renaming modules plain × TellsFit plain lowering.shares_far_data
-  pub apart : job.packs_far_data ≡ false → lowering.shares_far_data ≡ false
+  where
+    pub debug : lowering.keep_debug ≡ job.keep_debug
+    pub packed : job.packs_far_data ≡ true → (plain : List (List ℕ))
+        × AreLowered (plain_lowering job) renaming modules plain × TellsFit plain lowering.shares_far_data
+    pub apart : job.packs_far_data ≡ false → lowering.shares_far_data ≡ false
 
 -- these are the modules lowered as a job asks for, with what names mean by all aliases; none of these goes round for
 -- ever

@@ -1,7 +1,9 @@
 //! Runs over a world in memory.
 use crate::aliasing::{ALIAS, CALLS, CASE, ROUND};
-use crate::declaring::{BODY, CUT_ELEMENT, END, FAR, LONG, MANY, NEAR, OTHER_SIZE, TABLE};
-use crate::declaring::{LOCAL, LOCAL_CLASH, LOCAL_LONG, LOCAL_START, LOCAL_TABLE};
+use crate::declaring::{
+    BODY, CUT_ELEMENT, END, FAR, LOCAL, LOCAL_CLASH, LOCAL_LONG, LOCAL_START, LOCAL_TABLE, LONG,
+    MANY, NEAR, OTHER_SIZE, TABLE,
+};
 use crate::memory::{Desk, Page, Pen};
 use crate::modules::{
     ELSEWHERE, HEADLESS, KEEPS, LIBRARY, LIKE, MARKS, NAMELESS, NAMES, OFFERS, WANTS, WIDE,

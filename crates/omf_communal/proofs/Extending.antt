@@ -54,7 +54,8 @@ use Rattle.omf_communal.specs.Records.{dgroup, far_names, far_record, length_of,
 use Rattle.omf_communal.specs.Records.{near_records, place_record, placed_records, record_bytes, records_bytes}
 use Rattle.omf_communal.specs.Records.{variable_records}
 use Rattle.omf_communal.specs.Whole.{IsNamed}
-use Rattle.omf_communal.proofs.Clean.{All-append, Clean, Ready, are_bodies, are_frames, both_false, clean_by, clean_first}
+use Rattle.omf_communal.proofs.Clean.{All-append, Clean, Ready, are_bodies, are_frames, both_false, clean_by}
+use Rattle.omf_communal.proofs.Clean.{clean_first}
 use Rattle.omf_communal.proofs.Clean.{found_at, groups-push, names-push, not_below, place_all, segments-push}
 use Rattle.omf_communal.proofs.Fitting.{Fits, or-parts, plan_fits}
 use Rattle.omf_communal.proofs.Counting.{counts, end-of, frames-of}

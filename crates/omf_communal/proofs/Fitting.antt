@@ -133,9 +133,11 @@ near_all before at index (v ∷ vs) ps h named e =
     both (near_place before at index v.name v.extent) (near_places before (near_next at v.extent) (index + 1) vs) ps
     e in
     let one = near_one before at index v.name v.extent parts.0 h named.0 parts.2 in
-    let rest = near_all before (near_next at v.extent) (index + 1) vs parts.1 one.1 named.1 parts.3 in
-    (subst (λ qs. AllByRecursion (IsNear before) qs) (sym parts.4)
-    (All-append (IsNear before) parts.0 parts.1 one.0 rest.0), rest.1)
+    let rest = near_all before (near_next at v.extent) (index + 1) vs parts.1 one.1 named.1 parts.3 in (
+      subst (λ qs. AllByRecursion (IsNear before) qs) (sym parts.4)
+          (All-append (IsNear before) parts.0 parts.1 one.0 rest.0),
+      rest.1,
+    )
 
 -- ---- far ones
 

@@ -29,7 +29,7 @@ returns g c =
     (sym c.deref-2.ensures.value)
     ∙ c.in_ok-marks.ensures.met in
     let marks : c.in_ok-marks.marks
-        ≡ wants_marks names (map (λ m. m.says) (map handed_held handed) ++ offering vs ∷ []) =
+    ≡ wants_marks names (map (λ m. m.says) (map handed_held handed) ++ offering vs ∷ []) =
     c.in_ok-marks.ensures.marks
     ∙ ap (λ n. wants_marks n (says ++ offering (map variable_said c.deref-2.result.now) ∷ []))
     c.options_of-names.ensures
