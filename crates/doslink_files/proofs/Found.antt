@@ -4,6 +4,7 @@ use Rattle.std.proofs.Common.{refl, arith, sym, subst, ap, ap₂, ◌∙◌, str
 use Rattle.std.proofs.lemmas.List.{get_or-map, length-map, map-append, take_more}
 use Rattle.std.specs.declared.option.Option.{Option}
 use Rattle.std.specs.Borrow.{Bor}
+use Rattle.std.specs.List.{Contains}
 use Rattle.doslink_files.specs.declared.fault.FileFault.{FileFault}
 use Rattle.doslink_files.specs.declared.fault.FileFault.TheVariants as fault
 use Rattle.doslink_files.specs.declared.reading.InputFile.{InputFile}
@@ -58,13 +59,19 @@ told-next told old new file pushed each one =
     (subst (AreTold told (file_paths old ++ path ∷ [])) grown
     (Each-push (λ p b. IsTold (told p) b) (file_paths old) (contents old) path bytes each one))
 
--- what isn't read is one of some names
+-- one of some names
+pub named-at : (names : List (Bor (List ℕ))) (i : ℕ) (d : Bor (List ℕ)) → i < length names
+    → Contains (map (λ n. n.now) names) (get_or names i d).now
+named-at names i d h =
+    let there : i < length (map (λ (n : Bor (List ℕ)). n.now) names) = omega (arith, length-map names (λ n. n.now)) in
+    (i, there, get_or-map (λ n. n.now) names i d (get_or names i d).now h)
+
+-- what isn't read is one of them
 pub one-unread : (names : List (Bor (List ℕ))) (i : ℕ) (d : Bor (List ℕ)) (why : FileFault) → i < length names
     → IsUnread (get_or names i d).now why → IsOneUnread (map (λ n. n.now) names) why
 one-unread names i d fault.Memory h is = tt
 one-unread names i d (fault.Unread unread) h is =
-    let there : i < length (map (λ (n : Bor (List ℕ)). n.now) names) = omega (arith, length-map names (λ n. n.now)) in
-    (i, there, get_or-map (λ n. n.now) names i d unread.now h ∙ sym is)
+    subst (Contains (map (λ n. n.now) names)) (sym is) (named-at names i d h)
 
 -- what was read of a file that tells its bytes
 pub told-read : (rest told : Option (List ℕ)) (bytes : List ℕ) → rest ≡ told → IfSome rest (λ xs. bytes ≡ [] ++ xs)

@@ -1,6 +1,6 @@
-use Rattle.std.proofs.Common.{map, refl, string_bytes}
+use Rattle.std.proofs.Common.{map, string_bytes}
 use Rattle.doslink_files.specs.Files.{IsPathOf}
-use Rattle.doslink_files.proofs.Found.{Each-next, one-unread, told-next}
+use Rattle.doslink_files.proofs.Found.{Each-next, named-at, one-unread, told-next}
 use Rattle.doslink_files.proofs.lookup.find_libraries.Goals as goal
 
 pub loop-name-preserved : goal.loop-name-preserved
@@ -17,7 +17,7 @@ loop-name-preserved g c =
 
 pub returns-in-Ok-None-clause-unread : goal.returns-in-Ok-None-clause-unread
 returns-in-Ok-None-clause-unread g c =
-    one-unread c.args.names.now c.loop-name.name-index _ _ c.loop-name-test.true refl
+    named-at c.args.names.now c.loop-name.name-index _ c.loop-name-test.true
 
 pub returns-in-Err-clause-unread : goal.returns-in-Err-clause-unread
 returns-in-Err-clause-unread g c =
