@@ -17,7 +17,7 @@ use Rattle.omf_record.specs.Body.{Body, kind_of}
 use Rattle.omf_record.specs.Records.{AreBeforeEnd, AreToEnd, Placed, frame_of_record, is_end}
 use Rattle.omf_library.specs.Entries.{entries, entries_up_to}
 use Rattle.omf_library.specs.Fields.{name_front}
-use Rattle.omf_library.specs.Names.{listed_in}
+use Rattle.omf_library.specs.Listed.{listed_in}
 use Rattle.omf_library.specs.Records.{ends_module, module_records, place_behind, record_at, record_or_fault}
 use Rattle.omf_library.specs.Records.{records_up_to}
 use Rattle.omf_module.specs.Before.{along_from}

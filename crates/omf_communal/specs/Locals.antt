@@ -8,7 +8,8 @@ use Rattle.std.specs.declared.result.Result.{Result}
 use Rattle.std.specs.List.{flat_map}
 use Rattle.std.specs.Option.{option_map_or}
 use Rattle.omf_frame.specs.Frame.{Frame}
-use Rattle.omf_library.specs.Names.{listed_in, public_names}
+use Rattle.omf_library.specs.Listed.{listed_in}
+use Rattle.omf_library.specs.Names.{public_names}
 use Rattle.omf_library.specs.Records.{ends_module, module_records, result_and_then}
 use Rattle.omf_place.specs.declared.names.Names.{Names}
 use Rattle.omf_communal.specs.declared.fault.ClashFault.{ClashFault}

@@ -11,8 +11,10 @@ use Rattle.std.proofs.lemmas.List.Folds.{list_any-append}
 use Rattle.omf_frame.specs.Frame.{Frame}
 use Rattle.omf_frame.specs.Lending.{plain_frame}
 use Rattle.omf_frame.specs.declared.frame.Frame.{Frame as LentFrame}
-use Rattle.omf_library.specs.Names.{texts, said_by, listed_in, wanted_in, wanted_names}
-use Rattle.omf_library.specs.Wanting.{is_among, first_wanting, wanting_place}
+use Rattle.omf_library.specs.Listed.{listed_in, said_by}
+use Rattle.omf_library.specs.Names.{asked_names, texts, wanted_in}
+use Rattle.omf_library.specs.Defaults.{is_among}
+use Rattle.omf_library.specs.Wanting.{first_wanting, wanting_place}
 
 -- a name is one of some texts
 pub among-texts : (name : List ℕ) (names : List (Bor (List ℕ)))
@@ -40,8 +42,8 @@ some-place None = refl
 some-place (Some f) = refl
 
 pub some-wanted : (name : List ℕ) (records : List Frame) (place : Option ℕ) → place ≡ wanting_place name records
-    → is_some place ≡ is_among name (wanted_names records)
-unfolding wanting_place wanted_names
+    → is_some place ≡ is_among name (asked_names records)
+unfolding wanting_place asked_names
 some-wanted name records place is =
     ap is_some is ∙ some-place (first_wanting name [] records) ∙ some-wanting name [] records
 

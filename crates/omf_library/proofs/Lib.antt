@@ -5,4 +5,6 @@ pub mod Walking
 pub mod Spaces
 pub mod Digits
 pub mod Told
+pub mod Gathering
 pub mod Asking
+pub mod Indexes

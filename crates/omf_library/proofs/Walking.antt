@@ -18,7 +18,8 @@ use Rattle.omf_library.specs.Records.{record_or_fault, record_at, place_behind, 
 use Rattle.omf_library.specs.Records.{module_records, result_and_then, end_within, module_end, comment_text}
 use Rattle.omf_library.specs.Records.{header_name}
 use Rattle.std.specs.Borrow.{Bor}
-use Rattle.omf_library.specs.Names.{texts, said_by, listed_in, wanted_in, offered_in, library_in, wanted_names}
+use Rattle.omf_library.specs.Listed.{listed_in, said_by}
+use Rattle.omf_library.specs.Names.{texts, wanted_in, offered_in, library_in, asked_names}
 use Rattle.omf_library.specs.Names.{offered_names, library_names, asks_dosseg}
 use Rattle.omf_library.specs.Library.{first_said, name_of, name_in, member_between, member_at}
 use Rattle.omf_library.specs.Said.{bytes_said, record_said}
@@ -67,7 +68,7 @@ pub record NamesLeft (file : List ℕ) (place : ℕ) (listed wanted offered libr
   pub most : ℕ
   pub enough : length file ≤ place + most
   pub all_wanted : wanted ++ said_by wanted_in listed (records_up_to most file place)
-      ≡ wanted_names (module_records file 0)
+      ≡ asked_names (module_records file 0)
   pub all_offered : offered ++ said_by offered_in listed (records_up_to most file place)
       ≡ offered_names (module_records file 0)
   pub all_libraries : libraries ++ flat_map library_in (records_up_to most file place)
@@ -76,13 +77,13 @@ pub record NamesLeft (file : List ℕ) (place : ℕ) (listed wanted offered libr
 
 -- all that the module says was told
 pub record NamesTold (file : List ℕ) (wanted offered libraries : List (List ℕ)) (dosseg : Bool) : Type 0 where
-  pub all_wanted : wanted ≡ wanted_names (module_records file 0)
+  pub all_wanted : wanted ≡ asked_names (module_records file 0)
   pub all_offered : offered ≡ offered_names (module_records file 0)
   pub all_libraries : libraries ≡ library_names (module_records file 0)
   pub asked : dosseg ≡ asks_dosseg (module_records file 0)
 
 pub names_first : (file : List ℕ) → NamesLeft file 0 [] [] [] [] false
-unfolding wanted_names offered_names library_names asks_dosseg module_records
+unfolding asked_names offered_names library_names asks_dosseg module_records
 names_first file = record {
   within = omega arith;
   most = length file;

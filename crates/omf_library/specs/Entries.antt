@@ -1,6 +1,6 @@
 -- The entries of which the bodies of records with names are lists, or one (TIS OMF 1.1, the section of each). An index
 -- of a name counts the names of LNAMES and LLNAMES so far from 1 on.
-use Rattle.std.specs.Prelude.{ℕ, zero, suc, ◌==◌, if◌then◌else◌, List, [], ◌∷◌, length, slice_get, bit_and}
+use Rattle.std.specs.Prelude.{ℕ, zero, suc, ◌==◌, if◌then◌else◌, nat_lt, List, [], ◌∷◌, length, slice_get, bit_and}
 use Rattle.std.specs.Prelude.{Some, None}
 use Rattle.std.specs.declared.option.Option.{Option}
 use Rattle.std.specs.Option.{option_map, option_map_or, option_and_then}
@@ -19,6 +19,40 @@ entries front bytes = entries_up_to (length bytes) front bytes
 -- EXTDEF: a name and a type index
 abbrev pub external_front : List ℕ → Option (List ℕ × List ℕ)
 external_front bytes = followed index_front (name_front bytes)
+
+-- the bytes behind so many
+abbrev pub behind_bytes : ℕ → List ℕ → Option (List ℕ)
+behind_bytes count bytes = option_map (λ (skipped, rest). rest) (bytes_front count bytes)
+
+-- the bytes behind a length: one byte up to 80H; else 81H, 84H or 88H, and two, three or four bytes
+unfoldable pub behind_length : List ℕ → Option (List ℕ)
+behind_length [] = None
+behind_length (first ∷ rest) =
+    if nat_lt first 0x81 then Some rest
+    else if first == 0x81 then behind_bytes 2 rest
+    else if first == 0x84 then behind_bytes 3 rest
+    else if first == 0x88 then behind_bytes 4 rest
+    else None
+
+-- the bytes behind two
+abbrev pub behind_lengths : List ℕ → Option (List ℕ)
+behind_lengths bytes = option_and_then behind_length (behind_length bytes)
+
+-- the bytes behind the lengths of a data type: 62H, near, has one; 61H, far, how many elements and the length of one
+abbrev pub behind_lengths_of : ℕ → List ℕ → Option (List ℕ)
+behind_lengths_of data_type bytes =
+    if data_type == 0x62 then behind_length bytes
+    else if data_type == 0x61 then behind_lengths bytes
+    else None
+
+-- a data type, behind which its lengths stand
+unfoldable pub data_type_front : List ℕ → Option (ℕ × List ℕ)
+data_type_front [] = None
+data_type_front (data_type ∷ rest) = option_map (λ after. (data_type, after)) (behind_lengths_of data_type rest)
+
+-- COMDEF: a name, a type index, a data type with its lengths
+abbrev pub variable_front : List ℕ → Option (List ℕ × List ℕ)
+variable_front bytes = followed data_type_front (followed index_front (name_front bytes))
 
 -- CEXTDEF: the index of a name, and a type index
 abbrev pub communal_front : List ℕ → Option (ℕ × List ℕ)

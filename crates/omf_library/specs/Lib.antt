@@ -1,7 +1,9 @@
 pub mod Fields
-pub mod Said
 pub mod Records
 pub mod Entries
+pub mod Listed
+pub mod Defaults
+pub mod Said
 pub mod Names
 pub mod Wanting
 pub mod Members

@@ -1,5 +1,5 @@
 -- Answers of the program without where their bytes lie in memory.
-use Rattle.std.specs.Prelude.{ℕ, List, Some, None, Ok, Err}
+use Rattle.std.specs.Prelude.{ℕ, List, Some, None, Ok, Err, map}
 use Rattle.std.specs.declared.option.Option.{Option}
 use Rattle.std.specs.declared.result.Result.{Result}
 use Rattle.std.specs.Borrow.{Bor}
@@ -7,6 +7,8 @@ use Rattle.omf_frame.specs.Frame.{Frame}
 use Rattle.omf_frame.specs.Lending.{plain_frame}
 use Rattle.omf_frame.specs.declared.frame.Frame.{Frame as LentFrame}
 use Rattle.omf_library.specs.declared.fault.LibraryFault.{LibraryFault}
+use Rattle.omf_library.specs.declared.defaults.Defaulted as lent
+use Rattle.omf_library.specs.Defaults.{Defaulted}
 
 -- bytes
 abbrev pub bytes_said : Option (Bor (List ℕ)) → Option (List ℕ)
@@ -27,3 +29,10 @@ number_said (Some (n, rest)) = Some (n, rest.now)
 abbrev pub record_said : Result LentFrame LibraryFault → Result Frame LibraryFault
 record_said (Ok f) = Ok (plain_frame f)
 record_said (Err e) = Err e
+
+-- externals with a default
+abbrev pub defaulted_said : lent.Defaulted → Defaulted
+defaulted_said d = record { place = d.place; index = d.index; name = d.name.now; default_name = d.default_name.now }
+
+abbrev pub all_defaulted : List lent.Defaulted → List Defaulted
+all_defaulted marked = map defaulted_said marked

@@ -1,15 +1,11 @@
 -- Which record of a module wants a name first.
-use Rattle.std.specs.Prelude.{ℕ, Bool, if◌then◌else◌, List, [], ◌∷◌, ◌++◌, Some, None}
+use Rattle.std.specs.Prelude.{ℕ, if◌then◌else◌, List, [], ◌∷◌, ◌++◌, Some, None}
 use Rattle.std.specs.declared.option.Option.{Option}
-use Rattle.std.specs.List.{list_any}
 use Rattle.std.specs.Option.{option_map}
-use Rattle.std.specs.Str.{bytes_eq}
 use Rattle.omf_frame.specs.Frame.{Frame}
-use Rattle.omf_library.specs.Names.{listed_in, wanted_in}
-
--- a name is one of these
-abbrev pub is_among : (name : List ℕ) → List (List ℕ) → Bool
-is_among name names = list_any (bytes_eq name) names
+use Rattle.omf_library.specs.Defaults.{is_among}
+use Rattle.omf_library.specs.Listed.{listed_in}
+use Rattle.omf_library.specs.Names.{wanted_in}
 
 -- the first of these records that wants a name, each by the names that those before it have listed
 abbrev pub first_wanting : (name : List ℕ) → (listed : List (List ℕ)) → List Frame → Option Frame

@@ -1,9 +1,10 @@
 //! The entries of which records with names are lists.
 
-ghost use Rattle.std.specs.Prelude.{◌≡◌, ◌<◌, ◌++◌, length, IfSome, OnOk};
+ghost use Rattle.std.specs.Prelude.{◌≡◌, ◌<◌, ◌≤◌, ◌++◌, length, IfSome, OnOk};
 ghost use Rattle.std.specs.List.{filter_map};
 ghost use Rattle.omf_library.specs.Entries.{entries, communal_front, behind_base, listed_name};
-ghost use Rattle.omf_library.specs.Entries.{behind_allocation, comdat_index, comdat_name};
+ghost use Rattle.omf_library.specs.Entries.{behind_allocation, behind_bytes, behind_length, behind_lengths};
+ghost use Rattle.omf_library.specs.Entries.{behind_lengths_of, comdat_index, comdat_name, data_type_front};
 ghost use Rattle.omf_library.specs.Names.{texts};
 ghost use Rattle.omf_library.specs.Said.{bytes_said, name_said, number_said};
 ghost use Rattle.omf_library.specs.inside.Views.{entry_front};
@@ -18,6 +19,8 @@ pub(crate) enum Entry {
     Listed,
     /// Of EXTDEF: a name and a type index.
     External,
+    /// Of COMDEF: a name, a type index, and a data type with its lengths.
+    Variable,
     /// Of PUBDEF: a name, an offset of so many bytes, and a type index.
     Public { offset: usize },
     /// Of ALIAS: a name, and the name that it stands for. The first is meant.
@@ -26,8 +29,68 @@ pub(crate) enum Entry {
     Substitute,
 }
 
+/// The bytes behind so many. None where there are fewer.
+fn behind_bytes(count: usize, bytes: &[u8]) -> Option<&[u8]>
+    ensures said { bytes_said result ≡ behind_bytes count bytes.now }
+    ensures no_longer { IfSome result (λ rest. length rest.now ≤ length bytes.now) }
+{
+    let (_, rest) = take_bytes(bytes, count)?;
+    Some(rest)
+}
+
+/// The bytes behind the length of a communal variable. None where none is at the front.
+#[tactic(auto, unfolding(crate::specs::Entries::behind_length))]
+pub fn behind_length(bytes: &[u8]) -> Option<&[u8]>
+    ensures said { bytes_said result ≡ behind_length bytes.now }
+    ensures no_longer { IfSome result (λ rest. length rest.now ≤ length bytes.now) }
+{
+    let [first, rest @ ..] = bytes else {
+        return None;
+    };
+    match *first {
+        0..=0x80 => Some(rest),
+        0x81 => behind_bytes(2, rest),
+        0x84 => behind_bytes(3, rest),
+        0x88 => behind_bytes(4, rest),
+        _ => None,
+    }
+}
+
+/// The bytes behind two lengths. None where there aren't two.
+pub fn behind_lengths(bytes: &[u8]) -> Option<&[u8]>
+    ensures said { bytes_said result ≡ behind_lengths bytes.now }
+    ensures no_longer { IfSome result (λ rest. length rest.now ≤ length bytes.now) }
+{
+    behind_length(behind_length(bytes)?)
+}
+
+/// The bytes behind the lengths of a data type, which is near (62H) or far (61H). None where it is another one.
+fn behind_lengths_of(data_type: u8, bytes: &[u8]) -> Option<&[u8]>
+    ensures said { bytes_said result ≡ behind_lengths_of data_type bytes.now }
+    ensures no_longer { IfSome result (λ rest. length rest.now ≤ length bytes.now) }
+{
+    match data_type {
+        0x62 => behind_length(bytes),
+        0x61 => behind_lengths(bytes),
+        _ => None,
+    }
+}
+
+/// A data type, behind which its lengths stand, and the bytes behind these. None where it is neither near nor far.
+#[tactic(auto, unfolding(crate::specs::Entries::data_type_front))]
+fn take_data_type(bytes: &[u8]) -> Option<(u8, &[u8])>
+    ensures said { number_said result ≡ data_type_front bytes.now }
+    ensures shorter { IfSome result (λ x. length x.1.now < length bytes.now) }
+{
+    let [data_type, rest @ ..] = bytes else {
+        return None;
+    };
+    let after = behind_lengths_of(*data_type, rest)?;
+    Some((*data_type, after))
+}
+
 /// The name of the entry at the front of the bytes, and the bytes behind it. None where the bytes end inside it.
-fn take_entry<'a>(entry: Entry, bytes: &'a [u8]) -> Option<(&'a [u8], &'a [u8])>
+pub(crate) fn take_entry<'a>(entry: Entry, bytes: &'a [u8]) -> Option<(&'a [u8], &'a [u8])>
     ensures said { name_said result ≡ entry_front entry bytes.now }
     ensures shorter { IfSome result (λ x. length x.1.now < length bytes.now) }
 {
@@ -36,6 +99,11 @@ fn take_entry<'a>(entry: Entry, bytes: &'a [u8]) -> Option<(&'a [u8], &'a [u8])>
         Entry::Listed => Some((name, rest)),
         Entry::External => {
             let (_, rest) = take_index(rest)?;
+            Some((name, rest))
+        }
+        Entry::Variable => {
+            let (_, rest) = take_index(rest)?;
+            let (_, rest) = take_data_type(rest)?;
             Some((name, rest))
         }
         Entry::Public { offset } => {
@@ -98,7 +166,7 @@ pub(crate) fn push_communal<'a, A: Allocator + Copy>(
 }
 
 /// The index of a name, behind which a type index stands, and the bytes behind both.
-fn take_communal(bytes: &[u8]) -> Option<(u16, &[u8])>
+pub(crate) fn take_communal(bytes: &[u8]) -> Option<(u16, &[u8])>
     ensures said { number_said result ≡ communal_front bytes.now }
     ensures shorter { IfSome result (λ x. length x.1.now < length bytes.now) }
 {

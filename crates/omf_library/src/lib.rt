@@ -2,6 +2,7 @@
 #![tactic(auto)]
 
 mod archive;
+mod defaults;
 mod entries;
 mod fault;
 mod fields;
@@ -12,7 +13,8 @@ mod number;
 mod records;
 mod wanting;
 
-pub use entries::listed_name;
+pub use defaults::{Defaulted, weak_and_lazy};
+pub use entries::{behind_length, behind_lengths, listed_name};
 pub use fault::{FormatFault, LibraryFault};
 pub use fields::{take_bytes, take_index, take_name};
 pub use files::{FileKind, Member, file_kind, members};

@@ -3,12 +3,15 @@
 ghost use Rattle.std.specs.Prelude.{◌≡◌, ◌++◌, is_some, IfOk, OnOk};
 ghost use Rattle.omf_frame.specs.Lending.{plain_frame};
 ghost use Rattle.omf_library.specs.Records.{comment_text, module_records};
-ghost use Rattle.omf_library.specs.Names.{texts, listed_in, wanted_in, offered_in, library_in};
+ghost use Rattle.omf_library.specs.Listed.{listed_in};
+ghost use Rattle.omf_library.specs.Names.{texts, wanted_in, offered_in, library_in};
 ghost use Rattle.omf_library.specs.Names.{public_names, comdat_names};
-ghost use Rattle.omf_library.specs.Names.{wanted_names, offered_names, library_names, asks_dosseg};
+ghost use Rattle.omf_library.specs.Names.{asked_names, wanted_names, needed_names};
+ghost use Rattle.omf_library.specs.Names.{offered_names, library_names, asks_dosseg};
 
+use crate::defaults::{names_but, push_substitutes, weak_and_lazy, weak_externals};
 use crate::entries::{Entry, behind_base, comdat_name, listed_name, push_communal, push_names};
-use crate::records::{comment_text, ends_module, record_at};
+use crate::records::{comment_text, ends_module, module_frames, record_at};
 use omf_frame::Frame;
 use std::alloc::{AllocError, Allocator, Global};
 
@@ -23,8 +26,10 @@ const DOSSEG: u8 = 0x9E;
 /// What a module says of names, in the order of its records; each a part of the module's bytes.
 #[derive(Drop)]
 pub struct ModuleNames<'a, A: Allocator + Copy = Global> {
-    /// The names that it wants from other modules. One may stand more than once.
+    /// The names that it wants from other modules: not those of weak externals alone. One may stand more than once.
     pub wanted: Vec<&'a [u8], A>,
+    /// Those of them that another one has to offer: not those of lazy externals alone either.
+    pub needed: Vec<&'a [u8], A>,
     /// The names that it offers to other modules.
     pub offered: Vec<&'a [u8], A>,
     /// The default libraries that its comments name.
@@ -34,7 +39,7 @@ pub struct ModuleNames<'a, A: Allocator + Copy = Global> {
 }
 
 /// Appends the names that a record adds to the list of names: LNAMES and LLNAMES.
-#[tactic(auto, unfolding(crate::specs::Names::listed_in))]
+#[tactic(auto, unfolding(crate::specs::Listed::listed_in))]
 pub fn push_listed<'a, A: Allocator + Copy>(
     frame: &Frame<'a>,
     listed: &mut Vec<&'a [u8], A>,
@@ -61,8 +66,7 @@ pub(crate) fn push_wanted<'a, A: Allocator + Copy>(
     match frame.kind {
         0x8C => push_names(Entry::External, frame.body, wanted),
         0xBC => push_communal(listed, frame.body, wanted),
-        0xC6 => push_names(Entry::Substitute, frame.body, wanted),
-        _ => Ok(()),
+        _ => push_substitutes(frame, wanted),
     }
 }
 
@@ -141,19 +145,20 @@ fn is_dosseg(frame: &Frame<'_>) -> bool
     comment_text(frame, DOSSEG).is_some()
 }
 
-/// The names of the module whose records begin the bytes, up to the first record that ends a module, or before the
-/// first that is at fault.
-pub fn module_names<'a, A: Allocator + Copy>(
+/// The names of the module whose records begin the bytes. Those of all externals are among the wanted ones, and none is
+/// among the needed ones.
+fn all_names<'a, A: Allocator + Copy>(
     alloc: A,
     bytes: &'a [u8],
 ) -> Result<ModuleNames<'a, A>, AllocError>
-    ensures wanted { IfOk result (λ said. texts said.wanted.items ≡ wanted_names (module_records bytes.now 0)) }
+    ensures wanted { IfOk result (λ said. texts said.wanted.items ≡ asked_names (module_records bytes.now 0)) }
     ensures offered { IfOk result (λ said. texts said.offered.items ≡ offered_names (module_records bytes.now 0)) }
     ensures libraries { IfOk result (λ said. texts said.libraries.items ≡ library_names (module_records bytes.now 0)) }
     ensures dosseg { IfOk result (λ said. said.dosseg ≡ asks_dosseg (module_records bytes.now 0)) }
 {
     let mut said = ModuleNames {
         wanted: Vec::new(alloc),
+        needed: Vec::new(alloc),
         offered: Vec::new(alloc),
         libraries: Vec::new(alloc),
         dosseg: false,
@@ -174,4 +179,27 @@ pub fn module_names<'a, A: Allocator + Copy>(
         }
         place += frame.body.len() + 4;
     }
+}
+
+/// The names of the module whose records begin the bytes, up to the first record that ends a module, or before the
+/// first that is at fault.
+pub fn module_names<'a, A: Allocator + Copy>(
+    alloc: A,
+    bytes: &'a [u8],
+) -> Result<ModuleNames<'a, A>, AllocError>
+    ensures wanted { IfOk result (λ said. texts said.wanted.items ≡ wanted_names (module_records bytes.now 0)) }
+    ensures needed { IfOk result (λ said. texts said.needed.items ≡ needed_names (module_records bytes.now 0)) }
+    ensures offered { IfOk result (λ said. texts said.offered.items ≡ offered_names (module_records bytes.now 0)) }
+    ensures libraries { IfOk result (λ said. texts said.libraries.items ≡ library_names (module_records bytes.now 0)) }
+    ensures dosseg { IfOk result (λ said. said.dosseg ≡ asks_dosseg (module_records bytes.now 0)) }
+{
+    let mut said = all_names(alloc, bytes)?;
+    let frames = module_frames(alloc, bytes)?;
+    let weak = weak_externals(alloc, &frames)?;
+    let defaulted = weak_and_lazy(alloc, &frames)?;
+    let wanted = names_but(alloc, &weak, &frames, &said.wanted)?;
+    let needed = names_but(alloc, &defaulted, &frames, &said.wanted)?;
+    said.wanted = wanted;
+    said.needed = needed;
+    Ok(said)
 }

@@ -4,16 +4,16 @@ ghost use Rattle.std.specs.Prelude.{◌≡◌, IfOk, is_some, map};
 ghost use Rattle.std.specs.List.{list_any};
 ghost use Rattle.std.specs.Str.{bytes_eq};
 ghost use Rattle.omf_frame.specs.Lending.{plain_frame};
-ghost use Rattle.omf_library.specs.Names.{texts, wanted_in, wanted_names};
+ghost use Rattle.omf_library.specs.Names.{asked_names, texts, wanted_in};
 ghost use Rattle.omf_library.specs.Wanting as spec;
-ghost use Rattle.omf_library.specs.Wanting.{is_among};
+ghost use Rattle.omf_library.specs.Defaults.{is_among};
 
 use crate::names::{push_listed, push_wanted};
 use omf_frame::Frame;
 use std::alloc::{AllocError, Allocator};
 
 /// Whether a name is one of these.
-fn is_among(name: &[u8], names: &[&[u8]]) -> bool
+pub(crate) fn is_among(name: &[u8], names: &[&[u8]]) -> bool
     ensures { result ≡ list_any (λ each. bytes_eq name.now each.now) names.now }
 {
     for each in names {
@@ -45,9 +45,9 @@ pub fn wanting_place<A: Allocator + Copy>(
     name: &[u8],
 ) -> Result<Option<u64>, AllocError>
     ensures first { IfOk result (λ place. place ≡ spec.wanting_place name.now (map plain_frame frames.now)) }
-    // One does exactly where the name is one of those that the module wants.
+    // One does exactly where the name is one of those that the module's records want.
     ensures exact { IfOk result (λ place.
-        is_some place ≡ is_among name.now (wanted_names (map plain_frame frames.now))) }
+        is_some place ≡ is_among name.now (asked_names (map plain_frame frames.now))) }
 {
     let mut listed = Vec::new(alloc);
     for frame in frames {

@@ -1,35 +1,17 @@
 -- Externals of 8CH EXTDEF, and those of B0H COMDEF, B8H LCOMDEF and BCH CEXTDEF as those of EXTDEF (TIS OMF 1.1, the
 -- section of each), by what their names mean.
-use Rattle.std.specs.Prelude.{ℕ, ◌==◌, if◌then◌else◌, nat_lt, Bool, not, List, [], ◌∷◌, ◌++◌, length, None, Some}
+use Rattle.std.specs.Prelude.{ℕ, ◌==◌, if◌then◌else◌, nat_lt, Bool, not, List, [], ◌∷◌, ◌++◌, length}
 use Rattle.std.specs.Prelude.{Ok, Err}
 use Rattle.std.specs.declared.option.Option.{Option}
 use Rattle.std.specs.declared.result.Result.{Result}
-use Rattle.std.specs.Option.{option_map, option_and_then, unwrap_or}
+use Rattle.std.specs.Option.{option_map, unwrap_or}
 use Rattle.std.specs.Str.{bytes_eq}
 use Rattle.omf_alias.specs.Meaning.{Renaming, meaning}
-use Rattle.omf_library.specs.Fields.{bytes_front, name_front, index_front}
-use Rattle.omf_library.specs.Entries.{external_front, listed_name}
+use Rattle.omf_library.specs.Fields.{name_front, index_front}
+use Rattle.omf_library.specs.Entries.{behind_length, behind_lengths, external_front, listed_name}
 use Rattle.omf_lower.specs.declared.fault.Obstacle.{Obstacle}
 use Rattle.omf_lower.specs.declared.fault.Obstacle.TheVariants.{Body, DataType, TooLong}
 use Rattle.omf_lower.specs.Fields.{◌>>=◌, field, before}
-
--- the bytes behind so many
-abbrev pub behind_bytes : ℕ → List ℕ → Option (List ℕ)
-behind_bytes count bytes = option_map (λ (skipped, rest). rest) (bytes_front count bytes)
-
--- the bytes behind a length: one byte up to 80H; else 81H, 84H or 88H, and two, three or four bytes
-unfoldable pub behind_length : List ℕ → Option (List ℕ)
-behind_length [] = None
-behind_length (first ∷ rest) =
-    if nat_lt first 0x81 then Some rest
-    else if first == 0x81 then behind_bytes 2 rest
-    else if first == 0x84 then behind_bytes 3 rest
-    else if first == 0x88 then behind_bytes 4 rest
-    else None
-
--- the bytes behind two
-abbrev pub behind_lengths : List ℕ → Option (List ℕ)
-behind_lengths bytes = option_and_then behind_length (behind_length bytes)
 
 -- the bytes behind a data type and its lengths: 62H, near, has one; 61H, far, how many elements and the length of one
 unfoldable pub behind_data_type : List ℕ → Result (List ℕ) Obstacle

@@ -5,7 +5,7 @@ use Rattle.std.specs.Option.{option_map_or, unwrap_or}
 use Rattle.omf_frame.specs.Frame.{Frame}
 use Rattle.omf_alias.specs.Meaning.{Renaming}
 use Rattle.omf_library.specs.Fields.{index_front}
-use Rattle.omf_library.specs.Names.{listed_in}
+use Rattle.omf_library.specs.Listed.{listed_in}
 use Rattle.omf_lower.specs.declared.lowering.Lowering.{Lowering}
 use Rattle.omf_lower.specs.Data.{Data, no_data, data_of, is_data}
 use Rattle.omf_lower.specs.Segments.{definition, is_kept_out}

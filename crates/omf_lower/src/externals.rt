@@ -3,7 +3,6 @@
 ghost use Rattle.std.specs.Prelude.{◌≡◌, ◌<◌, ◌≤◌, IfOk, IfSome, length};
 ghost use Rattle.omf_alias.specs.Said.{renaming_said};
 ghost use Rattle.omf_library.specs.Names.{texts};
-ghost use Rattle.omf_library.specs.Said.{bytes_said};
 ghost use Rattle.omf_lower.specs.Externals as externals;
 ghost use Rattle.omf_lower.specs.Fields.{any_entry};
 ghost use Rattle.omf_lower.specs.inside.Views.{change_said, entry_said, rest_said, text_said};
@@ -12,42 +11,7 @@ use crate::fault::Obstacle;
 use crate::fields::before;
 use crate::written::Written;
 use omf_alias::{Renaming, meaning};
-use omf_library::{listed_name, take_bytes, take_index, take_name};
-
-/// The bytes behind so many. None where there are fewer.
-fn behind_bytes(count: usize, bytes: &[u8]) -> Option<&[u8]>
-    ensures said { bytes_said result ≡ externals.behind_bytes count bytes.now }
-    ensures no_longer { IfSome result (λ rest. length rest.now ≤ length bytes.now) }
-{
-    let (_, rest) = take_bytes(bytes, count)?;
-    Some(rest)
-}
-
-/// The bytes behind the length of a communal variable. None where none is at the front.
-#[tactic(auto, unfolding(crate::specs::Externals::behind_length))]
-fn behind_length(bytes: &[u8]) -> Option<&[u8]>
-    ensures said { bytes_said result ≡ externals.behind_length bytes.now }
-    ensures no_longer { IfSome result (λ rest. length rest.now ≤ length bytes.now) }
-{
-    let [first, rest @ ..] = bytes else {
-        return None;
-    };
-    match *first {
-        0..=0x80 => Some(rest),
-        0x81 => behind_bytes(2, rest),
-        0x84 => behind_bytes(3, rest),
-        0x88 => behind_bytes(4, rest),
-        _ => None,
-    }
-}
-
-/// The bytes behind two lengths.
-fn behind_lengths(bytes: &[u8]) -> Option<&[u8]>
-    ensures said { bytes_said result ≡ externals.behind_lengths bytes.now }
-    ensures no_longer { IfSome result (λ rest. length rest.now ≤ length bytes.now) }
-{
-    behind_length(behind_length(bytes)?)
-}
+use omf_library::{behind_length, behind_lengths, listed_name, take_index, take_name};
 
 /// The bytes behind the data type of a communal variable and its lengths.
 #[tactic(auto, unfolding(crate::specs::Externals::behind_data_type))]

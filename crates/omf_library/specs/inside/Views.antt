@@ -1,5 +1,6 @@
 -- Answers of the program without where their bytes lie in memory.
-use Rattle.std.specs.Prelude.{◌≡◌, ℕ, ◌+◌, ◌≤◌, ◌<◌, List, ◌++◌, length, map, slice_range, All, IfOk, Ok, Err}
+use Rattle.std.specs.Prelude.{◌≡◌, ℕ, ◌+◌, ◌≤◌, ◌<◌, List, ◌++◌, length, map, slice_range, All, IfOk}
+use Rattle.std.specs.Prelude.{None, Some, Ok, Err}
 use Rattle.std.specs.declared.option.Option.{Option}
 use Rattle.std.specs.declared.result.Result.{Result}
 use Rattle.std.specs.Borrow.{Bor}
@@ -7,15 +8,18 @@ use Rattle.omf_frame.specs.Frame.{Frame, frame_of}
 use Rattle.omf_library.specs.declared.fault.FormatFault.{FormatFault}
 use Rattle.omf_library.specs.declared.fault.LibraryFault.{LibraryFault}
 use Rattle.omf_library.specs.declared.entries.Entry.{Entry}
-use Rattle.omf_library.specs.declared.entries.Entry.TheVariants.{Listed, External, Public, Alias, Substitute}
+use Rattle.omf_library.specs.declared.entries.Entry.TheVariants.{Listed, External, Variable, Public, Alias, Substitute}
 use Rattle.omf_library.specs.declared.archive.Entry.{Entry as LentEntry}
 use Rattle.omf_library.specs.declared.files.Member.{Member}
+use Rattle.omf_library.specs.declared.defaults.Defaulted as lent
 use Rattle.omf_library.specs.Fields.{name_front}
 use Rattle.omf_library.specs.Records.{record_or_fault}
-use Rattle.omf_library.specs.Entries.{external_front, public_front, alias_front, substitute_front}
+use Rattle.omf_library.specs.Entries.{external_front, variable_front, public_front, alias_front, substitute_front}
 use Rattle.omf_library.specs.Members.{PlainMember, plain_member}
 use Rattle.omf_library.specs.Archive.{PlainEntry, at_place}
 use Rattle.omf_library.specs.Files.{IsPart}
+use Rattle.omf_library.specs.Said.{bytes_said, defaulted_said}
+use Rattle.omf_library.specs.Defaults.{Defaulted}
 
 -- a record's type and body, at this place
 abbrev pub split_said : ℕ → Result (ℕ × Bor (List ℕ)) FormatFault → Result Frame FormatFault
@@ -31,6 +35,7 @@ pub record IsSplit (bytes : List ℕ) (split : Result (ℕ × Bor (List ℕ)) Fo
 abbrev pub entry_front : Entry → List ℕ → Option (List ℕ × List ℕ)
 entry_front Listed bytes = name_front bytes
 entry_front External bytes = external_front bytes
+entry_front Variable bytes = variable_front bytes
 entry_front (Public offset) bytes = public_front offset bytes
 entry_front Alias bytes = alias_front bytes
 entry_front Substitute bytes = substitute_front bytes
@@ -66,3 +71,22 @@ pub record Pushed (modules : List PlainMember) (bytes : List ℕ) (place : ℕ) 
   pub told : map plain_member new ≡ map plain_member old ++ modules
   pub own : (file : List ℕ) → All (IsPart file) old → bytes ≡ slice_range file place (place + length bytes)
       → All (IsPart file) new
+
+-- externals
+abbrev pub externals_said : List (Option (Bor (List ℕ))) → List (Option (List ℕ))
+externals_said externals = map bytes_said externals
+
+-- an external, and the bytes behind it
+abbrev pub external_said : Option (Option (Bor (List ℕ)) × Bor (List ℕ)) → Option (Option (List ℕ) × List ℕ)
+external_said None = None
+external_said (Some (name, rest)) = Some (bytes_said name, rest.now)
+
+-- a pair of indexes, and the bytes behind it
+abbrev pub pair_said : Option ((ℕ × ℕ) × Bor (List ℕ)) → Option ((ℕ × ℕ) × List ℕ)
+pair_said None = None
+pair_said (Some (pair, rest)) = Some (pair, rest.now)
+
+-- an external with a default that may be there
+abbrev pub defaulted_found : Option lent.Defaulted → Option Defaulted
+defaulted_found None = None
+defaulted_found (Some d) = Some (defaulted_said d)

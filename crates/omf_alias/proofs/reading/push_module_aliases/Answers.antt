@@ -3,7 +3,7 @@ use Rattle.std.proofs.lemmas.List.{append-nil, take_all}
 use Rattle.omf_frame.specs.Lending.{plain_frame}
 use Rattle.omf_alias.specs.Reading.{aliases_in, aliases_of}
 use Rattle.omf_alias.specs.Said.{aliases_said}
-use Rattle.omf_alias.proofs.Gathering.{gather-turn}
+use Rattle.omf_library.proofs.Gathering.{gather-turn}
 use Rattle.omf_alias.proofs.reading.push_module_aliases.Goals as goal
 
 pub loop-frame-init : goal.loop-frame-init

@@ -1,5 +1,6 @@
 use Rattle.omf_frame.specs.Lending.{plain_frame}
-use Rattle.omf_library.specs.Names.{listed_in, texts}
+use Rattle.omf_library.specs.Listed.{listed_in}
+use Rattle.omf_library.specs.Names.{texts}
 use Rattle.omf_communal.proofs.Walking.{flat-turn}
 use Rattle.omf_communal.proofs.locals.name_count.Goals as goal
 

@@ -1,7 +1,8 @@
 use Rattle.std.proofs.Common.{◌≡◌, map, take}
 use Rattle.std.specs.List.{flat_map}
 use Rattle.omf_frame.specs.Lending.{plain_frame}
-use Rattle.omf_library.specs.Names.{listed_in, texts}
+use Rattle.omf_library.specs.Listed.{listed_in}
+use Rattle.omf_library.specs.Names.{texts}
 use Rattle.omf_communal.proofs.locals.name_count.Given as goal
 
 abbrev pub invariant-loop-frame : goal.invariant-loop-frame

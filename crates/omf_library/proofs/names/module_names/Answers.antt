@@ -1,65 +1,40 @@
-use Rattle.std.proofs.Common.{◌≡◌, ◌+◌, ◌||◌, length, sym, ap, ◌∙◌, arith}
+use Rattle.std.proofs.Common.{filter, map, not, ap, ap₂, ◌∙◌}
 use Rattle.omf_frame.specs.Lending.{plain_frame}
-use Rattle.omf_library.proofs.Walking.{names_begin, names_end, names_stop, names_step}
+use Rattle.omf_library.specs.Defaults.{is_theirs_alone, weak_and_lazy, weak_externals}
+use Rattle.omf_library.specs.Names.{needed_names, texts, wanted_names}
+use Rattle.omf_library.specs.Records.{module_records}
+use Rattle.omf_library.specs.Said.{all_defaulted}
 use Rattle.omf_library.proofs.names.module_names.Goals as goal
 
-pub loop-frame-init : goal.loop-frame-init
-loop-frame-init g c =
-    names_begin c.args.bytes.now c.new-listed.result.items c.new.result.items c.new-2.result.items c.new-3.result.items
-    c.new-listed.ensures.items c.new.ensures.items c.new-2.ensures.items c.new-3.ensures.items
+pub returns-clause-wanted : goal.returns-clause-wanted
+unfolding wanted_names
+returns-clause-wanted g c =
+    c.in_ok-wanted.ensures
+    ∙ ap₂ (λ marked fs. filter (λ name. not (is_theirs_alone marked fs name)) (texts c.deref-5.result.now))
+    (ap all_defaulted c.deref-3.ensures.value ∙ c.in_ok-weak.ensures
+    ∙ ap weak_externals (ap (map plain_frame) c.deref.ensures.value ∙ c.in_ok-frames.ensures))
+    (ap (map plain_frame) c.deref-4.ensures.value ∙ c.in_ok-frames.ensures)
+    ∙ ap (filter (λ name. not (is_theirs_alone (weak_externals (module_records c.args.bytes.now 0))
+    (module_records c.args.bytes.now 0) name)))
+    (ap texts c.deref-5.ensures.value ∙ c.in_ok-said.ensures.wanted)
 
-pub returns-in_default : goal.returns-in_default
-returns-in_default g c =
-    let told =
-    names_stop c.args.bytes.now c.loop-frame.place _ _ _ _ _ c.record_at.result c.loop-frame.invariant
-    c.record_at.ensures.said (λ f e. c.in_default.not-Ok f e) in
-    record {
-      wanted = told.all_wanted;
-      offered = told.all_offered;
-      libraries = told.all_libraries;
-      dosseg = told.asked;
-    }
+pub returns-clause-needed : goal.returns-clause-needed
+unfolding needed_names
+returns-clause-needed g c =
+    c.in_ok-needed.ensures
+    ∙ ap₂ (λ marked fs. filter (λ name. not (is_theirs_alone marked fs name)) (texts c.deref-8.result.now))
+    (ap all_defaulted c.deref-6.ensures.value ∙ c.in_ok-defaulted.ensures
+    ∙ ap weak_and_lazy (ap (map plain_frame) c.deref-2.ensures.value ∙ c.in_ok-frames.ensures))
+    (ap (map plain_frame) c.deref-7.ensures.value ∙ c.in_ok-frames.ensures)
+    ∙ ap (filter (λ name. not (is_theirs_alone (weak_and_lazy (module_records c.args.bytes.now 0))
+    (module_records c.args.bytes.now 0) name)))
+    (ap texts c.deref-8.ensures.value ∙ c.in_ok-said.ensures.wanted)
 
-pub returns-then-ends_module : goal.returns-then-ends_module
-returns-then-ends_module g c =
-    let frame = c.in-Ok.frame in
-    let place = c.loop-frame.place in
-    let next = place + (length frame.body.now + 4) in
-    let here : next ≡ frame.place + (length frame.body.now + 4) = omega (arith, c.in-Ok.ensures.place) in
-    let told =
-    names_end c.args.bytes.now place next c.loop-frame.listed.items c.loop-frame.said.wanted.items
-    c.loop-frame.said.offered.items c.loop-frame.said.libraries.items
-    c.push_listed.new.listed.items c.push_wanted.new.wanted.items c.push_offered.new.offered.items
-    c.push_library.new.libraries.items c.loop-frame.said.dosseg _ (plain_frame frame) c.loop-frame.invariant
-    c.in-Ok.ensures.said (sym c.ends_module.ensures ∙ c.if-ends_module.true)
-    here c.in-Ok.ensures.within (omega arith) (record {
-      listed_more = c.in_ok-push_listed.ensures;
-      wanted_more = rw c.deref.ensures.value at c.in_ok-push_wanted.ensures;
-      offered_more = rw c.deref-in-loop-frame.ensures.value at c.in_ok-push_offered.ensures;
-      libraries_more = c.in_ok-push_library.ensures;
-      asked_more = ap (λ b. c.loop-frame.said.dosseg || b) c.is_dosseg.ensures;
-    }) in
-    record {
-      wanted = told.all_wanted;
-      offered = told.all_offered;
-      libraries = told.all_libraries;
-      dosseg = told.asked;
-    }
+pub returns-clause-offered : goal.returns-clause-offered
+returns-clause-offered g c = c.in_ok-said.ensures.offered
 
-pub loop-frame-preserved : goal.loop-frame-preserved
-loop-frame-preserved g c =
-    let frame = c.in-Ok.frame in
-    let place = c.loop-frame.place in
-    let next = place + (length frame.body.now + 4) in
-    let here : next ≡ frame.place + (length frame.body.now + 4) = omega (arith, c.in-Ok.ensures.place) in
-    names_step c.args.bytes.now place next c.loop-frame.listed.items c.loop-frame.said.wanted.items
-    c.loop-frame.said.offered.items c.loop-frame.said.libraries.items
-    _ _ _ _ c.loop-frame.said.dosseg _ (plain_frame frame) c.loop-frame.invariant c.in-Ok.ensures.said
-    (sym c.ends_module.ensures ∙ c.if-ends_module.false)
-    here c.in-Ok.ensures.within (omega arith) (record {
-      listed_more = c.in_ok-push_listed.ensures;
-      wanted_more = rw c.deref.ensures.value at c.in_ok-push_wanted.ensures;
-      offered_more = rw c.deref-in-loop-frame.ensures.value at c.in_ok-push_offered.ensures;
-      libraries_more = c.in_ok-push_library.ensures;
-      asked_more = ap (λ b. c.loop-frame.said.dosseg || b) c.is_dosseg.ensures;
-    })
+pub returns-clause-libraries : goal.returns-clause-libraries
+returns-clause-libraries g c = c.in_ok-said.ensures.libraries
+
+pub returns-clause-dosseg : goal.returns-clause-dosseg
+returns-clause-dosseg g c = c.in_ok-said.ensures.dosseg

@@ -1,7 +1,7 @@
 use Rattle.std.proofs.Common.{arith, ap, map, sym, ◌∙◌}
 use Rattle.omf_frame.specs.Lending.{plain_frame}
 use Rattle.omf_library.specs.Names.{texts, wanted_in}
-use Rattle.omf_library.specs.Wanting.{is_among}
+use Rattle.omf_library.specs.Defaults.{is_among}
 use Rattle.omf_library.proofs.Asking.{left-first, left-found, left-none, some-wanted}
 use Rattle.omf_library.proofs.wanting.wanting_place.Goals as goal
 

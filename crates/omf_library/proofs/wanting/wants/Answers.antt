@@ -3,7 +3,7 @@ use Rattle.std.specs.List.{list_any}
 use Rattle.std.specs.Str.{bytes_eq}
 use Rattle.omf_frame.specs.Lending.{plain_frame}
 use Rattle.omf_library.specs.Names.{texts, wanted_in}
-use Rattle.omf_library.specs.Wanting.{is_among}
+use Rattle.omf_library.specs.Defaults.{is_among}
 use Rattle.omf_library.proofs.Asking.{among-texts}
 use Rattle.omf_library.proofs.wanting.wants.Goals as goal
 

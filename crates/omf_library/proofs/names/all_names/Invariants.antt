@@ -1,7 +1,7 @@
 use Rattle.std.proofs.Common.{◌-◌, length}
 use Rattle.omf_library.specs.Names.{texts}
 use Rattle.omf_library.proofs.Walking.{NamesLeft}
-use Rattle.omf_library.proofs.names.module_names.Given as goal
+use Rattle.omf_library.proofs.names.all_names.Given as goal
 
 abbrev pub invariant-loop-frame : goal.invariant-loop-frame
 invariant-loop-frame g l =

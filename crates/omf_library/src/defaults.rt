@@ -1,0 +1,378 @@
+//! Externals with a default resolution, which they mean where nothing defines them: weak ones and lazy ones.
+
+ghost use Rattle.std.specs.Prelude.{◌≡◌, ◌<◌, ◌==◌, ◌&&◌, ◌++◌, filter, length, map, not, IfOk, IfSome, OnOk};
+ghost use Rattle.std.specs.List.{filter_map, flat_map, list_any};
+ghost use Rattle.std.specs.Str.{bytes_eq};
+ghost use Rattle.omf_frame.specs.Lending.{plain_frame};
+ghost use Rattle.omf_library.specs.Entries.{entries};
+ghost use Rattle.omf_library.specs.Names.{texts};
+ghost use Rattle.omf_library.specs.Said.{all_defaulted, bytes_said, name_said};
+ghost use Rattle.omf_library.specs.Defaults as spec;
+ghost use Rattle.omf_library.specs.inside.Views.{defaulted_found, external_said, externals_said, pair_said};
+
+use crate::entries::{Entry, listed_name, push_names, take_communal, take_entry};
+use crate::fields::take_index;
+use crate::names::push_listed;
+use crate::records::comment_text;
+use crate::wanting::is_among;
+use omf_frame::Frame;
+use std::alloc::{AllocError, Allocator};
+
+/// The classes of comments that tell weak externals, and lazy ones.
+const WEAK: u8 = 0xA8;
+
+const LAZY: u8 = 0xA9;
+
+/// An external with a default.
+#[derive(Clone, Copy, Debug)]
+pub struct Defaulted<'a> {
+    /// How many bytes of the module stand before the comment that tells it.
+    pub place: u64,
+    /// Its index.
+    pub index: u16,
+    /// Its name.
+    pub name: &'a [u8],
+    /// The name of its default.
+    pub default_name: &'a [u8],
+}
+
+/// Whether a record of this type defines externals: EXTDEF, LEXTDEF, COMDEF, LCOMDEF and CEXTDEF.
+fn defines_externals(kind: u8) -> bool
+    ensures { result ≡ spec.defines_externals kind }
+{
+    kind == 0x8C || kind == 0xB4 || kind == 0xB0 || kind == 0xB8 || kind == 0xBC
+}
+
+/// A name that other modules may define: none of a record of this type whose names are local to its module.
+fn shared_name(kind: u8, name: &[u8]) -> Option<&[u8]>
+    ensures { bytes_said result ≡ spec.shared_name kind name.now }
+{
+    match kind {
+        0xB4 | 0xB8 => None,
+        _ => Some(name),
+    }
+}
+
+/// The name of an external at the front of a record of this type, which has names and no indexes of them, and the bytes
+/// behind the external. None where they end inside it.
+fn take_own_name(kind: u8, bytes: &[u8]) -> Option<(&[u8], &[u8])>
+    ensures said { name_said result ≡ spec.own_name_front kind bytes.now }
+    ensures shorter { IfSome result (λ x. length x.1.now < length bytes.now) }
+{
+    match kind {
+        0xB0 | 0xB8 => take_entry(Entry::Variable, bytes),
+        _ => take_entry(Entry::External, bytes),
+    }
+}
+
+/// The name of an external at the front of a record of this type, by the names listed so far, and the bytes behind it.
+/// The name is none where it is local to its module. None where the bytes end inside the external.
+fn take_external<'a>(
+    listed: &[&'a [u8]],
+    kind: u8,
+    bytes: &'a [u8],
+) -> Option<(Option<&'a [u8]>, &'a [u8])>
+    ensures said { external_said result ≡ spec.any_external_front (texts listed.now) kind bytes.now }
+    ensures shorter { IfSome result (λ x. length x.1.now < length bytes.now) }
+{
+    if kind == 0xBC {
+        let (index, rest) = take_communal(bytes)?;
+        return Some((listed_name(listed, index), rest));
+    }
+    let (name, rest) = take_own_name(kind, bytes)?;
+    Some((shared_name(kind, name), rest))
+}
+
+/// Appends the externals of a record.
+#[tactic(auto, unfolding(crate::specs::Defaults::record_externals))]
+fn push_externals<'a, A: Allocator + Copy>(
+    listed: &[&'a [u8]],
+    frame: &Frame<'a>,
+    externals: &mut Vec<Option<&'a [u8]>, A>,
+) -> Result<(), AllocError>
+    ensures { OnOk result (externals_said externals.new.items
+        ≡ externals_said externals.old.items ++ spec.record_externals (texts listed.now) (plain_frame frame.now)) }
+{
+    if defines_externals(frame.kind) {
+        push_entries(listed, frame.kind, frame.body, externals)
+    } else {
+        Ok(())
+    }
+}
+
+/// Appends the externals of a record's body, as far as it holds whole ones.
+fn push_entries<'a, A: Allocator + Copy>(
+    listed: &[&'a [u8]],
+    kind: u8,
+    body: &'a [u8],
+    externals: &mut Vec<Option<&'a [u8]>, A>,
+) -> Result<(), AllocError>
+    ensures { OnOk result (externals_said externals.new.items ≡ externals_said externals.old.items
+        ++ entries (spec.any_external_front (texts listed.now) kind) body.now) }
+{
+    let mut rest = body;
+    while let Some((name, after)) = take_external(listed, kind, rest) {
+        externals.push(name)?;
+        rest = after;
+    }
+    Ok(())
+}
+
+/// The externals of records, whose indexes count them from 1 on.
+fn module_externals<'a, A: Allocator + Copy>(
+    alloc: A,
+    frames: &[Frame<'a>],
+) -> Result<Vec<Option<&'a [u8]>, A>, AllocError>
+    ensures { IfOk result (λ v. externals_said v.items ≡ spec.module_externals (map plain_frame frames.now)) }
+{
+    let mut listed = Vec::new(alloc);
+    let mut externals = Vec::new(alloc);
+    for frame in frames {
+        push_externals(&listed, frame, &mut externals)?;
+        push_listed(frame, &mut listed)?;
+    }
+    Ok(externals)
+}
+
+/// The name of the external with this index. None where there is none, and where it is local to its module.
+fn external_name<'a>(externals: &[Option<&'a [u8]>], index: u16) -> Option<&'a [u8]>
+    ensures { bytes_said result ≡ spec.external_name (externals_said externals.now) index }
+{
+    if index == 0 {
+        return None;
+    }
+    let Some(name) = externals.get(usize::from(index) - 1) else {
+        return None;
+    };
+    *name
+}
+
+/// A pair of indexes at the front of the bytes, and the bytes behind it. None where they end inside it.
+fn take_pair(bytes: &[u8]) -> Option<((u16, u16), &[u8])>
+    ensures said { pair_said result ≡ spec.pair_front bytes.now }
+    ensures shorter { IfSome result (λ x. length x.1.now < length bytes.now) }
+{
+    let (index, rest) = take_index(bytes)?;
+    let (other, rest) = take_index(rest)?;
+    Some(((index, other), rest))
+}
+
+/// The external of a pair, by the comment's place. None where one of the two has no name that is shared.
+fn defaulted_of<'a>(
+    externals: &[Option<&'a [u8]>],
+    place: u64,
+    pair: (u16, u16),
+) -> Option<Defaulted<'a>>
+    ensures { defaulted_found result ≡ spec.defaulted_of (externals_said externals.now) place pair }
+{
+    let name = external_name(externals, pair.0)?;
+    let default_name = external_name(externals, pair.1)?;
+    Some(Defaulted {
+        place,
+        index: pair.0,
+        name,
+        default_name,
+    })
+}
+
+/// Appends the externals of the pairs of a comment's text, as far as it holds whole ones.
+fn push_pairs<'a, A: Allocator + Copy>(
+    externals: &[Option<&'a [u8]>],
+    place: u64,
+    text: &[u8],
+    told: &mut Vec<Defaulted<'a>, A>,
+) -> Result<(), AllocError>
+    ensures { OnOk result (all_defaulted told.new.items ≡ all_defaulted told.old.items
+        ++ filter_map (spec.defaulted_of (externals_said externals.now) place) (entries spec.pair_front text.now)) }
+{
+    let mut rest = text;
+    while let Some((pair, after)) = take_pair(rest) {
+        if let Some(one) = defaulted_of(externals, place, pair) {
+            told.push(one)?;
+        }
+        rest = after;
+    }
+    Ok(())
+}
+
+/// Appends the externals that a record tells, as a comment of this class.
+#[tactic(auto, unfolding(crate::specs::Defaults::defaulted_in))]
+fn push_told<'a, A: Allocator + Copy>(
+    class: u8,
+    externals: &[Option<&'a [u8]>],
+    frame: &Frame<'a>,
+    told: &mut Vec<Defaulted<'a>, A>,
+) -> Result<(), AllocError>
+    ensures { OnOk result (all_defaulted told.new.items ≡ all_defaulted told.old.items
+        ++ spec.defaulted_in class (externals_said externals.now) (plain_frame frame.now)) }
+{
+    match comment_text(frame, class) {
+        Some(text) => push_pairs(externals, frame.place, text, told),
+        None => Ok(()),
+    }
+}
+
+/// Appends the externals that comments of this class tell, in their order. A pair of which an index is none of an
+/// external with a name that is shared, and what stands behind the last whole pair, tell none: such an external is like
+/// any other.
+fn push_defaulted<'a, A: Allocator + Copy>(
+    alloc: A,
+    class: u8,
+    frames: &[Frame<'a>],
+    told: &mut Vec<Defaulted<'a>, A>,
+) -> Result<(), AllocError>
+    ensures { OnOk result (all_defaulted told.new.items
+        ≡ all_defaulted told.old.items ++ spec.defaulted class (map plain_frame frames.now)) }
+{
+    let externals = module_externals(alloc, frames)?;
+    for frame in frames {
+        push_told(class, &externals, frame, told)?;
+    }
+    Ok(())
+}
+
+/// The weak externals of a module's records.
+#[tactic(auto, unfolding(crate::specs::Defaults::weak_externals))]
+pub(crate) fn weak_externals<'a, A: Allocator + Copy>(
+    alloc: A,
+    frames: &[Frame<'a>],
+) -> Result<Vec<Defaulted<'a>, A>, AllocError>
+    ensures { IfOk result (λ v. all_defaulted v.items ≡ spec.weak_externals (map plain_frame frames.now)) }
+{
+    let mut told = Vec::new(alloc);
+    push_defaulted(alloc, WEAK, frames, &mut told)?;
+    Ok(told)
+}
+
+/// The weak externals of a module's records, and its lazy ones behind them.
+#[tactic(auto, unfolding(crate::specs::Defaults::weak_and_lazy))]
+pub fn weak_and_lazy<'a, A: Allocator + Copy>(
+    alloc: A,
+    frames: &[Frame<'a>],
+) -> Result<Vec<Defaulted<'a>, A>, AllocError>
+    ensures { IfOk result (λ v. all_defaulted v.items ≡ spec.weak_and_lazy (map plain_frame frames.now)) }
+{
+    let mut told = Vec::new(alloc);
+    push_defaulted(alloc, WEAK, frames, &mut told)?;
+    push_defaulted(alloc, LAZY, frames, &mut told)?;
+    Ok(told)
+}
+
+/// Whether a name is that of one of some externals.
+fn is_name_of(marked: &[Defaulted<'_>], name: &[u8]) -> bool
+    ensures { result ≡ list_any (λ one. bytes_eq one.name.now name.now) marked.now }
+{
+    for one in marked {
+        if one.name == name {
+            return true;
+        }
+    }
+    false
+}
+
+/// Whether an index is that of one of them.
+fn is_index_of(marked: &[Defaulted<'_>], index: usize) -> bool
+    ensures { result ≡ list_any (λ one. one.index == index) marked.now }
+{
+    for one in marked {
+        if usize::from(one.index) == index {
+            return true;
+        }
+    }
+    false
+}
+
+/// Whether an external has a name.
+fn is_named(name: &[u8], external: Option<&[u8]>) -> bool
+    ensures { result ≡ spec.is_named name.now (bytes_said external.entry) }
+{
+    match external {
+        Some(own) => name == own,
+        None => false,
+    }
+}
+
+/// Whether an external with this index has the name and isn't one of those.
+fn is_other(marked: &[Defaulted<'_>], name: &[u8], index: usize, external: Option<&[u8]>) -> bool
+    ensures { result ≡ (spec.is_named name.now (bytes_said external.entry)
+        && not (list_any (λ one. one.index == index) marked.now)) }
+{
+    is_named(name, external) && !is_index_of(marked, index)
+}
+
+/// Whether some external does.
+fn has_other(marked: &[Defaulted<'_>], name: &[u8], externals: &[Option<&[u8]>]) -> bool
+    ensures { result ≡ spec.has_other (all_defaulted marked.now) name.now 1 (externals_said externals.now) }
+{
+    for (before, external) in externals.iter().enumerate() {
+        if is_other(marked, name, before + 1, *external) {
+            return true;
+        }
+    }
+    false
+}
+
+/// Appends the names that an ALIAS stands for.
+pub(crate) fn push_substitutes<'a, A: Allocator + Copy>(
+    frame: &Frame<'a>,
+    names: &mut Vec<&'a [u8], A>,
+) -> Result<(), AllocError>
+    ensures { OnOk result (texts names.new.items
+        ≡ texts names.old.items ++ spec.substitutes_in (plain_frame frame.now)) }
+{
+    match frame.kind {
+        0xC6 => push_names(Entry::Substitute, frame.body, names),
+        _ => Ok(()),
+    }
+}
+
+/// The names that aliases of records stand for.
+fn substitutes<'a, A: Allocator + Copy>(
+    alloc: A,
+    frames: &[Frame<'a>],
+) -> Result<Vec<&'a [u8], A>, AllocError>
+    ensures { IfOk result (λ v. texts v.items ≡ flat_map spec.substitutes_in (map plain_frame frames.now)) }
+{
+    let mut names = Vec::new(alloc);
+    for frame in frames {
+        push_substitutes(frame, &mut names)?;
+    }
+    Ok(names)
+}
+
+/// Whether a name is that of one of some externals, and no other one of a module has it and no alias stands for it.
+fn is_theirs(
+    marked: &[Defaulted<'_>],
+    externals: &[Option<&[u8]>],
+    substitutes: &[&[u8]],
+    name: &[u8],
+) -> bool
+    ensures { result ≡ (list_any (λ one. bytes_eq one.name.now name.now) marked.now
+        && not (spec.has_other (all_defaulted marked.now) name.now 1 (externals_said externals.now))
+        && not (list_any (λ each. bytes_eq name.now each.now) substitutes.now)) }
+{
+    is_name_of(marked, name) && !has_other(marked, name, externals) && !is_among(name, substitutes)
+}
+
+/// Those names of a module, in their order, that aren't names of some of its externals alone.
+#[tactic(auto, unfolding(crate::specs::Defaults::is_theirs_alone))]
+pub(crate) fn names_but<'a, A: Allocator + Copy>(
+    alloc: A,
+    marked: &[Defaulted<'_>],
+    frames: &[Frame<'a>],
+    names: &[&'a [u8]],
+) -> Result<Vec<&'a [u8], A>, AllocError>
+    ensures { IfOk result (λ v. texts v.items ≡ filter (λ name. not (spec.is_theirs_alone (all_defaulted marked.now)
+        (map plain_frame frames.now) name)) (texts names.now)) }
+{
+    let externals = module_externals(alloc, frames)?;
+    let substitutes = substitutes(alloc, frames)?;
+    let mut others = Vec::new(alloc);
+    for name in names {
+        if is_theirs(marked, &externals, &substitutes, name) {
+            continue;
+        }
+        others.push(*name)?;
+    }
+    Ok(others)
+}
