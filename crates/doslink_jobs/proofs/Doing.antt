@@ -14,7 +14,7 @@ use Rattle.omf_communal.specs.Deciding.{Variable}
 use Rattle.doslink_jobs.specs.declared.inputs.Inputs.{Inputs}
 use Rattle.doslink_jobs.specs.declared.stop.Stop.{Stop}
 use Rattle.doslink_jobs.specs.declared.stop.Stop.TheVariants.{Input, Words, Device, Memory}
-use Rattle.doslink_stock.specs.Files.{Held, members, objects}
+use Rattle.doslink_stock.specs.Files.{Held, members, needs, objects}
 use Rattle.doslink_stock.specs.Search.{Takes}
 use Rattle.doslink_jobs.specs.Jobs.{AreDefaults, EndsWith, IsDone, IsLinkOf, IsLinked, TakesOf, names_of}
 use Rattle.doslink_jobs.specs.Communals.{AreVariablesOf, offering}
@@ -36,8 +36,8 @@ OnOk-then P answer (Err fault) same p = tt
 -- a link was done of these inputs for the modules that it takes
 pub of-inputs : (A : Type 0) (job : Job) (os ms handed : List Held) (vs : List Variable) (inputs : Inputs A)
     → Takes (names_of job.ignore_case) os ms handed → AreVariablesOf (names_of job.ignore_case) handed vs
-    → unmet (names_of job.ignore_case) (map (λ m. m.says) handed ++ offering vs ∷ []) ≡ []
-    → AreInputsFor job (wants_marks (names_of job.ignore_case) (map (λ m. m.says) handed ++ offering vs ∷ [])) handed vs
+    → unmet (names_of job.ignore_case) (map needs handed ++ offering vs ∷ []) ≡ []
+    → AreInputsFor job (wants_marks (names_of job.ignore_case) (map needs handed ++ offering vs ∷ [])) handed vs
     inputs
     → IsFaultless A (names_of job.ignore_case) (input_list inputs) → IsLinkedStock A job os ms
 of-inputs A job os ms handed vs inputs takes variables met are faultless = record {

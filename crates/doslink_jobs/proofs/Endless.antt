@@ -1,21 +1,10 @@
--- The aliases of modules, one module behind the other.
-use Rattle.std.proofs.Common.{◌≡◌, ℕ, ◌+◌, ◌<◌, List, [], length, map, take, get_or, find, None, refl, sym, ap, ◌∙◌}
-use Rattle.std.proofs.lemmas.List.Folds.{find-append}
-use Rattle.std.specs.Option.{option_or}
-use Rattle.omf_alias.proofs.Gathering.{gather-turn}
-use Rattle.omf_alias.specs.Meaning.{Renaming, endless, meaning}
-use Rattle.omf_alias.specs.Reading.{aliases_of}
-use Rattle.omf_library.specs.Records.{module_records}
-use Rattle.doslink_jobs.specs.Jobs.{link_aliases}
+-- Names that go round for ever in no module, one module behind the other.
+use Rattle.std.proofs.Common.{◌≡◌, ℕ, ◌+◌, ◌<◌, All, List, [], ◌∷◌, length, map, take, get_or, sym, subst, ap}
+use Rattle.std.proofs.lemmas.List.Elements.{All-push}
+use Rattle.omf_library.proofs.Gathering.{map-turn}
 
--- no alias of one module more goes round for ever
-pub endless-turn : {X : Type 0} (r : Renaming) (bytes : X → List ℕ) (xs : List X) (i : ℕ) (x : X) → i < length xs
-    → x ≡ get_or xs i x
-    → endless r (link_aliases (map bytes (take i xs))) ≡ None
-    → endless r (aliases_of (module_records (bytes x) 0)) ≡ None
-    → endless r (link_aliases (map bytes (take (i + 1) xs))) ≡ None
-endless-turn r bytes xs i x h is before here =
-    ap (endless r)
-    (sym (gather-turn bytes (λ m. aliases_of (module_records m 0)) xs i x [] _ _ h is refl refl))
-    ∙ find-append _ (link_aliases (map bytes (take i xs))) (aliases_of (module_records (bytes x) 0))
-    ∙ ap (λ o. option_or o (endless r (aliases_of (module_records (bytes x) 0)))) before ∙ here
+-- the next one
+pub all-turn : {X Y : Type 0} (P : Y → Type 0) (f : X → Y) (xs : List X) (i : ℕ) (x : X) → i < length xs
+    → x ≡ get_or xs i x → All P (map f (take i xs)) → P (f x) → All P (map f (take (i + 1) xs))
+all-turn P f xs i x h is before here =
+    subst (All P) (sym (map-turn f xs i x h is)) (All-push P (map f (take i xs)) (f x) before here)

@@ -2,6 +2,7 @@ pub mod Adding
 pub mod Endless
 pub mod Bss
 pub mod Declaring
+pub mod Defaulting
 pub mod Doing
 pub mod Failures
 pub mod FarData

@@ -1,29 +1,29 @@
 -- What a job has done where it ends well, and how a run ends. `told` are the bytes of files by their paths, where the
 -- world tells them.
-use Rattle.std.specs.Prelude.{◌≡◌, ◌⊎◌, ℕ, Bool, true, false, List, [], ◌∷◌, ◌++◌, map, None, Ok}
+use Rattle.std.specs.Prelude.{◌≡◌, ◌⊎◌, ℕ, Bool, true, false, All, List, [], ◌∷◌, ◌++◌, map, Ok}
 use Rattle.std.specs.Prelude.{if◌then◌else◌}
 use Rattle.std.specs.declared.option.Option.{Option}
 use Rattle.std.specs.declared.result.Result.{Result}
-use Rattle.std.specs.List.{Contains, flat_map, list_any}
+use Rattle.std.specs.List.{Contains, list_any}
 use Rattle.std.specs.Option.{option_to_list}
 use Rattle.clap.specs.Words.{Text}
-use Rattle.omf_alias.specs.Meaning.{Renaming, endless}
-use Rattle.omf_alias.specs.Reading.{Alias, aliases_of}
+use Rattle.omf_alias.specs.Meaning.{Renaming}
 use Rattle.omf_frame.specs.declared.device.IoFault.{IoFault}
 use Rattle.omf_frame.specs.Device.{Writes}
 use Rattle.omf_place.specs.declared.names.Names.{Names}
 use Rattle.omf_place.specs.declared.names.Names.TheVariants.{AsciiFolded, Exact}
 use Rattle.omf_commands.specs.Outcome.{IsFaultless}
 use Rattle.omf_communal.specs.Deciding.{Variable}
-use Rattle.omf_library.specs.Records.{module_records}
 use Rattle.omf_lower.specs.declared.lowering.Lowering.{Lowering}
 use Rattle.omf_lower.specs.Module.{lowered}
+use Rattle.omf_search.specs.Said.{Module}
 use Rattle.doslink_words.specs.declared.job.Job.{Job}
 use Rattle.doslink_words.specs.Said.{order_of}
 use Rattle.doslink_words.specs.Tokens.{texts}
 use Rattle.doslink_stock.specs.Search.{Takes}
-use Rattle.doslink_stock.specs.Files.{Held, members, objects}
+use Rattle.doslink_stock.specs.Files.{Held, members, needs, objects}
 use Rattle.doslink_telling.specs.Missing.{unmet, wants_marks}
+use Rattle.doslink_jobs.specs.Aliases.{EndsIn, link_aliases, module_renaming}
 use Rattle.doslink_jobs.specs.Communals.{AreVariablesOf, IsCommunalModule, offering}
 use Rattle.doslink_jobs.specs.FarData.{TellsFit}
 use Rattle.doslink_jobs.specs.Locals.{HaveLocals}
@@ -41,17 +41,14 @@ abbrev pub TakesOf : Names → (files : List (List ℕ)) → (modules : List Hel
 TakesOf names files modules =
     (offered : List Held) × (members files ≡ Ok offered) × Takes names (objects files) offered modules
 
--- the aliases of modules, in the order of these
-abbrev pub link_aliases : (modules : List (List ℕ)) → List Alias
-link_aliases modules = flat_map (λ m. aliases_of (module_records m 0)) modules
+-- what names mean in each of the modules of a job, by its bytes, where the link's modules say so of names: the aliases
+-- of each hold for all
+abbrev pub renaming_of : Job → (says : List Module) → (modules : List (List ℕ)) → (bytes : List ℕ) → Renaming
+renaming_of job says modules bytes = module_renaming (names_of job.ignore_case) says (link_aliases modules) bytes
 
--- what names mean in the modules of a job: the aliases of each hold for all
-abbrev pub renaming_of : Job → (modules : List (List ℕ)) → Renaming
-renaming_of job modules = record { names = names_of job.ignore_case; aliases = link_aliases modules }
-
--- these are the modules lowered
-abbrev pub AreLowered : Lowering → Renaming → (modules inputs : List (List ℕ)) → Type 0
-AreLowered lowering renaming modules inputs = map (lowered lowering renaming) modules ≡ map Ok inputs
+-- these are the modules lowered, with what names mean in each
+abbrev pub AreLowered : Lowering → (means : List ℕ → Renaming) → (modules inputs : List (List ℕ)) → Type 0
+AreLowered lowering means modules inputs = map (λ m. lowered lowering (means m) m) modules ≡ map Ok inputs
 
 -- how a job lowers modules whose far data shares no frame
 abbrev pub plain_lowering : Job → Lowering
@@ -59,20 +56,19 @@ plain_lowering job = record { keep_debug = job.keep_debug; shares_far_data = fal
 
 -- How a job lowers modules, with what names mean in them. Far data shares a frame exactly where the job packs it and
 -- all of it fits in one, as it is in the modules lowered without that.
-pub record IsLoweringFor (job : Job) (renaming : Renaming) (modules : List (List ℕ)) (lowering : Lowering) : Type 0
-  where
+pub record IsLoweringFor (job : Job) (means : List ℕ → Renaming) (modules : List (List ℕ)) (lowering : Lowering)
+    : Type 0 where
     pub debug : lowering.keep_debug ≡ job.keep_debug
     pub packed : job.packs_far_data ≡ true → (plain : List (List ℕ))
-        × AreLowered (plain_lowering job) renaming modules plain × TellsFit plain lowering.shares_far_data
+        × AreLowered (plain_lowering job) means modules plain × TellsFit plain lowering.shares_far_data
     pub apart : job.packs_far_data ≡ false → lowering.shares_far_data ≡ false
 
--- these are the modules lowered as a job asks for, with what names mean by all aliases; none of these goes round for
--- ever
-pub record AreLoweredFor (job : Job) (modules inputs : List (List ℕ)) : Type 0 where
+-- these are the modules lowered as a job asks for, with what names mean in each; none goes round for ever
+pub record AreLoweredFor (job : Job) (says : List Module) (modules inputs : List (List ℕ)) : Type 0 where
   pub lowering : Lowering
-  pub is_lowering : IsLoweringFor job (renaming_of job modules) modules lowering
-  pub ends : endless (renaming_of job modules) (link_aliases modules) ≡ None
-  pub are_lowered : AreLowered lowering (renaming_of job modules) modules inputs
+  pub is_lowering : IsLoweringFor job (renaming_of job says modules) modules lowering
+  pub end : All (EndsIn (names_of job.ignore_case) says (link_aliases modules)) modules
+  pub are_lowered : AreLowered lowering (renaming_of job says modules) modules inputs
 
 -- A link was done of the modules that it takes: none of their names is missing, those of their communal variables being
 -- offered too, and lowered, each with the variables that are local to it, with the module of communal variables behind
@@ -86,12 +82,13 @@ pub record IsLinkOf (A : Type 0) (job : Job) (takes : List Held → Type 0) : Ty
   pub order : Option (List ℕ)
   pub taken : takes modules
   pub are_variables : AreVariablesOf (names_of job.ignore_case) modules variables
-  pub met : unmet (names_of job.ignore_case) (map (λ m. m.says) modules ++ offering variables ∷ []) ≡ []
-  pub are_lowered : AreLoweredFor job (map (λ m. m.bytes) modules) lowered
+  pub met : unmet (names_of job.ignore_case) (map needs modules ++ offering variables ∷ []) ≡ []
+  pub are_lowered : AreLoweredFor job (map needs modules ++ offering variables ∷ []) (map (λ m. m.bytes) modules)
+      lowered
   pub have_locals : HaveLocals (names_of job.ignore_case) (map (λ m. m.bytes) modules) lowered inputs
   pub placed : IsCommunalModule inputs variables communal
   pub ordered : IsOrderModule (names_of job.ignore_case)
-      (wants_marks (names_of job.ignore_case) (map (λ m. m.says) modules ++ offering variables ∷ []))
+      (wants_marks (names_of job.ignore_case) (map needs modules ++ offering variables ∷ []))
       (list_any (λ m. m.dosseg) modules) (order_of job.order) (inputs ++ option_to_list communal) order
   pub faultless : IsFaultless A (names_of job.ignore_case) (option_to_list order ++ (inputs ++ option_to_list communal))
 

@@ -1,3 +1,4 @@
+pub mod Aliases
 pub mod Communals
 pub mod FarData
 pub mod Jobs

@@ -4,5 +4,6 @@ pub mod Declaring
 pub mod Flushed
 pub mod Inputs
 pub mod Listed
+pub mod Meanings
 pub mod Reading
 pub mod Stops

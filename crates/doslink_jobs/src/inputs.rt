@@ -10,12 +10,12 @@ ghost use Rattle.doslink_jobs.specs.Jobs.{names_of};
 ghost use Rattle.doslink_jobs.specs.Orders.{IsOrderModule};
 ghost use Rattle.doslink_jobs.specs.inside.Inputs.{AreInputsFor, input_list, made_bytes, module_list};
 
-use crate::communals::communal_bytes;
+use crate::communals::{communal_bytes, variable_names};
 use crate::locals::with_locals;
 use crate::lowering::{LoweredModule, lower_for, lowered_slices};
 use crate::ordering::{Asked, is_unasked, order_bytes, read_modules};
 use crate::stop::Stop;
-use crate::taking::Taken;
+use crate::taking::{Taken, link_saids};
 use crate::widths::warn_of_wide_segments;
 use doslink_stock::Handed;
 use doslink_words::Job;
@@ -189,7 +189,7 @@ pub(crate) fn inputs_of<'a, A: Allocator + Copy>(
     alloc: A,
     job: &Job<'_>,
     taken: &Taken<'_, '_, 'a, A>,
-    variables: &[Variable<'_>],
+    variables: &[Variable<'a>],
     marks: bool,
     lines: &mut Vec<u8, A>,
 ) -> Result<Inputs<'a, A>, Stop>
@@ -197,7 +197,9 @@ pub(crate) fn inputs_of<'a, A: Allocator + Copy>(
         (map variable_said variables.now) inputs) }
 {
     let names = options_of(job).names;
-    let lowered = lower_for(alloc, job, taken, lines)?;
+    let offered = variable_names(alloc, variables)?;
+    let says = link_saids(alloc, taken.handed, &offered)?;
+    let lowered = lower_for(alloc, job, taken, &says, lines)?;
     let modules = with_locals(alloc, names, lowered, taken, lines)?;
     let communal = communal_bytes(alloc, &modules, taken, variables, lines)?;
     let asked = Asked {

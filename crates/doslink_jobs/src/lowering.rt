@@ -1,15 +1,16 @@
 //! The modules of a link, lowered: what compilers write in place of what `link` takes is rewritten.
 ghost use Rattle.std.specs.Prelude.{◌≡◌, ◌+◌, ◌≤◌, IfOk, map, min, nat_le, sum_by};
-ghost use Rattle.omf_alias.specs.Said.{renaming_said};
 ghost use Rattle.omf_module.specs.Seen.{segment_seen};
+ghost use Rattle.omf_search.specs.Results.{module_said};
 ghost use Rattle.doslink_stock.specs.Seen.{handed_held};
 ghost use Rattle.doslink_link.specs.Linking.{bytes_of};
 ghost use Rattle.doslink_jobs.specs.FarData as spec;
 ghost use Rattle.doslink_jobs.specs.FarData.{TellsFit};
 ghost use Rattle.doslink_jobs.specs.Jobs.{AreLowered, AreLoweredFor, IsLoweringFor};
 ghost use Rattle.doslink_jobs.specs.inside.Inputs.{lowered_bytes, own_bytes};
+ghost use Rattle.doslink_jobs.specs.inside.Meanings.{means};
 
-use crate::aliases::{aliases_of, check_aliases};
+use crate::aliases::{Meanings, aliases_in, aliases_of, check_aliases};
 use crate::inputs::options_of;
 use crate::ordering::read_modules;
 use crate::stop::{Stop, stop_after};
@@ -20,6 +21,7 @@ use doslink_words::Job;
 use omf_alias::Renaming;
 use omf_lower::{Lowering, LoweringFault, is_far_data, lower, record_place};
 use omf_module::{Module, Segment};
+use omf_search::Said;
 use std::alloc::{AllocError, Allocator};
 
 /// The bytes of a frame at most.
@@ -81,17 +83,22 @@ pub(crate) fn lower_modules<'a, A: Allocator + Copy>(
     alloc: A,
     taken: &Taken<'_, '_, 'a, A>,
     lowering: Lowering,
-    renaming: &Renaming<'_, 'a>,
+    meanings: &Meanings<'_, '_, 'a>,
     lines: &mut Vec<u8, A>,
 ) -> Result<Vec<LoweredModule<'a, A>, A>, Stop>
     ensures own { IfOk result (λ v. map own_bytes v.items ≡ map (λ h. (handed_held h).bytes) taken.now.handed.now) }
-    ensures lowered { IfOk result (λ v. AreLowered lowering (renaming_said renaming.now)
+    ensures lowered { IfOk result (λ v. AreLowered lowering (means meanings.now)
         (map (λ h. (handed_held h).bytes) taken.now.handed.now) (map lowered_bytes v.items)) }
 {
     let mut modules = Vec::new(alloc);
     for each in taken.handed {
         let own = each.entry.bytes;
-        match lower(alloc, own, lowering, &*renaming) {
+        let aliases = aliases_in(alloc, meanings, own)?;
+        let renaming = Renaming {
+            names: meanings.names,
+            aliases: &aliases,
+        };
+        match lower(alloc, own, lowering, &renaming) {
             Ok(lowered) => modules.push(LoweredModule {
                 own,
                 lowered,
@@ -201,10 +208,10 @@ fn lowering_of<'a, A: Allocator + Copy>(
     alloc: A,
     job: &Job<'_>,
     taken: &Taken<'_, '_, 'a, A>,
-    renaming: &Renaming<'_, 'a>,
+    meanings: &Meanings<'_, '_, 'a>,
     lines: &mut Vec<u8, A>,
 ) -> Result<Lowering, Stop>
-    ensures { IfOk result (IsLoweringFor job.now (renaming_said renaming.now)
+    ensures { IfOk result (IsLoweringFor job.now (means meanings.now)
         (map (λ h. (handed_held h).bytes) taken.now.handed.now)) }
 {
     let plain = Lowering {
@@ -214,7 +221,7 @@ fn lowering_of<'a, A: Allocator + Copy>(
     if !job.packs_far_data {
         return Ok(plain);
     }
-    let modules = lower_modules(alloc, taken, plain, renaming, lines)?;
+    let modules = lower_modules(alloc, taken, plain, meanings, lines)?;
     let shares_far_data = shares_far_data(alloc, &modules, taken, lines)?;
     Ok(Lowering {
         keep_debug: job.keep_debug,
@@ -222,23 +229,25 @@ fn lowering_of<'a, A: Allocator + Copy>(
     })
 }
 
-/// The modules lowered as a job asks for.
+/// The modules lowered as a job asks for, where the modules of the link say so of names.
 pub(crate) fn lower_for<'a, A: Allocator + Copy>(
     alloc: A,
     job: &Job<'_>,
     taken: &Taken<'_, '_, 'a, A>,
+    says: &[Said<'_, 'a>],
     lines: &mut Vec<u8, A>,
 ) -> Result<Vec<LoweredModule<'a, A>, A>, Stop>
     ensures own { IfOk result (λ v. map own_bytes v.items ≡ map (λ h. (handed_held h).bytes) taken.now.handed.now) }
-    ensures lowered { IfOk result (λ v. AreLoweredFor job.now (map (λ h. (handed_held h).bytes) taken.now.handed.now)
-        (map lowered_bytes v.items)) }
+    ensures lowered { IfOk result (λ v. AreLoweredFor job.now (map module_said says.now)
+        (map (λ h. (handed_held h).bytes) taken.now.handed.now) (map lowered_bytes v.items)) }
 {
     let aliases = aliases_of(alloc, taken)?;
-    let renaming = Renaming {
+    let meanings = Meanings {
         names: options_of(job).names,
+        says,
         aliases: &aliases,
     };
-    check_aliases(alloc, taken, &renaming, lines)?;
-    let lowering = lowering_of(alloc, job, taken, &renaming, lines)?;
-    lower_modules(alloc, taken, lowering, &renaming, lines)
+    check_aliases(alloc, taken, &meanings, lines)?;
+    let lowering = lowering_of(alloc, job, taken, &meanings, lines)?;
+    lower_modules(alloc, taken, lowering, &meanings, lines)
 }

@@ -9,19 +9,21 @@ use Rattle.omf_library.specs.declared.files.FileKind.{FileKind}
 use Rattle.omf_library.specs.declared.files.FileKind.TheVariants as kind
 use Rattle.omf_library.specs.Files.{file_kind, members_of}
 use Rattle.omf_library.specs.Members.{PlainMember, joined}
-use Rattle.omf_library.specs.Names.{wanted_names, offered_names, library_names, asks_dosseg}
+use Rattle.omf_library.specs.Names.{wanted_names, needed_names, offered_names, library_names}
+use Rattle.omf_library.specs.Names.{asks_dosseg}
 use Rattle.omf_library.specs.Records.{module_records}
 use Rattle.omf_search.specs.Said.{Module}
 use Rattle.doslink_stock.specs.declared.fault.StockFault.{StockFault}
 use Rattle.doslink_stock.specs.declared.fault.StockFault.TheVariants as stock
 
 -- a module of a file: the index of the file, the member's name where it is one, its bytes, the names that it wants and
--- offers, the default libraries that it names, and whether it asks for the DOSSEG order
+-- offers, those that it needs, the default libraries that it names, and whether it asks for the DOSSEG order
 pub record Held : Type 0 where
   pub file : ℕ
   pub name : Option (List ℕ)
   pub bytes : List ℕ
   pub says : Module
+  pub needed : List (List ℕ)
   pub libraries : List (List ℕ)
   pub dosseg : Bool
 
@@ -35,9 +37,14 @@ held file name bytes = record {
     wanted = wanted_names (module_records bytes 0);
     offered = offered_names (module_records bytes 0);
   };
+  needed = needed_names (module_records bytes 0);
   libraries = library_names (module_records bytes 0);
   dosseg = asks_dosseg (module_records bytes 0);
 }
+
+-- what a module says of names once no more are looked for: those that it needs, and those that it offers
+abbrev pub needs : Held → Module
+needs m = record { wanted = m.needed; offered = m.says.offered }
 
 -- a file of this kind is an object module
 abbrev pub is_object : FileKind → Bool

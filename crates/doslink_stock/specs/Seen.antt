@@ -13,6 +13,7 @@ entry_held e = record {
   name = option_copied e.member;
   bytes = e.bytes.now;
   says = names_said e.says;
+  needed = bytes_of e.says.needed.items;
   libraries = bytes_of e.says.libraries.items;
   dosseg = e.says.dosseg;
 }

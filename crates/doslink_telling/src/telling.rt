@@ -76,17 +76,20 @@ pub fn module_words<A: Allocator + Copy>(
     Ok(words)
 }
 
-/// What the modules handed on say of names.
+/// What the modules handed on say of names once no more are looked for: those that they need, and that they offer.
 pub fn handed_saids<'h, 'a, A: Allocator + Copy>(
     alloc: A,
     handed: &'h [Handed<'_, 'a, A>],
 ) -> Result<Vec<Said<'h, 'a>, A>, AllocError>
-    ensures { IfOk result (λ v. map module_said v.items ≡ map (λ h. (handed_held h).says) handed.now) }
+    ensures { IfOk result (λ v. map module_said v.items ≡ map (λ h. needs (handed_held h)) handed.now) }
 {
     let mut all = Vec::new(alloc);
     for each in handed {
-        let said = Said::of(&each.entry.says);
-        all.push(said)?;
+        let names = &each.entry.says;
+        all.push(Said {
+            wanted: names.needed.as_slice(),
+            offered: names.offered.as_slice(),
+        })?;
     }
     Ok(all)
 }

@@ -1,11 +1,11 @@
 use Rattle.std.proofs.Common.{◌≡◌, [], map, ap, ◌∙◌, arith}
 use Rattle.std.proofs.lemmas.List.{take_all}
-use Rattle.omf_alias.proofs.Gathering.{gather-turn}
+use Rattle.omf_library.proofs.Gathering.{gather-turn}
 use Rattle.omf_alias.specs.Reading.{aliases_of}
 use Rattle.omf_alias.specs.Said.{aliases_said}
 use Rattle.omf_library.specs.Records.{module_records}
 use Rattle.doslink_stock.specs.Seen.{handed_held}
-use Rattle.doslink_jobs.specs.Jobs.{link_aliases}
+use Rattle.doslink_jobs.specs.Aliases.{link_aliases}
 use Rattle.doslink_jobs.proofs.aliases.aliases_of.Goals as goal
 
 pub loop-each-preserved : goal.loop-each-preserved

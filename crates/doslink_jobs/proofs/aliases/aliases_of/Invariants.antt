@@ -1,7 +1,7 @@
 use Rattle.std.proofs.Common.{◌≡◌, map, take}
 use Rattle.omf_alias.specs.Said.{aliases_said}
 use Rattle.doslink_stock.specs.Seen.{handed_held}
-use Rattle.doslink_jobs.specs.Jobs.{link_aliases}
+use Rattle.doslink_jobs.specs.Aliases.{link_aliases}
 use Rattle.doslink_jobs.proofs.aliases.aliases_of.Given as goal
 
 abbrev pub invariant-loop-each : goal.invariant-loop-each

@@ -1,10 +1,11 @@
 use Rattle.std.proofs.Common.{sym, ap, ◌∙◌}
-use Rattle.omf_alias.specs.Said.{renaming_said}
+use Rattle.omf_alias.specs.Said.{aliases_said}
 use Rattle.omf_lower.specs.Module.{lowered}
 use Rattle.doslink_stock.proofs.Walks.{map-step}
 use Rattle.doslink_stock.specs.Seen.{handed_held}
 use Rattle.doslink_jobs.specs.inside.Inputs.{own_bytes}
-use Rattle.doslink_jobs.proofs.Lowered.{answer-lowered, lowered-next}
+use Rattle.doslink_jobs.specs.inside.Meanings.{means}
+use Rattle.doslink_jobs.proofs.Lowered.{answer-lowered, lowered-as, lowered-next}
 use Rattle.doslink_jobs.proofs.lowering.lower_modules.Goals as goal
 
 pub loop-each-preserved : goal.loop-each-preserved
@@ -14,10 +15,12 @@ loop-each-preserved g c = record {
       c.each-item.result c.loop-each.modules.items c.push.new.self.items _ c.loop-each-test.true
       c.in_ok-push-in-Ok.ensures.items (ap (λ h. (handed_held h).bytes) c.each-item.is) c.loop-each.invariant.own;
   lowered =
-      lowered-next c.args.lowering (renaming_said c.args.renaming.now) c.args.taken.now.handed.now
+      lowered-next c.args.lowering (means c.args.meanings.now) c.args.taken.now.handed.now
       c.loop-each.each-index c.each-item.result
       c.loop-each.modules.items c.push.new.self.items _ c.loop-each-test.true c.loop-each.invariant.lowered
-      (ap (λ h. lowered c.args.lowering (renaming_said c.args.renaming.now) (handed_held h).bytes) (sym c.each-item.is)
+      (ap (λ h. lowered-as c.args.lowering (means c.args.meanings.now) (handed_held h).bytes) (sym c.each-item.is)
+      ∙ ap (λ l. lowered c.args.lowering (record { names = c.args.meanings.now.names; aliases = l })
+      (handed_held c.each-item.result).bytes) (sym (ap aliases_said c.deref.ensures.value ∙ c.in_ok-aliases.ensures))
       ∙ answer-lowered _ _ c.in-Ok.lowered c.in-Ok.ensures)
       c.in_ok-push-in-Ok.ensures.items;
 }
