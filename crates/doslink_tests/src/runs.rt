@@ -1,5 +1,7 @@
 //! Runs over a world in memory.
-use crate::aliasing::{ALIAS, CALLS, CASE, ROUND};
+use crate::aliasing::{
+    ALIAS, BACK, BEHIND, CALLS, CASE, ITSELF, LAZILY, NOWHERE, OTHERWISE, ROUND, WEAKLY,
+};
 use crate::declaring::{
     BODY, CUT_ELEMENT, END, FAR, LOCAL, LOCAL_CLASH, LOCAL_LONG, LOCAL_START, LOCAL_TABLE, LONG,
     MANY, NEAR, OTHER_SIZE, TABLE,
@@ -120,6 +122,52 @@ doslink -v LOCAL.OBJ ALIAS.OBJ RUN.LIB|0|LOCAL.OBJ~ALIAS.OBJ~RUN.LIB(c.c) for \"
 doslink --ignore-case CALLS.OBJ CASE.OBJ F.OBJ|1||doslink: CASE.OBJ: 60 EndlessAlias \"F\" at record 8~
 ";
 
+/// Runs with weak and lazy externals, in the same form.
+const DEFAULT_RUNS: &str = "\
+doslink -v WEAKLY.OBJ RUN.LIB|0|WEAKLY.OBJ~RUN.LIB(c.c) for \"g\"~|
+doslink -v WEAKLY.OBJ A.OBJ RUN.LIB|0|WEAKLY.OBJ~A.OBJ~RUN.LIB(c.c) for \"g\"~RUN.LIB(b.c) for \"f\"~|
+doslink A.OBJ WEAKLY.OBJ -l RUN|0||
+doslink -v WEAKLY.OBJ F.OBJ RUN.LIB|0|WEAKLY.OBJ~F.OBJ~RUN.LIB(c.c) for \"g\"~|
+doslink WEAKLY.OBJ F.OBJ|1||doslink: WEAKLY.OBJ: \"g\" is missing: record 28 (0000001C), wanted by \"a.c\"~
+doslink A.OBJ WEAKLY.OBJ|1||\
+doslink: A.OBJ: \"f\" is missing: record 28 (0000001C), wanted by \"a.c\"~\
+doslink: WEAKLY.OBJ: \"g\" is missing: record 28 (0000001C), wanted by \"a.c\"~
+doslink -v WEAKLY.OBJ ALIAS.OBJ RUN.LIB|0|WEAKLY.OBJ~ALIAS.OBJ~RUN.LIB(c.c) for \"g\"~|
+doslink WEAKLY.OBJ BACK.OBJ F.OBJ|0||
+doslink WEAKLY.OBJ BACK.OBJ|1||doslink: BACK.OBJ: \"f\" is missing: record 8 (00000008), wanted by \"n.c\"~
+doslink WEAKLY.OBJ BEHIND.OBJ D.OBJ|0||
+doslink -v LAZILY.OBJ RUN.LIB|0|LAZILY.OBJ~RUN.LIB(b.c) for \"f\"~RUN.LIB(c.c) for \"g\"~|
+doslink -v LAZILY.OBJ F.OBJ RUN.LIB|0|LAZILY.OBJ~F.OBJ~RUN.LIB(c.c) for \"g\"~|
+doslink LAZILY.OBJ F.OBJ|1||doslink: LAZILY.OBJ: \"g\" is missing: record 28 (0000001C), wanted by \"a.c\"~
+doslink LAZILY.OBJ BEHIND.OBJ D.OBJ|0||
+doslink WEAKLY.OBJ LAZILY.OBJ BEHIND.OBJ D.OBJ|0||
+doslink A.OBJ LAZILY.OBJ BEHIND.OBJ D.OBJ|1||doslink: A.OBJ: \"f\" is missing: record 28 (0000001C), wanted by \"a.c\"; \"_f\" is in D.OBJ~
+doslink -v NOWHERE.OBJ RUN.LIB|0|NOWHERE.OBJ~RUN.LIB(b.c) for \"f\"~RUN.LIB(c.c) for \"g\"~|
+doslink ITSELF.OBJ F.OBJ|0||
+doslink ITSELF.OBJ|1||doslink: ITSELF.OBJ: 60 EndlessAlias \"f\" at record 35~
+";
+
+/// Runs, and the code of the program that each writes: a call of `f` first.
+const PROGRAMS: [(&str, &[u8]); 7] = [
+    // its default is in the module behind the next one
+    ("doslink WEAKLY.OBJ D.OBJ RUN.LIB", &[0xE8, 0x01, 0x00, 0x90, 0x90]),
+    // a module defines it, with its default behind that one
+    ("doslink WEAKLY.OBJ F.OBJ RUN.LIB", &[0xE8, 0x00, 0x00, 0x90, 0x90]),
+    // a module calls it otherwise: its default comes first out of the library
+    ("doslink WEAKLY.OBJ CALLS.OBJ RUN.LIB", &[0xE8, 0x04, 0x00, 0xE8, 0x01, 0x00, 0x90, 0x90]),
+    // out of the library, by another external of it, with its default behind that one
+    ("doslink LAZILY.OBJ RUN.LIB", &[0xE8, 0x00, 0x00, 0x90, 0x90]),
+    // nothing defines it, and its default is an alias
+    ("doslink LAZILY.OBJ WEAKLY.OBJ BEHIND.OBJ D.OBJ", &[0xE8, 0x03, 0x00, 0xE8, 0x00, 0x00, 0x90]),
+    // an alias defines it
+    ("doslink LAZILY.OBJ D.OBJ ALIAS.OBJ RUN.LIB", &[0xE8, 0x01, 0x00, 0x90, 0x90]),
+    // a default for each module
+    (
+        "doslink WEAKLY.OBJ OTHERWISE.OBJ D.OBJ RUN.LIB",
+        &[0xE8, 0x04, 0x00, 0xE8, 0x00, 0x00, 0x90, 0x90],
+    ),
+];
+
 /// What a run told, as a row of the table has it.
 fn row_of(
     alloc: Global,
@@ -140,8 +188,14 @@ fn row_of(
     Ok(row)
 }
 
-/// What a run of these words tells, as a row of the table has it.
-fn told(alloc: Global, row: &str) -> Result<Vec<u8>, AllocError> {
+/// The status of a run of these words, which writes files to a page, and to two others what it tells.
+fn run_row(
+    alloc: Global,
+    row: &str,
+    written: &Page,
+    output_page: &Page,
+    error_page: &Page,
+) -> Result<u8, AllocError> {
     let files = [
         ("A.OBJ", WANTS.as_slice()),
         ("F.OBJ", OFFERS.as_slice()),
@@ -179,21 +233,25 @@ fn told(alloc: Global, row: &str) -> Result<Vec<u8>, AllocError> {
         ("LCLASH.OBJ", LOCAL_CLASH.as_slice()),
         ("LLONG.OBJ", LOCAL_LONG.as_slice()),
         ("LTABLE.OBJ", LOCAL_TABLE.as_slice()),
+        ("BACK.OBJ", BACK.as_slice()),
+        ("BEHIND.OBJ", BEHIND.as_slice()),
+        ("WEAKLY.OBJ", WEAKLY.as_slice()),
+        ("LAZILY.OBJ", LAZILY.as_slice()),
+        ("OTHERWISE.OBJ", OTHERWISE.as_slice()),
+        ("NOWHERE.OBJ", NOWHERE.as_slice()),
+        ("ITSELF.OBJ", ITSELF.as_slice()),
     ];
-    let written = Page::new(alloc);
-    let output_page = Page::new(alloc);
-    let error_page = Page::new(alloc);
     let desk = Desk {
         files: files.as_slice(),
         folders: &["RUN", "LIBS", "LIBS/"],
-        written: &written,
+        written,
     };
     let words = row.split_ascii_whitespace().collect::<Vec<&str>>(alloc)?;
-    let Ok(mut output) = BufferedSink::new(alloc, Pen::new(&output_page)) else {
+    let Ok(mut output) = BufferedSink::new(alloc, Pen::new(output_page)) else {
         return Err(AllocError);
     };
-    let mut errors = WriteSink::new(Pen::new(&error_page));
-    let status = match words.as_slice() {
+    let mut errors = WriteSink::new(Pen::new(error_page));
+    Ok(match words.as_slice() {
         [program, words @ ..] => run_words(
             alloc,
             desk,
@@ -204,8 +262,24 @@ fn told(alloc: Global, row: &str) -> Result<Vec<u8>, AllocError> {
             &mut errors,
         ),
         [] => 9,
-    };
-    row_of(alloc, row, status, &output_page, &error_page)
+    })
+}
+
+/// What a run of these words tells, as a row of the table has it.
+fn told(alloc: Global, row: &str) -> Result<Vec<u8>, AllocError> {
+    let written = Page::new(alloc);
+    let output = Page::new(alloc);
+    let errors = Page::new(alloc);
+    let status = run_row(alloc, row, &written, &output, &errors)?;
+    row_of(alloc, row, status, &output, &errors)
+}
+
+/// Whether the file that a run of these words writes ends in some bytes.
+fn ends_in(alloc: Global, row: &str, bytes: &[u8]) -> Result<bool, AllocError> {
+    let written = Page::new(alloc);
+    let told = Page::new(alloc);
+    run_row(alloc, row, &written, &told, &told)?;
+    Ok(written.bytes(alloc)?.ends_with(bytes))
 }
 
 /// The first row that isn't what its run tells, if there is one.
@@ -248,5 +322,20 @@ fn communal_runs_tell_these_lines(rt: HostRuntime) -> Result<(), Fail> {
 fn alias_runs_tell_these_lines(rt: HostRuntime) -> Result<(), Fail> {
     let wrong = first_wrong(rt.alloc(), ALIAS_RUNS)?;
     assert_eq!(rt; wrong, None);
+    Ok(())
+}
+
+#[test]
+fn default_runs_tell_these_lines(rt: HostRuntime) -> Result<(), Fail> {
+    let wrong = first_wrong(rt.alloc(), DEFAULT_RUNS)?;
+    assert_eq!(rt; wrong, None);
+    Ok(())
+}
+
+#[test]
+fn programs_of_weak_and_lazy_externals(rt: HostRuntime) -> Result<(), Fail> {
+    for (row, bytes) in &PROGRAMS {
+        assert!(rt; ends_in(rt.alloc(), row, bytes)?, "{row}");
+    }
     Ok(())
 }

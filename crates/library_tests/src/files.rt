@@ -128,6 +128,9 @@ fn push_said<A: Allocator + Copy>(
     said: &ModuleNames<'_, A>,
 ) -> Result<(), AllocError> {
     push_names(text, "wants", &said.wanted)?;
+    if said.needed.len() < said.wanted.len() {
+        push_names(text, ", needs", &said.needed)?;
+    }
     push_names(text, ", offers", &said.offered)?;
     push_names(text, ", libraries", &said.libraries)?;
     if said.dosseg {

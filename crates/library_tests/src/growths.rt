@@ -37,5 +37,7 @@ fn refused_growths(rt: HostRuntime) -> Result<(), Fail> {
     let module = "96 01 61\n8C 01 62 00\n90 00 01 01 63 00 00 00\nBC 01 00\n88 00 9F 6C";
     let names = "wants b a, offers c, libraries l";
     refused(&rt, rt.alloc(), What::Names, module, names)?;
-    refused(&rt, rt.alloc(), What::Places, module, "a 24, b 6, c -")
+    refused(&rt, rt.alloc(), What::Places, module, "a 24, b 6, c -")?;
+    let weak = "8C 01 66 00 01 67 00\n88 00 A8 01 02";
+    refused(&rt, rt.alloc(), What::Names, weak, "wants g, offers, libraries")
 }

@@ -89,6 +89,112 @@ raw 41 42
 }
 
 #[test]
+fn weak_externals_are_not_wanted(rt: HostRuntime) -> Result<(), Fail> {
+    run(
+        &rt,
+        rt.alloc(),
+        What::Names,
+        "\
+8C 01 66 00 01 67 00
+88 00 A8 01 02
+= wants g, offers, libraries
+
+# indexes count the externals of all records, and have one byte or two
+96 01 61
+B0 01 63 00 62 81 00 10
+B4 01 6C 00
+B8 01 6D 00 61 02 84 00 00 01
+BC 01 00
+8C 01 62 00
+88 40 A8 04 80 05
+= wants b, offers, libraries
+
+# pairs of two externals, and of one that is its own default
+8C 01 61 00 01 62 00 01 63 00
+88 00 A8 01 02 03 03
+= wants b, offers, libraries
+
+# a default that is weak too, by a later comment
+8C 01 61 00 01 62 00 01 63 00
+88 00 A8 01 02
+88 00 A8 02 03
+= wants c, offers, libraries
+
+# before the externals, and what an alias stands for
+88 00 A8 02 01
+8C 01 66 00 01 67 00
+C6 01 61 01 67
+= wants f g g, offers a, libraries
+
+# another external of the name
+8C 01 66 00 01 66 00 01 67 00
+88 00 A8 01 03
+= wants f f g, offers, libraries
+
+# and both of them
+8C 01 66 00 01 66 00 01 67 00
+88 00 A8 01 03 02 03
+= wants g, offers, libraries
+
+# no pairs: an index behind the last, none, a local name, and a comment that is cut off
+8C 01 66 00 01 67 00
+B4 01 6C 00
+88 00 A8 01 04 00 02 02 00 01 03 03 01 01
+88 00 A8 01 80
+88 00 A8
+= wants f g, offers, libraries
+
+# behind an external that is cut off, indexes count on from the last whole one
+8C 01 61 00 01 62
+8C 01 66 00 01 67 00
+88 00 A8 02 03
+= wants a g, offers, libraries
+
+# a comment of that text in another class
+8C 01 66 00 01 67 00
+88 00 A7 01 02
+88 00 AA 01 02
+= wants f g, offers, libraries",
+    )
+}
+
+#[test]
+fn lazy_externals_are_wanted_and_not_needed(rt: HostRuntime) -> Result<(), Fail> {
+    run(
+        &rt,
+        rt.alloc(),
+        What::Names,
+        "\
+8C 01 66 00 01 67 00
+88 00 A9 01 02
+= wants f g, needs g, offers, libraries
+
+# weak ones are neither
+8C 01 61 00 01 62 00 01 63 00
+88 00 A9 01 03
+88 00 A8 02 03
+= wants a c, needs c, offers, libraries
+
+# one that is both is weak
+8C 01 61 00 01 62 00 01 63 00
+88 00 A9 01 03
+88 00 A8 01 02
+= wants b c, offers, libraries
+
+# one of them lazy, and another one weak, of a name
+8C 01 61 00 01 61 00 01 63 00
+88 00 A9 01 03
+88 00 A8 02 03
+= wants a a c, needs c, offers, libraries
+
+# another external of the name
+8C 01 66 00 01 66 00 01 67 00
+88 00 A9 02 03
+= wants f f g, offers, libraries",
+    )
+}
+
+#[test]
 fn first_records_that_want_names(rt: HostRuntime) -> Result<(), Fail> {
     run(
         &rt,
@@ -120,6 +226,12 @@ B4 01 61 00
 BC 01 00
 8C 01 62 00
 = a -, b 22
+
+# the name of a weak external
+8C 01 66 00
+8C 01 67 00
+88 00 A8 01 02
+= f 0, g 8
 
 # behind the end
 8C 01 61 00

@@ -24,6 +24,7 @@ fn read_module<'a, A: Allocator + Copy>(
 ) -> Result<ModuleNames<'a, A>, AllocError> {
     let mut names = ModuleNames {
         wanted: Vec::new(alloc),
+        needed: Vec::new(alloc),
         offered: Vec::new(alloc),
         libraries: Vec::new(alloc),
         dosseg: false,
