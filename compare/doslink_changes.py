@@ -334,8 +334,9 @@ LOWERING = [
 ALIASES = [
     Change("aliases stay", "lowering.py",
            "        if kind == ALIAS:\n            return COMMENT, NOTHING\n", ""),
-    Change("an alias means itself", "aliases.py",
-           "return lambda name: meaning(found, name, key)", "return lambda name: name"),
+    Change("an alias means itself", "weak.py",
+           "found.append(partial(meaning, [*shared, *own], key=key))",
+           "found.append(lambda name: name)"),
     Change("one alias is followed", "aliases.py",
            "        name = following[0]\n", "        return following[0]\n"),
     Change("the last alias of a name counts", "aliases.py", "following[0]", "following[-1]"),
@@ -363,6 +364,49 @@ ALIASES = [
     Change("an external that has another name has no type", "lowering.py",
            "return self.renamed(name) + entries.body[place:entries.place]",
            "return self.renamed(name) + b'\\0'"),
+]
+
+DEFAULTS = [
+    Change("weak externals are wanted", "weak.py",
+           "others(content, [WEAK]), ", "others(content, []), "),
+    Change("lazy externals aren't wanted", "weak.py",
+           "others(content, [WEAK]), ", "others(content, [WEAK, LAZY]), "),
+    Change("lazy externals are needed", "weak.py",
+           ", others(content, [WEAK, LAZY])", ", others(content, [WEAK])"),
+    Change("lazy externals stay external", "weak.py",
+           "in defaults(content, [WEAK, LAZY])]", "in defaults(content, [WEAK])]"),
+    Change("an index counts from 0", "weak.py", "found = [None, *externals", "found = [*externals"),
+    Change("the default comes first", "weak.py",
+           "for place, index, default in", "for place, default, index in"),
+    Change("all externals of the name are weak", "weak.py",
+           "if index not in indexes]",
+           "if name not in [one.name for _, one in defaults(content, kinds)]]"),
+    Change("an alias of the name is weak", "weak.py",
+           "return {*found, *(each.substitute for each in aliases(content))}", "return {*found}"),
+    Change("communal externals have no index", "weak.py",
+           "EXTERNALS = (EXTERNAL_NAMES, COMMUNAL_EXTERNALS, ", "EXTERNALS = (EXTERNAL_NAMES, "),
+    Change("communal variables have no index", "weak.py",
+           "LOCAL_EXTERNAL_NAMES, *VARIABLES)", "LOCAL_EXTERNAL_NAMES)"),
+    Change("local externals have no index", "weak.py",
+           "COMMUNAL_EXTERNALS, LOCAL_EXTERNAL_NAMES, *VARIABLES)",
+           "COMMUNAL_EXTERNALS, *VARIABLES)"),
+    Change("a local name is weak", "weak.py",
+           "return None if kind in LOCAL else name", "return name"),
+    Change("externals stay external", "weak.py",
+           "if key(one.name) not in defined]", "if False]"),
+    Change("a default wins over a public", "weak.py",
+           "each.names.offered + each.names.needed", "each.names.needed"),
+    Change("a default wins over an external", "weak.py",
+           "each.names.offered + each.names.needed", "each.names.offered"),
+    Change("a lazy external defines a name", "weak.py",
+           "each.names.offered + each.names.needed", "each.names.offered + each.names.wanted"),
+    Change("a default wins over a communal variable", "weak.py",
+           "defined = {key(each.name) for each in variables}", "defined = set()"),
+    Change("externals agree by their case", "weak.py",
+           "if key(one.name) not in defined]", "if one.name not in defined]"),
+    Change("a default is that of all modules", "weak.py",
+           "        found.append(partial(meaning, [*shared, *own], key=key))",
+           "        shared += own\n        found.append(partial(meaning, shared, key=key))"),
 ]
 
 COMMUNAL = [
@@ -759,5 +803,5 @@ DIRECTIVES = [
 ]
 
 CHANGES = [
-    *LIBRARIES, *NAMES, *SEARCH, *ORDER, *LOWERING, *ALIASES, *COMMUNAL, *LOCAL, *LINKING,
-    *DIRECTIVES]
+    *LIBRARIES, *NAMES, *SEARCH, *ORDER, *LOWERING, *ALIASES, *DEFAULTS, *COMMUNAL, *LOCAL,
+    *LINKING, *DIRECTIVES]

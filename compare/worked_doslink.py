@@ -2,14 +2,14 @@
 
 The model must give them. They are what the rules say of libraries, of the names of a module, of
 what is taken for them, of the module that fixes an order, of modules that are lowered, of communal
-variables, also local ones, of aliases, and of directives.
+variables, also local ones, of aliases, of weak and lazy externals, and of directives.
 """
 
 import functools
 
 from model import (
     aliases, communal, directives, libraries, linking, local, lowering, module, names, ordering,
-    records, search)
+    records, search, weak)
 from model.directives import Job
 from model.faults import Fault
 from model.names import Names
@@ -663,6 +663,86 @@ ENDLESS = [
     ("one that leads there", ["0164 0161 0161 0161"],
      'doslink: a: 60 EndlessAlias "d" at record 0\n'),
 ]
+# title, bodies of records, for each weak external and then each lazy one the comment's place, the
+# index, the name and the default, the names wanted, and of these those needed
+DEFAULTS = [
+    ("one", [(0x8C, "0161 00 0162 00"), (0x88, "00A8 01 02")], [(10, 1, b"a", b"b")], "b", "b"),
+    ("before its external", [(0x88, "00A8 8002 01"), (0x8C, "0161 00 0162 00")],
+     [(0, 2, b"b", b"a")], "a", "a"),
+    ("externals of all types", [
+        (0x96, "0161"), (0xB0, "0163 00 62 02"), (0xB4, "0164 00"), (0xB8, "0165 00 61 02 810001"),
+        (0xBC, "01 00"), (0x8C, "0162 00"), (0x88, "00A8 04 05 05 01")],
+     [(47, 4, b"a", b"b"), (47, 5, b"b", b"c")], "", ""),
+    ("indexes of no name to share", [
+        (0x8C, "0161 00 0162 00"), (0xB4, "0163 00"),
+        (0x88, "00A8 01 04 00 01 01 00 01 03 03 01 01")], [], "a b", "a b"),
+    ("an index that is cut", [(0x8C, "0161 00 0162 00"), (0x88, "00A8 01 02 02 80")],
+     [(10, 1, b"a", b"b")], "b", "b"),
+    ("no text", [(0x8C, "0161 00"), (0x88, "00A8"), (0x88, "00")], [], "a", "a"),
+    ("of other classes", [(0x8C, "0161 00 0162 00"), (0x88, "00A7 01 02"), (0x88, "00AA 01 02")],
+     [], "a b", "a b"),
+    ("behind an external that is cut",
+     [(0x8C, "0161 00 0162"), (0x8C, "0163 00"), (0x88, "00A8 02 01")],
+     [(16, 2, b"c", b"a")], "a", "a"),
+    ("behind a variable of another type",
+     [(0xB0, "0161 00 05 0162 00 62 01"), (0x8C, "0163 00 0164 00"), (0x88, "00A8 01 02")],
+     [(23, 1, b"c", b"d")], "d", "d"),
+    ("a name that an alias stands for",
+     [(0x8C, "0161 00 0162 00"), (0xC6, "0163 0161"), (0x88, "00A8 01 02")],
+     [(18, 1, b"a", b"b")], "a b a", "a b a"),
+    ("one of two externals of a name", [(0x8C, "0161 00 0161 00 0162 00"), (0x88, "00A8 02 03")],
+     [(13, 2, b"a", b"b")], "a a b", "a a b"),
+    ("both of them", [(0x8C, "0161 00 0161 00 0162 00"), (0x88, "00A8 02 03 01 03")],
+     [(13, 2, b"a", b"b"), (13, 1, b"a", b"b")], "b", "b"),
+    ("a lazy one", [(0x8C, "0161 00 0162 00"), (0x88, "00A9 01 02")], [(10, 1, b"a", b"b")],
+     "a b", "b"),
+    ("a lazy one before a weak one",
+     [(0x8C, "0161 00 0162 00 0163 00"), (0x88, "00A9 01 03"), (0x88, "00A8 02 03")],
+     [(21, 2, b"b", b"c"), (13, 1, b"a", b"c")], "a c", "c"),
+    ("one that is both",
+     [(0x8C, "0161 00 0162 00 0163 00"), (0x88, "00A9 01 03"), (0x88, "00A8 01 02")],
+     [(21, 1, b"a", b"b"), (13, 1, b"a", b"c")], "b c", "b c"),
+]
+WEAKLY = [(0x8C, "0161 00 0162 00"), (0x88, "00A8 01 02")]
+LAZILY = [(0x8C, "0161 00 0162 00"), (0x88, "00A9 01 02")]
+# title, modules, names of communal variables, whether case is ignored, what `a` means in each
+UNDEFINED = [
+    ("nothing else", [WEAKLY], "", False, "b"),
+    ("an external", [WEAKLY, [(0x8C, "0161 00")]], "", False, "a a"),
+    ("an external before it", [[(0x8C, "0161 00")], WEAKLY], "", False, "a a"),
+    ("an alias", [WEAKLY, [(0xC6, "0163 0161")]], "", False, "a a"),
+    ("an alias of the name", [WEAKLY, [(0xC6, "0161 0163")]], "", False, "c c"),
+    ("an alias of the default", [WEAKLY, [(0xC6, "0162 0163")]], "", False, "c a"),
+    ("a public", [WEAKLY, [(0x90, "00 01 0161 0000 00")]], "", False, "a a"),
+    ("a public of the default", [WEAKLY, [(0x90, "00 01 0162 0000 00")]], "", False, "b a"),
+    ("a communal variable", [WEAKLY], "a", False, "a"),
+    ("an external in another case", [WEAKLY, [(0x8C, "0141 00")]], "", False, "b a"),
+    ("one that agrees", [WEAKLY, [(0x8C, "0141 00")]], "", True, "a a"),
+    ("another default", [WEAKLY, [(0x8C, "0161 00 0163 00"), (0x88, "00A8 01 02")]], "", False,
+     "b c"),
+    ("a default that is weak", [[(0x8C, "0161 00 0162 00 0163 00"), (0x88, "00A8 01 02 02 03")]],
+     "", False, "c"),
+    ("two defaults", [[(0x8C, "0161 00 0162 00 0163 00"), (0x88, "00A8 01 02 01 03")]], "", False,
+     "b"),
+    ("another external of the name", [[(0x8C, "0161 00 0161 00 0162 00"), (0x88, "00A8 01 03")]],
+     "", False, "a"),
+    ("a lazy one", [LAZILY], "", False, "b"),
+    ("a lazy one of a public", [LAZILY, [(0x90, "00 01 0161 0000 00")]], "", False, "a a"),
+    ("a lazy one of an external", [LAZILY, [(0x8C, "0161 00")]], "", False, "a a"),
+    ("a lazy one beside a weak one", [WEAKLY, LAZILY], "", False, "b b"),
+    ("one that is both",
+     [[(0x8C, "0161 00 0162 00 0163 00"), (0x88, "00A9 01 03"), (0x88, "00A8 01 02")]], "", False,
+     "b"),
+]
+# bodies of records of modules, and the fault
+ENDLESS_DEFAULTS = [
+    ("its own default", [[(0x8C, "0161 00"), (0x88, "00A8 01 01")]],
+     'doslink: a: 60 EndlessAlias "a" at record 7\n'),
+    ("each that of the other",
+     [[(0x8C, "0161 00 0162 00"), (0x88, "00A8 01 02"), (0x88, "00A9 02 01")]],
+     'doslink: a: 60 EndlessAlias "a" at record 10\n'),
+    ("in two modules", [WEAKLY, [(0x8C, "0162 00 0161 00"), (0x88, "00A9 01 02")]], None),
+]
 # title, aliases, records, and the same as lowered
 RENAMED = [
     ("externals", "a bb", [(0x8C, "0178 00 0161 8001"), (0x8C, "0141 00")],
@@ -840,12 +920,14 @@ def alias_list(text):
     return [aliases.Alias(one, other, 0) for one, other in zip(words[::2], words[1::2])]
 
 
-def endless(bodies):
+def endless(made):
     """The line of the first alias of modules that goes round for ever."""
     modules = [
-        linking.Module(word, framed([(0xC6, body)]), Names()) for word, body in zip("abc", bodies)]
+        linking.Module(word, content, weak.names_of(content))
+        for word, content in zip("abc", map(framed, made))]
+    key = search.agreed(False)
     try:
-        aliases.meanings(modules, search.agreed(False))
+        weak.meanings(modules, [], key)
     except Fault as fault:
         return fault.line(program="doslink")
     return None
@@ -859,11 +941,35 @@ def check_aliases():
         found = [(each.place, each.name, each.substitute) for each in aliases.aliases(framed(made))]
         assert found == wanted, title
     for title, bodies, wanted in ENDLESS:
-        assert endless(bodies) == wanted, title
+        assert endless([[(0xC6, body)] for body in bodies]) == wanted, title
     for title, pairs, made, wanted in RENAMED:
         found = alias_list(pairs)
         means = functools.partial(aliases.meaning, found, key=search.agreed(False))
         assert lowered(made, False, False, means) == framed(wanted), title
+
+
+def meanings_of(name, modules, variables, ignores_case):
+    """What a name means in each module of a link of these."""
+    taken = [
+        linking.Module("a", content, weak.names_of(content)) for content in map(framed, modules)]
+    made = [communal.Variable(each.encode(), None, "a") for each in variables.split()]
+    found = weak.meanings(taken, made, search.agreed(ignores_case))
+    return b" ".join(means(name) for means in found).decode()
+
+
+def check_defaults():
+    for title, bodies, wanted, names_wanted, names_needed in DEFAULTS:
+        content = framed(bodies)
+        found = [
+            (one.place, index, one.name, one.substitute)
+            for index, one in weak.defaults(content, [weak.WEAK, weak.LAZY])]
+        assert found == wanted, title
+        assert b" ".join(weak.names_of(content).wanted).decode() == names_wanted, title
+        assert b" ".join(weak.names_of(content).needed).decode() == names_needed, title
+    for title, modules, variables, ignores_case, wanted in UNDEFINED:
+        assert meanings_of(b"a", modules, variables, ignores_case) == wanted, title
+    for title, modules, wanted in ENDLESS_DEFAULTS:
+        assert endless(modules) == wanted, title
 
 
 def check_communals():
@@ -923,6 +1029,7 @@ def check():
     check_order()
     check_lowering()
     check_aliases()
+    check_defaults()
     check_communals()
     check_locals()
     check_directives()

@@ -38,6 +38,7 @@ NAMES = [
 MARKS = [*BEGIN_MARKS, *END_MARKS]
 TITLES = [b"HELLO.ASM", b"printf", b"a b", b"\x1F\"", b""]
 DEFAULT_LIBRARY, OTHER_DEFAULT_LIBRARY, DOSSEG, LIBRARY_MODULE_NAME = 0x9F, 0x81, 0x9E, 0xA3
+WEAK, LAZY = 0xA8, 0xA9
 
 
 @dataclass
@@ -57,6 +58,7 @@ class Plan:
     is_wide: float
     has_communals: float
     has_aliases: float
+    has_defaults: float
     ignores_case: bool = False
     libraries: list = field(default_factory=list)
     # names of communal variables, and those that some module declares
@@ -77,6 +79,7 @@ def any_plan(random, names):
         chosen, names, random.choice([0, 0, 0.3]), random.choice([0, 0, 0.2]),
         random.choice([0, 0, 0, 0.6]), random.choice([0, 0, 0.6]), random.choice([0, 0, 0.4]),
         random.choice([0, 0, 0.6]), random.choice([0, 0.3, 0.8]), random.choice([0, 0, 0.4]),
+        random.choice([0, 0.4, 0.8]),
         communals=random.sample([*communals.NAMES, *names, *MARKS], random.choice([1, 2, 3, 5])))
 
 
@@ -123,6 +126,8 @@ class ObjectMaker:
             steps.append(self.define_communals)
         if self.happens(self.plan.has_aliases):
             steps.append(self.define_aliases)
+        if self.happens(self.plan.has_defaults):
+            steps.append(self.define_defaults)
         if self.happens(0.2):
             steps.append(self.add_lines)
         if self.happens(0.05):
@@ -356,6 +361,20 @@ class ObjectMaker:
         pairs = [(a, b) for a, b in pairs if a != b or self.happens(0.1)]
         if pairs:
             self.add_other(0xC6, b"".join(self.counted(a) + self.counted(b) for a, b in pairs), 0.05)
+
+    def external_index(self):
+        """The index of an external so far; rarely one of none."""
+        if self.happens(0.04):
+            return self.random.choice([0, self.externals + 1])
+        return self.random.randrange(1, self.externals + 1)
+
+    def define_defaults(self):
+        """Weak or lazy externals and their defaults; rarely cut."""
+        if self.externals:
+            indexes = [self.external_index() for _ in range(2 * self.random.choice([1, 1, 2, 3]))]
+            text = b"".join(map(self.spelling.index, indexes))
+            text = text[:-1] if self.happens(0.05) else text
+            self.add_comment(self.random.choice([WEAK, LAZY]), text)
 
     def add_aliases(self):
         aliases = [*self.some_names(), *self.some_names()]

@@ -47,14 +47,8 @@ def meaning(found, name, key):
     return None
 
 
-def meanings(modules, key):
-    """What says what a name means by the aliases of modules, or the fault of the first endless one.
-
-    Of each module its bytes are known, and its word.
-    """
-    owned = [(each.word, alias) for each in modules for alias in aliases(each.content)]
-    found = [alias for _, alias in owned]
-    for word, alias in owned:
+def endless(some, found, word, key):
+    """The fault of the first of some aliases that goes round for ever, by the word for its module."""
+    for alias in some:
         if meaning(found, alias.name, key) is None:
             raise Fault(ENDLESS, word, alias.place, name=alias.name)
-    return lambda name: meaning(found, name, key)

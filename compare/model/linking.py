@@ -9,11 +9,12 @@ from dataclasses import dataclass, replace
 from typing import Optional
 
 from model import (
-    aliases, communal, directives, faults, image, libraries, local, lowering, module, ordering,
-    printing, program_file, search)
+    communal, directives, faults, image, libraries, local, lowering, module, ordering, printing,
+    program_file, search)
 from model.commands import Answer, Output
 from model.faults import Fault, escaped, printed_name
-from model.names import Names, names_of, wanting_places
+from model.names import Names, wanting_places
+from model.weak import meanings, names_of
 
 PROGRAM = "doslink"
 # the words for modules that are made
@@ -221,7 +222,8 @@ class Linking:
         """Each name that is missing, and a line: who wants it, where, and where one like it is."""
         members = [member for members in stock[1] for member in members]
         lacking = search.missing(
-            [each.names for each in taken], [each.names for each in members], self.key)
+            [replace(each.names, wanted=each.names.needed) for each in taken],
+            [each.names for each in members], self.key)
         for each in lacking:
             wanter = taken[each.wanted_by]
             place = next(wanting_places(wanter.content, each.name))
@@ -237,9 +239,10 @@ class Linking:
     def linked(self, taken, variables):
         """The program of the modules as they are lowered, with what is local to each, between those
         that are made."""
+        means = meanings(taken, variables, self.key)
         lowered = lowering.lowered_modules(
             [each.content for each in taken], [each.word for each in taken],
-            self.job.keeps_debug, self.job.packs_far_data, aliases.meanings(taken, self.key))
+            self.job.keeps_debug, self.job.packs_far_data, means)
         lowered = local.with_locals(taken, lowered, self.key)
         behind = made_module(COMMUNAL, communal.communal_module(variables, lowered))
         lowered += [each.content for each in behind]

@@ -6,6 +6,7 @@ record, and what stands behind the record that ends the module, stays as it is.
 """
 
 from dataclasses import dataclass
+from itertools import repeat
 
 from model import module
 from model.communal import COMMUNAL_VARIABLES, OtherType, extent
@@ -463,16 +464,16 @@ def fits_a_frame(contents):
     return sum(-(-length // PARAGRAPH) * PARAGRAPH for length in lengths) <= FRAME
 
 
-def lowered_modules(contents, words, keeps_debug, packs_far_data, means=itself):
+def lowered_modules(contents, words, keeps_debug, packs_far_data, means=repeat(itself)):
     """The bytes of modules that are lowered; far data shares a frame where it fits in one.
 
-    `means` says what a name means.
+    `means` has what says what a name means in each of them.
     A fault is told by the word for its module.
     """
-    pairs = list(zip(contents, words))
-    plain = [lowered(content, keeps_debug, False, word, means) for content, word in pairs]
+    each = list(zip(contents, words, means))
+    plain = [lowered(content, keeps_debug, False, word, own) for content, word, own in each]
     if packs_far_data and fits_a_frame(plain):
-        return [lowered(content, keeps_debug, True, word, means) for content, word in pairs]
+        return [lowered(content, keeps_debug, True, word, own) for content, word, own in each]
     return plain
 
 

@@ -72,6 +72,8 @@ class Names:
     dosseg: bool = False
     # of LNAMES and LLNAMES together, which others have an index of
     listed: list = field(default_factory=list)
+    # of the names that it wants those that another one has to offer
+    needed: list = field(default_factory=list)
 
     def at(self, index):
         """The listed name of an index, or none; in a list."""

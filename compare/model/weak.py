@@ -1,0 +1,114 @@
+"""Weak and lazy externals, each of which means its default where nothing defines it.
+
+A comment has their indexes, which count the externals of all types of records from 1 on. A body
+that ends inside an entry has the entries before that one.
+"""
+
+from functools import partial
+
+from model import names
+from model.aliases import Alias, aliases, endless, meaning
+from model.communal import OtherType, extent
+from model.libraries import whole_frames
+from model.names import COMMENT, COMMUNAL_EXTERNALS, EXTERNAL_NAMES, Ended, Entries, Names
+
+# the classes of the comments
+WEAK, LAZY = 0xA8, 0xA9
+LOCAL_EXTERNAL_NAMES, COMMUNAL_VARIABLES, LOCAL_COMMUNAL_VARIABLES = 0xB4, 0xB0, 0xB8
+VARIABLES = (COMMUNAL_VARIABLES, LOCAL_COMMUNAL_VARIABLES)
+LOCAL = (LOCAL_EXTERNAL_NAMES, LOCAL_COMMUNAL_VARIABLES)
+EXTERNALS = (EXTERNAL_NAMES, COMMUNAL_EXTERNALS, LOCAL_EXTERNAL_NAMES, *VARIABLES)
+LISTS = (names.NAME_LIST, names.LOCAL_NAME_LIST)
+
+
+def external(kind, entries, listed):
+    """The name of the next external; None where it is one of its module alone, or isn't there."""
+    if kind == COMMUNAL_EXTERNALS:
+        found = listed.at(entries.index())
+        entries.index()
+        return found[0] if found else None
+    name = entries.name()
+    entries.index()
+    if kind in VARIABLES:
+        extent(entries)
+    return None if kind in LOCAL else name
+
+
+def externals(content):
+    """The names of the externals of a module, in the order of their indexes."""
+    listed = Names()
+    for frame in whole_frames(content):
+        if frame.kind in LISTS:
+            names.add(listed, frame)
+        entries = Entries(frame.body if frame.kind in EXTERNALS else b"")
+        try:
+            while entries.has_more():
+                yield external(frame.kind, entries, listed)
+        except (Ended, OtherType):
+            pass
+
+
+def pairs(content, kind):
+    """The indexes of each external of a kind and of its default, behind the comment's place."""
+    place = 0
+    for frame in whole_frames(content):
+        is_of_kind = frame.kind == COMMENT and frame.body[1:2] == bytes([kind])
+        entries = Entries(frame.body[2:] if is_of_kind else b"")
+        try:
+            while entries.has_more():
+                yield place, entries.index(), entries.index()
+        except Ended:
+            pass
+        place = frame.behind
+
+
+def defaults(content, kinds):
+    """The externals of these kinds, as aliases of their defaults, each behind its index.
+
+    Each of the two has to have a name to share.
+    """
+    found = [None, *externals(content)]
+    for kind in kinds:
+        for place, index, default in pairs(content, kind):
+            if max(index, default) < len(found) and None not in (found[index], found[default]):
+                yield index, Alias(found[index], found[default], place)
+
+
+def others(content, kinds):
+    """The names that a module has but for its externals of these kinds."""
+    indexes = [index for index, _ in defaults(content, kinds)]
+    found = [
+        name for index, name in enumerate(externals(content), 1) if index not in indexes]
+    return {*found, *(each.substitute for each in aliases(content))}
+
+
+def names_of(content):
+    """The names of a module: those that it wants, and of these those that it needs."""
+    found = names.names_of(content)
+    own, needed = others(content, [WEAK]), others(content, [WEAK, LAZY])
+    found.needed = [name for name in found.wanted if name in needed]
+    found.wanted = [name for name in found.wanted if name in own]
+    return found
+
+
+def undefined(content, defined, key):
+    """The externals of a module that mean their defaults, as aliases of these."""
+    found = [one for _, one in defaults(content, [WEAK, LAZY])]
+    return [one for one in found if key(one.name) not in defined]
+
+
+def meanings(modules, variables, key):
+    """For each module what says what a name means in it, or the fault of the first endless one.
+
+    These are the aliases of all modules, and behind them what is undefined in that one: no module
+    offers the name or needs it, and no communal variable has it.
+    """
+    defined = {key(each.name) for each in variables}
+    for each in modules:
+        defined.update(map(key, each.names.offered + each.names.needed))
+    shared, found = [one for each in modules for one in aliases(each.content)], []
+    for each in modules:
+        own = undefined(each.content, defined, key)
+        endless([*aliases(each.content), *own], [*shared, *own], each.word, key)
+        found.append(partial(meaning, [*shared, *own], key=key))
+    return found
