@@ -2,6 +2,7 @@
 ghost use Rattle.std.specs.Prelude.{◌≡◌, ◌++◌, IfOk, OnOk, Some, map};
 ghost use Rattle.std.specs.Option.{option_copied};
 ghost use Rattle.omf_search.specs.Results.{module_said};
+ghost use Rattle.doslink_stock.specs.Files.{needs};
 ghost use Rattle.doslink_stock.specs.Seen.{entry_held, handed_held};
 ghost use Rattle.doslink_telling.specs.Words as spec;
 
