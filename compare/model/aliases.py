@@ -48,7 +48,7 @@ def meaning(found, name, key):
 
 
 def endless(some, found, word, key):
-    """The fault of the first of some aliases that goes round for ever, by the word for its module."""
+    """The fault of the first of some aliases that goes round for ever, by the module's word."""
     for alias in some:
         if meaning(found, alias.name, key) is None:
             raise Fault(ENDLESS, word, alias.place, name=alias.name)

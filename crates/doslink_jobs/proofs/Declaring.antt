@@ -15,7 +15,7 @@ use Rattle.omf_search.specs.Said as search
 use Rattle.doslink_stock.specs.declared.searching.Handed.{Handed}
 use Rattle.doslink_stock.specs.Seen.{handed_held}
 use Rattle.doslink_jobs.specs.declared.communals.Declared.{Declared}
-use Rattle.doslink_jobs.specs.Communals.{declared_by, offering, offering_of}
+use Rattle.doslink_jobs.specs.Communals.{declared_by, offering}
 use Rattle.doslink_jobs.specs.inside.Declaring.{declared_said}
 use Rattle.doslink_jobs.proofs.Lists.{map-map}
 
@@ -37,22 +37,20 @@ pub declaring-one : {A : Type 0} (d : Declared A) (cs : List lent.Communal) → 
     → said_with (bytes_of d.offered.now) (map plain_communal cs) ≡ declared_said d
 declaring-one d cs same = ap (λ l. said_with (bytes_of d.offered.now) (map plain_communal l)) same
 
--- what modules and one behind them say of names
-pub said-with-last : (says all : List Said) (last : Said) (modules : List search.Module)
-    → map module_said says ≡ modules → all ≡ says ++ last ∷ []
-    → map module_said all ≡ modules ++ module_said last ∷ []
-said-with-last says all last modules are pushed =
-    ap (map module_said) pushed ∙ map-append module_said says (last ∷ []) ∙ ap (λ l. l ++ module_said last ∷ []) are
+-- what modules and the module of variables say of names
+pub said-with-variables : (says all : List Said) (last : Said) (modules : List search.Module)
+    (vs : List variable.Variable) → map module_said says ≡ modules → all ≡ says ++ last ∷ []
+    → module_said last ≡ offering (map variable_said vs)
+    → map module_said all ≡ modules ++ offering (map variable_said vs) ∷ []
+said-with-variables says all last modules vs are pushed is =
+    ap (map module_said) pushed ∙ map-append module_said says (last ∷ []) ∙ ap₂ (λ l m. l ++ m ∷ []) are is
+
+-- a module that only offers these names
+abbrev pub offering_of : List (List ℕ) → search.Module
+offering_of names = record { wanted = []; offered = names }
 
 -- the module of variables offers their names
 pub offers-names : (names : List (Bor (List ℕ))) (vs : List variable.Variable)
     → bytes_of names ≡ map (λ v. (variable_said v).name) vs
     → offering_of (bytes_of names) ≡ offering (map variable_said vs)
 offers-names names vs are = ap offering_of (are ∙ map-map variable_said (λ v. v.name) vs)
-
--- what modules and the module of variables say of names
-pub said-with-variables : (all : List search.Module) (modules same : List search.Module) (names : List (Bor (List ℕ)))
-    (vs : List variable.Variable) → all ≡ modules ++ offering_of (bytes_of names) ∷ [] → modules ≡ same
-    → bytes_of names ≡ map (λ v. (variable_said v).name) vs → all ≡ same ++ offering (map variable_said vs) ∷ []
-said-with-variables all modules same names vs are is named =
-    are ∙ ap₂ (λ l m. l ++ m ∷ []) is (offers-names names vs named)

@@ -28,13 +28,9 @@ pub record AreVariablesOf (names : Names) (modules : List Held) (vs : List Varia
   pub are_declared : map declared_by modules ≡ map Ok declared
   pub agreed : variables names declared ≡ Ok vs
 
--- a module that only offers these names
-abbrev pub offering_of : List (List ℕ) → search.Module
-offering_of names = record { wanted = []; offered = names }
-
 -- what the module of variables says of names: it offers theirs
 abbrev pub offering : List Variable → search.Module
-offering vs = offering_of (map (λ v. v.name) vs)
+offering vs = record { wanted = []; offered = map (λ v. v.name) vs }
 
 -- this says whether the modules that inputs begin with have the segment `_BSS` in DGROUP
 abbrev pub TellsBss : (inputs : List (List ℕ)) → Bool → Type 0

@@ -58,10 +58,10 @@ plain_lowering job = record { keep_debug = job.keep_debug; shares_far_data = fal
 -- all of it fits in one, as it is in the modules lowered without that.
 pub record IsLoweringFor (job : Job) (means : List ℕ → Renaming) (modules : List (List ℕ)) (lowering : Lowering)
     : Type 0 where
-    pub debug : lowering.keep_debug ≡ job.keep_debug
-    pub packed : job.packs_far_data ≡ true → (plain : List (List ℕ))
-        × AreLowered (plain_lowering job) means modules plain × TellsFit plain lowering.shares_far_data
-    pub apart : job.packs_far_data ≡ false → lowering.shares_far_data ≡ false
+  pub debug : lowering.keep_debug ≡ job.keep_debug
+  pub packed : job.packs_far_data ≡ true → (plain : List (List ℕ))
+      × AreLowered (plain_lowering job) means modules plain × TellsFit plain lowering.shares_far_data
+  pub apart : job.packs_far_data ≡ false → lowering.shares_far_data ≡ false
 
 -- these are the modules lowered as a job asks for, with what names mean in each; none goes round for ever
 pub record AreLoweredFor (job : Job) (says : List Module) (modules inputs : List (List ℕ)) : Type 0 where

@@ -15,12 +15,14 @@ use crate::locals::with_locals;
 use crate::lowering::{LoweredModule, lower_for, lowered_slices};
 use crate::ordering::{Asked, is_unasked, order_bytes, read_modules};
 use crate::stop::Stop;
-use crate::taking::{Taken, link_saids};
+use crate::taking::Taken;
 use crate::widths::warn_of_wide_segments;
 use doslink_stock::Handed;
+use doslink_telling::handed_saids;
 use doslink_words::Job;
 use omf_commands::Options;
 use omf_communal::Variable;
+use omf_search::Said;
 use omf_text::LinkFault;
 use std::alloc::{AllocError, Allocator};
 
@@ -198,7 +200,11 @@ pub(crate) fn inputs_of<'a, A: Allocator + Copy>(
 {
     let names = options_of(job).names;
     let offered = variable_names(alloc, variables)?;
-    let says = link_saids(alloc, taken.handed, &offered)?;
+    let mut says = handed_saids(alloc, taken.handed)?;
+    says.push(Said {
+        wanted: &[],
+        offered: &offered,
+    })?;
     let lowered = lower_for(alloc, job, taken, &says, lines)?;
     let modules = with_locals(alloc, names, lowered, taken, lines)?;
     let communal = communal_bytes(alloc, &modules, taken, variables, lines)?;

@@ -1,11 +1,10 @@
 //! The modules that a link takes: told, and looked through for names that are missing.
 ghost use Rattle.std.specs.Prelude.{◌≡◌, [], ◌∷◌, ◌++◌, IfOk, OnOk, map};
 ghost use Rattle.omf_communal.specs.Deciding.{variable_said};
-ghost use Rattle.omf_search.specs.Results.{bytes_of, module_said};
 ghost use Rattle.doslink_stock.specs.Files.{needs};
 ghost use Rattle.doslink_stock.specs.Seen.{handed_held};
 ghost use Rattle.doslink_telling.specs.Missing.{unmet, wants_marks};
-ghost use Rattle.doslink_jobs.specs.Communals.{offering, offering_of};
+ghost use Rattle.doslink_jobs.specs.Communals.{offering};
 ghost use Rattle.omf_files.specs.Files.{sink_failures};
 
 use crate::communals::variable_names;
@@ -19,7 +18,7 @@ use omf_frame::{IoFault, put_all};
 use omf_place::Names;
 use omf_search::Said;
 use omf_text::LinkFault;
-use std::alloc::{AllocError, Allocator};
+use std::alloc::Allocator;
 use std::io::Write;
 
 /// The word for standard output in a fault's line.
@@ -77,23 +76,6 @@ pub(crate) fn tell_taken<O: Write + Drop, A: Allocator + Copy>(
     Ok(())
 }
 
-/// What the modules that a link takes need and offer, and behind them that names of communal variables are offered.
-pub(crate) fn link_saids<'h, 'a, A: Allocator + Copy>(
-    alloc: A,
-    handed: &'h [Handed<'_, 'a, A>],
-    variables: &'h [&'a [u8]],
-) -> Result<Vec<Said<'h, 'a>, A>, AllocError>
-    ensures { IfOk result (λ v. map module_said v.items ≡ map (λ h. needs (handed_held h)) handed.now
-        ++ offering_of (bytes_of variables.now) ∷ []) }
-{
-    let mut says = handed_saids(alloc, handed)?;
-    says.push(Said {
-        wanted: &[],
-        offered: variables,
-    })?;
-    Ok(says)
-}
-
 /// Tells the names that are missing, and stops; else hands out whether marks are wanted. Those of the communal variables
 /// aren't missing.
 pub(crate) fn check_names<'m, 'a, A: Allocator + Copy>(
@@ -111,7 +93,11 @@ pub(crate) fn check_names<'m, 'a, A: Allocator + Copy>(
         ++ offering (map variable_said variables.now) ∷ [])) }
 {
     let communal = variable_names(alloc, variables)?;
-    let says = link_saids(alloc, handed, &communal)?;
+    let mut says = handed_saids(alloc, handed)?;
+    says.push(Said {
+        wanted: &[],
+        offered: &communal,
+    })?;
     let unmet = unmet_names(alloc, names, &says)?;
     if unmet.missing.as_slice().is_empty() {
         return Ok(unmet.marks);

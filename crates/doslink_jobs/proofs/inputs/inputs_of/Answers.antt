@@ -11,7 +11,7 @@ use Rattle.doslink_jobs.specs.Communals.{IsCommunalModule, offering}
 use Rattle.doslink_jobs.specs.Jobs.{AreLoweredFor, names_of}
 use Rattle.doslink_jobs.specs.Locals.{HaveLocals}
 use Rattle.doslink_jobs.specs.inside.Inputs.{lowered_bytes, module_list}
-use Rattle.doslink_jobs.proofs.Declaring.{said-with-variables}
+use Rattle.doslink_jobs.proofs.Declaring.{offers-names, said-with-variables}
 use Rattle.doslink_jobs.proofs.Lists.{map-map}
 use Rattle.doslink_jobs.proofs.Reading.{order-for}
 use Rattle.doslink_jobs.proofs.inputs.inputs_of.Goals as goal
@@ -25,9 +25,11 @@ returns g c =
     let vs = map variable_said c.args.variables.now in
     let says =
     ap (map module_said) c.deref-2.ensures.value
-    ∙ said-with-variables (map module_said c.in_ok-says.says.items) (map (λ h. needs (handed_held h)) handed)
-    (map needs (map handed_held handed)) c.deref.result.now c.args.variables.now c.in_ok-says.ensures
-    (map-map handed_held needs handed) (ap bytes_of c.deref.ensures.value ∙ c.in_ok-offered.ensures) in
+    ∙ said-with-variables c.in_ok-says.says.items c.push.new.self.items _ (map (λ h. needs (handed_held h)) handed)
+    c.args.variables.now c.in_ok-says.ensures c.in_ok-push.ensures.items
+    (offers-names c.deref.result.now c.args.variables.now
+    (ap bytes_of c.deref.ensures.value ∙ c.in_ok-offered.ensures))
+    ∙ ap (λ l. l ++ offering vs ∷ []) (map-map handed_held needs handed) in
     record {
       lowered = map lowered_bytes lowered;
       are_lowered =

@@ -1,4 +1,4 @@
-use Rattle.std.proofs.Common.{◌≡◌, [], ◌∷◌, ◌++◌, map, ap, refl, sym, ◌∙◌}
+use Rattle.std.proofs.Common.{◌≡◌, [], ◌∷◌, ◌++◌, map, ap, sym, ◌∙◌}
 use Rattle.std.proofs.lemmas.Bool.{eqb-true}
 use Rattle.omf_communal.specs.Deciding.{variable_said}
 use Rattle.omf_communal.specs.Modules.{bytes_of}
@@ -7,7 +7,7 @@ use Rattle.doslink_stock.specs.Files.{needs}
 use Rattle.doslink_stock.specs.Seen.{handed_held}
 use Rattle.doslink_telling.specs.Missing.{wants_marks}
 use Rattle.doslink_jobs.specs.Communals.{offering}
-use Rattle.doslink_jobs.proofs.Declaring.{said-with-variables}
+use Rattle.doslink_jobs.proofs.Declaring.{offers-names, said-with-variables}
 use Rattle.doslink_jobs.proofs.Doing.{none-unmet}
 use Rattle.doslink_jobs.proofs.taking.check_names.Goals as goal
 
@@ -17,8 +17,9 @@ returns-then-is_empty g c =
     let modules = map (λ h. needs (handed_held h)) c.args.handed.now in
     let same : map module_said c.deref-2.result.now ≡ modules ++ offering (map variable_said vs) ∷ [] =
     ap (map module_said) c.deref-2.ensures.value
-    ∙ said-with-variables (map module_said c.in_ok-says.says.items) modules modules c.deref.result.now vs
-    c.in_ok-says.ensures refl (ap bytes_of c.deref.ensures.value ∙ c.in_ok-communal.ensures) in
+    ∙ said-with-variables c.in_ok-says.says.items c.push.new.self.items _ modules vs c.in_ok-says.ensures
+    c.in_ok-push.ensures.items
+    (offers-names c.deref.result.now vs (ap bytes_of c.deref.ensures.value ∙ c.in_ok-communal.ensures)) in
     record {
       met =
           none-unmet c.args.names wanted_said c.in_ok-unmet.unmet.missing.items c.as_slice.result.now
