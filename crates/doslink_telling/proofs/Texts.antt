@@ -1,11 +1,13 @@
 -- Texts that are made of the items of a list, one behind the other.
 use Rattle.std.proofs.Common.{◌≡◌, ℕ, ◌+◌, ◌<◌, ◌≤◌, Bool, true, false, cond, List, [], ◌∷◌, ◌++◌, length, map, drop}
 use Rattle.std.proofs.Common.{filter, get_or, refl, sym, ap, ◌∙◌, append_assoc, append-nil, if◌then◌else◌, Ok, Err}
-use Rattle.std.proofs.Common.{OnOk, Result}
+use Rattle.std.proofs.Common.{OnOk, Result, slice_get}
 use Rattle.std.specs.Result.{is_ok}
 use Rattle.std.proofs.Math.ListN.{drop_of_length-le}
+use Rattle.std.proofs.lemmas.Option.{same_Some, slice_get-get_or, slice_get-map}
 use Rattle.std.specs.Borrow.{Bor}
 use Rattle.std.specs.List.{enumerate_from, flat_map}
+use Rattle.std.specs.Option.{option_map}
 use Rattle.omf_search.specs.Results.{bytes_of}
 use Rattle.doslink_stock.proofs.Walks.{drop-one}
 
@@ -73,6 +75,14 @@ repeated-same p w names i d old goal h fails before =
     let rest = filter p (bytes_of (drop (i + 1) names)) in
     text-step (λ n l. repeated p w l) [] names i d old old goal h
     (ap (λ (b : Bool). map (λ _. w) (cond b ((get_or names i d).now ∷ rest) rest)) fails) (sym (append-nil old)) before
+
+-- ---- lists that are the same once they are mapped
+
+pub mapped-same : {X Y Z : Type 0} (f : X → Z) (g : Y → Z) (xs : List X) (ys : List Y) (i : ℕ) (d : X) (e : Y)
+    → map f xs ≡ map g ys → i < length xs → i < length ys → f (get_or xs i d) ≡ g (get_or ys i e)
+mapped-same f g xs ys i d e same h k =
+    same_Some _ _ (sym (slice_get-map f xs i ∙ ap (option_map f) (slice_get-get_or xs i d h))
+    ∙ ap (λ l. slice_get l i) same ∙ slice_get-map g ys i ∙ ap (option_map g) (slice_get-get_or ys i e k))
 
 -- ---- texts appended one behind the other
 

@@ -102,6 +102,8 @@ pub(crate) enum Part<'p> {
     Count(u64),
     /// An address or a length: at least six hexadecimal digits.
     Address(u32),
+    /// A place as `show` prints it: at least eight hexadecimal digits.
+    Place(u64),
 }
 
 /// Appends a part of a line.
@@ -115,6 +117,7 @@ fn push_part<A: Allocator + Copy>(lines: &mut Vec<u8, A>, part: Part<'_>) -> Res
         Part::Address(address) => {
             lines.extend_from_slice(Hexadecimal::new(u64::from(address), 6).as_bytes())
         }
+        Part::Place(place) => lines.extend_from_slice(Hexadecimal::new(place, 8).as_bytes()),
     }
 }
 

@@ -1,25 +1,24 @@
 //! The names that no module and no library offers.
-ghost use Rattle.std.specs.Prelude.{◌≡◌, IfOk, map};
-ghost use Rattle.std.specs.Option.{option_copied};
-ghost use Rattle.omf_search.specs.Results.{module_said, wanted_said};
+ghost use Rattle.std.specs.Prelude.{◌≡◌, ◌++◌, [], IfOk, OnOk, map, slice_get};
+ghost use Rattle.std.specs.List.{flat_map};
+ghost use Rattle.std.specs.Option.{option_copied, option_map, option_map_or};
+ghost use Rattle.omf_library.specs.Records.{module_records};
+ghost use Rattle.omf_library.specs.Wanting.{wanting_place};
+ghost use Rattle.omf_search.specs.Results.{bytes_of, module_said, offered_said, wanted_said};
+ghost use Rattle.doslink_stock.specs.Seen.{entry_held, handed_held};
 ghost use Rattle.doslink_telling.specs.Missing as spec;
-ghost use Rattle.doslink_telling.specs.Missing.{unmet, wants_marks};
+ghost use Rattle.doslink_telling.specs.Missing.{like_offered, unmet, wants_marks};
 ghost use Rattle.doslink_telling.specs.Table.{header_name};
 
-use crate::lines::quoted_name;
+use crate::lines::{Part, push_front, push_name, push_parts};
 use crate::telling::{handed_saids, module_word};
 use doslink_files::InputFile;
 use doslink_stock::{Entry, Handed, Stock, members_of};
-use itoa::Buffer;
 use omf_alias::agree;
 use omf_library::{module_frames, wanting_place};
 use omf_place::Names;
 use omf_search::{Offered, Said, Wanted, Whose, likes, missing};
-use omf_text::Hexadecimal;
 use std::alloc::{AllocError, Allocator};
-
-/// How many hexadecimal digits `show` prints of a place.
-const PLACE_DIGITS: usize = 8;
 
 /// Whether a name is one that the order module defines where it is wanted.
 fn is_mark(names: Names, name: &[u8]) -> bool
@@ -82,7 +81,10 @@ fn offering_entry<'m, 'a, A: Allocator + Copy>(
     stock: &'m Stock<'a, A>,
     handed: &[Handed<'m, 'a, A>],
     whose: Whose,
-) -> Option<&'m Entry<'a, A>> {
+) -> Option<&'m Entry<'a, A>>
+    ensures { option_map (λ e. entry_held e.now) result
+        ≡ spec.whose_module (map handed_held handed.now) (map entry_held stock.now.members.items) whose }
+{
     match whose {
         Whose::Module(index) => match handed.get(index) {
             Some(each) => Some(each.entry),
@@ -92,20 +94,44 @@ fn offering_entry<'m, 'a, A: Allocator + Copy>(
     }
 }
 
-/// Appends where a name that is like a missing one is offered.
-fn push_like<A: Allocator + Copy>(
+/// Appends that a module offers a name.
+fn push_offering<A: Allocator + Copy>(
     alloc: A,
     lines: &mut Vec<u8, A>,
     files: &[InputFile<A>],
     entry: &Entry<'_, A>,
     name: &[u8],
-) -> Result<(), AllocError> {
-    let name = quoted_name(alloc, name)?;
+) -> Result<(), AllocError>
+    ensures { OnOk result (lines.new.items ≡ lines.old.items
+        ++ spec.offering_text files.now name.now (entry_held entry.now)) }
+{
     let word = module_word(alloc, files, entry)?;
     lines.extend_from_slice(b"; ")?;
-    lines.extend_from_slice(&name)?;
+    push_name(alloc, lines, name)?;
     lines.extend_from_slice(b" is in ")?;
     lines.extend_from_slice(&word)
+}
+
+/// Appends where a name that is like a missing one is offered, if one is.
+fn push_like<'m, 'a, A: Allocator + Copy>(
+    alloc: A,
+    lines: &mut Vec<u8, A>,
+    files: &[InputFile<A>],
+    stock: &'m Stock<'a, A>,
+    handed: &[Handed<'m, 'a, A>],
+    like: Option<Offered<'a>>,
+) -> Result<(), AllocError>
+    ensures { OnOk result (lines.new.items ≡ lines.old.items
+        ++ spec.like_text files.now (map handed_held handed.now) (map entry_held stock.now.members.items)
+        (option_map offered_said like.entry)) }
+{
+    let Some(like) = like else {
+        return Ok(());
+    };
+    match offering_entry(stock, handed, like.whose) {
+        Some(entry) => push_offering(alloc, lines, files, entry, like.name),
+        None => Ok(()),
+    }
 }
 
 /// Appends the record of a module that wants a name first, by its place in the module, as faults have it and as `show`
@@ -113,43 +139,115 @@ fn push_like<A: Allocator + Copy>(
 fn push_record<A: Allocator + Copy>(
     alloc: A,
     lines: &mut Vec<u8, A>,
-    wanter: &Entry<'_, A>,
+    bytes: &[u8],
     name: &[u8],
-) -> Result<(), AllocError> {
-    let frames = module_frames(alloc, wanter.bytes)?;
-    let Some(place) = wanting_place(alloc, &frames, name)? else {
-        return Ok(());
-    };
-    let mut digits = Buffer::new();
-    lines.extend_from_slice(b": record ")?;
-    lines.extend_from_slice(digits.format(place).as_bytes())?;
-    lines.extend_from_slice(b" (")?;
-    lines.extend_from_slice(Hexadecimal::new(place, PLACE_DIGITS).as_bytes())?;
-    lines.extend_from_slice(b")")
+) -> Result<(), AllocError>
+    ensures { OnOk result (lines.new.items ≡ lines.old.items
+        ++ spec.record_text (wanting_place name.now (module_records bytes.now 0))) }
+{
+    let frames = module_frames(alloc, bytes)?;
+    match wanting_place(alloc, &frames, name)? {
+        Some(place) => {
+            let parts = [
+                Part::Text(": record "),
+                Part::Count(place),
+                Part::Text(" ("),
+                Part::Place(place),
+                Part::Text(")"),
+            ];
+            push_parts(lines, parts.as_slice())
+        }
+        None => Ok(()),
+    }
 }
 
-/// Appends the line of a missing name up to what may be like it.
-fn push_front<A: Allocator + Copy>(
+/// Appends the name in a module's header, if it has one.
+fn push_header<A: Allocator + Copy>(
+    alloc: A,
+    lines: &mut Vec<u8, A>,
+    bytes: &[u8],
+) -> Result<(), AllocError>
+    ensures { OnOk result (lines.new.items ≡ lines.old.items ++ spec.header_text (header_name bytes.now)) }
+{
+    match header_name(bytes) {
+        Some(header) => {
+            lines.extend_from_slice(b", wanted by ")?;
+            push_name(alloc, lines, header)
+        }
+        None => Ok(()),
+    }
+}
+
+/// Appends that a module wants a name that is missing.
+fn push_wanting<A: Allocator + Copy>(
     alloc: A,
     lines: &mut Vec<u8, A>,
     files: &[InputFile<A>],
     wanter: &Entry<'_, A>,
     name: &[u8],
-) -> Result<(), AllocError> {
+) -> Result<(), AllocError>
+    ensures { OnOk result (lines.new.items ≡ lines.old.items
+        ++ spec.wanting_text files.now name.now (entry_held wanter.now)) }
+{
     let word = module_word(alloc, files, wanter)?;
-    let quoted = quoted_name(alloc, name)?;
-    lines.extend_from_slice(b"doslink: ")?;
-    lines.extend_from_slice(&word)?;
-    lines.extend_from_slice(b": ")?;
-    lines.extend_from_slice(&quoted)?;
+    push_front(lines, &word, ": ")?;
+    push_name(alloc, lines, name)?;
     lines.extend_from_slice(b" is missing")?;
-    push_record(alloc, lines, wanter, name)?;
-    if let Some(header) = header_name(wanter.bytes) {
-        let header = quoted_name(alloc, header)?;
-        lines.extend_from_slice(b", wanted by ")?;
-        lines.extend_from_slice(&header)?;
+    push_record(alloc, lines, wanter.bytes, name)?;
+    push_header(alloc, lines, wanter.bytes)
+}
+
+/// Appends that the module with this index wants a name that is missing.
+fn push_wanted<A: Allocator + Copy>(
+    alloc: A,
+    lines: &mut Vec<u8, A>,
+    files: &[InputFile<A>],
+    handed: &[Handed<'_, '_, A>],
+    wanted: &Wanted<'_>,
+) -> Result<(), AllocError>
+    ensures { OnOk result (lines.new.items ≡ lines.old.items
+        ++ option_map_or (spec.wanting_text files.now wanted.now.name.now)
+        (slice_get (map handed_held handed.now) wanted.now.wanted_by) []) }
+{
+    match handed.get(wanted.wanted_by) {
+        Some(wanter) => push_wanting(alloc, lines, files, wanter.entry, wanted.name),
+        None => Ok(()),
     }
-    Ok(())
+}
+
+/// Appends the line of a missing name, with the first offered name that is like it.
+fn push_missing_line<'m, 'a, A: Allocator + Copy>(
+    alloc: A,
+    lines: &mut Vec<u8, A>,
+    files: &[InputFile<A>],
+    stock: &'m Stock<'a, A>,
+    handed: &[Handed<'m, 'a, A>],
+    wanted: &Wanted<'a>,
+    like: Option<Offered<'a>>,
+) -> Result<(), AllocError>
+    requires { option_map offered_said like ≡ like_offered (map handed_held handed.now)
+        (map entry_held stock.now.members.items) wanted.now.name.now }
+    ensures { OnOk result (lines.new.items ≡ lines.old.items
+        ++ spec.missing_line files.now (map handed_held handed.now) (map entry_held stock.now.members.items)
+        (wanted_said wanted.now)) }
+{
+    push_wanted(alloc, lines, files, handed, wanted)?;
+    push_like(alloc, lines, files, stock, handed, like)?;
+    lines.extend_from_slice(b"\n")
+}
+
+/// The names that are missing.
+fn names_of<'a, A: Allocator + Copy>(
+    alloc: A,
+    missing: &[Wanted<'a>],
+) -> Result<Vec<&'a [u8], A>, AllocError>
+    ensures { IfOk result (λ v. bytes_of v.items ≡ map (λ w. w.name.now) missing.now) }
+{
+    let mut names = Vec::new(alloc);
+    for each in missing {
+        names.push(each.name)?;
+    }
+    Ok(names)
 }
 
 /// For each missing name the first that is offered and like it.
@@ -158,14 +256,15 @@ fn likes_of<'a, A: Allocator + Copy>(
     stock: &Stock<'a, A>,
     handed: &[Handed<'_, 'a, A>],
     missing: &[Wanted<'a>],
-) -> Result<Vec<Option<Offered<'a>>, A>, AllocError> {
+) -> Result<Vec<Option<Offered<'a>>, A>, AllocError>
+    ensures { IfOk result (λ v. map (option_map offered_said) v.items
+        ≡ map (λ w. like_offered (map handed_held handed.now) (map entry_held stock.now.members.items) w.name.now)
+        missing.now) }
+{
     let modules = handed_saids(alloc, handed)?;
     let members = members_of(alloc, &stock.members)?;
-    let mut asked = Vec::new(alloc);
-    for each in missing {
-        asked.push(each.name)?;
-    }
-    likes(alloc, &asked, &modules, &members)
+    let names = names_of(alloc, missing)?;
+    likes(alloc, &names, &modules, &members)
 }
 
 /// Appends a line for each missing name: the module that wants it, the first of its records that does, and where a name
@@ -177,18 +276,14 @@ pub fn push_missing_lines<'m, 'a, A: Allocator + Copy>(
     stock: &'m Stock<'a, A>,
     handed: &[Handed<'m, 'a, A>],
     missing: &[Wanted<'a>],
-) -> Result<(), AllocError> {
+) -> Result<(), AllocError>
+    ensures { OnOk result (lines.new.items ≡ lines.old.items
+        ++ flat_map (spec.missing_line files.now (map handed_held handed.now) (map entry_held stock.now.members.items))
+        (map wanted_said missing.now)) }
+{
     let likes = likes_of(alloc, stock, handed, missing)?;
     for (each, like) in missing.iter().zip(&likes) {
-        if let Some(wanter) = handed.get(each.wanted_by) {
-            push_front(alloc, lines, files, wanter.entry, each.name)?;
-        }
-        if let Some(like) = like
-            && let Some(entry) = offering_entry(stock, handed, like.whose)
-        {
-            push_like(alloc, lines, files, entry, like.name)?;
-        }
-        lines.push(b'\n')?;
+        push_missing_line(alloc, lines, files, stock, handed, each, *like)?;
     }
     Ok(())
 }

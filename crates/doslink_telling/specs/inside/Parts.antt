@@ -10,3 +10,4 @@ part_text (part.Text text) = text.now
 part_text (part.Bytes bytes) = bytes.now
 part_text (part.Count count) = decimal count
 part_text (part.Address address) = hexadecimal 6 address
+part_text (part.Place place) = hexadecimal 8 place
