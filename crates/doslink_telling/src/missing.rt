@@ -1,4 +1,4 @@
-//! The names that no module and no library offers.
+//! The names that no module and no library offers, and their lines.
 ghost use Rattle.std.specs.Prelude.{◌≡◌, ◌++◌, [], IfOk, OnOk, map, slice_get};
 ghost use Rattle.std.specs.List.{flat_map};
 ghost use Rattle.std.specs.Option.{option_copied, option_map, option_map_or};
