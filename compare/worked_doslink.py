@@ -386,7 +386,8 @@ FILES = {
     "m.obj": CALLING, "x.obj": CALLED, "n.obj": NAMING, "two.obj": NAMING_TWO, "t.obj": CALLS_TWICE,
     "w.obj": WANTING_TWO, "x.lib": LIBRARY, "cut.lib": LIBRARY[:-1], "x.a": MAGIC, "X.LIB": MAGIC,
     "wide.obj": wide_module("29 11000000 020201"), "empty.obj": wide_module("29 00000000 020201"),
-    "absolute.obj": wide_module("01 4000 00 11000000 020201"), "f/X.lib": LIBRARY,
+    "absolute.obj": wide_module("01 4000 00 11000000 020201"),
+    "amiss.obj": wide_module("E9 11000000 020201"), "f/X.lib": LIBRARY,
     "f/L": LIBRARY, "f/L.LIB": MAGIC, "f/Y": CALLED, "g/L.LIB": LIBRARY, "bad": b"\xFF"}
 # 17 bytes of each module; the call's end is at 3 and x at 19
 PROGRAM = header("2300 0100 0000 0200 0300" + MOST + NO_REGISTERS) + NO_TABLE + "E81000"
@@ -428,6 +429,9 @@ LINKS = [
      "two.obj\nm.obj\nf/Y\n"),
     ("a name twice", {"files": ["x.obj", "x.obj"]}, [],
      'doslink: link: 25 DuplicatePublic "x" in x.obj and x.obj\n', "x.obj\nx.obj\n"),
+    ("a segment that is none as it is lowered", {"files": ["amiss.obj"]}, [],
+     "doslink: warning: 32-bit segments of amiss.obj are linked as 16-bit ones\n"
+     "doslink: amiss.obj: 51 Body at record 16\n", "amiss.obj\n"),
     ("a module at fault", {"files": ["bad"]}, [], "doslink: bad: 3 Truncated at record 0\n",
      "bad\n"),
     ("OUT is read", {"files": ["m.obj"], "out": "m.obj"}, [],

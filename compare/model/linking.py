@@ -21,7 +21,7 @@ PROGRAM = "doslink"
 ORDER, COMMUNAL = "order", "communal"
 # what is put behind the name of a library that has no dot, in turn
 ENDINGS = ["", ".LIB", ".lib"]
-DUPLICATE = 25
+BODY, DUPLICATE = 6, 25
 MARKS = [*ordering.BEGIN_MARKS, *ordering.END_MARKS]
 # the statuses where the job is at fault, and where what is asked for is wrong
 INPUT, WRONG_WORDS = 1, 2
@@ -268,12 +268,16 @@ class Linking:
     def with_words(self, fault):
         """A fault with the word for its module, and its record's place in the module's file.
 
-        A name that modules define twice is told with all that offer it.
+        A record that isn't one of its type as it is lowered has the fault of one that can't be
+        lowered. A name that modules define twice is told with all that offer it.
         """
         if fault.owner is not None:
-            owner = self.handed[fault.owner]
-            fault.place = lowering.own_place(
-                owner.content, self.contents[fault.owner], fault.place)
+            owner, linked = self.handed[fault.owner], self.contents[fault.owner]
+            place = lowering.own_place(owner.content, linked, fault.place)
+            lowered_to = lowering.record_bytes(linked, fault.place)
+            if fault.number == BODY and lowering.record_bytes(owner.content, place) != lowered_to:
+                fault.number, fault.byte = lowering.BODY, None
+            fault.place = place
             fault.owner = owner.word
         if fault.number == DUPLICATE:
             fault.words = [

@@ -501,6 +501,11 @@ def record_places(content):
     yield place
 
 
+def record_bytes(content, place):
+    """The record at a place of a module, without its closing byte."""
+    return content[place:place + 2 + int.from_bytes(content[place + 1:place + 3], "little")]
+
+
 def own_place(content, lowered_content, place):
     """The place in a module of a record that has a place in the module as it is linked.
 

@@ -23,7 +23,7 @@ use doslink_words::Job;
 use omf_commands::Options;
 use omf_communal::Variable;
 use omf_search::Said;
-use omf_text::LinkFault;
+use omf_text::{InputFault, LinkFault};
 use std::alloc::{AllocError, Allocator};
 
 /// The word for the order module in a fault's line and in a map.
@@ -151,6 +151,24 @@ pub(crate) fn in_own_bytes<A: Allocator + Copy>(
             }
         }
         other => other,
+    }
+}
+
+/// The place in the user's own file of a record that isn't one of its type as it is lowered, where that is the fault.
+pub(crate) fn lowered_amiss<A: Allocator + Copy>(
+    fault: &LinkFault<A>,
+    inputs: &Inputs<'_, A>,
+) -> Option<u64> {
+    match fault {
+        LinkFault::Record {
+            input,
+            place,
+            fault: InputFault::Body { .. },
+        } => match module_at(inputs, *input) {
+            Some(module) if !module.keeps_record(*place) => Some(module.own_place(*place)),
+            _ => None,
+        },
+        _ => None,
     }
 }
 

@@ -5,40 +5,51 @@ ghost use Rattle.doslink_link.specs.Linking.{bytes_of};
 ghost use Rattle.doslink_jobs.specs.Jobs.{names_of};
 ghost use Rattle.doslink_jobs.specs.inside.Inputs.{input_list};
 
-use crate::inputs::{Inputs, in_own_bytes, input_slices, input_words, options_of};
+use crate::inputs::{Inputs, in_own_bytes, input_slices, input_words, lowered_amiss, options_of};
 use crate::places::Places;
 use crate::program::link_and_map;
 use crate::stop::Stop;
 use crate::taking::Taken;
-use doslink_telling::{push_duplicate, push_fault};
+use doslink_telling::{push_duplicate, push_fault, push_obstacle};
 use doslink_words::Job;
 use omf_commands::Options;
 use omf_files::{CreatedFile, World};
+use omf_lower::Obstacle;
 use omf_place::Names;
 use omf_text::{LinkFault, ProgramFault, status};
 use std::alloc::{AllocError, Allocator};
 
-/// Tells why the link stopped. `words` are those of its inputs, and `written` is the path of the file that was written
-/// last.
+/// Tells why the link stopped, `word` being that for what is at fault.
 fn tell_fault<A: Allocator + Copy>(
     alloc: A,
-    fault: &LinkFault<A>,
+    fault: LinkFault<A>,
     names: Names,
     taken: &Taken<'_, '_, '_, A>,
-    words: &[&[u8]],
-    written: &str,
+    inputs: &Inputs<'_, A>,
+    word: &[u8],
     lines: &mut Vec<u8, A>,
 ) -> Result<(), AllocError> {
-    let word = match fault.input() {
-        Some(input) if input < words.len() => words[input],
-        _ => written.as_bytes(),
-    };
-    match fault {
+    if let Some(place) = lowered_amiss(&fault, inputs) {
+        return push_obstacle(lines, word, place, Obstacle::Body);
+    }
+    match &in_own_bytes(fault, inputs) {
         LinkFault::Memory => Err(AllocError),
         LinkFault::Program(ProgramFault::DuplicatePublic { name }) => {
             push_duplicate(alloc, lines, name, names, taken.handed, taken.words)
         }
-        _ => push_fault(alloc, lines, fault, word),
+        fault => push_fault(alloc, lines, fault, word),
+    }
+}
+
+/// The word for what is at fault: the input, or else the file that was written last.
+fn word_of<'w, A: Allocator + Copy>(
+    fault: &LinkFault<A>,
+    words: &[&'w [u8]],
+    written: &'w str,
+) -> &'w [u8] {
+    match fault.input() {
+        Some(input) if input < words.len() => words[input],
+        _ => written.as_bytes(),
     }
 }
 
@@ -87,13 +98,14 @@ pub(crate) fn write_program<W: World + Copy, A: Allocator + Copy>(
     match answer {
         Ok(()) => Ok(()),
         Err(fault) => {
-            let fault = in_own_bytes(fault, inputs);
-            tell_fault(alloc, &fault, options.names, taken, &words, written, lines)?;
-            Err(if status(&fault) == 1 {
+            let stop = if status(&fault) == 1 {
                 Stop::Input
             } else {
                 Stop::Device
-            })
+            };
+            let word = word_of(&fault, &words, written);
+            tell_fault(alloc, fault, options.names, taken, inputs, word, lines)?;
+            Err(stop)
         }
     }
 }

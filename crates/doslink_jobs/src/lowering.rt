@@ -19,6 +19,7 @@ use doslink_stock::Handed;
 use doslink_telling::push_obstacle;
 use doslink_words::Job;
 use omf_alias::Renaming;
+use omf_library::record_at;
 use omf_lower::{Lowering, LoweringFault, is_far_data, lower, record_place};
 use omf_module::{Module, Segment};
 use omf_search::Said;
@@ -56,6 +57,26 @@ impl<A: Allocator + Copy> LoweredModule<'_, A> {
             Some(bytes) => record_place(self.own, record_number(bytes, place).min(self.end)),
             None => place,
         }
+    }
+
+    /// Whether the record at a place in the bytes that are linked is that of the module's own bytes, byte for byte.
+    pub(crate) fn keeps_record(&self, place: u64) -> bool {
+        match &self.lowered {
+            Some(bytes) => is_same_record(bytes, place, self.own, self.own_place(place)),
+            None => true,
+        }
+    }
+}
+
+/// Whether a record that begins at a place of a module stands the same at a place of another one.
+fn is_same_record(one: &[u8], at: u64, other: &[u8], there: u64) -> bool {
+    let (at, there) = (at as usize, there as usize);
+    if one.len() < at || other.len() < there {
+        return false;
+    }
+    match (record_at(one, at), record_at(other, there)) {
+        (Ok(record), Ok(same)) => record.kind == same.kind && record.body == same.body,
+        _ => false,
     }
 }
 

@@ -8,7 +8,7 @@ use crate::declaring::{
 };
 use crate::memory::{Desk, Page, Pen};
 use crate::modules::{
-    ELSEWHERE, HEADLESS, KEEPS, LIBRARY, LIKE, MARKS, NAMELESS, NAMES, OFFERS, WANTS, WIDE,
+    AMISS, ELSEWHERE, HEADLESS, KEEPS, LIBRARY, LIKE, MARKS, NAMELESS, NAMES, OFFERS, WANTS, WIDE,
 };
 use doslink_jobs::{language_of, run_words};
 use omf_files::BufferedSink;
@@ -67,6 +67,9 @@ doslink -m A.EXE A.OBJ F.OBJ|2||doslink: A.EXE: it would be the program and its 
 doslink G.OBJ|0||doslink: warning: library \"NONE\" of G.OBJ was not found~
 doslink --keep-debug A.OBJ F.OBJ|0||
 doslink WIDE.OBJ|0||doslink: warning: 32-bit segments of WIDE.OBJ are linked as 16-bit ones~
+doslink AMISS.OBJ|1||\
+doslink: warning: 32-bit segments of AMISS.OBJ are linked as 16-bit ones~\
+doslink: AMISS.OBJ: 51 Body at record 13~
 wlink|2||doslink: no file is named to be linked~
 ";
 
@@ -215,6 +218,7 @@ fn run_row(
         ("WORDS", RESPONSE.as_bytes()),
         ("LINES", DIRECTIVES.as_bytes()),
         ("WIDE.OBJ", WIDE.as_slice()),
+        ("AMISS.OBJ", AMISS.as_slice()),
         ("NEAR.OBJ", NEAR.as_slice()),
         ("FAR.OBJ", FAR.as_slice()),
         ("SIZE.OBJ", OTHER_SIZE.as_slice()),
