@@ -15,7 +15,7 @@ use Rattle.omf_search.specs.Missing.{missing_names}
 use Rattle.omf_search.specs.Said.{Module, Wanted}
 use Rattle.omf_text.specs.Printing.{hexadecimal, printed_name}
 use Rattle.doslink_files.specs.declared.reading.InputFile.{InputFile}
-use Rattle.doslink_stock.specs.Files.{Held}
+use Rattle.doslink_stock.specs.Files.{Held, needs}
 use Rattle.doslink_stock.specs.Search.{candidates}
 use Rattle.doslink_telling.specs.Table.{header_name}
 use Rattle.doslink_telling.specs.Words.{module_word}
@@ -70,7 +70,7 @@ like_text files linked members (Some o) =
 
 -- the first name that is offered and like one, by a module that is linked or else by a member
 abbrev pub like_offered : (linked members : List Held) → (name : List ℕ) → Option Offered
-like_offered linked members name = first_like (map (λ m. m.says) linked) (candidates members) name
+like_offered linked members name = first_like (map needs linked) (candidates members) name
 
 -- the line of a missing name: the module that wants it, and where a name like it is offered
 abbrev pub missing_line : {A : Type 0} → List (InputFile A) → (linked members : List Held) → Wanted → List ℕ
