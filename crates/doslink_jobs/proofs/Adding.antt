@@ -3,6 +3,7 @@ use Rattle.std.proofs.Common.{◌≡◌, ◌⊎◌, ℕ, ◌<◌, false, All, Li
 use Rattle.std.proofs.Common.{refl, subst, sym, ap, ◌∙◌, append_assoc, append-nil}
 use Rattle.std.proofs.lemmas.List.{get_or-map, length-map}
 use Rattle.std.proofs.lemmas.List.Elements.{All-append, All-cons, All-nil, All-weaker}
+use Rattle.std.specs.Borrow.{Bor}
 use Rattle.std.specs.List.{Contains}
 use Rattle.std.specs.declared.option.Option.{Option}
 use Rattle.clap.specs.Words.{Text}
@@ -48,6 +49,14 @@ pub Contains-seen : {X Y : Type 0} (f : X → Y) (xs : List X) (i : ℕ) (d : X)
 Contains-seen f xs i d y h is =
     let there : i < length (map f xs) = subst (λ n. i < n) (sym (length-map xs f)) h in
     (i, there, get_or-map f xs i d y h ∙ sym is)
+
+-- those of one of some names
+pub AddsNamed-seen : {A : Type 0} (names : List (Bor (List ℕ))) (i : ℕ) (d : Bor (List ℕ))
+    (old new : List (DefaultLibrary A)) → i < length names → AddsNamed (λ n. n ≡ (get_or names i d).now) old new
+    → AddsNamed (Contains (map (λ n. n.now) names)) old new
+AddsNamed-seen names i d old new h =
+    AddsNamed-weaker (λ n. n ≡ (get_or names i d).now) (Contains (map (λ n. n.now) names)) old new
+    (λ name is. Contains-seen (λ n. n.now) names i d name h is)
 
 -- ---- their files
 

@@ -10,14 +10,14 @@ rounds-init g c =
     AddsFound-none (g.W.World.bytes c.args.world.now) (map (λ f. f.now) c.args.folders.now) c.args.names
     (contents c.args.files.now.items) (contents c.args.files.now.items) refl
 
--- `deref` are the files of a round as `named_libraries` has them, and `deref-3` what it found as `add_found` has it
+-- `deref` are the files of a round as `named_libraries` has them, `deref-in-rounds-2` what it found as `add_found` does
 pub rounds-preserved : goal.rounds-preserved
 rounds-preserved g c =
     let names = c.args.names in
     let mid = contents c.rounds.files.items in
     let found = subst (λ fs. All (λ l. AsksFor names (contents fs) l.name.items) c.in_ok-found.found.items)
     c.deref.ensures.value c.in_ok-found.ensures in
-    let asked = subst (All (λ l. AsksEarly names mid l.name.items)) (sym c.deref-3.ensures.value)
+    let asked = subst (All (λ l. AsksEarly names mid l.name.items)) (sym c.deref-in-rounds-2.ensures.value)
     (All-weaker (λ l. AsksFor names mid l.name.items) (λ l. AsksEarly names mid l.name.items)
     (λ l. AsksEarly-all names mid l.name.items) c.in_ok-found.found.items found) in
     AddsFound-then (g.W.World.bytes c.args.world.now) (map (λ f. f.now) c.args.folders.now) names

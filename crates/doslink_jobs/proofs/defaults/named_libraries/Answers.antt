@@ -8,8 +8,8 @@ use Rattle.doslink_stock.specs.Seen.{entry_held}
 use Rattle.doslink_jobs.specs.Jobs.{AsksFor, IsNamedBy, TakesOf}
 use Rattle.doslink_jobs.proofs.defaults.named_libraries.Goals as goal
 
-pub returns-in_ok-taken_libraries-in-Ok : goal.returns-in_ok-taken_libraries-in-Ok
-returns-in_ok-taken_libraries-in-Ok g c =
+pub returns-in-Ok : goal.returns-in-Ok
+returns-in-Ok g c =
     let names = c.args.names in
     let files = contents c.args.files.now in
     let ms = map entry_held c.in-Ok.stock.members.items in

@@ -1,7 +1,8 @@
-use Rattle.std.proofs.Common.{◌≡◌, get_or, refl}
+use Rattle.std.proofs.Common.{map, refl, subst}
 use Rattle.std.specs.List.{Contains}
 use Rattle.doslink_stock.specs.Seen.{entry_held}
-use Rattle.doslink_jobs.proofs.Adding.{AddsNamed-none, AddsNamed-then, AddsNamed-weaker, Contains-seen}
+use Rattle.doslink_jobs.specs.inside.Adding.{AddsNamed}
+use Rattle.doslink_jobs.proofs.Adding.{AddsNamed-none, AddsNamed-seen, AddsNamed-then}
 use Rattle.doslink_jobs.proofs.defaults.push_libraries.Goals as goal
 
 pub loop-name-init : goal.loop-name-init
@@ -10,12 +11,10 @@ loop-name-init g c =
 
 pub loop-name-preserved : goal.loop-name-preserved
 loop-name-preserved g c =
-    let entry = c.args.entry.now in
-    let libraries = (entry_held entry).libraries in
-    AddsNamed-then (Contains libraries) c.args.found.now.items c.loop-name.found.items c.push_library.new.found.items
+    let old = c.loop-name.found.items in
+    let new = c.push_library.new.found.items in
+    AddsNamed-then (Contains (entry_held c.args.entry.now).libraries) c.args.found.now.items old new
     c.loop-name.invariant
-    (AddsNamed-weaker (λ n. n ≡ (get_or entry.says.libraries.items c.loop-name.name-index _).now) (Contains libraries)
-    c.loop-name.found.items c.push_library.new.found.items
-    (λ name is. Contains-seen (λ n. n.now) entry.says.libraries.items c.loop-name.name-index _ name
-    c.loop-name-test.true is)
-    c.in_ok-push_library.ensures)
+    (subst (λ names. AddsNamed (Contains (map (λ n. n.now) names)) old new) c.deref-name-items.ensures.value
+    (AddsNamed-seen c.deref-name-items.result.now c.loop-name.name-index _ old new c.loop-name-test.true
+    c.in_ok-push_library.ensures))

@@ -39,16 +39,16 @@ returns g c =
           says c.in_ok-lowered.ensures.lowered);
       have_locals =
           subst (λ names. HaveLocals names (map (λ m. m.bytes) (map handed_held handed)) (map lowered_bytes lowered)
-          (map lowered_bytes modules)) c.options_of.ensures
-          (subst (λ own. HaveLocals c.options_of.result.names own (map lowered_bytes lowered)
+          (map lowered_bytes modules)) c.options_of-names.ensures
+          (subst (λ own. HaveLocals c.options_of-names.result.names own (map lowered_bytes lowered)
           (map lowered_bytes modules)) (c.in_ok-lowered.ensures.own ∙ map-map handed_held (λ m. m.bytes) handed)
           c.in_ok-modules.ensures);
       placed = subst (λ ms. IsCommunalModule (map lowered_bytes ms) (map variable_said c.args.variables.now)
           (option_map (λ v. v.items) c.in_ok-communal.communal)) c.deref-3.ensures.value c.in_ok-communal.ensures;
       ordered = order-for (option_map (λ v. v.items) c.in_ok-order.order) (order_of job.order)
-          c.options_of.result.names (names_of job.ignore_case) c.args.marks c.asks_dosseg.result _
+          c.options_of-names.result.names (names_of job.ignore_case) c.args.marks c.asks_dosseg.result _
           (module_list c.deref-4.result.now c.in_ok-communal.communal)
-          (module_list modules c.in_ok-communal.communal) c.options_of.ensures
+          (module_list modules c.in_ok-communal.communal) c.options_of-names.ensures
           (c.asks_dosseg.ensures ∙ list_any-map (λ m. m.dosseg) handed_held handed)
           (ap (λ ms. module_list ms c.in_ok-communal.communal) c.deref-4.ensures.value) c.in_ok-order.ensures;
     }

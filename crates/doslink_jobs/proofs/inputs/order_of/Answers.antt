@@ -22,12 +22,12 @@ returns-in-Some g c =
       read,
       subst (λ inputs. AreRead inputs read) same are,
       subst (λ ms. IsOrderFor asked.names asked.dosseg (order_of asked.order.now) ms (option_map (λ v. v.items) made))
-          c.deref-2.ensures.value is,
+          c.deref-in-Some.ensures.value is,
     ))
     c.order_bytes.ensures
 
-pub returns-in-None : goal.returns-in-None
-returns-in-None g c =
+pub returns : goal.returns
+returns g c =
     let same : bytes_of c.deref.result.now ≡ module_list c.args.modules.now c.args.communal.now =
     ap bytes_of c.deref.ensures.value ∙ c.in_ok-slices.ensures in
     let none = rw c.in-None.is at c.in_ok-read.ensures in

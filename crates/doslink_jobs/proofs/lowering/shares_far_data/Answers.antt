@@ -14,11 +14,11 @@ returns-in-Some g c =
     inl (
       read,
       subst (λ inputs. AreRead inputs read) same are,
-      c.far_data_fits.ensures ∙ ap (λ ms. leb (far_data_length ms) 65536) c.deref-2.ensures.value,
+      c.far_data_fits.ensures ∙ ap (λ ms. leb (far_data_length ms) 65536) c.deref-in-Some.ensures.value,
     )
 
-pub returns-in-None : goal.returns-in-None
-returns-in-None g c =
+pub returns : goal.returns
+returns g c =
     let same : bytes_of c.deref.result.now ≡ map lowered_bytes c.args.modules.now =
     ap bytes_of c.deref.ensures.value ∙ c.in_ok-slices.ensures in
     let none = rw c.in-None.is at c.in_ok-read.ensures in
