@@ -1,5 +1,5 @@
-use Rattle.std.proofs.Common.{◌++◌, map, ap, sym, ◌∙◌, arith}
-use Rattle.std.proofs.lemmas.List.{append-nil, map-append, take_all}
+use Rattle.std.proofs.Common.{◌++◌, map, get_or, ap, sym, ◌∙◌, arith}
+use Rattle.std.proofs.lemmas.List.{append-nil, get_or_default, map-append, take_all}
 use Rattle.clap.proofs.WalkLemmas.{list_any-map}
 use Rattle.omf_alias.specs.Said.{alias_said, aliases_said}
 use Rattle.omf_library.specs.Said.{all_defaulted}
@@ -13,19 +13,21 @@ loop-one-init g c = sym (append-nil (aliases_said c.args.aliases.now.items))
 
 pub loop-one-preserved-then-is_defined : goal.loop-one-preserved-then-is_defined
 loop-one-preserved-then-is_defined g c =
-    let d = c.one-item.result in
-    default-skip c.args.names (map module_said c.args.says.now) c.args.externals.now c.loop-one.one-index d
-    (aliases_said c.args.aliases.now.items) (aliases_said c.loop-one.aliases.items) c.loop-one-test.true c.one-item.is
-    (sym (list_any-map (has_name c.args.names d.name.now) module_said c.args.says.now) ∙ sym c.is_defined.ensures
-    ∙ c.if-is_defined.true) c.loop-one.invariant
+    default-skip c.args.names (map module_said c.args.says.now) c.args.externals.now c.loop-one.one-index
+    (get_or c.args.externals.now c.loop-one.one-index _) (aliases_said c.args.aliases.now.items)
+    (aliases_said c.loop-one.aliases.items) c.loop-one-test.true
+    (get_or_default c.args.externals.now c.loop-one.one-index _ _ c.loop-one-test.true)
+    (sym (list_any-map (has_name c.args.names (get_or c.args.externals.now c.loop-one.one-index _).name.now) module_said
+    c.args.says.now) ∙ sym c.is_defined.ensures ∙ c.if-is_defined.true) c.loop-one.invariant
 
 pub loop-one-preserved : goal.loop-one-preserved
 loop-one-preserved g c =
-    let d = c.one-item.result in
-    default-more c.args.names (map module_said c.args.says.now) c.args.externals.now c.loop-one.one-index d
-    (aliases_said c.args.aliases.now.items) (aliases_said c.loop-one.aliases.items) _ c.loop-one-test.true c.one-item.is
-    (sym (list_any-map (has_name c.args.names d.name.now) module_said c.args.says.now) ∙ sym c.is_defined.ensures
-    ∙ c.if-is_defined.false) c.loop-one.invariant
+    default-more c.args.names (map module_said c.args.says.now) c.args.externals.now c.loop-one.one-index
+    (get_or c.args.externals.now c.loop-one.one-index _) (aliases_said c.args.aliases.now.items)
+    (aliases_said c.loop-one.aliases.items) _ c.loop-one-test.true
+    (get_or_default c.args.externals.now c.loop-one.one-index _ _ c.loop-one-test.true)
+    (sym (list_any-map (has_name c.args.names (get_or c.args.externals.now c.loop-one.one-index _).name.now) module_said
+    c.args.says.now) ∙ sym c.is_defined.ensures ∙ c.if-is_defined.false) c.loop-one.invariant
     (ap aliases_said c.in_ok-push.ensures.items ∙ map-append alias_said c.loop-one.aliases.items _)
 
 pub returns : goal.returns
