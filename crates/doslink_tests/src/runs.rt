@@ -153,17 +153,35 @@ doslink ITSELF.OBJ|1||doslink: ITSELF.OBJ: 60 EndlessAlias \"f\" at record 35~
 /// Runs, and the code of the program that each writes: a call of `f` first.
 const PROGRAMS: [(&str, &[u8]); 7] = [
     // its default is in the module behind the next one
-    ("doslink WEAKLY.OBJ D.OBJ RUN.LIB", &[0xE8, 0x01, 0x00, 0x90, 0x90]),
+    (
+        "doslink WEAKLY.OBJ D.OBJ RUN.LIB",
+        &[0xE8, 0x01, 0x00, 0x90, 0x90],
+    ),
     // a module defines it, with its default behind that one
-    ("doslink WEAKLY.OBJ F.OBJ RUN.LIB", &[0xE8, 0x00, 0x00, 0x90, 0x90]),
+    (
+        "doslink WEAKLY.OBJ F.OBJ RUN.LIB",
+        &[0xE8, 0x00, 0x00, 0x90, 0x90],
+    ),
     // a module calls it otherwise: its default comes first out of the library
-    ("doslink WEAKLY.OBJ CALLS.OBJ RUN.LIB", &[0xE8, 0x04, 0x00, 0xE8, 0x01, 0x00, 0x90, 0x90]),
+    (
+        "doslink WEAKLY.OBJ CALLS.OBJ RUN.LIB",
+        &[0xE8, 0x04, 0x00, 0xE8, 0x01, 0x00, 0x90, 0x90],
+    ),
     // out of the library, by another external of it, with its default behind that one
-    ("doslink LAZILY.OBJ RUN.LIB", &[0xE8, 0x00, 0x00, 0x90, 0x90]),
+    (
+        "doslink LAZILY.OBJ RUN.LIB",
+        &[0xE8, 0x00, 0x00, 0x90, 0x90],
+    ),
     // nothing defines it, and its default is an alias
-    ("doslink LAZILY.OBJ WEAKLY.OBJ BEHIND.OBJ D.OBJ", &[0xE8, 0x03, 0x00, 0xE8, 0x00, 0x00, 0x90]),
+    (
+        "doslink LAZILY.OBJ WEAKLY.OBJ BEHIND.OBJ D.OBJ",
+        &[0xE8, 0x03, 0x00, 0xE8, 0x00, 0x00, 0x90],
+    ),
     // an alias defines it
-    ("doslink LAZILY.OBJ D.OBJ ALIAS.OBJ RUN.LIB", &[0xE8, 0x01, 0x00, 0x90, 0x90]),
+    (
+        "doslink LAZILY.OBJ D.OBJ ALIAS.OBJ RUN.LIB",
+        &[0xE8, 0x01, 0x00, 0x90, 0x90],
+    ),
     // a default for each module
     (
         "doslink WEAKLY.OBJ OTHERWISE.OBJ D.OBJ RUN.LIB",

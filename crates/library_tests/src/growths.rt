@@ -39,5 +39,11 @@ fn refused_growths(rt: HostRuntime) -> Result<(), Fail> {
     refused(&rt, rt.alloc(), What::Names, module, names)?;
     refused(&rt, rt.alloc(), What::Places, module, "a 24, b 6, c -")?;
     let weak = "8C 01 66 00 01 67 00\n88 00 A8 01 02";
-    refused(&rt, rt.alloc(), What::Names, weak, "wants g, offers, libraries")
+    refused(
+        &rt,
+        rt.alloc(),
+        What::Names,
+        weak,
+        "wants g, offers, libraries",
+    )
 }
