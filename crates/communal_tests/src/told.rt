@@ -252,6 +252,26 @@ fn push_records(
     Ok(())
 }
 
+/// What a module declares as local to it, and the local publics of another one.
+#[derive(Drop)]
+struct Local<'a, A: Allocator + Copy> {
+    communals: Vec<Communal<'a>, A>,
+    offered: Vec<&'a [u8], A>,
+}
+
+/// The variables of that.
+fn local_variables<'a, A: Allocator + Copy>(
+    alloc: A,
+    local: &Local<'a, A>,
+) -> Result<Vec<Variable<'a>, A>, ClashFault> {
+    let mut declaring = Vec::new(alloc);
+    declaring.push(Declaring {
+        communals: local.communals.as_slice(),
+        offered: local.offered.as_slice(),
+    })?;
+    variables(alloc, Names::Exact, &declaring)
+}
+
 /// The variables that one module declares as local to it, by the local publics of another.
 fn locals<'a, A: Allocator + Copy>(
     alloc: A,
@@ -263,11 +283,7 @@ fn locals<'a, A: Allocator + Copy>(
         Err(_) => return Err(ClashFault::Memory),
     };
     let offered = local_names(alloc, lowered)?;
-    let declaring = [Declaring {
-        communals: communals.as_slice(),
-        offered: offered.as_slice(),
-    }];
-    variables(alloc, Names::Exact, &declaring)
+    local_variables(alloc, &Local { communals, offered })
 }
 
 /// A module with the variables that another declares as local to it.
