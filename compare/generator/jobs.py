@@ -5,8 +5,9 @@ from dataclasses import dataclass, field
 from generator.communals import at_limit, module_of_communals
 from generator.libraries import SMALL_PAGES, archive, damaged, library
 from generator.objects import (
-    CLASSES, NAMES, SEGMENTS, TITLES, ObjectMaker, any_plan, module_of_far_data,
-    module_of_long_externals, module_of_many_parts, segments_called)
+    CLASSES, LAZY, MARKS, NAMES, SEGMENTS, TITLES, WEAK, ObjectMaker, any_plan, module_of_default,
+    module_of_far_data, module_of_long_externals, module_of_many_parts, module_of_no_alignment,
+    module_of_publics, segments_called)
 from model import ordering
 from model.directives import Job
 from model.placement import folded
@@ -23,6 +24,10 @@ WRONG_EVERY, QUIET_EVERY = 25, 250
 # the classes that have more than one segment that combines
 FULL_CLASSES = [b"BEGDATA", b"DATA", b"BSS", b"STACK"]
 COMMUNALS_EVERY = 15
+# one job in so many has one name with a default in one module, and with another or none in the next
+DEFAULTS_EVERY = 50
+# one job in so many has a segment of no alignment, which is lowered or not
+AMISS_EVERY = 200
 # lengths of a body that externals by indexes have by their names
 LONG_BODIES, LONG_EVERY = [65_534, 65_535], 150
 MEMBER_NAMES = [b"printf.o", b"exit.o", b"system.o", b"a_long_name_of_a_member.o", b"x"]
@@ -121,6 +126,26 @@ class JobMaker:
             self.job.files.append(f"{place}.obj")
         self.folders, self.job.map = [], MAP
         self.job.order = self.random.choice([None, None, ordering.DOSSEG])
+        return self.asked()
+
+    def make_defaults(self):
+        """A name, or a mark, with a default by one module and another or none by the next."""
+        name, kinds = self.random.choice([b"x", *MARKS]), [None, WEAK, LAZY]
+        first, other = self.random.choice(kinds[1:]), self.random.choice(kinds)
+        modules = [
+            module_of_default(name, b"a", first), module_of_default(name, b"b", other),
+            module_of_publics([b"a", b"b"])]
+        self.random.shuffle(modules)
+        for number, content in enumerate(modules):
+            self.files[f"{number}.obj"] = content
+            self.job.files.append(f"{number}.obj")
+        self.folders = []
+        return self.asked()
+
+    def make_amiss(self):
+        """A module with a record that is none of its type, which is lowered or not."""
+        self.files["amiss.obj"] = module_of_no_alignment(self.random.choice([0x98, 0x99]))
+        self.job.files, self.folders = ["amiss.obj"], []
         return self.asked()
 
     def make_long_externals(self, length):
@@ -460,4 +485,8 @@ def case(random, number=1):
         return maker.make_quiet()
     if number % COMMUNALS_EVERY == 2:
         return maker.make_communals(number // COMMUNALS_EVERY)
+    if number % DEFAULTS_EVERY == 7:
+        return maker.make_defaults()
+    if number % AMISS_EVERY == 11:
+        return maker.make_amiss()
     return maker.make()

@@ -461,3 +461,39 @@ def module_of_far_data(length):
         records.FixupRecord([Fixup(True, Location.BASE, 0, itself)]),
         records.ModuleEnd(False, None)]
     return b"".join(map(records.Spelling().record, made))
+
+
+def module_of_default(name, default, kind):
+    """A module that calls a name, which by a comment of this class has a default; by None, none."""
+    target = Reference(Direct(Method.TARGET), Direct(Method.EXTERNAL, 1), None)
+    made = [
+        records.Header(b"CALLS"), records.NameList([b"", b"CODE"]),
+        records.SegmentDefinition(1, 2, 3, 2, 2, 1), records.ExternalNames([name, default], [0, 0]),
+        *([] if kind is None else [records.Comment(0, kind, b"\1\2")]),
+        records.Data(1, 0, b"\xE8\0\0"),
+        records.FixupRecord([Fixup(False, Location.OFFSET, 1, target)]),
+        records.ModuleEnd(False, None)]
+    return b"".join(map(records.Spelling().record, made))
+
+
+def module_of_publics(names):
+    """A module that offers these names, each a byte behind the one before."""
+    publics = [PublicName(name, place, 0) for place, name in enumerate(names)]
+    made = [
+        records.Header(b"OFFERS"), records.NameList([b"", b"CODE"]),
+        records.SegmentDefinition(1, 2, len(names), 2, 2, 1),
+        records.PublicNames(0, 1, None, publics),
+        records.Data(1, 0, bytes(len(names))), records.ModuleEnd(False, None)]
+    return b"".join(map(records.Spelling().record, made))
+
+
+def module_of_no_alignment(kind):
+    """A module with a 32-bit segment, and one by this type of record whose alignment is none."""
+    spelling = records.Spelling()
+    length = b"\1\0\0\0" if kind & 1 else b"\1\0"
+    return b"".join([
+        spelling.record(records.Header(b"AMISS")),
+        spelling.record(records.NameList([b"", b"CODE"])),
+        spelling.framed(0x99, b"\x29\1\0\0\0\2\2\1"),
+        spelling.framed(kind, b"\xE8" + length + b"\2\2\1"),
+        spelling.record(records.ModuleEnd(False, None))])
