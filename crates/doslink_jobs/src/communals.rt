@@ -23,7 +23,7 @@ use omf_communal::{
 use omf_frame::MemSource;
 use omf_module::{FaultKind, ModuleFault, read_module};
 use omf_place::Names;
-use omf_text::LinkFault;
+use omf_faults::LinkFault;
 use std::alloc::{AllocError, Allocator};
 
 /// What a module declares, and the names that it offers.

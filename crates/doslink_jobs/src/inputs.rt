@@ -21,7 +21,7 @@ use doslink_words::Job;
 use omf_commands::Options;
 use omf_communal::Variable;
 use omf_order::OrderFault;
-use omf_text::LinkFault;
+use omf_faults::LinkFault;
 use std::alloc::{AllocError, Allocator};
 
 /// The word for the order module in a fault's line and in a map.

@@ -15,7 +15,7 @@ use doslink_words::Job;
 use omf_commands::Options;
 use omf_files::{CreatedFile, World};
 use omf_place::Names;
-use omf_text::{LinkFault, ProgramFault, status};
+use omf_faults::{LinkFault, ProgramFault, status};
 use std::alloc::{AllocError, Allocator};
 
 /// Tells why the link stopped. `words` are those of its inputs, and `written` is the path of the file that was written
@@ -35,7 +35,7 @@ fn tell_fault<A: Allocator + Copy>(
     };
     match fault {
         LinkFault::Memory => Err(AllocError),
-        LinkFault::Program(ProgramFault::DuplicatePublic { .. }) => {
+        LinkFault::Program(ProgramFault::DuplicatePublic(_)) => {
             push_duplicate(alloc, lines, fault, names, taken.handed, taken.words)
         }
         _ => push_fault(alloc, lines, fault, word),

@@ -11,7 +11,7 @@ use omf_frame::IoFault;
 use omf_library::FormatFault;
 use omf_lower::Obstacle;
 use omf_place::Names;
-use omf_text::{LinkFault, ProgramFault, fault_line};
+use omf_faults::{LinkFault, ProgramFault, fault_line};
 use std::alloc::{AllocError, Allocator};
 
 /// What `fault_line` of `omf` begins each line with.
@@ -165,7 +165,7 @@ pub fn push_duplicate<A: Allocator + Copy>(
 ) -> Result<(), AllocError> {
     let text = fault_text(alloc, fault, b"")?;
     match (fault, text.as_slice()) {
-        (LinkFault::Program(ProgramFault::DuplicatePublic { name }), [front @ .., _]) => {
+        (LinkFault::Program(ProgramFault::DuplicatePublic(name)), [front @ .., _]) => {
             lines.extend_from_slice(front)?;
             push_offering(lines, names, name, handed, words)
         }

@@ -33,14 +33,8 @@ fn outcome(
 fn number(kind: FaultKind) -> u8 {
     match kind {
         FaultKind::Device => 1,
-        FaultKind::ZeroLength => 2,
-        FaultKind::Truncated => 3,
-        FaultKind::Closing => 4,
-        FaultKind::Type => 5,
-        FaultKind::Body { .. } => 6,
-        FaultKind::Check(fault) => fault.number(),
-        FaultKind::NoEnd => 8,
-        FaultKind::InputTooLong => 41,
+        FaultKind::Absent(fault) => fault.label().0,
+        FaultKind::Check(fault) => fault.label().0,
     }
 }
 

@@ -6,6 +6,7 @@ pub mod Reference
 pub mod Value
 pub mod Records
 pub mod Faults
+pub mod Labels
 pub mod Registers
 pub mod Program
 pub mod Building

@@ -48,7 +48,8 @@ use Rattle.omf_module.specs.Before.{first, entry}
 use Rattle.omf_module.specs.Tables.{frame_used, target_used, name_at, standing_of, base_of, frame_of, target_of}
 use Rattle.omf_module.specs.Tables.{fixup_of, start_of}
 use Rattle.omf_module.specs.inside.Entries.{segment_of, group_of, public_of, external_of}
-use Rattle.omf_module.specs.Faults.{number, header_fault, segment_fault, when, ◌⊓◌, is_beyond, misses, Tables}
+use Rattle.omf_module.specs.Faults.{check_label, header_fault, segment_fault, when, ◌⊓◌, is_beyond, misses}
+use Rattle.omf_module.specs.Faults.{Tables}
 use Rattle.omf_module.specs.Faults.{is_absolute, component_fault, data_fault, public_fault, frame_fault, target_fault}
 use Rattle.omf_module.specs.Faults.{holds_base, place_fault, relative_fault, fixup_fault, location_fault, start_fault}
 use Rattle.omf_module.specs.inside.Contents.{lies_in}
@@ -174,7 +175,7 @@ one_of_two f g false e = cc
 none_both : (a b : Option CheckFault) → a ⊓ b ≡ None → (a ≡ None) × (b ≡ None)
 none_both None b e = (refl, e)
 none_both (Some f) None e = cc
-none_both (Some f) (Some g) e = absurd (one_of_two f g (nat_le (number f) (number g)) e)
+none_both (Some f) (Some g) e = absurd (one_of_two f g (nat_le (check_label f).0 (check_label g).0) e)
 
 -- an index that means something, counted from 0
 means : {X : Type 0} (xs : List X) (i : ℕ) → misses xs i ≡ false → i - 1 < length xs

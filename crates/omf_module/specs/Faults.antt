@@ -1,6 +1,6 @@
 -- What the checks of a module refuse, on the tables as they stand before a record.
 use Rattle.std.specs.Prelude.{ℕ, ◌+◌, ◌==◌, Bool, true, false, not, ◌||◌, ◌&&◌, if◌then◌else◌, nat_le, nat_lt, List, []}
-use Rattle.std.specs.Prelude.{◌∷◌, ◌++◌, length, map, Option, None, Some, option_map}
+use Rattle.std.specs.Prelude.{◌∷◌, ◌++◌, length, map, codes, Option, None, Some, option_map}
 use Rattle.std.specs.List.{list_any}
 use Rattle.omf_record.specs.Record.{Record, Theadr, Modend, Pubdef, Segdef, Grpdef}
 use Rattle.omf_record.specs.Record.{Fixupp, Ledata, Lidata}
@@ -31,21 +31,21 @@ use Rattle.omf_module.specs.Before.{along, first, last, entry}
 use Rattle.omf_module.specs.Tables.{names, segments, groups, externals, Stretch, stretches, subrecords, frame_thread}
 use Rattle.omf_module.specs.Tables.{target_thread, frame_used, target_used}
 
--- the number under which a fault is reported
-abbrev pub number : CheckFault → ℕ
-number NotHeader = 7
-number NameIndex = 10
-number SegmentIndex = 11
-number GroupIndex = 12
-number ExternalIndex = 13
-number ThreadNotSet = 14
-number FixupBeforeData = 15
-number FixupPlace = 16
-number DataOutside = 17
-number DataInAbsolute = 18
-number SelfRelativeBase = 19
-number FrameOfLocation = 20
-number GroupOfAbsolute = 21
+-- the number and the name with which a fault is printed
+abbrev pub check_label : CheckFault → ℕ × List ℕ
+check_label NotHeader = (7, codes "NotHeader")
+check_label NameIndex = (10, codes "NameIndex")
+check_label SegmentIndex = (11, codes "SegmentIndex")
+check_label GroupIndex = (12, codes "GroupIndex")
+check_label ExternalIndex = (13, codes "ExternalIndex")
+check_label ThreadNotSet = (14, codes "ThreadNotSet")
+check_label FixupBeforeData = (15, codes "FixupBeforeData")
+check_label FixupPlace = (16, codes "FixupPlace")
+check_label DataOutside = (17, codes "DataOutside")
+check_label DataInAbsolute = (18, codes "DataInAbsolute")
+check_label SelfRelativeBase = (19, codes "SelfRelativeBase")
+check_label FrameOfLocation = (20, codes "FrameOfLocation")
+check_label GroupOfAbsolute = (21, codes "GroupOfAbsolute")
 
 -- the fault, where the test holds
 abbrev pub when : Bool → CheckFault → Option CheckFault
@@ -56,7 +56,7 @@ infixr 6 ◌⊓◌
 abbrev pub ◌⊓◌ : Option CheckFault → Option CheckFault → Option CheckFault
 None ⊓ other = other
 (Some one) ⊓ None = Some one
-(Some one) ⊓ (Some other) = if nat_le (number one) (number other) then Some one else Some other
+(Some one) ⊓ (Some other) = if nat_le (check_label one).0 (check_label other).0 then Some one else Some other
 
 -- an index that may be 0 is refused where it is beyond the end of the list
 abbrev pub is_beyond : {A : Type 0} → List A → ℕ → Bool
