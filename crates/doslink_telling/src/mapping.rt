@@ -5,15 +5,15 @@ ghost use Rattle.omf_place.specs.Bounded.{IsBounded};
 use crate::lines::quoted_name;
 use crate::missing::header_name;
 use omf_module::{Module, Segment};
-use omf_place::{Address, Layout};
+use omf_place::{Layout, Position};
 use omf_text::Hexadecimal;
 use std::alloc::{AllocError, Allocator};
 
 /// An address as a number, and `R` where it moves with the program, else `A`.
-fn place_of(address: Address) -> (u32, u8) {
-    match address {
-        Address::Relocatable(start) => (start, b'R'),
-        Address::Absolute(start) => (start, b'A'),
+fn place_of(position: Position) -> (u32, u8) {
+    match position {
+        Position::Relocatable(start, _) => (start, b'R'),
+        Position::Absolute(start, _) => (start, b'A'),
     }
 }
 
@@ -21,10 +21,10 @@ fn place_of(address: Address) -> (u32, u8) {
 fn push_segment<A: Allocator + Copy>(
     alloc: A,
     text: &mut Vec<u8, A>,
-    start: Address,
+    position: Position,
     segment: &Segment<'_>,
 ) -> Result<(), AllocError> {
-    let (start, mark) = place_of(start);
+    let (start, mark) = place_of(position);
     let start = Hexadecimal::new(u64::from(start), 6);
     let length = Hexadecimal::new(u64::from(segment.length), 6);
     let name = quoted_name(alloc, segment.name)?;
@@ -55,8 +55,8 @@ fn push_segments<A: Allocator + Copy>(
 {
     let from = &modules[input];
     for segment in 0..from.segment_count() {
-        let start = layout.part_start(input, segment);
-        push_segment(alloc, text, start, &from.segment(segment))?;
+        let position = layout.segment_position(input, segment);
+        push_segment(alloc, text, position, &from.segment(segment))?;
     }
     Ok(())
 }

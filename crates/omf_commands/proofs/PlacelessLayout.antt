@@ -20,8 +20,7 @@ use Rattle.omf_place.specs.inside.Steps.{placed_group}
 use Rattle.omf_place.specs.Layout.{Layout, layout_at}
 use Rattle.omf_place.specs.declared.names.Names.{Names}
 use Rattle.omf_place.specs.Faults.{IsLayout, IsOnlyLayout, placement_fault}
-use Rattle.omf_place.specs.declared.layout.Address.TheVariants as address
-use Rattle.omf_place.specs.declared.layout.Base.TheVariants as base
+use Rattle.omf_place.specs.declared.layout.Position.TheVariants as stands
 use Rattle.omf_commands.proofs.Placeless.{placeless, Alike, kept}
 
 sites_same : (position input : ℕ) (modules : List Module)
@@ -50,7 +49,7 @@ public_frame_same : (modules : List Module) (addresses : List ℕ) (m : Module) 
     public_frame (map placeless modules) addresses (placeless m) a group ≡ public_frame modules addresses m a group
 public_frame_same modules addresses m a None = simp sites_same
 public_frame_same modules addresses m a (Some g) =
-    ap (λ frame. option_and_then (λ group. option_map base.Relocatable (frame group.name)) (slice_get m.groups g))
+    ap (λ frame. option_and_then (λ group. frame group.name) (slice_get m.groups g))
     (fun_ext (group_frame_same modules addresses))
 
 in_segment_same : (modules : List Module) (addresses : List ℕ) (m : Module) (group : Option ℕ) (offset : ℕ) (a : Site)
@@ -59,7 +58,7 @@ in_segment_same : (modules : List Module) (addresses : List ℕ) (m : Module) (g
     ≡ in_segment modules addresses m group offset a s
 in_segment_same modules addresses m group offset a (Absolute frame at) = refl
 in_segment_same modules addresses m group offset a (Relocatable alignment kind) =
-    ap (λ frame. record { address = address.Relocatable (address_of addresses a + offset); frame = frame })
+    ap (λ frame. stands.Relocatable (address_of addresses a + offset) frame)
     (public_frame_same modules addresses m a group)
 
 placed_public_same : (modules : List Module) (addresses : List ℕ) (n : Input) (offset : ℕ) (b : SymbolBase) →

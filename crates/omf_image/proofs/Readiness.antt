@@ -16,13 +16,10 @@ use Rattle.omf_module.specs.declared.Start.{Start}
 use Rattle.omf_module.specs.Faults.{is_absolute}
 use Rattle.omf_module.specs.Module.{DataRecord, Module}
 use Rattle.omf_module.specs.Sound.{FrameMeans, TargetMeans, FixupFits, DataFits, StartFits, IsSound}
-use Rattle.omf_place.specs.declared.layout.Address.{Address}
-use Rattle.omf_place.specs.declared.layout.Address.TheVariants as address
-use Rattle.omf_place.specs.declared.layout.Base.{Base}
-use Rattle.omf_place.specs.declared.layout.Base.TheVariants as base
+use Rattle.omf_place.specs.declared.layout.Position.{Position}
+use Rattle.omf_place.specs.declared.layout.Position.TheVariants as position
 use Rattle.omf_place.specs.Bounded.{LiesInside, ArePlacesOf, IsBounded}
-use Rattle.omf_place.specs.Layout.{Layout, places_of, part_start, segment_frame}
-use Rattle.omf_image.specs.Position.{position}
+use Rattle.omf_place.specs.Layout.{Layout, places_of, segment_position}
 use Rattle.omf_image.specs.Value.{real_address}
 use Rattle.omf_image.specs.Records.{Entry, bytes_of}
 use Rattle.omf_image.specs.inside.Entries.{module_entries, entries_from}
@@ -35,12 +32,12 @@ all_get : {X : Type 0} (P : X → Type 0) (xs : List X) (k : ℕ) (x : X) → Al
 all_get P xs k x h e = subst P (get_or_from_slice_get xs k x x e) (h k x (slice_get_within xs k x e))
 
 -- a part's address, with its length, lies inside the program
-part_inside : (size n : ℕ) (st : Standing) (a : Address) (f : Base) → is_absolute st ≡ false → LiesInside size n st a
-    → real_address 0 (position a (Some f)) + n ≤ size
-part_inside size n (Absolute frame offset) a f e h = cc
-part_inside size n (Relocatable alignment kind) (address.Relocatable a) (base.Relocatable f) e h = omega (arith, h)
-part_inside size n (Relocatable alignment kind) (address.Relocatable a) (base.Absolute f) e h = omega (arith, h)
-part_inside size n (Relocatable alignment kind) (address.Absolute a) f e h = absurd h
+part_inside : (size n : ℕ) (st : Standing) (p : Position) → is_absolute st ≡ false → LiesInside size n st p
+    → real_address 0 p + n ≤ size
+part_inside size n (Absolute frame offset) p e h = cc
+part_inside size n (Relocatable alignment kind) (position.Relocatable a (Some f)) e h = omega (arith, h)
+part_inside size n (Relocatable alignment kind) (position.Relocatable a None) e h = absurd h
+part_inside size n (Relocatable alignment kind) (position.Absolute a f) e h = absurd h
 
 module _ (ms : List Module) (layout : Layout) (bounded : IsBounded ms layout) where
   module _ (k : ℕ) (m : Module) (at : slice_get ms k ≡ Some m) where
@@ -79,8 +76,8 @@ module _ (ms : List Module) (layout : Layout) (bounded : IsBounded ms layout) wh
         let e = places.segments in omega (arith, w, e)) in
         let p = places.each d.segment fits.segment fits.is_part.0 in
         let low =
-        part_inside layout.size fits.segment.length fits.segment.standing (part_start layout k d.segment)
-        (segment_frame layout k d.segment) fits.is_part.1 p.inside in
+        part_inside layout.size fits.segment.length fits.segment.standing (segment_position layout k d.segment)
+        fits.is_part.1 p in
         let count : length (bytes_of d) ≡ length d.pairs = length-map d.pairs (λ (p : ℕ × ℕ). p.1) in
         let inner = fits.inside in
         record {

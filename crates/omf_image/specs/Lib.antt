@@ -1,7 +1,6 @@
 pub mod Words
 pub mod Patch
 pub mod Located
-pub mod Position
 pub mod Reference
 pub mod Value
 pub mod Records

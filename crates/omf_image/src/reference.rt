@@ -2,24 +2,22 @@
 
 ghost use Rattle.std.specs.Prelude.{◌≡◌, ◌<◌, length};
 ghost use Rattle.std.specs.Option.{ok_or};
-ghost use Rattle.omf_place.specs.Layout.{places_of};
 ghost use Rattle.omf_image.specs.declared.faults.FixKind.TheVariants.{Unresolved};
 ghost use Rattle.omf_module.specs.Seen.{external_seen};
-ghost use Rattle.omf_image.specs.Position.{position, segment_position, external_position};
-ghost use Rattle.omf_image.specs.Reference.{resolved, target_of, frame_of, own_frame};
+ghost use Rattle.omf_image.specs.Reference.{resolved, meant, target_of, frame_of, own_frame};
 ghost use Rattle.omf_image.specs.inside.Lookups.{found, framed_by};
 ghost use Rattle.omf_image.specs.inside.Ready.{IsTargetThere, IsFrameThere};
 
 use omf_module::{ExternalSymbol, FixupFrame, FixupTarget, Module};
-use omf_place::{Address, Base, Layout};
+use omf_place::{Layout, Position};
 use std::alloc::Allocator;
 
-/// Where something stands at paragraph 0: its address with its own frame. A relocatable one moves with the load
-/// paragraph; its frame is `None` where its group has no members.
+/// A frame in paragraphs, which moves with the program or not.
 #[derive(Clone, Copy)]
-pub enum Position {
-    Relocatable(u32, Option<u16>),
-    Absolute(u32, u16),
+pub enum Base {
+    /// Counted from the start of the program.
+    Relocatable(u16),
+    Absolute(u16),
 }
 
 /// What a look-up lacks: the public that an external means, or members of a group.
@@ -37,41 +35,13 @@ pub struct Resolved {
     pub displacement: u16,
 }
 
-/// An address with its frame.
-fn positioned(address: Address, frame: Option<Base>) -> Position
-    ensures { result ≡ position address frame }
-{
-    match (address, frame) {
-        (Address::Relocatable(a), Some(Base::Relocatable(f))) => Position::Relocatable(a, Some(f)),
-        (Address::Relocatable(a), _) => Position::Relocatable(a, None),
-        (Address::Absolute(a), Some(Base::Relocatable(f))) => Position::Absolute(a, f),
-        (Address::Absolute(a), Some(Base::Absolute(f))) => Position::Absolute(a, f),
-        (Address::Absolute(a), None) => Position::Absolute(a, 0),
-    }
-}
-
-/// Where a segment of a module stands.
-pub fn segment_position<A: Allocator + Copy>(
-    layout: &Layout<A>,
-    input: usize,
-    segment: u16,
-) -> Position
-    requires input { input < length layout.now.modules }
-    requires segment { segment < length (places_of layout.now input).segments }
-    ensures { result ≡ segment_position layout.now input segment }
-{
-    let start = layout.part_start(input, usize::from(segment));
-    let frame = layout.segment_frame(input, usize::from(segment));
-    positioned(start, Some(frame))
-}
-
 /// Where the public stands that an external of an input's module means: a local one is found in that module alone.
 fn external_position<A: Allocator + Copy>(
     layout: &Layout<A>,
     input: usize,
     external: ExternalSymbol<'_>,
 ) -> Result<Position, Missing>
-    ensures { found result ≡ ok_or (external_position layout.now input (external_seen external.entry)) Unresolved }
+    ensures { found result ≡ ok_or (meant layout.now input (external_seen external.entry)) Unresolved }
 {
     let meant = if external.local {
         layout.local_public(input, external.name)
@@ -79,7 +49,7 @@ fn external_position<A: Allocator + Copy>(
         layout.public(external.name)
     };
     match meant {
-        Some(place) => Ok(positioned(place.address, place.frame)),
+        Some(position) => Ok(position),
         None => Err(Missing::Public),
     }
 }
@@ -107,7 +77,9 @@ fn target<A: Allocator + Copy>(
     ensures { found result ≡ target_of layout.now input «module».now target }
 {
     match target {
-        FixupTarget::Segment(segment) => Ok(segment_position(layout, input, segment)),
+        FixupTarget::Segment(segment) => {
+            Ok(layout.segment_position(input, usize::from(segment)))
+        }
         FixupTarget::Group(group) => match layout.group_frame(input, usize::from(group)) {
             Some(frame) => Ok(Position::Relocatable(16 * u32::from(frame), Some(frame))),
             None => Err(Missing::Members),

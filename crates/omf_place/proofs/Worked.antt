@@ -5,8 +5,7 @@ use Rattle.omf_module.specs.declared.Kind.TheVariants.{Private, Public, Stack, C
 use Rattle.omf_module.specs.declared.Standing.TheVariants.{Relocatable}
 use Rattle.omf_module.specs.declared.SymbolBase.TheVariants.{AtFrame, InSegment}
 use Rattle.omf_module.specs.Module.{Module, Segment, Group, PublicSymbol}
-use Rattle.omf_place.specs.declared.layout.Address.TheVariants as address
-use Rattle.omf_place.specs.declared.layout.Base.TheVariants as base
+use Rattle.omf_place.specs.declared.layout.Position.TheVariants as position
 use Rattle.omf_place.specs.Parts.{sites, placement_order, Site}
 use Rattle.std.proofs.Common.{◌+◌, ◌%◌, Bool, true, false, ◌&&◌, eqb, ltb, leb, slice_index}
 use Rattle.omf_place.specs.Placed.{IsPlaced, is_unit, unit_alignment, unit_length}
@@ -52,7 +51,7 @@ two_group : group_frame two (0 ∷ 18 ∷ 22 ∷ []) (codes "DGROUP") ≡ Some 1
 two_group = refl
 
 two_public : public (layout_at Exact two (0 ∷ 18 ∷ 22 ∷ []) 24) (codes "x")
-    ≡ Some (record { address = address.Relocatable 22; frame = Some (base.Relocatable 1) })
+    ≡ Some (position.Relocatable 22 (Some 1))
 two_public = refl
 
 two_fault : placement_fault Exact two (0 ∷ 18 ∷ 22 ∷ []) 24 ≡ None
@@ -169,7 +168,7 @@ absolute_public : placed_publics
     ≡ record {
       owner = None;
       name = codes "x";
-      value = record { address = address.Absolute 90934; frame = Some (base.Absolute 5682) };
+      value = position.Absolute 90934 5682;
     } ∷ []
 absolute_public = refl
 
@@ -177,7 +176,7 @@ absolute_public = refl
 empty_group : placed_publics
     (one (code 1 ∷ []) (record { name = codes "G"; members = [] } ∷ [])
     (record { name = codes "x"; base = InSegment 0 (Some 0); offset = 0; local = false } ∷ [])) (0 ∷ [])
-    ≡ record { owner = None; name = codes "x"; value = record { address = address.Relocatable 0; frame = None } } ∷ []
+    ≡ record { owner = None; name = codes "x"; value = position.Relocatable 0 None } ∷ []
 empty_group = refl
 
 -- names that differ in case, and names of one module
@@ -207,7 +206,7 @@ twice_local = refl
 
 local_means : local_public (layout_at AsciiFolded (with_publics (at_offset (codes "x") 1 true ∷ [])) (0 ∷ []) 5) 0
     (codes "X")
-    ≡ Some (record { address = address.Relocatable 1; frame = Some (base.Relocatable 0) })
+    ≡ Some (position.Relocatable 1 (Some 0))
 local_means = refl
 
 local_alone : public (layout_at AsciiFolded (with_publics (at_offset (codes "x") 1 true ∷ [])) (0 ∷ []) 5) (codes "x")

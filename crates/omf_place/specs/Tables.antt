@@ -14,13 +14,10 @@ use Rattle.omf_place.specs.Parts.{Site, sites, rank, placement_order}
 use Rattle.omf_place.specs.Placed.{greatest, members, leads, address_of}
 use Rattle.omf_place.specs.Parts.{Input, inputs}
 use Rattle.omf_place.specs.Scopes.{Entry}
-use Rattle.omf_place.specs.declared.layout.Address.TheVariants as address
-use Rattle.omf_place.specs.declared.layout.Base.{Base}
-use Rattle.omf_place.specs.declared.layout.Base.TheVariants as base
-use Rattle.omf_place.specs.declared.layout.SegmentPlace.{SegmentPlace}
 use Rattle.omf_place.specs.declared.layout.Combined.{Combined}
 use Rattle.omf_place.specs.declared.layout.GroupPlace.{GroupPlace}
-use Rattle.omf_place.specs.declared.layout.PublicPlace.{PublicPlace}
+use Rattle.omf_place.specs.declared.layout.Position.{Position}
+use Rattle.omf_place.specs.declared.layout.Position.TheVariants as position
 
 -- the combined segments in the order of placement, each by its first part
 abbrev pub leaders : List Site → List Site
@@ -45,14 +42,12 @@ module _ (ss : List Site) (addresses : List ℕ) where
   combined_segment a = record { start = segment_start a; end = segment_end a; input = a.input; segment = a.number }
 
   -- where a segment stands
-  abbrev pub placed_at : Site → Standing → SegmentPlace
-  placed_at a (Absolute frame offset) =
-      record { address = address.Absolute (16 * frame + offset); frame = base.Absolute frame }
-  placed_at a (Relocatable alignment kind) =
-      record { address = address.Relocatable (address_of addresses a); frame = base.Relocatable (segment_frame a) }
+  abbrev pub placed_at : Site → Standing → Position
+  placed_at a (Absolute frame offset) = position.Absolute (16 * frame + offset) frame
+  placed_at a (Relocatable alignment kind) = position.Relocatable (address_of addresses a) (Some (segment_frame a))
 
   -- where a segment stands, by its own definition
-  abbrev pub placed : Site → SegmentPlace
+  abbrev pub placed : Site → Position
   placed a = placed_at a a.segment.standing
 
 -- a GRPDEF, with the sites of its components
@@ -108,31 +103,28 @@ module _ (program : List Module) (addresses : List ℕ) where
       (filter is_first_grpdef (grpdefs program))
 
   -- a public of a part has the frame of its group, where it has a group, and else that of its segment
-  abbrev pub public_frame : Module → Site → Option ℕ → Option Base
-  public_frame m a None = Some (base.Relocatable (segment_frame (sites program) addresses a))
-  public_frame m a (Some g) =
-      option_and_then (λ group. option_map base.Relocatable (group_frame group.name)) (slice_get m.groups g)
+  abbrev pub public_frame : Module → Site → Option ℕ → Option ℕ
+  public_frame m a None = Some (segment_frame (sites program) addresses a)
+  public_frame m a (Some g) = option_and_then (λ group. group_frame group.name) (slice_get m.groups g)
 
   -- a public of a segment: it moves with the program where the segment is a part
-  abbrev pub in_segment : Module → Option ℕ → (offset : ℕ) → Site → Standing → PublicPlace
-  in_segment m group offset a (Absolute frame at) =
-      record { address = address.Absolute (16 * frame + at + offset); frame = Some (base.Absolute frame) }
+  abbrev pub in_segment : Module → Option ℕ → (offset : ℕ) → Site → Standing → Position
+  in_segment m group offset a (Absolute frame at) = position.Absolute (16 * frame + at + offset) frame
   in_segment m group offset a (Relocatable alignment kind) =
-      record { address = address.Relocatable (address_of addresses a + offset); frame = public_frame m a group }
+      position.Relocatable (address_of addresses a + offset) (public_frame m a group)
 
   -- what a public stands for, if its segment is there
-  abbrev pub placed_public : Input → (offset : ℕ) → SymbolBase → Option PublicPlace
-  placed_public n offset (AtFrame frame) =
-      Some (record { address = address.Absolute (16 * frame + offset); frame = Some (base.Absolute frame) })
+  abbrev pub placed_public : Input → (offset : ℕ) → SymbolBase → Option Position
+  placed_public n offset (AtFrame frame) = Some (position.Absolute (16 * frame + offset) frame)
   placed_public n offset (InSegment segment group) =
       option_map (λ a. in_segment n.says group offset a a.segment.standing) (slice_get n.sites segment)
 
   -- the publics of a module, where a local one is one of its module alone
-  abbrev pub publics_of : Input → List (Entry PublicPlace)
+  abbrev pub publics_of : Input → List (Entry Position)
   publics_of n = flat_map (λ (p : PublicSymbol). option_to_list (option_map (λ placed.
       record { owner = then_some p.local n.input; name = p.name; value = placed })
       (placed_public n p.offset p.base))) n.says.publics
 
   -- the publics, local ones too, in order of inputs and records
-  abbrev pub placed_publics : List (Entry PublicPlace)
+  abbrev pub placed_publics : List (Entry Position)
   placed_publics = flat_map publics_of (inputs program)

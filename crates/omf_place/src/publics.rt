@@ -12,7 +12,7 @@ ghost use Rattle.omf_place.specs.inside.Program.{IsPlacedInput, input_view};
 
 use crate::groups::Groups;
 use crate::inputs::Input;
-use crate::layout::{Address, Base, PublicPlace};
+use crate::layout::Position;
 use crate::scopes::Entry;
 use crate::stands::Stand;
 use omf_module::{PublicSymbol, Standing, SymbolBase};
@@ -24,17 +24,14 @@ fn frame_of_public<A: Allocator + Copy>(
     stand: Stand,
     group: Option<u16>,
     groups: &Groups<'_, A>,
-) -> Option<Base>
+) -> Option<u16>
     requires { IfSome group (λ g. g < length input.now.says.now.groups) }
     ensures { (a : Site) → stand.frame ≡ of_program (λ ms. segment_start (sites ms)) groups.now.program.now a / 16 →
         result ≡ of_program public_frame groups.now.program.now input.now.says.now a group }
 {
     match group {
-        None => Some(Base::Relocatable(stand.frame)),
-        Some(group) => {
-            let frame = groups.frame(input.says.group(usize::from(group)).name)?;
-            Some(Base::Relocatable(frame))
-        }
+        None => Some(stand.frame),
+        Some(group) => groups.frame(input.says.group(usize::from(group)).name),
     }
 }
 
@@ -45,7 +42,7 @@ fn public_in_segment<A: Allocator + Copy>(
     group: Option<u16>,
     offset: u16,
     groups: &Groups<'_, A>,
-) -> PublicPlace
+) -> Position
     requires placed { of_program (λ ms. IsPlacedInput (sites ms)) groups.now.program.now input.now }
     requires segment { segment < length input.now.says.now.segments }
     requires group { IfSome group (λ g. g < length input.now.says.now.groups) }
@@ -55,14 +52,14 @@ fn public_in_segment<A: Allocator + Copy>(
     let segment = usize::from(segment);
     let stand = input.stands[segment];
     match input.sites[segment].segment.standing {
-        Standing::Absolute { frame, offset: at } => PublicPlace {
-            address: Address::Absolute(16 * u32::from(frame) + u32::from(at) + u32::from(offset)),
-            frame: Some(Base::Absolute(frame)),
-        },
-        Standing::Relocatable { .. } => PublicPlace {
-            address: Address::Relocatable(stand.address + u32::from(offset)),
-            frame: frame_of_public(input, stand, group, groups),
-        },
+        Standing::Absolute { frame, offset: at } => Position::Absolute(
+            16 * u32::from(frame) + u32::from(at) + u32::from(offset),
+            frame,
+        ),
+        Standing::Relocatable { .. } => Position::Relocatable(
+            stand.address + u32::from(offset),
+            frame_of_public(input, stand, group, groups),
+        ),
     }
 }
 
@@ -71,7 +68,7 @@ fn place_of_public<A: Allocator + Copy>(
     input: &Input<'_, A>,
     public: PublicSymbol<'_>,
     groups: &Groups<'_, A>,
-) -> PublicPlace
+) -> Position
     requires placed { of_program (λ ms. IsPlacedInput (sites ms)) groups.now.program.now input.now }
     requires public { PublicFits input.now.says.now.segments input.now.says.now.groups input.now.says.now.externals
         (public_seen public) }
@@ -79,10 +76,9 @@ fn place_of_public<A: Allocator + Copy>(
         (input_view input.now) public.entry.offset public.entry.base }
 {
     match public.base {
-        SymbolBase::AtFrame(frame) => PublicPlace {
-            address: Address::Absolute(16 * u32::from(frame) + u32::from(public.offset)),
-            frame: Some(Base::Absolute(frame)),
-        },
+        SymbolBase::AtFrame(frame) => {
+            Position::Absolute(16 * u32::from(frame) + u32::from(public.offset), frame)
+        }
         SymbolBase::InSegment(segment, group) => {
             public_in_segment(input, segment, group, public.offset, groups)
         }
@@ -91,7 +87,7 @@ fn place_of_public<A: Allocator + Copy>(
 
 /// Adds the publics of a module.
 fn push_publics<'a, A: Allocator + Copy>(
-    all: &mut Vec<Entry<'a, PublicPlace>, A>,
+    all: &mut Vec<Entry<'a, Position>, A>,
     input: &Input<'a, A>,
     groups: &Groups<'_, A>,
 ) -> Result<(), AllocError>
@@ -114,7 +110,7 @@ fn push_publics<'a, A: Allocator + Copy>(
 pub(crate) fn collect_publics<'a, A: Allocator + Copy>(
     alloc: A,
     groups: &Groups<'a, A>,
-) -> Result<Vec<Entry<'a, PublicPlace>, A>, AllocError>
+) -> Result<Vec<Entry<'a, Position>, A>, AllocError>
     requires { IsPlacedProgram groups.now.program.now }
     ensures { IfOk result (λ v. map entry_view v.items ≡ of_program placed_publics groups.now.program.now) }
 {

@@ -2,7 +2,7 @@
 
 use omf_module::{Kind, Module, ModuleFault, Standing, SymbolBase};
 use omf_order::{Order, OrderFault, order_module};
-use omf_place::{Address, Layout, Names, PublicPlace, place};
+use omf_place::{Layout, Names, Position, place};
 use rows::{read_modules, read_row};
 use std::alloc::{AllocError, Global};
 use std::process::Abort;
@@ -133,12 +133,7 @@ fn push_addresses(text: &mut String, from: &Module, layout: &Layout) -> Result<(
         let public = from.public_symbol(index);
         push_text(text, public.name)?;
         match layout.public(public.name) {
-            Some(
-                PublicPlace {
-                    address: Address::Relocatable(address),
-                    ..
-                },
-            ) => write!(text, " {address}; ")?,
+            Some(Position::Relocatable(address, _)) => write!(text, " {address}; ")?,
             _ => text.push_str(" nowhere; ")?,
         }
     }
