@@ -5,10 +5,10 @@ use Rattle.std.proofs.Common.{slice_get, refl, subst, arith}
 use Rattle.std.proofs.lemmas.List.{length-map}
 use Rattle.std.proofs.lemmas.List.Elements.{All-nil, All-append, All-cons, All-map, All-weaker}
 use Rattle.std.proofs.lemmas.Option.{slice_get_within, get_or_from_slice_get}
-use Rattle.omf_module.specs.declared.FixupFrame.{FixupFrame}
-use Rattle.omf_module.specs.declared.FixupFrame.TheVariants.{OfSegment, OfGroup, OfExternal, OfLocation, OfTarget}
-use Rattle.omf_module.specs.declared.FixupTarget.{FixupTarget}
-use Rattle.omf_module.specs.declared.FixupTarget.TheVariants as fixup_target
+use Rattle.omf_record.specs.declared.fixups.FrameMethod.{FrameMethod}
+use Rattle.omf_record.specs.declared.fixups.FrameMethod.TheVariants as by
+use Rattle.omf_record.specs.declared.fixups.TargetMethod.{TargetMethod}
+use Rattle.omf_record.specs.declared.fixups.TargetMethod.TheVariants as to
 use Rattle.omf_module.specs.declared.ResolvedFixup.{ResolvedFixup}
 use Rattle.omf_module.specs.declared.Standing.{Standing}
 use Rattle.omf_module.specs.declared.Standing.TheVariants.{Absolute, Relocatable}
@@ -47,18 +47,16 @@ module _ (ms : List Module) (layout : Layout) (bounded : IsBounded ms layout) wh
     input_there : k < length layout.modules
     input_there = let w = slice_get_within ms k m at in let e = bounded.modules in omega (arith, w, e)
 
-    target_there : (t : FixupTarget) → TargetMeans m.segments m.groups m.externals t → IsTargetThere layout k m t
-    target_there (fixup_target.Segment s) h = let e = places.segments in omega (arith, h, e)
-    target_there (fixup_target.Group g) h = let e = places.groups in omega (arith, h, e)
-    target_there (fixup_target.External e) h = h
+    target_there : (t : TargetMethod) → TargetMeans m.segments m.groups m.externals t → IsTargetThere layout k m t
+    target_there (to.Segment s) h = let e = places.segments in (h.0, omega (arith, h.1, e))
+    target_there (to.Group g) h = let e = places.groups in (h.0, omega (arith, h.1, e))
+    target_there (to.External e) h = h
 
-    frame_there : (here : ℕ) (f : FixupFrame) → FrameMeans m.segments m.groups m.externals f
-        → (f ≡ OfLocation → here < length (places_of layout k).segments) → IsFrameThere layout k m here f
-    frame_there here (OfSegment s) h l = let e = places.segments in omega (arith, h, e)
-    frame_there here (OfGroup g) h l = let e = places.groups in omega (arith, h, e)
-    frame_there here (OfExternal e) h l = h
-    frame_there here OfLocation h l = l refl
-    frame_there here OfTarget h l = tt
+    frame_there : (here : ℕ) (f : FrameMethod) → FrameMeans m.segments m.groups m.externals f
+        → (f ≡ by.Location → here < length (places_of layout k).segments) → IsFrameThere layout k m here f
+    frame_there here (by.By method) h l = target_there method h
+    frame_there here by.Location h l = l refl
+    frame_there here by.Target h l = tt
 
     fixup_ready : (d : DataRecord) (x : ResolvedFixup) → d.segment < length (places_of layout k).segments
         → FixupFits m.segments m.groups m.externals d x → IsFixupReady layout (entry_of k m d) x

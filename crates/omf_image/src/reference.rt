@@ -5,11 +5,12 @@ ghost use Rattle.std.specs.Option.{ok_or};
 ghost use Rattle.omf_image.specs.declared.faults.FixKind.TheVariants.{Unresolved};
 ghost use Rattle.omf_module.specs.Seen.{external_seen};
 ghost use Rattle.omf_image.specs.Reference.{resolved, meant, target_of, frame_of, own_frame};
-ghost use Rattle.omf_image.specs.inside.Lookups.{found, framed_by};
+ghost use Rattle.omf_image.specs.inside.Lookups.{found};
 ghost use Rattle.omf_image.specs.inside.Ready.{IsTargetThere, IsFrameThere};
 
-use omf_module::{ExternalSymbol, FixupFrame, FixupTarget, Module};
+use omf_module::{ExternalSymbol, Module};
 use omf_place::{Layout, Position};
+use omf_record::{FrameMethod, TargetMethod};
 use std::alloc::Allocator;
 
 /// A frame in paragraphs, which moves with the program or not.
@@ -65,43 +66,30 @@ fn own_frame(position: Position) -> Result<Base, Missing>
     }
 }
 
-/// Where a target stands, in the module of an input.
+/// Where a target stands, in the module of an input. The index of its method counts from 1.
 fn target<A: Allocator + Copy>(
     layout: &Layout<A>,
     input: usize,
     module: &Module<A>,
-    target: FixupTarget,
+    target: TargetMethod,
 ) -> Result<Position, Missing>
     requires input { input < length layout.now.modules }
     requires there { IsTargetThere layout.now input «module».now target }
     ensures { found result ≡ target_of layout.now input «module».now target }
 {
     match target {
-        FixupTarget::Segment(segment) => {
-            Ok(layout.segment_position(input, usize::from(segment)))
+        TargetMethod::Segment(index) => {
+            Ok(layout.segment_position(input, usize::from(index) - 1))
         }
-        FixupTarget::Group(group) => match layout.group_frame(input, usize::from(group)) {
+        TargetMethod::Group(index) => match layout.group_frame(input, usize::from(index) - 1) {
             Some(frame) => Ok(Position::Relocatable(16 * u32::from(frame), Some(frame))),
             None => Err(Missing::Members),
         },
-        FixupTarget::External(external) => external_position(
+        TargetMethod::External(index) => external_position(
             layout,
             input,
-            module.external(usize::from(external)),
+            module.external(usize::from(index) - 1),
         ),
-    }
-}
-
-/// The target whose frame a method names; `here` is the segment of the data record.
-fn framed_by(here: u16, of: FixupTarget, method: FixupFrame) -> FixupTarget
-    ensures { result ≡ framed_by here of method }
-{
-    match method {
-        FixupFrame::OfSegment(segment) => FixupTarget::Segment(segment),
-        FixupFrame::OfGroup(group) => FixupTarget::Group(group),
-        FixupFrame::OfExternal(external) => FixupTarget::External(external),
-        FixupFrame::OfLocation => FixupTarget::Segment(here),
-        FixupFrame::OfTarget => of,
     }
 }
 
@@ -111,16 +99,19 @@ fn frame<A: Allocator + Copy>(
     input: usize,
     module: &Module<A>,
     here: u16,
-    of: FixupTarget,
-    method: FixupFrame,
+    of: TargetMethod,
+    method: FrameMethod,
 ) -> Result<Base, Missing>
     requires input { input < length layout.now.modules }
     requires target { IsTargetThere layout.now input «module».now of }
     requires frame { IsFrameThere layout.now input «module».now here method }
     ensures { found result ≡ frame_of layout.now input «module».now here of method }
 {
-    let framing = framed_by(here, of, method);
-    own_frame(target(layout, input, module, framing)?)
+    match method {
+        FrameMethod::By(method) => own_frame(target(layout, input, module, method)?),
+        FrameMethod::Location => own_frame(layout.segment_position(input, usize::from(here))),
+        FrameMethod::Target => own_frame(target(layout, input, module, of)?),
+    }
 }
 
 /// What a reference stands for. An external that means no public is named before a group without members.
@@ -129,8 +120,8 @@ pub fn resolve<A: Allocator + Copy>(
     input: usize,
     module: &Module<A>,
     here: u16,
-    method: FixupFrame,
-    of: FixupTarget,
+    method: FrameMethod,
+    of: TargetMethod,
     displacement: u16,
 ) -> Result<Resolved, Missing>
     requires input { input < length layout.now.modules }

@@ -37,15 +37,11 @@ use Rattle.omf_module.specs.declared.fault.CheckFault.TheVariants.{FixupPlace, D
 use Rattle.omf_module.specs.declared.fault.CheckFault.TheVariants.{SelfRelativeBase, GroupOfAbsolute}
 use Rattle.omf_module.specs.declared.SymbolBase.{SymbolBase}
 use Rattle.omf_module.specs.declared.SymbolBase.TheVariants.{AtFrame, InSegment}
-use Rattle.omf_module.specs.declared.FixupFrame.{FixupFrame}
-use Rattle.omf_module.specs.declared.FixupFrame.TheVariants as frames
-use Rattle.omf_module.specs.declared.FixupTarget.{FixupTarget}
-use Rattle.omf_module.specs.declared.FixupTarget.TheVariants as targets
 use Rattle.omf_module.specs.declared.ResolvedFixup.{ResolvedFixup}
 use Rattle.omf_module.specs.declared.Start.{Start}
 use Rattle.omf_module.specs.Module.{Segment, Group, ExternalSymbol, PublicSymbol, DataRecord, Module}
 use Rattle.omf_module.specs.Before.{first, entry}
-use Rattle.omf_module.specs.Tables.{frame_used, target_used, name_at, standing_of, base_of, frame_of, target_of}
+use Rattle.omf_module.specs.Tables.{frame_used, target_used, name_at, standing_of, base_of}
 use Rattle.omf_module.specs.Tables.{fixup_of, start_of}
 use Rattle.omf_module.specs.inside.Entries.{segment_of, group_of, public_of, external_of}
 use Rattle.omf_module.specs.Faults.{check_label, header_fault, segment_fault, when, ◌⊓◌, is_beyond, misses}
@@ -55,7 +51,7 @@ use Rattle.omf_module.specs.Faults.{holds_base, place_fault, relative_fault, fix
 use Rattle.omf_module.specs.inside.Contents.{lies_in}
 use Rattle.omf_module.specs.inside.Running.{State, state_of, checked, slot, group_fault, add_to_last, add_data}
 use Rattle.omf_module.specs.inside.Running.{module_in, later, step, step_record, step_subrecord, step_subrecords, ◌>>=◌}
-use Rattle.omf_module.specs.Sound.{IsShort, FrameMeans, TargetMeans, BaseMeans, IsPart, IsMember, FixupFits, StartFits}
+use Rattle.omf_module.specs.Sound.{IsShort, IsIndexOf, FrameMeans, TargetMeans, BaseMeans, IsPart, IsMember, FixupFits, StartFits}
 use Rattle.omf_module.specs.Sound.{SegmentFits, IsStanding}
 use Rattle.omf_record.proofs.Expanded.{length-stored}
 use Rattle.omf_record.proofs.Places.{all-append}
@@ -74,23 +70,24 @@ all_weaker P Q (x ∷ xs) f h = (f x h.0, all_weaker P Q xs f h.1)
 less_more : {X : Type 0} (xs ys : List X) (i : ℕ) → i < length xs → i < length (xs ++ ys)
 less_more xs ys i lt = omega (arith, length-append xs ys)
 
+index_more : {X : Type 0} (xs ys : List X) (i : ℕ) → IsIndexOf xs i → IsIndexOf (xs ++ ys) i
+index_more xs ys i h = (h.0, omega (arith, h.1, length-append xs ys))
+
 get_more : {X : Type 0} (xs ys : List X) (i : ℕ) (x : X) → slice_get xs i ≡ Some x → slice_get (xs ++ ys) i ≡ Some x
 get_more [] ys i x e = cc
 get_more (z ∷ xs) ys zero x e = e
 get_more (z ∷ xs) ys (suc i) x e = get_more xs ys i x e
 
 module _ (ss ss' : List Segment) (gs gs' : List Group) (es es' : List ExternalSymbol) where
-  frame_more : (f : FixupFrame) → FrameMeans ss gs es f → FrameMeans (ss ++ ss') (gs ++ gs') (es ++ es') f
-  frame_more (frames.OfSegment i) h = less_more ss ss' i h
-  frame_more (frames.OfGroup i) h = less_more gs gs' i h
-  frame_more (frames.OfExternal i) h = less_more es es' i h
-  frame_more frames.OfLocation h = tt
-  frame_more frames.OfTarget h = tt
+  target_more : (f : TargetMethod) → TargetMeans ss gs es f → TargetMeans (ss ++ ss') (gs ++ gs') (es ++ es') f
+  target_more (to.Segment i) h = index_more ss ss' i h
+  target_more (to.Group i) h = index_more gs gs' i h
+  target_more (to.External i) h = index_more es es' i h
 
-  target_more : (f : FixupTarget) → TargetMeans ss gs es f → TargetMeans (ss ++ ss') (gs ++ gs') (es ++ es') f
-  target_more (targets.Segment i) h = less_more ss ss' i h
-  target_more (targets.Group i) h = less_more gs gs' i h
-  target_more (targets.External i) h = less_more es es' i h
+  frame_more : (f : FrameMethod) → FrameMeans ss gs es f → FrameMeans (ss ++ ss') (gs ++ gs') (es ++ es') f
+  frame_more (by.By method) h = target_more method h
+  frame_more by.Location h = tt
+  frame_more by.Target h = tt
 
   base_more : (b : SymbolBase) → BaseMeans ss gs es b → BaseMeans (ss ++ ss') (gs ++ gs') (es ++ es') b
   base_more (AtFrame f) h = h
@@ -181,6 +178,11 @@ none_both (Some f) (Some g) e = absurd (one_of_two f g (nat_le (check_label f).0
 means : {X : Type 0} (xs : List X) (i : ℕ) → misses xs i ≡ false → i - 1 < length xs
 means xs zero e = cc
 means xs (suc i) e = grind (arith, nat_tests)
+
+-- the same, counted from 1
+is_index : {X : Type 0} (xs : List X) (i : ℕ) → misses xs i ≡ false → IsIndexOf xs i
+is_index xs zero e = cc
+is_index xs (suc i) e = grind (arith, nat_tests)
 
 not_less : (a b : ℕ) → nat_lt a b ≡ false → b ≤ a
 not_less a b e = grind (arith, nat_tests)
@@ -448,19 +450,17 @@ data_keeps s place i offset n pairs cs len copies e stand h =
 
 -- ---- FIXUPP
 
+target_means : (t : Tables) (m : TargetMethod) → target_fault t (Some m) ≡ None
+    → TargetMeans t.segments t.groups t.externals m
+target_means t (to.Segment i) e = is_index t.segments i (when_none (misses t.segments i) SegmentIndex e)
+target_means t (to.Group i) e = is_index t.groups i (when_none (misses t.groups i) GroupIndex e)
+target_means t (to.External i) e = is_index t.externals i (when_none (misses t.externals i) ExternalIndex e)
+
 frame_means : (t : Tables) (m : FrameMethod) → frame_fault t (Some m) ≡ None
-    → FrameMeans t.segments t.groups t.externals (frame_of m)
-frame_means t (by.Segment i) e = means t.segments i (when_none (misses t.segments i) SegmentIndex e)
-frame_means t (by.Group i) e = means t.groups i (when_none (misses t.groups i) GroupIndex e)
-frame_means t (by.External i) e = means t.externals i (when_none (misses t.externals i) ExternalIndex e)
+    → FrameMeans t.segments t.groups t.externals m
+frame_means t (by.By method) e = target_means t method e
 frame_means t by.Location e = tt
 frame_means t by.Target e = tt
-
-target_means : (t : Tables) (m : TargetMethod) → target_fault t (Some m) ≡ None
-    → TargetMeans t.segments t.groups t.externals (target_of m)
-target_means t (to.Segment i) e = means t.segments i (when_none (misses t.segments i) SegmentIndex e)
-target_means t (to.Group i) e = means t.groups i (when_none (misses t.groups i) GroupIndex e)
-target_means t (to.External i) e = means t.externals i (when_none (misses t.externals i) ExternalIndex e)
 
 not_false : (b : Bool) → not b ≡ false → b ≡ true
 not_false true e = refl
@@ -598,10 +598,8 @@ subrecords_keep place s t (x ∷ xs) e h =
 
 -- ---- MODEND
 
-no_location : (m : FrameMethod) → location_fault (Some m) ≡ None → frame_of m ≡ frames.OfLocation → ⊥
-no_location (by.Segment i) e k = cc
-no_location (by.Group i) e k = cc
-no_location (by.External i) e k = cc
+no_location : (m : FrameMethod) → location_fault (Some m) ≡ None → m ≡ by.Location → ⊥
+no_location (by.By method) e k = cc
 no_location by.Location e k = cc
 no_location by.Target e k = cc
 

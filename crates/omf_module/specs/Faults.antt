@@ -110,20 +110,18 @@ public_fault tables (AtFrame group frame) = when (is_beyond tables.groups group)
 public_fault tables (InSegment group segment) =
     when (misses tables.segments segment) SegmentIndex ⊓ when (is_beyond tables.groups group) GroupIndex
 
--- a frame or target in use; none: its thread isn't set
-abbrev pub frame_fault : Tables → Option FrameMethod → Option CheckFault
-frame_fault tables None = Some ThreadNotSet
-frame_fault tables (Some (by.Segment index)) = when (misses tables.segments index) SegmentIndex
-frame_fault tables (Some (by.Group index)) = when (misses tables.groups index) GroupIndex
-frame_fault tables (Some (by.External index)) = when (misses tables.externals index) ExternalIndex
-frame_fault tables (Some _) = None
-
 -- a target in use; none: its thread isn't set
 abbrev pub target_fault : Tables → Option TargetMethod → Option CheckFault
 target_fault tables None = Some ThreadNotSet
 target_fault tables (Some (to.Segment index)) = when (misses tables.segments index) SegmentIndex
 target_fault tables (Some (to.Group index)) = when (misses tables.groups index) GroupIndex
 target_fault tables (Some (to.External index)) = when (misses tables.externals index) ExternalIndex
+
+-- a frame in use, likewise
+abbrev pub frame_fault : Tables → Option FrameMethod → Option CheckFault
+frame_fault tables None = Some ThreadNotSet
+frame_fault tables (Some (by.By method)) = target_fault tables (Some method)
+frame_fault tables (Some _) = None
 
 -- a base can't be relative to itself
 abbrev pub holds_base : Location → Bool

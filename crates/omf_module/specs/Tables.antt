@@ -16,9 +16,7 @@ use Rattle.omf_record.specs.declared.segments.Alignment.TheVariants as align
 use Rattle.omf_record.specs.declared.segments.Combination.{Combination}
 use Rattle.omf_record.specs.declared.segments.Combination.TheVariants as combine
 use Rattle.omf_record.specs.declared.fixups.FrameMethod.{FrameMethod}
-use Rattle.omf_record.specs.declared.fixups.FrameMethod.TheVariants as by
 use Rattle.omf_record.specs.declared.fixups.TargetMethod.{TargetMethod}
-use Rattle.omf_record.specs.declared.fixups.TargetMethod.TheVariants as to
 use Rattle.omf_record.specs.declared.fixups.FrameDatum.{FrameDatum}
 use Rattle.omf_record.specs.declared.fixups.FrameDatum.TheVariants as frame_datum
 use Rattle.omf_record.specs.declared.fixups.TargetDatum.{TargetDatum}
@@ -33,10 +31,6 @@ use Rattle.omf_module.specs.declared.Standing.{Standing}
 use Rattle.omf_module.specs.declared.Standing.TheVariants.{Absolute, Relocatable}
 use Rattle.omf_module.specs.declared.SymbolBase.{SymbolBase}
 use Rattle.omf_module.specs.declared.SymbolBase.TheVariants.{AtFrame, InSegment}
-use Rattle.omf_module.specs.declared.FixupFrame.{FixupFrame}
-use Rattle.omf_module.specs.declared.FixupFrame.TheVariants as frames
-use Rattle.omf_module.specs.declared.FixupTarget.{FixupTarget}
-use Rattle.omf_module.specs.declared.FixupTarget.TheVariants as targets
 use Rattle.omf_module.specs.declared.ResolvedFixup.{ResolvedFixup}
 use Rattle.omf_module.specs.declared.Start.{Start}
 use Rattle.omf_module.specs.Module.{Segment, Group, ExternalSymbol, PublicSymbol, DataRecord, Module}
@@ -203,20 +197,6 @@ target_used threads (target_datum.By method) = Some method
 
 -- ---- 9CH FIXUPP: Fixup Record, its fix-up subrecords; 8AH MODEND: Module End Record
 
--- a frame by its method, whose index counts from 1
-abbrev pub frame_of : FrameMethod → FixupFrame
-frame_of (by.Segment index) = frames.OfSegment (index - 1)
-frame_of (by.Group index) = frames.OfGroup (index - 1)
-frame_of (by.External index) = frames.OfExternal (index - 1)
-frame_of by.Location = frames.OfLocation
-frame_of by.Target = frames.OfTarget
-
--- a target by its method, whose index counts from 1
-abbrev pub target_of : TargetMethod → FixupTarget
-target_of (to.Segment index) = targets.Segment (index - 1)
-target_of (to.Group index) = targets.Group (index - 1)
-target_of (to.External index) = targets.External (index - 1)
-
 -- a fix-up by the methods that it uses; there is none where a thread isn't set
 abbrev pub fixup_of : ℕ → Fixup → Option FrameMethod → Option TargetMethod → Option ResolvedFixup
 fixup_of place fixup (Some frame) (Some target) = Some (record {
@@ -224,8 +204,8 @@ fixup_of place fixup (Some frame) (Some target) = Some (record {
   self_relative = fixup.self_relative;
   location = fixup.location;
   offset = fixup.offset;
-  frame = frame_of frame;
-  target = target_of target;
+  frame = frame;
+  target = target;
   displacement = unwrap_or fixup.reference.displacement 0;
 })
 fixup_of place fixup _ _ = None
@@ -266,7 +246,7 @@ data_records records = map (data_record (fixups records)) (enumerate_from 1 (str
 -- a start by the methods that it uses; there is none where a thread isn't set
 abbrev pub start_of : ℕ → Reference → Option FrameMethod → Option TargetMethod → Option Start
 start_of place r (Some f) (Some t) =
-    Some (record { place = place; frame = frame_of f; target = target_of t; displacement = unwrap_or r.displacement 0 })
+    Some (record { place = place; frame = f; target = t; displacement = unwrap_or r.displacement 0 })
 start_of place reference _ _ = None
 
 -- the start of a MODEND record, with the subrecords before it

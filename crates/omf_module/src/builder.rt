@@ -37,7 +37,7 @@ use crate::contents::{Content, contents_of_blocks, lies_in};
 use crate::fault::CheckFault;
 use crate::lookups::Module;
 use crate::store::Store;
-use crate::{FixupFrame, FixupTarget, ResolvedFixup, Start, SymbolBase};
+use crate::{ResolvedFixup, Start, SymbolBase};
 use omf_record::{
     Block, External, Fixup, FrameDatum, FrameMethod, Public, PublicBase, Record, Reference,
     SegmentDefinition, Subrecord, TargetDatum, TargetMethod, expanded_len, thread_number,
@@ -166,30 +166,6 @@ fn target_used(threads: &[Option<TargetMethod>; 4], datum: TargetDatum) -> Optio
     }
 }
 
-/// The frame by its method. The index of the method counts from 1.
-fn frame_of(method: FrameMethod) -> FixupFrame
-    ensures { result ≡ tables.frame_of method }
-{
-    match method {
-        FrameMethod::Segment(index) => FixupFrame::OfSegment(index.saturating_sub(1)),
-        FrameMethod::Group(index) => FixupFrame::OfGroup(index.saturating_sub(1)),
-        FrameMethod::External(index) => FixupFrame::OfExternal(index.saturating_sub(1)),
-        FrameMethod::Location => FixupFrame::OfLocation,
-        FrameMethod::Target => FixupFrame::OfTarget,
-    }
-}
-
-/// The target by its method. The index of the method counts from 1.
-fn target_of(method: TargetMethod) -> FixupTarget
-    ensures { result ≡ tables.target_of method }
-{
-    match method {
-        TargetMethod::Segment(index) => FixupTarget::Segment(index.saturating_sub(1)),
-        TargetMethod::Group(index) => FixupTarget::Group(index.saturating_sub(1)),
-        TargetMethod::External(index) => FixupTarget::External(index.saturating_sub(1)),
-    }
-}
-
 /// The fix-up by the methods that it uses; none where a thread isn't set.
 fn fixup_of(
     place: u64,
@@ -204,8 +180,8 @@ fn fixup_of(
         self_relative: fixup.self_relative,
         location: fixup.location,
         offset: fixup.offset,
-        frame: frame_of(frame?),
-        target: target_of(target?),
+        frame: frame?,
+        target: target?,
         displacement: fixup.reference.displacement.unwrap_or(0),
     })
 }
@@ -221,8 +197,8 @@ fn start_of(
 {
     Some(Start {
         place,
-        frame: frame_of(frame?),
-        target: target_of(target?),
+        frame: frame?,
+        target: target?,
         displacement: reference.displacement.unwrap_or(0),
     })
 }
@@ -306,9 +282,7 @@ impl<A: Allocator + Copy> Builder<A> {
     {
         match frame {
             None => Some(CheckFault::ThreadNotSet),
-            Some(FrameMethod::Segment(index)) => self.segment_index(index),
-            Some(FrameMethod::Group(index)) => self.group_index(index),
-            Some(FrameMethod::External(index)) => self.external_index(index),
+            Some(FrameMethod::By(method)) => self.target_fault(Some(method)),
             Some(FrameMethod::Location | FrameMethod::Target) => None,
         }
     }

@@ -25,21 +25,6 @@ pub enum ThreadNumber {
     Three,
 }
 
-/// How a frame is found: frame methods F0, F1, F2, F4 and F5 (TIS OMF 1.1, FIXUPP).
-#[derive(Clone, Copy, Debug, PartialEq, Eq)]
-pub enum FrameMethod {
-    /// F0: the segment with this index.
-    Segment(u16),
-    /// F1: the group with this index.
-    Group(u16),
-    /// F2: what the external name with this index stands for.
-    External(u16),
-    /// F4: the segment of the data record that holds the location.
-    Location,
-    /// F5: the target's own frame.
-    Target,
-}
-
 /// How a target is found: target methods T0, T1 and T2, and without a displacement T4, T5 and T6 (TIS OMF 1.1, FIXUPP).
 #[derive(Clone, Copy, Debug, PartialEq, Eq)]
 pub enum TargetMethod {
@@ -49,6 +34,17 @@ pub enum TargetMethod {
     Group(u16),
     /// T2 and T6: what the external name with this index stands for.
     External(u16),
+}
+
+/// How a frame is found: frame methods F0 to F2, F4 and F5 (TIS OMF 1.1, FIXUPP).
+#[derive(Clone, Copy, Debug, PartialEq, Eq)]
+pub enum FrameMethod {
+    /// F0, F1 and F2: as the target is found by T0, T1 and T2.
+    By(TargetMethod),
+    /// F4: the segment of the data record that holds the location.
+    Location,
+    /// F5: the target's own frame.
+    Target,
 }
 
 /// The frame of a reference.
@@ -169,9 +165,7 @@ fn frame_number(method: FrameMethod) -> u8
     ensures small { result < 6 }
 {
     match method {
-        FrameMethod::Segment(_) => 0,
-        FrameMethod::Group(_) => 1,
-        FrameMethod::External(_) => 2,
+        FrameMethod::By(method) => target_number(method),
         FrameMethod::Location => 4,
         FrameMethod::Target => 5,
     }
@@ -219,11 +213,7 @@ fn frame_method_of(number: u64, index: Option<u16>) -> FrameMethod
     ensures { result ≡ refs.frame_method_of number index }
 {
     match index {
-        Some(index) => match number {
-            0 => FrameMethod::Segment(index),
-            1 => FrameMethod::Group(index),
-            _ => FrameMethod::External(index),
-        },
+        Some(index) => FrameMethod::By(target_method_of(number, index)),
         None => match number {
             4 => FrameMethod::Location,
             _ => FrameMethod::Target,
@@ -236,7 +226,7 @@ fn frame_method_index(method: FrameMethod) -> Option<u16>
     ensures { result ≡ refs.frame_method_index method }
 {
     match method {
-        FrameMethod::Segment(index) | FrameMethod::Group(index) | FrameMethod::External(index) =>
+        FrameMethod::By(method) => Some(target_method_index(method)),| FrameMethod::Group(index) | FrameMethod::External(index) =>
             Some(index),
         FrameMethod::Location | FrameMethod::Target => None,
     }

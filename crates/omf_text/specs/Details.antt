@@ -36,19 +36,17 @@ line parts = concat (codes "  " ∷ (parts ++ (codes "\n" ∷ [])))
 
 -- ---- references
 
--- frame methods F0, F1, F2, F4 and F5
-abbrev pub frame_method : FrameMethod → List ℕ
-frame_method (frame.Segment index) = concat (codes "method 0 index " ∷ decimal index ∷ [])
-frame_method (frame.Group index) = concat (codes "method 1 index " ∷ decimal index ∷ [])
-frame_method (frame.External index) = concat (codes "method 2 index " ∷ decimal index ∷ [])
-frame_method frame.Location = codes "method 4"
-frame_method frame.Target = codes "method 5"
-
 -- target methods T0, T1 and T2
 abbrev pub target_method : TargetMethod → List ℕ
 target_method (target.Segment index) = concat (codes "method 0 index " ∷ decimal index ∷ [])
 target_method (target.Group index) = concat (codes "method 1 index " ∷ decimal index ∷ [])
 target_method (target.External index) = concat (codes "method 2 index " ∷ decimal index ∷ [])
+
+-- frame methods F0, F1 and F2 as these; F4 and F5
+abbrev pub frame_method : FrameMethod → List ℕ
+frame_method (frame.By method) = target_method method
+frame_method frame.Location = codes "method 4"
+frame_method frame.Target = codes "method 5"
 
 -- the frame of a reference: by a thread's number, or by a method
 abbrev pub frame_of : FrameDatum → List ℕ

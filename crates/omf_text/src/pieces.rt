@@ -149,9 +149,7 @@ fn put_frame_method<K: Sink>(sink: &mut K, method: FrameMethod) -> Result<(), Io
     ensures { Writes K.written K.failures sink.old sink.new (spec.frame_method method) result }
 {
     match method {
-        FrameMethod::Segment(index) => put_numbered(sink, "method 0 index ", index),
-        FrameMethod::Group(index) => put_numbered(sink, "method 1 index ", index),
-        FrameMethod::External(index) => put_numbered(sink, "method 2 index ", index),
+        FrameMethod::By(method) => put_target_method(sink, method),
         FrameMethod::Location => put_all(sink, b"method 4"),
         FrameMethod::Target => put_all(sink, b"method 5"),
     }

@@ -26,19 +26,6 @@ use Rattle.omf_record.specs.declared.fixups.TargetDatum.TheVariants as target_da
 abbrev pub thread_of : ℕ → ThreadNumber
 thread_of n = cond (eqb n 0) Zero (cond (eqb n 1) One (cond (eqb n 2) Two Three))
 
--- the frame's method of this number, with the index behind it
-abbrev pub frame_method_of : ℕ → Option ℕ → FrameMethod
-frame_method_of n (Some i) = cond (eqb n 0) (frame.Segment i) (cond (eqb n 1) (frame.Group i) (frame.External i))
-frame_method_of n None = cond (eqb n 4) frame.Location frame.Target
-
--- the index behind a frame's method
-abbrev pub frame_method_index : FrameMethod → Option ℕ
-frame_method_index (frame.Segment i) = Some i
-frame_method_index (frame.Group i) = Some i
-frame_method_index (frame.External i) = Some i
-frame_method_index frame.Location = None
-frame_method_index frame.Target = None
-
 -- the target's method of this number, with the index behind it
 abbrev pub target_method_of : ℕ → ℕ → TargetMethod
 target_method_of n i = cond (eqb n 0) (target.Segment i) (cond (eqb n 1) (target.Group i) (target.External i))
@@ -48,6 +35,17 @@ abbrev pub target_method_index : TargetMethod → ℕ
 target_method_index (target.Segment i) = i
 target_method_index (target.Group i) = i
 target_method_index (target.External i) = i
+
+-- the frame's method of this number, with the index behind it
+abbrev pub frame_method_of : ℕ → Option ℕ → FrameMethod
+frame_method_of n (Some i) = frame.By (target_method_of n i)
+frame_method_of n None = cond (eqb n 4) frame.Location frame.Target
+
+-- the index behind a frame's method
+abbrev pub frame_method_index : FrameMethod → Option ℕ
+frame_method_index (frame.By m) = Some (target_method_index m)
+frame_method_index frame.Location = None
+frame_method_index frame.Target = None
 
 -- ---- the fix data byte
 
