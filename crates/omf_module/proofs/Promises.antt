@@ -35,13 +35,11 @@ use Rattle.omf_module.specs.declared.fault.CheckFault.{CheckFault}
 use Rattle.omf_module.specs.declared.fault.CheckFault.TheVariants.{NameIndex, SegmentIndex, GroupIndex, ExternalIndex}
 use Rattle.omf_module.specs.declared.fault.CheckFault.TheVariants.{FixupPlace, DataOutside, DataInAbsolute}
 use Rattle.omf_module.specs.declared.fault.CheckFault.TheVariants.{SelfRelativeBase, GroupOfAbsolute}
-use Rattle.omf_module.specs.declared.SymbolBase.{SymbolBase}
-use Rattle.omf_module.specs.declared.SymbolBase.TheVariants.{AtFrame, InSegment}
 use Rattle.omf_module.specs.declared.ResolvedFixup.{ResolvedFixup}
 use Rattle.omf_module.specs.declared.Start.{Start}
 use Rattle.omf_module.specs.Module.{Segment, Group, ExternalSymbol, PublicSymbol, DataRecord, Module}
 use Rattle.omf_module.specs.Before.{first, entry}
-use Rattle.omf_module.specs.Tables.{frame_used, target_used, name_at, standing_of, base_of}
+use Rattle.omf_module.specs.Tables.{frame_used, target_used, name_at, standing_of}
 use Rattle.omf_module.specs.Tables.{fixup_of, start_of}
 use Rattle.omf_module.specs.inside.Entries.{segment_of, group_of, public_of, external_of}
 use Rattle.omf_module.specs.Faults.{check_label, header_fault, segment_fault, when, ◌⊓◌, is_beyond, misses}
@@ -67,9 +65,6 @@ all_weaker P Q (x ∷ xs) f h = (f x h.0, all_weaker P Q xs f h.1)
 
 -- ---- longer lists
 
-less_more : {X : Type 0} (xs ys : List X) (i : ℕ) → i < length xs → i < length (xs ++ ys)
-less_more xs ys i lt = omega (arith, length-append xs ys)
-
 index_more : {X : Type 0} (xs ys : List X) (i : ℕ) → IsIndexOf xs i → IsIndexOf (xs ++ ys) i
 index_more xs ys i h = (h.0, omega (arith, h.1, length-append xs ys))
 
@@ -89,10 +84,9 @@ module _ (ss ss' : List Segment) (gs gs' : List Group) (es es' : List ExternalSy
   frame_more by.Location h = tt
   frame_more by.Target h = tt
 
-  base_more : (b : SymbolBase) → BaseMeans ss gs es b → BaseMeans (ss ++ ss') (gs ++ gs') (es ++ es') b
-  base_more (AtFrame f) h = h
-  base_more (InSegment i None) h = less_more ss ss' i h
-  base_more (InSegment i (Some g)) h = (less_more ss ss' i h.0, less_more gs gs' g h.1)
+  base_more : (b : PublicBase) → BaseMeans ss gs es b → BaseMeans (ss ++ ss') (gs ++ gs') (es ++ es') b
+  base_more (public_base.AtFrame g f) h = h
+  base_more (public_base.InSegment g i) h = (index_more ss ss' i h.0, omega (arith, h.1, length-append gs gs'))
 
   part_more : (i : ℕ) (s : Segment) → IsPart ss gs es i s → IsPart (ss ++ ss') (gs ++ gs') (es ++ es') i s
   part_more i s h = (get_more ss ss' i s h.0, h.1)
@@ -174,12 +168,7 @@ none_both None b e = (refl, e)
 none_both (Some f) None e = cc
 none_both (Some f) (Some g) e = absurd (one_of_two f g (nat_le (check_label f).0 (check_label g).0) e)
 
--- an index that means something, counted from 0
-means : {X : Type 0} (xs : List X) (i : ℕ) → misses xs i ≡ false → i - 1 < length xs
-means xs zero e = cc
-means xs (suc i) e = grind (arith, nat_tests)
-
--- the same, counted from 1
+-- an index that means something
 is_index : {X : Type 0} (xs : List X) (i : ℕ) → misses xs i ≡ false → IsIndexOf xs i
 is_index xs zero e = cc
 is_index xs (suc i) e = grind (arith, nat_tests)
@@ -353,16 +342,13 @@ group_keeps s name is e h =
 -- ---- PUBDEF
 
 base_fits : (t : Tables) (b : PublicBase) (text : List ℕ) → BaseText b text → public_fault t b ≡ None
-    → BaseMeans t.segments t.groups t.externals (base_of b)
+    → BaseMeans t.segments t.groups t.externals b
 base_fits t (public_base.AtFrame group frame) text b e = b.second.second.0
-base_fits t (public_base.InSegment zero segment) text b e =
-    let p = none_both (when (misses t.segments segment) SegmentIndex) (when (is_beyond t.groups 0) GroupIndex) e in
-    means t.segments segment (when_none (misses t.segments segment) SegmentIndex p.0)
-base_fits t (public_base.InSegment (suc group) segment) text b e =
-    let p =
-    none_both (when (misses t.segments segment) SegmentIndex) (when (is_beyond t.groups (suc group)) GroupIndex) e in
-    let g = not_past t.groups (suc group) (when_none (is_beyond t.groups (suc group)) GroupIndex p.1) in
-    (means t.segments segment (when_none (misses t.segments segment) SegmentIndex p.0), omega (arith, g))
+base_fits t (public_base.InSegment group segment) text b e =
+    let p = none_both (when (misses t.segments segment) SegmentIndex) (when (is_beyond t.groups group) GroupIndex) e in (
+      is_index t.segments segment (when_none (misses t.segments segment) SegmentIndex p.0),
+      not_past t.groups group (when_none (is_beyond t.groups group) GroupIndex p.1),
+    )
 
 abbrev with_publics : State → List PublicSymbol → State
 with_publics s ps = record s { publics = s.publics ++ ps }

@@ -2,13 +2,13 @@
 -- data.
 use Rattle.std.specs.Prelude.{◌≡◌, ℕ, ◌+◌, ◌<◌, ◌≤◌, true, false, All, List, length, None, Some, slice_get, IfSome}
 use Rattle.omf_record.specs.Numbers.{location_width}
+use Rattle.omf_record.specs.declared.externals.PublicBase.{PublicBase}
+use Rattle.omf_record.specs.declared.externals.PublicBase.TheVariants.{AtFrame, InSegment}
 use Rattle.omf_record.specs.declared.fixups.FrameMethod.{FrameMethod}
 use Rattle.omf_record.specs.declared.fixups.FrameMethod.TheVariants as by
 use Rattle.omf_record.specs.declared.fixups.TargetMethod.{TargetMethod}
 use Rattle.omf_record.specs.declared.fixups.TargetMethod.TheVariants as to
 use Rattle.omf_record.specs.Expansion.{places, StandTogether, StandWhole, AreCopies}
-use Rattle.omf_module.specs.declared.SymbolBase.{SymbolBase}
-use Rattle.omf_module.specs.declared.SymbolBase.TheVariants.{AtFrame, InSegment}
 use Rattle.omf_module.specs.declared.Standing.{Standing}
 use Rattle.omf_module.specs.declared.Standing.TheVariants.{Absolute, Relocatable}
 use Rattle.omf_module.specs.declared.ResolvedFixup.{ResolvedFixup}
@@ -51,10 +51,9 @@ module _ (segments : List Segment) (groups : List Group) (externals : List Exter
   FrameMeans by.Target = Unit {0}
 
   -- so is what a public symbol's offset counts from, or it is a frame word
-  abbrev pub BaseMeans : SymbolBase → Type 0
-  BaseMeans (AtFrame frame) = frame < 65536
-  BaseMeans (InSegment segment None) = segment < length segments
-  BaseMeans (InSegment segment (Some group)) = (segment < length segments) × (group < length groups)
+  abbrev pub BaseMeans : PublicBase → Type 0
+  BaseMeans (AtFrame group frame) = frame < 65536
+  BaseMeans (InSegment group segment) = IsIndexOf segments segment × (group ≤ length groups)
 
   -- a segment that a linker places
   abbrev pub IsPart : ℕ → Segment → Type 0

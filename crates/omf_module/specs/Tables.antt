@@ -29,8 +29,6 @@ use Rattle.omf_module.specs.declared.Kind.{Kind}
 use Rattle.omf_module.specs.declared.Kind.TheVariants as kinds
 use Rattle.omf_module.specs.declared.Standing.{Standing}
 use Rattle.omf_module.specs.declared.Standing.TheVariants.{Absolute, Relocatable}
-use Rattle.omf_module.specs.declared.SymbolBase.{SymbolBase}
-use Rattle.omf_module.specs.declared.SymbolBase.TheVariants.{AtFrame, InSegment}
 use Rattle.omf_module.specs.declared.ResolvedFixup.{ResolvedFixup}
 use Rattle.omf_module.specs.declared.Start.{Start}
 use Rattle.omf_module.specs.Module.{Segment, Group, ExternalSymbol, PublicSymbol, DataRecord, Module}
@@ -108,20 +106,10 @@ externals_in _ = []
 abbrev pub externals : List Placed → List ExternalSymbol
 externals records = flat_map (λ (placed : Placed). externals_in placed.says) records
 
--- the group of a public symbol; 0 means none
-abbrev pub group_at : ℕ → Option ℕ
-group_at zero = None
-group_at (suc group) = Some group
-
--- with a frame word its group counts for nothing
-abbrev pub base_of : PublicBase → SymbolBase
-base_of (public_base.AtFrame group frame) = AtFrame frame
-base_of (public_base.InSegment group segment) = InSegment (segment - 1) (group_at group)
-
 -- the public symbols that a record defines
 abbrev pub publics_in : Record → List PublicSymbol
 publics_in (Pubdef local base listed) =
-    map (λ p. record { name = p.name; base = base_of base; offset = p.offset; local = local }) listed
+    map (λ p. record { name = p.name; base = base; offset = p.offset; local = local }) listed
 publics_in _ = []
 
 -- the public symbols that these records define

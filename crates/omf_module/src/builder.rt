@@ -37,7 +37,7 @@ use crate::contents::{Content, contents_of_blocks, lies_in};
 use crate::fault::CheckFault;
 use crate::lookups::Module;
 use crate::store::Store;
-use crate::{ResolvedFixup, Start, SymbolBase};
+use crate::{ResolvedFixup, Start};
 use omf_record::{
     Block, External, Fixup, FrameDatum, FrameMethod, Public, PublicBase, Record, Reference,
     SegmentDefinition, Subrecord, TargetDatum, TargetMethod, expanded_len, thread_number,
@@ -83,19 +83,6 @@ pub struct Builder<A: Allocator + Copy> {
     start: Option<Start>,
 }
 
-/// What the offset of a public symbol counts from.
-fn base_of(base: PublicBase) -> SymbolBase
-    ensures { result ≡ tables.base_of base }
-{
-    match base {
-        PublicBase::AtFrame { frame, .. } => SymbolBase::AtFrame(frame),
-        PublicBase::InSegment { group, segment } => {
-            let group = if group == 0 { None } else { Some(group - 1) };
-            SymbolBase::InSegment(segment.saturating_sub(1), group)
-        }
-    }
-}
-
 /// Keeps the names of LNAMES.
 fn add_names<A: Allocator + Copy>(store: &mut Store<A>, names: &[&[u8]]) -> Result<(), AllocError>
     ensures { OnOk result (store.new ≡ record store.old { names = store.old.names ++ map (λ n. n.now) names.now }) }
@@ -139,7 +126,6 @@ fn add_publics<A: Allocator + Copy>(
               ++ map (defined.public_of local base) (map public_view publics.now);
         }) }
 {
-    let base = base_of(base);
     for public in publics {
         store.push_public(public.name, base, public.offset, local)?;
     }

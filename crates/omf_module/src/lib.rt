@@ -39,15 +39,6 @@ pub enum Standing {
     Relocatable { alignment: u16, kind: Kind },
 }
 
-/// What a public symbol's offset counts from. Segments and groups count from 0.
-#[derive(Clone, Copy, Debug)]
-pub enum SymbolBase {
-    /// An absolute frame.
-    AtFrame(u16),
-    /// A segment of the module, under the frame of the group where there is one.
-    InSegment(u16, Option<u16>),
-}
-
 /// A fix-up on a data record, with its threads resolved.
 #[derive(Clone, Copy, Debug)]
 pub struct ResolvedFixup {

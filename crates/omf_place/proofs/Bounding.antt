@@ -10,9 +10,7 @@ use Rattle.std.specs.List.{AllByRecursion}
 use Rattle.std.specs.Option.{option_map, option_and_then, option_to_list}
 use Rattle.omf_module.specs.declared.Standing.{Standing}
 use Rattle.omf_module.specs.declared.Standing.TheVariants.{Absolute, Relocatable}
-use Rattle.omf_module.specs.declared.SymbolBase.{SymbolBase}
-use Rattle.omf_module.specs.declared.SymbolBase.TheVariants.{AtFrame, InSegment}
-use Rattle.omf_module.specs.Module.{Module, Segment, Group, PublicSymbol}
+use Rattle.omf_module.specs.Module.{Module, Segment, Group}
 use Rattle.omf_place.specs.Bounded.{LiesInside, ArePlacesOf, IsBounded}
 use Rattle.omf_place.specs.declared.layout.Combined.{Combined}
 use Rattle.omf_place.specs.declared.layout.Position.TheVariants as position

@@ -3,7 +3,7 @@ use Rattle.std.proofs.Common.{◌≡◌, ℕ, List, [], ◌∷◌, Some, None, r
 use Rattle.std.specs.Prelude.{codes, replicate, ◌++◌}
 use Rattle.omf_module.specs.declared.Kind.TheVariants.{Private, Public, Stack, Common}
 use Rattle.omf_module.specs.declared.Standing.TheVariants.{Relocatable}
-use Rattle.omf_module.specs.declared.SymbolBase.TheVariants.{AtFrame, InSegment}
+use Rattle.omf_record.specs.declared.externals.PublicBase.TheVariants.{AtFrame, InSegment}
 use Rattle.omf_module.specs.Module.{Module, Segment, Group, PublicSymbol}
 use Rattle.omf_place.specs.declared.layout.Position.TheVariants as position
 use Rattle.omf_place.specs.Parts.{sites, placement_order, Site}
@@ -28,7 +28,7 @@ two = mod_of (seg (codes "CODE") (codes "CODE") 16 Public 18 ∷ seg (codes "_DA
     (record { name = codes "DGROUP"; members = 1 ∷ [] } ∷ []) []
     ∷ mod_of (seg (codes "_DATA") (codes "_DATA") 2 Public 2 ∷ [])
     (record { name = codes "DGROUP"; members = 0 ∷ [] } ∷ [])
-    (record { name = codes "x"; base = InSegment 0 (Some 0); offset = 0; local = false } ∷ [])
+    (record { name = codes "x"; base = InSegment 1 1; offset = 0; local = false } ∷ [])
     ∷ []
 
 two_order : map (λ (a : Site). a.position) (placement_order (sites two)) ≡ 0 ∷ 1 ∷ 2 ∷ []
@@ -133,8 +133,8 @@ large_fails = refl
 -- two publics of one name
 twice : placement_fault Exact
     (one (code 5 ∷ []) []
-    (record { name = codes "x"; base = InSegment 0 None; offset = 0; local = false }
-    ∷ record { name = codes "x"; base = InSegment 0 None; offset = 1; local = false } ∷ [])) (0 ∷ []) 5
+    (record { name = codes "x"; base = InSegment 0 1; offset = 0; local = false }
+    ∷ record { name = codes "x"; base = InSegment 0 1; offset = 1; local = false } ∷ [])) (0 ∷ []) 5
     ≡ Some (DuplicatePublic (codes "x"))
 twice = refl
 
@@ -164,7 +164,7 @@ commons_placed = refl
 
 -- an absolute public
 absolute_public : placed_publics
-    (one [] [] (record { name = codes "x"; base = AtFrame 5682; offset = 22; local = false } ∷ [])) []
+    (one [] [] (record { name = codes "x"; base = AtFrame 0 5682; offset = 22; local = false } ∷ [])) []
     ≡ record {
       owner = None;
       name = codes "x";
@@ -175,13 +175,13 @@ absolute_public = refl
 -- a public in a group without members
 empty_group : placed_publics
     (one (code 1 ∷ []) (record { name = codes "G"; members = [] } ∷ [])
-    (record { name = codes "x"; base = InSegment 0 (Some 0); offset = 0; local = false } ∷ [])) (0 ∷ [])
+    (record { name = codes "x"; base = InSegment 1 1; offset = 0; local = false } ∷ [])) (0 ∷ [])
     ≡ record { owner = None; name = codes "x"; value = position.Relocatable 0 None } ∷ []
 empty_group = refl
 
 -- names that differ in case, and names of one module
 abbrev at_offset : List ℕ → ℕ → Bool → PublicSymbol
-at_offset name offset local = record { name = name; base = InSegment 0 None; offset = offset; local = local }
+at_offset name offset local = record { name = name; base = InSegment 0 1; offset = offset; local = local }
 
 abbrev with_publics : List PublicSymbol → List Module
 with_publics ps = one (code 5 ∷ []) [] ps

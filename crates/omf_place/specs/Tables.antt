@@ -1,14 +1,15 @@
 -- Combined segments, groups and publics of a placed program (TIS OMF 1.1, SEGDEF, GRPDEF and PUBDEF).
-use Rattle.std.specs.Prelude.{ℕ, ◌+◌, ◌*◌, ◌/◌, min, max, Bool, false, ◌==◌, ◌&&◌, List, filter, map, fold, find}
+use Rattle.std.specs.Prelude.{ℕ, ◌+◌, ◌-◌, ◌*◌, ◌/◌, min, max, Bool, false, ◌==◌, ◌&&◌, if◌then◌else◌, List}
+use Rattle.std.specs.Prelude.{filter, map, fold, find}
 use Rattle.std.specs.Prelude.{Option, Some, None, slice_index, slice_get}
 use Rattle.std.specs.Bool.{then_some}
 use Rattle.std.specs.List.{enumerate_from, flat_map}
 use Rattle.std.specs.Option.{option_map, option_map_or, option_and_then, option_to_list}
 use Rattle.std.specs.Str.{bytes_eq}
+use Rattle.omf_record.specs.declared.externals.PublicBase.{PublicBase}
+use Rattle.omf_record.specs.declared.externals.PublicBase.TheVariants.{AtFrame, InSegment}
 use Rattle.omf_module.specs.declared.Standing.{Standing}
 use Rattle.omf_module.specs.declared.Standing.TheVariants.{Absolute, Relocatable}
-use Rattle.omf_module.specs.declared.SymbolBase.TheVariants.{AtFrame, InSegment}
-use Rattle.omf_module.specs.declared.SymbolBase.{SymbolBase}
 use Rattle.omf_module.specs.Module.{Module, PublicSymbol}
 use Rattle.omf_place.specs.Parts.{Site, sites, rank, placement_order}
 use Rattle.omf_place.specs.Placed.{greatest, members, leads, address_of}
@@ -102,22 +103,23 @@ module _ (program : List Module) (addresses : List ℕ) where
   placed_groups = map (λ (g : Grpdef). record { frame = group_frame g.name; input = g.input; group = g.group })
       (filter is_first_grpdef (grpdefs program))
 
-  -- a public of a part has the frame of its group, where it has a group, and else that of its segment
-  abbrev pub public_frame : Module → Site → Option ℕ → Option ℕ
-  public_frame m a None = Some (segment_frame (sites program) addresses a)
-  public_frame m a (Some g) = option_and_then (λ group. group_frame group.name) (slice_get m.groups g)
+  -- a public of a part has the frame of its group, where it has a group, whose index isn't 0, and else that of its segment
+  abbrev pub public_frame : Module → Site → (group : ℕ) → Option ℕ
+  public_frame m a group =
+      if group == 0 then Some (segment_frame (sites program) addresses a)
+      else option_and_then (λ g. group_frame g.name) (slice_get m.groups (group - 1))
 
   -- a public of a segment: it moves with the program where the segment is a part
-  abbrev pub in_segment : Module → Option ℕ → (offset : ℕ) → Site → Standing → Position
+  abbrev pub in_segment : Module → (group : ℕ) → (offset : ℕ) → Site → Standing → Position
   in_segment m group offset a (Absolute frame at) = position.Absolute (16 * frame + at + offset) frame
   in_segment m group offset a (Relocatable alignment kind) =
       position.Relocatable (address_of addresses a + offset) (public_frame m a group)
 
   -- what a public stands for, if its segment is there
-  abbrev pub placed_public : Input → (offset : ℕ) → SymbolBase → Option Position
-  placed_public n offset (AtFrame frame) = Some (position.Absolute (16 * frame + offset) frame)
-  placed_public n offset (InSegment segment group) =
-      option_map (λ a. in_segment n.says group offset a a.segment.standing) (slice_get n.sites segment)
+  abbrev pub placed_public : Input → (offset : ℕ) → PublicBase → Option Position
+  placed_public n offset (AtFrame group frame) = Some (position.Absolute (16 * frame + offset) frame)
+  placed_public n offset (InSegment group segment) =
+      option_map (λ a. in_segment n.says group offset a a.segment.standing) (slice_get n.sites (segment - 1))
 
   -- the publics of a module, where a local one is one of its module alone
   abbrev pub publics_of : Input → List (Entry Position)
