@@ -39,7 +39,7 @@ use Rattle.omf_module.specs.declared.ResolvedFixup.{ResolvedFixup}
 use Rattle.omf_module.specs.declared.Start.{Start}
 use Rattle.omf_module.specs.Module.{Segment, Group, ExternalSymbol, PublicSymbol, DataRecord, Module}
 use Rattle.omf_module.specs.Before.{first, entry}
-use Rattle.omf_module.specs.Tables.{frame_used, target_used, name_at, standing_of}
+use Rattle.omf_module.specs.Tables.{used, name_at, standing_of}
 use Rattle.omf_module.specs.Tables.{fixup_of, start_of}
 use Rattle.omf_module.specs.inside.Entries.{segment_of, group_of, public_of, external_of}
 use Rattle.omf_module.specs.Faults.{check_label, header_fault, segment_fault, when, ◌⊓◌, is_beyond, misses}
@@ -562,8 +562,8 @@ subrecord_keeps place s t (sub.SetFrame n m) e h =
 subrecord_keeps place s t (sub.SetTarget n m) e h =
     subst Promises (ok_is _ t e) (record { names = h.names; sound = h.sound; last = h.last })
 subrecord_keeps place s t (sub.Fixup x) e h =
-    let f = frame_used (slot s.frame_threads) x.reference.frame in
-    let g = target_used (slot s.target_threads) x.reference.target in
+    let f = used (slot s.frame_threads) x.reference.frame in
+    let g = used (slot s.target_threads) x.reference.target in
     let p =
     by_fault (fixup_fault s.tables f g s.contents x) (with_fixups s (option_to_list (fixup_of place x f g))) t e in
     subst Promises p.1
@@ -661,8 +661,8 @@ record_keeps place s t (Lidata segment offset blocks) body b e h =
 record_keeps place s t (Fixupp subs) body b e h = subrecords_keep place s t subs e h
 record_keeps place s t (Modend main None) body b e h = subst Promises (ok_is s t e) h
 record_keeps place s t (Modend main (Some r)) body b e h =
-    let f = frame_used (slot s.frame_threads) r.frame in
-    let g = target_used (slot s.target_threads) r.target in
+    let f = used (slot s.frame_threads) r.frame in
+    let g = used (slot s.target_threads) r.target in
     let p = by_fault (start_fault s.tables f g) _ t e in
     subst Promises p.1 (start_keeps s place r f g p.0 h)
 

@@ -29,7 +29,7 @@ use Rattle.omf_module.specs.declared.Standing.TheVariants.{Absolute, Relocatable
 use Rattle.omf_module.specs.Module.{Segment, Group, ExternalSymbol}
 use Rattle.omf_module.specs.Before.{along, first, last, entry}
 use Rattle.omf_module.specs.Tables.{names, segments, groups, externals, Stretch, stretches, subrecords, frame_thread}
-use Rattle.omf_module.specs.Tables.{target_thread, frame_used, target_used}
+use Rattle.omf_module.specs.Tables.{target_thread, used}
 
 -- the number and the name with which a fault is printed
 abbrev pub check_label : CheckFault → ℕ × List ℕ
@@ -161,8 +161,8 @@ start_fault tables frame target = frame_fault tables frame ⊓ target_fault tabl
 -- a subrecord, with those before it in all FIXUPP records: only a fix-up can be at fault
 abbrev pub subrecord_item : Tables → Option (List (ℕ × ℕ)) → List Subrecord → Subrecord → Option CheckFault
 subrecord_item tables contents before (sub.Fixup fixup) =
-    fixup_fault tables (frame_used (frame_thread before) fixup.reference.frame)
-    (target_used (target_thread before) fixup.reference.target) contents fixup
+    fixup_fault tables (used (frame_thread before) fixup.reference.frame)
+    (used (target_thread before) fixup.reference.target) contents fixup
 subrecord_item tables contents before _ = None
 
 -- the items of a record after these
@@ -177,8 +177,8 @@ items before (Fixupp subs) =
     let contents = option_map (λ (data' : Stretch). data'.contents) (last (stretches before)) in
     along (λ earlier s. subrecord_item (tables before) contents (subrecords before ++ earlier) s ∷ []) subs
 items before (Modend main (Some reference)) =
-    start_fault (tables before) (frame_used (frame_thread (subrecords before)) reference.frame)
-    (target_used (target_thread (subrecords before)) reference.target) ∷ []
+    start_fault (tables before) (used (frame_thread (subrecords before)) reference.frame)
+    (used (target_thread (subrecords before)) reference.target) ∷ []
 items before _ = []
 
 -- some record has been read

@@ -17,10 +17,8 @@ use Rattle.omf_record.specs.declared.segments.Combination.{Combination}
 use Rattle.omf_record.specs.declared.segments.Combination.TheVariants as combine
 use Rattle.omf_record.specs.declared.fixups.FrameMethod.{FrameMethod}
 use Rattle.omf_record.specs.declared.fixups.TargetMethod.{TargetMethod}
-use Rattle.omf_record.specs.declared.fixups.FrameDatum.{FrameDatum}
-use Rattle.omf_record.specs.declared.fixups.FrameDatum.TheVariants as frame_datum
-use Rattle.omf_record.specs.declared.fixups.TargetDatum.{TargetDatum}
-use Rattle.omf_record.specs.declared.fixups.TargetDatum.TheVariants as target_datum
+use Rattle.omf_record.specs.declared.fixups.Datum.{Datum}
+use Rattle.omf_record.specs.declared.fixups.Datum.TheVariants as datum
 use Rattle.omf_record.specs.declared.fixups.Reference.{Reference}
 use Rattle.omf_record.specs.declared.fixups.Fixup.{Fixup}
 use Rattle.omf_record.specs.declared.fixups.Subrecord.{Subrecord}
@@ -174,14 +172,9 @@ abbrev pub target_thread : List Subrecord → ℕ → Option TargetMethod
 target_thread before number = last (filter_map (target_set number) before)
 
 -- the method that a fix-up or start uses
-abbrev pub frame_used : (ℕ → Option FrameMethod) → FrameDatum → Option FrameMethod
-frame_used threads (frame_datum.Thread thread) = threads (thread_number thread)
-frame_used threads (frame_datum.By method) = Some method
-
--- the same of targets
-abbrev pub target_used : (ℕ → Option TargetMethod) → TargetDatum → Option TargetMethod
-target_used threads (target_datum.Thread thread) = threads (thread_number thread)
-target_used threads (target_datum.By method) = Some method
+abbrev pub used : {M : Type 0} → (ℕ → Option M) → Datum M → Option M
+used threads (datum.Thread thread) = threads (thread_number thread)
+used threads (datum.By method) = Some method
 
 -- ---- 9CH FIXUPP: Fixup Record, its fix-up subrecords; 8AH MODEND: Module End Record
 
@@ -201,8 +194,8 @@ fixup_of place fixup _ _ = None
 -- the fix-up of a subrecord, with the subrecords before it
 abbrev pub fixup_in : ℕ → List Subrecord → Subrecord → Option ResolvedFixup
 fixup_in place before (sub.Fixup fixup) =
-    fixup_of place fixup (frame_used (frame_thread before) fixup.reference.frame)
-    (target_used (target_thread before) fixup.reference.target)
+    fixup_of place fixup (used (frame_thread before) fixup.reference.frame)
+    (used (target_thread before) fixup.reference.target)
 fixup_in place before _ = None
 
 -- the fix-ups of a record, with the subrecords before it
@@ -240,8 +233,8 @@ start_of place reference _ _ = None
 -- the start of a MODEND record, with the subrecords before it
 abbrev pub start_in : List Subrecord → ℕ → Record → Option Start
 start_in before place (Modend main (Some reference)) =
-    start_of place reference (frame_used (frame_thread before) reference.frame)
-    (target_used (target_thread before) reference.target)
+    start_of place reference (used (frame_thread before) reference.frame)
+    (used (target_thread before) reference.target)
 start_in before place _ = None
 
 -- the last start of these records

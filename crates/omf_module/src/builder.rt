@@ -39,8 +39,8 @@ use crate::lookups::Module;
 use crate::store::Store;
 use crate::{ResolvedFixup, Start};
 use omf_record::{
-    Block, External, Fixup, FrameDatum, FrameMethod, Public, PublicBase, Record, Reference,
-    SegmentDefinition, Subrecord, TargetDatum, TargetMethod, expanded_len, thread_number,
+    Block, Datum, External, Fixup, FrameMethod, Public, PublicBase, Record, Reference,
+    SegmentDefinition, Subrecord, TargetMethod, expanded_len, thread_number,
 };
 use std::alloc::{AllocError, AllocFailed, Allocator};
 
@@ -133,22 +133,22 @@ fn add_publics<A: Allocator + Copy>(
 }
 
 /// The method of a frame, by the threads as they are set; none where its thread isn't.
-fn frame_used(threads: &[Option<FrameMethod>; 4], datum: FrameDatum) -> Option<FrameMethod>
-    ensures { result ≡ tables.frame_used (running.slot threads.now) datum }
+fn frame_used(threads: &[Option<FrameMethod>; 4], datum: Datum<FrameMethod>) -> Option<FrameMethod>
+    ensures { result ≡ tables.used (running.slot threads.now) datum }
 {
     match datum {
-        FrameDatum::Thread(thread) => threads[usize::from(thread_number(thread))],
-        FrameDatum::By(method) => Some(method),
+        Datum::Thread(thread) => threads[usize::from(thread_number(thread))],
+        Datum::By(method) => Some(method),
     }
 }
 
 /// The method of a target, by the threads as they are set; none where its thread isn't.
-fn target_used(threads: &[Option<TargetMethod>; 4], datum: TargetDatum) -> Option<TargetMethod>
-    ensures { result ≡ tables.target_used (running.slot threads.now) datum }
+fn target_used(threads: &[Option<TargetMethod>; 4], datum: Datum<TargetMethod>) -> Option<TargetMethod>
+    ensures { result ≡ tables.used (running.slot threads.now) datum }
 {
     match datum {
-        TargetDatum::Thread(thread) => threads[usize::from(thread_number(thread))],
-        TargetDatum::By(method) => Some(method),
+        Datum::Thread(thread) => threads[usize::from(thread_number(thread))],
+        Datum::By(method) => Some(method),
     }
 }
 
