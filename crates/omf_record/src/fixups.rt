@@ -218,8 +218,7 @@ fn frame_method_index(method: FrameMethod) -> Option<u16>
     ensures { result ≡ refs.frame_method_index method }
 {
     match method {
-        FrameMethod::By(method) => Some(target_method_index(method)),| FrameMethod::Group(index) | FrameMethod::External(index) =>
-            Some(index),
+        FrameMethod::By(method) => Some(target_method_index(method)),
         FrameMethod::Location | FrameMethod::Target => None,
     }
 }
