@@ -5,8 +5,9 @@ use omf_communal::{
     communal_module, communals, has_bss, local_module, local_names, variables,
 };
 use omf_library::{ModuleNames, module_frames, module_names};
-use omf_module::{Module, ModuleFault, Standing, SymbolBase};
+use omf_module::{Module, ModuleFault, Standing};
 use omf_place::Names;
+use omf_record::PublicBase;
 use rows::{read_modules, read_row};
 use std::alloc::{AllocError, Allocator, Global};
 use std::process::Abort;
@@ -160,11 +161,14 @@ fn push_publics(text: &mut String, from: &Module) -> Result<(), AllocError> {
         push_text(text, public.name)?;
         let offset = public.offset;
         match public.base {
-            SymbolBase::InSegment(segment, Some(group)) => {
-                write!(text, " {segment}:{offset} of {group}; ")?
+            PublicBase::InSegment { group, segment } => {
+                let segment = segment.saturating_sub(1);
+                match group.checked_sub(1) {
+                    Some(group) => write!(text, " {segment}:{offset} of {group}; ")?,
+                    None => write!(text, " {segment}:{offset}; ")?,
+                }
             }
-            SymbolBase::InSegment(segment, None) => write!(text, " {segment}:{offset}; ")?,
-            SymbolBase::AtFrame(frame) => write!(text, " at {frame}; ")?,
+            PublicBase::AtFrame { frame, .. } => write!(text, " at {frame}; ")?,
         }
     }
     Ok(())

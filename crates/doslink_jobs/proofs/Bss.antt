@@ -27,14 +27,8 @@ pub not-module : {A : Type 0} (view : A → Module) (m : Module) (rest : List �
     → IsOfBytes f → IsModule view m rest new (Err f) → ⊥
 not-module view m rest new fault.Memory of is = of
 not-module view m rest new (fault.Record place kind.Device) of is = of
-not-module view m rest new (fault.Record place kind.ZeroLength) of is = is
-not-module view m rest new (fault.Record place kind.Truncated) of is = is
-not-module view m rest new (fault.Record place kind.Closing) of is = is
-not-module view m rest new (fault.Record place kind.Type) of is = is
-not-module view m rest new (fault.Record place (kind.Body at)) of is = is
+not-module view m rest new (fault.Record place (kind.Absent why)) of is = is
 not-module view m rest new (fault.Record place (kind.Check check)) of is = is
-not-module view m rest new (fault.Record place kind.NoEnd) of is = is
-not-module view m rest new (fault.Record place kind.InputTooLong) of is = is
 
 -- the last of some inputs, and those before it
 AllBeginWith-last : (lists : List (List Placed)) (inputs : List (List ℕ)) (bytes : List ℕ)

@@ -22,8 +22,9 @@ use doslink_telling::handed_saids;
 use doslink_words::Job;
 use omf_commands::Options;
 use omf_communal::Variable;
+use omf_faults::{InputFault, LinkFault};
+use omf_record::NoRecord;
 use omf_search::Said;
-use omf_text::{InputFault, LinkFault};
 use std::alloc::{AllocError, Allocator};
 
 /// The word for the order module in a fault's line and in a map.
@@ -163,7 +164,7 @@ pub(crate) fn lowered_amiss<A: Allocator + Copy>(
         LinkFault::Record {
             input,
             place,
-            fault: InputFault::Body { .. },
+            fault: InputFault::Absent(NoRecord::Body { .. }),
         } => match module_at(inputs, *input) {
             Some(module) if !module.keeps_record(*place) => Some(module.own_place(*place)),
             _ => None,

@@ -13,10 +13,10 @@ use crate::taking::Taken;
 use doslink_telling::{push_duplicate, push_fault, push_obstacle};
 use doslink_words::Job;
 use omf_commands::Options;
+use omf_faults::{LinkFault, ProgramFault, status};
 use omf_files::{CreatedFile, World};
 use omf_lower::Obstacle;
 use omf_place::Names;
-use omf_text::{LinkFault, ProgramFault, status};
 use std::alloc::{AllocError, Allocator};
 
 /// Tells why the link stopped, `word` being that for what is at fault.
@@ -34,7 +34,7 @@ fn tell_fault<A: Allocator + Copy>(
     }
     match &in_own_bytes(fault, inputs) {
         LinkFault::Memory => Err(AllocError),
-        LinkFault::Program(ProgramFault::DuplicatePublic { name }) => {
+        LinkFault::Program(ProgramFault::DuplicatePublic(name)) => {
             push_duplicate(alloc, lines, name, names, taken.handed, taken.words)
         }
         fault => push_fault(alloc, lines, fault, word),

@@ -12,7 +12,7 @@ use doslink_telling::table;
 use omf_commands::{Options, Report, write_map};
 use omf_files::BufferedSink;
 use omf_frame::{Sink, put_all};
-use omf_text::LinkFault;
+use omf_faults::LinkFault;
 use std::alloc::Allocator;
 use std::io::Write;
 

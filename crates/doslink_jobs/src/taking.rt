@@ -17,7 +17,7 @@ use omf_files::BufferedSink;
 use omf_frame::{IoFault, put_all};
 use omf_place::Names;
 use omf_search::Said;
-use omf_text::LinkFault;
+use omf_faults::LinkFault;
 use std::alloc::Allocator;
 use std::io::Write;
 

@@ -13,7 +13,7 @@ use Rattle.omf_place.specs.Layout.{Layout}
 use Rattle.omf_place.specs.Parts.{sites}
 use Rattle.omf_place.specs.declared.names.Names.{Names}
 use Rattle.omf_place.proofs.Bounding.{bounded}
-use Rattle.omf_text.specs.declared.fault.LinkFault.{LinkFault}
+use Rattle.omf_faults.specs.declared.fault.LinkFault.{LinkFault}
 use Rattle.omf_commands.specs.declared.linking.Report.{Report}
 use Rattle.omf_commands.specs.Linking.{Links}
 

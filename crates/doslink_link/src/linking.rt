@@ -7,7 +7,7 @@ ghost use Rattle.doslink_link.specs.Linking.{WritesBy, WritesProgramOf, bytes_of
 
 use omf_commands::{Options, Report, link};
 use omf_frame::{MemSource, Sink};
-use omf_text::LinkFault;
+use omf_faults::LinkFault;
 use std::alloc::{AllocError, Allocator};
 
 /// A source of each module's bytes.

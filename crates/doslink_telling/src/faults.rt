@@ -4,7 +4,7 @@ ghost use Rattle.std.specs.List.{enumerate_from, flat_map};
 ghost use Rattle.std.specs.Str.Lossy.{utf8_lossy};
 ghost use Rattle.omf_place.specs.Names.{agrees};
 ghost use Rattle.omf_search.specs.Results.{bytes_of};
-ghost use Rattle.omf_text.specs.FaultLines as omf;
+ghost use Rattle.omf_faults.specs.FaultLines as omf;
 ghost use Rattle.doslink_telling.specs.Lines as spec;
 ghost use Rattle.doslink_telling.specs.Lines.{IsTold};
 
@@ -15,11 +15,11 @@ use crate::telling::{path_of, word_at};
 use doslink_files::InputFile;
 use doslink_stock::{Handed, StockFault};
 use omf_alias::agree;
+use omf_faults::{LinkFault, fault_line};
 use omf_frame::IoFault;
 use omf_library::FormatFault;
 use omf_lower::Obstacle;
 use omf_place::Names;
-use omf_text::{LinkFault, fault_line};
 use std::alloc::{AllocError, Allocator};
 
 /// Appends the line of a file that can't be opened or read.

@@ -11,16 +11,16 @@ ghost use Rattle.doslink_telling.specs.Table as spec;
 use crate::lines::{Part, push_name, push_parts};
 use crate::missing::header_name;
 use omf_module::{Module, Segment};
-use omf_place::{Address, Layout};
+use omf_place::{Layout, Position};
 use std::alloc::{AllocError, Allocator};
 
 /// An address as a number, and ` R` where it moves with the program, else ` A`.
-fn place_of(address: Address) -> (u32, &'static str)
-    ensures { hexadecimal 6 result.0 ++ result.1.now ≡ spec.address_text address }
+fn place_of(position: Position) -> (u32, &'static str)
+    ensures { hexadecimal 6 result.0 ++ result.1.now ≡ spec.address_text position }
 {
-    match address {
-        Address::Relocatable(start) => (start, " R"),
-        Address::Absolute(start) => (start, " A"),
+    match position {
+        Position::Relocatable(start, _) => (start, " R"),
+        Position::Absolute(start, _) => (start, " A"),
     }
 }
 
@@ -28,12 +28,12 @@ fn place_of(address: Address) -> (u32, &'static str)
 fn push_segment<A: Allocator + Copy>(
     alloc: A,
     text: &mut Vec<u8, A>,
-    start: Address,
+    position: Position,
     segment: &Segment<'_>,
 ) -> Result<(), AllocError>
-    ensures { OnOk result (text.new.items ≡ text.old.items ++ spec.segment_line start (segment_seen segment.now)) }
+    ensures { OnOk result (text.new.items ≡ text.old.items ++ spec.segment_line position (segment_seen segment.now)) }
 {
-    let (start, mark) = place_of(start);
+    let (start, mark) = place_of(position);
     let parts = [
         Part::Text(" "),
         Part::Address(start),
@@ -62,8 +62,8 @@ fn push_segments<A: Allocator + Copy>(
     ensures { OnOk result (text.new.items ≡ text.old.items ++ spec.segment_lines layout.now (input, from.now)) }
 {
     for segment in 0..from.segment_count() {
-        let start = layout.part_start(input, segment);
-        push_segment(alloc, text, start, &from.segment(segment))?;
+        let position = layout.segment_position(input, segment);
+        push_segment(alloc, text, position, &from.segment(segment))?;
     }
     Ok(())
 }

@@ -33,14 +33,8 @@ fn outcome(
 fn number(kind: FaultKind) -> u8 {
     match kind {
         FaultKind::Device => 1,
-        FaultKind::ZeroLength => 2,
-        FaultKind::Truncated => 3,
-        FaultKind::Closing => 4,
-        FaultKind::Type => 5,
-        FaultKind::Body { .. } => 6,
-        FaultKind::Check(fault) => fault.number(),
-        FaultKind::NoEnd => 8,
-        FaultKind::InputTooLong => 41,
+        FaultKind::Absent(fault) => fault.label().0,
+        FaultKind::Check(fault) => fault.label().0,
     }
 }
 
@@ -225,9 +219,9 @@ fn first_program(rt: HostRuntime) -> Result<(), Fail> {
         "\
 Segment { name: [67, 79, 68, 69], class: [], length: 5, standing: Relocatable { alignment: 1, kind: Public } }
 DataRecord { place: 26, segment: 0, offset: 0, bytes: [184, 0, 0, 142, 216], places: [0, 1, 2, 3, 4], fixups: \
-[ResolvedFixup { place: 38, self_relative: false, location: Base, offset: 1, frame: OfSegment(0), \
-target: Segment(0), displacement: 0 }] }
-Some(Start { place: 47, frame: OfSegment(0), target: Segment(0), displacement: 0 })",
+[ResolvedFixup { place: 38, self_relative: false, location: Base, offset: 1, frame: By(Segment(1)), \
+target: Segment(1), displacement: 0 }] }
+Some(Start { place: 47, frame: By(Segment(1)), target: Segment(1), displacement: 0 })",
     );
     Ok(())
 }

@@ -8,10 +8,10 @@ use Rattle.omf_module.specs.declared.fault.FaultKind.{FaultKind}
 use Rattle.omf_module.specs.declared.fault.FaultKind.TheVariants as kind
 use Rattle.omf_module.specs.declared.fault.ModuleFault.{ModuleFault}
 use Rattle.omf_place.specs.declared.names.Names.{Names}
-use Rattle.omf_text.specs.declared.fault.FileFault.{FileFault}
-use Rattle.omf_text.specs.declared.fault.ProgramFault.{ProgramFault}
-use Rattle.omf_text.specs.declared.fault.LinkFault.{LinkFault}
-use Rattle.omf_text.specs.declared.fault.LinkFault.TheVariants as link
+use Rattle.omf_faults.specs.declared.fault.FileFault.{FileFault}
+use Rattle.omf_faults.specs.declared.fault.ProgramFault.{ProgramFault}
+use Rattle.omf_faults.specs.declared.fault.LinkFault.{LinkFault}
+use Rattle.omf_faults.specs.declared.fault.LinkFault.TheVariants as link
 use Rattle.omf_commands.specs.Faults.{fault_at}
 use Rattle.omf_commands.specs.Inputs.{StopsReading, StopsAtRecord}
 use Rattle.omf_commands.specs.Linking.{IsModulesFault, AllRead, Links}
@@ -27,14 +27,8 @@ is_of_reading _ = false
 
 fault_at_reading : (A : Type 0) (n place : ℕ) (k : FaultKind) → is_of_reading (fault_at {A = A} n place k) ≡ true
 fault_at_reading A n place kind.Device = refl
-fault_at_reading A n place kind.ZeroLength = refl
-fault_at_reading A n place kind.Truncated = refl
-fault_at_reading A n place kind.Closing = refl
-fault_at_reading A n place kind.Type = refl
-fault_at_reading A n place (kind.Body at) = refl
+fault_at_reading A n place (kind.Absent why) = refl
 fault_at_reading A n place (kind.Check f) = refl
-fault_at_reading A n place kind.NoEnd = refl
-fault_at_reading A n place kind.InputTooLong = refl
 
 never_read : {A : Type 0} (fault : LinkFault A) (n place : ℕ) (k : FaultKind) → is_of_reading fault ≡ false
     → fault ≡ fault_at n place k → ⊥

@@ -8,9 +8,10 @@ use Rattle.omf_place.specs.Layout.{Layout}
 use Rattle.omf_place.specs.declared.names.Names.{Names}
 use Rattle.omf_image.specs.Registers.{program_fault}
 use Rattle.omf_image.specs.declared.faults.FixFault.{FixFault}
-use Rattle.omf_text.specs.declared.fault.ProgramFault.TheVariants as program
-use Rattle.omf_text.specs.declared.fault.LinkFault.{LinkFault}
-use Rattle.omf_text.specs.declared.fault.LinkFault.TheVariants as link
+use Rattle.omf_faults.specs.declared.fault.InputFault.TheVariants as input
+use Rattle.omf_faults.specs.declared.fault.ProgramFault.TheVariants as program
+use Rattle.omf_faults.specs.declared.fault.LinkFault.{LinkFault}
+use Rattle.omf_faults.specs.declared.fault.LinkFault.TheVariants as link
 use Rattle.omf_commands.specs.Linking.{IsBuildFault, IsFileOf, IsModulesFault}
 
 none_is : {X : Type 0} (o : Option X) (x : X) → o ≡ None → o ≡ Some x → ⊥
@@ -43,9 +44,11 @@ exclusive names modules file (link.Program (program.DuplicatePublic name)) (l, p
     placed_sound names modules l _ linked.is_layout h
 exclusive names modules file (link.Program program.TooManyRelocations) (l, p, linked, mz) h =
     built_sound names modules l _ linked.is_layout linked.sound h
-exclusive names modules file (link.Record input place f) (l, p, linked, mz) h =
-    built_sound names modules l _ linked.is_layout linked.sound h.2
-exclusive names modules file (link.Device input place) made h = h
+exclusive names modules file (link.Record n place (input.Fix kind)) (l, p, linked, mz) h =
+    built_sound names modules l _ linked.is_layout linked.sound h
+exclusive names modules file (link.Record n place (input.Absent why)) made h = h
+exclusive names modules file (link.Record n place (input.Check found)) made h = h
+exclusive names modules file (link.Device n place) made h = h
 exclusive names modules file (link.File f) made h = h
 exclusive names modules file link.Output made h = h
 exclusive names modules file link.Memory made h = h

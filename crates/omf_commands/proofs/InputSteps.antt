@@ -132,14 +132,8 @@ module _ {S : Type 0} (told : S → Option (List ℕ)) (failures : S → ℕ) wh
       at_record : (q : FaultKind) → StopsReading told failures olds (set mids i new) i (reading.Record place q)
           → IsInputFault told failures {A = A} olds (set mids i new) (fault_at i place q)
       at_record kind.Device s = (i, place, kind.Device, refl, s)
-      at_record kind.ZeroLength s = (i, place, kind.ZeroLength, refl, s)
-      at_record kind.Truncated s = (i, place, kind.Truncated, refl, s)
-      at_record kind.Closing s = (i, place, kind.Closing, refl, s)
-      at_record kind.Type s = (i, place, kind.Type, refl, s)
-      at_record (kind.Body at) s = (i, place, kind.Body at, refl, s)
+      at_record (kind.Absent why) s = (i, place, kind.Absent why, refl, s)
       at_record (kind.Check f) s = (i, place, kind.Check f, refl, s)
-      at_record kind.NoEnd s = (i, place, kind.NoEnd, refl, s)
-      at_record kind.InputTooLong s = (i, place, kind.InputTooLong, refl, s)
 
   -- a module was read
   pub read_input : (m : Module) (old new : S) → Reads (λ (x : Module). x) (told old) (told new) (Ok m)

@@ -23,8 +23,8 @@ use Rattle.mz.specs.File.{Mz, MzFile}
 use Rattle.mz.specs.Laws.{HoldsTheProgram, ReadsAsWritten, LoadsAsWritten, memory, moved, as_file}
 use Rattle.mz.specs.Loading.{Loaded, loading}
 use Rattle.mz.specs.Reading.{reading}
-use Rattle.omf_text.specs.declared.fault.LinkFault.{LinkFault}
-use Rattle.omf_text.specs.declared.fault.LinkFault.TheVariants as link
+use Rattle.omf_faults.specs.declared.fault.LinkFault.{LinkFault}
+use Rattle.omf_faults.specs.declared.fault.LinkFault.TheVariants as link
 use Rattle.omf_commands.specs.Inputs.{AreInputs, ReadsFront}
 use Rattle.omf_commands.specs.inside.Inputs.{IsInputFault}
 use Rattle.omf_commands.specs.Reading.{sink_failures}
@@ -45,7 +45,7 @@ place_refused names modules (place.DuplicatePublic name) h = h
 pub build_refused : (A : Type 0) (names : Names) (modules : List Module) (layout : Layout) (e : FixFault)
     → IsOnlyLayout names modules layout → Builds layout modules (Err e)
     → LinksModules {A = A} names modules (Err (fix_fault e))
-build_refused A names modules layout (build.At k input place) only h = (k, refl, (layout, only, h))
+build_refused A names modules layout (build.At k input place) only h = (layout, only, h)
 build_refused A names modules layout build.TooManyRelocations only h = (layout, only, h)
 build_refused A names modules layout build.Memory only h = tt
 

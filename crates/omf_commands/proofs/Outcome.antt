@@ -15,8 +15,8 @@ use Rattle.omf_module.specs.Bytes.{ModuleBytes, ReadingFault}
 use Rattle.omf_module.specs.Reading.{Reads, IsFaultOf}
 use Rattle.omf_module.proofs.Once.{one_module, no_fault, one_fault}
 use Rattle.omf_place.specs.declared.names.Names.{Names}
-use Rattle.omf_text.specs.declared.fault.LinkFault.{LinkFault}
-use Rattle.omf_text.specs.declared.fault.LinkFault.TheVariants as link
+use Rattle.omf_faults.specs.declared.fault.LinkFault.{LinkFault}
+use Rattle.omf_faults.specs.declared.fault.LinkFault.TheVariants as link
 use Rattle.omf_commands.specs.declared.linking.Report.{Report}
 use Rattle.omf_commands.specs.Inputs.{IsInput, AreInputs, StopsAtRecord}
 use Rattle.omf_commands.specs.Linking.{IsFileOf, IsModulesFault, AllRead, Links}
@@ -187,14 +187,8 @@ module _ {S : Type 0} (told : S → Option (List ℕ)) (failures : S → ℕ) wh
       → is_device fault ≡ false → fault ≡ fault_at input place k → IsFaultOf bytes place k → ReadingFault bytes place k
   fault_reads {A} fault input place kind.Device bytes other e h =
       absurd (true≢false (sym (ap (is_device {A = A}) e) ∙ other))
-  fault_reads fault input place kind.ZeroLength bytes other e h = h
-  fault_reads fault input place kind.Truncated bytes other e h = h
-  fault_reads fault input place kind.Closing bytes other e h = h
-  fault_reads fault input place kind.Type bytes other e h = h
-  fault_reads fault input place (kind.Body at) bytes other e h = h
+  fault_reads fault input place (kind.Absent why) bytes other e h = h
   fault_reads fault input place (kind.Check g) bytes other e h = h
-  fault_reads fault input place kind.NoEnd bytes other e h = h
-  fault_reads fault input place kind.InputTooLong bytes other e h = h
 
   reading_told : (bytes : List ℕ) (old new : Option (List ℕ)) (place : ℕ) (k : FaultKind) → old ≡ Some bytes
       → Reads (λ (m : Module). m) old new (Err (reading.Record place k)) → IsFaultOf bytes place k

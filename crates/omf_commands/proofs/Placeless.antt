@@ -23,7 +23,7 @@ use Rattle.omf_module.specs.inside.Running.{later}
 use Rattle.omf_module.specs.Tables.{Stretch, names, names_in, segments, segments_in, groups, groups_in, externals}
 use Rattle.omf_module.specs.Tables.{externals_in, publics, publics_in, stretches, stretches_in, subrecords}
 use Rattle.omf_module.specs.Tables.{subrecords_in, fixup_of, fixup_in, fixups_in, fixups, fixups_on, data_records}
-use Rattle.omf_module.specs.Tables.{start_of, start_in, start, frame_thread, target_thread, frame_used, target_used}
+use Rattle.omf_module.specs.Tables.{start_of, start_in, start, frame_thread, target_thread, used}
 use Rattle.omf_module.specs.Tables.{module_of}
 use Rattle.omf_module.proofs.Lists.{last_append}
 
@@ -152,8 +152,8 @@ fixup_of_same place x None target = refl
 fixup_same : (place : ℕ) (before : List Subrecord) (x : Subrecord)
     → option_to_list (fixup_in 0 before x) ≡ map placeless_fixup (option_to_list (fixup_in place before x))
 fixup_same place before (sub.Fixup x) =
-    fixup_of_same place x (frame_used (frame_thread before) x.reference.frame)
-    (target_used (target_thread before) x.reference.target)
+    fixup_of_same place x (used (frame_thread before) x.reference.frame)
+    (used (target_thread before) x.reference.target)
 fixup_same place before (sub.SetFrame t method) = refl
 fixup_same place before (sub.SetTarget t method) = refl
 
@@ -207,7 +207,7 @@ start_of_same place r None target = refl
 start_in_same : (before : List Subrecord) (place : ℕ) (r : Record)
     → option_to_list (start_in before 0 r) ≡ map placeless_start (option_to_list (start_in before place r))
 start_in_same before place (Modend main (Some r)) =
-    start_of_same place r (frame_used (frame_thread before) r.frame) (target_used (target_thread before) r.target)
+    start_of_same place r (used (frame_thread before) r.frame) (used (target_thread before) r.target)
 start_in_same before place _ = refl
 
 abbrev starts_in : List Placed → Placed → List Start

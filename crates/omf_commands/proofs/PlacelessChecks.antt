@@ -5,8 +5,7 @@ use Rattle.omf_record.specs.Record.{Record, Modend, Pubdef, Segdef, Grpdef, Fixu
 use Rattle.omf_record.specs.Records.{Placed}
 use Rattle.omf_module.specs.declared.fault.CheckFault.{CheckFault}
 use Rattle.omf_module.specs.Before.{along, first, last, entry}
-use Rattle.omf_module.specs.Tables.{Stretch, stretches, subrecords, frame_thread, target_thread, frame_used}
-use Rattle.omf_module.specs.Tables.{target_used}
+use Rattle.omf_module.specs.Tables.{Stretch, stretches, subrecords, frame_thread, target_thread, used}
 use Rattle.omf_module.specs.Faults.{tables, segment_fault, group_items, data_fault, public_fault, start_fault}
 use Rattle.omf_module.specs.Faults.{subrecord_item, items, header_fault, fault, first_fault}
 use Rattle.omf_module.specs.inside.Contents.{last_contents}
@@ -42,7 +41,7 @@ items_same before (Fixupp subs) =
     ∙ ap (λ s. along (λ earlier x. subrecord_item (tables before) (last_contents before) (s ++ earlier) x ∷ []) subs)
     (subrecords_same before)
 items_same before (Modend main (Some r)) =
-    ap₂ (λ t s. start_fault t (frame_used (frame_thread s) r.frame) (target_used (target_thread s) r.target) ∷ [])
+    ap₂ (λ t s. start_fault t (used (frame_thread s) r.frame) (used (target_thread s) r.target) ∷ [])
     (tables_same before) (subrecords_same before)
 items_same before _ = refl
 

@@ -1,12 +1,12 @@
 -- A layout doesn't tell where the records of its modules stand.
 use Rattle.std.proofs.Common.{◌≡◌, ℕ, ◌+◌, List, [], ◌∷◌, ◌++◌, map, length, Option, None, Some, slice_get, refl, sym}
-use Rattle.std.proofs.Common.{ap, subst, ◌∙◌, option_map, option_and_then}
+use Rattle.std.proofs.Common.{ap, ap₂, subst, ◌∙◌, ◌-◌, ◌==◌, if◌then◌else◌, option_map, option_and_then}
 use Rattle.std.proofs.Math.Path.{fun_ext}
 use Rattle.std.proofs.lemmas.List.{length-map}
 use Rattle.std.proofs.lemmas.List.Folds.{flat_map-map}
 use Rattle.std.proofs.lemmas.Simd.{map-map}
-use Rattle.omf_module.specs.declared.SymbolBase.{SymbolBase}
-use Rattle.omf_module.specs.declared.SymbolBase.TheVariants.{AtFrame, InSegment}
+use Rattle.omf_record.specs.declared.externals.PublicBase.{PublicBase}
+use Rattle.omf_record.specs.declared.externals.PublicBase.TheVariants.{AtFrame, InSegment}
 use Rattle.omf_module.specs.declared.Standing.{Standing}
 use Rattle.omf_module.specs.declared.Standing.TheVariants.{Absolute, Relocatable}
 use Rattle.omf_module.specs.Module.{Module}
@@ -14,14 +14,13 @@ use Rattle.omf_place.specs.Parts.{Site, module_sites, sites}
 use Rattle.omf_place.specs.inside.Placing.{sites_from}
 use Rattle.omf_place.specs.Placed.{address_of, IsPlaced}
 use Rattle.omf_place.specs.Parts.{Input, inputs_from}
-use Rattle.omf_place.specs.Tables.{group_frame, public_frame, in_segment, placed_public, publics_of, Grpdef}
+use Rattle.omf_place.specs.Tables.{group_frame, segment_frame, public_frame, in_segment, placed_public, publics_of, Grpdef}
 use Rattle.omf_place.specs.Tables.{is_first_grpdef, placed_groups}
 use Rattle.omf_place.specs.inside.Steps.{placed_group}
 use Rattle.omf_place.specs.Layout.{Layout, layout_at}
 use Rattle.omf_place.specs.declared.names.Names.{Names}
 use Rattle.omf_place.specs.Faults.{IsLayout, IsOnlyLayout, placement_fault}
-use Rattle.omf_place.specs.declared.layout.Address.TheVariants as address
-use Rattle.omf_place.specs.declared.layout.Base.TheVariants as base
+use Rattle.omf_place.specs.declared.layout.Position.TheVariants as stands
 use Rattle.omf_commands.proofs.Placeless.{placeless, Alike, kept}
 
 sites_same : (position input : ℕ) (modules : List Module)
@@ -46,28 +45,28 @@ group_frame_same : (modules : List Module) (addresses name : List ℕ)
     → group_frame (map placeless modules) addresses name ≡ group_frame modules addresses name
 group_frame_same modules addresses name = simp (sites_same, inputs_same, flat_map-map)
 
-public_frame_same : (modules : List Module) (addresses : List ℕ) (m : Module) (a : Site) (group : Option ℕ) →
+public_frame_same : (modules : List Module) (addresses : List ℕ) (m : Module) (a : Site) (group : ℕ) →
     public_frame (map placeless modules) addresses (placeless m) a group ≡ public_frame modules addresses m a group
-public_frame_same modules addresses m a None = simp sites_same
-public_frame_same modules addresses m a (Some g) =
-    ap (λ frame. option_and_then (λ group. option_map base.Relocatable (frame group.name)) (slice_get m.groups g))
-    (fun_ext (group_frame_same modules addresses))
+public_frame_same modules addresses m a group =
+    ap₂ (λ (ss : List Site) frame. if group == 0 then Some (segment_frame ss addresses a)
+    else option_and_then (λ g. frame g.name) (slice_get m.groups (group - 1)))
+    (sites_same 0 0 modules) (fun_ext (group_frame_same modules addresses))
 
-in_segment_same : (modules : List Module) (addresses : List ℕ) (m : Module) (group : Option ℕ) (offset : ℕ) (a : Site)
+in_segment_same : (modules : List Module) (addresses : List ℕ) (m : Module) (group : ℕ) (offset : ℕ) (a : Site)
     (s : Standing) →
     in_segment (map placeless modules) addresses (placeless m) group offset a s
     ≡ in_segment modules addresses m group offset a s
 in_segment_same modules addresses m group offset a (Absolute frame at) = refl
 in_segment_same modules addresses m group offset a (Relocatable alignment kind) =
-    ap (λ frame. record { address = address.Relocatable (address_of addresses a + offset); frame = frame })
+    ap (λ frame. stands.Relocatable (address_of addresses a + offset) frame)
     (public_frame_same modules addresses m a group)
 
-placed_public_same : (modules : List Module) (addresses : List ℕ) (n : Input) (offset : ℕ) (b : SymbolBase) →
+placed_public_same : (modules : List Module) (addresses : List ℕ) (n : Input) (offset : ℕ) (b : PublicBase) →
     placed_public (map placeless modules) addresses (placeless_input n) offset b
     ≡ placed_public modules addresses n offset b
-placed_public_same modules addresses n offset (AtFrame frame) = refl
-placed_public_same modules addresses n offset (InSegment number group) =
-    ap (λ f. option_map f (slice_get n.sites number))
+placed_public_same modules addresses n offset (AtFrame group frame) = refl
+placed_public_same modules addresses n offset (InSegment group number) =
+    ap (λ f. option_map f (slice_get n.sites (number - 1)))
     (fun_ext (λ (a : Site). in_segment_same modules addresses n.says group offset a a.segment.standing))
 
 publics_of_same : (modules : List Module) (addresses : List ℕ) (n : Input)

@@ -11,11 +11,12 @@ use Rattle.omf_image.specs.declared.faults.FixFault.{FixFault}
 use Rattle.omf_image.specs.declared.faults.FixFault.TheVariants as build
 use Rattle.omf_image.specs.declared.faults.FixKind.{FixKind}
 use Rattle.omf_image.specs.Registers.{program_fault}
-use Rattle.omf_text.specs.FaultLines.{program_line}
-use Rattle.omf_text.specs.declared.fault.ProgramFault.{ProgramFault}
-use Rattle.omf_text.specs.declared.fault.ProgramFault.TheVariants as program
-use Rattle.omf_text.specs.declared.fault.LinkFault.{LinkFault}
-use Rattle.omf_text.specs.declared.fault.LinkFault.TheVariants as link
+use Rattle.omf_faults.specs.FaultLines.{program_line}
+use Rattle.omf_faults.specs.declared.fault.InputFault.TheVariants as input
+use Rattle.omf_faults.specs.declared.fault.ProgramFault.{ProgramFault}
+use Rattle.omf_faults.specs.declared.fault.ProgramFault.TheVariants as program
+use Rattle.omf_faults.specs.declared.fault.LinkFault.{LinkFault}
+use Rattle.omf_faults.specs.declared.fault.LinkFault.TheVariants as link
 use Rattle.omf_commands.specs.Linking.{program_said, IsBuildFault, IsModulesFault}
 use Rattle.omf_commands.specs.Outcome.{SameFault, telling}
 use Rattle.omf_commands.specs.inside.Faults.{fix_fault}
@@ -100,24 +101,28 @@ pub one_modules_fault : {A : Type 0} (names : Names) (modules : List Module) (fa
     → IsModulesFault names modules fault → IsModulesFault names modules other → SameFault fault other
 one_modules_fault names modules (link.Program f) (link.Program g) h k =
     one_said names modules (program_said f) (program_said g) h k
-one_modules_fault names modules (link.Program f) (link.Record m at g) h k =
-    absurd (none_of_record names modules (program_said f) k.0 m at h k.2)
+one_modules_fault names modules (link.Program f) (link.Record m at (input.Fix kind)) h k =
+    absurd (none_of_record names modules (program_said f) kind m at h k)
+one_modules_fault names modules (link.Program f) (link.Record m at (input.Absent why)) h k = absurd k
+one_modules_fault names modules (link.Program f) (link.Record m at (input.Check g)) h k = absurd k
 one_modules_fault names modules (link.Program f) (link.Device m at) h k = absurd k
 one_modules_fault names modules (link.Program f) (link.File g) h k = absurd k
 one_modules_fault names modules (link.Program f) link.Output h k = absurd k
 one_modules_fault names modules (link.Program f) link.Memory h k = absurd k
-one_modules_fault names modules (link.Record n place f) (link.Program g) h k =
-    absurd (none_of_record names modules (program_said g) h.0 n place k h.2)
-one_modules_fault {A} names modules (link.Record n place f) (link.Record m at g) h k =
-    let first : link.Record n place f ≡ fix_fault {A = A} (build.At h.0 n place) =
-    ap (λ x. link.Record n place x) h.1 in
-    let second : link.Record m at g ≡ fix_fault {A = A} (build.At k.0 m at) = ap (λ x. link.Record m at x) k.1 in
-    first ∙ ap (fix_fault {A = A}) (one_building names modules (build.At h.0 n place) (build.At k.0 m at) h.2 k.2)
-    ∙ sym second
-one_modules_fault names modules (link.Record n place f) (link.Device m at) h k = absurd k
-one_modules_fault names modules (link.Record n place f) (link.File g) h k = absurd k
-one_modules_fault names modules (link.Record n place f) link.Output h k = absurd k
-one_modules_fault names modules (link.Record n place f) link.Memory h k = absurd k
+one_modules_fault names modules (link.Record n place (input.Fix kind)) (link.Program g) h k =
+    absurd (none_of_record names modules (program_said g) kind n place k h)
+one_modules_fault {A} names modules (link.Record n place (input.Fix kind)) (link.Record m at (input.Fix other)) h k =
+    ap (fix_fault {A = A}) (one_building names modules (build.At kind n place) (build.At other m at) h k)
+one_modules_fault names modules (link.Record n place (input.Fix kind)) (link.Record m at (input.Absent why)) h k =
+    absurd k
+one_modules_fault names modules (link.Record n place (input.Fix kind)) (link.Record m at (input.Check g)) h k =
+    absurd k
+one_modules_fault names modules (link.Record n place (input.Fix kind)) (link.Device m at) h k = absurd k
+one_modules_fault names modules (link.Record n place (input.Fix kind)) (link.File g) h k = absurd k
+one_modules_fault names modules (link.Record n place (input.Fix kind)) link.Output h k = absurd k
+one_modules_fault names modules (link.Record n place (input.Fix kind)) link.Memory h k = absurd k
+one_modules_fault names modules (link.Record n place (input.Absent why)) other h k = absurd h
+one_modules_fault names modules (link.Record n place (input.Check f)) other h k = absurd h
 one_modules_fault names modules (link.Device n place) other h k = absurd h
 one_modules_fault names modules (link.File f) other h k = absurd h
 one_modules_fault names modules link.Output other h k = absurd h

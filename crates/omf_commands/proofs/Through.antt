@@ -21,21 +21,21 @@ use Rattle.omf_frame.proofs.Told.{AppendsFront-then}
 use Rattle.omf_record.specs.Record as says
 use Rattle.omf_record.specs.Body.{kind_of, Body, BodyOf}
 use Rattle.omf_record.specs.Canonical.{canonical}
-use Rattle.omf_record.specs.Records.{Placed, AreRecords, AreBeforeEnd, AreToEnd, Framing, OtherType, WrongBody}
-use Rattle.omf_record.specs.Records.{NoRecordAt}
+use Rattle.omf_record.specs.Records.{Placed, AreRecords, AreBeforeEnd, AreToEnd, NoRecordAt}
+use Rattle.omf_record.specs.declared.fault.NoRecord.TheVariants as absent
 use Rattle.omf_record.proofs.RecordLaws.{body_bytes}
 use Rattle.omf_record.proofs.RecordLaws.{canonical_shortest}
 use Rattle.omf_record.proofs.Records.{AreRecords-push, framed_len, placed, only_way, no_fault}
-use Rattle.omf_text.specs.declared.fault.InputFault.{InputFault}
-use Rattle.omf_text.specs.declared.fault.LinkFault.{LinkFault}
-use Rattle.omf_text.specs.declared.fault.LinkFault.TheVariants as link
+use Rattle.omf_faults.specs.declared.fault.InputFault.{InputFault}
+use Rattle.omf_faults.specs.declared.fault.InputFault.TheVariants as fault
+use Rattle.omf_faults.specs.declared.fault.LinkFault.{LinkFault}
+use Rattle.omf_faults.specs.declared.fault.LinkFault.TheVariants as link
 use Rattle.omf_commands.specs.declared.records.Form.TheVariants.{Rewriting}
 use Rattle.omf_commands.specs.Records.{FaultAt, says_of, output as written_as}
 use Rattle.omf_commands.specs.Reading.{sink_failures, TakesFaulty, WentThrough, GoesThrough, WritesWhole}
 use Rattle.omf_commands.specs.Reading.{AppendsRewritten}
 use Rattle.omf_commands.specs.inside.Reading.{Handles, WritesAll}
 use Rattle.omf_commands.specs.inside.Faults.{frame_fault}
-use Rattle.omf_commands.specs.Faults.{framing_fault}
 
 pub begun : (output : Placed → List ℕ) (a w : Option (List ℕ))
     → (t : WentThrough output [] a a w w) × (0 ≡ length t.bytes)
@@ -64,7 +64,8 @@ one_more output rs a b c w v u r front t at below framed body taken written = (
 )
 
 faulty_taken : (b c : Option (List ℕ)) (p : ℕ) (e : FramingFault)
-    → TakesRecord {A = Option LentFrame} b c (Err (frame_fault.Framing p e)) → TakesFaulty b c (framing_fault e)
+    → TakesRecord {A = Option LentFrame} b c (Err (frame_fault.Framing p e))
+    → TakesFaulty b c (fault.Absent (absent.Framing e))
 faulty_taken b c p framing.ZeroLength s = s
 faulty_taken b c p framing.Truncated s = s
 faulty_taken b c p framing.Closing s = s
@@ -86,8 +87,8 @@ stopped T A output rs a b c w v place (frame_fault.Framing p e) t before at h g 
   refl,
   h.0
       ∙ at,
-  IfSome_then b {Q = (λ bytes. FaultAt p bytes (framing_fault e))} g
-      (λ x k. (Framing e, ap (λ n. frame_at n x) h.0 ∙ k, refl)),
+  IfSome_then b {Q = (λ bytes. FaultAt p bytes (fault.Absent (absent.Framing e)))} g
+      (λ x k. (absent.Framing e, ap (λ n. frame_at n x) h.0 ∙ k, refl)),
   faulty_taken b c p e s,
 )
 stopped T A output rs a b c w v place frame_fault.Memory t before at h g s = absurd h
@@ -164,7 +165,7 @@ refused output rs a b c w v u f front (link.Record input place g) t before at be
         h.1,
         h.2 ∙ at,
         IfSome_then b {Q = (λ bytes. FaultAt place bytes g)} told
-            (λ x e. (OtherType, (f, ap (λ n. frame_at n x) h.2 ∙ e, k.0), k.1)),
+            (λ x e. (absent.Type, (f, ap (λ n. frame_at n x) h.2 ∙ e, k.0), k.1)),
         subst (TakesFaulty b c) (sym k.1) whole,
       )
       | inr k ↦ (
@@ -175,7 +176,7 @@ refused output rs a b c w v u f front (link.Record input place g) t before at be
         h.1,
         h.2 ∙ at,
         IfSome_then b {Q = (λ bytes. FaultAt place bytes g)} told
-            (λ x e. (WrongBody k.0, (f, ap (λ n. frame_at n x) h.2 ∙ e, k.1, k.2), k.3)),
+            (λ x e. (absent.Body k.0, (f, ap (λ n. frame_at n x) h.2 ∙ e, k.1, k.2), k.3)),
         subst (TakesFaulty b c) (sym k.3) whole,
       )
     ]

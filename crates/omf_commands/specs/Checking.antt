@@ -9,8 +9,8 @@ use Rattle.omf_module.specs.declared.fault.ModuleFault.{ModuleFault}
 use Rattle.omf_module.specs.Module.{Module}
 use Rattle.omf_module.specs.Bytes.{ModuleBytes}
 use Rattle.omf_module.specs.Reading.{Reads}
-use Rattle.omf_text.specs.declared.fault.LinkFault.{LinkFault}
-use Rattle.omf_text.specs.declared.fault.LinkFault.TheVariants as link
+use Rattle.omf_faults.specs.declared.fault.LinkFault.{LinkFault}
+use Rattle.omf_faults.specs.declared.fault.LinkFault.TheVariants as link
 use Rattle.omf_commands.specs.Faults.{module_fault}
 
 -- the input begins with a whole sound module, and exactly its bytes were taken

@@ -9,7 +9,7 @@ use Rattle.omf_module.specs.Module.{Module}
 use Rattle.omf_record.specs.Records.{Placed}
 use Rattle.omf_module.specs.Bytes.{ModuleBytes}
 use Rattle.omf_module.specs.Reading.{Reads, failures_in}
-use Rattle.omf_text.specs.declared.fault.LinkFault.{LinkFault}
+use Rattle.omf_faults.specs.declared.fault.LinkFault.{LinkFault}
 use Rattle.omf_commands.specs.Faults.{fault_at}
 
 -- each input is, as bytes, a whole sound module of its records

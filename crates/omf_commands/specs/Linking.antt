@@ -18,18 +18,17 @@ use Rattle.omf_image.specs.Records.{program_byte, written}
 use Rattle.omf_image.specs.Registers.{registers, program_fault}
 use Rattle.omf_image.specs.declared.faults.FixFault.{FixFault}
 use Rattle.omf_image.specs.declared.faults.FixFault.TheVariants as build
-use Rattle.omf_image.specs.declared.faults.FixKind.{FixKind}
 use Rattle.mz.specs.File.{Mz, MzFile}
 use Rattle.mz.specs.Laws.{memory}
 use Rattle.mz.specs.Loading.{Loaded, loading}
 use Rattle.mz.specs.Reading.{reading}
-use Rattle.omf_text.specs.declared.fault.ProgramFault.{ProgramFault}
-use Rattle.omf_text.specs.declared.fault.ProgramFault.TheVariants as program
-use Rattle.omf_text.specs.declared.fault.LinkFault.{LinkFault}
-use Rattle.omf_text.specs.declared.fault.LinkFault.TheVariants as link
+use Rattle.omf_faults.specs.declared.fault.InputFault.TheVariants.{Fix}
+use Rattle.omf_faults.specs.declared.fault.ProgramFault.{ProgramFault}
+use Rattle.omf_faults.specs.declared.fault.ProgramFault.TheVariants as program
+use Rattle.omf_faults.specs.declared.fault.LinkFault.{LinkFault}
+use Rattle.omf_faults.specs.declared.fault.LinkFault.TheVariants as link
 use Rattle.omf_commands.specs.declared.linking.Report.{Report}
 use Rattle.omf_commands.specs.Inputs.{AreInputs, StopsAtRecord, StopsForMemory}
-use Rattle.omf_commands.specs.Faults.{fix_kind_fault}
 
 -- ---- the program of modules, and its file
 
@@ -62,8 +61,8 @@ IsBuildFault names modules fault =
 abbrev pub IsModulesFault : {A : Type 0} → Names → List Module → LinkFault A → Type 0
 IsModulesFault names modules (link.Program fault) =
     MatchOption (program_said fault) (IsBuildFault names modules build.TooManyRelocations) (IsFirstFault names modules)
-IsModulesFault names modules (link.Record input place fault) =
-    (kind : FixKind) × (fault ≡ fix_kind_fault kind) × IsBuildFault names modules (build.At kind input place)
+IsModulesFault names modules (link.Record input place (Fix kind)) =
+    IsBuildFault names modules (build.At kind input place)
 IsModulesFault names modules _ = ⊥
 
 -- ---- the file, loaded

@@ -12,10 +12,10 @@ use Rattle.mz.specs.declared.fault.LoadFault.TheVariants as loading_fault
 use Rattle.mz.specs.File.{MzFile}
 use Rattle.mz.specs.Reading.{reading, Gives, Takes}
 use Rattle.mz.specs.Loading.{Loaded, loading}
-use Rattle.omf_text.specs.declared.fault.FileFault.{FileFault}
-use Rattle.omf_text.specs.declared.fault.FileFault.TheVariants as file
-use Rattle.omf_text.specs.declared.fault.LinkFault.{LinkFault}
-use Rattle.omf_text.specs.declared.fault.LinkFault.TheVariants as link
+use Rattle.omf_faults.specs.declared.fault.FileFault.{FileFault}
+use Rattle.omf_faults.specs.declared.fault.FileFault.TheVariants as file
+use Rattle.omf_faults.specs.declared.fault.LinkFault.{LinkFault}
+use Rattle.omf_faults.specs.declared.fault.LinkFault.TheVariants as link
 use Rattle.omf_text.specs.Printing.{hexadecimal}
 
 -- the registers at the start

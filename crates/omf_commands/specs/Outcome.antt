@@ -7,9 +7,9 @@ use Rattle.omf_module.specs.declared.fault.FaultKind.{FaultKind}
 use Rattle.omf_module.specs.Bytes.{ModuleBytes, ReadingFault}
 use Rattle.omf_module.specs.Tables.{module_of}
 use Rattle.omf_place.specs.declared.names.Names.{Names}
-use Rattle.omf_text.specs.FaultLines.{number, input, fault_line}
-use Rattle.omf_text.specs.declared.fault.LinkFault.{LinkFault}
-use Rattle.omf_text.specs.declared.fault.LinkFault.TheVariants as link
+use Rattle.omf_faults.specs.FaultLines.{number, input, fault_line}
+use Rattle.omf_faults.specs.declared.fault.LinkFault.{LinkFault}
+use Rattle.omf_faults.specs.declared.fault.LinkFault.TheVariants as link
 use Rattle.omf_commands.specs.Linking.{program_said, IsModulesFault}
 use Rattle.omf_commands.specs.Faults.{fault_at}
 

@@ -5,14 +5,16 @@ use Rattle.std.specs.declared.result.Result.{Result}
 use Rattle.std.specs.List.{flat_map}
 use Rattle.std.specs.Io.KnownBytes.{Consumes, Appends, Keeps}
 use Rattle.omf_frame.specs.Device.{AppendsFront}
+use Rattle.omf_frame.specs.declared.reading.FramingFault.TheVariants.{InputTooLong}
 use Rattle.omf_record.specs.Records.{Placed, AreRecords, AreBeforeEnd, AreToEnd}
+use Rattle.omf_record.specs.declared.fault.NoRecord.TheVariants.{Framing}
 use Rattle.omf_frame.specs.Reading.{TakesWhole, TakesNoneOrWhole, TakesPart}
-use Rattle.omf_text.specs.declared.fault.InputFault.{InputFault}
-use Rattle.omf_text.specs.declared.fault.InputFault.TheVariants as fault
-use Rattle.omf_text.specs.declared.fault.FileFault.{FileFault}
-use Rattle.omf_text.specs.declared.fault.FileFault.TheVariants as file
-use Rattle.omf_text.specs.declared.fault.LinkFault.{LinkFault}
-use Rattle.omf_text.specs.declared.fault.LinkFault.TheVariants as link
+use Rattle.omf_faults.specs.declared.fault.InputFault.{InputFault}
+use Rattle.omf_faults.specs.declared.fault.InputFault.TheVariants as fault
+use Rattle.omf_faults.specs.declared.fault.FileFault.{FileFault}
+use Rattle.omf_faults.specs.declared.fault.FileFault.TheVariants as file
+use Rattle.omf_faults.specs.declared.fault.LinkFault.{LinkFault}
+use Rattle.omf_faults.specs.declared.fault.LinkFault.TheVariants as link
 use Rattle.omf_commands.specs.declared.records.Form.TheVariants.{Rewriting}
 use Rattle.omf_commands.specs.Records.{output, rewritten, says_of, FaultAt, IsRewritten}
 
@@ -42,7 +44,7 @@ sink_failures _ = 0
 
 -- what is taken of the record at fault: the whole of it, or all there is of one that is cut off; at the limit nothing
 abbrev pub TakesFaulty : Option (List ℕ) → Option (List ℕ) → InputFault → Type 0
-TakesFaulty old new fault.InputTooLong = Keeps old new
+TakesFaulty old new (fault.Absent (Framing InputTooLong)) = Keeps old new
 TakesFaulty old new _ = TakesWhole old new
 
 -- the input begins with these records, which were taken and whose output was written

@@ -5,12 +5,13 @@ use Rattle.omf_frame.specs.Frame.{frame}
 use Rattle.omf_record.specs.Record.{Record}
 use Rattle.omf_record.specs.Body.{kind_of}
 use Rattle.omf_record.specs.Canonical.{canonical}
-use Rattle.omf_record.specs.Records.{Placed, AreRecords, AreToEnd, NoRecord, NoRecordAt}
-use Rattle.omf_text.specs.declared.fault.InputFault.{InputFault}
+use Rattle.omf_record.specs.Records.{Placed, AreRecords, AreToEnd, NoRecordAt}
+use Rattle.omf_record.specs.declared.fault.NoRecord.{NoRecord}
+use Rattle.omf_faults.specs.declared.fault.InputFault.{InputFault}
+use Rattle.omf_faults.specs.declared.fault.InputFault.TheVariants.{Absent}
 use Rattle.omf_commands.specs.declared.records.Form.{Form}
 use Rattle.omf_commands.specs.declared.records.Form.TheVariants.{Listing, Rewriting}
 use Rattle.omf_text.specs.Details.{listing}
-use Rattle.omf_commands.specs.Faults.{no_record_fault}
 
 -- what is written of a record: its listing, or its canonical body in a frame whose sum is 0
 abbrev pub output : Form → Placed → List ℕ
@@ -23,7 +24,7 @@ rewritten records = flat_map (output Rewriting) records
 
 -- the fault where no record begins and one had to, the bytes from there on being these
 abbrev pub FaultAt : ℕ → List ℕ → InputFault → Type 0
-FaultAt place bytes fault = (why : NoRecord) × NoRecordAt place bytes why × (fault ≡ no_record_fault why)
+FaultAt place bytes fault = (why : NoRecord) × NoRecordAt place bytes why × (fault ≡ Absent why)
 
 -- what records say, without the places where they stand and how their bodies spell it
 abbrev pub says_of : List Placed → List Record

@@ -1,30 +1,18 @@
 //! The faults of what a command calls, as faults of the command. Each function here is called as the type that it
 //! takes; `fault_at` takes what is wrong at a place.
 ghost use Rattle.std.specs.Prelude.{◌≡◌};
-ghost use Rattle.omf_commands.specs.Faults.{check_fault, fault_at, fix_kind_fault, framing_fault, module_fault};
+ghost use Rattle.omf_commands.specs.Faults.{fault_at, module_fault};
 ghost use Rattle.omf_commands.specs.inside.Faults.{fix_fault, frame_fault, load_fault, mz_fault, place_fault};
 ghost use Rattle.omf_commands.specs.inside.Faults.{record_fault};
 
 use mz::{LoadFault, MzFault};
-use omf_frame::{FrameFault, FramingFault};
-use omf_image::{FixFault, FixKind};
-use omf_module::{CheckFault, FaultKind, ModuleFault};
+use omf_faults::{FileFault, InputFault, LinkFault, ProgramFault};
+use omf_frame::FrameFault;
+use omf_image::FixFault;
+use omf_module::{FaultKind, ModuleFault};
 use omf_place::PlaceFault;
-use omf_record::RecordFault;
-use omf_text::{FileFault, InputFault, LinkFault, ProgramFault};
+use omf_record::{NoRecord, RecordFault};
 use std::alloc::Allocator;
-
-/// A framing fault as a fault of the record.
-fn framing_fault(fault: FramingFault) -> InputFault
-    ensures { result ≡ framing_fault fault }
-{
-    match fault {
-        FramingFault::ZeroLength => InputFault::ZeroLength,
-        FramingFault::Truncated => InputFault::Truncated,
-        FramingFault::Closing => InputFault::Closing,
-        FramingFault::InputTooLong => InputFault::InputTooLong,
-    }
-}
 
 /// A fault of reading a record of the only input.
 pub(crate) fn frame_fault<A: Allocator + Copy>(fault: FrameFault) -> LinkFault<A>
@@ -35,7 +23,7 @@ pub(crate) fn frame_fault<A: Allocator + Copy>(fault: FrameFault) -> LinkFault<A
         FrameFault::Framing { place, fault } => LinkFault::Record {
             input: 0,
             place,
-            fault: framing_fault(fault),
+            fault: InputFault::Absent(NoRecord::Framing(fault)),
         },
         FrameFault::Memory | FrameFault::Failed => LinkFault::Memory,
     }
@@ -45,36 +33,15 @@ pub(crate) fn frame_fault<A: Allocator + Copy>(fault: FrameFault) -> LinkFault<A
 pub(crate) fn record_fault<A: Allocator + Copy>(place: u64, fault: RecordFault) -> LinkFault<A>
     ensures { result ≡ record_fault place fault }
 {
-    let fault = match fault {
+    let absent = match fault {
         RecordFault::Memory => return LinkFault::Memory,
-        RecordFault::OtherType => InputFault::Type,
-        RecordFault::Body { at } => InputFault::Body { at },
+        RecordFault::OtherType => NoRecord::Type,
+        RecordFault::Body { at } => NoRecord::Body { at },
     };
     LinkFault::Record {
         input: 0,
         place,
-        fault,
-    }
-}
-
-/// A refusal of the checks as a fault of the record.
-fn check_fault(fault: CheckFault) -> InputFault
-    ensures { result ≡ check_fault fault }
-{
-    match fault {
-        CheckFault::NotHeader => InputFault::NotHeader,
-        CheckFault::NameIndex => InputFault::NameIndex,
-        CheckFault::SegmentIndex => InputFault::SegmentIndex,
-        CheckFault::GroupIndex => InputFault::GroupIndex,
-        CheckFault::ExternalIndex => InputFault::ExternalIndex,
-        CheckFault::ThreadNotSet => InputFault::ThreadNotSet,
-        CheckFault::FixupBeforeData => InputFault::FixupBeforeData,
-        CheckFault::FixupPlace => InputFault::FixupPlace,
-        CheckFault::DataOutside => InputFault::DataOutside,
-        CheckFault::DataInAbsolute => InputFault::DataInAbsolute,
-        CheckFault::SelfRelativeBase => InputFault::SelfRelativeBase,
-        CheckFault::FrameOfLocation => InputFault::FrameOfLocation,
-        CheckFault::GroupOfAbsolute => InputFault::GroupOfAbsolute,
+        fault: InputFault::Absent(absent),
     }
 }
 
@@ -84,14 +51,8 @@ fn fault_at<A: Allocator + Copy>(input: usize, place: u64, kind: FaultKind) -> L
 {
     let fault = match kind {
         FaultKind::Device => return LinkFault::Device { input, place },
-        FaultKind::ZeroLength => InputFault::ZeroLength,
-        FaultKind::Truncated => InputFault::Truncated,
-        FaultKind::Closing => InputFault::Closing,
-        FaultKind::Type => InputFault::Type,
-        FaultKind::Body { at } => InputFault::Body { at },
-        FaultKind::Check(fault) => check_fault(fault),
-        FaultKind::NoEnd => InputFault::NoEnd,
-        FaultKind::InputTooLong => InputFault::InputTooLong,
+        FaultKind::Absent(why) => InputFault::Absent(why),
+        FaultKind::Check(fault) => InputFault::Check(fault),
     };
     LinkFault::Record {
         input,
@@ -116,28 +77,12 @@ pub(crate) fn place_fault<A: Allocator + Copy>(fault: PlaceFault<A>) -> LinkFaul
 {
     let fault = match fault {
         PlaceFault::Memory => return LinkFault::Memory,
-        PlaceFault::SegmentTooLong { name } => ProgramFault::SegmentTooLong { name },
+        PlaceFault::SegmentTooLong { name } => ProgramFault::SegmentTooLong(name),
         PlaceFault::ProgramTooLarge => ProgramFault::ProgramTooLarge,
-        PlaceFault::GroupTooLong { name } => ProgramFault::GroupTooLong { name },
-        PlaceFault::DuplicatePublic { name } => ProgramFault::DuplicatePublic { name },
+        PlaceFault::GroupTooLong { name } => ProgramFault::GroupTooLong(name),
+        PlaceFault::DuplicatePublic { name } => ProgramFault::DuplicatePublic(name),
     };
     LinkFault::Program(fault)
-}
-
-/// A fault of data, of a fix-up or of the start.
-fn fix_kind_fault(kind: FixKind) -> InputFault
-    ensures { result ≡ fix_kind_fault kind }
-{
-    match kind {
-        FixKind::CoversRelocated => InputFault::CoversRelocated,
-        FixKind::Unresolved => InputFault::Unresolved,
-        FixKind::EmptyGroup => InputFault::EmptyGroup,
-        FixKind::Mixed => InputFault::Mixed,
-        FixKind::OutOfFrame => InputFault::OutOfFrame,
-        FixKind::ShortTooFar => InputFault::ShortTooFar,
-        FixKind::OverlapRelocated => InputFault::OverlapRelocated,
-        FixKind::TwoStarts => InputFault::TwoStarts,
-    }
 }
 
 /// A fault of building the program.
@@ -148,7 +93,7 @@ pub(crate) fn fix_fault<A: Allocator + Copy>(fault: FixFault) -> LinkFault<A>
         FixFault::At { kind, input, place } => LinkFault::Record {
             input,
             place,
-            fault: fix_kind_fault(kind),
+            fault: InputFault::Fix(kind),
         },
         FixFault::TooManyRelocations => LinkFault::Program(ProgramFault::TooManyRelocations),
         FixFault::Memory => LinkFault::Memory,

@@ -5,7 +5,7 @@ ghost use Rattle.omf_module.specs.Tables.{module_of};
 ghost use Rattle.omf_place.specs.declared.names.Names.{Names as Choice};
 ghost use Rattle.omf_place.specs.declared.names.Names.TheVariants.{AsciiFolded, Exact};
 ghost use Rattle.omf_record.specs.Records.{Placed};
-ghost use Rattle.omf_text.specs.declared.fault.LinkFault.{LinkFault as Fault};
+ghost use Rattle.omf_faults.specs.declared.fault.LinkFault.{LinkFault as Fault};
 ghost use Rattle.omf_commands.specs.Inputs.{AreModules};
 ghost use Rattle.omf_commands.specs.Records.{rewritten, says_of};
 ghost use Rattle.omf_commands.specs.Linking.{IsFileOf, IsModulesFault, Links, WritesProgram};
@@ -20,7 +20,7 @@ use omf_frame::{Sink, Source};
 use omf_image::{Program, build};
 use omf_module::Module;
 use omf_place::{Layout, Names, place};
-use omf_text::LinkFault;
+use omf_faults::LinkFault;
 use std::alloc::{Allocator, Global};
 
 /// How modules are linked.

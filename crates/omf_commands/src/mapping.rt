@@ -6,7 +6,7 @@ ghost use Rattle.omf_commands.specs.Mapping.{report_map};
 use crate::linking::Report;
 use omf_frame::{IoFault, Sink};
 use omf_map::put_map;
-use omf_text::LinkFault;
+use omf_faults::LinkFault;
 use std::alloc::Allocator;
 
 /// Writes the map of what was linked: its segments, groups and publics, its registers, its size in bytes, and how many

@@ -13,8 +13,9 @@ ghost use Rattle.omf_commands.specs.declared.records.Form.TheVariants.{Listing, 
 
 use crate::faults::{frame_fault, record_fault};
 use omf_frame::{Frame, FrameBuf, IoFault, Sink, Source, put_frame};
-use omf_record::{Record, encode_record, parse_record};
-use omf_text::{InputFault, LinkFault, put_listing};
+use omf_record::{NoRecord, Record, encode_record, parse_record};
+use omf_faults::{InputFault, LinkFault};
+use omf_text::put_listing;
 use std::alloc::Allocator;
 
 /// The type of the record that ends a module.
@@ -111,7 +112,7 @@ fn go_through<S: Source, K: Sink, A: Allocator + Copy>(
             Ok(None) => return Err(LinkFault::Record {
                 input: 0,
                 place,
-                fault: InputFault::NoEnd,
+                fault: InputFault::Absent(NoRecord::NoEnd),
             }),
             Err(fault) => return Err(frame_fault(fault)),
         };

@@ -12,8 +12,8 @@ use Rattle.omf_image.specs.declared.patch.Patch.{Patch}
 use Rattle.omf_image.specs.declared.patch.Patch.TheVariants.{Word}
 use Rattle.omf_image.specs.Patch.{clear, all_clear}
 use Rattle.omf_image.specs.inside.Patches.{patch_start, patch_end, is_relocated}
-use Rattle.omf_place.specs.declared.layout.Base.{Base as Frame}
-use Rattle.omf_place.specs.declared.layout.Base.TheVariants.{Relocatable as Moving, Absolute as Fixed}
+use Rattle.omf_image.specs.declared.reference.Base.{Base as Frame}
+use Rattle.omf_image.specs.declared.reference.Base.TheVariants.{Relocatable as Moving, Absolute as Fixed}
 use Rattle.omf_image.specs.declared.reference.Resolved.{Resolved}
 use Rattle.omf_image.specs.Reference.{frame'}
 use Rattle.omf_image.specs.Value.{modulo, from_frame, base_patch, patches_at}

@@ -3,11 +3,11 @@ use Rattle.std.proofs.Common.{◌≡◌, ℕ, ◌+◌, ◌-◌, ◌*◌, ◌/◌
 use Rattle.std.proofs.Common.{option_map, refl, ap, ◌∙◌, arith}
 use Rattle.omf_module.specs.Module.{Module}
 use Rattle.omf_place.specs.declared.layout.Combined.{Combined}
-use Rattle.omf_image.specs.declared.reference.Position.{Position}
-use Rattle.omf_image.specs.declared.reference.Position.TheVariants.{Relocatable, Absolute}
+use Rattle.omf_place.specs.declared.layout.Position.{Position}
+use Rattle.omf_place.specs.declared.layout.Position.TheVariants.{Relocatable, Absolute}
 use Rattle.omf_place.specs.Layout.{Layout}
-use Rattle.omf_place.specs.declared.layout.Base.{Base as Frame}
-use Rattle.omf_place.specs.declared.layout.Base.TheVariants.{Relocatable as Moving, Absolute as Fixed}
+use Rattle.omf_image.specs.declared.reference.Base.{Base as Frame}
+use Rattle.omf_image.specs.declared.reference.Base.TheVariants.{Relocatable as Moving, Absolute as Fixed}
 use Rattle.omf_image.specs.declared.reference.Resolved.{Resolved}
 use Rattle.omf_image.specs.declared.faults.FixKind.{FixKind}
 use Rattle.omf_image.specs.declared.faults.FixFault.{FixFault}

@@ -5,10 +5,10 @@ use Rattle.std.proofs.Common.{slice_get, refl, subst, arith}
 use Rattle.std.proofs.lemmas.List.{length-map}
 use Rattle.std.proofs.lemmas.List.Elements.{All-nil, All-append, All-cons, All-map, All-weaker}
 use Rattle.std.proofs.lemmas.Option.{slice_get_within, get_or_from_slice_get}
-use Rattle.omf_module.specs.declared.FixupFrame.{FixupFrame}
-use Rattle.omf_module.specs.declared.FixupFrame.TheVariants.{OfSegment, OfGroup, OfExternal, OfLocation, OfTarget}
-use Rattle.omf_module.specs.declared.FixupTarget.{FixupTarget}
-use Rattle.omf_module.specs.declared.FixupTarget.TheVariants as fixup_target
+use Rattle.omf_record.specs.declared.fixups.FrameMethod.{FrameMethod}
+use Rattle.omf_record.specs.declared.fixups.FrameMethod.TheVariants as by
+use Rattle.omf_record.specs.declared.fixups.TargetMethod.{TargetMethod}
+use Rattle.omf_record.specs.declared.fixups.TargetMethod.TheVariants as to
 use Rattle.omf_module.specs.declared.ResolvedFixup.{ResolvedFixup}
 use Rattle.omf_module.specs.declared.Standing.{Standing}
 use Rattle.omf_module.specs.declared.Standing.TheVariants.{Absolute, Relocatable}
@@ -16,13 +16,10 @@ use Rattle.omf_module.specs.declared.Start.{Start}
 use Rattle.omf_module.specs.Faults.{is_absolute}
 use Rattle.omf_module.specs.Module.{DataRecord, Module}
 use Rattle.omf_module.specs.Sound.{FrameMeans, TargetMeans, FixupFits, DataFits, StartFits, IsSound}
-use Rattle.omf_place.specs.declared.layout.Address.{Address}
-use Rattle.omf_place.specs.declared.layout.Address.TheVariants as address
-use Rattle.omf_place.specs.declared.layout.Base.{Base}
-use Rattle.omf_place.specs.declared.layout.Base.TheVariants as base
+use Rattle.omf_place.specs.declared.layout.Position.{Position}
+use Rattle.omf_place.specs.declared.layout.Position.TheVariants as position
 use Rattle.omf_place.specs.Bounded.{LiesInside, ArePlacesOf, IsBounded}
-use Rattle.omf_place.specs.Layout.{Layout, places_of, part_start, segment_frame}
-use Rattle.omf_image.specs.Position.{position}
+use Rattle.omf_place.specs.Layout.{Layout, places_of, segment_position}
 use Rattle.omf_image.specs.Value.{real_address}
 use Rattle.omf_image.specs.Records.{Entry, bytes_of}
 use Rattle.omf_image.specs.inside.Entries.{module_entries, entries_from}
@@ -35,12 +32,12 @@ all_get : {X : Type 0} (P : X → Type 0) (xs : List X) (k : ℕ) (x : X) → Al
 all_get P xs k x h e = subst P (get_or_from_slice_get xs k x x e) (h k x (slice_get_within xs k x e))
 
 -- a part's address, with its length, lies inside the program
-part_inside : (size n : ℕ) (st : Standing) (a : Address) (f : Base) → is_absolute st ≡ false → LiesInside size n st a
-    → real_address 0 (position a (Some f)) + n ≤ size
-part_inside size n (Absolute frame offset) a f e h = cc
-part_inside size n (Relocatable alignment kind) (address.Relocatable a) (base.Relocatable f) e h = omega (arith, h)
-part_inside size n (Relocatable alignment kind) (address.Relocatable a) (base.Absolute f) e h = omega (arith, h)
-part_inside size n (Relocatable alignment kind) (address.Absolute a) f e h = absurd h
+part_inside : (size n : ℕ) (st : Standing) (p : Position) → is_absolute st ≡ false → LiesInside size n st p
+    → real_address 0 p + n ≤ size
+part_inside size n (Absolute frame offset) p e h = cc
+part_inside size n (Relocatable alignment kind) (position.Relocatable a (Some f)) e h = omega (arith, h)
+part_inside size n (Relocatable alignment kind) (position.Relocatable a None) e h = absurd h
+part_inside size n (Relocatable alignment kind) (position.Absolute a f) e h = absurd h
 
 module _ (ms : List Module) (layout : Layout) (bounded : IsBounded ms layout) where
   module _ (k : ℕ) (m : Module) (at : slice_get ms k ≡ Some m) where
@@ -50,18 +47,16 @@ module _ (ms : List Module) (layout : Layout) (bounded : IsBounded ms layout) wh
     input_there : k < length layout.modules
     input_there = let w = slice_get_within ms k m at in let e = bounded.modules in omega (arith, w, e)
 
-    target_there : (t : FixupTarget) → TargetMeans m.segments m.groups m.externals t → IsTargetThere layout k m t
-    target_there (fixup_target.Segment s) h = let e = places.segments in omega (arith, h, e)
-    target_there (fixup_target.Group g) h = let e = places.groups in omega (arith, h, e)
-    target_there (fixup_target.External e) h = h
+    target_there : (t : TargetMethod) → TargetMeans m.segments m.groups m.externals t → IsTargetThere layout k m t
+    target_there (to.Segment s) h = let e = places.segments in (h.0, omega (arith, h.1, e))
+    target_there (to.Group g) h = let e = places.groups in (h.0, omega (arith, h.1, e))
+    target_there (to.External e) h = h
 
-    frame_there : (here : ℕ) (f : FixupFrame) → FrameMeans m.segments m.groups m.externals f
-        → (f ≡ OfLocation → here < length (places_of layout k).segments) → IsFrameThere layout k m here f
-    frame_there here (OfSegment s) h l = let e = places.segments in omega (arith, h, e)
-    frame_there here (OfGroup g) h l = let e = places.groups in omega (arith, h, e)
-    frame_there here (OfExternal e) h l = h
-    frame_there here OfLocation h l = l refl
-    frame_there here OfTarget h l = tt
+    frame_there : (here : ℕ) (f : FrameMethod) → FrameMeans m.segments m.groups m.externals f
+        → (f ≡ by.Location → here < length (places_of layout k).segments) → IsFrameThere layout k m here f
+    frame_there here (by.By method) h l = target_there method h
+    frame_there here by.Location h l = l refl
+    frame_there here by.Target h l = tt
 
     fixup_ready : (d : DataRecord) (x : ResolvedFixup) → d.segment < length (places_of layout k).segments
         → FixupFits m.segments m.groups m.externals d x → IsFixupReady layout (entry_of k m d) x
@@ -79,8 +74,8 @@ module _ (ms : List Module) (layout : Layout) (bounded : IsBounded ms layout) wh
         let e = places.segments in omega (arith, w, e)) in
         let p = places.each d.segment fits.segment fits.is_part.0 in
         let low =
-        part_inside layout.size fits.segment.length fits.segment.standing (part_start layout k d.segment)
-        (segment_frame layout k d.segment) fits.is_part.1 p.inside in
+        part_inside layout.size fits.segment.length fits.segment.standing (segment_position layout k d.segment)
+        fits.is_part.1 p in
         let count : length (bytes_of d) ≡ length d.pairs = length-map d.pairs (λ (p : ℕ × ℕ). p.1) in
         let inner = fits.inside in
         record {

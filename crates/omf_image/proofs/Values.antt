@@ -4,11 +4,11 @@ use Rattle.std.proofs.Common.{◌≡◌, ℕ, ◌+◌, ◌*◌, ◌%◌, pos, �
 use Rattle.std.proofs.lemmas.Int.{ints}
 use Rattle.omf_record.specs.declared.fixups.Location.{Location}
 use Rattle.omf_record.specs.declared.fixups.Location.TheVariants.{LowByte, Offset, Base, Pointer, LoaderOffset}
-use Rattle.omf_image.specs.declared.reference.Position.{Position}
-use Rattle.omf_image.specs.declared.reference.Position.TheVariants.{Relocatable, Absolute}
+use Rattle.omf_place.specs.declared.layout.Position.{Position}
+use Rattle.omf_place.specs.declared.layout.Position.TheVariants.{Relocatable, Absolute}
 use Rattle.omf_image.specs.declared.patch.Patch.TheVariants.{Byte, Word, Relocated}
-use Rattle.omf_place.specs.declared.layout.Base.{Base as Frame}
-use Rattle.omf_place.specs.declared.layout.Base.TheVariants.{Relocatable as Moving, Absolute as Fixed}
+use Rattle.omf_image.specs.declared.reference.Base.{Base as Frame}
+use Rattle.omf_image.specs.declared.reference.Base.TheVariants.{Relocatable as Moving, Absolute as Fixed}
 use Rattle.omf_image.specs.declared.reference.Resolved.{Resolved}
 use Rattle.omf_image.specs.Reference.{frame'}
 use Rattle.omf_image.specs.Value.{modulo, from_frame, from_address, base_patch, patches_at}

@@ -1,11 +1,11 @@
 pub mod Words
 pub mod Patch
 pub mod Located
-pub mod Position
 pub mod Reference
 pub mod Value
 pub mod Records
 pub mod Faults
+pub mod Labels
 pub mod Registers
 pub mod Program
 pub mod Building

@@ -7,12 +7,11 @@ use Rattle.std.specs.Result.{result_ok}
 use Rattle.omf_record.specs.declared.fixups.Location.{Location}
 use Rattle.omf_module.specs.declared.ResolvedFixup.{ResolvedFixup}
 use Rattle.omf_module.specs.Module.{DataRecord, Module}
-use Rattle.omf_place.specs.Layout.{Layout}
+use Rattle.omf_place.specs.Layout.{Layout, segment_position}
 use Rattle.omf_image.specs.declared.faults.FixKind.{FixKind}
 use Rattle.omf_image.specs.declared.patch.Patch.{Patch}
 use Rattle.omf_image.specs.declared.reference.Resolved.{Resolved}
 use Rattle.omf_image.specs.Patch.{patched_all, relocated_place}
-use Rattle.omf_image.specs.Position.{segment_position}
 use Rattle.omf_image.specs.Reference.{resolved}
 use Rattle.omf_image.specs.Value.{real_address, patches_at}
 use Rattle.omf_image.specs.Located.{Datum, located, in_page}

@@ -1,20 +1,19 @@
 -- What the frame and the target of a reference stand for under a layout (TIS OMF 1.1, FIXUPP).
-use Rattle.std.specs.Prelude.{ℕ, ◌*◌, false, [], Option, Some, None, get_or, Result, Ok, Err}
+use Rattle.std.specs.Prelude.{ℕ, ◌-◌, ◌*◌, if◌then◌else◌, false, [], Option, Some, None, get_or, Result, Ok, Err}
 use Rattle.std.specs.Option.{option_map, ok_or}
-use Rattle.omf_module.specs.declared.FixupFrame.{FixupFrame}
-use Rattle.omf_module.specs.declared.FixupFrame.TheVariants.{OfSegment, OfGroup, OfExternal, OfLocation, OfTarget}
-use Rattle.omf_module.specs.declared.FixupTarget.{FixupTarget}
-use Rattle.omf_module.specs.declared.FixupTarget.TheVariants as fixup_target
-use Rattle.omf_module.specs.Module.{Module}
-use Rattle.omf_place.specs.declared.layout.Base.{Base as Frame}
-use Rattle.omf_place.specs.declared.layout.Base.TheVariants.{Relocatable as Moving, Absolute as Fixed}
-use Rattle.omf_place.specs.Layout.{Layout, group_frame}
+use Rattle.omf_record.specs.declared.fixups.FrameMethod.{FrameMethod}
+use Rattle.omf_record.specs.declared.fixups.FrameMethod.TheVariants as by
+use Rattle.omf_record.specs.declared.fixups.TargetMethod.{TargetMethod}
+use Rattle.omf_record.specs.declared.fixups.TargetMethod.TheVariants as to
+use Rattle.omf_module.specs.Module.{ExternalSymbol, Module}
+use Rattle.omf_image.specs.declared.reference.Base.{Base as Frame}
+use Rattle.omf_image.specs.declared.reference.Base.TheVariants.{Relocatable as Moving, Absolute as Fixed}
+use Rattle.omf_place.specs.Layout.{Layout, group_frame, local_public, public, segment_position}
 use Rattle.omf_image.specs.declared.faults.FixKind.{FixKind}
 use Rattle.omf_image.specs.declared.faults.FixKind.TheVariants.{Unresolved, EmptyGroup}
-use Rattle.omf_image.specs.declared.reference.Position.{Position}
-use Rattle.omf_image.specs.declared.reference.Position.TheVariants.{Relocatable, Absolute}
+use Rattle.omf_place.specs.declared.layout.Position.{Position}
+use Rattle.omf_place.specs.declared.layout.Position.TheVariants.{Relocatable, Absolute}
 use Rattle.omf_image.specs.declared.reference.Resolved.{Resolved}
-use Rattle.omf_image.specs.Position.{segment_position, external_position}
 
 -- what is found by what was found
 abbrev pub on_found : {A B : Type 0} → Result A FixKind → (A → Result B FixKind) → Result B FixKind
@@ -38,27 +37,29 @@ own_frame (Relocatable address None) = Err EmptyGroup
 own_frame (Relocatable address (Some frame)) = Ok (Moving frame)
 own_frame (Absolute address frame) = Ok (Fixed frame)
 
+-- What an external of a module means: a local one the local public of its name in its own module and nothing else,
+-- another one the public of its name and never a local one.
+abbrev pub meant : Layout → (input : ℕ) → ExternalSymbol → Option Position
+meant layout input external =
+    if external.local then local_public layout input external.name else public layout external.name
+
 -- where an external of a module stands, by its index, if it means a public
 abbrev pub external_at : Layout → (input : ℕ) → Module → (external : ℕ) → Result Position FixKind
 external_at layout input module' external =
     let symbol = get_or module'.externals external (record { name = []; local = false }) in
-    ok_or (external_position layout input symbol) Unresolved
+    ok_or (meant layout input symbol) Unresolved
 
 -- where a target stands, in the module of an input
-abbrev pub target_of : Layout → (input : ℕ) → Module → FixupTarget → Result Position FixKind
-target_of layout input module' (fixup_target.Segment segment) = Ok (segment_position layout input segment)
-target_of layout input module' (fixup_target.Group group) = group_position (group_frame layout input group)
-target_of layout input module' (fixup_target.External external) = external_at layout input module' external
+abbrev pub target_of : Layout → (input : ℕ) → Module → TargetMethod → Result Position FixKind
+target_of layout input module' (to.Segment index) = Ok (segment_position layout input (index - 1))
+target_of layout input module' (to.Group index) = group_position (group_frame layout input (index - 1))
+target_of layout input module' (to.External index) = external_at layout input module' (index - 1)
 
 -- the frame that a method names; here is the segment of the data record
-abbrev pub frame_of : Layout → (input : ℕ) → Module → (here : ℕ) → FixupTarget → FixupFrame → Result Frame FixKind
-frame_of layout input module' here target (OfSegment segment) = own_frame (segment_position layout input segment)
-frame_of layout input module' here target (OfGroup group) =
-    on_found (group_position (group_frame layout input group)) own_frame
-frame_of layout input module' here target (OfExternal external) =
-    on_found (external_at layout input module' external) own_frame
-frame_of layout input module' here target OfLocation = own_frame (segment_position layout input here)
-frame_of layout input module' here target OfTarget = on_found (target_of layout input module' target) own_frame
+abbrev pub frame_of : Layout → (input : ℕ) → Module → (here : ℕ) → TargetMethod → FrameMethod → Result Frame FixKind
+frame_of layout input module' here target (by.By method) = on_found (target_of layout input module' method) own_frame
+frame_of layout input module' here target by.Location = own_frame (segment_position layout input here)
+frame_of layout input module' here target by.Target = on_found (target_of layout input module' target) own_frame
 
 -- where the target is absolute and the frame relocatable, the target's own frame is used in the frame's place
 abbrev pub used_frame : (target : Position) → (named : Frame) → Frame
@@ -71,7 +72,7 @@ abbrev pub frame' : Resolved → Frame
 frame' reference = used_frame reference.target reference.named_frame
 
 -- a reference with its frame and its target found
-abbrev pub resolved : Layout → (input : ℕ) → Module → (here : ℕ) → FixupFrame → FixupTarget → (displacement : ℕ)
+abbrev pub resolved : Layout → (input : ℕ) → Module → (here : ℕ) → FrameMethod → TargetMethod → (displacement : ℕ)
     → Result Resolved FixKind
 resolved layout input module' here frame target displacement =
     on_found (both (target_of layout input module' target) (frame_of layout input module' here target frame))

@@ -3,12 +3,12 @@ use Rattle.std.specs.Prelude.{ℕ, ◌+◌, ◌*◌, ◌%◌, ℤ, pos, ◌-ℤ�
 use Rattle.std.specs.Int.{int_rem_euclid}
 use Rattle.omf_record.specs.declared.fixups.Location.{Location}
 use Rattle.omf_record.specs.declared.fixups.Location.TheVariants.{LowByte, Base, Pointer}
-use Rattle.omf_image.specs.declared.reference.Position.{Position}
-use Rattle.omf_image.specs.declared.reference.Position.TheVariants.{Relocatable, Absolute}
+use Rattle.omf_place.specs.declared.layout.Position.{Position}
+use Rattle.omf_place.specs.declared.layout.Position.TheVariants.{Relocatable, Absolute}
 use Rattle.omf_image.specs.declared.patch.Patch.{Patch}
 use Rattle.omf_image.specs.declared.patch.Patch.TheVariants.{Byte, Word, Relocated}
-use Rattle.omf_place.specs.declared.layout.Base.{Base as Frame}
-use Rattle.omf_place.specs.declared.layout.Base.TheVariants.{Relocatable as Moving, Absolute as Fixed}
+use Rattle.omf_image.specs.declared.reference.Base.{Base as Frame}
+use Rattle.omf_image.specs.declared.reference.Base.TheVariants.{Relocatable as Moving, Absolute as Fixed}
 use Rattle.omf_image.specs.declared.reference.Resolved.{Resolved}
 use Rattle.omf_image.specs.Reference.{frame'}
 

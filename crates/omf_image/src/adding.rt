@@ -4,8 +4,7 @@ ghost use Rattle.std.specs.Prelude.{◌≡◌, ◌<◌, ◌≤◌, ◌+◌, ◌+
 ghost use Rattle.std.specs.Prelude.{IfOk, OnOk};
 ghost use Rattle.omf_module.specs.Module.{Module as PlainModule};
 ghost use Rattle.omf_module.specs.Seen.{data_seen};
-ghost use Rattle.omf_place.specs.Layout.{places_of};
-ghost use Rattle.omf_image.specs.Position.{segment_position};
+ghost use Rattle.omf_place.specs.Layout.{places_of, segment_position};
 ghost use Rattle.omf_image.specs.Value.{real_address};
 ghost use Rattle.omf_image.specs.declared.patch.Patch.{Patch};
 ghost use Rattle.omf_image.specs.Located.{covers_word};
@@ -23,11 +22,10 @@ use crate::finding::is_plain;
 use crate::fixing::add_fixup;
 use crate::index::Index;
 use crate::placed_data::PlacedData;
-use crate::reference::{Position, segment_position};
 use crate::repeated::lay_data;
 use crate::work::Work;
 use omf_module::{DataRecord, Module, ResolvedFixup};
-use omf_place::Layout;
+use omf_place::{Layout, Position};
 use std::alloc::{AllocError, Allocator};
 
 /// Whether data would cover a byte of a relocated word; `words` has a flag where one begins.
@@ -61,7 +59,7 @@ pub fn data_address<A: Allocator + Copy>(
     requires inside { real_address 0 (segment_position layout.now input segment) + offset ≤ layout.now.size }
     ensures { result ≡ real_address 0 (segment_position layout.now input segment) + offset }
 {
-    let start = match segment_position(layout, input, segment) {
+    let start = match layout.segment_position(input, usize::from(segment)) {
         Position::Relocatable(address, _) => address,
         Position::Absolute(address, _) => address,
     };

@@ -10,8 +10,8 @@ ghost use Rattle.omf_image.specs.inside.Patches.{patch_end};
 ghost use Rattle.omf_image.specs.inside.Lookups.{listed, EndsBy};
 
 use crate::patch::Patch;
-use crate::reference::{Position, Resolved};
-use omf_place::Base;
+use crate::reference::{Base, Resolved};
+use omf_place::Position;
 use omf_record::Location;
 
 impl Resolved {

@@ -1,6 +1,7 @@
 //! What may be wrong with data, fix-ups and the start.
 
 ghost use Rattle.std.specs.Prelude.{◌≡◌};
+ghost use Rattle.omf_image.specs.Labels.{fix_label};
 ghost use Rattle.omf_image.specs.declared.faults.FixFault.TheVariants.{Memory};
 ghost use Rattle.omf_image.specs.declared.faults.Stop.TheVariants as stop;
 ghost use Rattle.omf_image.specs.inside.Lacks.{missing_fault};
@@ -13,22 +14,49 @@ use thiserror::Error;
 /// A fault of a data record (26), of a fix-up (27 to 32) or of the start (27 to 30, 33).
 #[derive(Clone, Copy, Debug, PartialEq, Eq, Error)]
 pub enum FixKind {
+    /// 26: data covers a byte of a relocated word of an earlier data record.
     #[error("data covers a relocated word")]
     CoversRelocated,
+    /// 27: the external of a frame or target has no public.
     #[error("an external has no public")]
     Unresolved,
+    /// 28: the group that gives the frame or is the target has no members, or that of the public that gives the frame.
     #[error("a group has no members")]
     EmptyGroup,
+    /// 29: a distance would depend on where the program is loaded.
     #[error("a distance between relocatable and absolute")]
     Mixed,
+    /// 30: the target, or the location, isn't within 65,536 bytes from the frame's start.
     #[error("a distance leaves its frame")]
     OutOfFrame,
+    /// 31: a distance doesn't fit a signed byte.
     #[error("a distance doesn't fit a byte")]
     ShortTooFar,
+    /// 32: two fix-ups share a byte of a relocated word.
     #[error("fix-ups share a relocated word")]
     OverlapRelocated,
+    /// 33: an earlier module has a start.
     #[error("a second start")]
     TwoStarts,
+}
+
+impl FixKind {
+    /// The number and the name that the fault is printed with.
+    pub fn label(self) -> (u8, &'static str)
+        ensures number { result.0 ≡ (fix_label self).0 }
+        ensures name { result.1.now ≡ (fix_label self).1 }
+    {
+        match self {
+            FixKind::CoversRelocated => (26, "CoversRelocated"),
+            FixKind::Unresolved => (27, "Unresolved"),
+            FixKind::EmptyGroup => (28, "EmptyGroup"),
+            FixKind::Mixed => (29, "Mixed"),
+            FixKind::OutOfFrame => (30, "OutOfFrame"),
+            FixKind::ShortTooFar => (31, "ShortTooFar"),
+            FixKind::OverlapRelocated => (32, "OverlapRelocated"),
+            FixKind::TwoStarts => (33, "TwoStarts"),
+        }
+    }
 }
 
 impl From<Missing> for FixKind {

@@ -2,24 +2,23 @@
 
 ghost use Rattle.std.specs.Prelude.{◌≡◌, ◌<◌, length};
 ghost use Rattle.std.specs.Option.{ok_or};
-ghost use Rattle.omf_place.specs.Layout.{places_of};
 ghost use Rattle.omf_image.specs.declared.faults.FixKind.TheVariants.{Unresolved};
 ghost use Rattle.omf_module.specs.Seen.{external_seen};
-ghost use Rattle.omf_image.specs.Position.{position, segment_position, external_position};
-ghost use Rattle.omf_image.specs.Reference.{resolved, target_of, frame_of, own_frame};
-ghost use Rattle.omf_image.specs.inside.Lookups.{found, framed_by};
+ghost use Rattle.omf_image.specs.Reference.{resolved, meant, target_of, frame_of, own_frame};
+ghost use Rattle.omf_image.specs.inside.Lookups.{found};
 ghost use Rattle.omf_image.specs.inside.Ready.{IsTargetThere, IsFrameThere};
 
-use omf_module::{ExternalSymbol, FixupFrame, FixupTarget, Module};
-use omf_place::{Address, Base, Layout};
+use omf_module::{ExternalSymbol, Module};
+use omf_place::{Layout, Position};
+use omf_record::{FrameMethod, TargetMethod};
 use std::alloc::Allocator;
 
-/// Where something stands at paragraph 0: its address with its own frame. A relocatable one moves with the load
-/// paragraph; its frame is `None` where its group has no members.
+/// A frame in paragraphs, which moves with the program or not.
 #[derive(Clone, Copy)]
-pub enum Position {
-    Relocatable(u32, Option<u16>),
-    Absolute(u32, u16),
+pub enum Base {
+    /// Counted from the start of the program.
+    Relocatable(u16),
+    Absolute(u16),
 }
 
 /// What a look-up lacks: the public that an external means, or members of a group.
@@ -37,41 +36,13 @@ pub struct Resolved {
     pub displacement: u16,
 }
 
-/// An address with its frame.
-fn positioned(address: Address, frame: Option<Base>) -> Position
-    ensures { result ≡ position address frame }
-{
-    match (address, frame) {
-        (Address::Relocatable(a), Some(Base::Relocatable(f))) => Position::Relocatable(a, Some(f)),
-        (Address::Relocatable(a), _) => Position::Relocatable(a, None),
-        (Address::Absolute(a), Some(Base::Relocatable(f))) => Position::Absolute(a, f),
-        (Address::Absolute(a), Some(Base::Absolute(f))) => Position::Absolute(a, f),
-        (Address::Absolute(a), None) => Position::Absolute(a, 0),
-    }
-}
-
-/// Where a segment of a module stands.
-pub fn segment_position<A: Allocator + Copy>(
-    layout: &Layout<A>,
-    input: usize,
-    segment: u16,
-) -> Position
-    requires input { input < length layout.now.modules }
-    requires segment { segment < length (places_of layout.now input).segments }
-    ensures { result ≡ segment_position layout.now input segment }
-{
-    let start = layout.part_start(input, usize::from(segment));
-    let frame = layout.segment_frame(input, usize::from(segment));
-    positioned(start, Some(frame))
-}
-
 /// Where the public stands that an external of an input's module means: a local one is found in that module alone.
 fn external_position<A: Allocator + Copy>(
     layout: &Layout<A>,
     input: usize,
     external: ExternalSymbol<'_>,
 ) -> Result<Position, Missing>
-    ensures { found result ≡ ok_or (external_position layout.now input (external_seen external.entry)) Unresolved }
+    ensures { found result ≡ ok_or (meant layout.now input (external_seen external.entry)) Unresolved }
 {
     let meant = if external.local {
         layout.local_public(input, external.name)
@@ -79,7 +50,7 @@ fn external_position<A: Allocator + Copy>(
         layout.public(external.name)
     };
     match meant {
-        Some(place) => Ok(positioned(place.address, place.frame)),
+        Some(position) => Ok(position),
         None => Err(Missing::Public),
     }
 }
@@ -95,41 +66,30 @@ fn own_frame(position: Position) -> Result<Base, Missing>
     }
 }
 
-/// Where a target stands, in the module of an input.
+/// Where a target stands, in the module of an input. The index of its method counts from 1.
 fn target<A: Allocator + Copy>(
     layout: &Layout<A>,
     input: usize,
     module: &Module<A>,
-    target: FixupTarget,
+    target: TargetMethod,
 ) -> Result<Position, Missing>
     requires input { input < length layout.now.modules }
     requires there { IsTargetThere layout.now input «module».now target }
     ensures { found result ≡ target_of layout.now input «module».now target }
 {
     match target {
-        FixupTarget::Segment(segment) => Ok(segment_position(layout, input, segment)),
-        FixupTarget::Group(group) => match layout.group_frame(input, usize::from(group)) {
+        TargetMethod::Segment(index) => {
+            Ok(layout.segment_position(input, usize::from(index) - 1))
+        }
+        TargetMethod::Group(index) => match layout.group_frame(input, usize::from(index) - 1) {
             Some(frame) => Ok(Position::Relocatable(16 * u32::from(frame), Some(frame))),
             None => Err(Missing::Members),
         },
-        FixupTarget::External(external) => external_position(
+        TargetMethod::External(index) => external_position(
             layout,
             input,
-            module.external(usize::from(external)),
+            module.external(usize::from(index) - 1),
         ),
-    }
-}
-
-/// The target whose frame a method names; `here` is the segment of the data record.
-fn framed_by(here: u16, of: FixupTarget, method: FixupFrame) -> FixupTarget
-    ensures { result ≡ framed_by here of method }
-{
-    match method {
-        FixupFrame::OfSegment(segment) => FixupTarget::Segment(segment),
-        FixupFrame::OfGroup(group) => FixupTarget::Group(group),
-        FixupFrame::OfExternal(external) => FixupTarget::External(external),
-        FixupFrame::OfLocation => FixupTarget::Segment(here),
-        FixupFrame::OfTarget => of,
     }
 }
 
@@ -139,16 +99,19 @@ fn frame<A: Allocator + Copy>(
     input: usize,
     module: &Module<A>,
     here: u16,
-    of: FixupTarget,
-    method: FixupFrame,
+    of: TargetMethod,
+    method: FrameMethod,
 ) -> Result<Base, Missing>
     requires input { input < length layout.now.modules }
     requires target { IsTargetThere layout.now input «module».now of }
     requires frame { IsFrameThere layout.now input «module».now here method }
     ensures { found result ≡ frame_of layout.now input «module».now here of method }
 {
-    let framing = framed_by(here, of, method);
-    own_frame(target(layout, input, module, framing)?)
+    match method {
+        FrameMethod::By(method) => own_frame(target(layout, input, module, method)?),
+        FrameMethod::Location => own_frame(layout.segment_position(input, usize::from(here))),
+        FrameMethod::Target => own_frame(target(layout, input, module, of)?),
+    }
 }
 
 /// What a reference stands for. An external that means no public is named before a group without members.
@@ -157,8 +120,8 @@ pub fn resolve<A: Allocator + Copy>(
     input: usize,
     module: &Module<A>,
     here: u16,
-    method: FixupFrame,
-    of: FixupTarget,
+    method: FrameMethod,
+    of: TargetMethod,
     displacement: u16,
 ) -> Result<Resolved, Missing>
     requires input { input < length layout.now.modules }

@@ -1,7 +1,7 @@
 -- A command's sink fails at most once.
 use Rattle.std.proofs.Common.{◌≤◌, Result, Ok, Err, arith}
-use Rattle.omf_text.specs.declared.fault.LinkFault.{LinkFault}
-use Rattle.omf_text.specs.declared.fault.LinkFault.TheVariants.{Memory, Output, Device, Record, Program, File}
+use Rattle.omf_faults.specs.declared.fault.LinkFault.{LinkFault}
+use Rattle.omf_faults.specs.declared.fault.LinkFault.TheVariants.{Memory, Output, Device, Record, Program, File}
 use Rattle.omf_commands.specs.Reading.{sink_failures}
 
 pub at_most_one : {T A : Type 0} (r : Result T (LinkFault A)) → sink_failures r ≤ 1

@@ -1,8 +1,8 @@
 -- What an answer becomes where an input lacked memory, or what is held back isn't handed on.
 use Rattle.std.proofs.Common.{◌≡◌, ℕ, Bool, true, false, Result, Ok, Err, inl, inr, if◌then◌else◌, subst, sym}
 use Rattle.std.proofs.lemmas.Bool.Decides.{eqb_tells}
-use Rattle.omf_text.specs.declared.fault.LinkFault.{LinkFault}
-use Rattle.omf_text.specs.declared.fault.LinkFault.TheVariants.{Memory, Output, Device, Record, Program, File}
+use Rattle.omf_faults.specs.declared.fault.LinkFault.{LinkFault}
+use Rattle.omf_faults.specs.declared.fault.LinkFault.TheVariants.{Memory, Output, Device, Record, Program, File}
 use Rattle.omf_jobs.specs.Jobs.{Settled}
 
 pub settled : {T A : Type 0} (P : Result T (LinkFault A) → Type 0) (r : Result T (LinkFault A)) → P r → Settled P r

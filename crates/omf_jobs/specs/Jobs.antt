@@ -14,9 +14,9 @@ use Rattle.omf_record.specs.Records.{Placed}
 use Rattle.omf_text.specs.Details.{listing}
 use Rattle.omf_place.specs.declared.names.Names.{Names}
 use Rattle.omf_place.specs.declared.names.Names.TheVariants.{AsciiFolded, Exact}
-use Rattle.omf_text.specs.declared.fault.LinkFault.{LinkFault}
-use Rattle.omf_text.specs.declared.fault.LinkFault.TheVariants as link
-use Rattle.omf_text.specs.FaultLines.{fault_line, status}
+use Rattle.omf_faults.specs.declared.fault.LinkFault.{LinkFault}
+use Rattle.omf_faults.specs.declared.fault.LinkFault.TheVariants as link
+use Rattle.omf_faults.specs.FaultLines.{fault_line, status}
 use Rattle.omf_commands.specs.Reading.{GoesThrough}
 use Rattle.omf_commands.specs.Checking.{Checks}
 use Rattle.omf_commands.specs.Loading.{LoadsFile}

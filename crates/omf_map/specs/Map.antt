@@ -9,11 +9,10 @@ use Rattle.omf_module.specs.declared.Kind.TheVariants as kinds
 use Rattle.omf_module.specs.declared.Standing.{Standing}
 use Rattle.omf_module.specs.declared.Standing.TheVariants.{Absolute, Relocatable}
 use Rattle.omf_module.specs.Module.{Module, Segment, Group, PublicSymbol}
-use Rattle.omf_place.specs.declared.layout.Address.{Address}
-use Rattle.omf_place.specs.declared.layout.Address.TheVariants as address
 use Rattle.omf_place.specs.declared.layout.Combined.{Combined}
 use Rattle.omf_place.specs.declared.layout.GroupPlace.{GroupPlace}
-use Rattle.omf_place.specs.declared.layout.PublicPlace.{PublicPlace}
+use Rattle.omf_place.specs.declared.layout.Position.{Position}
+use Rattle.omf_place.specs.declared.layout.Position.TheVariants as position
 use Rattle.omf_place.specs.Layout.{Layout, public}
 use Rattle.omf_image.specs.Program.{Program}
 use Rattle.omf_text.specs.Printing.{hexadecimal, left, printed_name}
@@ -67,13 +66,13 @@ group_line modules group = option_map_or (named_group group.frame)
 -- ---- publics
 
 -- where a public stands: R where it moves with the program, A where it doesn't
-abbrev pub address_text : Address → List ℕ
-address_text (address.Relocatable bytes) = concat (hexadecimal 6 bytes ∷ codes " R" ∷ [])
-address_text (address.Absolute bytes) = concat (hexadecimal 6 bytes ∷ codes " A" ∷ [])
+abbrev pub address_text : Position → List ℕ
+address_text (position.Relocatable bytes frame) = concat (hexadecimal 6 bytes ∷ codes " R" ∷ [])
+address_text (position.Absolute bytes frame) = concat (hexadecimal 6 bytes ∷ codes " A" ∷ [])
 
 -- the place and the name of a public
-abbrev pub placed_public : List ℕ → PublicPlace → List ℕ
-placed_public name place = concat (address_text place.address ∷ codes " " ∷ printed_name name ∷ codes "\n" ∷ [])
+abbrev pub placed_public : List ℕ → Position → List ℕ
+placed_public name place = concat (address_text place ∷ codes " " ∷ printed_name name ∷ codes "\n" ∷ [])
 
 -- a public stands where its name does; a local one isn't listed
 unfoldable pub public_line : Layout → PublicSymbol → List ℕ

@@ -10,7 +10,7 @@ ghost use Rattle.omf_text.specs.Printing.{left};
 use omf_frame::{IoFault, Sink, put_all};
 use omf_image::Program;
 use omf_module::{Kind, Module, PublicSymbol, Segment, Standing};
-use omf_place::{Address, Combined, GroupPlace, Layout};
+use omf_place::{Combined, GroupPlace, Layout, Position};
 use omf_text::{Hexadecimal, Piece, put_each, put_hexadecimal, put_pieces};
 use std::alloc::Allocator;
 
@@ -178,17 +178,17 @@ fn put_group<K: Sink, A: Allocator + Copy>(
 }
 
 // Writes where a public stands, and whether it moves with the program.
-fn put_address<K: Sink>(sink: &mut K, address: Address) -> Result<(), IoFault>
+fn put_address<K: Sink>(sink: &mut K, position: Position) -> Result<(), IoFault>
     requires { K.failures sink.old < 2 ^ 64 - 1 }
-    ensures { Writes K.written K.failures sink.old sink.new (spec.address_text address) result }
+    ensures { Writes K.written K.failures sink.old sink.new (spec.address_text position) result }
 {
-    match address {
-        Address::Relocatable(address) => {
+    match position {
+        Position::Relocatable(address, _) => {
             let digits = Hexadecimal::new(u64::from(address), 6);
             let pieces = [digits.as_bytes(), b" R".as_slice()];
             put_pieces(sink, pieces.as_slice())
         }
-        Address::Absolute(address) => {
+        Position::Absolute(address, _) => {
             let digits = Hexadecimal::new(u64::from(address), 6);
             let pieces = [digits.as_bytes(), b" A".as_slice()];
             put_pieces(sink, pieces.as_slice())
@@ -210,10 +210,10 @@ fn put_public<K: Sink, A: Allocator + Copy>(
     if symbol.local {
         return Ok(());
     }
-    let Some(place) = layout.public(symbol.name) else {
+    let Some(position) = layout.public(symbol.name) else {
         return Ok(());
     };
-    put_address(sink, place.address)?;
+    put_address(sink, position)?;
     let pieces = [
         Piece::Text(" "),
         Piece::Name(symbol.name),

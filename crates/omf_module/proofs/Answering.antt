@@ -13,10 +13,13 @@ use Rattle.omf_frame.proofs.Told.{Keeps-refl}
 use Rattle.omf_frame.specs.declared.frame.Frame as lent
 use Rattle.omf_frame.specs.declared.reading.FrameFault.{FrameFault}
 use Rattle.omf_frame.specs.declared.reading.FrameFault.TheVariants as frame
+use Rattle.omf_frame.specs.declared.reading.FramingFault.{FramingFault}
 use Rattle.omf_frame.specs.declared.reading.FramingFault.TheVariants as framing
 use Rattle.omf_record.specs.Record.{Record}
 use Rattle.omf_record.specs.Body.{kind_of}
-use Rattle.omf_record.specs.Records.{Placed, Framing, NoEnd, OtherType, WrongBody}
+use Rattle.omf_record.specs.Records.{Placed, NoRecordAt}
+use Rattle.omf_record.specs.declared.fault.NoRecord.{NoRecord}
+use Rattle.omf_record.specs.declared.fault.NoRecord.TheVariants as absent
 use Rattle.omf_record.proofs.Records.{framed_len}
 use Rattle.omf_module.specs.declared.fault.FaultKind.{FaultKind}
 use Rattle.omf_module.specs.declared.fault.FaultKind.TheVariants as kind
@@ -25,7 +28,7 @@ use Rattle.omf_module.specs.declared.fault.ModuleFault.TheVariants as fault
 use Rattle.omf_module.specs.Module.{Module}
 use Rattle.omf_module.specs.inside.Running.{State, state_of, step, module_in}
 use Rattle.omf_module.specs.inside.Behind.{StopsAt}
-use Rattle.omf_module.specs.Reading.{Reads}
+use Rattle.omf_module.specs.Reading.{Reads, TakesFaulty}
 use Rattle.omf_module.specs.inside.Behind.{Took}
 use Rattle.omf_module.specs.inside.Reading.{TakesRecord, IsRecordFault}
 use Rattle.omf_module.specs.inside.ModuleFaults.{read_fault}
@@ -45,12 +48,22 @@ pub no_memory : (a : Option (List ℕ)) → reads a a (Err fault.Memory)
 unfolding Reads
 no_memory a = ([], [], a, (begun a).beginning, (begun a).taken, inl (Keeps-refl a))
 
+-- what is taken where there is no frame
+faulty_taken : (b c : Option (List ℕ)) (place : ℕ) (why : FramingFault)
+    → framing_of.TakesRecord {A = Option lent.Frame} b c (Err (frame.Framing place why))
+    → TakesFaulty b c (kind.Absent (absent.Framing why))
+faulty_taken b c place framing.ZeroLength stands = stands
+faulty_taken b c place framing.Truncated stands = stands
+faulty_taken b c place framing.Closing stands = stands
+faulty_taken b c place framing.InputTooLong stands = stands
+
 -- behind a sound beginning
 module _ (rs : List Placed) (front : List ℕ) (a b c : Option (List ℕ)) (t : Took rs front a b) where
-  pub no_end : (place : ℕ) → place ≡ length front → IfSome b (λ bytes. frame_at place bytes ≡ Ok None) → TakesWhole b c
-      → reads a c (Err (fault.Record place kind.NoEnd))
+  -- no record begins
+  none_begins : (place : ℕ) (why : NoRecord) → place ≡ length front → TakesFaulty b c (kind.Absent why)
+      → IfSome b (λ rest. NoRecordAt place rest why) → reads a c (Err (fault.Record place (kind.Absent why)))
   unfolding Reads
-  no_end place at none stands = (
+  none_begins place why at stands none = (
     rs,
     front,
     b,
@@ -58,9 +71,13 @@ module _ (rs : List Placed) (front : List ℕ) (a b c : Option (List ℕ)) (t : 
     t.taken,
     at,
     stands,
-    stops rs front a b place kind.NoEnd t at
-        (IfSome_then b {Q = (λ rest. StopsAt place rest kind.NoEnd)} none (λ x e. (NoEnd, e, refl))),
+    stops rs front a b place (kind.Absent why) t at
+        (IfSome_then b {Q = (λ rest. StopsAt place rest (kind.Absent why))} none (λ x e. (why, e, refl))),
   )
+
+  pub no_end : (place : ℕ) → place ≡ length front → IfSome b (λ bytes. frame_at place bytes ≡ Ok None) → TakesWhole b c
+      → reads a c (Err (fault.Record place (kind.Absent absent.NoEnd)))
+  no_end place at none stands = none_begins place absent.NoEnd at stands none
 
   pub frame_stopped : (place : ℕ) (e : FrameFault) → place ≡ length front → IsAt {A = Option lent.Frame} place (Err e)
       → IfSome b (λ bytes. Gives plain_frame (Err e) (frame_at place bytes))
@@ -69,58 +86,10 @@ module _ (rs : List Placed) (front : List ℕ) (a b c : Option (List ℕ)) (t : 
   unfolding Reads
   frame_stopped place (frame.Device p) at h exact stands =
       (rs, front, b, t.beginning, t.taken, h.0 ∙ at, stands, always a)
-  frame_stopped place (frame.Framing p framing.ZeroLength) at h exact stands = (
-    rs,
-    front,
-    b,
-    t.beginning,
-    t.taken,
-    h.0
-        ∙ at,
-    stands,
-    stops rs front a b p kind.ZeroLength t (h.0 ∙ at)
-        (IfSome_then b {Q = (λ rest. StopsAt p rest kind.ZeroLength)} exact
-        (λ x e. (Framing framing.ZeroLength, ap (λ n. frame_at n x) h.0 ∙ e, refl))),
-  )
-  frame_stopped place (frame.Framing p framing.Truncated) at h exact stands = (
-    rs,
-    front,
-    b,
-    t.beginning,
-    t.taken,
-    h.0
-        ∙ at,
-    stands,
-    stops rs front a b p kind.Truncated t (h.0 ∙ at)
-        (IfSome_then b {Q = (λ rest. StopsAt p rest kind.Truncated)} exact
-        (λ x e. (Framing framing.Truncated, ap (λ n. frame_at n x) h.0 ∙ e, refl))),
-  )
-  frame_stopped place (frame.Framing p framing.Closing) at h exact stands = (
-    rs,
-    front,
-    b,
-    t.beginning,
-    t.taken,
-    h.0
-        ∙ at,
-    stands,
-    stops rs front a b p kind.Closing t (h.0 ∙ at)
-        (IfSome_then b {Q = (λ rest. StopsAt p rest kind.Closing)} exact
-        (λ x e. (Framing framing.Closing, ap (λ n. frame_at n x) h.0 ∙ e, refl))),
-  )
-  frame_stopped place (frame.Framing p framing.InputTooLong) at h exact stands = (
-    rs,
-    front,
-    b,
-    t.beginning,
-    t.taken,
-    h.0
-        ∙ at,
-    stands,
-    stops rs front a b p kind.InputTooLong t (h.0 ∙ at)
-        (IfSome_then b {Q = (λ rest. StopsAt p rest kind.InputTooLong)} exact
-        (λ x e. (Framing framing.InputTooLong, ap (λ n. frame_at n x) h.0 ∙ e, refl))),
-  )
+  frame_stopped place (frame.Framing p why) at h exact stands =
+      none_begins p (absent.Framing why) (h.0 ∙ at) (faulty_taken b c p why stands)
+      (IfSome_then b {Q = (λ rest. NoRecordAt p rest (absent.Framing why))} exact
+      (λ x e. ap (λ n. frame_at n x) h.0 ∙ e))
   frame_stopped place frame.Memory at h exact stands = absurd h
   frame_stopped place frame.Failed at h exact stands = absurd h
 
@@ -140,29 +109,12 @@ module _ (rs : List Placed) (front : List ℕ) (a b c : Option (List ℕ)) (t : 
 
     kind_refuses : (k : FaultKind) → IsRecordFault f.kind f.body f.place s k → reads a c (Err (fault.Record f.place k))
     unfolding Reads
-    kind_refuses kind.Type h = (
-      rs,
-      front,
-      b,
-      t.beginning,
-      t.taken,
-      at,
-      stands,
-      stops rs front a b f.place kind.Type t at
-          (IfSome_then b {Q = (λ rest. StopsAt f.place rest kind.Type)} exact (λ x e. (OtherType, (f, e, h), refl))),
-    )
-    kind_refuses (kind.Body i) h = (
-      rs,
-      front,
-      b,
-      t.beginning,
-      t.taken,
-      at,
-      stands,
-      stops rs front a b f.place (kind.Body i) t at
-          (IfSome_then b {Q = (λ rest. StopsAt f.place rest (kind.Body i))} exact
-          (λ x e. (WrongBody i, (f, e, h.0, h.1), refl))),
-    )
+    kind_refuses (kind.Absent absent.Type) h =
+        none_begins f.place absent.Type at stands
+        (IfSome_then b {Q = (λ rest. NoRecordAt f.place rest absent.Type)} exact (λ x e. (f, e, h)))
+    kind_refuses (kind.Absent (absent.Body i)) h =
+        none_begins f.place (absent.Body i) at stands
+        (IfSome_then b {Q = (λ rest. NoRecordAt f.place rest (absent.Body i))} exact (λ x e. (f, e, h.0, h.1)))
     kind_refuses (kind.Check g) h =
         let r = here h.0 in
         let first = err_of rs r t.beginning.sound g (stepped h.0 (Err g) h.2) in (
@@ -177,11 +129,8 @@ module _ (rs : List Placed) (front : List ℕ) (a b c : Option (List ℕ)) (t : 
               h.1.1 taken g first,
         )
     kind_refuses kind.Device h = absurd h
-    kind_refuses kind.ZeroLength h = absurd h
-    kind_refuses kind.Truncated h = absurd h
-    kind_refuses kind.Closing h = absurd h
-    kind_refuses kind.NoEnd h = absurd h
-    kind_refuses kind.InputTooLong h = absurd h
+    kind_refuses (kind.Absent absent.NoEnd) h = absurd h
+    kind_refuses (kind.Absent (absent.Framing why)) h = absurd h
 
     no_more : reads a c (Err fault.Memory)
     unfolding Reads

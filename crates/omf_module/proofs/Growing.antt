@@ -14,17 +14,15 @@ use Rattle.omf_module.specs.Before.{first, last}
 use Rattle.omf_module.specs.Tables.{names, segments, groups, externals, publics, stretches, subrecords, fixups, start}
 use Rattle.omf_module.specs.Tables.{Stretch, frame_thread, target_thread, names_in, segments_in, groups_in}
 use Rattle.omf_module.specs.Tables.{externals_in, publics_in, subrecords_in, stretches_in, frame_set, target_set}
-use Rattle.omf_module.specs.Tables.{data_record, fixups_in, start_in, frame_used, target_used}
+use Rattle.omf_module.specs.Tables.{data_record, fixups_in, start_in, used}
 use Rattle.omf_module.specs.Faults.{begun, items}
 use Rattle.omf_module.specs.inside.Running.{State, state_of, checked, step_record, thread_numbers, slot, later}
 use Rattle.omf_module.proofs.FixupsOn.{new_data}
 use Rattle.omf_record.specs.declared.fixups.ThreadNumber.TheVariants.{Zero, One, Two, Three}
 use Rattle.omf_record.specs.declared.fixups.FrameMethod.{FrameMethod}
 use Rattle.omf_record.specs.declared.fixups.TargetMethod.{TargetMethod}
-use Rattle.omf_record.specs.declared.fixups.FrameDatum.{FrameDatum}
-use Rattle.omf_record.specs.declared.fixups.FrameDatum.TheVariants as frame_datum
-use Rattle.omf_record.specs.declared.fixups.TargetDatum.{TargetDatum}
-use Rattle.omf_record.specs.declared.fixups.TargetDatum.TheVariants as target_datum
+use Rattle.omf_record.specs.declared.fixups.Datum.{Datum}
+use Rattle.omf_record.specs.declared.fixups.Datum.TheVariants as datum
 use Rattle.std.proofs.lemmas.List.Elements.{filter_map-append}
 use Rattle.omf_module.proofs.Lists.{flat_map_push, along_push, last_append}
 
@@ -120,21 +118,13 @@ unfolding step_record
 repeated_steps segment offset blocks place body rs = rw (state_push, first_single) (simp (append-nil, new_data))
 
 -- what the four slots hold
-pub frame_slots : (threads : ℕ → Option FrameMethod) (d : FrameDatum)
-    → frame_used (slot (map threads thread_numbers)) d ≡ frame_used threads d
-frame_slots threads (frame_datum.Thread Zero) = refl
-frame_slots threads (frame_datum.Thread One) = refl
-frame_slots threads (frame_datum.Thread Two) = refl
-frame_slots threads (frame_datum.Thread Three) = refl
-frame_slots threads (frame_datum.By method) = refl
-
-pub target_slots : (threads : ℕ → Option TargetMethod) (d : TargetDatum)
-    → target_used (slot (map threads thread_numbers)) d ≡ target_used threads d
-target_slots threads (target_datum.Thread Zero) = refl
-target_slots threads (target_datum.Thread One) = refl
-target_slots threads (target_datum.Thread Two) = refl
-target_slots threads (target_datum.Thread Three) = refl
-target_slots threads (target_datum.By method) = refl
+pub used_slots : {M : Type 0} (threads : ℕ → Option M) (d : Datum M)
+    → used (slot (map threads thread_numbers)) d ≡ used threads d
+used_slots threads (datum.Thread Zero) = refl
+used_slots threads (datum.Thread One) = refl
+used_slots threads (datum.Thread Two) = refl
+used_slots threads (datum.Thread Three) = refl
+used_slots threads (datum.By method) = refl
 
 pub start_steps : (main : Bool) (r : Reference) → Steps (Modend main (Some r))
 unfolding step_record
@@ -142,7 +132,7 @@ start_steps main r place body rs =
     rw (
       state_push,
       first_single,
-      frame_slots (frame_thread (subrecords rs)) r.frame,
-      target_slots
+      used_slots (frame_thread (subrecords rs)) r.frame,
+      used_slots
           (target_thread (subrecords rs)) r.target,
     ) (simp (append-nil, last_option))

@@ -21,20 +21,10 @@ only_told rs bytes rest (Some left) (Ok m) h k =
     (k.4 ∙ ap module_of (sym same.0), ap (λ (l : List ℕ). let o : Option (List ℕ) = Some l in o) (sym same.2))
 only_told rs bytes rest new (Err fault.Memory) h k = tt
 only_told rs bytes rest new (Err (fault.Record place kind.Device)) h k = tt
-only_told rs bytes rest new (Err (fault.Record place kind.ZeroLength)) h k =
-    no_fault rs bytes rest place kind.ZeroLength h k.7
-only_told rs bytes rest new (Err (fault.Record place kind.Truncated)) h k =
-    no_fault rs bytes rest place kind.Truncated h k.7
-only_told rs bytes rest new (Err (fault.Record place kind.Closing)) h k =
-    no_fault rs bytes rest place kind.Closing h k.7
-only_told rs bytes rest new (Err (fault.Record place kind.Type)) h k = no_fault rs bytes rest place kind.Type h k.7
-only_told rs bytes rest new (Err (fault.Record place (kind.Body at))) h k =
-    no_fault rs bytes rest place (kind.Body at) h k.7
+only_told rs bytes rest new (Err (fault.Record place (kind.Absent why))) h k =
+    no_fault rs bytes rest place (kind.Absent why) h k.7
 only_told rs bytes rest new (Err (fault.Record place (kind.Check f))) h k =
     no_fault rs bytes rest place (kind.Check f) h k.7
-only_told rs bytes rest new (Err (fault.Record place kind.NoEnd)) h k = no_fault rs bytes rest place kind.NoEnd h k.7
-only_told rs bytes rest new (Err (fault.Record place kind.InputTooLong)) h k =
-    no_fault rs bytes rest place kind.InputTooLong h k.7
 
 pub only_module : (rs : List Placed) (bytes rest : List ℕ) (old new : Option (List ℕ)) (r : Result Module ModuleFault)
     → ModuleBytes rs bytes → old ≡ Some (bytes ++ rest) → Reads (λ m. m) old new r
@@ -49,16 +39,9 @@ fault_told bytes place g (Some left) (Ok m) h k =
     no_fault k.0 k.1 left place g k.2 (subst (λ (l : List ℕ). ReadingFault l place g) k.3 h)
 fault_told bytes place g new (Err fault.Memory) h k = tt
 fault_told bytes place g new (Err (fault.Record p kind.Device)) h k = tt
-fault_told bytes place g new (Err (fault.Record p kind.ZeroLength)) h k =
-    one_fault bytes p place kind.ZeroLength g k.7 h
-fault_told bytes place g new (Err (fault.Record p kind.Truncated)) h k = one_fault bytes p place kind.Truncated g k.7 h
-fault_told bytes place g new (Err (fault.Record p kind.Closing)) h k = one_fault bytes p place kind.Closing g k.7 h
-fault_told bytes place g new (Err (fault.Record p kind.Type)) h k = one_fault bytes p place kind.Type g k.7 h
-fault_told bytes place g new (Err (fault.Record p (kind.Body at))) h k = one_fault bytes p place (kind.Body at) g k.7 h
+fault_told bytes place g new (Err (fault.Record p (kind.Absent why))) h k =
+    one_fault bytes p place (kind.Absent why) g k.7 h
 fault_told bytes place g new (Err (fault.Record p (kind.Check f))) h k = one_fault bytes p place (kind.Check f) g k.7 h
-fault_told bytes place g new (Err (fault.Record p kind.NoEnd)) h k = one_fault bytes p place kind.NoEnd g k.7 h
-fault_told bytes place g new (Err (fault.Record p kind.InputTooLong)) h k =
-    one_fault bytes p place kind.InputTooLong g k.7 h
 
 pub only_fault : (bytes : List ℕ) (place : ℕ) (g : FaultKind) (old new : Option (List ℕ))
     (r : Result Module ModuleFault) → ReadingFault bytes place g → old ≡ Some bytes → Reads (λ m. m) old new r

@@ -35,26 +35,21 @@ use Rattle.omf_module.specs.declared.fault.CheckFault.{CheckFault}
 use Rattle.omf_module.specs.declared.fault.CheckFault.TheVariants.{NameIndex, SegmentIndex, GroupIndex, ExternalIndex}
 use Rattle.omf_module.specs.declared.fault.CheckFault.TheVariants.{FixupPlace, DataOutside, DataInAbsolute}
 use Rattle.omf_module.specs.declared.fault.CheckFault.TheVariants.{SelfRelativeBase, GroupOfAbsolute}
-use Rattle.omf_module.specs.declared.SymbolBase.{SymbolBase}
-use Rattle.omf_module.specs.declared.SymbolBase.TheVariants.{AtFrame, InSegment}
-use Rattle.omf_module.specs.declared.FixupFrame.{FixupFrame}
-use Rattle.omf_module.specs.declared.FixupFrame.TheVariants as frames
-use Rattle.omf_module.specs.declared.FixupTarget.{FixupTarget}
-use Rattle.omf_module.specs.declared.FixupTarget.TheVariants as targets
 use Rattle.omf_module.specs.declared.ResolvedFixup.{ResolvedFixup}
 use Rattle.omf_module.specs.declared.Start.{Start}
 use Rattle.omf_module.specs.Module.{Segment, Group, ExternalSymbol, PublicSymbol, DataRecord, Module}
 use Rattle.omf_module.specs.Before.{first, entry}
-use Rattle.omf_module.specs.Tables.{frame_used, target_used, name_at, standing_of, base_of, frame_of, target_of}
+use Rattle.omf_module.specs.Tables.{used, name_at, standing_of}
 use Rattle.omf_module.specs.Tables.{fixup_of, start_of}
 use Rattle.omf_module.specs.inside.Entries.{segment_of, group_of, public_of, external_of}
-use Rattle.omf_module.specs.Faults.{number, header_fault, segment_fault, when, ◌⊓◌, is_beyond, misses, Tables}
+use Rattle.omf_module.specs.Faults.{check_label, header_fault, segment_fault, when, ◌⊓◌, is_beyond, misses}
+use Rattle.omf_module.specs.Faults.{Tables}
 use Rattle.omf_module.specs.Faults.{is_absolute, component_fault, data_fault, public_fault, frame_fault, target_fault}
 use Rattle.omf_module.specs.Faults.{holds_base, place_fault, relative_fault, fixup_fault, location_fault, start_fault}
 use Rattle.omf_module.specs.inside.Contents.{lies_in}
 use Rattle.omf_module.specs.inside.Running.{State, state_of, checked, slot, group_fault, add_to_last, add_data}
 use Rattle.omf_module.specs.inside.Running.{module_in, later, step, step_record, step_subrecord, step_subrecords, ◌>>=◌}
-use Rattle.omf_module.specs.Sound.{IsShort, FrameMeans, TargetMeans, BaseMeans, IsPart, IsMember, FixupFits, StartFits}
+use Rattle.omf_module.specs.Sound.{IsShort, IsIndexOf, FrameMeans, TargetMeans, BaseMeans, IsPart, IsMember, FixupFits, StartFits}
 use Rattle.omf_module.specs.Sound.{SegmentFits, IsStanding}
 use Rattle.omf_record.proofs.Expanded.{length-stored}
 use Rattle.omf_record.proofs.Places.{all-append}
@@ -70,8 +65,8 @@ all_weaker P Q (x ∷ xs) f h = (f x h.0, all_weaker P Q xs f h.1)
 
 -- ---- longer lists
 
-less_more : {X : Type 0} (xs ys : List X) (i : ℕ) → i < length xs → i < length (xs ++ ys)
-less_more xs ys i lt = omega (arith, length-append xs ys)
+index_more : {X : Type 0} (xs ys : List X) (i : ℕ) → IsIndexOf xs i → IsIndexOf (xs ++ ys) i
+index_more xs ys i h = (h.0, omega (arith, h.1, length-append xs ys))
 
 get_more : {X : Type 0} (xs ys : List X) (i : ℕ) (x : X) → slice_get xs i ≡ Some x → slice_get (xs ++ ys) i ≡ Some x
 get_more [] ys i x e = cc
@@ -79,22 +74,19 @@ get_more (z ∷ xs) ys zero x e = e
 get_more (z ∷ xs) ys (suc i) x e = get_more xs ys i x e
 
 module _ (ss ss' : List Segment) (gs gs' : List Group) (es es' : List ExternalSymbol) where
-  frame_more : (f : FixupFrame) → FrameMeans ss gs es f → FrameMeans (ss ++ ss') (gs ++ gs') (es ++ es') f
-  frame_more (frames.OfSegment i) h = less_more ss ss' i h
-  frame_more (frames.OfGroup i) h = less_more gs gs' i h
-  frame_more (frames.OfExternal i) h = less_more es es' i h
-  frame_more frames.OfLocation h = tt
-  frame_more frames.OfTarget h = tt
+  target_more : (f : TargetMethod) → TargetMeans ss gs es f → TargetMeans (ss ++ ss') (gs ++ gs') (es ++ es') f
+  target_more (to.Segment i) h = index_more ss ss' i h
+  target_more (to.Group i) h = index_more gs gs' i h
+  target_more (to.External i) h = index_more es es' i h
 
-  target_more : (f : FixupTarget) → TargetMeans ss gs es f → TargetMeans (ss ++ ss') (gs ++ gs') (es ++ es') f
-  target_more (targets.Segment i) h = less_more ss ss' i h
-  target_more (targets.Group i) h = less_more gs gs' i h
-  target_more (targets.External i) h = less_more es es' i h
+  frame_more : (f : FrameMethod) → FrameMeans ss gs es f → FrameMeans (ss ++ ss') (gs ++ gs') (es ++ es') f
+  frame_more (by.By method) h = target_more method h
+  frame_more by.Location h = tt
+  frame_more by.Target h = tt
 
-  base_more : (b : SymbolBase) → BaseMeans ss gs es b → BaseMeans (ss ++ ss') (gs ++ gs') (es ++ es') b
-  base_more (AtFrame f) h = h
-  base_more (InSegment i None) h = less_more ss ss' i h
-  base_more (InSegment i (Some g)) h = (less_more ss ss' i h.0, less_more gs gs' g h.1)
+  base_more : (b : PublicBase) → BaseMeans ss gs es b → BaseMeans (ss ++ ss') (gs ++ gs') (es ++ es') b
+  base_more (public_base.AtFrame g f) h = h
+  base_more (public_base.InSegment g i) h = (index_more ss ss' i h.0, omega (arith, h.1, length-append gs gs'))
 
   part_more : (i : ℕ) (s : Segment) → IsPart ss gs es i s → IsPart (ss ++ ss') (gs ++ gs') (es ++ es') i s
   part_more i s h = (get_more ss ss' i s h.0, h.1)
@@ -174,12 +166,12 @@ one_of_two f g false e = cc
 none_both : (a b : Option CheckFault) → a ⊓ b ≡ None → (a ≡ None) × (b ≡ None)
 none_both None b e = (refl, e)
 none_both (Some f) None e = cc
-none_both (Some f) (Some g) e = absurd (one_of_two f g (nat_le (number f) (number g)) e)
+none_both (Some f) (Some g) e = absurd (one_of_two f g (nat_le (check_label f).0 (check_label g).0) e)
 
--- an index that means something, counted from 0
-means : {X : Type 0} (xs : List X) (i : ℕ) → misses xs i ≡ false → i - 1 < length xs
-means xs zero e = cc
-means xs (suc i) e = grind (arith, nat_tests)
+-- an index that means something
+is_index : {X : Type 0} (xs : List X) (i : ℕ) → misses xs i ≡ false → IsIndexOf xs i
+is_index xs zero e = cc
+is_index xs (suc i) e = grind (arith, nat_tests)
 
 not_less : (a b : ℕ) → nat_lt a b ≡ false → b ≤ a
 not_less a b e = grind (arith, nat_tests)
@@ -350,16 +342,13 @@ group_keeps s name is e h =
 -- ---- PUBDEF
 
 base_fits : (t : Tables) (b : PublicBase) (text : List ℕ) → BaseText b text → public_fault t b ≡ None
-    → BaseMeans t.segments t.groups t.externals (base_of b)
+    → BaseMeans t.segments t.groups t.externals b
 base_fits t (public_base.AtFrame group frame) text b e = b.second.second.0
-base_fits t (public_base.InSegment zero segment) text b e =
-    let p = none_both (when (misses t.segments segment) SegmentIndex) (when (is_beyond t.groups 0) GroupIndex) e in
-    means t.segments segment (when_none (misses t.segments segment) SegmentIndex p.0)
-base_fits t (public_base.InSegment (suc group) segment) text b e =
-    let p =
-    none_both (when (misses t.segments segment) SegmentIndex) (when (is_beyond t.groups (suc group)) GroupIndex) e in
-    let g = not_past t.groups (suc group) (when_none (is_beyond t.groups (suc group)) GroupIndex p.1) in
-    (means t.segments segment (when_none (misses t.segments segment) SegmentIndex p.0), omega (arith, g))
+base_fits t (public_base.InSegment group segment) text b e =
+    let p = none_both (when (misses t.segments segment) SegmentIndex) (when (is_beyond t.groups group) GroupIndex) e in (
+      is_index t.segments segment (when_none (misses t.segments segment) SegmentIndex p.0),
+      not_past t.groups group (when_none (is_beyond t.groups group) GroupIndex p.1),
+    )
 
 abbrev with_publics : State → List PublicSymbol → State
 with_publics s ps = record s { publics = s.publics ++ ps }
@@ -447,19 +436,17 @@ data_keeps s place i offset n pairs cs len copies e stand h =
 
 -- ---- FIXUPP
 
+target_means : (t : Tables) (m : TargetMethod) → target_fault t (Some m) ≡ None
+    → TargetMeans t.segments t.groups t.externals m
+target_means t (to.Segment i) e = is_index t.segments i (when_none (misses t.segments i) SegmentIndex e)
+target_means t (to.Group i) e = is_index t.groups i (when_none (misses t.groups i) GroupIndex e)
+target_means t (to.External i) e = is_index t.externals i (when_none (misses t.externals i) ExternalIndex e)
+
 frame_means : (t : Tables) (m : FrameMethod) → frame_fault t (Some m) ≡ None
-    → FrameMeans t.segments t.groups t.externals (frame_of m)
-frame_means t (by.Segment i) e = means t.segments i (when_none (misses t.segments i) SegmentIndex e)
-frame_means t (by.Group i) e = means t.groups i (when_none (misses t.groups i) GroupIndex e)
-frame_means t (by.External i) e = means t.externals i (when_none (misses t.externals i) ExternalIndex e)
+    → FrameMeans t.segments t.groups t.externals m
+frame_means t (by.By method) e = target_means t method e
 frame_means t by.Location e = tt
 frame_means t by.Target e = tt
-
-target_means : (t : Tables) (m : TargetMethod) → target_fault t (Some m) ≡ None
-    → TargetMeans t.segments t.groups t.externals (target_of m)
-target_means t (to.Segment i) e = means t.segments i (when_none (misses t.segments i) SegmentIndex e)
-target_means t (to.Group i) e = means t.groups i (when_none (misses t.groups i) GroupIndex e)
-target_means t (to.External i) e = means t.externals i (when_none (misses t.externals i) ExternalIndex e)
 
 not_false : (b : Bool) → not b ≡ false → b ≡ true
 not_false true e = refl
@@ -575,8 +562,8 @@ subrecord_keeps place s t (sub.SetFrame n m) e h =
 subrecord_keeps place s t (sub.SetTarget n m) e h =
     subst Promises (ok_is _ t e) (record { names = h.names; sound = h.sound; last = h.last })
 subrecord_keeps place s t (sub.Fixup x) e h =
-    let f = frame_used (slot s.frame_threads) x.reference.frame in
-    let g = target_used (slot s.target_threads) x.reference.target in
+    let f = used (slot s.frame_threads) x.reference.frame in
+    let g = used (slot s.target_threads) x.reference.target in
     let p =
     by_fault (fixup_fault s.tables f g s.contents x) (with_fixups s (option_to_list (fixup_of place x f g))) t e in
     subst Promises p.1
@@ -597,10 +584,8 @@ subrecords_keep place s t (x ∷ xs) e h =
 
 -- ---- MODEND
 
-no_location : (m : FrameMethod) → location_fault (Some m) ≡ None → frame_of m ≡ frames.OfLocation → ⊥
-no_location (by.Segment i) e k = cc
-no_location (by.Group i) e k = cc
-no_location (by.External i) e k = cc
+no_location : (m : FrameMethod) → location_fault (Some m) ≡ None → m ≡ by.Location → ⊥
+no_location (by.By method) e k = cc
 no_location by.Location e k = cc
 no_location by.Target e k = cc
 
@@ -676,8 +661,8 @@ record_keeps place s t (Lidata segment offset blocks) body b e h =
 record_keeps place s t (Fixupp subs) body b e h = subrecords_keep place s t subs e h
 record_keeps place s t (Modend main None) body b e h = subst Promises (ok_is s t e) h
 record_keeps place s t (Modend main (Some r)) body b e h =
-    let f = frame_used (slot s.frame_threads) r.frame in
-    let g = target_used (slot s.target_threads) r.target in
+    let f = used (slot s.frame_threads) r.frame in
+    let g = used (slot s.target_threads) r.target in
     let p = by_fault (start_fault s.tables f g) _ t e in
     subst Promises p.1 (start_keeps s place r f g p.0 h)
 

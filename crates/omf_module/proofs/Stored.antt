@@ -15,7 +15,7 @@ use Rattle.omf_module.specs.declared.entries.GroupEntry.{GroupEntry}
 use Rattle.omf_module.specs.declared.entries.ExternalEntry.{ExternalEntry}
 use Rattle.omf_module.specs.declared.entries.PublicEntry.{PublicEntry}
 use Rattle.omf_module.specs.declared.entries.DataEntry.{DataEntry}
-use Rattle.omf_module.specs.declared.SymbolBase.{SymbolBase}
+use Rattle.omf_record.specs.declared.externals.PublicBase.{PublicBase}
 use Rattle.omf_module.specs.Module.{Segment, Group, DataRecord}
 use Rattle.omf_module.specs.inside.Store.{Kept, elements, segment, group, external, public_symbol, places_piece}
 use Rattle.omf_module.specs.inside.Store.{data_record, IsIn, SegmentIsIn, GroupIsIn, ExternalIsIn, PublicIsIn, DataIsIn}
@@ -323,11 +323,11 @@ module _ {A : Type 0} (bytes places : List ℕ) (e : Entries A) (h : AreIn bytes
     data_records = e.data_records;
   }
 
-  abbrev public_entry : List ℕ → SymbolBase → ℕ → Bool → PublicEntry
+  abbrev public_entry : List ℕ → PublicBase → ℕ → Bool → PublicEntry
   public_entry name base offset local =
       record { name = last_of bytes name; base = base; offset = offset; local = local }
 
-  pub public_kept : (name : List ℕ) (base : SymbolBase) (offset : ℕ) (local : Bool)
+  pub public_kept : (name : List ℕ) (base : PublicBase) (offset : ℕ) (local : Bool)
       → kept (bytes ++ name) places (published (public_entry name base offset local))
       ≡ record (kept bytes places e) {
         publics =
@@ -348,7 +348,7 @@ module _ {A : Type 0} (bytes places : List ℕ) (e : Entries A) (h : AreIn bytes
         publics = k.publics ++ record { name = name; base = base; offset = offset; local = local } ∷ [];
       }) s.0
 
-  pub public_in : (name : List ℕ) (base : SymbolBase) (offset : ℕ) (local : Bool)
+  pub public_in : (name : List ℕ) (base : PublicBase) (offset : ℕ) (local : Bool)
       → AreIn (bytes ++ name) places (published (public_entry name base offset local))
   public_in name base offset local =
       let s = (bytes_stay bytes name places e h).1 in

@@ -24,7 +24,7 @@ use Rattle.omf_module.specs.inside.Running.{thread_numbers, add_to_last, ◌>>=�
 use Rattle.std.proofs.lemmas.List.Elements.{filter_map-append}
 use Rattle.omf_module.proofs.Lists.{along_push, last_append}
 use Rattle.omf_module.proofs.FixupsOn.{new_fixups}
-use Rattle.omf_module.proofs.Growing.{Steps, state_push, frame_slots, target_slots}
+use Rattle.omf_module.proofs.Growing.{Steps, state_push, used_slots}
 
 -- what is kept after these subrecords of a record that stands behind `rs`
 abbrev Inside : ℕ → List Placed → List Subrecord → State
@@ -91,8 +91,8 @@ one place rs done (sub.SetTarget t method) =
     (simp (append_assoc, along_push, append-nil, filter_map-append, last_append))
 one place rs done (sub.Fixup c) =
     rw (
-      frame_slots (frame_thread (subrecords rs ++ done)) c.reference.frame,
-      target_slots
+      used_slots (frame_thread (subrecords rs ++ done)) c.reference.frame,
+      used_slots
           (target_thread (subrecords rs ++ done)) c.reference.target,
       ← data_more place rs done (sub.Fixup c),
     )

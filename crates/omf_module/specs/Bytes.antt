@@ -1,27 +1,11 @@
 -- Whole modules in bytes, and the fault of reading bytes as a module.
 use Rattle.std.specs.Prelude.{◌≡◌, ℕ, List, [], ◌∷◌, ◌++◌, length, None, Some, ◌⊎◌}
-use Rattle.omf_frame.specs.declared.reading.FramingFault.{FramingFault}
-use Rattle.omf_frame.specs.declared.reading.FramingFault.TheVariants as framing
-use Rattle.omf_record.specs.Records.{Placed, AreRecords, AreBeforeEnd, AreToEnd, NoRecord, Framing, NoEnd, OtherType}
-use Rattle.omf_record.specs.Records.{WrongBody, NoRecordAt}
+use Rattle.omf_record.specs.Records.{Placed, AreRecords, AreBeforeEnd, AreToEnd, NoRecordAt}
+use Rattle.omf_record.specs.declared.fault.NoRecord.{NoRecord}
 use Rattle.omf_module.specs.declared.fault.CheckFault.{CheckFault}
 use Rattle.omf_module.specs.declared.fault.FaultKind.{FaultKind}
 use Rattle.omf_module.specs.declared.fault.FaultKind.TheVariants as kind
 use Rattle.omf_module.specs.Faults.{fault, first_fault}
-
--- a fault of the framing as one of the reading
-abbrev pub framing_kind : FramingFault → FaultKind
-framing_kind framing.ZeroLength = kind.ZeroLength
-framing_kind framing.Truncated = kind.Truncated
-framing_kind framing.Closing = kind.Closing
-framing_kind framing.InputTooLong = kind.InputTooLong
-
--- why no record begins, as a fault of the reading
-abbrev pub reading_kind : NoRecord → FaultKind
-reading_kind (Framing why) = framing_kind why
-reading_kind NoEnd = kind.NoEnd
-reading_kind OtherType = kind.Type
-reading_kind (WrongBody at) = kind.Body at
 
 -- the bytes are a whole module that no check refuses
 pub record ModuleBytes (rs : List Placed) (bytes : List ℕ) : Type 0 where
@@ -48,4 +32,4 @@ abbrev pub ReadingFault : List ℕ → (place : ℕ) → FaultKind → Type 0
 ReadingFault bytes place found =
     (rs : List Placed) × (front : List ℕ) × (rest : List ℕ) × (bytes ≡ front ++ rest) × Beginning rs front
     × (place ≡ length front) × (RefusedAt rs place rest found
-    ⊎ ((why : NoRecord) × NoRecordAt place rest why × (found ≡ reading_kind why)))
+    ⊎ ((why : NoRecord) × NoRecordAt place rest why × (found ≡ kind.Absent why)))

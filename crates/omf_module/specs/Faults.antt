@@ -1,6 +1,6 @@
 -- What the checks of a module refuse, on the tables as they stand before a record.
 use Rattle.std.specs.Prelude.{ℕ, ◌+◌, ◌==◌, Bool, true, false, not, ◌||◌, ◌&&◌, if◌then◌else◌, nat_le, nat_lt, List, []}
-use Rattle.std.specs.Prelude.{◌∷◌, ◌++◌, length, map, Option, None, Some, option_map}
+use Rattle.std.specs.Prelude.{◌∷◌, ◌++◌, length, map, codes, Option, None, Some, option_map}
 use Rattle.std.specs.List.{list_any}
 use Rattle.omf_record.specs.Record.{Record, Theadr, Modend, Pubdef, Segdef, Grpdef}
 use Rattle.omf_record.specs.Record.{Fixupp, Ledata, Lidata}
@@ -29,23 +29,23 @@ use Rattle.omf_module.specs.declared.Standing.TheVariants.{Absolute, Relocatable
 use Rattle.omf_module.specs.Module.{Segment, Group, ExternalSymbol}
 use Rattle.omf_module.specs.Before.{along, first, last, entry}
 use Rattle.omf_module.specs.Tables.{names, segments, groups, externals, Stretch, stretches, subrecords, frame_thread}
-use Rattle.omf_module.specs.Tables.{target_thread, frame_used, target_used}
+use Rattle.omf_module.specs.Tables.{target_thread, used}
 
--- the number under which a fault is reported
-abbrev pub number : CheckFault → ℕ
-number NotHeader = 7
-number NameIndex = 10
-number SegmentIndex = 11
-number GroupIndex = 12
-number ExternalIndex = 13
-number ThreadNotSet = 14
-number FixupBeforeData = 15
-number FixupPlace = 16
-number DataOutside = 17
-number DataInAbsolute = 18
-number SelfRelativeBase = 19
-number FrameOfLocation = 20
-number GroupOfAbsolute = 21
+-- the number and the name with which a fault is printed
+abbrev pub check_label : CheckFault → ℕ × List ℕ
+check_label NotHeader = (7, codes "NotHeader")
+check_label NameIndex = (10, codes "NameIndex")
+check_label SegmentIndex = (11, codes "SegmentIndex")
+check_label GroupIndex = (12, codes "GroupIndex")
+check_label ExternalIndex = (13, codes "ExternalIndex")
+check_label ThreadNotSet = (14, codes "ThreadNotSet")
+check_label FixupBeforeData = (15, codes "FixupBeforeData")
+check_label FixupPlace = (16, codes "FixupPlace")
+check_label DataOutside = (17, codes "DataOutside")
+check_label DataInAbsolute = (18, codes "DataInAbsolute")
+check_label SelfRelativeBase = (19, codes "SelfRelativeBase")
+check_label FrameOfLocation = (20, codes "FrameOfLocation")
+check_label GroupOfAbsolute = (21, codes "GroupOfAbsolute")
 
 -- the fault, where the test holds
 abbrev pub when : Bool → CheckFault → Option CheckFault
@@ -56,7 +56,7 @@ infixr 6 ◌⊓◌
 abbrev pub ◌⊓◌ : Option CheckFault → Option CheckFault → Option CheckFault
 None ⊓ other = other
 (Some one) ⊓ None = Some one
-(Some one) ⊓ (Some other) = if nat_le (number one) (number other) then Some one else Some other
+(Some one) ⊓ (Some other) = if nat_le (check_label one).0 (check_label other).0 then Some one else Some other
 
 -- an index that may be 0 is refused where it is beyond the end of the list
 abbrev pub is_beyond : {A : Type 0} → List A → ℕ → Bool
@@ -110,20 +110,18 @@ public_fault tables (AtFrame group frame) = when (is_beyond tables.groups group)
 public_fault tables (InSegment group segment) =
     when (misses tables.segments segment) SegmentIndex ⊓ when (is_beyond tables.groups group) GroupIndex
 
--- a frame or target in use; none: its thread isn't set
-abbrev pub frame_fault : Tables → Option FrameMethod → Option CheckFault
-frame_fault tables None = Some ThreadNotSet
-frame_fault tables (Some (by.Segment index)) = when (misses tables.segments index) SegmentIndex
-frame_fault tables (Some (by.Group index)) = when (misses tables.groups index) GroupIndex
-frame_fault tables (Some (by.External index)) = when (misses tables.externals index) ExternalIndex
-frame_fault tables (Some _) = None
-
 -- a target in use; none: its thread isn't set
 abbrev pub target_fault : Tables → Option TargetMethod → Option CheckFault
 target_fault tables None = Some ThreadNotSet
 target_fault tables (Some (to.Segment index)) = when (misses tables.segments index) SegmentIndex
 target_fault tables (Some (to.Group index)) = when (misses tables.groups index) GroupIndex
 target_fault tables (Some (to.External index)) = when (misses tables.externals index) ExternalIndex
+
+-- a frame in use, likewise
+abbrev pub frame_fault : Tables → Option FrameMethod → Option CheckFault
+frame_fault tables None = Some ThreadNotSet
+frame_fault tables (Some (by.By method)) = target_fault tables (Some method)
+frame_fault tables (Some _) = None
 
 -- a base can't be relative to itself
 abbrev pub holds_base : Location → Bool
@@ -163,8 +161,8 @@ start_fault tables frame target = frame_fault tables frame ⊓ target_fault tabl
 -- a subrecord, with those before it in all FIXUPP records: only a fix-up can be at fault
 abbrev pub subrecord_item : Tables → Option (List (ℕ × ℕ)) → List Subrecord → Subrecord → Option CheckFault
 subrecord_item tables contents before (sub.Fixup fixup) =
-    fixup_fault tables (frame_used (frame_thread before) fixup.reference.frame)
-    (target_used (target_thread before) fixup.reference.target) contents fixup
+    fixup_fault tables (used (frame_thread before) fixup.reference.frame)
+    (used (target_thread before) fixup.reference.target) contents fixup
 subrecord_item tables contents before _ = None
 
 -- the items of a record after these
@@ -179,8 +177,8 @@ items before (Fixupp subs) =
     let contents = option_map (λ (data' : Stretch). data'.contents) (last (stretches before)) in
     along (λ earlier s. subrecord_item (tables before) contents (subrecords before ++ earlier) s ∷ []) subs
 items before (Modend main (Some reference)) =
-    start_fault (tables before) (frame_used (frame_thread (subrecords before)) reference.frame)
-    (target_used (target_thread (subrecords before)) reference.target) ∷ []
+    start_fault (tables before) (used (frame_thread (subrecords before)) reference.frame)
+    (used (target_thread (subrecords before)) reference.target) ∷ []
 items before _ = []
 
 -- some record has been read

@@ -3,7 +3,7 @@
 -- A local name is known in its own module alone; externals and publics, local ones and others, stand in one list each.
 use Rattle.std.specs.Prelude.{ℕ, Bool, List, Option}
 use Rattle.omf_module.specs.declared.Standing.{Standing}
-use Rattle.omf_module.specs.declared.SymbolBase.{SymbolBase}
+use Rattle.omf_record.specs.declared.externals.PublicBase.{PublicBase}
 use Rattle.omf_module.specs.declared.ResolvedFixup.{ResolvedFixup}
 use Rattle.omf_module.specs.declared.Start.{Start}
 
@@ -27,7 +27,7 @@ pub record ExternalSymbol : Type 0 where
 -- a name that the module defines, and where
 pub record PublicSymbol : Type 0 where
   pub name : List ℕ
-  pub base : SymbolBase
+  pub base : PublicBase
   pub offset : ℕ
   pub local : Bool
 

@@ -4,7 +4,9 @@ use Rattle.std.specs.declared.option.Option.{Option}
 use Rattle.std.specs.declared.result.Result.{Result}
 use Rattle.std.specs.Io.KnownBytes.{Consumes, Keeps}
 use Rattle.omf_frame.specs.Reading.{TakesWhole, TakesPart}
+use Rattle.omf_frame.specs.declared.reading.FramingFault.TheVariants.{InputTooLong}
 use Rattle.omf_record.specs.Records.{Placed}
+use Rattle.omf_record.specs.declared.fault.NoRecord.TheVariants.{Framing}
 use Rattle.omf_module.specs.declared.fault.FaultKind.{FaultKind}
 use Rattle.omf_module.specs.declared.fault.FaultKind.TheVariants as kind
 use Rattle.omf_module.specs.declared.fault.ModuleFault.{ModuleFault}
@@ -22,7 +24,7 @@ failures_in _ = 0
 -- its three bytes; at the limit nothing, and where the source failed not all of it.
 abbrev pub TakesFaulty : Option (List ℕ) → Option (List ℕ) → FaultKind → Type 0
 TakesFaulty old new kind.Device = TakesPart old new
-TakesFaulty old new kind.InputTooLong = Keeps old new
+TakesFaulty old new (kind.Absent (Framing InputTooLong)) = Keeps old new
 TakesFaulty old new _ = TakesWhole old new
 
 -- a fault other than the source's own is the reading fault of the bytes
@@ -49,14 +51,8 @@ abbrev pub IsModule : {A : Type 0} → (A → Module) → Module → (rest : Lis
 IsModule view module' rest new (Ok answer) = (view answer ≡ module') × (new ≡ Some rest)
 IsModule view module' rest new (Err fault.Memory) = Unit {0}
 IsModule view module' rest new (Err (fault.Record place kind.Device)) = Unit {0}
-IsModule view module' rest new (Err (fault.Record place kind.ZeroLength)) = ⊥
-IsModule view module' rest new (Err (fault.Record place kind.Truncated)) = ⊥
-IsModule view module' rest new (Err (fault.Record place kind.Closing)) = ⊥
-IsModule view module' rest new (Err (fault.Record place kind.Type)) = ⊥
-IsModule view module' rest new (Err (fault.Record place (kind.Body at))) = ⊥
+IsModule view module' rest new (Err (fault.Record place (kind.Absent why))) = ⊥
 IsModule view module' rest new (Err (fault.Record place (kind.Check check))) = ⊥
-IsModule view module' rest new (Err (fault.Record place kind.NoEnd)) = ⊥
-IsModule view module' rest new (Err (fault.Record place kind.InputTooLong)) = ⊥
 
 -- The answer is this fault at this place, unless memory or the source failed.
 abbrev pub IsFault : {A : Type 0} → ℕ → FaultKind → Result A ModuleFault → Type 0

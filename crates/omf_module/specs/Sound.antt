@@ -2,15 +2,15 @@
 -- data.
 use Rattle.std.specs.Prelude.{◌≡◌, ℕ, ◌+◌, ◌<◌, ◌≤◌, true, false, All, List, length, None, Some, slice_get, IfSome}
 use Rattle.omf_record.specs.Numbers.{location_width}
+use Rattle.omf_record.specs.declared.externals.PublicBase.{PublicBase}
+use Rattle.omf_record.specs.declared.externals.PublicBase.TheVariants.{AtFrame, InSegment}
+use Rattle.omf_record.specs.declared.fixups.FrameMethod.{FrameMethod}
+use Rattle.omf_record.specs.declared.fixups.FrameMethod.TheVariants as by
+use Rattle.omf_record.specs.declared.fixups.TargetMethod.{TargetMethod}
+use Rattle.omf_record.specs.declared.fixups.TargetMethod.TheVariants as to
 use Rattle.omf_record.specs.Expansion.{places, StandTogether, StandWhole, AreCopies}
-use Rattle.omf_module.specs.declared.SymbolBase.{SymbolBase}
-use Rattle.omf_module.specs.declared.SymbolBase.TheVariants.{AtFrame, InSegment}
 use Rattle.omf_module.specs.declared.Standing.{Standing}
 use Rattle.omf_module.specs.declared.Standing.TheVariants.{Absolute, Relocatable}
-use Rattle.omf_module.specs.declared.FixupFrame.{FixupFrame}
-use Rattle.omf_module.specs.declared.FixupFrame.TheVariants as frames
-use Rattle.omf_module.specs.declared.FixupTarget.{FixupTarget}
-use Rattle.omf_module.specs.declared.FixupTarget.TheVariants as targets
 use Rattle.omf_module.specs.declared.ResolvedFixup.{ResolvedFixup}
 use Rattle.omf_module.specs.declared.Start.{Start}
 use Rattle.omf_module.specs.Module.{Segment, Group, ExternalSymbol, PublicSymbol, DataRecord, Module}
@@ -32,27 +32,28 @@ pub record SegmentFits (segment : Segment) : Type 0 where
   pub length : segment.length ≤ 65536
   pub standing : IsStanding segment.standing
 
--- the segments, groups and externals that indexes, from 0, may mean
-module _ (segments : List Segment) (groups : List Group) (externals : List ExternalSymbol) where
-  -- the frame that a fix-up or a start names is one of them
-  abbrev pub FrameMeans : FixupFrame → Type 0
-  FrameMeans (frames.OfSegment index) = index < length segments
-  FrameMeans (frames.OfGroup index) = index < length groups
-  FrameMeans (frames.OfExternal index) = index < length externals
-  FrameMeans frames.OfLocation = Unit {0}
-  FrameMeans frames.OfTarget = Unit {0}
+-- an index, from 1, means one of a list
+abbrev pub IsIndexOf : {A : Type 0} → List A → ℕ → Type 0
+IsIndexOf list index = (0 < index) × (index ≤ length list)
 
-  -- so is a target
-  abbrev pub TargetMeans : FixupTarget → Type 0
-  TargetMeans (targets.Segment index) = index < length segments
-  TargetMeans (targets.Group index) = index < length groups
-  TargetMeans (targets.External index) = index < length externals
+-- the segments, groups and externals that indexes may mean
+module _ (segments : List Segment) (groups : List Group) (externals : List ExternalSymbol) where
+  -- the target that a fix-up or a start names is one of them
+  abbrev pub TargetMeans : TargetMethod → Type 0
+  TargetMeans (to.Segment index) = IsIndexOf segments index
+  TargetMeans (to.Group index) = IsIndexOf groups index
+  TargetMeans (to.External index) = IsIndexOf externals index
+
+  -- so is a frame
+  abbrev pub FrameMeans : FrameMethod → Type 0
+  FrameMeans (by.By method) = TargetMeans method
+  FrameMeans by.Location = Unit {0}
+  FrameMeans by.Target = Unit {0}
 
   -- so is what a public symbol's offset counts from, or it is a frame word
-  abbrev pub BaseMeans : SymbolBase → Type 0
-  BaseMeans (AtFrame frame) = frame < 65536
-  BaseMeans (InSegment segment None) = segment < length segments
-  BaseMeans (InSegment segment (Some group)) = (segment < length segments) × (group < length groups)
+  abbrev pub BaseMeans : PublicBase → Type 0
+  BaseMeans (AtFrame group frame) = frame < 65536
+  BaseMeans (InSegment group segment) = IsIndexOf segments segment × (group ≤ length groups)
 
   -- a segment that a linker places
   abbrev pub IsPart : ℕ → Segment → Type 0
@@ -94,7 +95,7 @@ module _ (segments : List Segment) (groups : List Group) (externals : List Exter
   pub record StartFits (start : Start) : Type 0 where
     pub frame : FrameMeans start.frame
     pub target : TargetMeans start.target
-    pub no_location : start.frame ≡ frames.OfLocation → ⊥
+    pub no_location : start.frame ≡ by.Location → ⊥
 
 -- the promises of a module
 pub record IsSound (module' : Module) : Type 0 where

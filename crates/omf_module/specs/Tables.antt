@@ -16,13 +16,9 @@ use Rattle.omf_record.specs.declared.segments.Alignment.TheVariants as align
 use Rattle.omf_record.specs.declared.segments.Combination.{Combination}
 use Rattle.omf_record.specs.declared.segments.Combination.TheVariants as combine
 use Rattle.omf_record.specs.declared.fixups.FrameMethod.{FrameMethod}
-use Rattle.omf_record.specs.declared.fixups.FrameMethod.TheVariants as by
 use Rattle.omf_record.specs.declared.fixups.TargetMethod.{TargetMethod}
-use Rattle.omf_record.specs.declared.fixups.TargetMethod.TheVariants as to
-use Rattle.omf_record.specs.declared.fixups.FrameDatum.{FrameDatum}
-use Rattle.omf_record.specs.declared.fixups.FrameDatum.TheVariants as frame_datum
-use Rattle.omf_record.specs.declared.fixups.TargetDatum.{TargetDatum}
-use Rattle.omf_record.specs.declared.fixups.TargetDatum.TheVariants as target_datum
+use Rattle.omf_record.specs.declared.fixups.Datum.{Datum}
+use Rattle.omf_record.specs.declared.fixups.Datum.TheVariants as datum
 use Rattle.omf_record.specs.declared.fixups.Reference.{Reference}
 use Rattle.omf_record.specs.declared.fixups.Fixup.{Fixup}
 use Rattle.omf_record.specs.declared.fixups.Subrecord.{Subrecord}
@@ -31,12 +27,6 @@ use Rattle.omf_module.specs.declared.Kind.{Kind}
 use Rattle.omf_module.specs.declared.Kind.TheVariants as kinds
 use Rattle.omf_module.specs.declared.Standing.{Standing}
 use Rattle.omf_module.specs.declared.Standing.TheVariants.{Absolute, Relocatable}
-use Rattle.omf_module.specs.declared.SymbolBase.{SymbolBase}
-use Rattle.omf_module.specs.declared.SymbolBase.TheVariants.{AtFrame, InSegment}
-use Rattle.omf_module.specs.declared.FixupFrame.{FixupFrame}
-use Rattle.omf_module.specs.declared.FixupFrame.TheVariants as frames
-use Rattle.omf_module.specs.declared.FixupTarget.{FixupTarget}
-use Rattle.omf_module.specs.declared.FixupTarget.TheVariants as targets
 use Rattle.omf_module.specs.declared.ResolvedFixup.{ResolvedFixup}
 use Rattle.omf_module.specs.declared.Start.{Start}
 use Rattle.omf_module.specs.Module.{Segment, Group, ExternalSymbol, PublicSymbol, DataRecord, Module}
@@ -114,20 +104,10 @@ externals_in _ = []
 abbrev pub externals : List Placed → List ExternalSymbol
 externals records = flat_map (λ (placed : Placed). externals_in placed.says) records
 
--- the group of a public symbol; 0 means none
-abbrev pub group_at : ℕ → Option ℕ
-group_at zero = None
-group_at (suc group) = Some group
-
--- with a frame word its group counts for nothing
-abbrev pub base_of : PublicBase → SymbolBase
-base_of (public_base.AtFrame group frame) = AtFrame frame
-base_of (public_base.InSegment group segment) = InSegment (segment - 1) (group_at group)
-
 -- the public symbols that a record defines
 abbrev pub publics_in : Record → List PublicSymbol
 publics_in (Pubdef local base listed) =
-    map (λ p. record { name = p.name; base = base_of base; offset = p.offset; local = local }) listed
+    map (λ p. record { name = p.name; base = base; offset = p.offset; local = local }) listed
 publics_in _ = []
 
 -- the public symbols that these records define
@@ -192,30 +172,11 @@ abbrev pub target_thread : List Subrecord → ℕ → Option TargetMethod
 target_thread before number = last (filter_map (target_set number) before)
 
 -- the method that a fix-up or start uses
-abbrev pub frame_used : (ℕ → Option FrameMethod) → FrameDatum → Option FrameMethod
-frame_used threads (frame_datum.Thread thread) = threads (thread_number thread)
-frame_used threads (frame_datum.By method) = Some method
-
--- the same of targets
-abbrev pub target_used : (ℕ → Option TargetMethod) → TargetDatum → Option TargetMethod
-target_used threads (target_datum.Thread thread) = threads (thread_number thread)
-target_used threads (target_datum.By method) = Some method
+abbrev pub used : {M : Type 0} → (ℕ → Option M) → Datum M → Option M
+used threads (datum.Thread thread) = threads (thread_number thread)
+used threads (datum.By method) = Some method
 
 -- ---- 9CH FIXUPP: Fixup Record, its fix-up subrecords; 8AH MODEND: Module End Record
-
--- a frame by its method, whose index counts from 1
-abbrev pub frame_of : FrameMethod → FixupFrame
-frame_of (by.Segment index) = frames.OfSegment (index - 1)
-frame_of (by.Group index) = frames.OfGroup (index - 1)
-frame_of (by.External index) = frames.OfExternal (index - 1)
-frame_of by.Location = frames.OfLocation
-frame_of by.Target = frames.OfTarget
-
--- a target by its method, whose index counts from 1
-abbrev pub target_of : TargetMethod → FixupTarget
-target_of (to.Segment index) = targets.Segment (index - 1)
-target_of (to.Group index) = targets.Group (index - 1)
-target_of (to.External index) = targets.External (index - 1)
 
 -- a fix-up by the methods that it uses; there is none where a thread isn't set
 abbrev pub fixup_of : ℕ → Fixup → Option FrameMethod → Option TargetMethod → Option ResolvedFixup
@@ -224,8 +185,8 @@ fixup_of place fixup (Some frame) (Some target) = Some (record {
   self_relative = fixup.self_relative;
   location = fixup.location;
   offset = fixup.offset;
-  frame = frame_of frame;
-  target = target_of target;
+  frame = frame;
+  target = target;
   displacement = unwrap_or fixup.reference.displacement 0;
 })
 fixup_of place fixup _ _ = None
@@ -233,8 +194,8 @@ fixup_of place fixup _ _ = None
 -- the fix-up of a subrecord, with the subrecords before it
 abbrev pub fixup_in : ℕ → List Subrecord → Subrecord → Option ResolvedFixup
 fixup_in place before (sub.Fixup fixup) =
-    fixup_of place fixup (frame_used (frame_thread before) fixup.reference.frame)
-    (target_used (target_thread before) fixup.reference.target)
+    fixup_of place fixup (used (frame_thread before) fixup.reference.frame)
+    (used (target_thread before) fixup.reference.target)
 fixup_in place before _ = None
 
 -- the fix-ups of a record, with the subrecords before it
@@ -266,14 +227,14 @@ data_records records = map (data_record (fixups records)) (enumerate_from 1 (str
 -- a start by the methods that it uses; there is none where a thread isn't set
 abbrev pub start_of : ℕ → Reference → Option FrameMethod → Option TargetMethod → Option Start
 start_of place r (Some f) (Some t) =
-    Some (record { place = place; frame = frame_of f; target = target_of t; displacement = unwrap_or r.displacement 0 })
+    Some (record { place = place; frame = f; target = t; displacement = unwrap_or r.displacement 0 })
 start_of place reference _ _ = None
 
 -- the start of a MODEND record, with the subrecords before it
 abbrev pub start_in : List Subrecord → ℕ → Record → Option Start
 start_in before place (Modend main (Some reference)) =
-    start_of place reference (frame_used (frame_thread before) reference.frame)
-    (target_used (target_thread before) reference.target)
+    start_of place reference (used (frame_thread before) reference.frame)
+    (used (target_thread before) reference.target)
 start_in before place _ = None
 
 -- the last start of these records

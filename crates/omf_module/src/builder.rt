@@ -37,10 +37,10 @@ use crate::contents::{Content, contents_of_blocks, lies_in};
 use crate::fault::CheckFault;
 use crate::lookups::Module;
 use crate::store::Store;
-use crate::{FixupFrame, FixupTarget, ResolvedFixup, Start, SymbolBase};
+use crate::{ResolvedFixup, Start};
 use omf_record::{
-    Block, External, Fixup, FrameDatum, FrameMethod, Public, PublicBase, Record, Reference,
-    SegmentDefinition, Subrecord, TargetDatum, TargetMethod, expanded_len, thread_number,
+    Block, Datum, External, Fixup, FrameMethod, Public, PublicBase, Record, Reference,
+    SegmentDefinition, Subrecord, TargetMethod, expanded_len, thread_number,
 };
 use std::alloc::{AllocError, AllocFailed, Allocator};
 
@@ -81,19 +81,6 @@ pub struct Builder<A: Allocator + Copy> {
     target_threads: [Option<TargetMethod>; 4],
     last_data: LastData<A>,
     start: Option<Start>,
-}
-
-/// What the offset of a public symbol counts from.
-fn base_of(base: PublicBase) -> SymbolBase
-    ensures { result ≡ tables.base_of base }
-{
-    match base {
-        PublicBase::AtFrame { frame, .. } => SymbolBase::AtFrame(frame),
-        PublicBase::InSegment { group, segment } => {
-            let group = if group == 0 { None } else { Some(group - 1) };
-            SymbolBase::InSegment(segment.saturating_sub(1), group)
-        }
-    }
 }
 
 /// Keeps the names of LNAMES.
@@ -139,7 +126,6 @@ fn add_publics<A: Allocator + Copy>(
               ++ map (defined.public_of local base) (map public_view publics.now);
         }) }
 {
-    let base = base_of(base);
     for public in publics {
         store.push_public(public.name, base, public.offset, local)?;
     }
@@ -147,46 +133,22 @@ fn add_publics<A: Allocator + Copy>(
 }
 
 /// The method of a frame, by the threads as they are set; none where its thread isn't.
-fn frame_used(threads: &[Option<FrameMethod>; 4], datum: FrameDatum) -> Option<FrameMethod>
-    ensures { result ≡ tables.frame_used (running.slot threads.now) datum }
+fn frame_used(threads: &[Option<FrameMethod>; 4], datum: Datum<FrameMethod>) -> Option<FrameMethod>
+    ensures { result ≡ tables.used (running.slot threads.now) datum }
 {
     match datum {
-        FrameDatum::Thread(thread) => threads[usize::from(thread_number(thread))],
-        FrameDatum::By(method) => Some(method),
+        Datum::Thread(thread) => threads[usize::from(thread_number(thread))],
+        Datum::By(method) => Some(method),
     }
 }
 
 /// The method of a target, by the threads as they are set; none where its thread isn't.
-fn target_used(threads: &[Option<TargetMethod>; 4], datum: TargetDatum) -> Option<TargetMethod>
-    ensures { result ≡ tables.target_used (running.slot threads.now) datum }
+fn target_used(threads: &[Option<TargetMethod>; 4], datum: Datum<TargetMethod>) -> Option<TargetMethod>
+    ensures { result ≡ tables.used (running.slot threads.now) datum }
 {
     match datum {
-        TargetDatum::Thread(thread) => threads[usize::from(thread_number(thread))],
-        TargetDatum::By(method) => Some(method),
-    }
-}
-
-/// The frame by its method. The index of the method counts from 1.
-fn frame_of(method: FrameMethod) -> FixupFrame
-    ensures { result ≡ tables.frame_of method }
-{
-    match method {
-        FrameMethod::Segment(index) => FixupFrame::OfSegment(index.saturating_sub(1)),
-        FrameMethod::Group(index) => FixupFrame::OfGroup(index.saturating_sub(1)),
-        FrameMethod::External(index) => FixupFrame::OfExternal(index.saturating_sub(1)),
-        FrameMethod::Location => FixupFrame::OfLocation,
-        FrameMethod::Target => FixupFrame::OfTarget,
-    }
-}
-
-/// The target by its method. The index of the method counts from 1.
-fn target_of(method: TargetMethod) -> FixupTarget
-    ensures { result ≡ tables.target_of method }
-{
-    match method {
-        TargetMethod::Segment(index) => FixupTarget::Segment(index.saturating_sub(1)),
-        TargetMethod::Group(index) => FixupTarget::Group(index.saturating_sub(1)),
-        TargetMethod::External(index) => FixupTarget::External(index.saturating_sub(1)),
+        Datum::Thread(thread) => threads[usize::from(thread_number(thread))],
+        Datum::By(method) => Some(method),
     }
 }
 
@@ -204,8 +166,8 @@ fn fixup_of(
         self_relative: fixup.self_relative,
         location: fixup.location,
         offset: fixup.offset,
-        frame: frame_of(frame?),
-        target: target_of(target?),
+        frame: frame?,
+        target: target?,
         displacement: fixup.reference.displacement.unwrap_or(0),
     })
 }
@@ -221,8 +183,8 @@ fn start_of(
 {
     Some(Start {
         place,
-        frame: frame_of(frame?),
-        target: target_of(target?),
+        frame: frame?,
+        target: target?,
         displacement: reference.displacement.unwrap_or(0),
     })
 }
@@ -306,9 +268,7 @@ impl<A: Allocator + Copy> Builder<A> {
     {
         match frame {
             None => Some(CheckFault::ThreadNotSet),
-            Some(FrameMethod::Segment(index)) => self.segment_index(index),
-            Some(FrameMethod::Group(index)) => self.group_index(index),
-            Some(FrameMethod::External(index)) => self.external_index(index),
+            Some(FrameMethod::By(method)) => self.target_fault(Some(method)),
             Some(FrameMethod::Location | FrameMethod::Target) => None,
         }
     }

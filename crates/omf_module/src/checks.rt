@@ -16,7 +16,7 @@ pub fn smaller(one: Option<CheckFault>, other: Option<CheckFault>) -> Option<Che
     match (one, other) {
         (None, other) => other,
         (one, None) => one,
-        (Some(f), Some(g)) => if f.number() <= g.number() {
+        (Some(f), Some(g)) => if f.label().0 <= g.label().0 {
             Some(f)
         } else {
             Some(g)

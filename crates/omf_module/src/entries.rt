@@ -9,8 +9,8 @@ ghost use Rattle.omf_module.specs.inside.Running.{add_to_last};
 
 use crate::checks::entry;
 use crate::pieces::Piece;
-use crate::{Kind, ResolvedFixup, Standing, SymbolBase};
-use omf_record::{Alignment, Combination, SegmentDefinition, SegmentLength};
+use crate::{Kind, ResolvedFixup, Standing};
+use omf_record::{Alignment, Combination, PublicBase, SegmentDefinition, SegmentLength};
 use std::alloc::{AllocError, Allocator};
 
 #[derive(Clone, Copy, Debug)]
@@ -36,7 +36,7 @@ pub struct ExternalEntry {
 #[derive(Clone, Copy, Debug)]
 pub struct PublicEntry {
     pub name: Piece,
-    pub base: SymbolBase,
+    pub base: PublicBase,
     pub offset: u16,
     pub local: bool,
 }

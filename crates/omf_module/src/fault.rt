@@ -1,7 +1,8 @@
 //! Why bytes are no object module.
 ghost use Rattle.std.specs.Prelude.{◌≡◌};
-ghost use Rattle.omf_module.specs.Faults as faults;
+ghost use Rattle.omf_module.specs.Faults.{check_label};
 
+use omf_record::NoRecord;
 use std::alloc::AllocError;
 use thiserror::Error;
 
@@ -50,24 +51,25 @@ pub enum CheckFault {
 }
 
 impl CheckFault {
-    /// The number under which the fault is reported.
-    pub fn number(self) -> u8
-        ensures { result ≡ faults.number self }
+    /// The number and the name that the fault is printed with.
+    pub fn label(self) -> (u8, &'static str)
+        ensures number { result.0 ≡ (check_label self).0 }
+        ensures name { result.1.now ≡ (check_label self).1 }
     {
         match self {
-            CheckFault::NotHeader => 7,
-            CheckFault::NameIndex => 10,
-            CheckFault::SegmentIndex => 11,
-            CheckFault::GroupIndex => 12,
-            CheckFault::ExternalIndex => 13,
-            CheckFault::ThreadNotSet => 14,
-            CheckFault::FixupBeforeData => 15,
-            CheckFault::FixupPlace => 16,
-            CheckFault::DataOutside => 17,
-            CheckFault::DataInAbsolute => 18,
-            CheckFault::SelfRelativeBase => 19,
-            CheckFault::FrameOfLocation => 20,
-            CheckFault::GroupOfAbsolute => 21,
+            CheckFault::NotHeader => (7, "NotHeader"),
+            CheckFault::NameIndex => (10, "NameIndex"),
+            CheckFault::SegmentIndex => (11, "SegmentIndex"),
+            CheckFault::GroupIndex => (12, "GroupIndex"),
+            CheckFault::ExternalIndex => (13, "ExternalIndex"),
+            CheckFault::ThreadNotSet => (14, "ThreadNotSet"),
+            CheckFault::FixupBeforeData => (15, "FixupBeforeData"),
+            CheckFault::FixupPlace => (16, "FixupPlace"),
+            CheckFault::DataOutside => (17, "DataOutside"),
+            CheckFault::DataInAbsolute => (18, "DataInAbsolute"),
+            CheckFault::SelfRelativeBase => (19, "SelfRelativeBase"),
+            CheckFault::FrameOfLocation => (20, "FrameOfLocation"),
+            CheckFault::GroupOfAbsolute => (21, "GroupOfAbsolute"),
         }
     }
 }
@@ -78,30 +80,12 @@ pub enum FaultKind {
     /// 1: the source failed.
     #[error("the source failed")]
     Device,
-    /// 2: the length word is 0.
-    #[error("its length word is 0")]
-    ZeroLength,
-    /// 3: the input ends inside the record.
-    #[error("the input ends inside it")]
-    Truncated,
-    /// 4: the closing byte isn't 0 and the record's sum isn't 0 modulo 256.
-    #[error("its closing byte is wrong")]
-    Closing,
-    /// 5: the type isn't one of the fourteen.
-    #[error("its type is unknown")]
-    Type,
-    /// 6: the body isn't one of its type, from this byte of it on.
-    #[error("its body is wrong at byte {at}")]
-    Body { at: usize },
+    /// 2 to 6, 8 and 41: no record begins.
+    #[error("{0}")]
+    Absent(NoRecord),
     /// 7 and 10 to 21: a check refuses the record.
     #[error("{0}")]
     Check(CheckFault),
-    /// 8: the input ends between records before MODEND.
-    #[error("the input ends before MODEND")]
-    NoEnd,
-    /// 41: the record would begin at a place that is too great.
-    #[error("it would begin too late in the input")]
-    InputTooLong,
 }
 
 impl From<AllocError> for ModuleFault {

@@ -18,7 +18,7 @@ pub use lookups::{
     DataRecord, DataRecords, ExternalSymbol, Externals, Group, Groups, Module, PublicSymbol,
     Publics, Segment, Segments, all_promise,
 };
-use omf_record::Location;
+use omf_record::{FrameMethod, Location, TargetMethod};
 pub use reading::read_module;
 
 /// How the parts of a segment combine.
@@ -39,35 +39,6 @@ pub enum Standing {
     Relocatable { alignment: u16, kind: Kind },
 }
 
-/// What a public symbol's offset counts from. Segments and groups count from 0.
-#[derive(Clone, Copy, Debug)]
-pub enum SymbolBase {
-    /// An absolute frame.
-    AtFrame(u16),
-    /// A segment of the module, under the frame of the group where there is one.
-    InSegment(u16, Option<u16>),
-}
-
-/// The frame that a fix-up or a start names. Segments, groups and externals count from 0.
-#[derive(Clone, Copy, Debug)]
-pub enum FixupFrame {
-    OfSegment(u16),
-    OfGroup(u16),
-    OfExternal(u16),
-    /// That of the segment of the data record with the location (method F4).
-    OfLocation,
-    /// The target's own (method F5).
-    OfTarget,
-}
-
-/// The target of a fix-up or a start. Segments, groups and externals count from 0.
-#[derive(Clone, Copy, Debug)]
-pub enum FixupTarget {
-    Segment(u16),
-    Group(u16),
-    External(u16),
-}
-
 /// A fix-up on a data record, with its threads resolved.
 #[derive(Clone, Copy, Debug)]
 pub struct ResolvedFixup {
@@ -77,8 +48,9 @@ pub struct ResolvedFixup {
     pub location: Location,
     /// The stored place of the location's first byte.
     pub offset: u16,
-    pub frame: FixupFrame,
-    pub target: FixupTarget,
+    /// The methods; segments, groups and externals count from 1, as in the record.
+    pub frame: FrameMethod,
+    pub target: TargetMethod,
     /// 0 where the record has none.
     pub displacement: u16,
 }
@@ -88,8 +60,9 @@ pub struct ResolvedFixup {
 pub struct Start {
     /// The place of the MODEND record.
     pub place: u64,
-    pub frame: FixupFrame,
-    pub target: FixupTarget,
+    /// The methods; segments, groups and externals count from 1, as in the record.
+    pub frame: FrameMethod,
+    pub target: TargetMethod,
     /// 0 where the record has none.
     pub displacement: u16,
 }

@@ -4,7 +4,8 @@ ghost use Rattle.omf_module.specs.Seen.{segment_seen, group_seen, external_seen,
 ghost use Rattle.omf_module.specs.Sound.{IsSound};
 
 use crate::store::Store;
-use crate::{ResolvedFixup, Standing, Start, SymbolBase};
+use crate::{ResolvedFixup, Standing, Start};
+use omf_record::PublicBase;
 use std::alloc::{Allocator, Global};
 use std::marker::Model;
 
@@ -36,7 +37,8 @@ pub struct ExternalSymbol<'a> {
 #[derive(Clone, Copy, Debug)]
 pub struct PublicSymbol<'a> {
     pub name: &'a [u8],
-    pub base: SymbolBase,
+    /// What the offset counts from; segment and group count from 1, as in the record.
+    pub base: PublicBase,
     pub offset: u16,
     pub local: bool,
 }

@@ -5,7 +5,7 @@ ghost use Rattle.omf_record.specs.Records.{Placed, is_end};
 ghost use Rattle.omf_module.specs.declared.fault.FaultKind.{FaultKind};
 ghost use Rattle.omf_module.specs.Tables.{module_of};
 ghost use Rattle.omf_module.specs.inside.Building.{state};
-ghost use Rattle.omf_module.specs.Bytes.{framing_kind, ModuleBytes, ReadingFault};
+ghost use Rattle.omf_module.specs.Bytes.{ModuleBytes, ReadingFault};
 ghost use Rattle.omf_module.specs.Reading.{failures_in, Reads, IsModule, IsFault};
 ghost use Rattle.omf_module.specs.inside.Reading.{TakesRecord};
 ghost use Rattle.omf_module.specs.inside.ModuleFaults as module_fault;
@@ -13,21 +13,9 @@ ghost use Rattle.omf_module.specs.inside.ModuleFaults as module_fault;
 use crate::builder::{AddFault, Builder};
 use crate::fault::{FaultKind, ModuleFault};
 use crate::lookups::Module;
-use omf_frame::{Frame, FrameBuf, FrameFault, FramingFault, Source};
-use omf_record::{Record, RecordFault, parse_record};
+use omf_frame::{Frame, FrameBuf, FrameFault, Source};
+use omf_record::{NoRecord, Record, RecordFault, parse_record};
 use std::alloc::Allocator;
-
-/// A fault of the framing as one of the reading.
-fn framing_kind(fault: FramingFault) -> FaultKind
-    ensures { result ≡ framing_kind fault }
-{
-    match fault {
-        FramingFault::ZeroLength => FaultKind::ZeroLength,
-        FramingFault::Truncated => FaultKind::Truncated,
-        FramingFault::Closing => FaultKind::Closing,
-        FramingFault::InputTooLong => FaultKind::InputTooLong,
-    }
-}
 
 /// Why no frame was read, as a fault of the module.
 fn read_fault(fault: FrameFault) -> ModuleFault
@@ -35,7 +23,9 @@ fn read_fault(fault: FrameFault) -> ModuleFault
 {
     let (place, kind) = match fault {
         FrameFault::Device { place } => (place, FaultKind::Device),
-        FrameFault::Framing { place, fault } => (place, framing_kind(fault)),
+        FrameFault::Framing { place, fault } => {
+            (place, FaultKind::Absent(NoRecord::Framing(fault)))
+        }
         FrameFault::Memory | FrameFault::Failed => return ModuleFault::Memory,
     };
     ModuleFault::Record { place, kind }
@@ -45,12 +35,15 @@ fn read_fault(fault: FrameFault) -> ModuleFault
 fn parse_fault(place: u64, fault: RecordFault) -> ModuleFault
     ensures { result ≡ module_fault.parse_fault place fault }
 {
-    let kind = match fault {
+    let absent = match fault {
         RecordFault::Memory => return ModuleFault::Memory,
-        RecordFault::OtherType => FaultKind::Type,
-        RecordFault::Body { at } => FaultKind::Body { at },
+        RecordFault::OtherType => NoRecord::Type,
+        RecordFault::Body { at } => NoRecord::Body { at },
     };
-    ModuleFault::Record { place, kind }
+    ModuleFault::Record {
+        place,
+        kind: FaultKind::Absent(absent),
+    }
 }
 
 /// Why the record at this place wasn't taken, as a fault of the module.
@@ -107,7 +100,7 @@ fn read_records<A: Allocator + Copy, S: Source>(
             Ok(None) => {
                 return Err(ModuleFault::Record {
                     place,
-                    kind: FaultKind::NoEnd,
+                    kind: FaultKind::Absent(NoRecord::NoEnd),
                 });
             }
             Err(fault) => return Err(read_fault(fault)),

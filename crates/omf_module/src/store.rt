@@ -36,8 +36,8 @@ use crate::entries::{
 use crate::fault::CheckFault;
 use crate::lookups::{DataRecord, ExternalSymbol, Group, PublicSymbol, Segment};
 use crate::pieces::{Piece, keep, keep_expansion, keep_once, lend, rising_piece};
-use crate::{ResolvedFixup, SymbolBase};
-use omf_record::{Block, SegmentDefinition, SegmentLength};
+use crate::ResolvedFixup;
+use omf_record::{Block, PublicBase, SegmentDefinition, SegmentLength};
 use std::alloc::{AllocError, Allocator};
 use std::marker::Model;
 
@@ -269,7 +269,7 @@ impl<A: Allocator + Copy> Store<A> {
     pub fn push_public(
         &mut self,
         name: &[u8],
-        base: SymbolBase,
+        base: PublicBase,
         offset: u16,
         local: bool,
     ) -> Result<(), AllocError>

@@ -10,15 +10,10 @@ use Rattle.std.specs.List.{AllByRecursion}
 use Rattle.std.specs.Option.{option_map, option_and_then, option_to_list}
 use Rattle.omf_module.specs.declared.Standing.{Standing}
 use Rattle.omf_module.specs.declared.Standing.TheVariants.{Absolute, Relocatable}
-use Rattle.omf_module.specs.declared.SymbolBase.{SymbolBase}
-use Rattle.omf_module.specs.declared.SymbolBase.TheVariants.{AtFrame, InSegment}
-use Rattle.omf_module.specs.Module.{Module, Segment, Group, PublicSymbol}
-use Rattle.omf_place.specs.Bounded.{HasOwnFrame, IsPlaceOf, ArePlacesOf, IsBounded}
-use Rattle.omf_place.specs.declared.layout.Address.TheVariants as address
-use Rattle.omf_place.specs.declared.layout.Base.TheVariants as base
+use Rattle.omf_module.specs.Module.{Module, Segment, Group}
+use Rattle.omf_place.specs.Bounded.{LiesInside, ArePlacesOf, IsBounded}
 use Rattle.omf_place.specs.declared.layout.Combined.{Combined}
-use Rattle.omf_place.specs.declared.layout.PublicPlace.{PublicPlace}
-use Rattle.omf_place.specs.declared.layout.SegmentPlace.{SegmentPlace}
+use Rattle.omf_place.specs.declared.layout.Position.TheVariants as position
 use Rattle.omf_place.specs.declared.names.Names.{Names}
 use Rattle.omf_place.specs.declared.names.Names.TheVariants.{Exact}
 use Rattle.omf_place.specs.Faults.{segment_fault}
@@ -96,43 +91,21 @@ not-less a b e = elim (cases_lt a b) [
   | inr h ↦ omega arith
 ]
 
-value-all : {V : Type 0} (P : V → Type 0) (test : List ℕ → Bool) (owner : Option ℕ) (es : List (Entry V))
-    → AllByRecursion (λ (e : Entry V). P e.value) es
-    → IfSome (value_where test (map (λ e. (e.name, e.value)) (owned_by owner es))) P
-value-all P test owner [] ps = tt
-value-all P test owner (e ∷ es) ps =
-    elim (same_owner owner e.owner) as (λ b.
-    IfSome (value_where test (map (λ d. (d.name, d.value)) (cond b (e ∷ owned_by owner es) (owned_by owner es)))) P) [
-      | true ↦
-          (elim (test e.name) as (λ b.
-          IfSome (cond b (Some e.value) (value_where test (map (λ d. (d.name, d.value)) (owned_by owner es)))) P) [
-            | true ↦ ps.0
-            | false ↦ value-all P test owner es ps.1
-          ])
-      | false ↦ value-all P test owner es ps.1
-    ]
-
-abbrev no_place : SegmentPlace
-no_place = record { address = address.Absolute 0; frame = base.Absolute 0 }
-
-abbrev OwnFrame : PublicPlace → Type 0
-OwnFrame p = HasOwnFrame p.address p.frame
-
 module _ (names : Names) (program : List Module) (A : List ℕ) (size : ℕ)
     (placing : IsPlaced (sites program) A size) where
   abbrev ss : List Site
   ss = sites program
 
   place-of : (a : Site) (s : Segment) → slice_get ss a.position ≡ Some a → a.segment ≡ s
-      → IsPlaceOf size s (placed ss A a)
-  place-of a s at is = subst (λ t. IsPlaceOf size t (placed ss A a)) is (by a.segment.standing refl)
+      → LiesInside size s.length s.standing (placed ss A a)
+  place-of a s at is = subst (λ (t : Segment). LiesInside size t.length t.standing (placed ss A a)) is (by a.segment.standing refl)
     where
       within : is_part a ≡ true → address_of A a + a.segment.length ≤ size
       within part = part-within ss A size (numbered_sites program) placing a at part
 
-      by : (st : Standing) → a.segment.standing ≡ st → IsPlaceOf size a.segment (placed ss A a)
-      by (Absolute frame offset) e = rw e (record { inside = tt; frame = tt })
-      by (Relocatable alignment kind) e = rw e (record { inside = within (ap is_relocatable e); frame = tt })
+      by : (st : Standing) → a.segment.standing ≡ st → LiesInside size a.segment.length a.segment.standing (placed ss A a)
+      by (Absolute frame offset) e = rw e tt
+      by (Relocatable alignment kind) e = rw e (within (ap is_relocatable e))
 
   places : (i : ℕ) (m : Module) → slice_get program i ≡ Some m
       → ArePlacesOf size m (places_of (layout_at names program A size) i)
@@ -156,53 +129,11 @@ module _ (names : Names) (program : List Module) (A : List ℕ) (size : ℕ)
         each = λ k s f.
             let r = row_at n row k s (ap (λ (x : Module). slice_get x.segments k) at.2 ∙ f) in
             let there : segment_in (module_places program A n) k ≡ placed ss A r.0 =
-            get_or_from_slice_get (map (placed ss A) n.sites) k (placed ss A r.0) no_place
+            get_or_from_slice_get (map (placed ss A) n.sites) k (placed ss A r.0) (position.Absolute 0 0)
             (slice_get-map (placed ss A) n.sites k ∙ ap (option_map (placed ss A)) r.1) in
-            subst (λ p. IsPlaceOf size s p) (sym there)
+            subst (λ p. LiesInside size s.length s.standing p) (sym there)
             (place-of r.0 s (All-get (λ a. slice_get ss a.position ≡ Some a) n.sites k r.0 own r.1) r.2);
       })
-
-  own-public : (m : Module) (a : Site) (o : ℕ) (group : Option ℕ) (st : Standing)
-      → OwnFrame (in_segment program A m group o a st)
-  own-public m a o group (Absolute frame at) = tt
-  own-public m a o None (Relocatable alignment kind) = tt
-  own-public m a o (Some g) (Relocatable alignment kind) = by (slice_get m.groups g)
-    where
-      framed : (f : Option ℕ) → HasOwnFrame (address.Relocatable (address_of A a + o)) (option_map base.Relocatable f)
-      framed None = tt
-      framed (Some f) = tt
-
-      by : (x : Option Group)
-          → HasOwnFrame (address.Relocatable (address_of A a + o))
-          (option_and_then (λ (h : Group). option_map base.Relocatable (group_frame program A h.name)) x)
-      by None = tt
-      by (Some h) = framed (group_frame program A h.name)
-
-  abbrev Own : Entry PublicPlace → Type 0
-  Own e = OwnFrame e.value
-
-  abbrev public_of : Input → PublicSymbol → List (Entry PublicPlace)
-  public_of n p = option_to_list (option_map (public_entry n.input p) (placed_public program A n p.offset p.base))
-
-  publics : AllByRecursion Own (placed_publics program A)
-  publics =
-      All-flat Own (publics_of program A) (inputs program)
-      (All-make (λ n. AllByRecursion Own (publics_of program A n)) (inputs program)
-      (λ n. All-flat Own (public_of n) n.says.publics (All-make (λ p. AllByRecursion Own (public_of n p)) n.says.publics
-      (λ p. by n p p.offset p.base))))
-    where
-      found : (n : Input) (p : PublicSymbol) (o : ℕ) (group : Option ℕ) (x : Option Site) →
-          AllByRecursion Own
-          (option_to_list
-          (option_map (public_entry n.input p)
-          (option_map (λ (a : Site). in_segment program A n.says group o a a.segment.standing) x)))
-      found n p o group None = tt
-      found n p o group (Some a) = (own-public n.says a o group a.segment.standing, tt)
-
-      by : (n : Input) (p : PublicSymbol) (o : ℕ) (b : SymbolBase)
-          → AllByRecursion Own (option_to_list (option_map (public_entry n.input p) (placed_public program A n o b)))
-      by n p o (AtFrame frame) = (tt, tt)
-      by n p o (InSegment k group) = found n p o group (slice_get n.sites k)
 
   short : segment_fault ss A ≡ None
       → AllByRecursion (λ (c : Combined). c.end ≤ 16 * (c.start / 16) + 65536)
@@ -223,27 +154,5 @@ module _ (names : Names) (program : List Module) (A : List ℕ) (size : ℕ)
         λ i c e.
         All-get (λ (d : Combined). d.end ≤ 16 * (d.start / 16) + 65536) (map (combined_segment ss A) (leaders ss)) i c
         (short none) e;
-    publics = λ name. value-all OwnFrame (agrees names name) None (placed_publics program A) publics;
     scopes = length-map-range_with_len (λ m. table names (Some m) (placed_publics program A)) 0 (length program);
-    locals = λ input name. by input name (cases_lt input (length program));
   })
-    where
-      -- past the last module there is no table
-      local : (t : Table PublicPlace) (input : ℕ) (name : List ℕ)
-          → get_or (local_tables names (length program) (placed_publics program A)) input (empty Exact) ≡ t
-          → IfSome (means t name) OwnFrame
-          → IfSome (local_public (layout_at names program A size) input name) OwnFrame
-      local t input name e h = subst (λ (u : Table PublicPlace). IfSome (means u name) OwnFrame) (sym e) h
-
-      by : (input : ℕ) (name : List ℕ) → (input < length program) ⊎ (length program ≤ input)
-          → IfSome (local_public (layout_at names program A size) input name) OwnFrame
-      by input name (inl h) = local (table names (Some input) (placed_publics program A)) input name
-          (let z : 0 + input ≡ input = omega arith in
-          get_or-map-range_with_len (λ m. table names (Some m) (placed_publics program A)) 0 (length program) input
-          input (empty Exact) h z)
-          (value-all OwnFrame (agrees names name) (Some input) (placed_publics program A) publics)
-      by input name (inr h) = local (empty Exact) input name
-          (get_or_past (local_tables names (length program) (placed_publics program A)) input (empty Exact)
-          (let e =
-          length-map-range_with_len (λ m. table names (Some m) (placed_publics program A)) 0 (length program) in
-          omega (arith, e, h))) tt

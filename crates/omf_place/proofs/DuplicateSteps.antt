@@ -10,7 +10,7 @@ use Rattle.std.specs.Cmp.{nat_eq_equiv}
 use Rattle.std.specs.Cmp.Lexicographic.{nat_list_eq_equiv}
 use Rattle.std.specs.List.{AllByRecursion, enumerate_from, list_any}
 use Rattle.std.specs.Option.{option_map}
-use Rattle.omf_place.specs.declared.layout.PublicPlace.{PublicPlace}
+use Rattle.omf_place.specs.declared.layout.Position.{Position}
 use Rattle.omf_place.specs.declared.names.Names.{Names}
 use Rattle.omf_place.specs.declared.names.Names.TheVariants.{Exact}
 use Rattle.omf_place.specs.declared.scopes.Entry as held
@@ -116,23 +116,23 @@ starts {V} names count s e =
           ]) within;
     }
 
-module _ (names : Names) (count : ℕ) (given : List (held.Entry PublicPlace)) (i : ℕ) (d : held.Entry PublicPlace)
-    (s : Scopes PublicPlace) (h : i < length given)
+module _ (names : Names) (count : ℕ) (given : List (held.Entry Position)) (i : ℕ) (d : held.Entry Position)
+    (s : Scopes Position) (h : i < length given)
     (owned : AllByRecursion (λ e. IsOwner count e.owner) given)
     (holds : HoldsAll names count (map entry_view (take i given)) s)
     (apart : find (repeats names (map entry_view given)) (take i (enumerate_from 0 (map entry_view given)))
     ≡ None) where
-  abbrev all : List (Entry PublicPlace)
+  abbrev all : List (Entry Position)
   all = map entry_view given
 
-  abbrev next : Entry PublicPlace
+  abbrev next : Entry Position
   next = entry_view (get_or given i d)
 
   next_at : slice_get all i ≡ Some next
   next_at = slice_get-map entry_view given i ∙ ap (option_map entry_view) (slice_get-get_or given i d h)
 
   within : IsOwner count next.owner
-  within = All-at (λ (e : held.Entry PublicPlace). IsOwner count e.owner) given i d owned h
+  within = All-at (λ (e : held.Entry Position). IsOwner count e.owner) given i d owned h
 
   pub owner-within : IfSome next.owner (λ m. m < length s.locals)
   owner-within = rw holds.modules within
@@ -144,7 +144,7 @@ module _ (names : Names) (count : ℕ) (given : List (held.Entry PublicPlace)) (
 
   pub repeated : is_some (means (table_of s next.owner) next.name) ≡ true
       → duplicate_in names all ≡ Some (DuplicatePublic next.name)
-  repeated t = ap (λ (o : Option (ℕ × Entry PublicPlace)). option_map (λ p. DuplicatePublic p.1.name) o)
+  repeated t = ap (λ (o : Option (ℕ × Entry Position)). option_map (λ p. DuplicatePublic p.1.name) o)
       (find-here (repeats names all) (enumerate_from 0 all) i (i, next) (numbered-at all i next next_at) apart
       (test_is ∙ t))
 
@@ -157,7 +157,7 @@ module _ (names : Names) (count : ℕ) (given : List (held.Entry PublicPlace)) (
   more_is : map entry_view (take i given) ++ next ∷ [] ≡ map entry_view (take (i + 1) given)
   more_is = rw (take_more given i d h, map-append) refl
 
-  pub holds-more : (new : Scopes PublicPlace) → length new.locals ≡ length s.locals
+  pub holds-more : (new : Scopes Position) → length new.locals ≡ length s.locals
       → ((q : Option ℕ)
       → table_of new q ≡ cond (same_owner q next.owner) (with_entry (table_of s q) next.name next.value) (table_of s q))
       → HoldsAll names count (map entry_view (take (i + 1) given)) new
@@ -169,12 +169,12 @@ module _ (names : Names) (count : ℕ) (given : List (held.Entry PublicPlace)) (
         ∙ table-more names q (map entry_view (take i given)) next ∙ ap (λ es. table names q es) more_is;
   }
 
-pub no-duplicate : (names : Names) (given : List (held.Entry PublicPlace)) (i : ℕ) → length given ≤ i →
+pub no-duplicate : (names : Names) (given : List (held.Entry Position)) (i : ℕ) → length given ≤ i →
     find (repeats names (map entry_view given)) (take i (enumerate_from 0 (map entry_view given))) ≡ None →
     duplicate_in names (map entry_view given) ≡ None
 no-duplicate names given i h apart =
     let all = map entry_view given in
-    ap (λ (o : Option (ℕ × Entry PublicPlace)). option_map (λ p. DuplicatePublic p.1.name) o)
+    ap (λ (o : Option (ℕ × Entry Position)). option_map (λ p. DuplicatePublic p.1.name) o)
     (ap (λ es. find (repeats names all) es)
     (sym (numbered-all all i (let e = length-map given entry_view in omega (arith, h, e)))) ∙ apart)
 

@@ -7,7 +7,7 @@ use Rattle.std.specs.Option.{option_map, option_to_list}
 use Rattle.omf_module.specs.Module.{PublicSymbol}
 use Rattle.omf_module.specs.Module.{Module}
 use Rattle.omf_place.specs.Parts.{inputs}
-use Rattle.omf_place.specs.declared.layout.PublicPlace.{PublicPlace}
+use Rattle.omf_place.specs.declared.layout.Position.{Position}
 use Rattle.omf_place.specs.declared.scopes.Entry as held
 use Rattle.omf_place.specs.inside.HeldNames.{IsOwner, entry_view}
 use Rattle.omf_place.specs.Scopes.{Entry}
@@ -19,20 +19,20 @@ use Rattle.omf_place.proofs.LinkProgram.{indexed_from}
 use Rattle.omf_place.proofs.Walks.{All-map}
 
 module _ (count : ℕ) where
-  abbrev Owned : Entry PublicPlace → Type 0
+  abbrev Owned : Entry Position → Type 0
   Owned e = IsOwner count e.owner
 
   owner : (local : Bool) (input : ℕ) → input < count → IsOwner count (then_some local input)
   owner true input h = h
   owner false input h = tt
 
-  one : (input : ℕ) (p : PublicSymbol) → input < count → (placed : Option PublicPlace)
+  one : (input : ℕ) (p : PublicSymbol) → input < count → (placed : Option Position)
       → AllByRecursion Owned (option_to_list (option_map (public_entry input p) placed))
   one input p h None = tt
   one input p h (Some x) = (owner p.local input h, tt)
 
   -- of the inputs of a program
-  pub owned : (program : List Module) (A : List ℕ) → length program ≤ count → (es : List (held.Entry PublicPlace)) →
+  pub owned : (program : List Module) (A : List ℕ) → length program ≤ count → (es : List (held.Entry Position)) →
       map entry_view es ≡ placed_publics program A →
       AllByRecursion (λ e. IsOwner count e.owner) es
   owned program A few es made = All-mapped_back entry_view Owned es (subst (λ ys. AllByRecursion Owned ys) (sym made)

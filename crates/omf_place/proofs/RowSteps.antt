@@ -2,7 +2,7 @@
 use Rattle.std.proofs.Common.{◌≡◌, ℕ, ◌+◌, ◌<◌, List, [], ◌∷◌, ◌++◌, length, take, get_or, refl, ap, sym, ◌∙◌, arith}
 use Rattle.std.proofs.lemmas.List.{take_more, map-append, length-map}
 use Rattle.std.proofs.Common.{length-take}
-use Rattle.omf_place.specs.declared.layout.SegmentPlace.{SegmentPlace}
+use Rattle.omf_place.specs.declared.layout.Position.{Position}
 use Rattle.omf_place.specs.declared.sites.Site as stored
 use Rattle.omf_place.specs.declared.stands.Stand.{Stand}
 use Rattle.omf_place.specs.Parts.{Site}
@@ -18,7 +18,7 @@ row-push (x ∷ xs) [] a s e = absurd (omega arith)
 row-push (x ∷ xs) (t ∷ ts) a s e = ap (λ ys. placed_by x.segment.standing t ∷ ys) (row-push xs ts a s (omega arith))
 
 pub row-more : (sites : List stored.Site) (stands : List Stand) (i : ℕ) (ds : stored.Site) (dt : Stand)
-    (done : List SegmentPlace) (y : SegmentPlace) → length stands ≡ length sites → i < length sites →
+    (done : List Position) (y : Position) → length stands ≡ length sites → i < length sites →
     y ≡ placed_by (get_or sites i ds).segment.standing (get_or stands i dt) →
     done ≡ placed_row (sites_view (take i sites)) (take i stands) →
     done ++ y ∷ [] ≡ placed_row (sites_view (take (i + 1) sites)) (take (i + 1) stands)

@@ -3,10 +3,9 @@ use Rattle.std.proofs.Common.{◌≡◌, ℕ, List, [], ◌∷◌, Some, None, r
 use Rattle.std.specs.Prelude.{codes, replicate, ◌++◌}
 use Rattle.omf_module.specs.declared.Kind.TheVariants.{Private, Public, Stack, Common}
 use Rattle.omf_module.specs.declared.Standing.TheVariants.{Relocatable}
-use Rattle.omf_module.specs.declared.SymbolBase.TheVariants.{AtFrame, InSegment}
+use Rattle.omf_record.specs.declared.externals.PublicBase.TheVariants.{AtFrame, InSegment}
 use Rattle.omf_module.specs.Module.{Module, Segment, Group, PublicSymbol}
-use Rattle.omf_place.specs.declared.layout.Address.TheVariants as address
-use Rattle.omf_place.specs.declared.layout.Base.TheVariants as base
+use Rattle.omf_place.specs.declared.layout.Position.TheVariants as position
 use Rattle.omf_place.specs.Parts.{sites, placement_order, Site}
 use Rattle.std.proofs.Common.{◌+◌, ◌%◌, Bool, true, false, ◌&&◌, eqb, ltb, leb, slice_index}
 use Rattle.omf_place.specs.Placed.{IsPlaced, is_unit, unit_alignment, unit_length}
@@ -29,7 +28,7 @@ two = mod_of (seg (codes "CODE") (codes "CODE") 16 Public 18 ∷ seg (codes "_DA
     (record { name = codes "DGROUP"; members = 1 ∷ [] } ∷ []) []
     ∷ mod_of (seg (codes "_DATA") (codes "_DATA") 2 Public 2 ∷ [])
     (record { name = codes "DGROUP"; members = 0 ∷ [] } ∷ [])
-    (record { name = codes "x"; base = InSegment 0 (Some 0); offset = 0; local = false } ∷ [])
+    (record { name = codes "x"; base = InSegment 1 1; offset = 0; local = false } ∷ [])
     ∷ []
 
 two_order : map (λ (a : Site). a.position) (placement_order (sites two)) ≡ 0 ∷ 1 ∷ 2 ∷ []
@@ -52,7 +51,7 @@ two_group : group_frame two (0 ∷ 18 ∷ 22 ∷ []) (codes "DGROUP") ≡ Some 1
 two_group = refl
 
 two_public : public (layout_at Exact two (0 ∷ 18 ∷ 22 ∷ []) 24) (codes "x")
-    ≡ Some (record { address = address.Relocatable 22; frame = Some (base.Relocatable 1) })
+    ≡ Some (position.Relocatable 22 (Some 1))
 two_public = refl
 
 two_fault : placement_fault Exact two (0 ∷ 18 ∷ 22 ∷ []) 24 ≡ None
@@ -134,8 +133,8 @@ large_fails = refl
 -- two publics of one name
 twice : placement_fault Exact
     (one (code 5 ∷ []) []
-    (record { name = codes "x"; base = InSegment 0 None; offset = 0; local = false }
-    ∷ record { name = codes "x"; base = InSegment 0 None; offset = 1; local = false } ∷ [])) (0 ∷ []) 5
+    (record { name = codes "x"; base = InSegment 0 1; offset = 0; local = false }
+    ∷ record { name = codes "x"; base = InSegment 0 1; offset = 1; local = false } ∷ [])) (0 ∷ []) 5
     ≡ Some (DuplicatePublic (codes "x"))
 twice = refl
 
@@ -165,24 +164,24 @@ commons_placed = refl
 
 -- an absolute public
 absolute_public : placed_publics
-    (one [] [] (record { name = codes "x"; base = AtFrame 5682; offset = 22; local = false } ∷ [])) []
+    (one [] [] (record { name = codes "x"; base = AtFrame 0 5682; offset = 22; local = false } ∷ [])) []
     ≡ record {
       owner = None;
       name = codes "x";
-      value = record { address = address.Absolute 90934; frame = Some (base.Absolute 5682) };
+      value = position.Absolute 90934 5682;
     } ∷ []
 absolute_public = refl
 
 -- a public in a group without members
 empty_group : placed_publics
     (one (code 1 ∷ []) (record { name = codes "G"; members = [] } ∷ [])
-    (record { name = codes "x"; base = InSegment 0 (Some 0); offset = 0; local = false } ∷ [])) (0 ∷ [])
-    ≡ record { owner = None; name = codes "x"; value = record { address = address.Relocatable 0; frame = None } } ∷ []
+    (record { name = codes "x"; base = InSegment 1 1; offset = 0; local = false } ∷ [])) (0 ∷ [])
+    ≡ record { owner = None; name = codes "x"; value = position.Relocatable 0 None } ∷ []
 empty_group = refl
 
 -- names that differ in case, and names of one module
 abbrev at_offset : List ℕ → ℕ → Bool → PublicSymbol
-at_offset name offset local = record { name = name; base = InSegment 0 None; offset = offset; local = local }
+at_offset name offset local = record { name = name; base = InSegment 0 1; offset = offset; local = local }
 
 abbrev with_publics : List PublicSymbol → List Module
 with_publics ps = one (code 5 ∷ []) [] ps
@@ -207,7 +206,7 @@ twice_local = refl
 
 local_means : local_public (layout_at AsciiFolded (with_publics (at_offset (codes "x") 1 true ∷ [])) (0 ∷ []) 5) 0
     (codes "X")
-    ≡ Some (record { address = address.Relocatable 1; frame = Some (base.Relocatable 0) })
+    ≡ Some (position.Relocatable 1 (Some 0))
 local_means = refl
 
 local_alone : public (layout_at AsciiFolded (with_publics (at_offset (codes "x") 1 true ∷ [])) (0 ∷ []) 5) (codes "x")

@@ -7,20 +7,16 @@ use Rattle.omf_place.specs.Names.{Table, means}
 use Rattle.omf_place.specs.Scopes.{local_tables, table}
 use Rattle.omf_place.specs.Tables.{placed, leaders, combined_segment, group_frame as frame_of_group, placed_groups}
 use Rattle.omf_place.specs.Tables.{placed_publics}
-use Rattle.omf_place.specs.declared.layout.Address.{Address}
-use Rattle.omf_place.specs.declared.layout.Address.TheVariants as address
-use Rattle.omf_place.specs.declared.layout.Base.{Base}
-use Rattle.omf_place.specs.declared.layout.Base.TheVariants as base
-use Rattle.omf_place.specs.declared.layout.SegmentPlace.{SegmentPlace}
 use Rattle.omf_place.specs.declared.layout.Combined.{Combined}
 use Rattle.omf_place.specs.declared.layout.GroupPlace.{GroupPlace}
-use Rattle.omf_place.specs.declared.layout.PublicPlace.{PublicPlace}
+use Rattle.omf_place.specs.declared.layout.Position.{Position}
+use Rattle.omf_place.specs.declared.layout.Position.TheVariants.{Absolute}
 use Rattle.omf_place.specs.declared.names.Names.{Names}
 use Rattle.omf_place.specs.declared.names.Names.TheVariants.{Exact}
 
 -- the segments of a module, and the frames of its GRPDEFs' groups: a group without members has none
 pub record ModulePlaces : Type 0 where
-  pub segments : List SegmentPlace
+  pub segments : List Position
   pub groups : List (Option ℕ)
 
 -- where everything of a program stands
@@ -33,9 +29,9 @@ pub record Layout : Type 0 where
   -- in order of first meeting
   pub groups : List GroupPlace
   -- each with its name, in order of inputs and records
-  pub publics : Table PublicPlace
+  pub publics : Table Position
   -- the local publics of each module, by input
-  pub locals : List (Table PublicPlace)
+  pub locals : List (Table Position)
 
 -- what the addresses of the segments make of a program
 module _ (program : List Module) (addresses : List ℕ) where
@@ -62,26 +58,21 @@ abbrev pub places_of : Layout → (input : ℕ) → ModulePlaces
 places_of layout input = get_or layout.modules input (record { segments = []; groups = [] })
 
 -- the place of a segment of a module; what is out of range isn't looked at
-abbrev pub segment_in : ModulePlaces → (segment : ℕ) → SegmentPlace
-segment_in places segment =
-    get_or places.segments segment (record { address = address.Absolute 0; frame = base.Absolute 0 })
+abbrev pub segment_in : ModulePlaces → (segment : ℕ) → Position
+segment_in places segment = get_or places.segments segment (Absolute 0 0)
 
 -- where a segment of a module stands
-abbrev pub part_start : Layout → (input segment : ℕ) → Address
-part_start layout input segment = (segment_in (places_of layout input) segment).address
-
--- the frame of its combined segment or, where it is absolute, its own
-abbrev pub segment_frame : Layout → (input segment : ℕ) → Base
-segment_frame layout input segment = (segment_in (places_of layout input) segment).frame
+abbrev pub segment_position : Layout → (input segment : ℕ) → Position
+segment_position layout input segment = segment_in (places_of layout input) segment
 
 -- the frame of a GRPDEF's group, if it has one
 abbrev pub group_frame : Layout → (input group : ℕ) → Option ℕ
 group_frame layout input group = get_or (places_of layout input).groups group None
 
 -- what a name means to all modules
-abbrev pub public : Layout → (name : List ℕ) → Option PublicPlace
+abbrev pub public : Layout → (name : List ℕ) → Option Position
 public layout name = means layout.publics name
 
 -- what it means in one module alone
-abbrev pub local_public : Layout → (input : ℕ) → (name : List ℕ) → Option PublicPlace
+abbrev pub local_public : Layout → (input : ℕ) → (name : List ℕ) → Option Position
 local_public layout input name = means (get_or layout.locals input (record { names = Exact; entries = [] })) name

@@ -1,26 +1,24 @@
 -- Combined segments, groups and publics of a placed program (TIS OMF 1.1, SEGDEF, GRPDEF and PUBDEF).
-use Rattle.std.specs.Prelude.{ℕ, ◌+◌, ◌*◌, ◌/◌, min, max, Bool, false, ◌==◌, ◌&&◌, List, filter, map, fold, find}
+use Rattle.std.specs.Prelude.{ℕ, ◌+◌, ◌-◌, ◌*◌, ◌/◌, min, max, Bool, false, ◌==◌, ◌&&◌, if◌then◌else◌, List}
+use Rattle.std.specs.Prelude.{filter, map, fold, find}
 use Rattle.std.specs.Prelude.{Option, Some, None, slice_index, slice_get}
 use Rattle.std.specs.Bool.{then_some}
 use Rattle.std.specs.List.{enumerate_from, flat_map}
 use Rattle.std.specs.Option.{option_map, option_map_or, option_and_then, option_to_list}
 use Rattle.std.specs.Str.{bytes_eq}
+use Rattle.omf_record.specs.declared.externals.PublicBase.{PublicBase}
+use Rattle.omf_record.specs.declared.externals.PublicBase.TheVariants.{AtFrame, InSegment}
 use Rattle.omf_module.specs.declared.Standing.{Standing}
 use Rattle.omf_module.specs.declared.Standing.TheVariants.{Absolute, Relocatable}
-use Rattle.omf_module.specs.declared.SymbolBase.TheVariants.{AtFrame, InSegment}
-use Rattle.omf_module.specs.declared.SymbolBase.{SymbolBase}
 use Rattle.omf_module.specs.Module.{Module, PublicSymbol}
 use Rattle.omf_place.specs.Parts.{Site, sites, rank, placement_order}
 use Rattle.omf_place.specs.Placed.{greatest, members, leads, address_of}
 use Rattle.omf_place.specs.Parts.{Input, inputs}
 use Rattle.omf_place.specs.Scopes.{Entry}
-use Rattle.omf_place.specs.declared.layout.Address.TheVariants as address
-use Rattle.omf_place.specs.declared.layout.Base.{Base}
-use Rattle.omf_place.specs.declared.layout.Base.TheVariants as base
-use Rattle.omf_place.specs.declared.layout.SegmentPlace.{SegmentPlace}
 use Rattle.omf_place.specs.declared.layout.Combined.{Combined}
 use Rattle.omf_place.specs.declared.layout.GroupPlace.{GroupPlace}
-use Rattle.omf_place.specs.declared.layout.PublicPlace.{PublicPlace}
+use Rattle.omf_place.specs.declared.layout.Position.{Position}
+use Rattle.omf_place.specs.declared.layout.Position.TheVariants as position
 
 -- the combined segments in the order of placement, each by its first part
 abbrev pub leaders : List Site → List Site
@@ -45,14 +43,12 @@ module _ (ss : List Site) (addresses : List ℕ) where
   combined_segment a = record { start = segment_start a; end = segment_end a; input = a.input; segment = a.number }
 
   -- where a segment stands
-  abbrev pub placed_at : Site → Standing → SegmentPlace
-  placed_at a (Absolute frame offset) =
-      record { address = address.Absolute (16 * frame + offset); frame = base.Absolute frame }
-  placed_at a (Relocatable alignment kind) =
-      record { address = address.Relocatable (address_of addresses a); frame = base.Relocatable (segment_frame a) }
+  abbrev pub placed_at : Site → Standing → Position
+  placed_at a (Absolute frame offset) = position.Absolute (16 * frame + offset) frame
+  placed_at a (Relocatable alignment kind) = position.Relocatable (address_of addresses a) (Some (segment_frame a))
 
   -- where a segment stands, by its own definition
-  abbrev pub placed : Site → SegmentPlace
+  abbrev pub placed : Site → Position
   placed a = placed_at a a.segment.standing
 
 -- a GRPDEF, with the sites of its components
@@ -107,32 +103,30 @@ module _ (program : List Module) (addresses : List ℕ) where
   placed_groups = map (λ (g : Grpdef). record { frame = group_frame g.name; input = g.input; group = g.group })
       (filter is_first_grpdef (grpdefs program))
 
-  -- a public of a part has the frame of its group, where it has a group, and else that of its segment
-  abbrev pub public_frame : Module → Site → Option ℕ → Option Base
-  public_frame m a None = Some (base.Relocatable (segment_frame (sites program) addresses a))
-  public_frame m a (Some g) =
-      option_and_then (λ group. option_map base.Relocatable (group_frame group.name)) (slice_get m.groups g)
+  -- a public of a part has the frame of its group, where it has a group, whose index isn't 0, and else that of its segment
+  abbrev pub public_frame : Module → Site → (group : ℕ) → Option ℕ
+  public_frame m a group =
+      if group == 0 then Some (segment_frame (sites program) addresses a)
+      else option_and_then (λ g. group_frame g.name) (slice_get m.groups (group - 1))
 
   -- a public of a segment: it moves with the program where the segment is a part
-  abbrev pub in_segment : Module → Option ℕ → (offset : ℕ) → Site → Standing → PublicPlace
-  in_segment m group offset a (Absolute frame at) =
-      record { address = address.Absolute (16 * frame + at + offset); frame = Some (base.Absolute frame) }
+  abbrev pub in_segment : Module → (group : ℕ) → (offset : ℕ) → Site → Standing → Position
+  in_segment m group offset a (Absolute frame at) = position.Absolute (16 * frame + at + offset) frame
   in_segment m group offset a (Relocatable alignment kind) =
-      record { address = address.Relocatable (address_of addresses a + offset); frame = public_frame m a group }
+      position.Relocatable (address_of addresses a + offset) (public_frame m a group)
 
   -- what a public stands for, if its segment is there
-  abbrev pub placed_public : Input → (offset : ℕ) → SymbolBase → Option PublicPlace
-  placed_public n offset (AtFrame frame) =
-      Some (record { address = address.Absolute (16 * frame + offset); frame = Some (base.Absolute frame) })
-  placed_public n offset (InSegment segment group) =
-      option_map (λ a. in_segment n.says group offset a a.segment.standing) (slice_get n.sites segment)
+  abbrev pub placed_public : Input → (offset : ℕ) → PublicBase → Option Position
+  placed_public n offset (AtFrame group frame) = Some (position.Absolute (16 * frame + offset) frame)
+  placed_public n offset (InSegment group segment) =
+      option_map (λ a. in_segment n.says group offset a a.segment.standing) (slice_get n.sites (segment - 1))
 
   -- the publics of a module, where a local one is one of its module alone
-  abbrev pub publics_of : Input → List (Entry PublicPlace)
+  abbrev pub publics_of : Input → List (Entry Position)
   publics_of n = flat_map (λ (p : PublicSymbol). option_to_list (option_map (λ placed.
       record { owner = then_some p.local n.input; name = p.name; value = placed })
       (placed_public n p.offset p.base))) n.says.publics
 
   -- the publics, local ones too, in order of inputs and records
-  abbrev pub placed_publics : List (Entry PublicPlace)
+  abbrev pub placed_publics : List (Entry Position)
   placed_publics = flat_map publics_of (inputs program)

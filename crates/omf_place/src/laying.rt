@@ -13,7 +13,7 @@ ghost use Rattle.omf_place.specs.inside.OfProgram.{IsPlacedProgram, of_program};
 use crate::faults::{PlaceFault, group_too_long};
 use crate::groups::{Groups, placed_groups};
 use crate::inputs::PlacedProgram;
-use crate::layout::{Combined, PublicPlace};
+use crate::layout::{Combined, Position};
 use crate::lookups::Layout;
 use crate::names::Names;
 use crate::publics::collect_publics;
@@ -37,7 +37,7 @@ fn public_table<A: Allocator + Copy>(
     alloc: A,
     names: Names,
     groups: &Groups<'_, A>,
-) -> Result<Scopes<PublicPlace, A>, PlaceFault<A>>
+) -> Result<Scopes<Position, A>, PlaceFault<A>>
     requires { IsPlacedProgram groups.now.program.now }
     ensures made { IfOk result
         (λ s. s ≡ of_program

@@ -1,26 +1,11 @@
 //! Where everything stands.
 
-/// An address, which moves with the program or not.
+/// Where a segment or a public stands: its address in bytes with its own frame in paragraphs.
 #[derive(Clone, Copy, Debug, PartialEq, Eq)]
-pub enum Address {
-    /// Counted from the start of the program.
-    Relocatable(u32),
-    Absolute(u32),
-}
-
-/// A frame in paragraphs, which moves with the program or not.
-#[derive(Clone, Copy, Debug, PartialEq, Eq)]
-pub enum Base {
-    /// Counted from the start of the program.
-    Relocatable(u16),
-    Absolute(u16),
-}
-
-/// Where a segment of a module stands, and the frame of its combined segment or, where it is absolute, its own.
-#[derive(Clone, Copy, Debug, PartialEq, Eq)]
-pub struct SegmentPlace {
-    pub address: Address,
-    pub frame: Base,
+pub enum Position {
+    /// Both counted from the start of the program, and moving with it. It has no frame where its group has no members.
+    Relocatable(u32, Option<u16>),
+    Absolute(u32, u16),
 }
 
 /// A combined segment: its addresses, the end being the first one past it, and its first part.
@@ -42,11 +27,4 @@ pub struct GroupPlace {
     pub input: usize,
     /// The index of the GRPDEF in its module.
     pub group: usize,
-}
-
-/// What a public stands for. A relocatable one of a group without members has no frame.
-#[derive(Clone, Copy, Debug, PartialEq, Eq)]
-pub struct PublicPlace {
-    pub address: Address,
-    pub frame: Option<Base>,
 }

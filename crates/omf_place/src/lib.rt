@@ -25,7 +25,7 @@ mod starts;
 
 pub use faults::PlaceFault;
 pub use laws::combining;
-pub use layout::{Address, Base, Combined, GroupPlace, PublicPlace, SegmentPlace};
+pub use layout::{Combined, GroupPlace, Position};
 pub use lookups::Layout;
 pub use names::Names;
 pub use placing::place;

@@ -1,9 +1,9 @@
 //! A layout, and what it hands out.
 
 ghost use Rattle.std.specs.Prelude.{◌≡◌, ◌<◌, ◌≤◌, Some, length, slice_get};
-ghost use Rattle.omf_place.specs.Layout.{group_frame, local_public, part_start, places_of, public, segment_frame};
+ghost use Rattle.omf_place.specs.Layout.{group_frame, local_public, places_of, public, segment_position};
 
-use crate::layout::{Address, Base, Combined, GroupPlace, PublicPlace};
+use crate::layout::{Combined, GroupPlace, Position};
 use crate::rows::ModuleRow;
 use crate::scopes::Scopes;
 use std::alloc::{Allocator, Global};
@@ -16,7 +16,7 @@ pub struct Layout<A: Allocator + Copy = Global> {
     pub(crate) modules: Vec<ModuleRow<A>, A>,
     pub(crate) combined: Vec<Combined, A>,
     pub(crate) groups: Vec<GroupPlace, A>,
-    pub(crate) publics: Scopes<PublicPlace, A>,
+    pub(crate) publics: Scopes<Position, A>,
 }
 
 impl<A: Allocator + Copy> Model for Layout<A> {
@@ -47,22 +47,14 @@ impl<A: Allocator + Copy> Layout<A> {
         self.size
     }
 
-    /// The address of a segment's first byte, by the index of its module among the inputs and its own in the module.
-    pub fn part_start(&self, input: usize, segment: usize) -> Address
+    /// Where a segment stands, by the index of its module among the inputs and its own in the module: its address, with
+    /// the frame of its combined segment or, where it is absolute, its own.
+    pub fn segment_position(&self, input: usize, segment: usize) -> Position
         requires input { input < length self.now.modules }
         requires segment { segment < length (places_of self.now input).segments }
-        ensures { result ≡ part_start self.now input segment }
+        ensures { result ≡ segment_position self.now input segment }
     {
-        self.modules[input].segments[segment].address
-    }
-
-    /// The frame of a segment's combined segment, or its own, where it is absolute.
-    pub fn segment_frame(&self, input: usize, segment: usize) -> Base
-        requires input { input < length self.now.modules }
-        requires segment { segment < length (places_of self.now input).segments }
-        ensures { result ≡ segment_frame self.now input segment }
-    {
-        self.modules[input].segments[segment].frame
+        self.modules[input].segments[segment]
     }
 
     /// The frame of a GRPDEF's group, which a group without members hasn't.
@@ -75,7 +67,7 @@ impl<A: Allocator + Copy> Layout<A> {
     }
 
     /// What a name means to all modules: None where no public has it. It takes no memory.
-    pub fn public(&self, name: &[u8]) -> Option<PublicPlace>
+    pub fn public(&self, name: &[u8]) -> Option<Position>
         ensures { result ≡ public self.now name.now }
     {
         self.publics.shared(name)
@@ -84,7 +76,7 @@ impl<A: Allocator + Copy> Layout<A> {
     /// What a name means in a module alone, by its index among the inputs: None where no local public of it has the
     /// name.
     /// It takes no memory.
-    pub fn local_public(&self, input: usize, name: &[u8]) -> Option<PublicPlace>
+    pub fn local_public(&self, input: usize, name: &[u8]) -> Option<Position>
         ensures { result ≡ local_public self.now input name.now }
     {
         self.publics.local(input, name)

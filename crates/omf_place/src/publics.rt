@@ -1,8 +1,8 @@
 //! What publics stand for.
 
-ghost use Rattle.std.specs.Prelude.{◌≡◌, ◌*◌, ◌++◌, ◌/◌, ◌<◌, Some, IfOk, IfSome, OnOk, length, map};
-ghost use Rattle.omf_module.specs.declared.SymbolBase.TheVariants.{InSegment};
-ghost use Rattle.omf_module.specs.Sound.{PublicFits};
+ghost use Rattle.std.specs.Prelude.{◌≡◌, ◌*◌, ◌++◌, ◌/◌, ◌≤◌, Some, IfOk, OnOk, length, map};
+ghost use Rattle.omf_record.specs.declared.externals.PublicBase.TheVariants.{InSegment};
+ghost use Rattle.omf_module.specs.Sound.{IsIndexOf, PublicFits};
 ghost use Rattle.omf_module.specs.Seen.{public_seen};
 ghost use Rattle.omf_place.specs.Parts.{Site, sites};
 ghost use Rattle.omf_place.specs.Tables.{placed_public, placed_publics, public_frame, publics_of, segment_start};
@@ -12,57 +12,55 @@ ghost use Rattle.omf_place.specs.inside.Program.{IsPlacedInput, input_view};
 
 use crate::groups::Groups;
 use crate::inputs::Input;
-use crate::layout::{Address, Base, PublicPlace};
+use crate::layout::Position;
 use crate::scopes::Entry;
 use crate::stands::Stand;
-use omf_module::{PublicSymbol, Standing, SymbolBase};
+use omf_module::{PublicSymbol, Standing};
+use omf_record::PublicBase;
 use std::alloc::{AllocError, Allocator};
 
-/// The frame of a public: that of its group, where it has a group, and else that of its segment.
+/// The frame of a public: that of its group, whose index isn't 0, where it has a group, and else that of its segment.
 fn frame_of_public<A: Allocator + Copy>(
     input: &Input<'_, A>,
     stand: Stand,
-    group: Option<u16>,
+    group: u16,
     groups: &Groups<'_, A>,
-) -> Option<Base>
-    requires { IfSome group (λ g. g < length input.now.says.now.groups) }
+) -> Option<u16>
+    requires { group ≤ length input.now.says.now.groups }
     ensures { (a : Site) → stand.frame ≡ of_program (λ ms. segment_start (sites ms)) groups.now.program.now a / 16 →
         result ≡ of_program public_frame groups.now.program.now input.now.says.now a group }
 {
-    match group {
-        None => Some(Base::Relocatable(stand.frame)),
-        Some(group) => {
-            let frame = groups.frame(input.says.group(usize::from(group)).name)?;
-            Some(Base::Relocatable(frame))
-        }
+    if group == 0 {
+        return Some(stand.frame);
     }
+    groups.frame(input.says.group(usize::from(group) - 1).name)
 }
 
-/// Where a public of a segment stands.
+/// Where a public of a segment stands; segment and group count from 1, and 0 is no group.
 fn public_in_segment<A: Allocator + Copy>(
     input: &Input<'_, A>,
     segment: u16,
-    group: Option<u16>,
+    group: u16,
     offset: u16,
     groups: &Groups<'_, A>,
-) -> PublicPlace
+) -> Position
     requires placed { of_program (λ ms. IsPlacedInput (sites ms)) groups.now.program.now input.now }
-    requires segment { segment < length input.now.says.now.segments }
-    requires group { IfSome group (λ g. g < length input.now.says.now.groups) }
+    requires segment { IsIndexOf input.now.says.now.segments segment }
+    requires group { group ≤ length input.now.says.now.groups }
     ensures { Some result ≡ of_program placed_public groups.now.program.now (input_view input.now) offset
-        (InSegment segment group) }
+        (InSegment group segment) }
 {
-    let segment = usize::from(segment);
+    let segment = usize::from(segment) - 1;
     let stand = input.stands[segment];
     match input.sites[segment].segment.standing {
-        Standing::Absolute { frame, offset: at } => PublicPlace {
-            address: Address::Absolute(16 * u32::from(frame) + u32::from(at) + u32::from(offset)),
-            frame: Some(Base::Absolute(frame)),
-        },
-        Standing::Relocatable { .. } => PublicPlace {
-            address: Address::Relocatable(stand.address + u32::from(offset)),
-            frame: frame_of_public(input, stand, group, groups),
-        },
+        Standing::Absolute { frame, offset: at } => Position::Absolute(
+            16 * u32::from(frame) + u32::from(at) + u32::from(offset),
+            frame,
+        ),
+        Standing::Relocatable { .. } => Position::Relocatable(
+            stand.address + u32::from(offset),
+            frame_of_public(input, stand, group, groups),
+        ),
     }
 }
 
@@ -71,7 +69,7 @@ fn place_of_public<A: Allocator + Copy>(
     input: &Input<'_, A>,
     public: PublicSymbol<'_>,
     groups: &Groups<'_, A>,
-) -> PublicPlace
+) -> Position
     requires placed { of_program (λ ms. IsPlacedInput (sites ms)) groups.now.program.now input.now }
     requires public { PublicFits input.now.says.now.segments input.now.says.now.groups input.now.says.now.externals
         (public_seen public) }
@@ -79,11 +77,10 @@ fn place_of_public<A: Allocator + Copy>(
         (input_view input.now) public.entry.offset public.entry.base }
 {
     match public.base {
-        SymbolBase::AtFrame(frame) => PublicPlace {
-            address: Address::Absolute(16 * u32::from(frame) + u32::from(public.offset)),
-            frame: Some(Base::Absolute(frame)),
-        },
-        SymbolBase::InSegment(segment, group) => {
+        PublicBase::AtFrame { frame, .. } => {
+            Position::Absolute(16 * u32::from(frame) + u32::from(public.offset), frame)
+        }
+        PublicBase::InSegment { group, segment } => {
             public_in_segment(input, segment, group, public.offset, groups)
         }
     }
@@ -91,7 +88,7 @@ fn place_of_public<A: Allocator + Copy>(
 
 /// Adds the publics of a module.
 fn push_publics<'a, A: Allocator + Copy>(
-    all: &mut Vec<Entry<'a, PublicPlace>, A>,
+    all: &mut Vec<Entry<'a, Position>, A>,
     input: &Input<'a, A>,
     groups: &Groups<'_, A>,
 ) -> Result<(), AllocError>
@@ -114,7 +111,7 @@ fn push_publics<'a, A: Allocator + Copy>(
 pub(crate) fn collect_publics<'a, A: Allocator + Copy>(
     alloc: A,
     groups: &Groups<'a, A>,
-) -> Result<Vec<Entry<'a, PublicPlace>, A>, AllocError>
+) -> Result<Vec<Entry<'a, Position>, A>, AllocError>
     requires { IsPlacedProgram groups.now.program.now }
     ensures { IfOk result (λ v. map entry_view v.items ≡ of_program placed_publics groups.now.program.now) }
 {

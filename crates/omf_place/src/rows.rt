@@ -10,14 +10,14 @@ ghost use Rattle.omf_place.specs.inside.Sites.{sites_view};
 
 use crate::groups::{Groups, frames_of};
 use crate::inputs::Input;
-use crate::layout::SegmentPlace;
+use crate::layout::Position;
 use crate::stands::placed_segment;
 use std::alloc::{AllocError, Allocator};
 
 /// The places of a module's segments, and the frame of each GRPDEF's group.
 #[derive(Drop)]
 pub(crate) struct ModuleRow<A: Allocator + Copy> {
-    pub segments: Vec<SegmentPlace, A>,
+    pub segments: Vec<Position, A>,
     pub group_frames: Vec<Option<u16>, A>,
 }
 
@@ -25,7 +25,7 @@ pub(crate) struct ModuleRow<A: Allocator + Copy> {
 fn segments_of<A: Allocator + Copy>(
     alloc: A,
     input: &Input<'_, A>,
-) -> Result<Vec<SegmentPlace, A>, AllocError>
+) -> Result<Vec<Position, A>, AllocError>
     requires { length input.now.stands.now ≡ length input.now.sites.now }
     ensures { IfOk result (λ v. v.items ≡ placed_row (sites_view input.now.sites.now) input.now.stands.now) }
 {

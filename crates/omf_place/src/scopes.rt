@@ -12,7 +12,7 @@ ghost use Rattle.omf_place.specs.Said.{said};
 ghost use Rattle.omf_place.specs.inside.Steps.{same_owner};
 
 use crate::faults::{PlaceFault, duplicate_public};
-use crate::layout::PublicPlace;
+use crate::layout::Position;
 use crate::named::Named;
 use crate::names::Names;
 use std::alloc::{AllocError, Allocator};
@@ -104,8 +104,8 @@ pub(crate) fn index_publics<A: Allocator + Copy>(
     alloc: A,
     names: Names,
     count: usize,
-    entries: &[Entry<'_, PublicPlace>],
-) -> Result<Scopes<PublicPlace, A>, PlaceFault<A>>
+    entries: &[Entry<'_, Position>],
+) -> Result<Scopes<Position, A>, PlaceFault<A>>
     requires { AllByRecursion (λ e. IsOwner count e.owner) entries.now }
     ensures made { IfOk result (λ s. s ≡ scopes_of names count (map entry_view entries.now)) }
     ensures apart { OnOk result (duplicate_in names (map entry_view entries.now) ≡ None) }

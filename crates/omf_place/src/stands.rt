@@ -6,7 +6,7 @@ ghost use Rattle.omf_place.specs.inside.Sites.{sites_view};
 ghost use Rattle.omf_place.specs.inside.Spans.{AreSpans, IsLow, addresses_in};
 ghost use Rattle.omf_place.specs.inside.Stands.{IsFramed, StartsLow, placed_by, stand_by, stand_of};
 
-use crate::layout::{Address, Base, SegmentPlace};
+use crate::layout::Position;
 use crate::sites::Site;
 use crate::spans::SegmentSpan;
 use omf_module::Standing;
@@ -59,17 +59,13 @@ pub(crate) fn collect_stands<A: Allocator + Copy>(
 }
 
 /// A segment, placed.
-pub(crate) fn placed_segment(standing: Standing, stand: Stand) -> SegmentPlace
+pub(crate) fn placed_segment(standing: Standing, stand: Stand) -> Position
     ensures { result ≡ placed_by standing stand }
 {
     match standing {
-        Standing::Absolute { frame, offset } => SegmentPlace {
-            address: Address::Absolute(16 * u32::from(frame) + u32::from(offset)),
-            frame: Base::Absolute(frame),
-        },
-        Standing::Relocatable { .. } => SegmentPlace {
-            address: Address::Relocatable(stand.address),
-            frame: Base::Relocatable(stand.frame),
-        },
+        Standing::Absolute { frame, offset } => {
+            Position::Absolute(16 * u32::from(frame) + u32::from(offset), frame)
+        }
+        Standing::Relocatable { .. } => Position::Relocatable(stand.address, Some(stand.frame)),
     }
 }

@@ -10,8 +10,10 @@ use Rattle.omf_frame.specs.declared.reading.FramingFault.{FramingFault}
 use Rattle.omf_frame.proofs.Frames.{frame_at-framed}
 use Rattle.omf_record.specs.Record.{Record, Modend, Extdef, Pubdef}
 use Rattle.omf_record.specs.Body.{kind_of, Body, BodyFault, IsRecordType}
-use Rattle.omf_record.specs.Records.{Placed, frame_of_record, is_end, AreRecords, AreBeforeEnd, AreToEnd, NoRecord}
-use Rattle.omf_record.specs.Records.{Framing, NoEnd, OtherType, WrongBody, NoRecordAt}
+use Rattle.omf_record.specs.Records.{Placed, frame_of_record, is_end, AreRecords, AreBeforeEnd, AreToEnd}
+use Rattle.omf_record.specs.Records.{NoRecordAt}
+use Rattle.omf_record.specs.declared.fault.NoRecord.{NoRecord}
+use Rattle.omf_record.specs.declared.fault.NoRecord.TheVariants as absent
 use Rattle.omf_record.proofs.RecordLaws.{one_of}
 
 -- ---- MODEND is the type 8AH
@@ -240,12 +242,12 @@ none_is_not f h = cc
 
 no_reason : (place : ℕ) (r : Placed) (s : List ℕ) (why : NoRecord) → frame_at place s ≡ found (frame_of_record r)
     → Body r.says r.body → NoRecordAt place s why → ⊥
-no_reason place r s (Framing e) is b t = err_is_not (frame_of_record r) e (sym t ∙ is)
-no_reason place r s NoEnd is b t = none_is_not (frame_of_record r) (sym t ∙ is)
-no_reason place r s OtherType is b t =
+no_reason place r s (absent.Framing e) is b t = err_is_not (frame_of_record r) e (sym t ∙ is)
+no_reason place r s absent.NoEnd is b t = none_is_not (frame_of_record r) (sym t ∙ is)
+no_reason place r s absent.Type is b t =
     let same : t.0 ≡ frame_of_record r = found_is _ _ (sym t.1 ∙ is) in
     t.2 (r.says, r.body, (ap (λ (v : Frame). v.kind) (sym same), b))
-no_reason place r s (WrongBody at) is b t =
+no_reason place r s (absent.Body at) is b t =
     let same : t.0 ≡ frame_of_record r = found_is _ _ (sym t.1 ∙ is) in
     t.3.none r.says
     (ap (λ (v : Frame). v.kind) (sym same), subst (Body r.says) (ap (λ (v : Frame). v.body) (sym same)) b)
@@ -285,27 +287,28 @@ found_once : (o : Result (Option Frame) FramingFault) (f g : Frame) → o ≡ fo
 found_once o f g a b = found_is f g (sym a ∙ b)
 
 pub one_reason : (place : ℕ) (s : List ℕ) (a b : NoRecord) → NoRecordAt place s a → NoRecordAt place s b → a ≡ b
-one_reason place s (Framing e) (Framing f) h k =
-    ap (λ v. Framing v) (let u : (let r : Result (Option Frame) FramingFault = Err e in r) ≡ Err f = sym h ∙ k in (cc))
-one_reason place s (Framing e) NoEnd h k =
+one_reason place s (absent.Framing e) (absent.Framing f) h k =
+    ap (λ v. absent.Framing v)
+    (let u : (let r : Result (Option Frame) FramingFault = Err e in r) ≡ Err f = sym h ∙ k in (cc))
+one_reason place s (absent.Framing e) absent.NoEnd h k =
     let u : (let r : Result (Option Frame) FramingFault = Err e in r) ≡ Ok None = sym h ∙ k in absurd cc
-one_reason place s (Framing e) OtherType h k = absurd (err_is_not k.0 e (sym h ∙ k.1))
-one_reason place s (Framing e) (WrongBody at) h k = absurd (err_is_not k.0 e (sym h ∙ k.1))
-one_reason place s NoEnd (Framing f) h k =
+one_reason place s (absent.Framing e) absent.Type h k = absurd (err_is_not k.0 e (sym h ∙ k.1))
+one_reason place s (absent.Framing e) (absent.Body at) h k = absurd (err_is_not k.0 e (sym h ∙ k.1))
+one_reason place s absent.NoEnd (absent.Framing f) h k =
     let u : (let r : Result (Option Frame) FramingFault = Err f in r) ≡ Ok None = sym k ∙ h in absurd cc
-one_reason place s NoEnd NoEnd h k = refl
-one_reason place s NoEnd OtherType h k = absurd (none_is_not k.0 (sym h ∙ k.1))
-one_reason place s NoEnd (WrongBody at) h k = absurd (none_is_not k.0 (sym h ∙ k.1))
-one_reason place s OtherType (Framing f) h k = absurd (err_is_not h.0 f (sym k ∙ h.1))
-one_reason place s OtherType NoEnd h k = absurd (none_is_not h.0 (sym k ∙ h.1))
-one_reason place s OtherType OtherType h k = refl
-one_reason place s OtherType (WrongBody at) h k =
+one_reason place s absent.NoEnd absent.NoEnd h k = refl
+one_reason place s absent.NoEnd absent.Type h k = absurd (none_is_not k.0 (sym h ∙ k.1))
+one_reason place s absent.NoEnd (absent.Body at) h k = absurd (none_is_not k.0 (sym h ∙ k.1))
+one_reason place s absent.Type (absent.Framing f) h k = absurd (err_is_not h.0 f (sym k ∙ h.1))
+one_reason place s absent.Type absent.NoEnd h k = absurd (none_is_not h.0 (sym k ∙ h.1))
+one_reason place s absent.Type absent.Type h k = refl
+one_reason place s absent.Type (absent.Body at) h k =
     absurd (h.2 (subst (λ (f : Frame). IsRecordType f.kind) (found_once _ k.0 h.0 k.1 h.1) k.2))
-one_reason place s (WrongBody at) (Framing f) h k = absurd (err_is_not h.0 f (sym k ∙ h.1))
-one_reason place s (WrongBody at) NoEnd h k = absurd (none_is_not h.0 (sym k ∙ h.1))
-one_reason place s (WrongBody at) OtherType h k =
+one_reason place s (absent.Body at) (absent.Framing f) h k = absurd (err_is_not h.0 f (sym k ∙ h.1))
+one_reason place s (absent.Body at) absent.NoEnd h k = absurd (none_is_not h.0 (sym k ∙ h.1))
+one_reason place s (absent.Body at) absent.Type h k =
     absurd (k.2 (subst (λ (f : Frame). IsRecordType f.kind) (found_once _ h.0 k.0 h.1 k.1) h.2))
-one_reason place s (WrongBody at) (WrongBody to) h k =
-    ap (λ n. WrongBody n)
+one_reason place s (absent.Body at) (absent.Body to) h k =
+    ap (λ n. absent.Body n)
     (one_place k.0.kind k.0.body at to
     (subst (λ (f : Frame). BodyFault f.kind f.body at) (found_once _ h.0 k.0 h.1 k.1) h.3) k.3)

@@ -7,5 +7,6 @@ pub mod Canonical
 pub mod Expansion
 pub mod View
 pub mod Answer
+pub mod Labels
 pub mod Records
 pub mod inside

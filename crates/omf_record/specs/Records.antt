@@ -3,9 +3,10 @@
 use Rattle.std.specs.Prelude.{◌≡◌, ℕ, Bool, true, false, List, [], ◌∷◌, map, Some, None, Ok, Err}
 use Rattle.std.specs.List.{AllByRecursion}
 use Rattle.omf_frame.specs.Frame.{Frame, AreFrames, frame_at}
-use Rattle.omf_frame.specs.declared.reading.FramingFault.{FramingFault}
 use Rattle.omf_record.specs.Record.{Record, Modend}
 use Rattle.omf_record.specs.Body.{kind_of, Body, BodyFault, IsRecordType}
+use Rattle.omf_record.specs.declared.fault.NoRecord.{NoRecord}
+use Rattle.omf_record.specs.declared.fault.NoRecord.TheVariants as absent
 
 -- a record as it stands in an input: where it begins, its body, and what the body says
 pub record Placed : Type 0 where
@@ -37,18 +38,11 @@ AreToEnd [] = ⊥
 AreToEnd (r ∷ []) = is_end r.says ≡ true
 AreToEnd (r ∷ s ∷ rs) = (is_end r.says ≡ false) × AreToEnd (s ∷ rs)
 
--- why no record begins where one had to
-pub data NoRecord : Type 0 where
-  Framing : FramingFault → NoRecord
-  NoEnd : NoRecord
-  OtherType : NoRecord
-  WrongBody : (at : ℕ) → NoRecord
-
 -- why none begins at a place, the bytes from there on being these: a framing fault; the end of the input; a frame of
 -- another type, or whose body is none of its type
 abbrev pub NoRecordAt : (place : ℕ) → List ℕ → NoRecord → Type 0
-NoRecordAt place bytes (Framing e) = frame_at place bytes ≡ Err e
-NoRecordAt place bytes NoEnd = frame_at place bytes ≡ Ok None
-NoRecordAt place bytes OtherType = (f : Frame) × (frame_at place bytes ≡ Ok (Some f)) × (IsRecordType f.kind → ⊥)
-NoRecordAt place bytes (WrongBody at) =
+NoRecordAt place bytes (absent.Framing e) = frame_at place bytes ≡ Err e
+NoRecordAt place bytes absent.NoEnd = frame_at place bytes ≡ Ok None
+NoRecordAt place bytes absent.Type = (f : Frame) × (frame_at place bytes ≡ Ok (Some f)) × (IsRecordType f.kind → ⊥)
+NoRecordAt place bytes (absent.Body at) =
     (f : Frame) × (frame_at place bytes ≡ Ok (Some f)) × IsRecordType f.kind × BodyFault f.kind f.body at

@@ -4,8 +4,7 @@ pub use Rattle.omf_record.specs.declared.externals.PublicBase.{PublicBase}
 pub use Rattle.omf_record.specs.declared.fixups.ThreadNumber.{ThreadNumber}
 pub use Rattle.omf_record.specs.declared.fixups.FrameMethod.{FrameMethod}
 pub use Rattle.omf_record.specs.declared.fixups.TargetMethod.{TargetMethod}
-pub use Rattle.omf_record.specs.declared.fixups.FrameDatum.{FrameDatum}
-pub use Rattle.omf_record.specs.declared.fixups.TargetDatum.{TargetDatum}
+pub use Rattle.omf_record.specs.declared.fixups.Datum.{Datum}
 pub use Rattle.omf_record.specs.declared.fixups.Reference.{Reference}
 pub use Rattle.omf_record.specs.declared.fixups.Location.{Location}
 pub use Rattle.omf_record.specs.declared.fixups.Subrecord.{Subrecord}

@@ -25,21 +25,6 @@ pub enum ThreadNumber {
     Three,
 }
 
-/// How a frame is found: frame methods F0, F1, F2, F4 and F5 (TIS OMF 1.1, FIXUPP).
-#[derive(Clone, Copy, Debug, PartialEq, Eq)]
-pub enum FrameMethod {
-    /// F0: the segment with this index.
-    Segment(u16),
-    /// F1: the group with this index.
-    Group(u16),
-    /// F2: what the external name with this index stands for.
-    External(u16),
-    /// F4: the segment of the data record that holds the location.
-    Location,
-    /// F5: the target's own frame.
-    Target,
-}
-
 /// How a target is found: target methods T0, T1 and T2, and without a displacement T4, T5 and T6 (TIS OMF 1.1, FIXUPP).
 #[derive(Clone, Copy, Debug, PartialEq, Eq)]
 pub enum TargetMethod {
@@ -51,27 +36,30 @@ pub enum TargetMethod {
     External(u16),
 }
 
-/// The frame of a reference.
+/// How a frame is found: frame methods F0 to F2, F4 and F5 (TIS OMF 1.1, FIXUPP).
 #[derive(Clone, Copy, Debug, PartialEq, Eq)]
-pub enum FrameDatum {
-    /// The method that this frame thread was last set to.
-    Thread(ThreadNumber),
-    By(FrameMethod),
+pub enum FrameMethod {
+    /// F0, F1 and F2: as the target is found by T0, T1 and T2.
+    By(TargetMethod),
+    /// F4: the segment of the data record that holds the location.
+    Location,
+    /// F5: the target's own frame.
+    Target,
 }
 
-/// The target of a reference.
+/// The frame or the target of a reference.
 #[derive(Clone, Copy, Debug, PartialEq, Eq)]
-pub enum TargetDatum {
-    /// The method that this target thread was last set to.
+pub enum Datum<M> {
+    /// The method that this frame thread, or target thread, was last set to.
     Thread(ThreadNumber),
-    By(TargetMethod),
+    By(M),
 }
 
 /// What a fix-up, or the start of a program, refers to.
 #[derive(Clone, Copy, Debug, PartialEq, Eq)]
 pub struct Reference {
-    pub frame: FrameDatum,
-    pub target: TargetDatum,
+    pub frame: Datum<FrameMethod>,
+    pub target: Datum<TargetMethod>,
     /// What is added to the target's address, in bytes. An absent one counts as 0 and stays absent when written.
     pub displacement: Option<u16>,
 }
@@ -169,9 +157,7 @@ fn frame_number(method: FrameMethod) -> u8
     ensures small { result < 6 }
 {
     match method {
-        FrameMethod::Segment(_) => 0,
-        FrameMethod::Group(_) => 1,
-        FrameMethod::External(_) => 2,
+        FrameMethod::By(method) => target_number(method),
         FrameMethod::Location => 4,
         FrameMethod::Target => 5,
     }
@@ -219,11 +205,7 @@ fn frame_method_of(number: u64, index: Option<u16>) -> FrameMethod
     ensures { result ≡ refs.frame_method_of number index }
 {
     match index {
-        Some(index) => match number {
-            0 => FrameMethod::Segment(index),
-            1 => FrameMethod::Group(index),
-            _ => FrameMethod::External(index),
-        },
+        Some(index) => FrameMethod::By(target_method_of(number, index)),
         None => match number {
             4 => FrameMethod::Location,
             _ => FrameMethod::Target,
@@ -236,8 +218,7 @@ fn frame_method_index(method: FrameMethod) -> Option<u16>
     ensures { result ≡ refs.frame_method_index method }
 {
     match method {
-        FrameMethod::Segment(index) | FrameMethod::Group(index) | FrameMethod::External(index) =>
-            Some(index),
+        FrameMethod::By(method) => Some(target_method_index(method)),
         FrameMethod::Location | FrameMethod::Target => None,
     }
 }
@@ -264,47 +245,47 @@ fn target_method_index(method: TargetMethod) -> u16
 }
 
 /// The frame that a fix data byte says, with the index behind it.
-fn frame_datum_of(byte: u64, index: Option<u16>) -> FrameDatum
+fn frame_datum_of(byte: u64, index: Option<u16>) -> Datum<FrameMethod>
     ensures { result ≡ refs.frame_datum_of byte index }
 {
     if byte / 128 == 1 {
-        FrameDatum::Thread(thread_of(byte / 16 % 4))
+        Datum::Thread(thread_of(byte / 16 % 4))
     } else {
-        FrameDatum::By(frame_method_of(byte / 16 % 8, index))
+        Datum::By(frame_method_of(byte / 16 % 8, index))
     }
 }
 
 /// The target that a fix data byte says, with the index behind it.
-fn target_datum_of(byte: u64, index: Option<u16>) -> TargetDatum
+fn target_datum_of(byte: u64, index: Option<u16>) -> Datum<TargetMethod>
     ensures { result ≡ refs.target_datum_of byte index }
 {
     match index {
-        Some(index) => TargetDatum::By(target_method_of(byte % 4, index)),
-        None => TargetDatum::Thread(thread_of(byte % 4)),
+        Some(index) => Datum::By(target_method_of(byte % 4, index)),
+        None => Datum::Thread(thread_of(byte % 4)),
     }
 }
 
 /// The bits of a frame in the fix data byte, and the index behind it.
-fn frame_bits(frame: FrameDatum) -> (u8, Option<u16>)
+fn frame_bits(frame: Datum<FrameMethod>) -> (u8, Option<u16>)
     ensures bits { result.0 ≡ canon.frame_bits frame }
     ensures small { result.0 < 192 }
     ensures index { result.1 ≡ refs.frame_datum_index frame }
 {
     match frame {
-        FrameDatum::Thread(thread) => (128 + 16 * thread_number(thread), None),
-        FrameDatum::By(method) => (16 * frame_number(method), frame_method_index(method)),
+        Datum::Thread(thread) => (128 + 16 * thread_number(thread), None),
+        Datum::By(method) => (16 * frame_number(method), frame_method_index(method)),
     }
 }
 
 /// The bits of a target in the fix data byte, and the index behind it.
-fn target_bits(target: TargetDatum) -> (u8, Option<u16>)
+fn target_bits(target: Datum<TargetMethod>) -> (u8, Option<u16>)
     ensures bits { result.0 ≡ canon.target_bits target }
     ensures small { result.0 < 12 }
     ensures index { result.1 ≡ refs.target_datum_index target }
 {
     match target {
-        TargetDatum::Thread(thread) => (8 + thread_number(thread), None),
-        TargetDatum::By(method) => (target_number(method), Some(target_method_index(method))),
+        Datum::Thread(thread) => (8 + thread_number(thread), None),
+        Datum::By(method) => (target_number(method), Some(target_method_index(method))),
     }
 }
 

@@ -9,6 +9,7 @@ mod content;
 mod encode;
 mod expand;
 mod externals;
+mod fault;
 mod fixups;
 mod grammar;
 mod output;
@@ -24,9 +25,10 @@ pub use content::place_in_content;
 pub use encode::{encode_record, fits_frame};
 pub use expand::expand_into;
 pub use externals::{External, Line, Public, PublicBase};
+pub use fault::NoRecord;
 pub use fixups::{
-    Fixup, FrameDatum, FrameMethod, Location, Reference, Subrecord, TargetDatum, TargetMethod,
-    ThreadNumber, location_number, thread_number,
+    Datum, Fixup, FrameMethod, Location, Reference, Subrecord, TargetMethod, ThreadNumber,
+    location_number, thread_number,
 };
 pub use grammar::{canonical_shortest, encoded_is_read, one_value};
 pub use parse::{RecordFault, parse_record};

@@ -7,10 +7,8 @@ use Rattle.omf_record.specs.declared.fixups.FrameMethod.{FrameMethod}
 use Rattle.omf_record.specs.declared.fixups.FrameMethod.TheVariants as frame
 use Rattle.omf_record.specs.declared.fixups.TargetMethod.{TargetMethod}
 use Rattle.omf_record.specs.declared.fixups.TargetMethod.TheVariants as target
-use Rattle.omf_record.specs.declared.fixups.FrameDatum.{FrameDatum}
-use Rattle.omf_record.specs.declared.fixups.FrameDatum.TheVariants as frame_datum
-use Rattle.omf_record.specs.declared.fixups.TargetDatum.{TargetDatum}
-use Rattle.omf_record.specs.declared.fixups.TargetDatum.TheVariants as target_datum
+use Rattle.omf_record.specs.declared.fixups.Datum.{Datum}
+use Rattle.omf_record.specs.declared.fixups.Datum.TheVariants as datum
 use Rattle.omf_record.specs.declared.fixups.Reference.{Reference}
 use Rattle.omf_record.specs.declared.fixups.Subrecord.{Subrecord}
 use Rattle.omf_record.specs.declared.fixups.Subrecord.TheVariants.{SetFrame, SetTarget, Fixup}
@@ -36,29 +34,27 @@ line parts = concat (codes "  " ∷ (parts ++ (codes "\n" ∷ [])))
 
 -- ---- references
 
--- frame methods F0, F1, F2, F4 and F5
-abbrev pub frame_method : FrameMethod → List ℕ
-frame_method (frame.Segment index) = concat (codes "method 0 index " ∷ decimal index ∷ [])
-frame_method (frame.Group index) = concat (codes "method 1 index " ∷ decimal index ∷ [])
-frame_method (frame.External index) = concat (codes "method 2 index " ∷ decimal index ∷ [])
-frame_method frame.Location = codes "method 4"
-frame_method frame.Target = codes "method 5"
-
 -- target methods T0, T1 and T2
 abbrev pub target_method : TargetMethod → List ℕ
 target_method (target.Segment index) = concat (codes "method 0 index " ∷ decimal index ∷ [])
 target_method (target.Group index) = concat (codes "method 1 index " ∷ decimal index ∷ [])
 target_method (target.External index) = concat (codes "method 2 index " ∷ decimal index ∷ [])
 
+-- frame methods F0, F1 and F2 as these; F4 and F5
+abbrev pub frame_method : FrameMethod → List ℕ
+frame_method (frame.By method) = target_method method
+frame_method frame.Location = codes "method 4"
+frame_method frame.Target = codes "method 5"
+
 -- the frame of a reference: by a thread's number, or by a method
-abbrev pub frame_of : FrameDatum → List ℕ
-frame_of (frame_datum.Thread thread) = concat (codes "thread " ∷ decimal (thread_number thread) ∷ [])
-frame_of (frame_datum.By method) = frame_method method
+abbrev pub frame_of : Datum FrameMethod → List ℕ
+frame_of (datum.Thread thread) = concat (codes "thread " ∷ decimal (thread_number thread) ∷ [])
+frame_of (datum.By method) = frame_method method
 
 -- the target of a reference, likewise
-abbrev pub target_of : TargetDatum → List ℕ
-target_of (target_datum.Thread thread) = concat (codes "thread " ∷ decimal (thread_number thread) ∷ [])
-target_of (target_datum.By method) = target_method method
+abbrev pub target_of : Datum TargetMethod → List ℕ
+target_of (datum.Thread thread) = concat (codes "thread " ∷ decimal (thread_number thread) ∷ [])
+target_of (datum.By method) = target_method method
 
 -- what is added to a target's address: nothing where it is absent
 abbrev pub displacement : Option ℕ → List ℕ

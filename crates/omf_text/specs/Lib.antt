@@ -1,5 +1,4 @@
 pub mod Printing
-pub mod FaultLines
 pub mod Listing
 pub mod Details
 pub mod Pieces

@@ -11,8 +11,8 @@ use crate::print::{
 use itoa::Buffer;
 use omf_frame::{IoFault, Sink, put_all};
 use omf_record::{
-    Alignment, Combination, FrameDatum, FrameMethod, Location, SegmentLength, TargetDatum,
-    TargetMethod, ThreadNumber, alignment_number, combination_number, location_number,
+    Alignment, Combination, Datum, FrameMethod, Location, SegmentLength, TargetMethod,
+    ThreadNumber, alignment_number, combination_number, location_number,
     thread_number,
 };
 
@@ -82,9 +82,9 @@ pub enum Piece<'a> {
     /// What a target thread is set to.
     TargetMethod(TargetMethod),
     /// The frame of a reference.
-    Frame(FrameDatum),
+    Frame(Datum<FrameMethod>),
     /// The target of a reference.
-    Target(TargetDatum),
+    Target(Datum<TargetMethod>),
     /// What is added to a target's address, nothing where it is absent.
     Displacement(Option<u16>),
 }
@@ -149,9 +149,7 @@ fn put_frame_method<K: Sink>(sink: &mut K, method: FrameMethod) -> Result<(), Io
     ensures { Writes K.written K.failures sink.old sink.new (spec.frame_method method) result }
 {
     match method {
-        FrameMethod::Segment(index) => put_numbered(sink, "method 0 index ", index),
-        FrameMethod::Group(index) => put_numbered(sink, "method 1 index ", index),
-        FrameMethod::External(index) => put_numbered(sink, "method 2 index ", index),
+        FrameMethod::By(method) => put_target_method(sink, method),
         FrameMethod::Location => put_all(sink, b"method 4"),
         FrameMethod::Target => put_all(sink, b"method 5"),
     }
@@ -170,32 +168,32 @@ fn put_target_method<K: Sink>(sink: &mut K, method: TargetMethod) -> Result<(), 
 }
 
 // Writes the frame of a reference.
-fn put_frame<K: Sink>(sink: &mut K, frame: FrameDatum) -> Result<(), IoFault>
+fn put_frame<K: Sink>(sink: &mut K, frame: Datum<FrameMethod>) -> Result<(), IoFault>
     requires { K.failures sink.old < 2 ^ 64 - 1 }
     ensures { Writes K.written K.failures sink.old sink.new (spec.frame_of frame) result }
 {
     match frame {
-        FrameDatum::Thread(thread) => put_numbered(
+        Datum::Thread(thread) => put_numbered(
             sink,
             "thread ",
             u16::from(thread_number(thread)),
         ),
-        FrameDatum::By(method) => put_frame_method(sink, method),
+        Datum::By(method) => put_frame_method(sink, method),
     }
 }
 
 // Writes the target of a reference.
-fn put_target<K: Sink>(sink: &mut K, target: TargetDatum) -> Result<(), IoFault>
+fn put_target<K: Sink>(sink: &mut K, target: Datum<TargetMethod>) -> Result<(), IoFault>
     requires { K.failures sink.old < 2 ^ 64 - 1 }
     ensures { Writes K.written K.failures sink.old sink.new (spec.target_of target) result }
 {
     match target {
-        TargetDatum::Thread(thread) => put_numbered(
+        Datum::Thread(thread) => put_numbered(
             sink,
             "thread ",
             u16::from(thread_number(thread)),
         ),
-        TargetDatum::By(method) => put_target_method(sink, method),
+        Datum::By(method) => put_target_method(sink, method),
     }
 }
 

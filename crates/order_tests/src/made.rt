@@ -1,8 +1,9 @@
 //! What an order module says, as text.
 
-use omf_module::{Kind, Module, ModuleFault, Standing, SymbolBase};
+use omf_module::{Kind, Module, ModuleFault, Standing};
 use omf_order::{Order, OrderFault, order_module};
-use omf_place::{Address, Layout, Names, PublicPlace, place};
+use omf_place::{Layout, Names, Position, place};
+use omf_record::PublicBase;
 use rows::{read_modules, read_row};
 use std::alloc::{AllocError, Global};
 use std::process::Abort;
@@ -64,11 +65,16 @@ fn push_groups(text: &mut String, from: &Module) -> Result<(), Fail> {
     Ok(())
 }
 
-fn push_base(text: &mut String, base: SymbolBase) -> Result<(), AllocError> {
+fn push_base(text: &mut String, base: PublicBase) -> Result<(), AllocError> {
     match base {
-        SymbolBase::InSegment(segment, Some(group)) => write!(text, " {segment} of {group}"),
-        SymbolBase::InSegment(segment, None) => write!(text, " {segment}"),
-        SymbolBase::AtFrame(frame) => write!(text, " at {frame}"),
+        PublicBase::InSegment { group, segment } => {
+            let segment = segment.saturating_sub(1);
+            match group.checked_sub(1) {
+                Some(group) => write!(text, " {segment} of {group}"),
+                None => write!(text, " {segment}"),
+            }
+        }
+        PublicBase::AtFrame { frame, .. } => write!(text, " at {frame}"),
     }
 }
 
@@ -133,12 +139,7 @@ fn push_addresses(text: &mut String, from: &Module, layout: &Layout) -> Result<(
         let public = from.public_symbol(index);
         push_text(text, public.name)?;
         match layout.public(public.name) {
-            Some(
-                PublicPlace {
-                    address: Address::Relocatable(address),
-                    ..
-                },
-            ) => write!(text, " {address}; ")?,
+            Some(Position::Relocatable(address, _)) => write!(text, " {address}; ")?,
             _ => text.push_str(" nowhere; ")?,
         }
     }

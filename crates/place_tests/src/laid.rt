@@ -5,26 +5,18 @@ ghost use Rattle.omf_place.specs.Bounded.{ArePlacesOf, IsBounded};
 ghost use Rattle.omf_place.specs.Layout.{places_of};
 
 use omf_module::Module;
-use omf_place::{Address, Base, Combined, GroupPlace, Layout, Names, PlaceFault, place};
+use omf_place::{Combined, GroupPlace, Layout, Names, PlaceFault, Position, place};
 use rows::{read_modules, read_row};
 use std::alloc::{AllocError, Allocator, Global};
 use std::process::Abort;
 use std::test::*;
 
 /// Appends an address and a frame. What is absolute has a `=`.
-pub fn push_place(
-    text: &mut String,
-    address: Address,
-    frame: Option<Base>,
-) -> Result<(), AllocError> {
-    let (sign, address) = match address {
-        Address::Relocatable(address) => ("", address),
-        Address::Absolute(address) => ("=", address),
-    };
-    match frame {
-        Some(Base::Relocatable(frame)) => write!(text, " {sign}{address}/{frame}"),
-        Some(Base::Absolute(frame)) => write!(text, " {sign}{address}/={frame}"),
-        None => write!(text, " {sign}{address}/-"),
+pub fn push_place(text: &mut String, position: Position) -> Result<(), AllocError> {
+    match position {
+        Position::Relocatable(address, Some(frame)) => write!(text, " {address}/{frame}"),
+        Position::Relocatable(address, None) => write!(text, " {address}/-"),
+        Position::Absolute(address, frame) => write!(text, " ={address}/={frame}"),
     }
 }
 
@@ -38,9 +30,7 @@ fn push_segments<A: Allocator + Copy>(
     requires segments { length (places_of layout.now input).segments ≡ length says.now.segments }
 {
     for segment in 0..says.segment_count() {
-        let address = layout.part_start(input, segment);
-        let frame = layout.segment_frame(input, segment);
-        push_place(text, address, Some(frame))?;
+        push_place(text, layout.segment_position(input, segment))?;
     }
     text.push_str(" |")
 }
@@ -120,7 +110,7 @@ fn push_public<A: Allocator + Copy>(
     match layout.public(b"x") {
         Some(place) => {
             text.push_str("; x")?;
-            push_place(text, place.address, place.frame)
+            push_place(text, place)
         }
         None => Ok(()),
     }

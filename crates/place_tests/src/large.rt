@@ -1,7 +1,7 @@
 //! Many modules and many publics.
 
 use crate::laid::run;
-use omf_place::{Address, Base, Layout, Names, PublicPlace, place};
+use omf_place::{Layout, Names, Position, place};
 use rows::{publics, push_name, read_modules, read_row};
 use std::alloc::{AllocError, Allocator, Global};
 use std::process::Abort;
@@ -19,11 +19,8 @@ fn find_each<R: Abort, A: Allocator + Copy>(
 ) -> Result<(), Fail> {
     for number in 0..count {
         let name = format!(in words; "a{number}")?;
-        let place = PublicPlace {
-            address: Address::Relocatable(u32::from(number)),
-            frame: Some(Base::Relocatable(0)),
-        };
-        assert_eq!(rt; layout.public(name.as_bytes()), Some(place));
+        let position = Position::Relocatable(u32::from(number), Some(0));
+        assert_eq!(rt; layout.public(name.as_bytes()), Some(position));
     }
     assert_eq!(rt; layout.public(b"a"), None);
     Ok(())

@@ -30,7 +30,7 @@ fn meanings<A: Allocator + Copy>(
             Some(_) => None,
         };
         match means {
-            Some(place) => push_place(&mut text, place.address, place.frame)?,
+            Some(position) => push_place(&mut text, position)?,
             None => text.push_str(" none")?,
         }
     }

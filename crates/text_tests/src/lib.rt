@@ -4,8 +4,6 @@
 #[cfg(test)]
 mod details;
 #[cfg(test)]
-mod fault;
-#[cfg(test)]
 mod listing;
 #[cfg(test)]
 mod print;

@@ -2,6 +2,7 @@
 use Rattle.std.specs.Prelude.{ℕ}
 use Rattle.omf_frame.specs.declared.reading.FrameFault.{FrameFault}
 use Rattle.omf_frame.specs.declared.reading.FrameFault.TheVariants as frame
+use Rattle.omf_record.specs.declared.fault.NoRecord.TheVariants as absent
 use Rattle.omf_record.specs.declared.parse.RecordFault.{RecordFault}
 use Rattle.omf_record.specs.declared.parse.RecordFault.TheVariants as body
 use Rattle.omf_place.specs.declared.faults.PlaceFault.{PlaceFault}
@@ -12,25 +13,24 @@ use Rattle.mz.specs.declared.fault.MzFault.{MzFault}
 use Rattle.mz.specs.declared.fault.MzFault.TheVariants as file_fault
 use Rattle.mz.specs.declared.fault.LoadFault.{LoadFault}
 use Rattle.mz.specs.declared.fault.LoadFault.TheVariants as loading
-use Rattle.omf_text.specs.declared.fault.InputFault.TheVariants as fault
-use Rattle.omf_text.specs.declared.fault.ProgramFault.TheVariants as program
-use Rattle.omf_text.specs.declared.fault.FileFault.TheVariants as file
-use Rattle.omf_text.specs.declared.fault.LinkFault.{LinkFault}
-use Rattle.omf_text.specs.declared.fault.LinkFault.TheVariants as link
-use Rattle.omf_commands.specs.Faults.{framing_fault, fix_kind_fault}
+use Rattle.omf_faults.specs.declared.fault.InputFault.TheVariants as fault
+use Rattle.omf_faults.specs.declared.fault.ProgramFault.TheVariants as program
+use Rattle.omf_faults.specs.declared.fault.FileFault.TheVariants as file
+use Rattle.omf_faults.specs.declared.fault.LinkFault.{LinkFault}
+use Rattle.omf_faults.specs.declared.fault.LinkFault.TheVariants as link
 
 -- a fault of reading a record of the only input
 abbrev pub frame_fault : {A : Type 0} → FrameFault → LinkFault A
 frame_fault (frame.Device place) = link.Device 0 place
-frame_fault (frame.Framing place found) = link.Record 0 place (framing_fault found)
+frame_fault (frame.Framing place found) = link.Record 0 place (fault.Absent (absent.Framing found))
 frame_fault frame.Memory = link.Memory
 frame_fault frame.Failed = link.Memory
 
 -- a fault of the body at this place in the only input
 abbrev pub record_fault : {A : Type 0} → (place : ℕ) → RecordFault → LinkFault A
 record_fault place body.Memory = link.Memory
-record_fault place body.OtherType = link.Record 0 place fault.Type
-record_fault place (body.Body at) = link.Record 0 place (fault.Body at)
+record_fault place body.OtherType = link.Record 0 place (fault.Absent absent.Type)
+record_fault place (body.Body at) = link.Record 0 place (fault.Absent (absent.Body at))
 
 -- a fault of placing the modules
 abbrev pub place_fault : {A : Type 0} → PlaceFault A → LinkFault A
@@ -42,7 +42,7 @@ place_fault (place.DuplicatePublic name) = link.Program (program.DuplicatePublic
 
 -- a fault of building the program
 abbrev pub fix_fault : {A : Type 0} → FixFault → LinkFault A
-fix_fault (build.At kind input place) = link.Record input place (fix_kind_fault kind)
+fix_fault (build.At kind input place) = link.Record input place (fault.Fix kind)
 fix_fault build.TooManyRelocations = link.Program program.TooManyRelocations
 fix_fault build.Memory = link.Memory
 

@@ -5,8 +5,8 @@ use Rattle.std.specs.declared.result.Result.{Result}
 use Rattle.omf_module.specs.Module.{Module}
 use Rattle.omf_module.specs.Tables.{module_of}
 use Rattle.omf_record.specs.Records.{Placed}
-use Rattle.omf_text.specs.declared.fault.LinkFault.{LinkFault}
-use Rattle.omf_text.specs.declared.fault.LinkFault.TheVariants as link
+use Rattle.omf_faults.specs.declared.fault.LinkFault.{LinkFault}
+use Rattle.omf_faults.specs.declared.fault.LinkFault.TheVariants as link
 use Rattle.omf_commands.specs.Inputs.{AreInputs, StopsAtRecord, StopsForMemory}
 
 -- over sources that tell their bytes to come, and how many of their calls failed

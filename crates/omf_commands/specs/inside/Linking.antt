@@ -3,8 +3,8 @@ use Rattle.std.specs.Prelude.{List, Ok, Err}
 use Rattle.std.specs.declared.result.Result.{Result}
 use Rattle.omf_module.specs.Module.{Module}
 use Rattle.omf_place.specs.declared.names.Names.{Names}
-use Rattle.omf_text.specs.declared.fault.LinkFault.{LinkFault}
-use Rattle.omf_text.specs.declared.fault.LinkFault.TheVariants as link
+use Rattle.omf_faults.specs.declared.fault.LinkFault.{LinkFault}
+use Rattle.omf_faults.specs.declared.fault.LinkFault.TheVariants as link
 use Rattle.omf_commands.specs.declared.linking.Report.{Report}
 use Rattle.omf_commands.specs.Linking.{IsModulesFault, IsReport}
 

@@ -10,17 +10,18 @@ use Rattle.omf_record.specs.declared.record.Record.{Record}
 use Rattle.omf_record.specs.View.{view}
 use Rattle.omf_record.specs.Canonical.{FitsFrame}
 use Rattle.omf_record.specs.Records.{Placed}
-use Rattle.omf_text.specs.declared.fault.InputFault.{InputFault}
-use Rattle.omf_text.specs.declared.fault.InputFault.TheVariants as fault
-use Rattle.omf_text.specs.declared.fault.LinkFault.{LinkFault}
-use Rattle.omf_text.specs.declared.fault.LinkFault.TheVariants as link
+use Rattle.omf_record.specs.declared.fault.NoRecord.TheVariants as absent
+use Rattle.omf_faults.specs.declared.fault.InputFault.{InputFault}
+use Rattle.omf_faults.specs.declared.fault.InputFault.TheVariants as fault
+use Rattle.omf_faults.specs.declared.fault.LinkFault.{LinkFault}
+use Rattle.omf_faults.specs.declared.fault.LinkFault.TheVariants as link
 use Rattle.omf_commands.specs.Records.{output}
 
 -- a framed record's type is none of the fourteen, or its body is none of its type
 abbrev pub IsBodyFault : (kind : ℕ) (body : List ℕ) → InputFault → Type 0
 IsBodyFault kind body found =
-    ((IsRecordType kind → ⊥) × (found ≡ fault.Type))
-    ⊎ ((at : ℕ) × IsRecordType kind × BodyFault kind body at × (found ≡ fault.Body at))
+    ((IsRecordType kind → ⊥) × (found ≡ fault.Absent absent.Type))
+    ⊎ ((at : ℕ) × IsRecordType kind × BodyFault kind body at × (found ≡ fault.Absent (absent.Body at)))
 
 -- what a frame's body says, which can be written again, or the fault of its type or body
 abbrev pub Parses : {A : Type 0} → (place kind : ℕ) (body : List ℕ) → Result (Record A) (LinkFault A) → Type 0

@@ -2,10 +2,6 @@
 use Rattle.std.specs.Prelude.{ℕ, ◌≤◌, Result, Ok, Err, Option, Some, None, List, [], ◌∷◌}
 use Rattle.std.specs.Option.{option_map_or}
 use Rattle.std.specs.Result.{result_ok}
-use Rattle.omf_module.specs.declared.FixupFrame.{FixupFrame}
-use Rattle.omf_module.specs.declared.FixupFrame.TheVariants.{OfSegment, OfGroup, OfExternal, OfLocation, OfTarget}
-use Rattle.omf_module.specs.declared.FixupTarget.{FixupTarget}
-use Rattle.omf_module.specs.declared.FixupTarget.TheVariants as fixup_target
 use Rattle.omf_module.specs.declared.ResolvedFixup.{ResolvedFixup}
 use Rattle.omf_image.specs.declared.reference.Missing.{Missing}
 use Rattle.omf_image.specs.declared.reference.Missing.TheVariants.{Public, Members}
@@ -21,14 +17,6 @@ abbrev pub found : {A : Type 0} → Result A Missing → Result A FixKind
 found (Ok a) = Ok a
 found (Err Public) = Err Unresolved
 found (Err Members) = Err EmptyGroup
-
--- the target whose frame a method names; here is the segment of the data record
-abbrev pub framed_by : (here : ℕ) → FixupTarget → FixupFrame → FixupTarget
-framed_by here target (OfSegment segment) = fixup_target.Segment segment
-framed_by here target (OfGroup group) = fixup_target.Group group
-framed_by here target (OfExternal external) = fixup_target.External external
-framed_by here target OfLocation = fixup_target.Segment here
-framed_by here target OfTarget = target
 
 -- what a fix-up adds for what was found
 abbrev pub patches_of : (P : ℕ) → Result Resolved FixKind → ResolvedFixup → (start : ℕ) → (positions : List ℕ)

@@ -1,12 +1,13 @@
 -- What holds of sound modules and their layout: what fix-ups and starts name is there, and data lies inside the
 -- program.
 use Rattle.std.specs.Prelude.{ℕ, ◌+◌, ◌<◌, ◌≤◌, All, List, length}
-use Rattle.omf_module.specs.declared.FixupFrame.{FixupFrame}
-use Rattle.omf_module.specs.declared.FixupFrame.TheVariants.{OfSegment, OfGroup, OfExternal, OfLocation, OfTarget}
-use Rattle.omf_module.specs.declared.FixupTarget.{FixupTarget}
-use Rattle.omf_module.specs.declared.FixupTarget.TheVariants as fixup_target
+use Rattle.omf_record.specs.declared.fixups.FrameMethod.{FrameMethod}
+use Rattle.omf_record.specs.declared.fixups.FrameMethod.TheVariants as by
+use Rattle.omf_record.specs.declared.fixups.TargetMethod.{TargetMethod}
+use Rattle.omf_record.specs.declared.fixups.TargetMethod.TheVariants as to
 use Rattle.omf_module.specs.declared.ResolvedFixup.{ResolvedFixup}
 use Rattle.omf_module.specs.Module.{Module}
+use Rattle.omf_module.specs.Sound.{IsIndexOf}
 use Rattle.omf_place.specs.Layout.{Layout, places_of}
 use Rattle.omf_record.specs.Numbers.{location_width}
 use Rattle.omf_image.specs.Records.{Entry, entries, entry_start, bytes_of, stored_of}
@@ -15,18 +16,16 @@ use Rattle.omf_record.specs.Expansion.{StandWhole, AreCopies}
 use Rattle.omf_image.specs.Registers.{StartEntry, starts}
 
 -- segments, groups and externals that a reference names are there
-abbrev pub IsTargetThere : Layout → (input : ℕ) → Module → FixupTarget → Type 0
-IsTargetThere layout input module' (fixup_target.Segment segment) = segment < length (places_of layout input).segments
-IsTargetThere layout input module' (fixup_target.Group group) = group < length (places_of layout input).groups
-IsTargetThere layout input module' (fixup_target.External external) = external < length module'.externals
+abbrev pub IsTargetThere : Layout → (input : ℕ) → Module → TargetMethod → Type 0
+IsTargetThere layout input module' (to.Segment index) = IsIndexOf (places_of layout input).segments index
+IsTargetThere layout input module' (to.Group index) = IsIndexOf (places_of layout input).groups index
+IsTargetThere layout input module' (to.External index) = IsIndexOf module'.externals index
 
 -- and so are those that its frame names
-abbrev pub IsFrameThere : Layout → (input : ℕ) → Module → (here : ℕ) → FixupFrame → Type 0
-IsFrameThere layout input module' here (OfSegment segment) = segment < length (places_of layout input).segments
-IsFrameThere layout input module' here (OfGroup group) = group < length (places_of layout input).groups
-IsFrameThere layout input module' here (OfExternal external) = external < length module'.externals
-IsFrameThere layout input module' here OfLocation = here < length (places_of layout input).segments
-IsFrameThere layout input module' here OfTarget = Unit {0}
+abbrev pub IsFrameThere : Layout → (input : ℕ) → Module → (here : ℕ) → FrameMethod → Type 0
+IsFrameThere layout input module' here (by.By method) = IsTargetThere layout input module' method
+IsFrameThere layout input module' here by.Location = here < length (places_of layout input).segments
+IsFrameThere layout input module' here by.Target = Unit {0}
 
 -- what a fix-up names is there, and its location lies in the contents of its data
 pub record IsFixupReady (layout : Layout) (entry : Entry) (fixup : ResolvedFixup) : Type 0 where

@@ -2,13 +2,15 @@
 use Rattle.std.specs.Prelude.{◌≡◌, ℕ, List, ◌⊎◌}
 use Rattle.std.specs.declared.option.Option.{Option}
 use Rattle.std.specs.Io.KnownBytes.{Consumes}
-use Rattle.omf_record.specs.Records.{Placed, NoRecord, NoRecordAt}
+use Rattle.omf_record.specs.Records.{Placed, NoRecordAt}
+use Rattle.omf_record.specs.declared.fault.NoRecord.{NoRecord}
 use Rattle.omf_module.specs.declared.fault.FaultKind.{FaultKind}
-use Rattle.omf_module.specs.Bytes.{Beginning, RefusedAt, reading_kind}
+use Rattle.omf_module.specs.declared.fault.FaultKind.TheVariants as kind
+use Rattle.omf_module.specs.Bytes.{Beginning, RefusedAt}
 
 -- no record begins at a place
 abbrev pub StopsAt : (place : ℕ) → List ℕ → FaultKind → Type 0
-StopsAt place bytes found = (why : NoRecord) × NoRecordAt place bytes why × (found ≡ reading_kind why)
+StopsAt place bytes found = (why : NoRecord) × NoRecordAt place bytes why × (found ≡ kind.Absent why)
 
 -- the fault of what stands behind these records
 abbrev pub FaultBehind : (before : List Placed) → (place : ℕ) → List ℕ → FaultKind → Type 0

@@ -5,7 +5,7 @@ use Rattle.omf_record.specs.Numbers.{segment_len}
 use Rattle.omf_record.specs.declared.segments.SegmentDefinition.{SegmentDefinition}
 use Rattle.omf_record.specs.declared.externals.PublicBase.{PublicBase}
 use Rattle.omf_module.specs.Module.{Segment, Group, ExternalSymbol, PublicSymbol}
-use Rattle.omf_module.specs.Tables.{name_at, standing_of, base_of}
+use Rattle.omf_module.specs.Tables.{name_at, standing_of}
 
 -- a segment by its definition, with the names before it
 abbrev pub segment_of : List (List ℕ) → SegmentDefinition → Segment
@@ -27,4 +27,4 @@ external_of local external = record { name = external.name; local = local }
 -- a public symbol by its definition
 abbrev pub public_of : Bool → PublicBase → Public → PublicSymbol
 public_of local base public_symbol =
-    record { name = public_symbol.name; base = base_of base; offset = public_symbol.offset; local = local }
+    record { name = public_symbol.name; base = base; offset = public_symbol.offset; local = local }

@@ -19,7 +19,7 @@ use Rattle.omf_module.specs.Module.{PublicSymbol, DataRecord, Module}
 use Rattle.omf_module.specs.Before.{first, entry}
 use Rattle.omf_module.specs.Tables.{subrecords, frame_thread}
 use Rattle.omf_module.specs.inside.Entries.{segment_of, group_of, external_of, public_of}
-use Rattle.omf_module.specs.Tables.{target_thread, frame_used, target_used, fixup_of, start_of, data_records, publics}
+use Rattle.omf_module.specs.Tables.{target_thread, used, fixup_of, start_of, data_records, publics}
 use Rattle.omf_module.specs.Tables.{start}
 use Rattle.omf_module.specs.Faults.{Tables, tables, group_items, begun, header_fault, segment_fault}
 use Rattle.omf_module.specs.inside.Contents.{last_contents}
@@ -94,8 +94,8 @@ step_subrecord place state (sub.SetFrame thread method) =
 step_subrecord place state (sub.SetTarget thread method) =
     Ok (record state { target_threads = slice_set state.target_threads (thread_number thread) (Some method) })
 step_subrecord place state (sub.Fixup fixup) =
-    let frame = frame_used (slot state.frame_threads) fixup.reference.frame in
-    let target = target_used (slot state.target_threads) fixup.reference.target in
+    let frame = used (slot state.frame_threads) fixup.reference.frame in
+    let target = used (slot state.target_threads) fixup.reference.target in
     checked (fixup_fault state.tables frame target state.contents fixup)
     (record state {
       data_records =
@@ -141,8 +141,8 @@ step_record place state (Lidata segment offset blocks) =
 step_record place state (Fixupp subs) = step_subrecords place state subs
 step_record place state (Modend main None) = Ok state
 step_record place state (Modend main (Some reference)) =
-    let frame = frame_used (slot state.frame_threads) reference.frame in
-    let target = target_used (slot state.target_threads) reference.target in
+    let frame = used (slot state.frame_threads) reference.frame in
+    let target = used (slot state.target_threads) reference.target in
     checked (start_fault state.tables frame target)
     (record state { start = later (start_of place reference frame target) state.start })
 

@@ -1,10 +1,9 @@
 -- Where segments stand, as the code holds it.
-use Rattle.std.specs.Prelude.{◌≡◌, ℕ, ◌+◌, ◌*◌, ◌/◌, ◌≤◌, true, List}
+use Rattle.std.specs.Prelude.{◌≡◌, ℕ, ◌+◌, ◌*◌, ◌/◌, ◌≤◌, true, List, Some}
 use Rattle.omf_module.specs.declared.Standing.{Standing}
 use Rattle.omf_module.specs.declared.Standing.TheVariants.{Absolute, Relocatable}
-use Rattle.omf_place.specs.declared.layout.Address.TheVariants as address
-use Rattle.omf_place.specs.declared.layout.Base.TheVariants as base
-use Rattle.omf_place.specs.declared.layout.SegmentPlace.{SegmentPlace}
+use Rattle.omf_place.specs.declared.layout.Position.{Position}
+use Rattle.omf_place.specs.declared.layout.Position.TheVariants as position
 use Rattle.omf_place.specs.declared.spans.SegmentSpan.{SegmentSpan}
 use Rattle.omf_place.specs.declared.stands.Stand.{Stand}
 use Rattle.omf_place.specs.Parts.{Site, is_part}
@@ -30,8 +29,6 @@ abbrev pub StartsLow : List Site → List ℕ → Site → Type 0
 StartsLow ss addresses a = is_part a ≡ true → segment_start ss addresses a ≤ 1048560
 
 -- the place of a segment, by its stand
-abbrev pub placed_by : Standing → Stand → SegmentPlace
-placed_by (Absolute frame offset) s =
-    record { address = address.Absolute (16 * frame + offset); frame = base.Absolute frame }
-placed_by (Relocatable alignment kind) s =
-    record { address = address.Relocatable s.address; frame = base.Relocatable s.frame }
+abbrev pub placed_by : Standing → Stand → Position
+placed_by (Absolute frame offset) s = position.Absolute (16 * frame + offset) frame
+placed_by (Relocatable alignment kind) s = position.Relocatable s.address (Some s.frame)

@@ -11,7 +11,7 @@ use Rattle.omf_place.specs.Scopes.{Entry, clashes}
 use Rattle.omf_place.specs.Tables.{Grpdef, segment_frame, segment_end, group_frame, placed_publics}
 use Rattle.omf_place.specs.Faults.{PlacementFault, ProgramTooLarge, is_too_long, group_fault, duplicate_in}
 use Rattle.omf_place.specs.declared.layout.GroupPlace.{GroupPlace}
-use Rattle.omf_place.specs.declared.layout.PublicPlace.{PublicPlace}
+use Rattle.omf_place.specs.declared.layout.Position.{Position}
 use Rattle.omf_place.specs.declared.names.Names.{Names}
 
 -- a table without names
@@ -40,7 +40,7 @@ placed_group program addresses g =
     record { frame = group_frame program addresses g.name; input = g.input; group = g.group }
 
 -- a local public is one of its module alone
-abbrev pub public_entry : (input : ℕ) → PublicSymbol → PublicPlace → Entry PublicPlace
+abbrev pub public_entry : (input : ℕ) → PublicSymbol → Position → Entry Position
 public_entry input p placed = record { owner = then_some p.local input; name = p.name; value = placed }
 
 -- fault 22: a combined segment is too long

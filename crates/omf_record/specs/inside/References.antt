@@ -13,31 +13,17 @@ use Rattle.omf_record.specs.inside.FormatLaws.{when_canonical, WhenText, bits_at
 use Rattle.omf_record.specs.inside.PrimitiveLaws.{index, index_lawful, index_blank, word, word_lawful, word_blank}
 use Rattle.omf_record.specs.inside.PrimitiveLaws.{fact_byte}
 use Rattle.omf_record.specs.inside.Heads.{ByHead, joined, by_head, by_head_lawful, by_head_blank}
-use Rattle.omf_record.specs.Types.{ThreadNumber, FrameMethod, TargetMethod, FrameDatum, TargetDatum, Reference}
+use Rattle.omf_record.specs.Types.{ThreadNumber, FrameMethod, TargetMethod, Datum, Reference}
 use Rattle.omf_record.specs.declared.fixups.ThreadNumber.TheVariants.{Zero, One, Two, Three}
 use Rattle.omf_record.specs.declared.fixups.FrameMethod.TheVariants as frame
 use Rattle.omf_record.specs.declared.fixups.TargetMethod.TheVariants as target
-use Rattle.omf_record.specs.declared.fixups.FrameDatum.TheVariants as frame_datum
-use Rattle.omf_record.specs.declared.fixups.TargetDatum.TheVariants as target_datum
+use Rattle.omf_record.specs.declared.fixups.Datum.TheVariants as datum
 
 -- ---- threads and methods by their numbers
 
 -- the thread of this number
 abbrev pub thread_of : ℕ → ThreadNumber
 thread_of n = cond (eqb n 0) Zero (cond (eqb n 1) One (cond (eqb n 2) Two Three))
-
--- the frame's method of this number, with the index behind it
-abbrev pub frame_method_of : ℕ → Option ℕ → FrameMethod
-frame_method_of n (Some i) = cond (eqb n 0) (frame.Segment i) (cond (eqb n 1) (frame.Group i) (frame.External i))
-frame_method_of n None = cond (eqb n 4) frame.Location frame.Target
-
--- the index behind a frame's method
-abbrev pub frame_method_index : FrameMethod → Option ℕ
-frame_method_index (frame.Segment i) = Some i
-frame_method_index (frame.Group i) = Some i
-frame_method_index (frame.External i) = Some i
-frame_method_index frame.Location = None
-frame_method_index frame.Target = None
 
 -- the target's method of this number, with the index behind it
 abbrev pub target_method_of : ℕ → ℕ → TargetMethod
@@ -49,6 +35,17 @@ target_method_index (target.Segment i) = i
 target_method_index (target.Group i) = i
 target_method_index (target.External i) = i
 
+-- the frame's method of this number, with the index behind it
+abbrev pub frame_method_of : ℕ → Option ℕ → FrameMethod
+frame_method_of n (Some i) = frame.By (target_method_of n i)
+frame_method_of n None = cond (eqb n 4) frame.Location frame.Target
+
+-- the index behind a frame's method
+abbrev pub frame_method_index : FrameMethod → Option ℕ
+frame_method_index (frame.By m) = Some (target_method_index m)
+frame_method_index frame.Location = None
+frame_method_index frame.Target = None
+
 -- ---- the fix data byte
 
 -- no frame method 3, 6 or 7, and no target method 3
@@ -56,24 +53,24 @@ abbrev pub IsFixData : ℕ → Type 0
 IsFixData b = (b / 16 ≢ 3) × (b / 16 ≢ 6) × (b / 16 ≢ 7) × (b % 16 ≢ 3) × (b % 16 ≢ 7)
 
 -- the frame that a fix data byte says
-abbrev pub frame_datum_of : ℕ → Option ℕ → FrameDatum
-frame_datum_of b x = cond (eqb (b / 128) 1) (frame_datum.Thread (thread_of (b / 16 % 4)))
-    (frame_datum.By (frame_method_of (b / 16 % 8) x))
+abbrev pub frame_datum_of : ℕ → Option ℕ → Datum FrameMethod
+frame_datum_of b x = cond (eqb (b / 128) 1) (datum.Thread (thread_of (b / 16 % 4)))
+    (datum.By (frame_method_of (b / 16 % 8) x))
 
 -- the index behind a frame
-abbrev pub frame_datum_index : FrameDatum → Option ℕ
-frame_datum_index (frame_datum.Thread n) = None
-frame_datum_index (frame_datum.By m) = frame_method_index m
+abbrev pub frame_datum_index : Datum FrameMethod → Option ℕ
+frame_datum_index (datum.Thread n) = None
+frame_datum_index (datum.By m) = frame_method_index m
 
 -- the target that a fix data byte says
-abbrev pub target_datum_of : ℕ → Option ℕ → TargetDatum
-target_datum_of b (Some i) = target_datum.By (target_method_of (b % 4) i)
-target_datum_of b None = target_datum.Thread (thread_of (b % 4))
+abbrev pub target_datum_of : ℕ → Option ℕ → Datum TargetMethod
+target_datum_of b (Some i) = datum.By (target_method_of (b % 4) i)
+target_datum_of b None = datum.Thread (thread_of (b % 4))
 
 -- the index behind a target
-abbrev pub target_datum_index : TargetDatum → Option ℕ
-target_datum_index (target_datum.Thread n) = None
-target_datum_index (target_datum.By m) = Some (target_method_index m)
+abbrev pub target_datum_index : Datum TargetMethod → Option ℕ
+target_datum_index (datum.Thread n) = None
+target_datum_index (datum.By m) = Some (target_method_index m)
 
 frame_to : (b : ℕ) (x : Option ℕ) (text : List ℕ) → b < 256 → IsFixData b → WhenText (b / 64 % 4 ≡ 0) Index x text
     → FrameBits (frame_datum_of b x) b × FrameText (frame_datum_of b x) text
@@ -87,11 +84,11 @@ displacement_to : (x : Option ℕ) (b : ℕ) (text : List ℕ) → WhenText (b /
     → (bits 2 2 b ≡ absent x) × optional Word x text
 displacement_to x b text l = grind (arith, l)
 
-frame_from : (f : FrameDatum) (b : ℕ) (text : List ℕ) → b < 256 → FrameBits f b → FrameText f text
+frame_from : (f : Datum FrameMethod) (b : ℕ) (text : List ℕ) → b < 256 → FrameBits f b → FrameText f text
     → WhenText (b / 64 % 4 ≡ 0) Index (frame_datum_index f) text
 frame_from f b text lt h l = grind (arith, h, l)
 
-target_from : (t : TargetDatum) (b : ℕ) (text : List ℕ) → TargetBits t b → TargetText t text
+target_from : (t : Datum TargetMethod) (b : ℕ) (text : List ℕ) → TargetBits t b → TargetText t text
     → WhenText (b / 8 % 2 ≡ 0) Index (target_datum_index t) text
 target_from t b text h l = grind (arith, h, l)
 
@@ -99,28 +96,28 @@ displacement_from : (x : Option ℕ) (b : ℕ) (text : List ℕ) → bits 2 2 b 
     → WhenText (b / 4 % 2 ≡ 0) Word x text
 displacement_from x b text h l = grind (arith, h, l)
 
-frame_in : (f : FrameDatum) (b : ℕ) → b < 256 → FrameBits f b → (b / 16 ≢ 3) × (b / 16 ≢ 6) × (b / 16 ≢ 7)
+frame_in : (f : Datum FrameMethod) (b : ℕ) → b < 256 → FrameBits f b → (b / 16 ≢ 3) × (b / 16 ≢ 6) × (b / 16 ≢ 7)
     × (frame_datum_of b (frame_datum_index f) ≡ f)
 frame_in f b lt h = grind (arith, h)
 
-target_in : (t : TargetDatum) (b : ℕ) → TargetBits t b → (b % 16 ≢ 3) × (b % 16 ≢ 7)
+target_in : (t : Datum TargetMethod) (b : ℕ) → TargetBits t b → (b % 16 ≢ 3) × (b % 16 ≢ 7)
     × (target_datum_of b (target_datum_index t) ≡ t)
 target_in t b h = grind (arith, h)
 
 -- the canonical byte has the bits
 
-frame_bits : (f : FrameDatum) (x : ℕ) → x < 16 → FrameBits f (canon.frame_bits f + x) × (canon.frame_bits f < 241)
+frame_bits : (f : Datum FrameMethod) (x : ℕ) → x < 16 → FrameBits f (canon.frame_bits f + x) × (canon.frame_bits f < 241)
     × (canon.frame_bits f % 16 ≡ 0)
 frame_bits f x lt = grind arith
 
-target_bits : (t : TargetDatum) (p q : ℕ) → p < 2 → TargetBits t (16 * q + 4 * p + canon.target_bits t)
+target_bits : (t : Datum TargetMethod) (p q : ℕ) → p < 2 → TargetBits t (16 * q + 4 * p + canon.target_bits t)
     × (canon.target_bits t < 12) × (canon.target_bits t % 8 < 4)
 target_bits t p q lt = grind arith
 
-frame_same : (f : FrameDatum) → when_canonical canon.index (frame_datum_index f) ≡ canon.frame_text f
+frame_same : (f : Datum FrameMethod) → when_canonical canon.index (frame_datum_index f) ≡ canon.frame_text f
 frame_same f = grind arith
 
-target_same : (t : TargetDatum) → when_canonical canon.index (target_datum_index t) ≡ canon.target_text t
+target_same : (t : Datum TargetMethod) → when_canonical canon.index (target_datum_index t) ≡ canon.target_text t
 target_same t = grind arith
 
 displacement_same : (x : Option ℕ) → when_canonical canon.word x ≡ canon.displacement_text x

@@ -10,9 +10,10 @@ use Rattle.omf_frame.specs.Lending.{plain_frame, next_place, IfFrame}
 use Rattle.omf_frame.specs.declared.frame.Frame.{Frame}
 use Rattle.omf_frame.proofs.Told.{Keeps-refl, at_some}
 use Rattle.omf_frame.specs.declared.reading.FrameFault.{FrameFault}
-use Rattle.omf_record.specs.Records.{Placed, NoEnd}
+use Rattle.omf_record.specs.Records.{Placed}
+use Rattle.omf_record.specs.declared.fault.NoRecord.TheVariants as absent
 use Rattle.omf_record.proofs.Records.{AreBeforeEnd-push, AreToEnd-push, kind_end, not_end}
-use Rattle.omf_text.specs.declared.fault.InputFault.TheVariants as fault
+use Rattle.omf_faults.specs.declared.fault.InputFault.TheVariants as fault
 use Rattle.omf_commands.specs.Records.{output, FaultAt}
 use Rattle.omf_commands.proofs.Through.{begun, one_more, stopped, refused}
 use Rattle.omf_commands.proofs.records.go_through.Goals as goal
@@ -42,8 +43,8 @@ returns-in-Ok-None-clause-output g c =
       through,
       refl,
       at,
-      IfSome_then told {Q = (λ bytes. FaultAt place bytes fault.NoEnd)} exact
-          (λ bytes e. (NoEnd, e, refl)),
+      IfSome_then told {Q = (λ bytes. FaultAt place bytes (fault.Absent absent.NoEnd))} exact
+          (λ bytes e. (absent.NoEnd, e, refl)),
       c.in-Ok-None.ensures.stands,
     )
 

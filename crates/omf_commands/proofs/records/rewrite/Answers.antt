@@ -1,7 +1,7 @@
 use Rattle.std.specs.Prelude.{Result, Ok, Err, OnOk}
 use Rattle.std.specs.declared.option.Option.{Option}
 use Rattle.std.specs.Prelude.{List, ℕ}
-use Rattle.omf_text.specs.declared.fault.LinkFault.{LinkFault}
+use Rattle.omf_faults.specs.declared.fault.LinkFault.{LinkFault}
 use Rattle.omf_commands.specs.Records.{output}
 use Rattle.omf_commands.specs.Reading.{GoesThrough, AppendsRewritten}
 use Rattle.omf_commands.specs.declared.records.Form.TheVariants.{Rewriting}

@@ -1,12 +1,11 @@
 use Rattle.std.proofs.Common.{◌≡◌, ◌++◌, map, take}
 use Rattle.omf_record.specs.View.{public_view}
-use Rattle.omf_module.specs.Tables as tables
 use Rattle.omf_module.specs.inside.Entries as defined
 use Rattle.omf_module.proofs.builder.add_publics.Given as goal
 
 abbrev pub invariant-loop-public : goal.invariant-loop-public
 invariant-loop-public g l =
-    (l.base ≡ tables.base_of l.fn.base)
+    (l.base ≡ l.fn.base)
     × (l.store
     ≡ record l.fn.store {
       publics =

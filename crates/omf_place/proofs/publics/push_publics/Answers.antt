@@ -3,7 +3,7 @@ use Rattle.std.proofs.lemmas.List.{map-append}
 use Rattle.std.specs.Option.{option_map, option_to_list}
 use Rattle.omf_module.specs.Module.{PublicSymbol}
 use Rattle.omf_module.specs.Seen.{public_seen}
-use Rattle.omf_place.specs.declared.layout.PublicPlace.{PublicPlace}
+use Rattle.omf_place.specs.declared.layout.Position.{Position}
 use Rattle.omf_place.specs.inside.HeldNames.{entry_view}
 use Rattle.omf_place.specs.inside.OfProgram.{of_program}
 use Rattle.omf_place.specs.inside.Program.{input_view}
@@ -26,5 +26,5 @@ loop-index-preserved g c =
     (map entry_view c.args.all.now.items) (map entry_view c.loop-index.all.items) _ c.public_symbol-public.ensures
     (ap (λ (o : Option ℕ). record { owner = o; name = p.name.now; value = c.place_of_public.result } ∷ [])
     c.then_some.ensures
-    ∙ ap (λ (o : Option PublicPlace). option_to_list (option_map (public_entry x.input (public_seen p)) o))
+    ∙ ap (λ (o : Option Position). option_to_list (option_map (public_entry x.input (public_seen p)) o))
     c.place_of_public.ensures) c.loop-index.invariant

@@ -1,0 +1,5 @@
+//! The lines of faults.
+#![tactic(auto)]
+
+#[cfg(test)]
+mod fault;
