@@ -2,8 +2,8 @@
 ghost use Rattle.std.specs.Prelude.{All, IfOk, ◌-◌, ◌^◌, ◌<◌};
 
 use omf_commands::{Options, Report, check, link, load_file, rewrite, show, write_map};
-use omf_frame::{MemSink, MemSource};
 use omf_faults::{LinkFault, fault_line, status};
+use omf_frame::{MemSink, MemSource};
 use refusing::Refusing;
 use std::alloc::{Allocator, Global};
 use std::test::*;

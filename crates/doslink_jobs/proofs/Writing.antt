@@ -4,8 +4,8 @@ use Rattle.std.specs.declared.option.Option.{Option}
 use Rattle.std.specs.Io.KnownBytes.{Keeps}
 use Rattle.omf_frame.proofs.Told.{Appends-kept}
 use Rattle.omf_place.specs.declared.names.Names.{Names}
-use Rattle.omf_text.specs.declared.fault.LinkFault.{LinkFault}
-use Rattle.omf_text.specs.declared.fault.LinkFault.TheVariants.{Memory, Output, Device, Record, Program, File}
+use Rattle.omf_faults.specs.declared.fault.LinkFault.{LinkFault}
+use Rattle.omf_faults.specs.declared.fault.LinkFault.TheVariants.{Memory, Output, Device, Record, Program, File}
 use Rattle.omf_commands.specs.Outcome.{Outcome}
 use Rattle.doslink_link.specs.Linking.{WritesBy, WritesProgramOf}
 use Rattle.doslink_jobs.specs.inside.Flushed.{IsFlushed}

@@ -13,11 +13,11 @@ use crate::stop::Stop;
 use crate::taking::Taken;
 use doslink_telling::{push_fault, push_order_line};
 use doslink_words::{Order, OrderItem};
+use omf_faults::LinkFault;
 use omf_frame::MemSource;
 use omf_module::{FaultKind, Module, ModuleFault, read_module};
 use omf_order::{Item, OrderFault, order_module};
 use omf_place::Names;
-use omf_text::LinkFault;
 use std::alloc::{AllocError, Allocator};
 
 /// Goes on behind a module that can't be read, where its bytes are at fault, which the link names. That its source

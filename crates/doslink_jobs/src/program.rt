@@ -10,9 +10,9 @@ ghost use Rattle.doslink_jobs.specs.inside.Flushed.{IsFlushed};
 use doslink_link::link_bytes;
 use doslink_telling::table;
 use omf_commands::{Options, Report, write_map};
+use omf_faults::LinkFault;
 use omf_files::BufferedSink;
 use omf_frame::{Sink, put_all};
-use omf_faults::LinkFault;
 use std::alloc::Allocator;
 use std::io::Write;
 

@@ -13,11 +13,11 @@ use doslink_files::InputFile;
 use doslink_stock::{Handed, Stock};
 use doslink_telling::{handed_saids, handed_text, push_fault, push_missing_lines, unmet_names};
 use omf_communal::Variable;
+use omf_faults::LinkFault;
 use omf_files::BufferedSink;
 use omf_frame::{IoFault, put_all};
 use omf_place::Names;
 use omf_search::Said;
-use omf_faults::LinkFault;
 use std::alloc::Allocator;
 use std::io::Write;
 

@@ -6,8 +6,8 @@ ghost use Rattle.omf_commands.specs.Reading.{sink_failures};
 ghost use Rattle.doslink_link.specs.Linking.{WritesBy, WritesProgramOf, bytes_of};
 
 use omf_commands::{Options, Report, link};
-use omf_frame::{MemSource, Sink};
 use omf_faults::LinkFault;
+use omf_frame::{MemSource, Sink};
 use std::alloc::{AllocError, Allocator};
 
 /// A source of each module's bytes.

@@ -21,8 +21,8 @@ use Rattle.omf_lower.specs.declared.fault.Obstacle.{Obstacle}
 use Rattle.omf_lower.specs.declared.fault.Obstacle.TheVariants as obstacle
 use Rattle.omf_place.specs.Names.{agrees}
 use Rattle.omf_place.specs.declared.names.Names.{Names}
-use Rattle.omf_text.specs.declared.fault.LinkFault.{LinkFault}
-use Rattle.omf_text.specs.FaultLines as omf
+use Rattle.omf_faults.specs.declared.fault.LinkFault.{LinkFault}
+use Rattle.omf_faults.specs.FaultLines as omf
 use Rattle.omf_text.specs.Printing.{printed_name}
 use Rattle.doslink_files.specs.declared.reading.InputFile.{InputFile}
 use Rattle.doslink_stock.specs.declared.fault.StockFault.{StockFault}

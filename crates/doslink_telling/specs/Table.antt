@@ -5,25 +5,25 @@ use Rattle.std.specs.declared.option.Option.{Option}
 use Rattle.std.specs.List.{concat, enumerate_from, flat_map}
 use Rattle.std.specs.Option.{unwrap_or}
 use Rattle.omf_module.specs.Module.{Module, Segment}
-use Rattle.omf_place.specs.declared.layout.Address.{Address}
-use Rattle.omf_place.specs.declared.layout.Address.TheVariants as address
-use Rattle.omf_place.specs.Layout.{Layout, part_start}
+use Rattle.omf_place.specs.declared.layout.Position.{Position}
+use Rattle.omf_place.specs.declared.layout.Position.TheVariants as position
+use Rattle.omf_place.specs.Layout.{Layout, segment_position}
 use Rattle.omf_text.specs.Printing.{hexadecimal, printed_name}
 
 -- an address, and `R` where it moves with the program, else `A`
-abbrev pub address_text : Address → List ℕ
-address_text (address.Relocatable start) = concat (hexadecimal 6 start ∷ codes " R" ∷ [])
-address_text (address.Absolute start) = concat (hexadecimal 6 start ∷ codes " A" ∷ [])
+abbrev pub address_text : Position → List ℕ
+address_text (position.Relocatable start frame) = concat (hexadecimal 6 start ∷ codes " R" ∷ [])
+address_text (position.Absolute start frame) = concat (hexadecimal 6 start ∷ codes " A" ∷ [])
 
 -- a segment: where it starts, its length, its name and its class
-abbrev pub segment_line : Address → Segment → List ℕ
-segment_line start segment = concat (codes " " ∷ address_text start ∷ codes " " ∷ hexadecimal 6 segment.length
+abbrev pub segment_line : Position → Segment → List ℕ
+segment_line place segment = concat (codes " " ∷ address_text place ∷ codes " " ∷ hexadecimal 6 segment.length
     ∷ codes " " ∷ printed_name segment.name ∷ codes " " ∷ printed_name segment.class ∷ codes "\n" ∷ [])
 
 -- the segments of the module with this index
 abbrev pub segment_lines : Layout → ℕ × Module → List ℕ
 segment_lines layout p =
-    flat_map (λ s. segment_line (part_start layout p.0 s.0) s.1) (enumerate_from 0 p.1.segments)
+    flat_map (λ s. segment_line (segment_position layout p.0 s.0) s.1) (enumerate_from 0 p.1.segments)
 
 -- the name in the record that heads a module (TIS OMF 1.1, "THEADR" and "LHEADR"), where its bytes begin with one: it
 -- stands behind the record's type, its length word and a byte of the name's length

@@ -14,7 +14,8 @@ use Rattle.omf_place.specs.Parts.{Site, module_sites, sites}
 use Rattle.omf_place.specs.inside.Placing.{sites_from}
 use Rattle.omf_place.specs.Placed.{address_of, IsPlaced}
 use Rattle.omf_place.specs.Parts.{Input, inputs_from}
-use Rattle.omf_place.specs.Tables.{group_frame, segment_frame, public_frame, in_segment, placed_public, publics_of, Grpdef}
+use Rattle.omf_place.specs.Tables.{group_frame, segment_frame, public_frame, in_segment, placed_public, publics_of}
+use Rattle.omf_place.specs.Tables.{Grpdef}
 use Rattle.omf_place.specs.Tables.{is_first_grpdef, placed_groups}
 use Rattle.omf_place.specs.inside.Steps.{placed_group}
 use Rattle.omf_place.specs.Layout.{Layout, layout_at}

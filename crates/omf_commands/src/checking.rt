@@ -6,9 +6,9 @@ ghost use Rattle.omf_commands.specs.Checking.{Checks, ChecksWhole};
 ghost use Rattle.omf_commands.specs.Reading.{sink_failures, source_failures};
 
 use crate::faults::module_fault;
+use omf_faults::LinkFault;
 use omf_frame::{IoFault, Sink, Source, put_all};
 use omf_module::read_module;
-use omf_faults::LinkFault;
 use std::alloc::Allocator;
 
 /// Writes `ok` and a line end where the input is a whole sound module, up to its MODEND.

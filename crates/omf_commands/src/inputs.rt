@@ -3,9 +3,9 @@ ghost use Rattle.std.specs.Prelude.{All, ◌-◌, ◌^◌, ◌<◌};
 ghost use Rattle.omf_commands.specs.inside.Inputs.{ReadsInputs};
 
 use crate::faults::module_fault;
+use omf_faults::LinkFault;
 use omf_frame::Source;
 use omf_module::{Module, read_module};
-use omf_faults::LinkFault;
 use std::alloc::{AllocError, Allocator};
 
 /// The modules of all inputs, in order, or the first fault of reading. Each input is finished once its module is

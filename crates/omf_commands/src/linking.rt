@@ -16,11 +16,11 @@ ghost use Rattle.omf_commands.specs.Reading.{sink_failures};
 use crate::faults::{fix_fault, place_fault};
 use crate::inputs::read_inputs;
 use mz::{loads_as_written, write_mz};
+use omf_faults::LinkFault;
 use omf_frame::{Sink, Source};
 use omf_image::{Program, build};
 use omf_module::Module;
 use omf_place::{Layout, Names, place};
-use omf_faults::LinkFault;
 use std::alloc::{Allocator, Global};
 
 /// How modules are linked.

@@ -6,8 +6,8 @@ ghost use Rattle.omf_commands.specs.Reading.{sink_failures, source_failures};
 
 use crate::faults::{load_fault, mz_fault};
 use mz::{Loaded, load, read_mz};
-use omf_frame::{IoFault, Sink, Source, put_all};
 use omf_faults::LinkFault;
+use omf_frame::{IoFault, Sink, Source, put_all};
 use omf_text::{Hexadecimal, put_hexadecimal, put_hexadecimal_bytes, put_pieces};
 use std::alloc::Allocator;
 

@@ -4,9 +4,9 @@ ghost use Rattle.omf_frame.specs.Device.{Writes};
 ghost use Rattle.omf_commands.specs.Mapping.{report_map};
 
 use crate::linking::Report;
+use omf_faults::LinkFault;
 use omf_frame::{IoFault, Sink};
 use omf_map::put_map;
-use omf_faults::LinkFault;
 use std::alloc::Allocator;
 
 /// Writes the map of what was linked: its segments, groups and publics, its registers, its size in bytes, and how many

@@ -12,9 +12,9 @@ ghost use Rattle.omf_commands.specs.inside.Reading.{Handles, Parses, WritesAll};
 ghost use Rattle.omf_commands.specs.declared.records.Form.TheVariants.{Listing, Rewriting};
 
 use crate::faults::{frame_fault, record_fault};
+use omf_faults::{InputFault, LinkFault};
 use omf_frame::{Frame, FrameBuf, IoFault, Sink, Source, put_frame};
 use omf_record::{NoRecord, Record, encode_record, parse_record};
-use omf_faults::{InputFault, LinkFault};
 use omf_text::put_listing;
 use std::alloc::Allocator;
 

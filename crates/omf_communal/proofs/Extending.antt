@@ -33,13 +33,13 @@ use Rattle.std.proofs.lemmas.Bool.{eqb-true, ltb-false}
 use Rattle.omf_module.specs.Before.{along, along_from, first, last}
 use Rattle.omf_module.specs.Bytes.{ModuleBytes}
 use Rattle.omf_module.specs.Faults.{Tables, begun, fault, frame_fault, items, location_fault, misses}
-use Rattle.omf_module.specs.Faults.{header_fault, number, start_fault, tables, target_fault, when, ◌⊓◌}
+use Rattle.omf_module.specs.Faults.{check_label, header_fault, start_fault, tables, target_fault, when, ◌⊓◌}
 use Rattle.omf_module.specs.Module.{Group, Segment}
 use Rattle.omf_module.specs.Tables.{data_records, externals, fixups, groups, groups_in, name_at, names, names_in}
 use Rattle.omf_module.specs.Tables.{publics}
 use Rattle.omf_module.specs.Tables.{publics_in, segments, segments_in, start, start_in, stretches, stretches_in}
-use Rattle.omf_module.specs.Tables.{externals_in, frame_thread, frame_used, module_of, subrecords, subrecords_in}
-use Rattle.omf_module.specs.Tables.{data_record, fixup_in, fixups_in, start_of, target_thread, target_used}
+use Rattle.omf_module.specs.Tables.{externals_in, frame_thread, module_of, subrecords, subrecords_in}
+use Rattle.omf_module.specs.Tables.{data_record, fixup_in, fixups_in, start_of, target_thread, used}
 use Rattle.omf_module.proofs.Lists.{along_from_append, along_push, flat_map_push}
 use Rattle.omf_module.proofs.Growing.{last_option}
 use Rattle.omf_communal.specs.declared.places.Before.{Before}
@@ -533,19 +533,6 @@ record Longer (one other : Tables) : Type 0 where
   groups : other.groups ≡ one.groups ++ more_groups
   externals : other.externals ≡ one.externals
 
-frame-kept : (one other : Tables) (m : Option FrameMethod) → Longer one other → frame_fault one m ≡ None
-    → frame_fault other m ≡ None
-frame-kept one other None l h = h
-frame-kept one other (Some (by.Segment i)) l h =
-    ap (λ ss. when (misses ss i) SegmentIndex) l.segments
-    ∙ ap (λ t. when t SegmentIndex) (misses-more one.segments l.more_segments i (when-false _ SegmentIndex h))
-frame-kept one other (Some (by.Group i)) l h =
-    ap (λ ss. when (misses ss i) GroupIndex) l.groups
-    ∙ ap (λ t. when t GroupIndex) (misses-more one.groups l.more_groups i (when-false _ GroupIndex h))
-frame-kept one other (Some (by.External i)) l h = ap (λ ss. when (misses ss i) ExternalIndex) l.externals ∙ h
-frame-kept one other (Some by.Location) l h = refl
-frame-kept one other (Some by.Target) l h = refl
-
 target-kept : (one other : Tables) (m : Option TargetMethod) → Longer one other → target_fault one m ≡ None
     → target_fault other m ≡ None
 target-kept one other None l h = h
@@ -557,10 +544,17 @@ target-kept one other (Some (to.Group i)) l h =
     ∙ ap (λ t. when t GroupIndex) (misses-more one.groups l.more_groups i (when-false _ GroupIndex h))
 target-kept one other (Some (to.External i)) l h = ap (λ ss. when (misses ss i) ExternalIndex) l.externals ∙ h
 
+frame-kept : (one other : Tables) (m : Option FrameMethod) → Longer one other → frame_fault one m ≡ None
+    → frame_fault other m ≡ None
+frame-kept one other None l h = h
+frame-kept one other (Some (by.By m)) l h = target-kept one other (Some m) l h
+frame-kept one other (Some by.Location) l h = refl
+frame-kept one other (Some by.Target) l h = refl
+
 least-none : (a b : Option CheckFault) → (a ⊓ b) ≡ None → (a ≡ None) × (b ≡ None)
 least-none None b h = (refl, h)
 least-none (Some x) None h = absurd (cc)
-least-none (Some x) (Some y) h = absurd (pick (nat_le (number x) (number y)) h)
+least-none (Some x) (Some y) h = absurd (pick (nat_le (check_label x).0 (check_label y).0) h)
   where
     pick : (t : Bool) → cond t (Some x) (Some y) ≡ None → ⊥
     pick true e = cc
@@ -584,12 +578,12 @@ end-kept before after says e b c same longer h =
         let parts =
         first-one _
         (sym (ap (λ t. first (header_fault t (Modend main (Some r)) ∷ items before (Modend main (Some r)))) b) ∙ f) in
-        let frames = λ (rs : List Placed). frame_used (frame_thread (subrecords rs)) r.frame in
-        let targets = λ (rs : List Placed). target_used (target_thread (subrecords rs)) r.target in
+        let frames = λ (rs : List Placed). used (frame_thread (subrecords rs)) r.frame in
+        let targets = λ (rs : List Placed). used (target_thread (subrecords rs)) r.target in
         let one = least-none (frame_fault (tables before) (frames before)) _ parts in
         let two = least-none (target_fault (tables before) (targets before)) (location_fault (frames before)) one.1 in
-        let same-frames : frames after ≡ frames before = ap (λ s. frame_used (frame_thread s) r.frame) same in
-        let same-targets : targets after ≡ targets before = ap (λ s. target_used (target_thread s) r.target) same in
+        let same-frames : frames after ≡ frames before = ap (λ s. used (frame_thread s) r.frame) same in
+        let same-targets : targets after ≡ targets before = ap (λ s. used (target_thread s) r.target) same in
         clean_by after (Modend main (Some r)) c
         (ap₂ (λ x y. first (start_fault (tables after) x y ∷ [])) same-frames same-targets
         ∙ ap (λ x. first ((x ⊓ (target_fault (tables after) (targets before) ⊓ location_fault (frames before))) ∷ []))
@@ -707,7 +701,7 @@ start-end front x h =
 same-start : (before : List Subrecord) (place other : ℕ) (r : Record)
     → option_map start_said (start_in before place r) ≡ option_map start_said (start_in before other r)
 same-start before place other (Modend main (Some r)) =
-    by (frame_used (frame_thread before) r.frame) (target_used (target_thread before) r.target)
+    by (used (frame_thread before) r.frame) (used (target_thread before) r.target)
   where
     by : (f : Option FrameMethod) (t : Option TargetMethod)
         → option_map start_said (start_of place r f t) ≡ option_map start_said (start_of other r f t)

@@ -1,20 +1,20 @@
 -- A module with variables that are local to it is a whole module that no check refuses, and says all that it said
 -- before: no index of it means another name, segment, group or external, and its data and its start are the same.
-use Rattle.std.specs.Prelude.{◌≡◌, ℕ, ◌-◌, ◌<◌, Bool, true, List, [], ◌∷◌, ◌++◌, length, map, Option, None, Some}
+use Rattle.std.specs.Prelude.{◌≡◌, ℕ, ◌<◌, Bool, true, List, [], ◌∷◌, ◌++◌, length, map, Option, None, Some}
 use Rattle.std.specs.Prelude.{Ok, codes}
 use Rattle.std.specs.List.{AllByRecursion}
 use Rattle.std.specs.Option.{option_map}
 use Rattle.omf_frame.specs.Frame.{place_limit}
 use Rattle.omf_record.specs.Records.{Placed}
-use Rattle.omf_module.specs.declared.FixupFrame.{FixupFrame}
-use Rattle.omf_module.specs.declared.FixupTarget.{FixupTarget}
+use Rattle.omf_record.specs.declared.externals.PublicBase.TheVariants.{InSegment}
+use Rattle.omf_record.specs.declared.fixups.FrameMethod.{FrameMethod}
+use Rattle.omf_record.specs.declared.fixups.TargetMethod.{TargetMethod}
 use Rattle.omf_module.specs.declared.Kind.TheVariants.{Private, Public}
 use Rattle.omf_module.specs.declared.Standing.TheVariants.{Relocatable}
 use Rattle.omf_module.specs.declared.Start.{Start}
-use Rattle.omf_module.specs.declared.SymbolBase.TheVariants.{InSegment}
 use Rattle.omf_module.specs.Bytes.{ModuleBytes}
 use Rattle.omf_module.specs.Module.{Group, Module, PublicSymbol, Segment}
-use Rattle.omf_module.specs.Tables.{group_at, groups, module_of, names, segments}
+use Rattle.omf_module.specs.Tables.{groups, module_of, names, segments}
 use Rattle.omf_communal.specs.declared.places.Before.{Before}
 use Rattle.omf_communal.specs.Deciding.{Variable}
 use Rattle.omf_communal.specs.Locals.{local_module}
@@ -51,15 +51,10 @@ near_groups before (Some length) = record { name = dgroup; members = before.segm
 
 -- the name of a variable as a local public
 abbrev pub local_public : Place → PublicSymbol
-local_public p = record {
-  name = p.name;
-  base = InSegment (p.segment - 1) (group_at p.group);
-  offset = p.offset;
-  local = true;
-}
+local_public p = record { name = p.name; base = InSegment p.group p.segment; offset = p.offset; local = true }
 
 -- a start without the place of its record
-abbrev pub start_said : Start → FixupFrame × FixupTarget × ℕ
+abbrev pub start_said : Start → FrameMethod × TargetMethod × ℕ
 start_said s = (s.frame, s.target, s.displacement)
 
 -- a module says all that another one says, and has a plan's variables behind that

@@ -14,9 +14,9 @@ ghost use Rattle.omf_jobs.specs.Jobs.{Answers, Ends, EndsRefused, Prints, Runs, 
 ghost use Rattle.omf_jobs.specs.Jobs.{exit_status, names_of, told_line};
 
 use omf_commands::{Options, Report, check, link, load_file, rewrite, show, write_map};
+use omf_faults::{LinkFault, fault_line, status};
 use omf_files::{BufferedSink, CreatedFile, World, open_source, open_sources};
 use omf_frame::{IoFault, Sink, Source, put_all};
-use omf_faults::{LinkFault, fault_line, status};
 use omf_words::{Job, WordsFault, parse_words};
 use std::alloc::{Allocator, Global};
 use std::io::Write;

@@ -68,7 +68,8 @@ one_behind rs place s f g (inl h) (inr k) =
     absurd (record_here place h.0 [] h.1 h.2 k.0 h.4 (subst (λ l. NoRecordAt place l k.0) h.3 k.1))
 one_behind rs place s f g (inr h) (inl k) =
     absurd (record_here place k.0 [] k.1 k.2 h.0 k.4 (subst (λ l. NoRecordAt place l h.0) k.3 h.1))
-one_behind rs place s f g (inr h) (inr k) = h.2 ∙ ap (λ why. kind.Absent why) (one_reason place s h.0 k.0 h.1 k.1) ∙ sym k.2
+one_behind rs place s f g (inr h) (inr k) =
+    h.2 ∙ ap (λ why. kind.Absent why) (one_reason place s h.0 k.0 h.1 k.1) ∙ sym k.2
 
 -- behind the same records
 same_fault : (rs ss : List Placed) (x y r s : List ℕ) (p q : ℕ) (f g : FaultKind) → (rs ≡ ss) × (x ≡ y) × (r ≡ s)

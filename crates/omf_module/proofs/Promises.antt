@@ -49,7 +49,8 @@ use Rattle.omf_module.specs.Faults.{holds_base, place_fault, relative_fault, fix
 use Rattle.omf_module.specs.inside.Contents.{lies_in}
 use Rattle.omf_module.specs.inside.Running.{State, state_of, checked, slot, group_fault, add_to_last, add_data}
 use Rattle.omf_module.specs.inside.Running.{module_in, later, step, step_record, step_subrecord, step_subrecords, ◌>>=◌}
-use Rattle.omf_module.specs.Sound.{IsShort, IsIndexOf, FrameMeans, TargetMeans, BaseMeans, IsPart, IsMember, FixupFits, StartFits}
+use Rattle.omf_module.specs.Sound.{IsShort, IsIndexOf, FrameMeans, TargetMeans, BaseMeans, IsPart, IsMember, FixupFits}
+use Rattle.omf_module.specs.Sound.{StartFits}
 use Rattle.omf_module.specs.Sound.{SegmentFits, IsStanding}
 use Rattle.omf_record.proofs.Expanded.{length-stored}
 use Rattle.omf_record.proofs.Places.{all-append}
@@ -345,7 +346,8 @@ base_fits : (t : Tables) (b : PublicBase) (text : List ℕ) → BaseText b text 
     → BaseMeans t.segments t.groups t.externals b
 base_fits t (public_base.AtFrame group frame) text b e = b.second.second.0
 base_fits t (public_base.InSegment group segment) text b e =
-    let p = none_both (when (misses t.segments segment) SegmentIndex) (when (is_beyond t.groups group) GroupIndex) e in (
+    let missing = when (misses t.segments segment) SegmentIndex in
+    let p = none_both missing (when (is_beyond t.groups group) GroupIndex) e in (
       is_index t.segments segment (when_none (misses t.segments segment) SegmentIndex p.0),
       not_past t.groups group (when_none (is_beyond t.groups group) GroupIndex p.1),
     )

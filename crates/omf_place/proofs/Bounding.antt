@@ -98,12 +98,14 @@ module _ (names : Names) (program : List Module) (A : List ℕ) (size : ℕ)
 
   place-of : (a : Site) (s : Segment) → slice_get ss a.position ≡ Some a → a.segment ≡ s
       → LiesInside size s.length s.standing (placed ss A a)
-  place-of a s at is = subst (λ (t : Segment). LiesInside size t.length t.standing (placed ss A a)) is (by a.segment.standing refl)
+  place-of a s at is =
+      subst (λ (t : Segment). LiesInside size t.length t.standing (placed ss A a)) is (by a.segment.standing refl)
     where
       within : is_part a ≡ true → address_of A a + a.segment.length ≤ size
       within part = part-within ss A size (numbered_sites program) placing a at part
 
-      by : (st : Standing) → a.segment.standing ≡ st → LiesInside size a.segment.length a.segment.standing (placed ss A a)
+      by : (st : Standing) → a.segment.standing ≡ st
+          → LiesInside size a.segment.length a.segment.standing (placed ss A a)
       by (Absolute frame offset) e = rw e tt
       by (Relocatable alignment kind) e = rw e (within (ap is_relocatable e))
 

@@ -103,7 +103,7 @@ module _ (program : List Module) (addresses : List ℕ) where
   placed_groups = map (λ (g : Grpdef). record { frame = group_frame g.name; input = g.input; group = g.group })
       (filter is_first_grpdef (grpdefs program))
 
-  -- a public of a part has the frame of its group, where it has a group, whose index isn't 0, and else that of its segment
+  -- a public of a part has the frame of its group, where it has one: its index isn't 0; and else that of its segment
   abbrev pub public_frame : Module → Site → (group : ℕ) → Option ℕ
   public_frame m a group =
       if group == 0 then Some (segment_frame (sites program) addresses a)

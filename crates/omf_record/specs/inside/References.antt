@@ -106,7 +106,8 @@ target_in t b h = grind (arith, h)
 
 -- the canonical byte has the bits
 
-frame_bits : (f : Datum FrameMethod) (x : ℕ) → x < 16 → FrameBits f (canon.frame_bits f + x) × (canon.frame_bits f < 241)
+frame_bits : (f : Datum FrameMethod) (x : ℕ) → x < 16 → FrameBits f (canon.frame_bits f + x)
+    × (canon.frame_bits f < 241)
     × (canon.frame_bits f % 16 ≡ 0)
 frame_bits f x lt = grind arith
 

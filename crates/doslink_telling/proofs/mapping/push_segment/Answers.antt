@@ -31,7 +31,7 @@ returns g c =
     let s5 = c.extend_from_slice-2.new.self.items in
     let rest = name ++ 32 ∷ (class ++ 10 ∷ []) in
     subst (λ l. OnOk r (s5 ≡ s0 ++ l))
-    (start-then start mark len rest (address_text c.args.start) c.place_of-start.ensures)
+    (start-then start mark len rest (address_text c.args.position) c.place_of-start.ensures)
     (then-ok r s0 s1 s5 (32 ∷ (start ++ (mark ++ 32 ∷ (len ++ 32 ∷ [])))) rest
     (rw c.as_slice.ensures at c.in_ok-push_parts.ensures)
     (then-ok r s1 s2 s5 name (32 ∷ (class ++ 10 ∷ [])) c.in_ok-push_name.ensures
