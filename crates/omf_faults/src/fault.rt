@@ -80,7 +80,10 @@ pub enum LinkFault<A: Allocator + Copy = Global> {
     Output,
     /// 1: the source of the input with this index failed, while the record behind so many of its bytes was read.
     #[error("input {input} failed at record {place}")]
-    Device { input: usize, place: u64 },
+    Device {
+        input: usize,
+        place: u64,
+    },
     /// The record behind so many bytes of the input with this index is at fault.
     #[error("record {place} of input {input}: {fault}")]
     Record {

@@ -143,7 +143,10 @@ fn frame_used(threads: &[Option<FrameMethod>; 4], datum: Datum<FrameMethod>) -> 
 }
 
 /// The method of a target, by the threads as they are set; none where its thread isn't.
-fn target_used(threads: &[Option<TargetMethod>; 4], datum: Datum<TargetMethod>) -> Option<TargetMethod>
+fn target_used(
+    threads: &[Option<TargetMethod>; 4],
+    datum: Datum<TargetMethod>,
+) -> Option<TargetMethod>
     ensures { result ≡ tables.used (running.slot threads.now) datum }
 {
     match datum {

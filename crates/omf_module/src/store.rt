@@ -28,6 +28,7 @@ ghost use Rattle.omf_module.specs.Faults as faults;
 ghost use Rattle.omf_module.specs.Seen.{segment_seen, group_seen, external_seen, public_seen, data_seen};
 ghost use Rattle.omf_module.specs.inside.Running.{add_to_last};
 
+use crate::ResolvedFixup;
 use crate::checks::{entry, is_absolute, smaller, when};
 use crate::entries::{
     DataEntry, ExternalEntry, GroupEntry, PublicEntry, SegmentEntry, fix_last, group_entry,
@@ -36,7 +37,6 @@ use crate::entries::{
 use crate::fault::CheckFault;
 use crate::lookups::{DataRecord, ExternalSymbol, Group, PublicSymbol, Segment};
 use crate::pieces::{Piece, keep, keep_expansion, keep_once, lend, rising_piece};
-use crate::ResolvedFixup;
 use omf_record::{Block, PublicBase, SegmentDefinition, SegmentLength};
 use std::alloc::{AllocError, Allocator};
 use std::marker::Model;
