@@ -11,8 +11,8 @@ use crate::modules::{
     AMISS, ELSEWHERE, HEADLESS, KEEPS, LIBRARY, LIKE, MARKS, NAMELESS, NAMES, OFFERS, WANTS, WIDE,
 };
 use crate::records::{
-    BESIDE_LCOMDEF, CHOSEN, COMDAT, COMDATS, LINSYM, LOCAL_FAR, OTHER_TYPE, PATCHED,
-    PATCHED_BY_NAME, REPEATS, UNLISTED, WIDELY,
+    BEHIND_LOWERED, BESIDE_LCOMDEF, CHOSEN, COMDAT, COMDATS, LINSYM, LOCAL_FAR, OTHER_TYPE,
+    PATCHED, PATCHED_BY_NAME, REPEATS, UNLISTED, WIDELY,
 };
 use doslink_jobs::{language_of, run_words};
 use omf_files::BufferedSink;
@@ -81,6 +81,7 @@ doslink PATCHED2.OBJ|1||doslink: PATCHED2.OBJ: 5 Type at record 14~
 doslink LINSYM.OBJ|1||doslink: LINSYM.OBJ: 5 Type at record 14~
 doslink B9.OBJ|1||doslink: B9.OBJ: 5 Type at record 8~
 doslink BE.OBJ|1||doslink: BE.OBJ: 5 Type at record 8~
+doslink LOWERED.OBJ|1||doslink: LOWERED.OBJ: 16 FixupPlace at record 97~
 wlink|2||doslink: no file is named to be linked~
 ";
 
@@ -350,6 +351,7 @@ fn run_row(
         ("LFAR.OBJ", LOCAL_FAR.as_slice()),
         ("CHOSEN.OBJ", CHOSEN.as_slice()),
         ("UNLISTED.OBJ", UNLISTED.as_slice()),
+        ("LOWERED.OBJ", BEHIND_LOWERED.as_slice()),
     ];
     let desk = Desk {
         files: files.as_slice(),
