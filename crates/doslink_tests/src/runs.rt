@@ -266,6 +266,47 @@ const PROGRAMS: [(&str, &[u8]); 14] = [
     ),
 ];
 
+/// A program of two modules with one byte of code each.
+const PROGRAM: [u8; 34] = [
+    0x4D, 0x5A, 0x22, 0x00, 0x01, 0x00, 0x00, 0x00, 0x02, 0x00, 0x01, 0x00, 0xFF, 0xFF, 0x00, 0x00,
+    0x00, 0x00, 0x00, 0x00, 0x00, 0x00, 0x00, 0x00, 0x1C, 0x00, 0x00, 0x00, 0x00, 0x00, 0x00, 0x00,
+    0x90, 0x90,
+];
+
+/// The path of its map, and the map.
+const MAP: &str = "\
+P.MAP
+segments
+000000 000002 public   \"CODE\" \"\"
+groups
+publics
+000001 R \"f\"
+entry 0000:0000
+stack 0000:0000
+size 000002
+relocations 0
+modules
+\"a.c\" A.OBJ
+ 000000 R 000001 \"CODE\" \"\"
+\"f.c\" F.OBJ
+ 000001 R 000001 \"CODE\" \"\"
+";
+
+/// Runs, and what each writes: the path of its program, the program, and the path of its map and that.
+const WRITTEN: [(&str, &str, &[u8], &str); 5] = [
+    (
+        "doslink -o P.EXE -m P.MAP A.OBJ F.OBJ",
+        "P.EXE\n",
+        &PROGRAM,
+        MAP,
+    ),
+    ("doslink A.OBJ F.OBJ", "A.EXE\n", &PROGRAM, ""),
+    // a name is missing, two publics have one name, and the map is read
+    ("doslink -m P.MAP A.OBJ", "", &[], ""),
+    ("doslink -m P.MAP A.OBJ F.OBJ F.OBJ", "", &[], ""),
+    ("doslink -m F.OBJ A.OBJ F.OBJ", "", &[], ""),
+];
+
 /// What a run told, as a row of the table has it.
 fn row_of(
     alloc: Global,
@@ -394,6 +435,23 @@ fn ends_in(alloc: Global, row: &str, bytes: &[u8]) -> Result<bool, AllocError> {
     Ok(written.bytes(alloc)?.ends_with(bytes))
 }
 
+/// Whether what a run of these words writes are these bytes, one behind the other.
+fn writes(
+    alloc: Global,
+    row: &str,
+    path: &str,
+    program: &[u8],
+    map: &str,
+) -> Result<bool, AllocError> {
+    let written = Page::new(alloc);
+    let told = Page::new(alloc);
+    run_row(alloc, row, &written, &told, &told)?;
+    let mut bytes = Vec::from_slice(alloc, path.as_bytes())?;
+    bytes.extend_from_slice(program)?;
+    bytes.extend_from_slice(map.as_bytes())?;
+    Ok(written.bytes(alloc)?.as_slice() == bytes.as_slice())
+}
+
 /// The first row that isn't what its run tells, if there is one.
 fn first_wrong(alloc: Global, rows: &str) -> Result<Option<String>, AllocError> {
     for row in rows.lines() {
@@ -448,6 +506,14 @@ fn default_runs_tell_these_lines(rt: HostRuntime) -> Result<(), Fail> {
 fn programs_end_in_these_bytes(rt: HostRuntime) -> Result<(), Fail> {
     for (row, bytes) in &PROGRAMS {
         assert!(rt; ends_in(rt.alloc(), row, bytes)?, "{row}");
+    }
+    Ok(())
+}
+
+#[test]
+fn runs_write_these_files(rt: HostRuntime) -> Result<(), Fail> {
+    for (row, path, program, map) in &WRITTEN {
+        assert!(rt; writes(rt.alloc(), row, path, program, map)?, "{row}");
     }
     Ok(())
 }
