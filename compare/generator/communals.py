@@ -109,6 +109,15 @@ def module_of_communals(random, title, variables):
     return b"".join(pieces)
 
 
+def module_of_no_number(front):
+    """A module that declares a near variable, whose length begins as no number does."""
+    spelling = records.Spelling()
+    return b"".join([
+        spelling.record(records.Header(b"AMISS")),
+        spelling.framed(COMDEF, records.name(b"v") + bytes([0, NEAR]) + front + b"\2"),
+        spelling.record(records.ModuleEnd(False, None))])
+
+
 def at_limit(number):
     """Variables of a case at a limit, by its number, with names of their own."""
     extents = [
