@@ -2,7 +2,8 @@
 
 from dataclasses import dataclass, field
 
-from generator.communals import NO_NUMBERS, at_limit, module_of_communals, module_of_no_number
+from generator.communals import (
+    NO_NUMBERS, at_limit, module_of_communals, module_of_local_variables, module_of_no_number)
 from generator.libraries import SMALL_PAGES, archive, damaged, library
 from generator.objects import (
     CLASSES, LAZY, MARKS, NAMES, SEGMENTS, TITLES, WEAK, ObjectMaker, any_plan, module_of_alias,
@@ -29,6 +30,8 @@ COMMUNALS_EVERY = 15
 DEFAULTS_EVERY = 50
 # and one an alias that records of one of these types name: EXTDEF, COMDEF, LCOMDEF, CEXTDEF
 RENAMED_EVERY, RENAMED = 50, [0x8C, 0xB0, 0xB8, 0xBC]
+# and one has variables that are local to modules, and what is in their way
+LOCAL_EVERY, LOCAL = 50, [{}, {"public": b"NEAR"}, {"start": b"start"}]
 # one job in so many has a segment of no alignment, which is lowered or not; one a number of no form
 AMISS_EVERY, NO_NUMBER_EVERY = 200, 250
 # lengths of a body that externals by indexes, or of aliases, have by their names
@@ -155,6 +158,17 @@ class JobMaker:
             self.files[f"{number}.obj"] = content
             self.job.files.append(f"{number}.obj")
         self.folders = []
+        return self.asked()
+
+    def make_local(self, given):
+        """Two modules with variables that are local to them, of which one has something more."""
+        modules = [module_of_local_variables(), module_of_local_variables(**given)]
+        self.random.shuffle(modules)
+        for number, content in enumerate(modules):
+            self.files[f"{number}.obj"] = content
+            self.job.files.append(f"{number}.obj")
+        self.folders, self.job.map = [], MAP
+        self.job.ignores_case = self.happens(0.7)
         return self.asked()
 
     def make_amiss(self):
@@ -512,6 +526,8 @@ def case(random, number=1):
         return maker.make_defaults()
     if number % RENAMED_EVERY == 13:
         return maker.make_renamed(RENAMED[number // RENAMED_EVERY % len(RENAMED)])
+    if number % LOCAL_EVERY == 36:
+        return maker.make_local(LOCAL[number // LOCAL_EVERY % len(LOCAL)])
     if number % NO_NUMBER_EVERY == 24:
         return maker.make_no_number(NO_NUMBERS[number // NO_NUMBER_EVERY % len(NO_NUMBERS)])
     if number % AMISS_EVERY == 11:
