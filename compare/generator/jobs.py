@@ -7,9 +7,9 @@ from generator.communals import (
 from generator.libraries import SMALL_PAGES, archive, damaged, library
 from generator.objects import (
     CLASSES, LAZY, MARKS, NAMES, SEGMENTS, TITLES, WEAK, ObjectMaker, any_plan, module_of_alias,
-    module_of_default, module_of_external, module_of_far_data, module_of_long_aliases,
-    module_of_long_externals, module_of_many_parts, module_of_no_alignment, module_of_publics,
-    segments_called)
+    module_of_default, module_of_external, module_of_far_data, module_of_links,
+    module_of_long_aliases, module_of_long_externals, module_of_many_parts, module_of_no_alignment,
+    module_of_publics, segments_called)
 from model import ordering
 from model.directives import Job
 from model.placement import folded
@@ -32,6 +32,8 @@ DEFAULTS_EVERY = 50
 RENAMED_EVERY, RENAMED = 50, [0x8C, 0xB0, 0xB8, 0xBC]
 # and one has variables that are local to modules, and what is in their way
 LOCAL_EVERY, LOCAL = 50, [{}, {"public": b"NEAR"}, {"start": b"start"}]
+# one job in so many has a default library that names another one
+CHAIN_EVERY = 250
 # one job in so many has a segment of no alignment, which is lowered or not; one a number of no form
 AMISS_EVERY, NO_NUMBER_EVERY = 200, 250
 # lengths of a body that externals by indexes, or of aliases, have by their names
@@ -169,6 +171,16 @@ class JobMaker:
             self.job.files.append(f"{number}.obj")
         self.folders, self.job.map = [], MAP
         self.job.ignores_case = self.happens(0.7)
+        return self.asked()
+
+    def make_chain(self):
+        """A default library of a module, of which a member names another one and wants a name of it."""
+        self.files["0.obj"] = module_of_links([], [b"f"], b"FIRST")
+        for name, content in [
+                ("FIRST", module_of_links([b"f"], [b"g"], b"SECOND")),
+                ("SECOND", module_of_links([b"g"], [], b""))]:
+            self.files[f"{name}.LIB"] = library(self.random, [content], SMALL_PAGES)
+        self.job.files, self.folders, self.job.map = ["0.obj"], [], MAP
         return self.asked()
 
     def make_amiss(self):
@@ -528,6 +540,8 @@ def case(random, number=1):
         return maker.make_renamed(RENAMED[number // RENAMED_EVERY % len(RENAMED)])
     if number % LOCAL_EVERY == 36:
         return maker.make_local(LOCAL[number // LOCAL_EVERY % len(LOCAL)])
+    if number % CHAIN_EVERY == 44:
+        return maker.make_chain()
     if number % NO_NUMBER_EVERY == 24:
         return maker.make_no_number(NO_NUMBERS[number // NO_NUMBER_EVERY % len(NO_NUMBERS)])
     if number % AMISS_EVERY == 11:

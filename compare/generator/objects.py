@@ -521,6 +521,18 @@ def module_of_alias(alias, name):
         spelling.record(records.ModuleEnd(False, None))])
 
 
+def module_of_links(offered, wanted, library):
+    """A module that offers these names, wants others, and names a default library, where it has them."""
+    publics = [PublicName(name, 0, 0) for name in offered]
+    made = [
+        records.Header(b"LINKS"), records.NameList([b"", b"CODE"]),
+        *([records.Comment(0, DEFAULT_LIBRARY, library)] if library else []),
+        records.SegmentDefinition(1, 2, 1, 2, 2, 1), records.ExternalNames(wanted, [0] * len(wanted)),
+        records.PublicNames(0, 1, None, publics), records.Data(1, 0, b"\x90"),
+        records.ModuleEnd(False, None)]
+    return b"".join(map(records.Spelling().record, made))
+
+
 def module_of_publics(names):
     """A module that offers these names, each a byte behind the one before."""
     publics = [PublicName(name, place, 0) for place, name in enumerate(names)]
