@@ -174,7 +174,7 @@ class JobMaker:
         return self.asked()
 
     def make_chain(self):
-        """A default library of a module, of which a member names another one and wants a name of it."""
+        """A default library that names another one and wants a name of it, which names none."""
         self.files["0.obj"] = module_of_links([], [b"f"], b"FIRST")
         for name, content in [
                 ("FIRST", module_of_links([b"f"], [b"g"], b"SECOND")),

@@ -522,11 +522,11 @@ def module_of_alias(alias, name):
 
 
 def module_of_links(offered, wanted, library):
-    """A module that offers these names, wants others, and names a default library, where it has them."""
+    """A module that offers these names, wants others, and names a default library."""
     publics = [PublicName(name, 0, 0) for name in offered]
     made = [
         records.Header(b"LINKS"), records.NameList([b"", b"CODE"]),
-        *([records.Comment(0, DEFAULT_LIBRARY, library)] if library else []),
+        records.Comment(0, DEFAULT_LIBRARY, library),
         records.SegmentDefinition(1, 2, 1, 2, 2, 1), records.ExternalNames(wanted, [0] * len(wanted)),
         records.PublicNames(0, 1, None, publics), records.Data(1, 0, b"\x90"),
         records.ModuleEnd(False, None)]
