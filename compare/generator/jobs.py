@@ -32,8 +32,8 @@ DEFAULTS_EVERY = 50
 RENAMED_EVERY, RENAMED = 50, [0x8C, 0xB0, 0xB8, 0xBC]
 # and one has variables that are local to modules, and what is in their way
 LOCAL_EVERY, LOCAL = 50, [{}, {"public": b"NEAR"}, {"start": b"start"}]
-# one job in so many has a default library that names another one
-CHAIN_EVERY = 250
+# one job in so many has a default library that names another one, and one a public in two cases
+CHAIN_EVERY, TWICE_EVERY = 250, 250
 # one job in so many has a segment of no alignment, which is lowered or not; one a number of no form
 AMISS_EVERY, NO_NUMBER_EVERY = 200, 250
 # lengths of a body that externals by indexes, or of aliases, have by their names
@@ -181,6 +181,14 @@ class JobMaker:
                 ("SECOND", module_of_links([b"g"], [], b""))]:
             self.files[f"{name}.LIB"] = library(self.random, [content], SMALL_PAGES)
         self.job.files, self.folders, self.job.map = ["0.obj"], [], MAP
+        return self.asked()
+
+    def make_twice(self):
+        """A public that two modules spell in two cases, which don't count."""
+        for number, name in enumerate([b"x", b"X"]):
+            self.files[f"{number}.obj"] = module_of_publics([name])
+            self.job.files.append(f"{number}.obj")
+        self.folders, self.job.ignores_case = [], True
         return self.asked()
 
     def make_amiss(self):
@@ -542,6 +550,8 @@ def case(random, number=1):
         return maker.make_local(LOCAL[number // LOCAL_EVERY % len(LOCAL)])
     if number % CHAIN_EVERY == 44:
         return maker.make_chain()
+    if number % TWICE_EVERY == 69:
+        return maker.make_twice()
     if number % NO_NUMBER_EVERY == 24:
         return maker.make_no_number(NO_NUMBERS[number // NO_NUMBER_EVERY % len(NO_NUMBERS)])
     if number % AMISS_EVERY == 11:
