@@ -156,6 +156,24 @@ pub(crate) fn in_own_bytes<A: Allocator + Copy>(
     }
 }
 
+/// The type of a record that no module may have, where that is the fault, by its place in the user's own file.
+pub(crate) fn type_at_fault<A: Allocator + Copy>(
+    fault: &LinkFault<A>,
+    inputs: &Inputs<'_, A>,
+) -> Option<u8> {
+    match fault {
+        LinkFault::Record {
+            input,
+            place,
+            fault: InputFault::Type,
+        } => match module_at(inputs, *input) {
+            Some(module) => module.own.get(*place as usize).copied(),
+            None => None,
+        },
+        _ => None,
+    }
+}
+
 /// The place in the user's own file of a record that isn't one of its type as it is lowered, where that is the fault.
 pub(crate) fn lowered_amiss<A: Allocator + Copy>(
     fault: &LinkFault<A>,

@@ -6,6 +6,7 @@ mod communals;
 mod defaults;
 mod directives;
 mod inputs;
+mod kinds;
 mod linking;
 mod locals;
 mod lowering;

@@ -8,7 +8,10 @@ ghost use Rattle.doslink_jobs.specs.Refusals.{HaveFault};
 ghost use Rattle.doslink_jobs.specs.inside.Inputs.{input_list};
 ghost use Rattle.doslink_jobs.specs.inside.Stops.{OnInput};
 
-use crate::inputs::{Inputs, in_own_bytes, input_slices, input_words, lowered_amiss, options_of};
+use crate::inputs::{
+    Inputs, in_own_bytes, input_slices, input_words, lowered_amiss, options_of, type_at_fault,
+};
+use crate::kinds::push_type;
 use crate::places::Places;
 use crate::program::link_and_map;
 use crate::stop::Stop;
@@ -40,7 +43,13 @@ fn tell_fault<A: Allocator + Copy>(
         LinkFault::Program(ProgramFault::DuplicatePublic { name }) => {
             push_duplicate(alloc, lines, name, names, taken.handed, taken.words)
         }
-        fault => push_fault(alloc, lines, fault, word),
+        fault => {
+            push_fault(alloc, lines, fault, word)?;
+            match type_at_fault(fault, inputs) {
+                Some(kind) => push_type(lines, kind),
+                None => Ok(()),
+            }
+        }
     }
 }
 

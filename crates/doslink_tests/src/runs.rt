@@ -74,13 +74,13 @@ doslink WIDE.OBJ|0||doslink: warning: 32-bit segments of WIDE.OBJ are linked as 
 doslink AMISS.OBJ|1||\
 doslink: warning: 32-bit segments of AMISS.OBJ are linked as 16-bit ones~\
 doslink: AMISS.OBJ: 51 Body at record 13~
-doslink COMDAT.OBJ|1||doslink: COMDAT.OBJ: 5 Type at record 30~
-doslink A.OBJ COMDATS.LIB|1||doslink: COMDATS.LIB(f.c): 5 Type at record 30~
-doslink PATCHED.OBJ|1||doslink: PATCHED.OBJ: 5 Type at record 37~
-doslink PATCHED2.OBJ|1||doslink: PATCHED2.OBJ: 5 Type at record 14~
-doslink LINSYM.OBJ|1||doslink: LINSYM.OBJ: 5 Type at record 14~
-doslink B9.OBJ|1||doslink: B9.OBJ: 5 Type at record 8~
-doslink BE.OBJ|1||doslink: BE.OBJ: 5 Type at record 8~
+doslink COMDAT.OBJ|1||doslink: COMDAT.OBJ: 5 Type at record 30 (C2 COMDAT)~
+doslink A.OBJ COMDATS.LIB|1||doslink: COMDATS.LIB(f.c): 5 Type at record 30 (C2 COMDAT)~
+doslink PATCHED.OBJ|1||doslink: PATCHED.OBJ: 5 Type at record 37 (B2 BAKPAT)~
+doslink PATCHED2.OBJ|1||doslink: PATCHED2.OBJ: 5 Type at record 14 (C9 NBKPAT)~
+doslink LINSYM.OBJ|1||doslink: LINSYM.OBJ: 5 Type at record 14 (C5 LINSYM)~
+doslink B9.OBJ|1||doslink: B9.OBJ: 5 Type at record 8 (B9)~
+doslink BE.OBJ|1||doslink: BE.OBJ: 5 Type at record 8 (BE)~
 doslink LOWERED.OBJ|1||doslink: LOWERED.OBJ: 16 FixupPlace at record 97~
 wlink|2||doslink: no file is named to be linked~
 ";
