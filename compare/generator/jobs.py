@@ -136,13 +136,8 @@ class JobMaker:
         self.job.order = self.random.choice([None, None, ordering.DOSSEG])
         return self.asked()
 
-    def make_defaults(self):
-        """A name, or a mark, with a default by one module and another or none by the next."""
-        name, kinds = self.random.choice([b"x", *MARKS]), [None, WEAK, LAZY]
-        first, other = self.random.choice(kinds[1:]), self.random.choice(kinds)
-        modules = [
-            module_of_default(name, b"a", first), module_of_default(name, b"b", other),
-            module_of_publics([b"a", b"b"])]
+    def asked_of(self, modules):
+        """A job of these modules in any order, and of nothing else."""
         self.random.shuffle(modules)
         for number, content in enumerate(modules):
             self.files[f"{number}.obj"] = content
@@ -150,17 +145,21 @@ class JobMaker:
         self.folders = []
         return self.asked()
 
+    def make_defaults(self):
+        """A name, or a mark, with a default by one module and another or none by the next."""
+        name, kinds = self.random.choice([b"x", *MARKS]), [None, WEAK, LAZY]
+        first, other = self.random.choice(kinds[1:]), self.random.choice(kinds)
+        modules = [
+            module_of_default(name, b"a", first), module_of_default(name, b"b", other),
+            module_of_publics([b"a", b"b"])]
+        return self.asked_of(modules)
+
     def make_renamed(self, kind):
         """An alias that a module names by a record of a type, beside publics of both names."""
         modules = [
             module_of_external(b"x", kind), module_of_alias(b"x", b"a"),
             module_of_publics([b"a", b"x"])]
-        self.random.shuffle(modules)
-        for number, content in enumerate(modules):
-            self.files[f"{number}.obj"] = content
-            self.job.files.append(f"{number}.obj")
-        self.folders = []
-        return self.asked()
+        return self.asked_of(modules)
 
     def make_local(self, given):
         """Two modules with variables that are local to them, of which one has something more."""
