@@ -1,11 +1,12 @@
 """Communal variables: what modules declare of them, and modules that have little else."""
 
 from dataclasses import dataclass
+from random import Random
 
 from generator.spelling import RandomSpelling
 from model import records
 from model.placement import folded
-from model.records import Direct, Fixup, Location, Method, Reference
+from model.records import Direct, Fixup, Location, Method, PublicName, Reference
 
 COMDEF, LCOMDEF = 0xB0, 0xB8
 FAR, NEAR = 0x61, 0x62
@@ -107,6 +108,40 @@ def module_of_communals(random, title, variables):
     made = [records.Data(1, 0, bytes(4 * len(variables))), records.FixupRecord(itself)]
     pieces += map(spelling.record, [*made, records.ModuleEnd(False, None)])
     return b"".join(pieces)
+
+
+def module_of_local_variables(public=None, start=None):
+    """A module with three variables that are local to it, near and far, and the address of each.
+
+    It has a local public of a name, or starts at a local external that it doesn't define.
+    """
+    spelling = records.Spelling()
+    variables = [
+        (b"near", Declared(False, 2)), (b"far", Declared(True, 3, 4)), (b"other", Declared(True, 1, 2))]
+    targets = [Reference(
+        Direct(Method.TARGET), Direct(Method.EXTERNAL, number), None) for number in range(1, 5)]
+    made = [records.Header(b"LOCAL"), records.NameList([b"", b"_DATA", b"DATA"])]
+    made.append(records.SegmentDefinition(2, 2, 12, 2, 3, 1))
+    pieces = list(map(spelling.record, made))
+    entries = [entry(Random(0), name, declared) for name, declared in variables]
+    pieces.append(spelling.framed(LCOMDEF, b"".join(entries)))
+    made = [] if start is None else [records.LocalExternalNames([start], [0])]
+    if public is not None:
+        made.append(records.LocalPublicNames(0, 1, None, [PublicName(public, 0, 0)]))
+    made.append(records.Data(1, 0, bytes(12)))
+    made.append(records.FixupRecord([
+        Fixup(True, Location.POINTER, 4 * place, target) for place, target in enumerate(targets[:3])]))
+    made.append(records.ModuleEnd(False, None if start is None else targets[3]))
+    return b"".join([*pieces, *map(spelling.record, made)])
+
+
+def module_of_no_number(front):
+    """A module that declares a near variable, whose length begins as no number does."""
+    spelling = records.Spelling()
+    return b"".join([
+        spelling.record(records.Header(b"AMISS")),
+        spelling.framed(COMDEF, records.name(b"v") + bytes([0, NEAR]) + front + b"\2"),
+        spelling.record(records.ModuleEnd(False, None))])
 
 
 def at_limit(number):

@@ -2,11 +2,13 @@
 
 from dataclasses import dataclass, field
 
-from generator.communals import at_limit, module_of_communals
+from generator.communals import (
+    NO_NUMBERS, at_limit, module_of_communals, module_of_local_variables, module_of_no_number)
 from generator.libraries import SMALL_PAGES, archive, damaged, library
 from generator.objects import (
-    CLASSES, LAZY, MARKS, NAMES, SEGMENTS, TITLES, WEAK, ObjectMaker, any_plan, module_of_default,
-    module_of_far_data, module_of_long_externals, module_of_many_parts, module_of_no_alignment,
+    CLASSES, LAZY, MARKS, NAMES, SEGMENTS, TITLES, WEAK, ObjectMaker, any_plan, module_of_alias,
+    module_of_default, module_of_external, module_of_far_data, module_of_links,
+    module_of_long_aliases, module_of_long_externals, module_of_many_parts, module_of_no_alignment,
     module_of_publics, segments_called)
 from model import ordering
 from model.directives import Job
@@ -26,9 +28,15 @@ FULL_CLASSES = [b"BEGDATA", b"DATA", b"BSS", b"STACK"]
 COMMUNALS_EVERY = 15
 # one job in so many has one name with a default in one module, and with another or none in the next
 DEFAULTS_EVERY = 50
-# one job in so many has a segment of no alignment, which is lowered or not
-AMISS_EVERY = 200
-# lengths of a body that externals by indexes have by their names
+# and one an alias that records of one of these types name: EXTDEF, COMDEF, LCOMDEF, CEXTDEF
+RENAMED_EVERY, RENAMED = 50, [0x8C, 0xB0, 0xB8, 0xBC]
+# and one has variables that are local to modules, and what is in their way
+LOCAL_EVERY, LOCAL = 50, [{}, {"public": b"NEAR"}, {"start": b"start"}]
+# one job in so many has a default library that names another one, and one a public in two cases
+CHAIN_EVERY, TWICE_EVERY = 250, 250
+# one job in so many has a segment of no alignment, which is lowered or not; one a number of no form
+AMISS_EVERY, NO_NUMBER_EVERY = 200, 250
+# lengths of a body that externals by indexes, or of aliases, have by their names
 LONG_BODIES, LONG_EVERY = [65_534, 65_535], 150
 MEMBER_NAMES = [b"printf.o", b"exit.o", b"system.o", b"a_long_name_of_a_member.o", b"x"]
 DEFAULT_LIBRARIES = [b"SLIBCE", b"runtime.a", b"GRAPH.LIB", b"em87", b"slibce"]
@@ -128,6 +136,15 @@ class JobMaker:
         self.job.order = self.random.choice([None, None, ordering.DOSSEG])
         return self.asked()
 
+    def asked_of(self, modules):
+        """A job of these modules in any order, and of nothing else."""
+        self.random.shuffle(modules)
+        for number, content in enumerate(modules):
+            self.files[f"{number}.obj"] = content
+            self.job.files.append(f"{number}.obj")
+        self.folders = []
+        return self.asked()
+
     def make_defaults(self):
         """A name, or a mark, with a default by one module and another or none by the next."""
         name, kinds = self.random.choice([b"x", *MARKS]), [None, WEAK, LAZY]
@@ -135,11 +152,42 @@ class JobMaker:
         modules = [
             module_of_default(name, b"a", first), module_of_default(name, b"b", other),
             module_of_publics([b"a", b"b"])]
+        return self.asked_of(modules)
+
+    def make_renamed(self, kind):
+        """An alias that a module names by a record of a type, beside publics of both names."""
+        modules = [
+            module_of_external(b"x", kind), module_of_alias(b"x", b"a"),
+            module_of_publics([b"a", b"x"])]
+        return self.asked_of(modules)
+
+    def make_local(self, given):
+        """Two modules with variables that are local to them, of which one has something more."""
+        modules = [module_of_local_variables(), module_of_local_variables(**given)]
         self.random.shuffle(modules)
         for number, content in enumerate(modules):
             self.files[f"{number}.obj"] = content
             self.job.files.append(f"{number}.obj")
-        self.folders = []
+        self.folders, self.job.map = [], MAP
+        self.job.ignores_case = self.happens(0.7)
+        return self.asked()
+
+    def make_chain(self):
+        """A default library that names another one and wants a name of it, which names none."""
+        self.files["0.obj"] = module_of_links([], [b"f"], b"FIRST")
+        for name, content in [
+                ("FIRST", module_of_links([b"f"], [b"g"], b"SECOND")),
+                ("SECOND", module_of_links([b"g"], [], b""))]:
+            self.files[f"{name}.LIB"] = library(self.random, [content], SMALL_PAGES)
+        self.job.files, self.folders, self.job.map = ["0.obj"], [], MAP
+        return self.asked()
+
+    def make_twice(self):
+        """A public that two modules spell in two cases, which don't count."""
+        for number, name in enumerate([b"x", b"X"]):
+            self.files[f"{number}.obj"] = module_of_publics([name])
+            self.job.files.append(f"{number}.obj")
+        self.folders, self.job.ignores_case = [], True
         return self.asked()
 
     def make_amiss(self):
@@ -148,9 +196,15 @@ class JobMaker:
         self.job.files, self.folders = ["amiss.obj"], []
         return self.asked()
 
-    def make_long_externals(self, length):
+    def make_no_number(self, front):
+        """A communal variable whose length begins so, as no number does."""
+        self.files["amiss.obj"] = module_of_no_number(front)
+        self.job.files, self.folders = ["amiss.obj"], []
+        return self.asked()
+
+    def make_long_externals(self, make_module, length):
         """A record that is as long as one may be, or longer."""
-        self.files["long.obj"] = module_of_long_externals(length)
+        self.files["long.obj"] = make_module(length)
         self.job.files, self.folders = ["long.obj"], []
         return self.asked()
 
@@ -478,7 +532,9 @@ def case(random, number=1):
     if number % RARE_EVERY == 99:
         return maker.make_listed()
     if number % LONG_EVERY == 3:
-        return maker.make_long_externals(LONG_BODIES[number // LONG_EVERY % len(LONG_BODIES)])
+        turn, which = divmod(number // LONG_EVERY, len(LONG_BODIES))
+        make_module = module_of_long_aliases if turn % 2 else module_of_long_externals
+        return maker.make_long_externals(make_module, LONG_BODIES[which])
     if number % WRONG_EVERY == 8:
         return maker.make_wrong(WRONG_LINES[number // WRONG_EVERY % len(WRONG_LINES)])
     if number % QUIET_EVERY == 20:
@@ -487,6 +543,16 @@ def case(random, number=1):
         return maker.make_communals(number // COMMUNALS_EVERY)
     if number % DEFAULTS_EVERY == 7:
         return maker.make_defaults()
+    if number % RENAMED_EVERY == 13:
+        return maker.make_renamed(RENAMED[number // RENAMED_EVERY % len(RENAMED)])
+    if number % LOCAL_EVERY == 36:
+        return maker.make_local(LOCAL[number // LOCAL_EVERY % len(LOCAL)])
+    if number % CHAIN_EVERY == 44:
+        return maker.make_chain()
+    if number % TWICE_EVERY == 69:
+        return maker.make_twice()
+    if number % NO_NUMBER_EVERY == 24:
+        return maker.make_no_number(NO_NUMBERS[number // NO_NUMBER_EVERY % len(NO_NUMBERS)])
     if number % AMISS_EVERY == 11:
         return maker.make_amiss()
     return maker.make()

@@ -399,7 +399,7 @@ class ObjectMaker:
                     continue
                 self.add(records.Data(number, 0, content))
                 if length >= 4 and self.happens(0.7):
-                    self.add(records.FixupRecord([self.fixup()]))
+                    self.add(records.FixupRecord([self.fixup_in(content)]))
 
     def add_repeated_data(self, number):
         """Bytes that are repeated, with fix-ups in them."""
@@ -411,6 +411,13 @@ class ObjectMaker:
         if self.happens(0.7):
             place += self.random.choice([0, 0, 0, 1, -2])
             self.add(records.FixupRecord([replace(self.fixup(), offset=place)]))
+
+    def fixup_in(self, content):
+        """One in some bytes: an offset at times at their end, where a wider one has no room."""
+        fixup = self.fixup()
+        if fixup.location == Location.OFFSET and content[-1] < 32:
+            return replace(fixup, offset=len(content) - 2)
+        return fixup
 
     def fixup(self):
         """An offset, a pointer or a base of an external or a segment, at times of bytes behind."""
@@ -438,6 +445,19 @@ def module_of_long_externals(length):
     return b"".join([
         spelling.record(records.Header(b"LONG")), spelling.record(records.NameList(names)),
         spelling.framed(0xBC, indexes), spelling.record(records.PublicNames(0, 0, 0, publics)),
+        spelling.record(records.ModuleEnd(False, None))])
+
+
+def module_of_long_aliases(length):
+    """A module that wants aliases, and by what these stand for a record's body has such a length."""
+    spelling, size, count = records.Spelling(), 217, length // 217
+    names = [(size - 2) * b"a", (size - 3 + length % size) * b"b"]
+    aliases = [b"\1p" + records.name(names[0]), b"\1q" + records.name(names[1])]
+    externals = (count - 1) * b"\1p\0" + b"\1q\x80\0"
+    publics = [PublicName(name, 0, 0) for name in names]
+    return b"".join([
+        spelling.record(records.Header(b"LONG")), spelling.framed(0xC6, b"".join(aliases)),
+        spelling.framed(0x8C, externals), spelling.record(records.PublicNames(0, 0, 0, publics)),
         spelling.record(records.ModuleEnd(False, None))])
 
 
@@ -472,6 +492,43 @@ def module_of_default(name, default, kind):
         *([] if kind is None else [records.Comment(0, kind, b"\1\2")]),
         records.Data(1, 0, b"\xE8\0\0"),
         records.FixupRecord([Fixup(False, Location.OFFSET, 1, target)]),
+        records.ModuleEnd(False, None)]
+    return b"".join(map(records.Spelling().record, made))
+
+
+def module_of_external(name, kind):
+    """A module that calls a name, which is an external by a record of this type."""
+    target = Reference(Direct(Method.TARGET), Direct(Method.EXTERNAL, 1), None)
+    bodies = {0x8C: records.name(name) + b"\0", 0xBC: b"\3\0"}
+    spelling = records.Spelling()
+    return b"".join([
+        *map(spelling.record, [
+            records.Header(b"CALLS"), records.NameList([b"", b"CODE", name]),
+            records.SegmentDefinition(1, 2, 3, 2, 2, 1)]),
+        spelling.framed(kind, bodies.get(kind, records.name(name) + b"\0\x62\2")),
+        *map(spelling.record, [
+            records.Data(1, 0, b"\xE8\0\0"),
+            records.FixupRecord([Fixup(False, Location.OFFSET, 1, target)]),
+            records.ModuleEnd(False, None)])])
+
+
+def module_of_alias(alias, name):
+    """A module in which a name stands for another."""
+    spelling = records.Spelling()
+    return b"".join([
+        spelling.record(records.Header(b"ALIAS")),
+        spelling.framed(0xC6, records.name(alias) + records.name(name)),
+        spelling.record(records.ModuleEnd(False, None))])
+
+
+def module_of_links(offered, wanted, library):
+    """A module that offers these names, wants others, and names a default library."""
+    publics = [PublicName(name, 0, 0) for name in offered]
+    made = [
+        records.Header(b"LINKS"), records.NameList([b"", b"CODE"]),
+        records.Comment(0, DEFAULT_LIBRARY, library),
+        records.SegmentDefinition(1, 2, 1, 2, 2, 1), records.ExternalNames(wanted, [0] * len(wanted)),
+        records.PublicNames(0, 1, None, publics), records.Data(1, 0, b"\x90"),
         records.ModuleEnd(False, None)]
     return b"".join(map(records.Spelling().record, made))
 

@@ -38,6 +38,13 @@ OTHER_ENDS = {
 # the faults of devices, which have a status of their own
 DEVICE_FAULTS = (1, 40)
 
+# types of records that no module may have, as a line tells them behind their numbers
+TYPE_NAMES = {
+    0x76: " OVLDEF", 0x7A: " BLKDEF", 0x7C: " BLKEND", 0x7E: " DEBSYM", 0x8E: " TYPDEF", 0x92: " LOCSYM",
+    0xB2: " BAKPAT", 0xB3: " BAKPAT", 0xC2: " COMDAT", 0xC3: " COMDAT", 0xC4: " LINSYM", 0xC5: " LINSYM",
+    0xC8: " NBKPAT", 0xC9: " NBKPAT", 0xCC: " VERNUM", 0xCE: " VENDEXT",
+}
+
 PRINTABLE = frozenset(range(0x20, 0x7F)) - frozenset(b'"\\')
 
 
@@ -65,6 +72,8 @@ class Fault(Exception):
         self.place = place
         self.byte = byte
         self.name = name
+        # the type of a record that no module may have, where doslink tells it
+        self.kind = None
         # the words for modules that define or declare a name
         self.words = []
 
@@ -84,6 +93,8 @@ class Fault(Exception):
             line += f" at {'place' if self.number in LIBRARY_NAMES else 'record'} {self.place}"
         if self.byte is not None:
             line += f" byte {self.byte}"
+        if self.kind is not None:
+            line += f" ({self.kind:02X}{TYPE_NAMES.get(self.kind, '')})"
         line += f" in {' and '.join(self.words)}" if self.words else ""
         return line + "\n"
 

@@ -21,7 +21,7 @@ PROGRAM = "doslink"
 ORDER, COMMUNAL = "order", "communal"
 # what is put behind the name of a library that has no dot, in turn
 ENDINGS = ["", ".LIB", ".lib"]
-BODY, DUPLICATE = 6, 25
+TYPE, BODY, DUPLICATE = 5, 6, 25
 MARKS = [*ordering.BEGIN_MARKS, *ordering.END_MARKS]
 # the statuses where the job is at fault, and where what is asked for is wrong
 INPUT, WRONG_WORDS = 1, 2
@@ -277,6 +277,8 @@ class Linking:
             lowered_to = lowering.record_bytes(linked, fault.place)
             if fault.number == BODY and lowering.record_bytes(owner.content, place) != lowered_to:
                 fault.number, fault.byte = lowering.BODY, None
+            if fault.number == TYPE:
+                fault.kind = owner.content[place]
             fault.place = place
             fault.owner = owner.word
         if fault.number == DUPLICATE:

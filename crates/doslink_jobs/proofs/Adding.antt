@@ -10,7 +10,7 @@ use Rattle.clap.specs.Words.{Text}
 use Rattle.omf_place.specs.declared.names.Names.{Names}
 use Rattle.doslink_words.specs.declared.job.Job.{Job}
 use Rattle.doslink_jobs.specs.declared.defaults.DefaultLibrary.{DefaultLibrary}
-use Rattle.doslink_jobs.specs.Jobs.{AreAsked, AreDefaults, AsksEarly, AsksFor, IsDefault, names_of}
+use Rattle.doslink_jobs.specs.Jobs.{AreAsked, AsksEarly, AsksFor, IsDefault, names_of}
 use Rattle.doslink_jobs.specs.inside.Adding.{AddsDefaults, AddsFound, AddsNamed}
 
 -- ---- default libraries

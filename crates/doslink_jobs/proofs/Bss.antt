@@ -1,6 +1,6 @@
 -- Whether modules have the segment `_BSS`, one behind the other.
 use Rattle.std.proofs.Common.{◌≡◌, ℕ, ◌+◌, ◌<◌, ◌||◌, Bool, true, false, List, [], ◌∷◌, ◌++◌, length, map, take, get_or}
-use Rattle.std.proofs.Common.{Some, Result, Ok, Err, IfOk, refl, sym, subst, ap, ap₂, ◌∙◌}
+use Rattle.std.proofs.Common.{Some, Ok, Err, refl, sym, subst, ap, ap₂, ◌∙◌}
 use Rattle.std.proofs.lemmas.List.{map-append, take_more}
 use Rattle.std.proofs.lemmas.List.Folds.{list_any-append}
 use Rattle.std.specs.List.{list_any}
@@ -16,7 +16,6 @@ use Rattle.omf_module.specs.Tables.{module_of}
 use Rattle.omf_record.specs.Records.{Placed}
 use Rattle.doslink_link.specs.Linking.{AllBeginWith, BeginsWith}
 use Rattle.doslink_jobs.specs.declared.lowering.LoweredModule.{LoweredModule}
-use Rattle.doslink_jobs.specs.declared.stop.Stop.{Stop}
 use Rattle.doslink_jobs.specs.Orders.{AreRead}
 use Rattle.doslink_jobs.specs.inside.Inputs.{lowered_bytes}
 use Rattle.doslink_jobs.specs.inside.Reading.{IsOfBytes, IsRead}

@@ -10,5 +10,6 @@ pub mod Lists
 pub mod LocalModules
 pub mod Lowered
 pub mod Reading
+pub mod Refused
 pub mod Texts
 pub mod Writing

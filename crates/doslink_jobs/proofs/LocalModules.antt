@@ -1,13 +1,9 @@
 -- The variables that are local to modules, one module after the other.
-use Rattle.std.proofs.Common.{◌≡◌, ℕ, ◌+◌, ◌<◌, Bool, List, [], ◌∷◌, ◌++◌, map, take, length, get_or, Ok}
-use Rattle.std.proofs.Common.{refl, sym, ap, subst, ◌∙◌}
+use Rattle.std.proofs.Common.{◌≡◌, ℕ, Bool, List, [], ◌∷◌, ◌++◌, map, Ok}
+use Rattle.std.proofs.Common.{refl, sym, ap, ◌∙◌}
 use Rattle.std.specs.List.{AllByRecursion}
-use Rattle.std.proofs.lemmas.List.{map-append, take_more}
-use Rattle.omf_communal.specs.declared.declarations.Scope.TheVariants as scope
 use Rattle.omf_communal.specs.Deciding.{Variable}
 use Rattle.omf_communal.specs.Locals.{local_module}
-use Rattle.omf_communal.specs.Reading.{communals_of}
-use Rattle.omf_library.specs.Records.{module_records}
 use Rattle.omf_place.specs.declared.names.Names.{Names}
 use Rattle.doslink_jobs.specs.declared.communals.Declared.{Declared}
 use Rattle.doslink_jobs.specs.declared.lowering.LoweredModule.{LoweredModule}
@@ -46,19 +42,6 @@ All-push : {X : Type 0} (P : X → Type 0) (xs : List X) (x : X) → AllByRecurs
     → AllByRecursion P (xs ++ x ∷ [])
 All-push P [] x h p = (p, tt)
 All-push P (y ∷ xs) x h p = (h.0, All-push P xs x h.1 p)
-
--- no module so far declares one, nor does the next
-pub none-more : {A : Type 0} (modules : List (LoweredModule A)) (i : ℕ) (d : LoweredModule A) → i < length modules
-    → d ≡ get_or modules i d
-    → DeclareNone (map own_bytes (take i modules))
-    → communals_of scope.Module (module_records (own_bytes d) 0) ≡ Ok []
-    → DeclareNone (map own_bytes (take (i + 1) modules))
-none-more modules i d h is before here =
-    subst DeclareNone
-    (sym (map-append own_bytes (take i modules) (d ∷ []))
-    ∙ sym (ap (map own_bytes) (take_more modules i d h ∙ ap (λ y. take i modules ++ y ∷ []) (sym is))))
-    (All-push (λ bytes. communals_of scope.Module (module_records bytes 0) ≡ Ok []) (map own_bytes (take i modules))
-    (own_bytes d) before here)
 
 -- what one module alone declares
 pub said-alone : {A : Type 0} (old new : List (Declared A)) (d : Declared A) → new ≡ old ++ d ∷ [] → old ≡ []

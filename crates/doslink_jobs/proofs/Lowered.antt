@@ -1,6 +1,6 @@
 -- Modules that are lowered, one behind the other.
 use Rattle.std.proofs.Common.{◌≡◌, ℕ, ◌+◌, ◌<◌, List, [], ◌∷◌, ◌++◌, length, map, take, get_or, All, Some, None, Result}
-use Rattle.std.proofs.Common.{Ok}
+use Rattle.std.proofs.Common.{Ok, Any, IsErr, inl, inr}
 use Rattle.std.proofs.Common.{sym, subst, ap, ap₂, ◌∙◌, Vec}
 use Rattle.std.proofs.lemmas.List.{map-append, take_more}
 use Rattle.std.specs.declared.option.Option.{Option}
@@ -18,6 +18,7 @@ use Rattle.doslink_stock.specs.Seen.{handed_held}
 use Rattle.doslink_jobs.specs.declared.lowering.LoweredModule.{LoweredModule}
 use Rattle.doslink_jobs.specs.Aliases.{EndsIn, link_aliases, module_renaming}
 use Rattle.doslink_jobs.specs.Jobs.{AreLowered, AreLoweredFor, IsLoweringFor, names_of}
+use Rattle.doslink_jobs.specs.Refusals.{IsNotLowered}
 use Rattle.doslink_jobs.specs.inside.Inputs.{lowered_bytes}
 
 -- what is linked of a module is the module lowered
@@ -66,3 +67,35 @@ lowered-for job says modules inputs lowering names aliases agreed gathered is en
       end = moved (λ n a. All (EndsIn n says a) modules) ends;
       are_lowered = moved (λ n a. AreLowered lowering (module_renaming n says a) modules inputs) are;
     }
+
+-- a module can't be lowered as the job asks for
+pub not-lowered : (job : Job) (says : List Module) (modules : List (List ℕ)) (lowering : Lowering) (names : Names)
+    (aliases : List Alias) → names ≡ names_of job.ignore_case → aliases ≡ link_aliases modules
+    → lowering.keep_debug ≡ job.keep_debug
+    → Any (λ bytes. IsErr (lowered lowering (module_renaming names says aliases bytes) bytes)) modules
+    → Any (IsNotLowered job says modules) modules
+not-lowered job says modules lowering names aliases agreed gathered debug (k, bytes, h, is, fault) = (
+  k,
+  bytes,
+  h,
+  is,
+  inr (
+    lowering,
+    debug,
+    subst (λ a. IsErr (lowered lowering (module_renaming (names_of job.ignore_case) says a bytes) bytes)) gathered
+        (subst (λ n. IsErr (lowered lowering (module_renaming n says aliases bytes) bytes)) agreed fault),
+  ),
+)
+
+-- a name of it goes round for ever
+pub endless-in : (job : Job) (says : List Module) (modules : List (List ℕ)) (names : Names) (aliases : List Alias)
+    → names ≡ names_of job.ignore_case → aliases ≡ link_aliases modules
+    → Any (λ bytes. EndsIn names says aliases bytes → ⊥) modules → Any (IsNotLowered job says modules) modules
+endless-in job says modules names aliases agreed gathered (k, bytes, h, is, endless) = (
+  k,
+  bytes,
+  h,
+  is,
+  inl (subst (λ a. EndsIn (names_of job.ignore_case) says a bytes → ⊥) gathered
+      (subst (λ n. EndsIn n says aliases bytes → ⊥) agreed endless)),
+)

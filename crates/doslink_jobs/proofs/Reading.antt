@@ -1,5 +1,5 @@
 -- Modules that are read, one behind the other.
-use Rattle.std.proofs.Common.{◌≡◌, ℕ, zero, suc, ◌+◌, ◌<◌, Bool, Vec, List, [], ◌∷◌, ◌++◌, length, map, take, get_or}
+use Rattle.std.proofs.Common.{◌≡◌, ℕ, zero, suc, ◌+◌, ◌<◌, Bool, Vec, List, [], ◌∷◌, ◌++◌, length, take, get_or}
 use Rattle.std.proofs.Common.{Some, None, Ok, arith, refl, sym, subst, ap, ap₂, ◌∙◌}
 use Rattle.std.proofs.lemmas.List.{map-append, take_more}
 use Rattle.std.specs.declared.option.Option.{Option}
@@ -16,6 +16,7 @@ use Rattle.omf_order.specs.declared.order.Order.{Order}
 use Rattle.omf_place.specs.declared.names.Names.{Names}
 use Rattle.doslink_words.specs.Said.{SaidOrder}
 use Rattle.doslink_jobs.specs.Orders.{AreRead, AreUnread, IsOrderFor, IsOrderModule, order_asked, order_said}
+use Rattle.doslink_jobs.specs.Refusals.{HaveNoOrder}
 use Rattle.doslink_jobs.specs.inside.Reading.{IsRead, IsNoModule}
 
 -- what reading answers is what the bytes begin with
@@ -78,3 +79,11 @@ order-for bytes asked names other marks dosseg asks inputs others same ask are i
     subst (λ i. IsOrderModule other marks asks asked i bytes) are
     (subst (λ d. IsOrderModule other marks d asked inputs bytes) ask
     (subst (λ n. IsOrderModule n marks dosseg asked inputs bytes) same is))
+
+-- what is the same has no order module either
+pub no-order-for : (asked : SaidOrder) (names other : Names) (dosseg asks : Bool) (inputs others : List (List ℕ))
+    → names ≡ other → dosseg ≡ asks → inputs ≡ others → HaveNoOrder names dosseg asked inputs
+    → HaveNoOrder other asks asked others
+no-order-for asked names other dosseg asks inputs others same ask are none =
+    subst (HaveNoOrder other asks asked) are
+    (subst (λ d. HaveNoOrder other d asked inputs) ask (subst (λ n. HaveNoOrder n dosseg asked inputs) same none))

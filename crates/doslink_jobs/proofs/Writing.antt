@@ -1,13 +1,17 @@
 -- A program that was written, and handed on.
-use Rattle.std.proofs.Common.{◌≡◌, ℕ, List, [], Result, Ok, Err, OnOk, IfOk, Some, None, append-nil, sym, subst, ◌∙◌}
+use Rattle.std.proofs.Common.{◌≡◌, ℕ, List, [], Result, Ok, Err, OnOk, IfErr, IfOk, Some, None, append-nil, refl, sym}
+use Rattle.std.proofs.Common.{subst}
+use Rattle.std.proofs.Common.{MatchResult, arith, ◌∙◌}
 use Rattle.std.specs.declared.option.Option.{Option}
 use Rattle.std.specs.Io.KnownBytes.{Keeps}
 use Rattle.omf_frame.proofs.Told.{Appends-kept}
 use Rattle.omf_place.specs.declared.names.Names.{Names}
 use Rattle.omf_faults.specs.declared.fault.LinkFault.{LinkFault}
 use Rattle.omf_faults.specs.declared.fault.LinkFault.TheVariants.{Memory, Output, Device, Record, Program, File}
+use Rattle.omf_faults.specs.FaultLines.{status}
 use Rattle.omf_commands.specs.Outcome.{Outcome}
 use Rattle.doslink_link.specs.Linking.{WritesBy, WritesProgramOf}
+use Rattle.doslink_jobs.specs.Maps.{WritesText}
 use Rattle.doslink_jobs.specs.inside.Flushed.{IsFlushed}
 
 Keeps-trans : (a b c : Option (List ℕ)) → Keeps a b → Keeps b c → Keeps a c
@@ -58,9 +62,49 @@ module _ {R A : Type 0} (names : Names) (inputs : List (List ℕ)) where
   flushed-written old mid new (Err fault) result is kept written =
       subst (WritesBy names inputs old new) (sym is) (kept-front R names inputs old mid new fault kept written)
 
+-- behind a program that was written the map alone can fail
+pub behind-program : {A : Type 0} (P : Type 0) (Q : LinkFault A → Type 0) (r : Result (Unit {0}) (LinkFault A)) → P
+    → IfErr r (λ fault. status fault ≡ 3) → MatchResult r (λ done. P) (λ fault. status fault ≡ 1 → Q fault)
+behind-program P Q (Ok done) p is = p
+behind-program P Q (Err fault) p is = λ one. absurd (omega (arith, is, one))
+
 -- what holds of what is answered
 pub flushed-holds : {R A : Type 0} (P : R → Type 0) (answer result : Result R (LinkFault A)) → IsFlushed answer result
     → IfOk answer P → IfOk result P
 flushed-holds P (Ok done) (Ok same) is holds = subst P (sym is) holds
 flushed-holds P (Ok done) (Err fault) is holds = tt
 flushed-holds P (Err fault) result is holds = subst (λ r. IfOk r P) (sym is) tt
+
+-- ---- a text that is written
+
+text-kept : {A : Type 0} (text : List ℕ) (old mid new : Option (List ℕ)) (fault : LinkFault A) → Keeps mid new
+    → WritesText text old mid (Err fault) → WritesText text old new (Err fault)
+text-kept text old mid new Output kept (front, rest, is, appended) =
+    (front, rest, is, Appends-kept old mid new front appended kept)
+text-kept text old mid new Memory kept same = Keeps-trans old mid new same kept
+text-kept text old mid new (Device input place) kept written = absurd written
+text-kept text old mid new (Record input place fault) kept written = absurd written
+text-kept text old mid new (Program fault) kept written = absurd written
+text-kept text old mid new (File fault) kept written = absurd written
+
+-- it is handed on
+pub text-flushed : {A : Type 0} (text : List ℕ) (old mid new : Option (List ℕ))
+    (answer result : Result (Unit {0}) (LinkFault A)) → IsFlushed answer result → Keeps mid new
+    → WritesText text old mid answer → WritesText text old new result
+text-flushed text old mid new (Ok done) (Ok same) is kept appended = Appends-kept old mid new text appended kept
+text-flushed {A} text old mid new (Ok done) (Err fault) is kept appended =
+    subst (λ (f : LinkFault A). WritesText text old new (Err f)) (sym is)
+    (text, [], sym (append-nil text), Appends-kept old mid new text appended kept)
+text-flushed text old mid new (Err fault) result is kept written =
+    subst (WritesText text old new) (sym is) (text-kept text old mid new fault kept written)
+
+-- it ends with status 3 where it isn't
+pub text-status : {A : Type 0} (text : List ℕ) (old new : Option (List ℕ)) (r : Result (Unit {0}) (LinkFault A))
+    → WritesText text old new r → IfErr r (λ fault. status fault ≡ 3)
+text-status text old new (Ok done) written = tt
+text-status text old new (Err Output) written = refl
+text-status text old new (Err Memory) written = refl
+text-status text old new (Err (Device input place)) written = absurd written
+text-status text old new (Err (Record input place fault)) written = absurd written
+text-status text old new (Err (Program fault)) written = absurd written
+text-status text old new (Err (File fault)) written = absurd written

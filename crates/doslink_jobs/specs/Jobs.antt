@@ -70,27 +70,38 @@ pub record AreLoweredFor (job : Job) (says : List Module) (modules inputs : List
   pub end : All (EndsIn (names_of job.ignore_case) says (link_aliases modules)) modules
   pub are_lowered : AreLowered lowering (renaming_of job says modules) modules inputs
 
--- A link was done of the modules that it takes: none of their names is missing, those of their communal variables being
--- offered too, and lowered, each with the variables that are local to it, with the module of communal variables behind
--- them and the order module in front of all, where there are these, they have no fault.
-pub record IsLinkOf (A : Type 0) (job : Job) (takes : List Held → Type 0) : Type 0 where
-  pub modules : List Held
-  pub variables : List Variable
+-- what modules say of names, and behind them the module of their communal variables
+abbrev pub link_says : List Held → List Variable → List Module
+link_says modules vs = map needs modules ++ offering vs ∷ []
+
+-- These are linked for the modules that a link takes, which say so of names with their communal variables: the modules
+-- lowered, each with the variables that are local to it, the module of communal variables behind them and the order
+-- module in front of all, where there are these. Marks are wanted or not.
+pub record AreInputsOf (job : Job) (says : List Module) (marks : Bool) (modules : List Held) (vs : List Variable)
+    (linked : List (List ℕ)) : Type 0 where
   pub lowered : List (List ℕ)
   pub inputs : List (List ℕ)
   pub communal : Option (List ℕ)
   pub order : Option (List ℕ)
+  pub are_lowered : AreLoweredFor job says (map (λ m. m.bytes) modules) lowered
+  pub have_locals : HaveLocals (names_of job.ignore_case) (map (λ m. m.bytes) modules) lowered inputs
+  pub placed : IsCommunalModule inputs vs communal
+  pub ordered : IsOrderModule (names_of job.ignore_case) marks (list_any (λ m. m.dosseg) modules) (order_of job.order)
+      (inputs ++ option_to_list communal) order
+  pub together : linked ≡ option_to_list order ++ (inputs ++ option_to_list communal)
+
+-- A link was done of the modules that it takes: none of their names is missing, those of their communal variables being
+-- offered too, and what is linked for them has no fault.
+pub record IsLinkOf (A : Type 0) (job : Job) (takes : List Held → Type 0) : Type 0 where
+  pub modules : List Held
+  pub variables : List Variable
+  pub linked : List (List ℕ)
   pub taken : takes modules
   pub are_variables : AreVariablesOf (names_of job.ignore_case) modules variables
-  pub met : unmet (names_of job.ignore_case) (map needs modules ++ offering variables ∷ []) ≡ []
-  pub are_lowered : AreLoweredFor job (map needs modules ++ offering variables ∷ []) (map (λ m. m.bytes) modules)
-      lowered
-  pub have_locals : HaveLocals (names_of job.ignore_case) (map (λ m. m.bytes) modules) lowered inputs
-  pub placed : IsCommunalModule inputs variables communal
-  pub ordered : IsOrderModule (names_of job.ignore_case)
-      (wants_marks (names_of job.ignore_case) (map needs modules ++ offering variables ∷ []))
-      (list_any (λ m. m.dosseg) modules) (order_of job.order) (inputs ++ option_to_list communal) order
-  pub faultless : IsFaultless A (names_of job.ignore_case) (option_to_list order ++ (inputs ++ option_to_list communal))
+  pub met : unmet (names_of job.ignore_case) (link_says modules variables) ≡ []
+  pub are_inputs : AreInputsOf job (link_says modules variables)
+      (wants_marks (names_of job.ignore_case) (link_says modules variables)) modules variables linked
+  pub faultless : IsFaultless A (names_of job.ignore_case) linked
 
 -- the same of the modules of files
 abbrev pub IsLinked : (A : Type 0) → Job → (files : List (List ℕ)) → Type 0
@@ -129,16 +140,21 @@ pub record AreDefaults (told : Text → Option (List ℕ)) (folders : List Text)
   pub asked : AreAsked told folders (names_of job.ignore_case) given files
   pub none : job.default_libraries ≡ false → files ≡ []
 
--- A job was done: its files, its libraries and default libraries were read and linked, in this order. Default libraries
--- are looked up in other folders too, behind those of the job.
-pub record IsDone (A : Type 0) (told : Text → Option (List ℕ)) (folders : List Text) (job : Job) : Type 0 where
+-- These are the files of a job: those that it names, its libraries and default libraries, in this order. Default
+-- libraries are looked up in other folders too, behind those of the job.
+pub record AreFilesOf (told : Text → Option (List ℕ)) (folders : List Text) (job : Job) (files : List (List ℕ))
+    : Type 0 where
   pub named : List (List ℕ)
   pub libraries : List (List ℕ)
   pub defaults : List (List ℕ)
   pub are_named : AreTold told (texts job.files.items) named
   pub are_libraries : AreFound told (texts job.folders.items) (texts job.libraries.items) libraries
   pub are_defaults : AreDefaults told (texts job.folders.items ++ folders) job (named ++ libraries) defaults
-  pub linked : IsLinked A job (named ++ libraries ++ defaults)
+  pub together : files ≡ named ++ libraries ++ defaults
+
+-- a job was done: its files were read and linked
+abbrev pub IsDone : (A : Type 0) → (told : Text → Option (List ℕ)) → (folders : List Text) → Job → Type 0
+IsDone A told folders job = (files : List (List ℕ)) × AreFilesOf told folders job files × IsLinked A job files
 
 -- ---- a run
 
@@ -147,8 +163,9 @@ abbrev pub Tells : {K : Type 0} → (written : K → Option (List ℕ)) → (fai
     → Type 0
 Tells written failures old new text = (r : Result (Unit {0}) IoFault) × Writes written failures old new text r
 
--- A run has told a text, and ends with status 0 only where this holds, with 1 where an input is at fault, with 2 where
--- words are wrong, and with 3 where a file, a device or memory failed.
-abbrev pub EndsWith : (Done : Type 0) → (tells : List ℕ → Type 0) → (status : ℕ) → Type 0
-EndsWith Done tells status = ((text : List ℕ) × tells text)
-    × (((status ≡ 0) × Done) ⊎ (((status ≡ 1) ⊎ (status ≡ 2)) ⊎ (status ≡ 3)))
+-- A run has told a text, and ends with status 0 only where something was done, with 1 only where something was refused
+-- since an input is at fault, with 2 where words are wrong, and with 3 where a file, a device or memory failed.
+abbrev pub EndsWith : (Done Refused : Type 0) → (tells : List ℕ → Type 0) → (status : ℕ) → Type 0
+EndsWith Done Refused tells status =
+    ((text : List ℕ) × tells text)
+    × (((status ≡ 0) × Done) ⊎ (((status ≡ 1) × Refused) ⊎ ((status ≡ 2) ⊎ (status ≡ 3))))

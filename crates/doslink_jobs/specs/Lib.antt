@@ -3,6 +3,8 @@ pub mod Communals
 pub mod FarData
 pub mod Jobs
 pub mod Locals
+pub mod Maps
 pub mod Orders
+pub mod Refusals
 pub mod Runs
 pub mod inside

@@ -1,5 +1,6 @@
 -- What a run has done that ends with status 0.
-use Rattle.std.specs.Prelude.{◌≡◌, ◌⊎◌, ◌==◌, ◌||◌, ℕ, Bool, List, [], ◌∷◌, ◌++◌, map, Ok, None, Some, if◌then◌else◌, MatchOption, codes}
+use Rattle.std.specs.Prelude.{◌≡◌, ◌⊎◌, ◌==◌, ◌||◌, ℕ, List, [], ◌∷◌, ◌++◌, codes, if◌then◌else◌}
+use Rattle.std.specs.Prelude.{Ok, None, Some, MatchOption}
 use Rattle.std.specs.declared.option.Option.{Option}
 use Rattle.std.specs.List.{flat_map, slice_split}
 use Rattle.clap.specs.Words.{Text, fault_of}
@@ -13,7 +14,8 @@ use Rattle.doslink_files.specs.Files.{Each, IsTold}
 use Rattle.doslink_files.specs.Paths.{last_part}
 use Rattle.doslink_jobs.specs.declared.words.Language.{Language}
 use Rattle.doslink_jobs.specs.declared.words.Language.TheVariants as language
-use Rattle.doslink_jobs.specs.Jobs.{IsDone}
+use Rattle.doslink_jobs.specs.Jobs.{EndsWith, IsDone}
+use Rattle.doslink_jobs.specs.Refusals.{IsRefusedJob}
 
 -- the path of a response file: what stands behind `@` at the front of a word
 abbrev pub response_path : Text → Option Text
@@ -45,11 +47,14 @@ abbrev pub IsTextOf : (told : Text → Option (List ℕ)) → (words : List Text
 IsTextOf told words text =
     (parts : List Text) × Each (IsPart told) words parts × (text ≡ flat_map (λ part. part ++ 10 ∷ []) parts)
 
-module _ (A : Type 0) (told : Text → Option (List ℕ)) (folders : List Text) where
-  -- the job was done that the words ask for, or they ask for none, as where they ask for help
+-- words ask for no job, as where they ask for help
+abbrev pub AskForNone : (words : List Text) → Type 0
+AskForNone words = fault_of doslink_command words ≡ [] → ⊥
+
+module _ (told : Text → Option (List ℕ)) (Does : Job → Type 0) (Helps : List Text → Type 0) where
+  -- this holds of the job that the words ask for, or they ask for none
   abbrev pub RunsWords : (words : List Text) → Type 0
-  RunsWords words =
-      ((job : Job) × IsJobFor words job × IsDone A told folders job) ⊎ (fault_of doslink_command words ≡ [] → ⊥)
+  RunsWords words = ((job : Job) × IsJobFor words job × Does job) ⊎ Helps words
 
   -- the same of the words of a text
   abbrev pub RunsList : (text : Text) → Type 0
@@ -59,12 +64,18 @@ module _ (A : Type 0) (told : Text → Option (List ℕ)) (folders : List Text) 
   abbrev pub RunsResponse : (path : Text) → Type 0
   RunsResponse path = (text : Text) × IsTold (told path) text × RunsList text
 
-  -- the job was done that the directives ask for
+  -- it holds of the job that the directives ask for
   abbrev pub RunsText : (text : Text) → Type 0
-  RunsText text =
-      (directives : Directives) × Means (Ok directives) (meaning text) × IsDone A told folders directives.job
+  RunsText text = (directives : Directives) × Means (Ok directives) (meaning text) × Does directives.job
 
-  -- the job was done that words ask for, which are options and files, or directives
+  -- it holds of the job that words ask for, which are options and files, or directives
   abbrev pub Runs : Language → (words : List Text) → Type 0
   Runs language.Words list = MatchOption (only_response list) (RunsWords list) RunsResponse
   Runs language.Directives list = (text : Text) × IsTextOf told list text × RunsText text
+
+-- A run ends with status 0 only where the job that words ask for was done, or they ask for none, and with 1 only where
+-- it was refused.
+abbrev pub EndsBy : (A : Type 0) → (told : Text → Option (List ℕ)) → (folders : List Text)
+    → (Run : (Job → Type 0) → (List Text → Type 0) → Type 0) → (tells : List ℕ → Type 0) → (status : ℕ) → Type 0
+EndsBy A told folders Run tells status =
+    EndsWith (Run (IsDone A told folders) AskForNone) (Run (IsRefusedJob A told folders) (λ words. ⊥)) tells status

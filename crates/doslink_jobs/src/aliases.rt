@@ -1,5 +1,5 @@
 //! What names mean in the modules that a link takes: by the aliases of all, and by the defaults of their own externals.
-ghost use Rattle.std.specs.Prelude.{◌≡◌, ◌++◌, All, IfOk, OnOk, map};
+ghost use Rattle.std.specs.Prelude.{◌≡◌, ◌++◌, All, Any, IfOk, OnOk, map, MatchResult};
 ghost use Rattle.std.specs.List.{list_any};
 ghost use Rattle.std.specs.Option.{option_map};
 ghost use Rattle.omf_alias.specs.Meaning as meaning;
@@ -11,6 +11,7 @@ ghost use Rattle.omf_search.specs.Said as search;
 ghost use Rattle.doslink_stock.specs.Seen.{handed_held};
 ghost use Rattle.doslink_jobs.specs.Aliases as spec;
 ghost use Rattle.doslink_jobs.specs.inside.Meanings.{means};
+ghost use Rattle.doslink_jobs.specs.inside.Stops.{OnInput};
 
 use crate::stop::{Stop, stop_after};
 use crate::taking::Taken;
@@ -173,8 +174,11 @@ pub(crate) fn check_aliases<'a, A: Allocator + Copy>(
     meanings: &Meanings<'_, '_, 'a>,
     lines: &mut Vec<u8, A>,
 ) -> Result<(), Stop>
-    ensures { OnOk result (All (spec.EndsIn meanings.now.names (map module_said meanings.now.says.now)
-        (aliases_said meanings.now.aliases.now)) (map (λ h. (handed_held h).bytes) taken.now.handed.now)) }
+    ensures { MatchResult result (λ done. All (spec.EndsIn meanings.now.names (map module_said meanings.now.says.now)
+        (aliases_said meanings.now.aliases.now)) (map (λ h. (handed_held h).bytes) taken.now.handed.now))
+        (λ stop. OnInput stop (Any (λ bytes. spec.EndsIn meanings.now.names
+        (map module_said meanings.now.says.now) (aliases_said meanings.now.aliases.now) bytes → ⊥)
+        (map (λ h. (handed_held h).bytes) taken.now.handed.now))) }
 {
     let handed = taken.handed;
     for (index, each) in handed.iter().enumerate() {

@@ -1,5 +1,5 @@
 //! The communal variables of the modules that a link takes, and the module that has them.
-ghost use Rattle.std.specs.Prelude.{◌≡◌, IfOk, Ok, map};
+ghost use Rattle.std.specs.Prelude.{◌≡◌, ◌≢◌, Any, IfOk, IsErr, Ok, map, MatchResult};
 ghost use Rattle.std.specs.Option.{option_map};
 ghost use Rattle.omf_communal.specs.Bss as bss;
 ghost use Rattle.omf_communal.specs.Deciding.{variable_said};
@@ -9,9 +9,11 @@ ghost use Rattle.omf_module.specs.Module as spec;
 ghost use Rattle.doslink_stock.specs.Seen.{handed_held};
 ghost use Rattle.doslink_link.specs.Linking.{bytes_of};
 ghost use Rattle.doslink_jobs.specs.Communals.{AreVariablesOf, IsCommunalModule, TellsBss, declared_by};
+ghost use Rattle.doslink_jobs.specs.Refusals.{HaveNoPlace, HaveNoVariables};
 ghost use Rattle.doslink_jobs.specs.inside.Inputs.{lowered_bytes};
 ghost use Rattle.doslink_jobs.specs.inside.Declaring.{declared_said};
 ghost use Rattle.doslink_jobs.specs.inside.Reading.{IsRead};
+ghost use Rattle.doslink_jobs.specs.inside.Stops.{OnInput};
 
 use crate::lowering::LoweredModule;
 use crate::ordering::pass_unread;
@@ -41,7 +43,9 @@ pub(crate) fn stop_at_entry<A: Allocator + Copy>(
     word: &[u8],
     fault: CommunalFault,
     lines: &mut Vec<u8, A>,
-) -> Stop {
+) -> Stop
+    ensures { OnInput result (fault ≢ CommunalFault.Memory) }
+{
     let CommunalFault::Malformed { place, fault } = fault else {
         return Stop::Memory;
     };
@@ -54,8 +58,10 @@ fn declared_of<'m, 'a, A: Allocator + Copy>(
     taken: &Taken<'_, 'm, 'a, A>,
     lines: &mut Vec<u8, A>,
 ) -> Result<Vec<Declared<'m, 'a, A>, A>, Stop>
-    ensures { IfOk result (λ v. map (λ d. Ok (declared_said d)) v.items
-        ≡ map (λ h. declared_by (handed_held h)) taken.now.handed.now) }
+    ensures { MatchResult result (λ v. map (λ d. Ok (declared_said d)) v.items
+        ≡ map (λ h. declared_by (handed_held h)) taken.now.handed.now)
+        (λ stop. OnInput stop
+        (Any (λ m. IsErr (declared_by m)) (map handed_held taken.now.handed.now))) }
 {
     let mut all = Vec::new(alloc);
     for each in taken.handed {
@@ -87,6 +93,38 @@ fn declarings<'d, 'a, A: Allocator + Copy>(
     Ok(all)
 }
 
+/// Tells that declarations clash, and stops. The words are those of the modules.
+fn stop_at_clash<A: Allocator + Copy>(
+    alloc: A,
+    fault: ClashFault,
+    modules: &[Declaring<'_, '_>],
+    words: &[Vec<u8, A>],
+    lines: &mut Vec<u8, A>,
+) -> Stop
+    ensures { OnInput result (fault ≢ ClashFault.Memory) }
+{
+    match fault {
+        ClashFault::Memory => Stop::Memory,
+        _ => stop_after(push_clash(alloc, lines, fault, modules, words)),
+    }
+}
+
+/// Tells that a variable has no place, and stops. The words are those of the modules that declare it.
+pub(crate) fn stop_unplaced<A: Allocator + Copy>(
+    alloc: A,
+    fault: PlanFault,
+    variables: &[Variable<'_>],
+    words: &[Vec<u8, A>],
+    lines: &mut Vec<u8, A>,
+) -> Stop
+    ensures { OnInput result (fault ≢ PlanFault.Memory) }
+{
+    match fault {
+        PlanFault::Memory => Stop::Memory,
+        _ => stop_after(push_unplaced(alloc, lines, fault, variables, words)),
+    }
+}
+
 /// The variables that modules declare, in order of first meeting. Declarations that clash are told, with the words of
 /// the modules.
 pub(crate) fn agreed_variables<'a, A: Allocator + Copy>(
@@ -96,26 +134,30 @@ pub(crate) fn agreed_variables<'a, A: Allocator + Copy>(
     words: &[Vec<u8, A>],
     lines: &mut Vec<u8, A>,
 ) -> Result<Vec<Variable<'a>, A>, Stop>
-    ensures { IfOk result (λ v. agreed.variables names (map declared_said declared.now)
-        ≡ Ok (map variable_said v.items)) }
+    ensures { MatchResult result (λ v. agreed.variables names (map declared_said declared.now)
+        ≡ Ok (map variable_said v.items))
+        (λ stop. OnInput stop
+        (IsErr (agreed.variables names (map declared_said declared.now)))) }
 {
     let modules = declarings(alloc, declared)?;
     match variables(alloc, names, &modules) {
         Ok(variables) => Ok(variables),
-        Err(ClashFault::Memory) => Err(Stop::Memory),
-        Err(fault) => Err(stop_after(push_clash(alloc, lines, fault, &modules, words))),
+        Err(fault) => Err(stop_at_clash(alloc, fault, &modules, words, lines)),
     }
 }
 
-/// The communal variables of the modules that a link takes, in order of first meeting. Declarations that clash are told.
+/// The communal variables of the modules that a link takes, in order of first meeting. Declarations that clash are
+/// told.
 pub(crate) fn variables_of<'a, A: Allocator + Copy>(
     alloc: A,
     names: Names,
     taken: &Taken<'_, '_, 'a, A>,
     lines: &mut Vec<u8, A>,
 ) -> Result<Vec<Variable<'a>, A>, Stop>
-    ensures { IfOk result (λ v. AreVariablesOf names (map handed_held taken.now.handed.now)
-        (map variable_said v.items)) }
+    ensures { MatchResult result (λ v. AreVariablesOf names (map handed_held taken.now.handed.now)
+        (map variable_said v.items))
+        (λ stop. OnInput stop
+        (HaveNoVariables names (map handed_held taken.now.handed.now))) }
 {
     let declared = declared_of(alloc, taken, lines)?;
     agreed_variables(alloc, names, &declared, taken.words, lines)
@@ -142,7 +184,8 @@ fn has_bss_in<A: Allocator + Copy>(
     word: &[u8],
     lines: &mut Vec<u8, A>,
 ) -> Result<bool, Stop>
-    ensures { IfOk result (λ has. (one : spec.Module) → IsRead bytes.now one → has ≡ bss.has_bss one) }
+    ensures { MatchResult result (λ has. (one : spec.Module) → IsRead bytes.now one → has ≡ bss.has_bss one)
+        (λ stop. OnInput stop ⊥) }
 {
     let mut source = MemSource::over(bytes, usize::MAX, None);
     match read_module(alloc, &mut source) {
@@ -161,7 +204,8 @@ pub(crate) fn is_in_bss<A: Allocator + Copy>(
     taken: &Taken<'_, '_, '_, A>,
     lines: &mut Vec<u8, A>,
 ) -> Result<bool, Stop>
-    ensures { IfOk result (λ in_bss. TellsBss (map lowered_bytes modules.now) in_bss) }
+    ensures { MatchResult result (λ in_bss. TellsBss (map lowered_bytes modules.now) in_bss)
+        (λ stop. OnInput stop ⊥) }
 {
     let mut found = false;
     for (index, one) in modules.iter().enumerate() {
@@ -180,8 +224,10 @@ pub(crate) fn communal_bytes<A: Allocator + Copy>(
     variables: &[Variable<'_>],
     lines: &mut Vec<u8, A>,
 ) -> Result<Option<Vec<u8, A>>, Stop>
-    ensures { IfOk result (λ o. IsCommunalModule (map lowered_bytes modules.now) (map variable_said variables.now)
-        (option_map (λ v. v.items) o)) }
+    ensures { MatchResult result (λ o. IsCommunalModule (map lowered_bytes modules.now)
+        (map variable_said variables.now) (option_map (λ v. v.items) o))
+        (λ stop. OnInput stop
+        (HaveNoPlace (map lowered_bytes modules.now) (map variable_said variables.now))) }
 {
     if variables.is_empty() {
         return Ok(None);
@@ -189,7 +235,6 @@ pub(crate) fn communal_bytes<A: Allocator + Copy>(
     let in_bss = is_in_bss(alloc, modules, taken, lines)?;
     match communal_module(alloc, variables, in_bss) {
         Ok(bytes) => Ok(bytes),
-        Err(PlanFault::Memory) => Err(Stop::Memory),
-        Err(fault) => Err(stop_after(push_unplaced(alloc, lines, fault, variables, taken.words))),
+        Err(fault) => Err(stop_unplaced(alloc, fault, variables, taken.words, lines)),
     }
 }

@@ -1,14 +1,16 @@
 //! The default libraries that comments of modules name.
-ghost use Rattle.std.specs.Prelude.{◌≡◌, ◌⊎◌, All, List, [], ◌∷◌, ◌++◌, IfOk, IfSome, OnOk, map, string_bytes};
+ghost use Rattle.std.specs.Prelude.{◌≡◌, ◌⊎◌, All, List, [], ◌∷◌, ◌++◌, map, string_bytes};
+ghost use Rattle.std.specs.Prelude.{IfOk, IfSome, IsErr, MatchResult, OnOk};
 ghost use Rattle.std.specs.List.{Contains};
 ghost use Rattle.omf_place.specs.declared.names.Names as agreeing;
 ghost use Rattle.doslink_files.specs.Files.{IsFound, contents};
 ghost use Rattle.doslink_link.specs.Linking.{bytes_of};
-ghost use Rattle.doslink_stock.specs.Files.{Held};
+ghost use Rattle.doslink_stock.specs.Files.{Held, members};
 ghost use Rattle.doslink_stock.specs.Search.{Takes};
 ghost use Rattle.doslink_stock.specs.Seen.{entry_held, handed_held};
 ghost use Rattle.doslink_jobs.specs.Jobs.{AsksEarly, AsksFor, IsNamedBy};
 ghost use Rattle.doslink_jobs.specs.inside.Adding.{AddsFound, AddsNamed};
+ghost use Rattle.doslink_jobs.specs.inside.Stops.{OnInput};
 
 use crate::stop::Stop;
 use doslink_files::{InputFile, ReadFault, find_library};
@@ -131,7 +133,8 @@ fn named_libraries<A: Allocator + Copy>(
     met: &[DefaultLibrary<A>],
     lines: &mut Vec<u8, A>,
 ) -> Result<Vec<DefaultLibrary<A>, A>, Stop>
-    ensures { IfOk result (λ found. All (λ l. AsksFor names (contents files.now) l.name.items) found.items) }
+    ensures { MatchResult result (λ found. All (λ l. AsksFor names (contents files.now) l.name.items) found.items)
+        (λ stop. OnInput stop (IsErr (members (contents files.now)))) }
 {
     let slices = slices_of(alloc, files)?;
     match read_stock(alloc, &slices) {
@@ -185,10 +188,11 @@ fn add_library<W: World, A: Allocator + Copy>(
     files: &mut Vec<InputFile<A>, A>,
     lines: &mut Vec<u8, A>,
 ) -> Result<(), Stop>
-    ensures { OnOk result ((asking : agreeing.Names)
+    ensures { MatchResult result (λ done. (asking : agreeing.Names)
         → AsksEarly asking (contents files.old.items) library.now.name.items
         → AddsFound (W.bytes world.now) (map (λ f. f.now) folders.now) asking (contents files.old.items)
-        (contents files.new.items)) }
+        (contents files.new.items))
+        (λ stop. OnInput stop ⊥) }
 {
     match find_default(alloc, world, folders, library) {
         Ok(Some(file)) => Ok(add_file(files, file)?),
@@ -212,10 +216,11 @@ fn add_found<W: World, A: Allocator + Copy>(
     files: &mut Vec<InputFile<A>, A>,
     lines: &mut Vec<u8, A>,
 ) -> Result<(), Stop>
-    ensures { OnOk result ((asking : agreeing.Names)
+    ensures { MatchResult result (λ done. (asking : agreeing.Names)
         → All (λ l. AsksEarly asking (contents files.old.items) l.name.items) found.now
         → AddsFound (W.bytes world.now) (map (λ f. f.now) folders.now) asking (contents files.old.items)
-        (contents files.new.items)) }
+        (contents files.new.items))
+        (λ stop. OnInput stop ⊥) }
 {
     for library in found {
         add_library(alloc, world, folders, library, files, lines)?;
@@ -232,8 +237,10 @@ pub(crate) fn add_default_libraries<W: World, A: Allocator + Copy>(
     files: &mut Vec<InputFile<A>, A>,
     lines: &mut Vec<u8, A>,
 ) -> Result<(), Stop>
-    ensures { OnOk result (AddsFound (W.bytes world.now) (map (λ f. f.now) folders.now) names
-        (contents files.old.items) (contents files.new.items)) }
+    ensures { MatchResult result (λ done. AddsFound (W.bytes world.now) (map (λ f. f.now) folders.now) names
+        (contents files.old.items) (contents files.new.items))
+        (λ stop. OnInput stop (AddsFound (W.bytes world.now) (map (λ f. f.now) folders.now)
+        names (contents files.old.items) (contents files.new.items) × IsErr (members (contents files.new.items)))) }
 {
     let mut met = Vec::new(alloc);
     'rounds: for _ in 0..MOST_ROUNDS {

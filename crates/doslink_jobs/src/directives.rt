@@ -1,10 +1,11 @@
 //! The directives that words give, as one text.
-ghost use Rattle.std.specs.Prelude.{◌≡◌, ◌++◌, ◌∷◌, ℕ, List, [], IfOk, OnOk, string_bytes};
+ghost use Rattle.std.specs.Prelude.{◌≡◌, ◌++◌, ◌∷◌, ℕ, List, [], MatchResult, string_bytes};
 ghost use Rattle.std.specs.Option.{option_map};
 ghost use Rattle.doslink_files.specs.Files.{IsTold};
 ghost use Rattle.doslink_words.specs.Tokens.{texts};
 ghost use Rattle.doslink_jobs.specs.Runs as spec;
 ghost use Rattle.doslink_jobs.specs.Runs.{IsPart, IsTextOf};
+ghost use Rattle.doslink_jobs.specs.inside.Stops.{OnInput};
 
 use crate::stop::{Stop, stop_at};
 use doslink_files::read_file;
@@ -28,8 +29,9 @@ fn push_response<W: World>(
     text: &mut String,
     lines: &mut Vec<u8>,
 ) -> Result<(), Stop>
-    ensures { OnOk result ((part : List ℕ) × IsTold (W.bytes world.now path.now) part
-        × (string_bytes text.new ≡ string_bytes text.old ++ part)) }
+    ensures { MatchResult result (λ done. (part : List ℕ) × IsTold (W.bytes world.now path.now) part
+        × (string_bytes text.new ≡ string_bytes text.old ++ part))
+        (λ stop. OnInput stop ⊥) }
 {
     let bytes = match read_file(alloc, world, path) {
         Ok(bytes) => bytes,
@@ -51,7 +53,8 @@ pub(crate) fn response_text<W: World>(
     path: &str,
     lines: &mut Vec<u8>,
 ) -> Result<String, Stop>
-    ensures { IfOk result (λ text. IsTold (W.bytes world.now path.now) (string_bytes text)) }
+    ensures { MatchResult result (λ text. IsTold (W.bytes world.now path.now) (string_bytes text))
+        (λ stop. OnInput stop ⊥) }
 {
     let mut text = String::new(alloc);
     push_response(alloc, world, path, &mut text, lines)?;
@@ -66,8 +69,9 @@ fn push_part<W: World>(
     text: &mut String,
     lines: &mut Vec<u8>,
 ) -> Result<(), Stop>
-    ensures { OnOk result ((part : List ℕ) × IsPart (W.bytes world.now) word.now part
-        × (string_bytes text.new ≡ string_bytes text.old ++ (part ++ 10 ∷ []))) }
+    ensures { MatchResult result (λ done. (part : List ℕ) × IsPart (W.bytes world.now) word.now part
+        × (string_bytes text.new ≡ string_bytes text.old ++ (part ++ 10 ∷ [])))
+        (λ stop. OnInput stop ⊥) }
 {
     match response_path(word) {
         Some(path) => push_response(alloc, world, path, text, lines)?,
@@ -96,15 +100,16 @@ pub(crate) struct Spoken<'w> {
     pub words: &'w [&'w str],
 }
 
-/// The directives that words give: those of the files that words with `@` name, and other words as they stand, each with
-/// a line end behind it.
+/// The directives that words give: those of the files that words with `@` name, and other words as they stand, each
+/// with a line end behind it.
 pub(crate) fn directives_of<'w, W: World>(
     alloc: Global,
     world: &W,
     words: &'w [&'w str],
     lines: &mut Vec<u8>,
 ) -> Result<Spoken<'w>, Stop>
-    ensures { IfOk result (λ spoken. IsTextOf (W.bytes world.now) (texts words.now) (string_bytes spoken.text)) }
+    ensures { MatchResult result (λ spoken. IsTextOf (W.bytes world.now) (texts words.now) (string_bytes spoken.text))
+        (λ stop. OnInput stop ⊥) }
 {
     let mut text = String::new(alloc);
     let mut starts = Vec::new(alloc);

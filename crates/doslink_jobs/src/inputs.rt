@@ -1,14 +1,16 @@
 //! The modules of a link, as they are handed to it.
-ghost use Rattle.std.specs.Prelude.{◌≡◌, IfOk, map};
+ghost use Rattle.std.specs.Prelude.{◌≡◌, IfOk, map, MatchResult};
 ghost use Rattle.std.specs.List.{list_any};
 ghost use Rattle.std.specs.Option.{option_map};
 ghost use Rattle.omf_communal.specs.Deciding.{variable_said};
 ghost use Rattle.doslink_link.specs.Linking.{bytes_of};
 ghost use Rattle.doslink_stock.specs.Seen.{handed_held};
 ghost use Rattle.doslink_words.specs.Said as said;
-ghost use Rattle.doslink_jobs.specs.Jobs.{names_of};
+ghost use Rattle.doslink_jobs.specs.Jobs.{AreInputsOf, link_says, names_of};
 ghost use Rattle.doslink_jobs.specs.Orders.{IsOrderModule};
-ghost use Rattle.doslink_jobs.specs.inside.Inputs.{AreInputsFor, input_list, made_bytes, module_list};
+ghost use Rattle.doslink_jobs.specs.Refusals.{HaveNoInputs, HaveNoOrder};
+ghost use Rattle.doslink_jobs.specs.inside.Inputs.{input_list, made_bytes, module_list};
+ghost use Rattle.doslink_jobs.specs.inside.Stops.{OnInput};
 
 use crate::communals::{communal_bytes, variable_names};
 use crate::locals::with_locals;
@@ -155,6 +157,24 @@ pub(crate) fn in_own_bytes<A: Allocator + Copy>(
     }
 }
 
+/// The type of a record that no module may have, where that is the fault, by its place in the user's own file.
+pub(crate) fn type_at_fault<A: Allocator + Copy>(
+    fault: &LinkFault<A>,
+    inputs: &Inputs<'_, A>,
+) -> Option<u8> {
+    match fault {
+        LinkFault::Record {
+            input,
+            place,
+            fault: InputFault::Type,
+        } => match module_at(inputs, *input) {
+            Some(module) => module.own.get(*place as usize).copied(),
+            None => None,
+        },
+        _ => None,
+    }
+}
+
 /// The place in the user's own file of a record that isn't one of its type as it is lowered, where that is the fault.
 pub(crate) fn lowered_amiss<A: Allocator + Copy>(
     fault: &LinkFault<A>,
@@ -183,8 +203,10 @@ fn order_of<A: Allocator + Copy>(
     taken: &Taken<'_, '_, '_, A>,
     lines: &mut Vec<u8, A>,
 ) -> Result<Option<Vec<u8, A>>, Stop>
-    ensures { IfOk result (λ o. IsOrderModule asked.now.names asked.now.marks asked.now.dosseg
-        (said.order_of asked.now.order.now) (module_list modules.now communal.now) (option_map (λ v. v.items) o)) }
+    ensures { MatchResult result (λ o. IsOrderModule asked.now.names asked.now.marks asked.now.dosseg
+        (said.order_of asked.now.order.now) (module_list modules.now communal.now) (option_map (λ v. v.items) o))
+        (λ stop. OnInput stop (HaveNoOrder asked.now.names asked.now.dosseg
+        (said.order_of asked.now.order.now) (module_list modules.now communal.now))) }
 {
     if is_unasked(asked) {
         return Ok(None);
@@ -214,8 +236,12 @@ pub(crate) fn inputs_of<'a, A: Allocator + Copy>(
     marks: bool,
     lines: &mut Vec<u8, A>,
 ) -> Result<Inputs<'a, A>, Stop>
-    ensures { IfOk result (λ inputs. AreInputsFor job.now marks (map handed_held taken.now.handed.now)
-        (map variable_said variables.now) inputs) }
+    ensures { MatchResult result (λ inputs. AreInputsOf job.now
+        (link_says (map handed_held taken.now.handed.now) (map variable_said variables.now)) marks
+        (map handed_held taken.now.handed.now) (map variable_said variables.now) (input_list inputs))
+        (λ stop. OnInput stop (HaveNoInputs job.now
+        (link_says (map handed_held taken.now.handed.now) (map variable_said variables.now))
+        (map handed_held taken.now.handed.now) (map variable_said variables.now))) }
 {
     let names = options_of(job).names;
     let offered = variable_names(alloc, variables)?;

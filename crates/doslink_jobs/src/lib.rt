@@ -6,6 +6,7 @@ mod communals;
 mod defaults;
 mod directives;
 mod inputs;
+mod kinds;
 mod linking;
 mod locals;
 mod lowering;
@@ -19,6 +20,6 @@ mod taking;
 mod widths;
 mod words;
 
-pub use program::link_into;
+pub use program::{link_into, map_into};
 pub use running::run_job;
 pub use words::{Language, language_of, library_folders, out_of_memory, run_words, wrong_words};

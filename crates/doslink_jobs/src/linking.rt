@@ -1,11 +1,17 @@
 //! The link of modules into the files of a program and its map.
-ghost use Rattle.std.specs.Prelude.{◌≡◌, OnOk};
-ghost use Rattle.omf_commands.specs.Outcome.{IsFaultless};
+ghost use Rattle.std.specs.Prelude.{◌≡◌, MatchResult};
+ghost use Rattle.omf_commands.specs.Outcome.{IsFaultless, IsOnlyFault};
+ghost use Rattle.omf_faults.specs.FaultLines as faults;
 ghost use Rattle.doslink_link.specs.Linking.{bytes_of};
 ghost use Rattle.doslink_jobs.specs.Jobs.{names_of};
+ghost use Rattle.doslink_jobs.specs.Refusals.{HaveFault};
 ghost use Rattle.doslink_jobs.specs.inside.Inputs.{input_list};
+ghost use Rattle.doslink_jobs.specs.inside.Stops.{OnInput};
 
-use crate::inputs::{Inputs, in_own_bytes, input_slices, input_words, lowered_amiss, options_of};
+use crate::inputs::{
+    Inputs, in_own_bytes, input_slices, input_words, lowered_amiss, options_of, type_at_fault,
+};
+use crate::kinds::push_type;
 use crate::places::Places;
 use crate::program::link_and_map;
 use crate::stop::Stop;
@@ -37,7 +43,13 @@ fn tell_fault<A: Allocator + Copy>(
         LinkFault::Program(ProgramFault::DuplicatePublic(name)) => {
             push_duplicate(alloc, lines, name, names, taken.handed, taken.words)
         }
-        fault => push_fault(alloc, lines, fault, word),
+        fault => {
+            push_fault(alloc, lines, fault, word)?;
+            match type_at_fault(fault, inputs) {
+                Some(kind) => push_type(lines, kind),
+                None => Ok(()),
+            }
+        }
     }
 }
 
@@ -63,7 +75,9 @@ fn link_to_files<'p, W: World + Copy, A: Allocator + Copy>(
     words: &[&[u8]],
     places: &'p Places<A>,
 ) -> (Result<(), LinkFault<A>>, &'p str)
-    ensures { OnOk result.0 (IsFaultless A options.now.names (bytes_of inputs.now)) }
+    ensures { MatchResult result.0 (λ done. IsFaultless A options.now.names (bytes_of inputs.now))
+        (λ fault. faults.status fault ≡ 1 →
+        IsOnlyFault options.now.names (bytes_of inputs.now) fault) }
 {
     let out = places.out.as_str();
     let program = CreatedFile::new(world, out);
@@ -89,7 +103,9 @@ pub(crate) fn write_program<W: World + Copy, A: Allocator + Copy>(
     inputs: &Inputs<'_, A>,
     lines: &mut Vec<u8, A>,
 ) -> Result<(), Stop>
-    ensures { OnOk result (IsFaultless A (names_of job.now.ignore_case) (input_list inputs.now)) }
+    ensures { MatchResult result (λ done. IsFaultless A (names_of job.now.ignore_case) (input_list inputs.now))
+        (λ stop. OnInput stop
+        (HaveFault A (names_of job.now.ignore_case) (input_list inputs.now))) }
 {
     let slices = input_slices(alloc, inputs)?;
     let words = input_words(alloc, inputs, taken.words)?;

@@ -1,20 +1,21 @@
 //! The variables that are local to the modules of a link.
-ghost use Rattle.std.specs.Prelude.{◌≡◌, ℕ, false, List, IfOk, Ok, map};
+ghost use Rattle.std.specs.Prelude.{◌≡◌, ℕ, false, Any, List, IfOk, IsErr, Ok, map, zip, MatchResult};
 ghost use Rattle.std.specs.Option.{option_map_or};
 ghost use Rattle.omf_communal.specs.declared.declarations.Scope.TheVariants as scope;
 ghost use Rattle.omf_communal.specs.Reading.{communals_of, plain_communal};
 ghost use Rattle.omf_library.specs.Records.{module_records};
 ghost use Rattle.doslink_jobs.specs.Locals.{HasLocals, HaveLocals};
 ghost use Rattle.doslink_jobs.specs.Communals.{TellsBss};
+ghost use Rattle.doslink_jobs.specs.Refusals.{HasNoLocals};
 ghost use Rattle.doslink_jobs.specs.inside.Inputs.{lowered_bytes, own_bytes};
+ghost use Rattle.doslink_jobs.specs.inside.Stops.{OnInput};
 ghost use Rattle.doslink_jobs.specs.inside.Declaring.{DeclareNone};
 
-use crate::communals::{Declared, agreed_variables, is_in_bss, stop_at_entry};
+use crate::communals::{Declared, agreed_variables, is_in_bss, stop_at_entry, stop_unplaced};
 use crate::lowering::LoweredModule;
-use crate::stop::{Stop, stop_after};
+use crate::stop::Stop;
 use crate::taking::Taken;
-use doslink_telling::push_unplaced;
-use omf_communal::{Communal, PlanFault, Scope, communals, local_module, local_names};
+use omf_communal::{Communal, Scope, communals, local_module, local_names};
 use omf_library::module_frames;
 use omf_place::Names;
 use std::alloc::{AllocError, Allocator};
@@ -26,8 +27,10 @@ fn declared_in<'a, A: Allocator + Copy>(
     word: &[u8],
     lines: &mut Vec<u8, A>,
 ) -> Result<Vec<Communal<'a>, A>, Stop>
-    ensures { IfOk result (λ v.
-        communals_of scope.Module (module_records own.now 0) ≡ Ok (map plain_communal v.items)) }
+    ensures { MatchResult result (λ v.
+        communals_of scope.Module (module_records own.now 0) ≡ Ok (map plain_communal v.items))
+        (λ stop. OnInput stop
+        (IsErr (communals_of scope.Module (module_records own.now 0)))) }
 {
     match communals(alloc, own, Scope::Module) {
         Ok(declared) => Ok(declared),
@@ -42,7 +45,9 @@ fn declare_some<A: Allocator + Copy>(
     taken: &Taken<'_, '_, '_, A>,
     lines: &mut Vec<u8, A>,
 ) -> Result<bool, Stop>
-    ensures { IfOk result (λ some. some ≡ false → DeclareNone (map own_bytes modules.now)) }
+    ensures { MatchResult result (λ some. some ≡ false → DeclareNone (map own_bytes modules.now))
+        (λ stop. OnInput stop (Any
+        (λ one. IsErr (communals_of scope.Module (module_records (own_bytes one) 0))) modules.now)) }
 {
     for (index, one) in modules.iter().enumerate() {
         let declared = declared_in(alloc, one.own, taken.word(index), lines)?;
@@ -63,9 +68,11 @@ fn linked_bytes<A: Allocator + Copy>(
     words: &[Vec<u8, A>],
     lines: &mut Vec<u8, A>,
 ) -> Result<Option<Vec<u8, A>>, Stop>
-    ensures { IfOk result (λ o. (all : List (List ℕ)) → TellsBss all in_bss →
+    ensures { MatchResult result (λ o. (all : List (List ℕ)) → TellsBss all in_bss →
         HasLocals names all (own_bytes one.now) (lowered_bytes one.now)
-        (option_map_or (λ v. v.items) o (lowered_bytes one.now))) }
+        (option_map_or (λ v. v.items) o (lowered_bytes one.now)))
+        (λ stop. OnInput stop ((all : List (List ℕ)) → TellsBss all in_bss →
+        HasNoLocals names all (own_bytes one.now) (lowered_bytes one.now))) }
 {
     let word = match words.first() {
         Some(word) => word.as_slice(),
@@ -80,8 +87,7 @@ fn linked_bytes<A: Allocator + Copy>(
     let variables = agreed_variables(alloc, names, &declared, words, lines)?;
     match local_module(alloc, one.bytes(), &variables, in_bss) {
         Ok(bytes) => Ok(bytes),
-        Err(PlanFault::Memory) => Err(Stop::Memory),
-        Err(fault) => Err(stop_after(push_unplaced(alloc, lines, fault, &variables, words))),
+        Err(fault) => Err(stop_unplaced(alloc, fault, &variables, words, lines)),
     }
 }
 
@@ -113,8 +119,11 @@ pub(crate) fn with_locals<'a, A: Allocator + Copy>(
     taken: &Taken<'_, '_, 'a, A>,
     lines: &mut Vec<u8, A>,
 ) -> Result<Vec<LoweredModule<'a, A>, A>, Stop>
-    ensures { IfOk result (λ v. HaveLocals names (map own_bytes modules.entry.items)
-        (map lowered_bytes modules.entry.items) (map lowered_bytes v.items)) }
+    ensures { MatchResult result (λ v. HaveLocals names (map own_bytes modules.entry.items)
+        (map lowered_bytes modules.entry.items) (map lowered_bytes v.items))
+        (λ stop. OnInput stop (Any
+        (λ m. HasNoLocals names (map lowered_bytes modules.entry.items) m.0 m.1)
+        (zip (map own_bytes modules.entry.items) (map lowered_bytes modules.entry.items)))) }
 {
     if !declare_some(alloc, &modules, taken, lines)? {
         return Ok(modules);

@@ -1,14 +1,17 @@
 //! The modules of a link, lowered: what compilers write in place of what `link` takes is rewritten.
-ghost use Rattle.std.specs.Prelude.{◌≡◌, ◌+◌, ◌≤◌, IfOk, map, min, nat_le, sum_by};
+ghost use Rattle.std.specs.Prelude.{◌≡◌, ◌≢◌, ◌+◌, ◌≤◌, Any, IfErr, IfOk, IsErr, map, min, nat_le, sum_by, MatchResult};
+ghost use Rattle.omf_lower.specs.Module as stands;
 ghost use Rattle.omf_module.specs.Seen.{segment_seen};
 ghost use Rattle.omf_search.specs.Results.{module_said};
 ghost use Rattle.doslink_stock.specs.Seen.{handed_held};
 ghost use Rattle.doslink_link.specs.Linking.{bytes_of};
 ghost use Rattle.doslink_jobs.specs.FarData as spec;
 ghost use Rattle.doslink_jobs.specs.FarData.{TellsFit};
-ghost use Rattle.doslink_jobs.specs.Jobs.{AreLowered, AreLoweredFor, IsLoweringFor};
+ghost use Rattle.doslink_jobs.specs.Jobs.{AreLowered, AreLoweredFor, IsLoweringFor, plain_lowering};
+ghost use Rattle.doslink_jobs.specs.Refusals.{IsNotLowered};
 ghost use Rattle.doslink_jobs.specs.inside.Inputs.{lowered_bytes, own_bytes};
 ghost use Rattle.doslink_jobs.specs.inside.Meanings.{means};
+ghost use Rattle.doslink_jobs.specs.inside.Stops.{OnInput};
 
 use crate::aliases::{Meanings, aliases_in, aliases_of, check_aliases};
 use crate::inputs::options_of;
@@ -108,6 +111,9 @@ pub(crate) fn lower_modules<'a, A: Allocator + Copy>(
     lines: &mut Vec<u8, A>,
 ) -> Result<Vec<LoweredModule<'a, A>, A>, Stop>
     ensures own { IfOk result (λ v. map own_bytes v.items ≡ map (λ h. (handed_held h).bytes) taken.now.handed.now) }
+    ensures refused { IfErr result (λ stop. OnInput stop (Any
+        (λ bytes. IsErr (stands.lowered lowering (means meanings.now bytes) bytes))
+        (map (λ h. (handed_held h).bytes) taken.now.handed.now))) }
     ensures lowered { IfOk result (λ v. AreLowered lowering (means meanings.now)
         (map (λ h. (handed_held h).bytes) taken.now.handed.now) (map lowered_bytes v.items)) }
 {
@@ -138,7 +144,9 @@ fn stop_at_record<A: Allocator + Copy>(
     own: &[u8],
     fault: LoweringFault,
     lines: &mut Vec<u8, A>,
-) -> Stop {
+) -> Stop
+    ensures { OnInput result (fault ≢ LoweringFault.Memory) }
+{
     let LoweringFault::At { number, obstacle } = fault else {
         return Stop::Memory;
     };
@@ -215,7 +223,8 @@ fn shares_far_data<A: Allocator + Copy>(
     taken: &Taken<'_, '_, '_, A>,
     lines: &mut Vec<u8, A>,
 ) -> Result<bool, Stop>
-    ensures { IfOk result (TellsFit (map lowered_bytes modules.now)) }
+    ensures { MatchResult result (TellsFit (map lowered_bytes modules.now))
+        (λ stop. OnInput stop ⊥) }
 {
     let slices = lowered_slices(alloc, modules)?;
     match read_modules(alloc, &slices, taken, lines)? {
@@ -232,8 +241,11 @@ fn lowering_of<'a, A: Allocator + Copy>(
     meanings: &Meanings<'_, '_, 'a>,
     lines: &mut Vec<u8, A>,
 ) -> Result<Lowering, Stop>
-    ensures { IfOk result (IsLoweringFor job.now (means meanings.now)
-        (map (λ h. (handed_held h).bytes) taken.now.handed.now)) }
+    ensures { MatchResult result (IsLoweringFor job.now (means meanings.now)
+        (map (λ h. (handed_held h).bytes) taken.now.handed.now))
+        (λ stop. OnInput stop (Any
+        (λ bytes. IsErr (stands.lowered (plain_lowering job.now) (means meanings.now bytes) bytes))
+        (map (λ h. (handed_held h).bytes) taken.now.handed.now))) }
 {
     let plain = Lowering {
         keep_debug: job.keep_debug,
@@ -261,6 +273,9 @@ pub(crate) fn lower_for<'a, A: Allocator + Copy>(
     ensures own { IfOk result (λ v. map own_bytes v.items ≡ map (λ h. (handed_held h).bytes) taken.now.handed.now) }
     ensures lowered { IfOk result (λ v. AreLoweredFor job.now (map module_said says.now)
         (map (λ h. (handed_held h).bytes) taken.now.handed.now) (map lowered_bytes v.items)) }
+    ensures refused { IfErr result (λ stop. OnInput stop (Any
+        (IsNotLowered job.now (map module_said says.now) (map (λ h. (handed_held h).bytes) taken.now.handed.now))
+        (map (λ h. (handed_held h).bytes) taken.now.handed.now))) }
 {
     let aliases = aliases_of(alloc, taken)?;
     let meanings = Meanings {

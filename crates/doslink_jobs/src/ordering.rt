@@ -1,5 +1,5 @@
 //! The order module, where one is asked for.
-ghost use Rattle.std.specs.Prelude.{◌≡◌, IfOk, MatchOption, OnOk, map};
+ghost use Rattle.std.specs.Prelude.{◌≡◌, IfOk, MatchOption, map, MatchResult};
 ghost use Rattle.std.specs.Option.{option_map};
 ghost use Rattle.doslink_link.specs.Linking.{bytes_of};
 ghost use Rattle.doslink_words.specs.Said as said;
@@ -7,7 +7,9 @@ ghost use Rattle.doslink_words.specs.Said.{order_of};
 ghost use Rattle.doslink_jobs.specs.Orders as spec;
 ghost use Rattle.doslink_jobs.specs.Orders.{AreRead, AreUnread, IsOrderFor};
 ghost use Rattle.doslink_jobs.specs.inside.Listed.{listed};
+ghost use Rattle.doslink_jobs.specs.Refusals.{IsTooLong};
 ghost use Rattle.doslink_jobs.specs.inside.Reading.{IsOfBytes, IsRead, IsNoModule};
+ghost use Rattle.doslink_jobs.specs.inside.Stops.{OnInput};
 
 use crate::stop::Stop;
 use crate::taking::Taken;
@@ -28,7 +30,8 @@ pub(crate) fn pass_unread<A: Allocator + Copy>(
     fault: ModuleFault,
     lines: &mut Vec<u8, A>,
 ) -> Result<(), Stop>
-    ensures { OnOk result (IsOfBytes fault) }
+    ensures { MatchResult result (λ done. IsOfBytes fault)
+        (λ stop. OnInput stop ⊥) }
 {
     match fault {
         ModuleFault::Memory => Err(Stop::Memory),
@@ -50,7 +53,8 @@ fn read_bytes<A: Allocator + Copy>(
     word: &[u8],
     lines: &mut Vec<u8, A>,
 ) -> Result<Option<Module<A>>, Stop>
-    ensures { IfOk result (λ o. MatchOption o (IsNoModule bytes.now) (λ one. IsRead bytes.now one)) }
+    ensures { MatchResult result (λ o. MatchOption o (IsNoModule bytes.now) (λ one. IsRead bytes.now one))
+        (λ stop. OnInput stop ⊥) }
 {
     let mut source = MemSource::over(bytes, usize::MAX, None);
     match read_module(alloc, &mut source) {
@@ -70,8 +74,9 @@ pub(crate) fn read_modules<A: Allocator + Copy>(
     taken: &Taken<'_, '_, '_, A>,
     lines: &mut Vec<u8, A>,
 ) -> Result<Option<Vec<Module<A>, A>>, Stop>
-    ensures { IfOk result (λ o. MatchOption o (AreUnread (bytes_of inputs.now))
-        (λ modules. AreRead (bytes_of inputs.now) modules.items)) }
+    ensures { MatchResult result (λ o. MatchOption o (AreUnread (bytes_of inputs.now))
+        (λ modules. AreRead (bytes_of inputs.now) modules.items))
+        (λ stop. OnInput stop ⊥) }
 {
     let mut modules = Vec::new(alloc);
     for bytes in inputs {
@@ -134,8 +139,8 @@ pub(crate) struct Asked<'o, 'a> {
     pub names: Names,
 }
 
-/// The order that is asked for, whose list these items are. A module that asks for DOSSEG is heard where the job asks for
-/// none.
+/// The order that is asked for, whose list these items are. A module that asks for DOSSEG is heard where the job asks
+/// for none.
 fn order_asked<'i>(order: &Order<'_>, dosseg: bool, items: &'i [Item<'i>]) -> omf_order::Order<'i>
     requires { map spec.item_said items.now ≡ listed (order_of order.now) }
     ensures { spec.order_said result ≡ spec.order_asked (order_of order.now) dosseg }
@@ -166,8 +171,10 @@ pub(crate) fn order_bytes<A: Allocator + Copy>(
     asked: &Asked<'_, '_>,
     lines: &mut Vec<u8, A>,
 ) -> Result<Option<Vec<u8, A>>, Stop>
-    ensures { IfOk result (λ o. IsOrderFor asked.now.names asked.now.dosseg (order_of asked.now.order.now) modules.now
-        (option_map (λ v. v.items) o)) }
+    ensures { MatchResult result (λ o. IsOrderFor asked.now.names asked.now.dosseg (order_of asked.now.order.now)
+        modules.now (option_map (λ v. v.items) o))
+        (λ stop. OnInput stop
+        (IsTooLong asked.now.names asked.now.dosseg (order_of asked.now.order.now) modules.now)) }
 {
     let items = listed_items(alloc, asked.order)?;
     let order = order_asked(asked.order, asked.dosseg, &items);

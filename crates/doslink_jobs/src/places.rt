@@ -1,4 +1,6 @@
 //! Where the program and its map are written.
+ghost use Rattle.std.specs.Prelude.{IfErr};
+ghost use Rattle.doslink_jobs.specs.inside.Stops.{OnInput};
 
 use crate::paths::with_extension;
 use crate::stop::Stop;
@@ -44,7 +46,9 @@ fn check_place<A: Allocator + Copy>(
     path: &str,
     files: &[InputFile<A>],
     lines: &mut Vec<u8, A>,
-) -> Result<(), Stop> {
+) -> Result<(), Stop>
+    ensures { IfErr result (λ stop. OnInput stop ⊥) }
+{
     if files.iter().any(|file| file.path.as_str() == path) {
         push_path_line(lines, path, "it is read and would be written")?;
         return Err(Stop::Words);
@@ -53,11 +57,9 @@ fn check_place<A: Allocator + Copy>(
 }
 
 /// Stops where the map would be written over the program.
-fn check_map<A: Allocator + Copy>(
-    map: &str,
-    out: &str,
-    lines: &mut Vec<u8, A>,
-) -> Result<(), Stop> {
+fn check_map<A: Allocator + Copy>(map: &str, out: &str, lines: &mut Vec<u8, A>) -> Result<(), Stop>
+    ensures { IfErr result (λ stop. OnInput stop ⊥) }
+{
     if map == out {
         push_path_line(lines, map, "it would be the program and its map")?;
         return Err(Stop::Words);
@@ -71,7 +73,9 @@ pub(crate) fn places_of<A: Allocator + Copy>(
     job: &Job<'_>,
     files: &[InputFile<A>],
     lines: &mut Vec<u8, A>,
-) -> Result<Places<A>, Stop> {
+) -> Result<Places<A>, Stop>
+    ensures { IfErr result (λ stop. OnInput stop ⊥) }
+{
     let out = out_path(alloc, job)?;
     check_place(out.as_str(), files, lines)?;
     let map = map_path(alloc, job, out.as_str())?;

@@ -1,10 +1,12 @@
 //! A program and its map, written to files.
-ghost use Rattle.std.specs.Prelude.{◌≡◌, ◌+◌, ◌-◌, ◌^◌, ◌<◌, ◌≤◌, [], IfOk, OnOk};
+ghost use Rattle.std.specs.Prelude.{◌≡◌, ◌+◌, ◌-◌, ◌^◌, ◌<◌, ◌≤◌, [], IfErr, IfOk, OnOk, MatchResult};
 ghost use Rattle.std.specs.Io.KnownBytes.{Keeps};
-ghost use Rattle.omf_commands.specs.Outcome.{IsFaultless, Outcome};
+ghost use Rattle.omf_commands.specs.Outcome.{IsFaultless, IsOnlyFault, Outcome};
 ghost use Rattle.omf_files.specs.Files.{held_back, sink_bytes, sink_failures};
 ghost use Rattle.omf_place.specs.Bounded.{IsBounded};
+ghost use Rattle.omf_faults.specs.FaultLines as faults;
 ghost use Rattle.doslink_link.specs.Linking.{WritesBy, WritesProgramOf, bytes_of};
+ghost use Rattle.doslink_jobs.specs.Maps.{WritesText, map_bytes};
 ghost use Rattle.doslink_jobs.specs.inside.Flushed.{IsFlushed};
 
 use doslink_link::link_bytes;
@@ -87,7 +89,9 @@ fn put_map<K: Sink, A: Allocator + Copy>(
 ) -> Result<(), LinkFault<A>>
     requires bounded { IsBounded report.now.modules.items report.now.layout }
     requires sink { K.failures sink.old < 2 ^ 64 - 1 }
-    ensures { K.failures sink.new ≤ K.failures sink.old + 1 }
+    ensures once { K.failures sink.new ≤ K.failures sink.old + 1 }
+    ensures written { WritesText (map_bytes report.now (bytes_of inputs.now) (bytes_of words.now))
+        (K.written sink.old) (K.written sink.new) result }
 {
     let text = table(alloc, &report.modules, &report.layout, inputs, words)?;
     write_map(report, sink)?;
@@ -95,6 +99,30 @@ fn put_map<K: Sink, A: Allocator + Copy>(
         Ok(()) => Ok(()),
         Err(_) => Err(LinkFault::Output),
     }
+}
+
+/// Writes the map of what was linked to a sink, and behind it the table of the modules, whose bytes and words these
+/// are. All of it is handed on to the sink's writer.
+///
+/// # Errors
+/// The sink failed, or handing on.
+pub fn map_into<W: Write + Drop, A: Allocator + Copy>(
+    alloc: A,
+    report: &Report<A>,
+    inputs: &[&[u8]],
+    words: &[&[u8]],
+    sink: &mut BufferedSink<W, A>,
+) -> Result<(), LinkFault<A>>
+    requires bounded { IsBounded report.now.modules.items report.now.layout }
+    requires sink { sink_failures sink.old ≡ 0 }
+    // What is written is the map, and a front of it where the sink failed.
+    ensures written { WritesText (map_bytes report.now (bytes_of inputs.now) (bytes_of words.now))
+        (sink_bytes W.contents sink.old) (sink_bytes W.contents sink.new) result }
+    // Nothing of it is held back.
+    ensures whole { OnOk result (held_back sink.new ≡ []) }
+{
+    let result = put_map(alloc, report, inputs, words, sink);
+    flushed(sink, result)
 }
 
 /// Writes the map of what was linked, all of which is handed on to the writer.
@@ -106,10 +134,10 @@ fn map_to<W: Write + Drop, A: Allocator + Copy>(
     out: W,
 ) -> Result<(), LinkFault<A>>
     requires { IsBounded report.now.modules.items report.now.layout }
+    ensures { IfErr result (λ fault. faults.status fault ≡ 3) }
 {
     let mut sink = BufferedSink::new(alloc, out)?;
-    let result = put_map(alloc, report, inputs, words, &mut sink);
-    flushed(&mut sink, result)
+    map_into(alloc, report, inputs, words, &mut sink)
 }
 
 /// Links the inputs into the program, and then writes the map where one is asked for. Beside the answer stands whether
@@ -122,7 +150,9 @@ pub(crate) fn link_and_map<W: Write + Drop, A: Allocator + Copy>(
     out: W,
     map: Option<W>,
 ) -> (Result<(), LinkFault<A>>, bool)
-    ensures { OnOk result.0 (IsFaultless A options.now.names (bytes_of inputs.now)) }
+    ensures { MatchResult result.0 (λ done. IsFaultless A options.now.names (bytes_of inputs.now))
+        (λ fault. faults.status fault ≡ 1 →
+        IsOnlyFault options.now.names (bytes_of inputs.now) fault) }
 {
     match link_to(alloc, options, inputs, out) {
         Ok(report) => match map {

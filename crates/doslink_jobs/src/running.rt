@@ -1,14 +1,16 @@
 //! A job of `doslink`, done with files and the two streams.
-ghost use Rattle.std.specs.Prelude.{◌≡◌, ◌-◌, ◌^◌, ◌<◌, ◌++◌, IfOk, OnOk, map};
+ghost use Rattle.std.specs.Prelude.{◌≡◌, ◌-◌, ◌^◌, ◌<◌, ◌++◌, IfErr, IfOk, IsErr, OnOk, map, MatchResult};
 ghost use Rattle.omf_files.specs.Files.{sink_failures};
 ghost use Rattle.doslink_files.specs.Files.{AreFound, AreTold, contents};
+ghost use Rattle.doslink_stock.specs.Files.{members};
 ghost use Rattle.doslink_stock.specs.Seen.{entry_held};
 ghost use Rattle.doslink_words.specs.Tokens.{texts};
 ghost use Rattle.doslink_jobs.specs.Jobs.{EndsWith, IsDone, IsLinked, Tells};
 ghost use Rattle.doslink_jobs.specs.inside.Adding.{AddsDefaults, AreGiven};
-ghost use Rattle.doslink_jobs.specs.inside.Inputs.{IsLinkedStock};
+ghost use Rattle.doslink_jobs.specs.Refusals.{IsRefused, IsRefusedJob};
+ghost use Rattle.doslink_jobs.specs.inside.Inputs.{IsLinkedStock, IsRefusedStock};
 ghost use Rattle.doslink_jobs.specs.inside.Stops as stops;
-ghost use Rattle.doslink_jobs.specs.inside.Stops.{told_text};
+ghost use Rattle.doslink_jobs.specs.inside.Stops.{OnInput, told_text};
 
 use crate::communals::variables_of;
 use crate::defaults::{add_default_libraries, slices_of};
@@ -38,8 +40,10 @@ fn link_stock<W: World + Copy, O: Write + Drop, A: Allocator + Copy>(
     lines: &mut Vec<u8, A>,
 ) -> Result<(), Stop>
     requires { sink_failures output.old ≡ 0 }
-    ensures { OnOk result (IsLinkedStock A job.now (map entry_held stock.now.objects.items)
-        (map entry_held stock.now.members.items)) }
+    ensures { MatchResult result (λ done. IsLinkedStock A job.now (map entry_held stock.now.objects.items)
+        (map entry_held stock.now.members.items))
+        (λ stop. OnInput stop (IsRefusedStock A job.now
+        (map entry_held stock.now.objects.items) (map entry_held stock.now.members.items))) }
 {
     let places = places_of(alloc, job, files, lines)?;
     let names = options_of(job).names;
@@ -69,7 +73,8 @@ fn link_files<W: World + Copy, O: Write + Drop, A: Allocator + Copy>(
     lines: &mut Vec<u8, A>,
 ) -> Result<(), Stop>
     requires { sink_failures output.old ≡ 0 }
-    ensures { OnOk result (IsLinked A job.now (contents files.now)) }
+    ensures { MatchResult result (λ done. IsLinked A job.now (contents files.now))
+        (λ stop. OnInput stop (IsRefused A job.now (contents files.now))) }
 {
     let slices = slices_of(alloc, files)?;
     match read_stock(alloc, &slices) {
@@ -88,7 +93,9 @@ fn named_files<W: World, A: Allocator + Copy>(
     job: &Job<'_>,
     lines: &mut Vec<u8, A>,
 ) -> Result<Vec<InputFile<A>, A>, Stop>
-    ensures { IfOk result (λ files. AreTold (W.bytes world.now) (texts job.now.files.items) (contents files.items)) }
+    ensures { MatchResult result (λ files. AreTold (W.bytes world.now) (texts job.now.files.items)
+        (contents files.items))
+        (λ stop. OnInput stop ⊥) }
 {
     match read_files(alloc, world, &job.files) {
         Ok(files) => Ok(files),
@@ -103,8 +110,9 @@ fn named_libraries<W: World, A: Allocator + Copy>(
     job: &Job<'_>,
     lines: &mut Vec<u8, A>,
 ) -> Result<Vec<InputFile<A>, A>, Stop>
-    ensures { IfOk result (λ files. AreFound (W.bytes world.now) (texts job.now.folders.items)
-        (texts job.now.libraries.items) (contents files.items)) }
+    ensures { MatchResult result (λ files. AreFound (W.bytes world.now) (texts job.now.folders.items)
+        (texts job.now.libraries.items) (contents files.items))
+        (λ stop. OnInput stop ⊥) }
 {
     match find_libraries(alloc, world, &job.folders, &job.libraries) {
         Ok(libraries) => Ok(libraries),
@@ -119,7 +127,8 @@ fn given_files<W: World, A: Allocator + Copy>(
     job: &Job<'_>,
     lines: &mut Vec<u8, A>,
 ) -> Result<Vec<InputFile<A>, A>, Stop>
-    ensures { IfOk result (λ files. AreGiven (W.bytes world.now) job.now (contents files.items)) }
+    ensures { MatchResult result (λ files. AreGiven (W.bytes world.now) job.now (contents files.items))
+        (λ stop. OnInput stop ⊥) }
 {
     let mut files = named_files(alloc, world, job, lines)?;
     let libraries = named_libraries(alloc, world, job, lines)?;
@@ -162,8 +171,10 @@ fn add_defaults<W: World, A: Allocator + Copy>(
     files: &mut Vec<InputFile<A>, A>,
     lines: &mut Vec<u8, A>,
 ) -> Result<(), Stop>
-    ensures { OnOk result (AddsDefaults (W.bytes world.now) (texts folders.now) job.now (contents files.old.items)
-        (contents files.new.items)) }
+    ensures { MatchResult result (λ done. AddsDefaults (W.bytes world.now) (texts folders.now) job.now
+        (contents files.old.items) (contents files.new.items))
+        (λ stop. OnInput stop (AddsDefaults (W.bytes world.now) (texts folders.now) job.now
+        (contents files.old.items) (contents files.new.items) × IsErr (members (contents files.new.items)))) }
 {
     if !job.default_libraries {
         return Ok(());
@@ -178,7 +189,9 @@ fn add_defaults<W: World, A: Allocator + Copy>(
 }
 
 /// Stops where a job names nothing that could be linked.
-fn check_inputs<A: Allocator + Copy>(job: &Job<'_>, lines: &mut Vec<u8, A>) -> Result<(), Stop> {
+fn check_inputs<A: Allocator + Copy>(job: &Job<'_>, lines: &mut Vec<u8, A>) -> Result<(), Stop>
+    ensures { IfErr result (λ stop. OnInput stop ⊥) }
+{
     if job.files.is_empty() && job.libraries.is_empty() {
         lines.extend_from_slice(b"doslink: no file is named to be linked\n")?;
         return Err(Stop::Words);
@@ -196,7 +209,9 @@ fn do_job<W: World + Copy, O: Write + Drop, A: Allocator + Copy>(
     lines: &mut Vec<u8, A>,
 ) -> Result<(), Stop>
     requires { sink_failures output.old ≡ 0 }
-    ensures { OnOk result (IsDone A (W.bytes world) (texts folders.now) job.now) }
+    ensures { MatchResult result (λ done. IsDone A (W.bytes world) (texts folders.now) job.now)
+        (λ stop. OnInput stop
+        (IsRefusedJob A (W.bytes world) (texts folders.now) job.now)) }
 {
     check_inputs(job, lines)?;
     let everywhere = all_folders(alloc, job, folders)?;
@@ -220,6 +235,7 @@ pub fn run_job<W: World + Copy, O: Write + Drop, E: Sink, A: Allocator + Copy>(
     requires output { sink_failures output.old ≡ 0 }
     requires errors { E.failures errors.old < 2 ^ 64 - 1 }
     ensures { EndsWith (IsDone A (W.bytes world) (texts folders.now) job.now)
+        (IsRefusedJob A (W.bytes world) (texts folders.now) job.now)
         (Tells E.written E.failures errors.old errors.new) result }
 {
     run_lines(alloc, world, job, folders, Vec::new(alloc), output, errors)
@@ -238,6 +254,7 @@ pub(crate) fn run_lines<W: World + Copy, O: Write + Drop, E: Sink, A: Allocator 
     requires output { sink_failures output.old ≡ 0 }
     requires errors { E.failures errors.old < 2 ^ 64 - 1 }
     ensures { EndsWith (IsDone A (W.bytes world) (texts folders.now) job.now)
+        (IsRefusedJob A (W.bytes world) (texts folders.now) job.now)
         (Tells E.written E.failures errors.old errors.new) result }
 {
     let mut lines = first;

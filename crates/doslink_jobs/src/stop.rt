@@ -1,6 +1,6 @@
 //! Why a run stops.
 ghost use Rattle.std.specs.Prelude.{◌≡◌};
-ghost use Rattle.doslink_jobs.specs.inside.Stops.{stop_status, stop_text};
+ghost use Rattle.doslink_jobs.specs.inside.Stops.{OnInput, stop_status, stop_text};
 
 use doslink_files::FileFault;
 use doslink_telling::push_device_line;
@@ -76,7 +76,9 @@ pub(crate) fn stop_after(told: Result<(), AllocError>) -> Stop {
 }
 
 /// Tells that a file can't be read, and stops.
-pub(crate) fn stop_at<A: Allocator + Copy>(lines: &mut Vec<u8, A>, fault: FileFault<'_>) -> Stop {
+pub(crate) fn stop_at<A: Allocator + Copy>(lines: &mut Vec<u8, A>, fault: FileFault<'_>) -> Stop
+    ensures { OnInput result ⊥ }
+{
     match fault {
         FileFault::Memory => Stop::Memory,
         FileFault::Unread { name } => match push_device_line(lines, name) {

@@ -1,10 +1,10 @@
 //! The modules that a link takes: told, and looked through for names that are missing.
-ghost use Rattle.std.specs.Prelude.{◌≡◌, [], ◌∷◌, ◌++◌, IfOk, OnOk, map};
+ghost use Rattle.std.specs.Prelude.{◌≡◌, ◌≢◌, [], IfErr, IfOk, OnOk, map};
 ghost use Rattle.omf_communal.specs.Deciding.{variable_said};
-ghost use Rattle.doslink_stock.specs.Files.{needs};
 ghost use Rattle.doslink_stock.specs.Seen.{handed_held};
 ghost use Rattle.doslink_telling.specs.Missing.{unmet, wants_marks};
-ghost use Rattle.doslink_jobs.specs.Communals.{offering};
+ghost use Rattle.doslink_jobs.specs.Jobs.{link_says};
+ghost use Rattle.doslink_jobs.specs.inside.Stops.{OnInput};
 ghost use Rattle.omf_files.specs.Files.{sink_failures};
 
 use crate::communals::variable_names;
@@ -67,6 +67,7 @@ pub(crate) fn tell_taken<O: Write + Drop, A: Allocator + Copy>(
     lines: &mut Vec<u8, A>,
 ) -> Result<(), Stop>
     requires { sink_failures output.old ≡ 0 }
+    ensures { IfErr result (λ stop. OnInput stop ⊥) }
 {
     let text = handed_text(alloc, taken.handed, taken.words)?;
     if let Err(IoFault) = print(output, &text) {
@@ -76,8 +77,8 @@ pub(crate) fn tell_taken<O: Write + Drop, A: Allocator + Copy>(
     Ok(())
 }
 
-/// Tells the names that are missing, and stops; else hands out whether marks are wanted. Those of the communal variables
-/// aren't missing.
+/// Tells the names that are missing, and stops; else hands out whether marks are wanted. Those of the communal
+/// variables aren't missing.
 pub(crate) fn check_names<'m, 'a, A: Allocator + Copy>(
     alloc: A,
     names: Names,
@@ -87,10 +88,12 @@ pub(crate) fn check_names<'m, 'a, A: Allocator + Copy>(
     variables: &[Variable<'a>],
     lines: &mut Vec<u8, A>,
 ) -> Result<bool, Stop>
-    ensures met { OnOk result (unmet names (map (λ h. needs (handed_held h)) handed.now
-        ++ offering (map variable_said variables.now) ∷ []) ≡ []) }
-    ensures marks { IfOk result (λ marks. marks ≡ wants_marks names (map (λ h. needs (handed_held h)) handed.now
-        ++ offering (map variable_said variables.now) ∷ [])) }
+    ensures met { OnOk result
+        (unmet names (link_says (map handed_held handed.now) (map variable_said variables.now)) ≡ []) }
+    ensures marks { IfOk result (λ marks. marks
+        ≡ wants_marks names (link_says (map handed_held handed.now) (map variable_said variables.now))) }
+    ensures refused { IfErr result (λ stop. OnInput stop
+        (unmet names (link_says (map handed_held handed.now) (map variable_said variables.now)) ≢ [])) }
 {
     let communal = variable_names(alloc, variables)?;
     let mut says = handed_saids(alloc, handed)?;

@@ -7,7 +7,8 @@ ghost use Rattle.doslink_words.specs.Keywords.{is_keyword};
 ghost use Rattle.doslink_words.specs.Tokens.{texts};
 ghost use Rattle.doslink_jobs.specs.Jobs.{EndsWith, IsDone, Tells};
 ghost use Rattle.doslink_jobs.specs.Runs as spec;
-ghost use Rattle.doslink_jobs.specs.Runs.{Runs, RunsList, RunsResponse, RunsText, RunsWords};
+ghost use Rattle.doslink_jobs.specs.Refusals.{IsRefusedJob};
+ghost use Rattle.doslink_jobs.specs.Runs.{EndsBy, Runs, RunsList, RunsResponse, RunsText, RunsWords};
 
 use crate::directives::{
     Spoken, directive_line, directives_of, push_warnings, response_path, response_text,
@@ -95,6 +96,7 @@ fn run_parsed<W: World + Copy, O: Write + Drop, E: Sink>(
     requires output { sink_failures output.old ≡ 0 }
     requires errors { E.failures errors.old < 2 ^ 64 - 1 }
     ensures { EndsWith (IsDone Global (W.bytes world) (texts folders.now) directives.now.job)
+        (IsRefusedJob Global (W.bytes world) (texts folders.now) directives.now.job)
         (Tells E.written E.failures errors.old errors.new) result }
 {
     let mut lines = Vec::new(alloc);
@@ -123,7 +125,8 @@ fn run_spoken<W: World + Copy, O: Write + Drop, E: Sink>(
 ) -> u8
     requires output { sink_failures output.old ≡ 0 }
     requires errors { E.failures errors.old < 2 ^ 64 - 1 }
-    ensures { EndsWith (RunsText Global (W.bytes world) (texts folders.now) (string_bytes spoken.now.text))
+    ensures { EndsBy Global (W.bytes world) (texts folders.now)
+        (λ does helps. RunsText (W.bytes world) does helps (string_bytes spoken.now.text))
         (Tells E.written E.failures errors.old errors.new) result }
 {
     match parse_directives(alloc, spoken.text.as_str()) {
@@ -140,7 +143,7 @@ fn refuse_directives<E: Sink>(
     errors: &mut E,
 ) -> u8
     requires { E.failures errors.old < 2 ^ 64 - 1 }
-    ensures { EndsWith ⊥ (Tells E.written E.failures errors.old errors.new) result }
+    ensures { EndsWith ⊥ ⊥ (Tells E.written E.failures errors.old errors.new) result }
 {
     if matches!(fault, DirectiveFault::Memory) {
         return out_of_memory(errors);
@@ -162,7 +165,8 @@ fn run_directives<W: World + Copy, O: Write + Drop, E: Sink>(
 ) -> u8
     requires output { sink_failures output.old ≡ 0 }
     requires errors { E.failures errors.old < 2 ^ 64 - 1 }
-    ensures { EndsWith (Runs Global (W.bytes world) (texts folders.now) Language.Directives (texts words.now))
+    ensures { EndsBy Global (W.bytes world) (texts folders.now)
+        (λ does helps. Runs (W.bytes world) does helps Language.Directives (texts words.now))
         (Tells E.written E.failures errors.old errors.new) result }
 {
     let mut lines = Vec::new(alloc);
@@ -183,7 +187,8 @@ fn run_plain<W: World + Copy, O: Write + Drop, E: Sink>(
 ) -> u8
     requires output { sink_failures output.old ≡ 0 }
     requires errors { E.failures errors.old < 2 ^ 64 - 1 }
-    ensures { EndsWith (RunsWords Global (W.bytes world) (texts folders.now) (texts words.now))
+    ensures { EndsBy Global (W.bytes world) (texts folders.now)
+        (λ does helps. RunsWords (W.bytes world) does helps (texts words.now))
         (Tells E.written E.failures errors.old errors.new) result }
 {
     match parse_words(alloc, words) {
@@ -200,7 +205,8 @@ fn answer_words<O: Write + Drop, E: Sink>(
 ) -> u8
     requires output { sink_failures output.old ≡ 0 }
     requires errors { E.failures errors.old < 2 ^ 64 - 1 }
-    ensures { EndsWith (fault.now ≢ WordsFault.Memory) (Tells E.written E.failures errors.old errors.new) result }
+    ensures { EndsWith (fault.now ≢ WordsFault.Memory) ⊥
+        (Tells E.written E.failures errors.old errors.new) result }
 {
     match fault {
         WordsFault::Help(text) => print_help(text.as_str(), output, errors),
@@ -217,7 +223,7 @@ fn print_help<O: Write + Drop, E: Sink>(
 ) -> u8
     requires output { sink_failures output.old ≡ 0 }
     requires errors { E.failures errors.old < 2 ^ 64 - 1 }
-    ensures { EndsWith (Unit {0}) (Tells E.written E.failures errors.old errors.new) result }
+    ensures { EndsWith (Unit {0}) ⊥ (Tells E.written E.failures errors.old errors.new) result }
 {
     let printed = match put_all(output, text.as_bytes()) {
         Ok(()) => output.flush(),
@@ -240,7 +246,8 @@ fn run_list<W: World + Copy, O: Write + Drop, E: Sink>(
 ) -> u8
     requires output { sink_failures output.old ≡ 0 }
     requires errors { E.failures errors.old < 2 ^ 64 - 1 }
-    ensures { EndsWith (RunsList Global (W.bytes world) (texts folders.now) text.now)
+    ensures { EndsBy Global (W.bytes world) (texts folders.now)
+        (λ does helps. RunsList (W.bytes world) does helps text.now)
         (Tells E.written E.failures errors.old errors.new) result }
 {
     match split_words(alloc, text) {
@@ -261,7 +268,8 @@ fn run_response<W: World + Copy, O: Write + Drop, E: Sink>(
 ) -> u8
     requires output { sink_failures output.old ≡ 0 }
     requires errors { E.failures errors.old < 2 ^ 64 - 1 }
-    ensures { EndsWith (RunsResponse Global (W.bytes world) (texts folders.now) path.now)
+    ensures { EndsBy Global (W.bytes world) (texts folders.now)
+        (λ does helps. RunsResponse (W.bytes world) does helps path.now)
         (Tells E.written E.failures errors.old errors.new) result }
 {
     let mut lines = Vec::new(alloc);
@@ -292,7 +300,8 @@ fn run_command<W: World + Copy, O: Write + Drop, E: Sink>(
 ) -> u8
     requires output { sink_failures output.old ≡ 0 }
     requires errors { E.failures errors.old < 2 ^ 64 - 1 }
-    ensures { EndsWith (Runs Global (W.bytes world) (texts folders.now) Language.Words (texts words.now))
+    ensures { EndsBy Global (W.bytes world) (texts folders.now)
+        (λ does helps. Runs (W.bytes world) does helps Language.Words (texts words.now))
         (Tells E.written E.failures errors.old errors.new) result }
 {
     match only_response(words) {
@@ -315,7 +324,8 @@ pub fn run_words<W: World + Copy, O: Write + Drop, E: Sink>(
 ) -> u8
     requires output { sink_failures output.old ≡ 0 }
     requires errors { E.failures errors.old < 2 ^ 64 - 1 }
-    ensures { EndsWith (Runs Global (W.bytes world) (texts folders.now) language (texts words.now))
+    ensures { EndsBy Global (W.bytes world) (texts folders.now)
+        (λ does helps. Runs (W.bytes world) does helps language (texts words.now))
         (Tells E.written E.failures errors.old errors.new) result }
 {
     match language {

@@ -10,4 +10,6 @@ mod memory;
 #[cfg(test)]
 mod modules;
 #[cfg(test)]
+mod records;
+#[cfg(test)]
 mod runs;

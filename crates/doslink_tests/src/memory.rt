@@ -94,7 +94,7 @@ pub(crate) struct Desk<'f, 'p> {
     pub(crate) files: &'f [(&'f str, &'f [u8])],
     /// The folders.
     pub(crate) folders: &'f [&'f str],
-    /// What is written, of all files.
+    /// What is written: of each file its path, a line end and its bytes.
     pub(crate) written: &'p Page,
 }
 
@@ -117,7 +117,9 @@ impl<'f, 'p> World for Desk<'f, 'p> {
         Err(io::Error::from(ErrorKind::NotFound))
     }
 
-    fn create(&self, _path: &str) -> io::Result<Pen<'p>> {
+    fn create(&self, path: &str) -> io::Result<Pen<'p>> {
+        self.written.append(path.as_bytes())?;
+        self.written.append(b"\n")?;
         Ok(Pen { page: self.written })
     }
 }

@@ -10,6 +10,10 @@ use crate::memory::{Desk, Page, Pen};
 use crate::modules::{
     AMISS, ELSEWHERE, HEADLESS, KEEPS, LIBRARY, LIKE, MARKS, NAMELESS, NAMES, OFFERS, WANTS, WIDE,
 };
+use crate::records::{
+    BEHIND_LOWERED, BESIDE_LCOMDEF, CHOSEN, COMDAT, COMDATS, LINSYM, LOCAL_FAR, OTHER_TYPE,
+    PATCHED, PATCHED_BY_NAME, REPEATS, UNLISTED, WIDELY,
+};
 use doslink_jobs::{language_of, run_words};
 use omf_files::BufferedSink;
 use omf_frame::WriteSink;
@@ -70,6 +74,14 @@ doslink WIDE.OBJ|0||doslink: warning: 32-bit segments of WIDE.OBJ are linked as 
 doslink AMISS.OBJ|1||\
 doslink: warning: 32-bit segments of AMISS.OBJ are linked as 16-bit ones~\
 doslink: AMISS.OBJ: 51 Body at record 13~
+doslink COMDAT.OBJ|1||doslink: COMDAT.OBJ: 5 Type at record 30 (C2 COMDAT)~
+doslink A.OBJ COMDATS.LIB|1||doslink: COMDATS.LIB(f.c): 5 Type at record 30 (C2 COMDAT)~
+doslink PATCHED.OBJ|1||doslink: PATCHED.OBJ: 5 Type at record 37 (B2 BAKPAT)~
+doslink PATCHED2.OBJ|1||doslink: PATCHED2.OBJ: 5 Type at record 14 (C9 NBKPAT)~
+doslink LINSYM.OBJ|1||doslink: LINSYM.OBJ: 5 Type at record 14 (C5 LINSYM)~
+doslink B9.OBJ|1||doslink: B9.OBJ: 5 Type at record 8 (B9)~
+doslink BE.OBJ|1||doslink: BE.OBJ: 5 Type at record 8 (BE)~
+doslink LOWERED.OBJ|1||doslink: LOWERED.OBJ: 16 FixupPlace at record 97~
 wlink|2||doslink: no file is named to be linked~
 ";
 
@@ -150,8 +162,8 @@ doslink ITSELF.OBJ F.OBJ|0||
 doslink ITSELF.OBJ|1||doslink: ITSELF.OBJ: 60 EndlessAlias \"f\" at record 35~
 ";
 
-/// Runs, and the code of the program that each writes: a call of `f` first.
-const PROGRAMS: [(&str, &[u8]); 7] = [
+/// Runs, and the end of the file that each writes: the whole of it, or its code, which calls `f` first.
+const PROGRAMS: [(&str, &[u8]); 14] = [
     // its default is in the module behind the next one
     (
         "doslink WEAKLY.OBJ D.OBJ RUN.LIB",
@@ -187,6 +199,112 @@ const PROGRAMS: [(&str, &[u8]); 7] = [
         "doslink WEAKLY.OBJ OTHERWISE.OBJ D.OBJ RUN.LIB",
         &[0xE8, 0x04, 0x00, 0xE8, 0x00, 0x00, 0x90, 0x90],
     ),
+    // data that is repeated: the number of 32 bits has 5 and the offset 16, in both copies
+    (
+        "doslink REPEATS.OBJ",
+        &[
+            0x4D, 0x5A, 0x2E, 0x00, 0x01, 0x00, 0x00, 0x00, 0x02, 0x00, 0x01, 0x00, 0xFF, 0xFF,
+            0x00, 0x00, 0x00, 0x00, 0x00, 0x00, 0x00, 0x00, 0x00, 0x00, 0x1C, 0x00, 0x00, 0x00,
+            0x00, 0x00, 0x00, 0x00, 0xAA, 0xBB, 0xAA, 0xBB, 0xAA, 0xBB, 0x15, 0x00, 0x00, 0x00,
+            0x15, 0x00, 0x00, 0x00,
+        ],
+    ),
+    // values of 32 bits: a call of `g` at 13, the offsets 15 and 3, and the start at 12
+    (
+        "doslink WIDELY.OBJ",
+        &[
+            0x4D, 0x5A, 0x2E, 0x00, 0x01, 0x00, 0x00, 0x00, 0x02, 0x00, 0x01, 0x00, 0xFF, 0xFF,
+            0x00, 0x00, 0x00, 0x00, 0x00, 0x00, 0x0C, 0x00, 0x00, 0x00, 0x1C, 0x00, 0x00, 0x00,
+            0x00, 0x00, 0x00, 0x00, 0x90, 0xE8, 0x09, 0x00, 0x0F, 0x00, 0x00, 0x00, 0x03, 0x00,
+            0x00, 0x00, 0x90, 0xCB,
+        ],
+    ),
+    // communal variables of modules, at 4 and 6 behind their data; that of the program is at 8
+    (
+        "doslink LOCAL.OBJ LOCAL.OBJ NEAR.OBJ",
+        &[
+            0x4D, 0x5A, 0x24, 0x00, 0x01, 0x00, 0x00, 0x00, 0x02, 0x00, 0x01, 0x00, 0xFF, 0xFF,
+            0x00, 0x00, 0x00, 0x00, 0x00, 0x00, 0x00, 0x00, 0x00, 0x00, 0x1C, 0x00, 0x00, 0x00,
+            0x00, 0x00, 0x00, 0x00, 0x04, 0x00, 0x06, 0x00,
+        ],
+    ),
+    // a far one, in the paragraph behind its address
+    (
+        "doslink LFAR.OBJ",
+        &[
+            0x4D, 0x5A, 0x24, 0x00, 0x01, 0x00, 0x01, 0x00, 0x02, 0x00, 0x02, 0x00, 0xFF, 0xFF,
+            0x00, 0x00, 0x00, 0x00, 0x00, 0x00, 0x00, 0x00, 0x00, 0x00, 0x1C, 0x00, 0x00, 0x00,
+            0x02, 0x00, 0x00, 0x00, 0x00, 0x00, 0x01, 0x00,
+        ],
+    ),
+    // an external by the index of its name
+    (
+        "doslink CHOSEN.OBJ F.OBJ",
+        &[
+            0x4D, 0x5A, 0x24, 0x00, 0x01, 0x00, 0x00, 0x00, 0x02, 0x00, 0x01, 0x00, 0xFF, 0xFF,
+            0x00, 0x00, 0x00, 0x00, 0x00, 0x00, 0x00, 0x00, 0x00, 0x00, 0x1C, 0x00, 0x00, 0x00,
+            0x00, 0x00, 0x00, 0x00, 0xE8, 0x00, 0x00, 0x90,
+        ],
+    ),
+    // names of LLNAMES and LNAMES are one
+    (
+        "doslink UNLISTED.OBJ F.OBJ",
+        &[
+            0x4D, 0x5A, 0x23, 0x00, 0x01, 0x00, 0x00, 0x00, 0x02, 0x00, 0x01, 0x00, 0xFF, 0xFF,
+            0x00, 0x00, 0x00, 0x00, 0x00, 0x00, 0x00, 0x00, 0x00, 0x00, 0x1C, 0x00, 0x00, 0x00,
+            0x00, 0x00, 0x00, 0x00, 0xAA, 0xBB, 0x90,
+        ],
+    ),
+    // an alias stands for what a library has
+    (
+        "doslink CALLS.OBJ ALIAS.OBJ RUN.LIB",
+        &[
+            0x4D, 0x5A, 0x24, 0x00, 0x01, 0x00, 0x00, 0x00, 0x02, 0x00, 0x01, 0x00, 0xFF, 0xFF,
+            0x00, 0x00, 0x00, 0x00, 0x00, 0x00, 0x00, 0x00, 0x00, 0x00, 0x1C, 0x00, 0x00, 0x00,
+            0x00, 0x00, 0x00, 0x00, 0xE8, 0x00, 0x00, 0x90,
+        ],
+    ),
+];
+
+/// A program of two modules with one byte of code each.
+const PROGRAM: [u8; 34] = [
+    0x4D, 0x5A, 0x22, 0x00, 0x01, 0x00, 0x00, 0x00, 0x02, 0x00, 0x01, 0x00, 0xFF, 0xFF, 0x00, 0x00,
+    0x00, 0x00, 0x00, 0x00, 0x00, 0x00, 0x00, 0x00, 0x1C, 0x00, 0x00, 0x00, 0x00, 0x00, 0x00, 0x00,
+    0x90, 0x90,
+];
+
+/// The path of its map, and the map.
+const MAP: &str = "\
+P.MAP
+segments
+000000 000002 public   \"CODE\" \"\"
+groups
+publics
+000001 R \"f\"
+entry 0000:0000
+stack 0000:0000
+size 000002
+relocations 0
+modules
+\"a.c\" A.OBJ
+ 000000 R 000001 \"CODE\" \"\"
+\"f.c\" F.OBJ
+ 000001 R 000001 \"CODE\" \"\"
+";
+
+/// Runs, and what each writes: the path of its program, the program, and the path of its map and that.
+const WRITTEN: [(&str, &str, &[u8], &str); 5] = [
+    (
+        "doslink -o P.EXE -m P.MAP A.OBJ F.OBJ",
+        "P.EXE\n",
+        &PROGRAM,
+        MAP,
+    ),
+    ("doslink A.OBJ F.OBJ", "A.EXE\n", &PROGRAM, ""),
+    // a name is missing, two publics have one name, and the map is read
+    ("doslink -m P.MAP A.OBJ", "", &[], ""),
+    ("doslink -m P.MAP A.OBJ F.OBJ F.OBJ", "", &[], ""),
+    ("doslink -m F.OBJ A.OBJ F.OBJ", "", &[], ""),
 ];
 
 /// What a run told, as a row of the table has it.
@@ -262,6 +380,19 @@ fn run_row(
         ("OTHERWISE.OBJ", OTHERWISE.as_slice()),
         ("NOWHERE.OBJ", NOWHERE.as_slice()),
         ("ITSELF.OBJ", ITSELF.as_slice()),
+        ("COMDAT.OBJ", COMDAT.as_slice()),
+        ("COMDATS.LIB", COMDATS.as_slice()),
+        ("PATCHED.OBJ", PATCHED.as_slice()),
+        ("PATCHED2.OBJ", PATCHED_BY_NAME.as_slice()),
+        ("LINSYM.OBJ", LINSYM.as_slice()),
+        ("B9.OBJ", BESIDE_LCOMDEF.as_slice()),
+        ("BE.OBJ", OTHER_TYPE.as_slice()),
+        ("REPEATS.OBJ", REPEATS.as_slice()),
+        ("WIDELY.OBJ", WIDELY.as_slice()),
+        ("LFAR.OBJ", LOCAL_FAR.as_slice()),
+        ("CHOSEN.OBJ", CHOSEN.as_slice()),
+        ("UNLISTED.OBJ", UNLISTED.as_slice()),
+        ("LOWERED.OBJ", BEHIND_LOWERED.as_slice()),
     ];
     let desk = Desk {
         files: files.as_slice(),
@@ -302,6 +433,23 @@ fn ends_in(alloc: Global, row: &str, bytes: &[u8]) -> Result<bool, AllocError> {
     let told = Page::new(alloc);
     run_row(alloc, row, &written, &told, &told)?;
     Ok(written.bytes(alloc)?.ends_with(bytes))
+}
+
+/// Whether what a run of these words writes are these bytes, one behind the other.
+fn writes(
+    alloc: Global,
+    row: &str,
+    path: &str,
+    program: &[u8],
+    map: &str,
+) -> Result<bool, AllocError> {
+    let written = Page::new(alloc);
+    let told = Page::new(alloc);
+    run_row(alloc, row, &written, &told, &told)?;
+    let mut bytes = Vec::from_slice(alloc, path.as_bytes())?;
+    bytes.extend_from_slice(program)?;
+    bytes.extend_from_slice(map.as_bytes())?;
+    Ok(written.bytes(alloc)?.as_slice() == bytes.as_slice())
 }
 
 /// The first row that isn't what its run tells, if there is one.
@@ -355,9 +503,17 @@ fn default_runs_tell_these_lines(rt: HostRuntime) -> Result<(), Fail> {
 }
 
 #[test]
-fn programs_of_weak_and_lazy_externals(rt: HostRuntime) -> Result<(), Fail> {
+fn programs_end_in_these_bytes(rt: HostRuntime) -> Result<(), Fail> {
     for (row, bytes) in &PROGRAMS {
         assert!(rt; ends_in(rt.alloc(), row, bytes)?, "{row}");
+    }
+    Ok(())
+}
+
+#[test]
+fn runs_write_these_files(rt: HostRuntime) -> Result<(), Fail> {
+    for (row, path, program, map) in &WRITTEN {
+        assert!(rt; writes(rt.alloc(), row, path, program, map)?, "{row}");
     }
     Ok(())
 }

@@ -1,6 +1,7 @@
 -- Externals and those with a default as the code holds them.
 use Rattle.std.proofs.Common.{◌≡◌, ℕ, zero, suc, ◌+◌, ◌-◌, ◌==◌, ◌≢◌, ◌<◌, ◌≤◌, Bool, true, false, not, ◌&&◌, ◌||◌}
-use Rattle.std.proofs.Common.{List, [], ◌∷◌, length, drop, get_or, slice_get, Some, None, refl, sym, ap, ap₂, ◌∙◌, arith}
+use Rattle.std.proofs.Common.{List, [], ◌∷◌, length, drop, get_or, slice_get, Some, None, refl, sym, ap, ap₂, ◌∙◌}
+use Rattle.std.proofs.Common.{arith}
 use Rattle.std.proofs.Math.ListN.{drop_of_length-le}
 use Rattle.std.proofs.lemmas.List.{get_or_default}
 use Rattle.std.specs.declared.option.Option.{Option}
@@ -117,5 +118,6 @@ pub others-none : (marked : List Defaulted) (name : List ℕ) (externals : List 
     → length externals ≤ i → OthersLeft marked name externals i
     → false ≡ has_other (all_defaulted marked) name 1 (externals_said externals)
 others-none marked name externals i past left =
-    ap (λ es. has_other (all_defaulted marked) name (i + 1) (externals_said es)) (sym (drop_of_length-le externals past))
+    ap (λ es. has_other (all_defaulted marked) name (i + 1) (externals_said es))
+    (sym (drop_of_length-le externals past))
     ∙ left

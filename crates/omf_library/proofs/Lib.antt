@@ -8,3 +8,4 @@ pub mod Told
 pub mod Gathering
 pub mod Asking
 pub mod Indexes
+pub mod Unmarked

@@ -1,6 +1,6 @@
--- The externals of a module that have a default resolution: weak ones, which are the pairs of its comments of class A8H
--- (TIS OMF 1.1, "WKEXT"), and lazy ones, those of class A9H ("LZEXT"). A pair is the index of an external and that of its
--- default.
+-- The externals of a module that have a default resolution: weak ones, which are the pairs of its comments of class
+-- A8H (TIS OMF 1.1, "WKEXT"), and lazy ones, those of class A9H ("LZEXT"). A pair is the index of an external and
+-- that of its default.
 use Rattle.std.specs.Prelude.{ℕ, zero, suc, ◌+◌, ◌==◌, Bool, false, not, ◌&&◌, ◌||◌, if◌then◌else◌, List, [], ◌∷◌, ◌++◌}
 use Rattle.std.specs.Prelude.{slice_get, Some, None}
 use Rattle.std.specs.declared.option.Option.{Option}

@@ -1,6 +1,6 @@
 -- What a module says of names, by its records' types and bodies alone. Names that are local to the module (LEXTDEF,
--- LPUBDEF, LCOMDEF, a local COMDAT) and communal variables (COMDEF) are neither wanted nor offered. Weak externals aren't
--- wanted, and lazy ones are wanted but not needed.
+-- LPUBDEF, LCOMDEF, a local COMDAT) and communal variables (COMDEF) are neither wanted nor offered. Weak externals
+-- aren't wanted, and lazy ones are wanted but not needed.
 use Rattle.std.specs.Prelude.{ℕ, ◌==◌, Bool, not, if◌then◌else◌, List, [], filter, map, is_some}
 use Rattle.std.specs.Borrow.{Bor}
 use Rattle.std.specs.Option.{option_map_or, option_and_then, option_or, option_to_list}
@@ -51,11 +51,13 @@ asked_names records = said_by wanted_in [] records
 
 -- the names that a module wants from others: no external that isn't weak has the others
 unfoldable pub wanted_names : List Frame → List (List ℕ)
-wanted_names records = filter (λ name. not (is_theirs_alone (weak_externals records) records name)) (asked_names records)
+wanted_names records =
+    filter (λ name. not (is_theirs_alone (weak_externals records) records name)) (asked_names records)
 
 -- the names that another has to offer: no external without a default has the others
 unfoldable pub needed_names : List Frame → List (List ℕ)
-needed_names records = filter (λ name. not (is_theirs_alone (weak_and_lazy records) records name)) (asked_names records)
+needed_names records =
+    filter (λ name. not (is_theirs_alone (weak_and_lazy records) records name)) (asked_names records)
 
 -- the names that it offers to others
 unfoldable pub offered_names : List Frame → List (List ℕ)

@@ -1,11 +1,12 @@
 //! Externals with a default resolution, which they mean where nothing defines them: weak ones and lazy ones.
 
-ghost use Rattle.std.specs.Prelude.{◌≡◌, ◌<◌, ◌==◌, ◌&&◌, ◌++◌, filter, length, map, not, IfOk, IfSome, OnOk};
+ghost use Rattle.std.specs.Prelude.{◌≡◌, ◌<◌, ◌==◌, ◌&&◌, ◌++◌, filter, is_some, length, map, not, IfOk, IfSome, OnOk};
 ghost use Rattle.std.specs.List.{filter_map, flat_map, list_any};
 ghost use Rattle.std.specs.Str.{bytes_eq};
 ghost use Rattle.omf_frame.specs.Lending.{plain_frame};
 ghost use Rattle.omf_library.specs.Entries.{entries};
 ghost use Rattle.omf_library.specs.Names.{texts};
+ghost use Rattle.omf_library.specs.Records as records;
 ghost use Rattle.omf_library.specs.Said.{all_defaulted, bytes_said, name_said};
 ghost use Rattle.omf_library.specs.Defaults as spec;
 ghost use Rattle.omf_library.specs.inside.Views.{defaulted_found, external_said, externals_said, pair_said};
@@ -212,6 +213,25 @@ fn push_told<'a, A: Allocator + Copy>(
     }
 }
 
+/// Whether a record is a comment of this class.
+fn is_comment(class: u8, frame: &Frame<'_>) -> bool
+    ensures { result ≡ is_some (records.comment_text class (plain_frame frame.now)) }
+{
+    comment_text(frame, class).is_some()
+}
+
+/// Whether some record is.
+fn has_comments(class: u8, frames: &[Frame<'_>]) -> bool
+    ensures { result ≡ list_any (λ f. is_some (records.comment_text class (plain_frame f))) frames.now }
+{
+    for frame in frames {
+        if is_comment(class, frame) {
+            return true;
+        }
+    }
+    false
+}
+
 /// Appends the externals that comments of this class tell, in their order. A pair of which an index is none of an
 /// external with a name that is shared, and what stands behind the last whole pair, tell none: such an external is like
 /// any other.
@@ -224,6 +244,9 @@ fn push_defaulted<'a, A: Allocator + Copy>(
     ensures { OnOk result (all_defaulted told.new.items
         ≡ all_defaulted told.old.items ++ spec.defaulted class (map plain_frame frames.now)) }
 {
+    if !has_comments(class, frames) {
+        return Ok(());
+    }
     let externals = module_externals(alloc, frames)?;
     for frame in frames {
         push_told(class, &externals, frame, told)?;
@@ -365,6 +388,9 @@ pub(crate) fn names_but<'a, A: Allocator + Copy>(
     ensures { IfOk result (λ v. texts v.items ≡ filter (λ name. not (spec.is_theirs_alone (all_defaulted marked.now)
         (map plain_frame frames.now) name)) (texts names.now)) }
 {
+    if marked.is_empty() {
+        return Vec::from_slice(alloc, names);
+    }
     let externals = module_externals(alloc, frames)?;
     let substitutes = substitutes(alloc, frames)?;
     let mut others = Vec::new(alloc);

@@ -23,6 +23,13 @@ stop_text Words lines = lines
 stop_text Device lines = lines
 stop_text Memory lines = codes "doslink: memory\n"
 
+-- where an input is at fault this holds
+abbrev pub OnInput : Stop → Type 0 → Type 0
+OnInput Input P = P
+OnInput Words P = Unit {0}
+OnInput Device P = Unit {0}
+OnInput Memory P = Unit {0}
+
 -- what is told of a run
 abbrev pub told_text : Result (Unit {0}) Stop → (lines : List ℕ) → List ℕ
 told_text (Ok done) lines = lines

@@ -1,4 +1,4 @@
-use Rattle.std.proofs.Common.{◌++◌, [], map, ap, ◌∙◌}
+use Rattle.std.proofs.Common.{◌++◌, map, ap, ◌∙◌}
 use Rattle.omf_alias.specs.Said.{aliases_said}
 use Rattle.omf_search.specs.Results.{module_said}
 use Rattle.doslink_jobs.specs.Aliases.{own_defaults}

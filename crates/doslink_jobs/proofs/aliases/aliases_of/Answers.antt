@@ -1,4 +1,4 @@
-use Rattle.std.proofs.Common.{◌≡◌, [], map, ap, ◌∙◌, arith}
+use Rattle.std.proofs.Common.{[], map, ap, ◌∙◌, arith}
 use Rattle.std.proofs.lemmas.List.{take_all}
 use Rattle.omf_library.proofs.Gathering.{gather-turn}
 use Rattle.omf_alias.specs.Reading.{aliases_of}

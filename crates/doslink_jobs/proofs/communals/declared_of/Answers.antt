@@ -1,9 +1,10 @@
-use Rattle.std.proofs.Common.{Ok, ap, ◌∙◌}
+use Rattle.std.proofs.Common.{IsErr, Ok, ap, ◌∙◌}
 use Rattle.doslink_stock.proofs.Walks.{map-step}
 use Rattle.doslink_stock.specs.Seen.{handed_held}
 use Rattle.doslink_jobs.specs.Communals.{declared_by}
 use Rattle.doslink_jobs.specs.inside.Declaring.{declared_said}
 use Rattle.doslink_jobs.proofs.Declaring.{declared-one}
+use Rattle.doslink_jobs.proofs.Refused.{OnInput-weaker, and-then-err, any-seen, entry-fault}
 use Rattle.doslink_jobs.proofs.communals.declared_of.Goals as goal
 
 pub loop-each-preserved : goal.loop-each-preserved
@@ -14,3 +15,11 @@ loop-each-preserved g c =
     (declared-one c.each-item.result c.in-Ok.communals.items _ c.in-Ok.ensures c.as_slice.ensures.value
     ∙ ap (λ h. declared_by (handed_held h)) c.each-item.is)
     c.loop-each.invariant
+
+pub returns-in-Err : goal.returns-in-Err
+returns-in-Err g c =
+    OnInput-weaker c.stop_at_entry.result
+    (λ other. any-seen (λ m. IsErr (declared_by m)) handed_held c.args.taken.now.handed.now c.loop-each.each-index
+    c.each-item.result c.loop-each-test.true c.each-item.is
+    (and-then-err _ _ (entry-fault c.in-Err.fault _ c.in-Err.ensures other)))
+    c.stop_at_entry.ensures

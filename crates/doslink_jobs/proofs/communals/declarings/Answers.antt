@@ -1,4 +1,4 @@
-use Rattle.std.proofs.Common.{map, ap, ◌∙◌}
+use Rattle.std.proofs.Common.{ap, ◌∙◌}
 use Rattle.omf_communal.specs.Modules.{module_said}
 use Rattle.doslink_stock.proofs.Walks.{map-step}
 use Rattle.doslink_jobs.specs.inside.Declaring.{declared_said}

@@ -3,6 +3,7 @@ use Rattle.omf_communal.specs.Bss.{has_bss}
 use Rattle.omf_module.specs.Module.{Module}
 use Rattle.doslink_jobs.specs.inside.Reading.{IsRead, IsNoModule}
 use Rattle.doslink_jobs.proofs.Bss.{has-one, none-read}
+use Rattle.doslink_jobs.proofs.Refused.{refused-exit}
 use Rattle.doslink_jobs.proofs.communals.has_bss_in.Goals as goal
 
 pub returns-in-Ok : goal.returns-in-Ok
@@ -18,3 +19,8 @@ returns-in_ok-pass_unread-in-Err g c =
     (none-read c.over-source.result.rest (Some c.read_module.new.source.rest) c.in-Err.fault
     c.in_ok-pass_unread-in-Err.ensures c.in-Err.ensures.whole) in
     λ one read. absurd (none one read)
+
+pub returns-in_err-pass_unread-in-Err : goal.returns-in_err-pass_unread-in-Err
+returns-in_err-pass_unread-in-Err g c =
+    refused-exit _ c.from_residual.result _ c.from_residual.ensures.1 (λ none. absurd none)
+    c.in_err-pass_unread-in-Err.ensures

@@ -6,6 +6,7 @@ use Rattle.doslink_jobs.specs.inside.Inputs.{lowered_bytes}
 use Rattle.doslink_jobs.specs.inside.Reading.{IsRead}
 use Rattle.doslink_jobs.specs.Communals.{TellsBss}
 use Rattle.doslink_jobs.proofs.Bss.{TellsBss-next, none-yet, or-else, or-then}
+use Rattle.doslink_jobs.proofs.Refused.{refused-exit}
 use Rattle.doslink_jobs.proofs.communals.is_in_bss.Goals as goal
 use Rattle.doslink_jobs.proofs.communals.is_in_bss.Goals.{then-found, else-found}
 
@@ -31,3 +32,7 @@ pub returns : goal.returns
 returns g c =
     subst (λ ms. TellsBss (map lowered_bytes ms) c.loop-index.found)
     (take_all c.loop-index.index c.args.modules.now (omega arith)) c.loop-index.invariant
+
+pub returns-in_err-has : goal.returns-in_err-has
+returns-in_err-has g c =
+    refused-exit _ c.from_residual.result _ c.from_residual.ensures.1 (λ none. absurd none) c.in_err-has.ensures

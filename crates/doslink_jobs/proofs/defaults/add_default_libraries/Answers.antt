@@ -1,4 +1,4 @@
-use Rattle.std.proofs.Common.{All, map, refl, subst, sym, ap, ◌∙◌}
+use Rattle.std.proofs.Common.{All, map, refl, subst, sym}
 use Rattle.std.proofs.lemmas.List.Elements.{All-weaker}
 use Rattle.doslink_files.specs.Files.{contents}
 use Rattle.doslink_jobs.specs.Jobs.{AsksEarly, AsksFor}

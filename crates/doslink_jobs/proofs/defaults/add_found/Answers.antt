@@ -3,6 +3,7 @@ use Rattle.std.proofs.lemmas.List.Elements.{All-get_or}
 use Rattle.doslink_files.specs.Files.{contents}
 use Rattle.doslink_jobs.specs.Jobs.{AsksEarly}
 use Rattle.doslink_jobs.proofs.Adding.{AddsFound-none, AddsFound-then, AsksEarly-added}
+use Rattle.doslink_jobs.proofs.Refused.{refused-exit}
 use Rattle.doslink_jobs.proofs.defaults.add_found.Goals as goal
 
 pub loop-library-init : goal.loop-library-init
@@ -24,3 +25,7 @@ loop-library-preserved g c =
     AddsFound-then told folders asking old mid (contents c.add_library.new.files.items) before
     (c.in_ok-add_library.ensures asking
     (AsksEarly-added told folders asking old mid c.library-item.result.name.items before asks))
+
+pub returns-in_err-add_library : goal.returns-in_err-add_library
+returns-in_err-add_library g c =
+    refused-exit _ c.from_residual.result _ c.from_residual.ensures.1 (λ none. absurd none) c.in_err-add_library.ensures

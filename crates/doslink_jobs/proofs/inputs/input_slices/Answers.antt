@@ -1,4 +1,4 @@
-use Rattle.std.proofs.Common.{◌++◌, map, ap, ap₂, ◌∙◌}
+use Rattle.std.proofs.Common.{◌++◌, ap, ap₂, ◌∙◌}
 use Rattle.std.proofs.lemmas.List.{map-append}
 use Rattle.doslink_link.specs.Linking.{bytes_of}
 use Rattle.doslink_jobs.specs.inside.Inputs.{module_list}

@@ -1,10 +1,11 @@
 use Rattle.std.proofs.Common.{◌≡◌, ap, inl, inr, refl, subst, sym, ◌∙◌}
-use Rattle.std.proofs.lemmas.Result.{IfOk-weaker}
 use Rattle.std.specs.Option.{option_map}
 use Rattle.doslink_link.specs.Linking.{bytes_of}
 use Rattle.doslink_words.specs.Said.{order_of}
 use Rattle.doslink_jobs.specs.Orders.{AreRead, AreUnread, IsOrderFor}
+use Rattle.doslink_jobs.specs.Refusals.{IsTooLong}
 use Rattle.doslink_jobs.specs.inside.Inputs.{module_list}
+use Rattle.doslink_jobs.proofs.Refused.{refused-exit, steps-weaker}
 use Rattle.doslink_jobs.proofs.inputs.order_of.Goals as goal
 
 pub returns-then-is_unasked : goal.returns-then-is_unasked
@@ -17,12 +18,17 @@ returns-in-Some g c =
     ap bytes_of c.deref.ensures.value ∙ c.in_ok-slices.ensures in
     let read = c.in-Some.read.items in
     let are = rw c.in-Some.is at c.in_ok-read.ensures in
-    IfOk-weaker c.order_bytes.result _ _
+    steps-weaker c.order_bytes.result
     (λ made is. inr (
       read,
       subst (λ inputs. AreRead inputs read) same are,
       subst (λ ms. IsOrderFor asked.names asked.dosseg (order_of asked.order.now) ms (option_map (λ v. v.items) made))
           c.deref-in-Some.ensures.value is,
+    ))
+    (λ long. (
+      read,
+      subst (λ inputs. AreRead inputs read) same are,
+      subst (IsTooLong asked.names asked.dosseg (order_of asked.order.now)) c.deref-in-Some.ensures.value long,
     ))
     c.order_bytes.ensures
 
@@ -32,3 +38,8 @@ returns g c =
     ap bytes_of c.deref.ensures.value ∙ c.in_ok-slices.ensures in
     let none = rw c.in-None.is at c.in_ok-read.ensures in
     inl (inr (subst AreUnread same none), refl)
+
+pub returns-in_err-read : goal.returns-in_err-read
+returns-in_err-read g c =
+    refused-exit _ c.from_residual-in_err-read.result _ c.from_residual-in_err-read.ensures.1 (λ none. absurd none)
+    c.in_err-read.ensures

@@ -1,10 +1,17 @@
-use Rattle.std.proofs.Common.{[], ◌∷◌, ◌++◌, map, ap, sym, subst, ◌∙◌}
+use Rattle.std.proofs.Common.{Any, IsErr, length, [], ◌∷◌, ◌++◌, inl, map, ap, sym, subst, ◌∙◌}
+use Rattle.std.proofs.lemmas.Iterator.Adapters.{YieldsList-from_vec}
+use Rattle.std.proofs.lemmas.Iterator.Consumers.{YieldsList-turn}
 use Rattle.std.proofs.lemmas.List.{map-append}
+use Rattle.omf_communal.specs.declared.declarations.Scope.TheVariants as scope
+use Rattle.omf_communal.specs.Reading.{communals_of}
+use Rattle.omf_library.specs.Records.{module_records}
 use Rattle.doslink_jobs.specs.Communals.{TellsBss}
+use Rattle.doslink_jobs.specs.Refusals.{HasNoLocals}
 use Rattle.doslink_jobs.specs.Locals.{EachHasLocals, HasLocals}
 use Rattle.doslink_jobs.specs.inside.Declaring.{DeclareNone}
 use Rattle.doslink_jobs.specs.inside.Inputs.{lowered_bytes, own_bytes}
 use Rattle.doslink_jobs.proofs.LocalModules.{each-more, none-declared}
+use Rattle.doslink_jobs.proofs.Refused.{any-of-both, any-pair, refused-exit}
 use Rattle.doslink_jobs.proofs.locals.with_locals.Goals as goal
 
 pub returns-then-not-branch : goal.returns-then-not-branch
@@ -36,3 +43,32 @@ loop-one-preserved g c =
     (subst (λ os. EachHasLocals names all os (map lowered_bytes so_far ++ lowered_bytes one ∷ [])
     (map lowered_bytes c.loop-one.all.items ++ lowered_bytes c.in_ok-relinked.field-0 ∷ []))
     (sym (map-append own_bytes so_far (one ∷ []))) more))
+
+pub returns-in_err-declare_some : goal.returns-in_err-declare_some
+returns-in_err-declare_some g c =
+    refused-exit _ c.from_residual.result _ c.from_residual.ensures.1
+    (λ some. any-of-both (λ one. IsErr (communals_of scope.Module (module_records (own_bytes one) 0)))
+    (HasNoLocals c.args.names (map lowered_bytes c.args.modules.items)) own_bytes lowered_bytes c.args.modules.items
+    (λ one fault. inl fault)
+    (subst (Any (λ one. IsErr (communals_of scope.Module (module_records (own_bytes one) 0)))) c.deref.ensures.value
+    some))
+    c.in_err-declare_some.ensures
+
+pub returns-in_err-in_bss : goal.returns-in_err-in_bss
+returns-in_err-in_bss g c =
+    refused-exit _ c.from_residual-in_err-in_bss.result _ c.from_residual-in_err-in_bss.ensures.1
+    (λ none. absurd none) c.in_err-in_bss.ensures
+
+pub returns-in_err-bytes : goal.returns-in_err-bytes
+returns-in_err-bytes g c =
+    let modules = c.args.modules.items in
+    let tells = subst (λ ms. TellsBss (map lowered_bytes ms) c.in_ok-in_bss.in_bss) c.deref-2.ensures.value
+    c.in_ok-in_bss.ensures in
+    let b = c.into_iter-one-iterator.ensures.into_iter_gives in
+    let t = YieldsList-turn (YieldsList-from_vec {s = c.into_iter-one-iterator.result} modules b.0
+    (b.1 ∙ c.args.modules.ok.0)) c.loop-one.yielded c.loop-one.one-iterator c.loop-one.yielded_by c.next.result
+    c.next.new.self c.in-Some.one c.in-Some.is c.next.ensures.steps in
+    refused-exit _ c.from_residual-in_err-bytes.result _ c.from_residual-in_err-bytes.ensures.1
+    (λ none. any-pair (HasNoLocals c.args.names (map lowered_bytes modules)) own_bytes lowered_bytes modules
+    (length c.loop-one.yielded) c.in-Some.one t.0 t.1 (none (map lowered_bytes modules) tells))
+    c.in_err-bytes.ensures

@@ -1,10 +1,12 @@
-use Rattle.std.proofs.Common.{map, ap, ◌∙◌}
-use Rattle.std.proofs.lemmas.Result.{IfOk-weaker}
+use Rattle.std.proofs.Common.{map, ap, refl, ◌∙◌}
+use Rattle.std.proofs.lemmas.Result.{IfErr-weaker, IfOk-weaker}
 use Rattle.omf_alias.specs.Said.{aliases_said}
 use Rattle.omf_search.specs.Results.{module_said}
 use Rattle.doslink_stock.specs.Seen.{handed_held}
+use Rattle.doslink_jobs.specs.Jobs.{plain_lowering}
 use Rattle.doslink_jobs.specs.inside.Inputs.{lowered_bytes}
-use Rattle.doslink_jobs.proofs.Lowered.{lowered-for}
+use Rattle.doslink_jobs.proofs.Lowered.{endless-in, lowered-for, not-lowered}
+use Rattle.doslink_jobs.proofs.Refused.{OnInput-weaker, refused-err}
 use Rattle.doslink_jobs.proofs.lowering.lower_for.Goals as goal
 
 pub returns-clause-lowered : goal.returns-clause-lowered
@@ -17,3 +19,31 @@ returns-clause-lowered g c =
     (ap aliases_said c.deref.ensures.value ∙ c.in_ok-aliases.ensures) c.in_ok-lowering.ensures
     c.in_ok-check_aliases.ensures are)
     c.lower_modules.ensures.lowered
+
+pub returns-clause-refused : goal.returns-clause-refused
+returns-clause-refused g c =
+    IfErr-weaker c.lower_modules.result _ _
+    (λ stop. OnInput-weaker stop
+    (not-lowered c.args.job.now (map module_said c.args.says.now) (map (λ h. (handed_held h).bytes)
+    c.args.taken.now.handed.now) c.in_ok-lowering.lowering c.options_of.result.names (aliases_said c.deref.result.now)
+    c.options_of.ensures (ap aliases_said c.deref.ensures.value ∙ c.in_ok-aliases.ensures)
+    c.in_ok-lowering.ensures.debug))
+    c.lower_modules.ensures.refused
+
+pub returns-in_err-check_aliases-clause-refused : goal.returns-in_err-check_aliases-clause-refused
+returns-in_err-check_aliases-clause-refused g c =
+    refused-err c.from_residual-in_err-check_aliases.result _ c.from_residual-in_err-check_aliases.ensures.1
+    (endless-in c.args.job.now (map module_said c.args.says.now)
+    (map (λ h. (handed_held h).bytes) c.args.taken.now.handed.now) c.options_of.result.names
+    (aliases_said c.deref.result.now) c.options_of.ensures
+    (ap aliases_said c.deref.ensures.value ∙ c.in_ok-aliases.ensures))
+    c.in_err-check_aliases.ensures
+
+pub returns-in_err-lowering-clause-refused : goal.returns-in_err-lowering-clause-refused
+returns-in_err-lowering-clause-refused g c =
+    refused-err c.from_residual-in_err-lowering.result _ c.from_residual-in_err-lowering.ensures.1
+    (not-lowered c.args.job.now (map module_said c.args.says.now)
+    (map (λ h. (handed_held h).bytes) c.args.taken.now.handed.now) (plain_lowering c.args.job.now)
+    c.options_of.result.names (aliases_said c.deref.result.now) c.options_of.ensures
+    (ap aliases_said c.deref.ensures.value ∙ c.in_ok-aliases.ensures) refl)
+    c.in_err-lowering.ensures

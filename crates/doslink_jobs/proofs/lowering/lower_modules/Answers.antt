@@ -1,4 +1,4 @@
-use Rattle.std.proofs.Common.{sym, ap, ◌∙◌}
+use Rattle.std.proofs.Common.{IsErr, sym, ap, subst, ◌∙◌}
 use Rattle.omf_alias.specs.Said.{aliases_said}
 use Rattle.omf_lower.specs.Module.{lowered}
 use Rattle.doslink_stock.proofs.Walks.{map-step}
@@ -6,6 +6,7 @@ use Rattle.doslink_stock.specs.Seen.{handed_held}
 use Rattle.doslink_jobs.specs.inside.Inputs.{own_bytes}
 use Rattle.doslink_jobs.specs.inside.Meanings.{means}
 use Rattle.doslink_jobs.proofs.Lowered.{answer-lowered, lowered-as, lowered-next}
+use Rattle.doslink_jobs.proofs.Refused.{OnInput-weaker, any-seen, lowering-fault}
 use Rattle.doslink_jobs.proofs.lowering.lower_modules.Goals as goal
 
 pub loop-each-preserved : goal.loop-each-preserved
@@ -24,3 +25,14 @@ loop-each-preserved g c = record {
       ∙ answer-lowered _ _ c.in-Ok.lowered c.in-Ok.ensures)
       c.in_ok-push-in-Ok.ensures.items;
 }
+
+pub returns-in-Err-clause-refused : goal.returns-in-Err-clause-refused
+returns-in-Err-clause-refused g c =
+    let means = means c.args.meanings.now in
+    OnInput-weaker c.stop_at_record.result
+    (λ other. any-seen (λ bytes. IsErr (lowered c.args.lowering (means bytes) bytes)) (λ h. (handed_held h).bytes)
+    c.args.taken.now.handed.now c.loop-each.each-index c.each-item.result c.loop-each-test.true c.each-item.is
+    (subst (λ l. IsErr (lowered c.args.lowering (record { names = c.args.meanings.now.names; aliases = l })
+    (handed_held c.each-item.result).bytes)) (ap aliases_said c.deref.ensures.value ∙ c.in_ok-aliases.ensures)
+    (lowering-fault g.row.A.Denot (handed_held c.each-item.result).bytes c.in-Err.fault _ c.in-Err.ensures other)))
+    c.stop_at_record.ensures

@@ -3,6 +3,7 @@ use Rattle.doslink_link.specs.Linking.{bytes_of}
 use Rattle.doslink_jobs.specs.FarData.{far_data_length}
 use Rattle.doslink_jobs.specs.Orders.{AreRead, AreUnread}
 use Rattle.doslink_jobs.specs.inside.Inputs.{lowered_bytes}
+use Rattle.doslink_jobs.proofs.Refused.{refused-exit}
 use Rattle.doslink_jobs.proofs.lowering.shares_far_data.Goals as goal
 
 pub returns-in-Some : goal.returns-in-Some
@@ -23,3 +24,8 @@ returns g c =
     ap bytes_of c.deref.ensures.value ∙ c.in_ok-slices.ensures in
     let none = rw c.in-None.is at c.in_ok-read.ensures in
     inr (subst AreUnread same none, refl)
+
+pub returns-in_err-read : goal.returns-in_err-read
+returns-in_err-read g c =
+    refused-exit _ c.from_residual-in_err-read.result _ c.from_residual-in_err-read.ensures.1 (λ none. absurd none)
+    c.in_err-read.ensures

@@ -1,10 +1,9 @@
 use Rattle.std.proofs.Common.{false, sym, refl, ◌≡◌, ◌∙◌}
 use Rattle.doslink_files.specs.Files.{contents}
 use Rattle.doslink_words.specs.Tokens.{texts}
-use Rattle.doslink_jobs.specs.inside.Adding.{AddsDefaults, AddsFound}
 use Rattle.doslink_jobs.proofs.Adding.{AddsDefaults-found, AddsDefaults-none}
-use Rattle.doslink_jobs.proofs.Doing.{OnOk-weaker}
 use Rattle.doslink_jobs.proofs.FarData.{never}
+use Rattle.doslink_jobs.proofs.Refused.{steps-weaker}
 use Rattle.doslink_jobs.proofs.running.add_defaults.Goals as goal
 
 pub returns-then-not-job : goal.returns-then-not-job
@@ -22,6 +21,6 @@ returns g c =
     let new = contents c.add_default_libraries-added.new.files.items in
     let on : job.default_libraries ≡ false → ⊥ =
     λ off. never (sym off ∙ c.if-not-job.false) in
-    OnOk-weaker (AddsFound told folders names old new) (AddsDefaults told folders job old new)
-    (AddsDefaults-found told folders job names old new c.options_of-names.ensures on)
-    c.add_default_libraries-added.result c.add_default_libraries-added.ensures
+    let adds = AddsDefaults-found told folders job names old new c.options_of-names.ensures on in
+    steps-weaker c.add_default_libraries-added.result (λ done. adds) (λ fault. (adds fault.0, fault.1))
+    c.add_default_libraries-added.ensures

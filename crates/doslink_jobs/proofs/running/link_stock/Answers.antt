@@ -1,16 +1,84 @@
-use Rattle.std.proofs.Common.{◌≡◌, List, [], ◌∷◌, ◌++◌, map, ap, sym, subst, ◌∙◌}
+use Rattle.std.proofs.Common.{◌≡◌, ◌≢◌, [], map, ap, inl, inr, subst, ◌∙◌}
 use Rattle.omf_communal.specs.Deciding.{variable_said}
-use Rattle.omf_commands.specs.Outcome.{IsFaultless}
-use Rattle.doslink_stock.specs.Files.{needs}
-use Rattle.doslink_stock.specs.Search.{Takes}
+use Rattle.doslink_stock.specs.Seen.{entry_held, handed_held}
 use Rattle.doslink_telling.specs.Missing.{unmet, wants_marks}
-use Rattle.doslink_stock.specs.Seen.{entry_held, handed_held, handed_taken}
-use Rattle.doslink_jobs.specs.Communals.{AreVariablesOf, offering}
-use Rattle.doslink_jobs.specs.Jobs.{names_of}
-use Rattle.doslink_jobs.specs.inside.Inputs.{AreInputsFor, IsLinkedStock, input_list}
-use Rattle.doslink_jobs.proofs.Doing.{OnOk-weaker, of-inputs}
-use Rattle.doslink_jobs.proofs.Lists.{map-map}
+use Rattle.doslink_jobs.specs.Communals.{AreVariablesOf}
+use Rattle.doslink_jobs.specs.Jobs.{AreInputsOf, link_says, names_of}
+use Rattle.doslink_jobs.specs.Refusals.{HaveNoInputs, HaveNoVariables}
+use Rattle.doslink_jobs.specs.inside.Inputs.{input_list}
+use Rattle.doslink_jobs.proofs.Refused.{refused-exit, steps-weaker, takes-of}
 use Rattle.doslink_jobs.proofs.running.link_stock.Goals as goal
+
+pub returns-in_err-places : goal.returns-in_err-places
+returns-in_err-places g c =
+    refused-exit _ c.from_residual.result _ c.from_residual.ensures.1 (λ none. absurd none) c.in_err-places.ensures
+
+pub returns-in_err-variables : goal.returns-in_err-variables
+returns-in_err-variables g c =
+    let job = c.args.job.now in
+    let names = names_of job.ignore_case in
+    let os = map entry_held c.args.stock.now.objects.items in
+    let ms = map entry_held c.args.stock.now.members.items in
+    let handed = c.as_slice-handed.result.now in
+    let modules = map handed_held handed in
+    let takes = takes-of names c.options_of-names.result.names os ms c.in_ok-found.found.items handed
+    c.options_of-names.ensures c.in_ok-found.ensures c.as_slice-handed.ensures.value in
+    refused-exit _ c.from_residual-in_err-variables.result _ c.from_residual-in_err-variables.ensures.1
+    (λ none. (modules, takes, inl (subst (λ n. HaveNoVariables n modules) c.options_of-names.ensures none)))
+    c.in_err-variables.ensures
+
+pub returns-in_err-marks : goal.returns-in_err-marks
+returns-in_err-marks g c =
+    let job = c.args.job.now in
+    let names = names_of job.ignore_case in
+    let os = map entry_held c.args.stock.now.objects.items in
+    let ms = map entry_held c.args.stock.now.members.items in
+    let handed = c.as_slice-handed.result.now in
+    let modules = map handed_held handed in
+    let takes = takes-of names c.options_of-names.result.names os ms c.in_ok-found.found.items handed
+    c.options_of-names.ensures c.in_ok-found.ensures c.as_slice-handed.ensures.value in
+    let vs = map variable_said c.in_ok-variables.variables.items in
+    let are = subst (λ n. AreVariablesOf n modules vs) c.options_of-names.ensures c.in_ok-variables.ensures in
+    refused-exit _ c.from_residual-in_err-marks.result _ c.from_residual-in_err-marks.ensures.1
+    (λ missing. (
+      modules,
+      takes,
+      inr (
+        vs,
+        are,
+        inl
+            (subst (λ n. unmet n (link_says modules vs) ≢ []) c.options_of-names.ensures
+            (subst (λ l. unmet c.options_of-names.result.names (link_says modules (map variable_said l)) ≢ [])
+            c.deref-2.ensures.value missing)),
+      ),
+    ))
+    c.in_err-marks.ensures.refused
+
+pub returns-in_err-inputs : goal.returns-in_err-inputs
+returns-in_err-inputs g c =
+    let job = c.args.job.now in
+    let names = names_of job.ignore_case in
+    let os = map entry_held c.args.stock.now.objects.items in
+    let ms = map entry_held c.args.stock.now.members.items in
+    let handed = c.as_slice-handed.result.now in
+    let modules = map handed_held handed in
+    let takes = takes-of names c.options_of-names.result.names os ms c.in_ok-found.found.items handed
+    c.options_of-names.ensures c.in_ok-found.ensures c.as_slice-handed.ensures.value in
+    let vs = map variable_said c.in_ok-variables.variables.items in
+    let are = subst (λ n. AreVariablesOf n modules vs) c.options_of-names.ensures c.in_ok-variables.ensures in
+    refused-exit _ c.from_residual-in_err-inputs.result _ c.from_residual-in_err-inputs.ensures.1
+    (λ none. (
+      modules,
+      takes,
+      inr (
+        vs,
+        are,
+        inr (inl
+            (subst (λ l. HaveNoInputs job (link_says modules (map variable_said l)) modules (map variable_said l))
+            c.deref-3.ensures.value none)),
+      ),
+    ))
+    c.in_err-inputs.ensures
 
 pub returns : goal.returns
 returns g c =
@@ -18,32 +86,35 @@ returns g c =
     let names = names_of job.ignore_case in
     let os = map entry_held c.args.stock.now.objects.items in
     let ms = map entry_held c.args.stock.now.members.items in
-    let found = c.in_ok-found.found.items in
     let handed = c.as_slice-handed.result.now in
-    let inputs = c.in_ok-inputs.inputs in
-    let variables = c.in_ok-variables.variables.items in
-    let vs = map variable_said variables in
-    let says = map (λ h. needs (handed_held h)) handed in
-    let met : unmet names (says ++ offering vs ∷ []) ≡ [] =
-    ap (λ n. unmet n (says ++ offering vs ∷ [])) (sym c.options_of-names.ensures)
-    ∙ ap (λ l. unmet c.options_of-names.result.names (says ++ offering (map variable_said l) ∷ []))
-    (sym c.deref-2.ensures.value)
-    ∙ c.in_ok-marks.ensures.met in
-    let marks : c.in_ok-marks.marks
-    ≡ wants_marks names (map needs (map handed_held handed) ++ offering vs ∷ []) =
+    let modules = map handed_held handed in
+    let takes = takes-of names c.options_of-names.result.names os ms c.in_ok-found.found.items handed
+    c.options_of-names.ensures c.in_ok-found.ensures c.as_slice-handed.ensures.value in
+    let vs = map variable_said c.in_ok-variables.variables.items in
+    let are = subst (λ n. AreVariablesOf n modules vs) c.options_of-names.ensures c.in_ok-variables.ensures in
+    let inputs = input_list c.in_ok-inputs.inputs in
+    let met =
+    subst (λ n. unmet n (link_says modules vs) ≡ []) c.options_of-names.ensures
+    (subst (λ l. unmet c.options_of-names.result.names (link_says modules (map variable_said l)) ≡ [])
+    c.deref-2.ensures.value c.in_ok-marks.ensures.met) in
+    let marks : c.in_ok-marks.marks ≡ wants_marks names (link_says modules vs) =
     c.in_ok-marks.ensures.marks
-    ∙ ap (λ n. wants_marks n (says ++ offering (map variable_said c.deref-2.result.now) ∷ []))
-    c.options_of-names.ensures
-    ∙ ap (λ l. wants_marks names (says ++ offering (map variable_said l) ∷ [])) c.deref-2.ensures.value
-    ∙ ap (λ l. wants_marks names (l ++ offering vs ∷ [])) (map-map handed_held needs handed) in
-    let takes = subst (λ n. Takes n os ms (map handed_held found)) c.options_of-names.ensures
-    (map handed_taken found, c.in_ok-found.ensures, map-map handed_taken (λ t. t.held) found) in
-    OnOk-weaker (IsFaultless g.row.A.Denot names (input_list inputs)) (IsLinkedStock g.row.A.Denot job os ms)
-    (λ faultless. of-inputs g.row.A.Denot job os ms (map handed_held handed) vs inputs
-    (subst (λ hs. Takes names os ms (map handed_held hs)) (sym c.as_slice-handed.ensures.value) takes)
-    (subst (λ n. AreVariablesOf n (map handed_held handed) vs) c.options_of-names.ensures c.in_ok-variables.ensures)
-    (sym (ap (λ l. unmet names (l ++ offering vs ∷ [])) (map-map handed_held needs handed)) ∙ met)
-    (subst (λ m. AreInputsFor job m (map handed_held handed) vs inputs) marks
-    (subst (λ l. AreInputsFor job c.in_ok-marks.marks (map handed_held handed) (map variable_said l) inputs)
-    c.deref-3.ensures.value c.in_ok-inputs.ensures)) faultless)
-    c.write_program.result c.write_program.ensures
+    ∙ ap (λ n. wants_marks n (link_says modules (map variable_said c.deref-2.result.now))) c.options_of-names.ensures
+    ∙ ap (λ l. wants_marks names (link_says modules (map variable_said l))) c.deref-2.ensures.value in
+    let of =
+    subst (λ m. AreInputsOf job (link_says modules vs) m modules vs inputs) marks
+    (subst (λ l. AreInputsOf job (link_says modules (map variable_said l)) c.in_ok-marks.marks modules
+    (map variable_said l) inputs) c.deref-3.ensures.value c.in_ok-inputs.ensures) in
+    steps-weaker c.write_program.result
+    (λ done faultless. record {
+      modules = modules;
+      variables = vs;
+      linked = inputs;
+      taken = takes;
+      are_variables = are;
+      met = met;
+      are_inputs = of;
+      faultless = faultless;
+    })
+    (λ fault. (modules, takes, inr (vs, are, inr (inr (inputs, of, fault)))))
+    c.write_program.ensures

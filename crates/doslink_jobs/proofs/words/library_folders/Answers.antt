@@ -1,6 +1,5 @@
-use Rattle.std.proofs.Common.{◌≡◌, ◌==◌, ap, sym, ◌∙◌, arith}
-use Rattle.std.proofs.lemmas.List.{take_all}
-use Rattle.std.specs.List.{flat_map, slice_split}
+use Rattle.std.proofs.Common.{◌==◌, ap, ◌∙◌}
+use Rattle.std.specs.List.{slice_split}
 use Rattle.doslink_words.specs.Tokens.{texts}
 use Rattle.doslink_jobs.proofs.Texts.{flat-next}
 use Rattle.doslink_jobs.proofs.words.library_folders.Goals as goal

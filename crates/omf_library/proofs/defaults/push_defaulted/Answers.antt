@@ -4,7 +4,8 @@ use Rattle.std.specs.List.{flat_map}
 use Rattle.omf_frame.specs.Lending.{plain_frame}
 use Rattle.omf_library.specs.Said.{all_defaulted}
 use Rattle.omf_library.specs.inside.Views.{externals_said}
-use Rattle.omf_library.specs.Defaults.{defaulted_in}
+use Rattle.omf_library.specs.Defaults.{defaulted_in, module_externals}
+use Rattle.omf_library.proofs.Unmarked.{untold}
 use Rattle.omf_library.proofs.Gathering.{gather-turn}
 use Rattle.omf_library.proofs.defaults.push_defaulted.Goals as goal
 
@@ -28,3 +29,8 @@ returns g c =
     (map plain_frame fs)) (take_all c.loop-frame.frame-index c.args.frames.now (omega arith))
     ∙ ap (λ es. old ++ flat_map (defaulted_in c.args.class es) (map plain_frame c.args.frames.now))
     c.in_ok-externals.ensures
+
+pub returns-then-not-has_comments : goal.returns-then-not-has_comments
+returns-then-not-has_comments g c =
+    untold c.args.class (module_externals (map plain_frame c.args.frames.now)) c.args.frames.now
+    (all_defaulted c.args.told.now.items) (sym c.has_comments.ensures ∙ c.if-not-has_comments.true)

@@ -20,7 +20,8 @@ loop-pair-preserved-in_ok-push g c =
     let pushed : all_defaulted c.push.new.self.items ≡ all_defaulted told ++ defaulted_said one ∷ [] =
     rw c.in_ok-push.ensures.items (map-append defaulted_said told (one ∷ [])) in
     rw pushed (left_more pair_front (filter_map of_pair) c.args.text.now c.loop-pair.rest.now c.in-Some.after.now
-    (all_defaulted c.args.told.now.items) (all_defaulted told) c.in-Some.pair (defaulted_said one ∷ []) c.loop-pair.invariant
+    (all_defaulted c.args.told.now.items) (all_defaulted told) c.in-Some.pair (defaulted_said one ∷ [])
+    c.loop-pair.invariant
     (sym c.in-Some.ensures.said) c.in-Some.ensures.shorter
     (λ xs. ap (λ o. cons_option o (filter_map of_pair xs)) (sym c.in-Some-defaulted_of.ensures)))
 
