@@ -12,8 +12,7 @@ use itoa::Buffer;
 use omf_frame::{IoFault, Sink, put_all};
 use omf_record::{
     Alignment, Combination, Datum, FrameMethod, Location, SegmentLength, TargetMethod,
-    ThreadNumber, alignment_number, combination_number, location_number,
-    thread_number,
+    ThreadNumber, alignment_number, combination_number, location_number, thread_number,
 };
 
 /// What may stand in a listing many times.
@@ -173,11 +172,7 @@ fn put_frame<K: Sink>(sink: &mut K, frame: Datum<FrameMethod>) -> Result<(), IoF
     ensures { Writes K.written K.failures sink.old sink.new (spec.frame_of frame) result }
 {
     match frame {
-        Datum::Thread(thread) => put_numbered(
-            sink,
-            "thread ",
-            u16::from(thread_number(thread)),
-        ),
+        Datum::Thread(thread) => put_numbered(sink, "thread ", u16::from(thread_number(thread))),
         Datum::By(method) => put_frame_method(sink, method),
     }
 }
@@ -188,11 +183,7 @@ fn put_target<K: Sink>(sink: &mut K, target: Datum<TargetMethod>) -> Result<(), 
     ensures { Writes K.written K.failures sink.old sink.new (spec.target_of target) result }
 {
     match target {
-        Datum::Thread(thread) => put_numbered(
-            sink,
-            "thread ",
-            u16::from(thread_number(thread)),
-        ),
+        Datum::Thread(thread) => put_numbered(sink, "thread ", u16::from(thread_number(thread))),
         Datum::By(method) => put_target_method(sink, method),
     }
 }
