@@ -11,6 +11,9 @@ use crate::fields::take_name;
 use omf_frame::{Frame, closing};
 use std::alloc::{AllocError, Allocator};
 
+/// How many records there is room for before a list of them grows: few compilers write more in a module.
+const FIRST_ROOM: usize = 16;
+
 /// The record that begins at the place of the file, which is no greater than the file's length; else what is wrong
 /// with it. Where the file ends before it, it is cut off.
 pub fn record_at(file: &[u8], place: usize) -> Result<Frame<'_>, LibraryFault>
@@ -86,7 +89,7 @@ pub fn module_frames<'a, A: Allocator + Copy>(
 ) -> Result<Vec<Frame<'a>, A>, AllocError>
     ensures { IfOk result (λ v. map plain_frame v.items ≡ module_records bytes.now 0) }
 {
-    let mut frames = Vec::new(alloc);
+    let mut frames = Vec::with_capacity(alloc, FIRST_ROOM)?;
     let mut place = 0;
     loop {
         let Ok(frame) = record_at(bytes, place) else {

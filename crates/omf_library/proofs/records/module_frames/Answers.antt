@@ -3,7 +3,7 @@ use Rattle.omf_library.proofs.Walking.{frames_first, frames_last, frames_more, f
 use Rattle.omf_library.proofs.records.module_frames.Goals as goal
 
 pub loop-frame-init : goal.loop-frame-init
-loop-frame-init g c = frames_first c.args.bytes.now c.new-frames.result.items c.new-frames.ensures.items
+loop-frame-init g c = frames_first c.args.bytes.now c.in_ok-frames.frames.items c.in_ok-frames.ensures.items
 
 pub returns-in_default : goal.returns-in_default
 returns-in_default g c =
