@@ -183,7 +183,8 @@ module _ (names : Names) where
           → map wanted_said now ≡ distinct names after
       found_next had now e is = of (old (record { wanted_by = here.wanted_by; key = key })) added is
         where
-          of : (b : Bool) → fresh ≡ not b → now ≡ cond b had (had ++ here ∷ []) → map wanted_said now ≡ distinct names after
+          of : (b : Bool) → fresh ≡ not b → now ≡ cond b had (had ++ here ∷ [])
+              → map wanted_said now ≡ distinct names after
           of true f is = ap (map wanted_said) is ∙ found_old (map wanted_said had) e f
           of false f is =
               ap (map wanted_said) is ∙ map-append wanted_said had (here ∷ [])

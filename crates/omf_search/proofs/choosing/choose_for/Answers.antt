@@ -48,14 +48,16 @@ loop-next-smaller g c =
     let counted = with_chosen-len c.args.modules.now c.loop-next.choices.items in
     let choice0 : held.Choice = record { member = c.in-Some.member; name = w.name; wanted_by = w.wanted_by } in
     let grown : with_chosen start c.take_member.new.choices.items ≡ ms ++ b.says ∷ [] =
-    ap (with_chosen start) c.in_ok-take_member.ensures.choices ∙ with_chosen-push start c.loop-next.choices.items choice0 in
+    ap (with_chosen start) c.in_ok-take_member.ensures.choices
+    ∙ with_chosen-push start c.loop-next.choices.items choice0 in
     let within = wanted_within items (wanted_names ms) i inv.taken.wanted h in
     let at = ap wanted_said c.index-wanted.ensures ∙ wanted_at items (wanted_names ms) i inv.taken.wanted h w in
     let is =
     c.in-Some.ensures ms inv.taken
     ∙ ap (λ o. cond (is_offered c.args.names ms w.name.now) None o) (c.in_ok-offers.ensures w.name) in
     let added =
-    c.in_ok-take_member.ensures.taken ms (omega (arith, counted, c.len-in-loop-next.ensures, c.loop-next.choices.ok.0)) inv.taken in
+    c.in_ok-take_member.ensures.taken ms (omega (arith, counted, c.len-in-loop-next.ensures, c.loop-next.choices.ok.0))
+    inv.taken in
     subst
     (λ (ns : List Module).
     (length more - (i + 1)) + slack c.args.names ns bs < (length items - i) + slack c.args.names ms bs) (sym grown)
@@ -77,14 +79,16 @@ loop-next-preserved g c =
     let counted = with_chosen-len c.args.modules.now c.loop-next.choices.items in
     let choice0 : held.Choice = record { member = c.in-Some.member; name = w.name; wanted_by = w.wanted_by } in
     let grown : with_chosen start c.take_member.new.choices.items ≡ ms ++ b.says ∷ [] =
-    ap (with_chosen start) c.in_ok-take_member.ensures.choices ∙ with_chosen-push start c.loop-next.choices.items choice0 in
+    ap (with_chosen start) c.in_ok-take_member.ensures.choices
+    ∙ with_chosen-push start c.loop-next.choices.items choice0 in
     let within = wanted_within items (wanted_names ms) i inv.taken.wanted h in
     let at = ap wanted_said c.index-wanted.ensures ∙ wanted_at items (wanted_names ms) i inv.taken.wanted h w in
     let is =
     c.in-Some.ensures ms inv.taken
     ∙ ap (λ o. cond (is_offered c.args.names ms w.name.now) None o) (c.in_ok-offers.ensures w.name) in
     let added =
-    c.in_ok-take_member.ensures.taken ms (omega (arith, counted, c.len-in-loop-next.ensures, c.loop-next.choices.ok.0)) inv.taken in
+    c.in_ok-take_member.ensures.taken ms (omega (arith, counted, c.len-in-loop-next.ensures, c.loop-next.choices.ok.0))
+    inv.taken in
     record {
       taken = subst (λ (ns : List Module). IsTaken c.args.names ns c.take_member.new.taken) (sym grown) added;
       settled =
