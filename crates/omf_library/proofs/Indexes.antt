@@ -32,16 +32,15 @@ index-said [] index = refl
 index-said (d ∷ ds) index = ap (λ b. (d.index == index) || b) (index-said ds index)
 
 -- a name is theirs
-pub theirs-said : (marked : List Defaulted) (slice externals : List (Option (Bor (List ℕ))))
-    (names substitutes : List (Bor (List ℕ))) (name : List ℕ) → slice ≡ externals → names ≡ substitutes
+pub theirs-said : (marked : List Defaulted) (externals : List (Option (Bor (List ℕ))))
+    (substitutes : List (Bor (List ℕ))) (name : List ℕ)
     → (list_any (λ (one : Defaulted). bytes_eq one.name.now name) marked
-    && not (has_other (all_defaulted marked) name 1 (externals_said slice))
-    && not (list_any (λ (x : Bor (List ℕ)). bytes_eq name x.now) names))
+    && not (has_other (all_defaulted marked) name 1 (externals_said externals))
+    && not (list_any (λ (x : Bor (List ℕ)). bytes_eq name x.now) substitutes))
     ≡ is_theirs (all_defaulted marked) (externals_said externals) (texts substitutes) name
-theirs-said marked slice externals names substitutes name is are =
-    ap₂ (λ a b. a && not (has_other (all_defaulted marked) name 1 (externals_said slice)) && not b)
-    (name-said marked name) (among-texts name names)
-    ∙ ap₂ (λ es ss. is_theirs (all_defaulted marked) (externals_said es) (texts ss) name) is are
+theirs-said marked externals substitutes name =
+    ap₂ (λ a b. a && not (has_other (all_defaulted marked) name 1 (externals_said externals)) && not b)
+    (name-said marked name) (among-texts name substitutes)
 
 -- ---- the external of an index
 

@@ -9,3 +9,4 @@ pub mod Gathering
 pub mod Asking
 pub mod Indexes
 pub mod Unmarked
+pub mod Naming

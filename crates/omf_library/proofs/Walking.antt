@@ -1,12 +1,11 @@
 -- What is left of a module's records while they are gone through.
-use Rattle.std.proofs.Common.{◌≡◌, ℕ, zero, suc, ◌+◌, ◌<◌, ◌≤◌, Bool, true, false, ◌||◌, List, [], ◌∷◌, ◌++◌, length}
-use Rattle.std.proofs.Common.{drop, map, slice_range, cond, is_some, Some, None, Ok, Err, refl, sym, ap, ◌∙◌}
+use Rattle.std.proofs.Common.{◌≡◌, ℕ, zero, suc, ◌+◌, ◌<◌, ◌≤◌, Bool, true, false, List, [], ◌∷◌, ◌++◌, length}
+use Rattle.std.proofs.Common.{drop, map, slice_range, cond, Some, None, Ok, Err, refl, sym, ap, ◌∙◌}
 use Rattle.std.proofs.Common.{append_assoc, arith}
 use Rattle.std.specs.declared.option.Option.{Option}
 use Rattle.std.specs.declared.result.Result.{Result}
 use Rattle.std.specs.Option.{option_map_or, option_or}
 use Rattle.std.specs.Result.{result_ok}
-use Rattle.std.specs.List.{flat_map, list_any}
 use Rattle.std.proofs.lemmas.List.{append-nil, map-append}
 use Rattle.std.proofs.Math.Seq.{drop-length}
 use Rattle.omf_frame.specs.Frame.{Frame, frame_of}
@@ -18,9 +17,6 @@ use Rattle.omf_library.specs.Records.{record_or_fault, record_at, place_behind, 
 use Rattle.omf_library.specs.Records.{module_records, result_and_then, end_within, module_end, comment_text}
 use Rattle.omf_library.specs.Records.{header_name}
 use Rattle.std.specs.Borrow.{Bor}
-use Rattle.omf_library.specs.Listed.{listed_in, said_by}
-use Rattle.omf_library.specs.Names.{texts, wanted_in, offered_in, library_in, asked_names}
-use Rattle.omf_library.specs.Names.{offered_names, library_names, asks_dosseg}
 use Rattle.omf_library.specs.Library.{first_said, name_of, name_in, member_between, member_at}
 use Rattle.omf_library.specs.Said.{bytes_said, record_said}
 use Rattle.omf_frame.specs.declared.frame.Frame.{Frame as LentFrame}
@@ -56,210 +52,10 @@ unfolding record_at frame_of
 record_at-end file place past =
     ap (λ (l : List ℕ). record_or_fault place (frame_of place l)) (ap (λ n. drop n file) past ∙ drop-length file)
 
--- ---- the names of a module
-
-abbrev asks : Frame → Bool
-asks f = is_some (comment_text 0x9E f)
-
--- what was told, and what the records that are left tell, make all that the module says
-pub record NamesLeft (file : List ℕ) (place : ℕ) (listed wanted offered libraries : List (List ℕ))
-    (dosseg : Bool) : Type 0 where
-  pub within : place ≤ length file
-  pub most : ℕ
-  pub enough : length file ≤ place + most
-  pub all_wanted : wanted ++ said_by wanted_in listed (records_up_to most file place)
-      ≡ asked_names (module_records file 0)
-  pub all_offered : offered ++ said_by offered_in listed (records_up_to most file place)
-      ≡ offered_names (module_records file 0)
-  pub all_libraries : libraries ++ flat_map library_in (records_up_to most file place)
-      ≡ library_names (module_records file 0)
-  pub asked : (dosseg || list_any asks (records_up_to most file place)) ≡ asks_dosseg (module_records file 0)
-
--- all that the module says was told
-pub record NamesTold (file : List ℕ) (wanted offered libraries : List (List ℕ)) (dosseg : Bool) : Type 0 where
-  pub all_wanted : wanted ≡ asked_names (module_records file 0)
-  pub all_offered : offered ≡ offered_names (module_records file 0)
-  pub all_libraries : libraries ≡ library_names (module_records file 0)
-  pub asked : dosseg ≡ asks_dosseg (module_records file 0)
-
-pub names_first : (file : List ℕ) → NamesLeft file 0 [] [] [] [] false
-unfolding asked_names offered_names library_names asks_dosseg module_records
-names_first file = record {
-  within = omega arith;
-  most = length file;
-  enough = omega arith;
-  all_wanted = refl;
-  all_offered = refl;
-  all_libraries = refl;
-  asked = refl;
-}
-
-or_assoc : (a b c : Bool) → ((a || b) || c) ≡ (a || (b || c))
-or_assoc true b c = refl
-or_assoc false b c = refl
-
-or_false : (a : Bool) → (a || false) ≡ a
-or_false true = refl
-or_false false = refl
-
-said-next : (says : List (List ℕ) → Frame → List (List ℕ)) (listed now all : List (List ℕ)) (f : Frame)
-    (fs gs : List Frame)
-    → fs ≡ f ∷ gs → now ++ said_by says listed fs ≡ all
-    → (now ++ says listed f) ++ said_by says (listed ++ listed_in f) gs ≡ all
-said-next says listed now all f fs gs e h =
-    append_assoc now (says listed f) _ ∙ ap (λ l. now ++ l) (sym (ap (said_by says listed) e)) ∙ h
-
-said-none : (says : List (List ℕ) → Frame → List (List ℕ)) (listed now all : List (List ℕ)) (fs : List Frame)
-    → fs ≡ [] → now ++ said_by says listed fs ≡ all → now ≡ all
-said-none says listed now all fs e h = sym (append-nil now) ∙ ap (λ l. now ++ l) (sym (ap (said_by says listed) e)) ∙ h
-
-flat-next : (now all : List (List ℕ)) (f : Frame) (fs gs : List Frame)
-    → fs ≡ f ∷ gs → now ++ flat_map library_in fs ≡ all → (now ++ library_in f) ++ flat_map library_in gs ≡ all
-flat-next now all f fs gs e h =
-    append_assoc now (library_in f) _ ∙ ap (λ l. now ++ l) (sym (ap (flat_map library_in) e)) ∙ h
-
-flat-none : (now all : List (List ℕ)) (fs : List Frame) → fs ≡ [] → now ++ flat_map library_in fs ≡ all → now ≡ all
-flat-none now all fs e h = sym (append-nil now) ∙ ap (λ l. now ++ l) (sym (ap (flat_map library_in) e)) ∙ h
-
-any-next : (now all : Bool) (f : Frame) (fs gs : List Frame)
-    → fs ≡ f ∷ gs → (now || list_any asks fs) ≡ all → ((now || asks f) || list_any asks gs) ≡ all
-any-next now all f fs gs e h =
-    or_assoc now (asks f) (list_any asks gs) ∙ ap (λ b. now || b) (sym (ap (list_any asks) e)) ∙ h
-
-any-none : (now all : Bool) (fs : List Frame) → fs ≡ [] → (now || list_any asks fs) ≡ all → now ≡ all
-any-none now all fs e h = sym (or_false now) ∙ ap (λ b. now || b) (sym (ap (list_any asks) e)) ∙ h
-
-names_after : (file : List ℕ) (place : ℕ) (listed wanted offered libraries : List (List ℕ)) (dosseg : Bool) (f : Frame)
-    → (left : NamesLeft file place listed wanted offered libraries dosseg) → record_at file place ≡ Ok f
-    → ends_module f.kind ≡ false
-    → place_behind f ≤ length file → place < place_behind f → (most : ℕ) → left.most ≡ suc most
-    → NamesLeft file (place_behind f) (listed ++ listed_in f) (wanted ++ wanted_in listed f)
-    (offered ++ offered_in listed f) (libraries ++ library_in f) (dosseg || asks f)
-names_after file place listed wanted offered libraries dosseg f left is goes within behind most e =
-    let next = ap (λ n. records_up_to n file place) e ∙ records-next most file place f false is goes in
-    record {
-      within = within;
-      most = most;
-      enough = omega (arith, e, left.enough, behind);
-      all_wanted = said-next wanted_in listed wanted _ f _ _ next left.all_wanted;
-      all_offered = said-next offered_in listed offered _ f _ _ next left.all_offered;
-      all_libraries = flat-next libraries _ f _ _ next left.all_libraries;
-      asked = any-next dosseg _ f _ _ next left.asked;
-    }
-
-names_behind : (file : List ℕ) (place : ℕ) (listed wanted offered libraries : List (List ℕ)) (dosseg : Bool) (f : Frame)
-    → (left : NamesLeft file place listed wanted offered libraries dosseg) → record_at file place ≡ Ok f
-    → ends_module f.kind ≡ true
-    → (most : ℕ) → left.most ≡ suc most
-    → NamesTold file (wanted ++ wanted_in listed f) (offered ++ offered_in listed f) (libraries ++ library_in f)
-    (dosseg || asks f)
-names_behind file place listed wanted offered libraries dosseg f left is ends most e =
-    let next : records_up_to left.most file place ≡ f ∷ [] =
-    ap (λ n. records_up_to n file place) e ∙ records-next most file place f true is ends in
-    record {
-      all_wanted =
-          said-none wanted_in (listed ++ listed_in f) _ _ [] refl
-          (said-next wanted_in listed wanted _ f _ _ next left.all_wanted);
-      all_offered =
-          said-none offered_in (listed ++ listed_in f) _ _ [] refl
-          (said-next offered_in listed offered _ f _ _ next left.all_offered);
-      all_libraries = flat-none _ _ [] refl (flat-next libraries _ f _ _ next left.all_libraries);
-      asked = any-none _ _ [] refl (any-next dosseg _ f _ _ next left.asked);
-    }
-
 -- a number above another one is that of some number behind it
 pred_of : (n m : ℕ) → m < n → (k : ℕ) × (n ≡ suc k)
 pred_of zero m h = absurd (omega arith)
 pred_of (suc n) m h = (n, refl)
-
--- one record more
-pub names_more : (file : List ℕ) (place : ℕ) (listed wanted offered libraries : List (List ℕ)) (dosseg : Bool)
-    (f : Frame)
-    → NamesLeft file place listed wanted offered libraries dosseg → record_at file place ≡ Ok f
-    → ends_module f.kind ≡ false
-    → place_behind f ≤ length file → place < place_behind f
-    → NamesLeft file (place_behind f) (listed ++ listed_in f) (wanted ++ wanted_in listed f)
-    (offered ++ offered_in listed f) (libraries ++ library_in f) (dosseg || asks f)
-names_more file place listed wanted offered libraries dosseg f left is goes within behind =
-    let p = pred_of left.most 0 (omega (arith, left.enough)) in
-    names_after file place listed wanted offered libraries dosseg f left is goes within behind p.0 p.1
-
--- the last record
-pub names_last : (file : List ℕ) (place : ℕ) (listed wanted offered libraries : List (List ℕ)) (dosseg : Bool)
-    (f : Frame)
-    → NamesLeft file place listed wanted offered libraries dosseg → record_at file place ≡ Ok f
-    → ends_module f.kind ≡ true
-    → place_behind f ≤ length file → place < place_behind f
-    → NamesTold file (wanted ++ wanted_in listed f) (offered ++ offered_in listed f) (libraries ++ library_in f)
-    (dosseg || asks f)
-names_last file place listed wanted offered libraries dosseg f left is ends within behind =
-    let p = pred_of left.most 0 (omega (arith, left.enough)) in
-    names_behind file place listed wanted offered libraries dosseg f left is ends p.0 p.1
-
--- no record more
-pub names_none : (file : List ℕ) (place : ℕ) (listed wanted offered libraries : List (List ℕ)) (dosseg : Bool)
-    (e : LibraryFault)
-    → NamesLeft file place listed wanted offered libraries dosseg → record_at file place ≡ Err e
-    → NamesTold file wanted offered libraries dosseg
-names_none file place listed wanted offered libraries dosseg e left is =
-    let next = records-none left.most file place e is in
-    record {
-      all_wanted = said-none wanted_in listed wanted _ _ next left.all_wanted;
-      all_offered = said-none offered_in listed offered _ _ next left.all_offered;
-      all_libraries = flat-none libraries _ _ next left.all_libraries;
-      asked = any-none dosseg _ _ next left.asked;
-    }
-
--- before the first record
-pub names_begin : (file : List ℕ) (listed wanted offered libraries : List (Bor (List ℕ))) → listed ≡ [] → wanted ≡ []
-    → offered ≡ [] → libraries ≡ []
-    → NamesLeft file 0 (texts listed) (texts wanted) (texts offered) (texts libraries) false
-names_begin file listed wanted offered libraries p q r s = rw (p, q, r, s) (names_first file)
-
--- what a record adds
-pub record Noted (f : Frame) (listed wanted offered libraries listed' wanted' offered' libraries' : List (Bor (List ℕ)))
-    (dosseg dosseg' : Bool) : Type 0 where
-  pub listed_more : texts listed' ≡ texts listed ++ listed_in f
-  pub wanted_more : texts wanted' ≡ texts wanted ++ wanted_in (texts listed) f
-  pub offered_more : texts offered' ≡ texts offered ++ offered_in (texts listed) f
-  pub libraries_more : texts libraries' ≡ texts libraries ++ library_in f
-  pub asked_more : dosseg' ≡ (dosseg || asks f)
-
-pub names_step : (file : List ℕ) (place next : ℕ)
-    (listed wanted offered libraries listed' wanted' offered' libraries' : List (Bor (List ℕ))) (dosseg dosseg' : Bool)
-    (f : Frame)
-    → NamesLeft file place (texts listed) (texts wanted) (texts offered) (texts libraries) dosseg
-    → Ok f ≡ record_at file place → ends_module f.kind ≡ false
-    → next ≡ place_behind f → next ≤ length file → place < next
-    → Noted f listed wanted offered libraries listed' wanted' offered' libraries' dosseg dosseg'
-    → NamesLeft file next (texts listed') (texts wanted') (texts offered') (texts libraries') dosseg'
-names_step file place next listed wanted offered libraries listed' wanted' offered' libraries' dosseg dosseg' f left is
-    goes e within behind noted =
-    rw (e, noted.listed_more, noted.wanted_more, noted.offered_more, noted.libraries_more, noted.asked_more)
-    (names_more file place _ _ _ _ dosseg f left (sym is) goes (omega (arith, e, within)) (omega (arith, e, behind)))
-
-pub names_end : (file : List ℕ) (place next : ℕ)
-    (listed wanted offered libraries listed' wanted' offered' libraries' : List (Bor (List ℕ))) (dosseg dosseg' : Bool)
-    (f : Frame)
-    → NamesLeft file place (texts listed) (texts wanted) (texts offered) (texts libraries) dosseg
-    → Ok f ≡ record_at file place → ends_module f.kind ≡ true
-    → next ≡ place_behind f → next ≤ length file → place < next
-    → Noted f listed wanted offered libraries listed' wanted' offered' libraries' dosseg dosseg'
-    → NamesTold file (texts wanted') (texts offered') (texts libraries') dosseg'
-names_end file place next listed wanted offered libraries listed' wanted' offered' libraries' dosseg dosseg' f left is
-    ends e within behind noted =
-    rw (noted.wanted_more, noted.offered_more, noted.libraries_more, noted.asked_more)
-    (names_last file place _ _ _ _ dosseg f left (sym is) ends (omega (arith, e, within)) (omega (arith, e, behind)))
-
--- what was read is no record
-pub names_stop : (file : List ℕ) (place : ℕ) (listed wanted offered libraries : List (List ℕ)) (dosseg : Bool)
-    (r : Result LentFrame LibraryFault)
-    → NamesLeft file place listed wanted offered libraries dosseg → record_said r ≡ record_at file place
-    → ((f : LentFrame) → r ≡ Ok f → ⊥)
-    → NamesTold file wanted offered libraries dosseg
-names_stop file place listed wanted offered libraries dosseg (Ok f) left is other = absurd (other f refl)
-names_stop file place listed wanted offered libraries dosseg (Err e) left is other =
-    names_none file place listed wanted offered libraries dosseg e left (sym is)
 
 -- ---- the records of a module
 

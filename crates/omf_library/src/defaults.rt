@@ -377,6 +377,27 @@ fn is_theirs(
     is_name_of(marked, name) && !has_other(marked, name, externals) && !is_among(name, substitutes)
 }
 
+/// Those names, in their order, that aren't names of some externals alone.
+fn names_except<'a, A: Allocator + Copy>(
+    alloc: A,
+    marked: &[Defaulted<'_>],
+    externals: &[Option<&[u8]>],
+    substitutes: &[&[u8]],
+    names: &[&'a [u8]],
+) -> Result<Vec<&'a [u8], A>, AllocError>
+    ensures { IfOk result (λ v. texts v.items ≡ filter (λ name. not (spec.is_theirs (all_defaulted marked.now)
+        (externals_said externals.now) (texts substitutes.now) name)) (texts names.now)) }
+{
+    let mut others = Vec::new(alloc);
+    for name in names {
+        if is_theirs(marked, externals, substitutes, name) {
+            continue;
+        }
+        others.push(*name)?;
+    }
+    Ok(others)
+}
+
 /// Those names of a module, in their order, that aren't names of some of its externals alone.
 #[tactic(auto, unfolding(crate::specs::Defaults::is_theirs_alone))]
 pub(crate) fn names_but<'a, A: Allocator + Copy>(
@@ -393,12 +414,5 @@ pub(crate) fn names_but<'a, A: Allocator + Copy>(
     }
     let externals = module_externals(alloc, frames)?;
     let substitutes = substitutes(alloc, frames)?;
-    let mut others = Vec::new(alloc);
-    for name in names {
-        if is_theirs(marked, &externals, &substitutes, name) {
-            continue;
-        }
-        others.push(*name)?;
-    }
-    Ok(others)
+    names_except(alloc, marked, &externals, &substitutes, names)
 }

@@ -1,6 +1,6 @@
 //! The names of a module, by its records' frames alone.
 
-ghost use Rattle.std.specs.Prelude.{◌≡◌, ◌++◌, is_some, IfOk, OnOk};
+ghost use Rattle.std.specs.Prelude.{◌≡◌, ◌++◌, ◌||◌, filter, is_some, map, not, IfOk, OnOk};
 ghost use Rattle.omf_frame.specs.Lending.{plain_frame};
 ghost use Rattle.omf_library.specs.Records.{comment_text, module_records};
 ghost use Rattle.omf_library.specs.Listed.{listed_in};
@@ -8,10 +8,11 @@ ghost use Rattle.omf_library.specs.Names.{texts, wanted_in, offered_in, library_
 ghost use Rattle.omf_library.specs.Names.{public_names, comdat_names};
 ghost use Rattle.omf_library.specs.Names.{asked_names, wanted_names, needed_names};
 ghost use Rattle.omf_library.specs.Names.{offered_names, library_names, asks_dosseg};
+ghost use Rattle.omf_library.specs.Defaults as spec;
 
 use crate::defaults::{names_but, push_substitutes, weak_and_lazy, weak_externals};
 use crate::entries::{Entry, behind_base, comdat_name, listed_name, push_communal, push_names};
-use crate::records::{comment_text, ends_module, module_frames, record_at};
+use crate::records::{comment_text, module_frames};
 use omf_frame::Frame;
 use std::alloc::{AllocError, Allocator, Global};
 
@@ -145,16 +146,41 @@ fn is_dosseg(frame: &Frame<'_>) -> bool
     comment_text(frame, DOSSEG).is_some()
 }
 
-/// The names of the module whose records begin the bytes. Those of all externals are among the wanted ones, and none is
-/// among the needed ones.
+/// Adds what a record says of names, by those that are listed before it.
+fn add_names<'a, A: Allocator + Copy>(
+    frame: &Frame<'a>,
+    listed: &mut Vec<&'a [u8], A>,
+    said: &mut ModuleNames<'a, A>,
+) -> Result<(), AllocError>
+    ensures listed { OnOk result (texts listed.new.items
+        ≡ texts listed.old.items ++ listed_in (plain_frame frame.now)) }
+    ensures wanted { OnOk result (texts said.new.wanted.items
+        ≡ texts said.old.wanted.items ++ wanted_in (texts listed.old.items) (plain_frame frame.now)) }
+    ensures offered { OnOk result (texts said.new.offered.items
+        ≡ texts said.old.offered.items ++ offered_in (texts listed.old.items) (plain_frame frame.now)) }
+    ensures libraries { OnOk result (texts said.new.libraries.items
+        ≡ texts said.old.libraries.items ++ library_in (plain_frame frame.now)) }
+    ensures dosseg { OnOk result (said.new.dosseg
+        ≡ (said.old.dosseg || is_some (comment_text 0x9E (plain_frame frame.now)))) }
+{
+    push_wanted(frame, listed, &mut said.wanted)?;
+    push_offered(frame, listed, &mut said.offered)?;
+    push_library(frame, &mut said.libraries)?;
+    said.dosseg |= is_dosseg(frame);
+    push_listed(frame, listed)
+}
+
+/// The names of a module's records. Those of all externals are among the wanted ones, and none is among the needed
+/// ones.
 fn all_names<'a, A: Allocator + Copy>(
     alloc: A,
-    bytes: &'a [u8],
+    frames: &[Frame<'a>],
 ) -> Result<ModuleNames<'a, A>, AllocError>
-    ensures wanted { IfOk result (λ said. texts said.wanted.items ≡ asked_names (module_records bytes.now 0)) }
-    ensures offered { IfOk result (λ said. texts said.offered.items ≡ offered_names (module_records bytes.now 0)) }
-    ensures libraries { IfOk result (λ said. texts said.libraries.items ≡ library_names (module_records bytes.now 0)) }
-    ensures dosseg { IfOk result (λ said. said.dosseg ≡ asks_dosseg (module_records bytes.now 0)) }
+    ensures wanted { IfOk result (λ said. texts said.wanted.items ≡ asked_names (map plain_frame frames.now)) }
+    ensures offered { IfOk result (λ said. texts said.offered.items ≡ offered_names (map plain_frame frames.now)) }
+    ensures libraries { IfOk result (λ said.
+        texts said.libraries.items ≡ library_names (map plain_frame frames.now)) }
+    ensures dosseg { IfOk result (λ said. said.dosseg ≡ asks_dosseg (map plain_frame frames.now)) }
 {
     let mut said = ModuleNames {
         wanted: Vec::new(alloc),
@@ -164,21 +190,36 @@ fn all_names<'a, A: Allocator + Copy>(
         dosseg: false,
     };
     let mut listed = Vec::new(alloc);
-    let mut place = 0;
-    loop {
-        let Ok(frame) = record_at(bytes, place) else {
-            return Ok(said);
-        };
-        push_wanted(&frame, &listed, &mut said.wanted)?;
-        push_offered(&frame, &listed, &mut said.offered)?;
-        push_library(&frame, &mut said.libraries)?;
-        push_listed(&frame, &mut listed)?;
-        said.dosseg |= is_dosseg(&frame);
-        if ends_module(frame.kind) {
-            return Ok(said);
-        }
-        place += frame.body.len() + 4;
+    for frame in frames {
+        add_names(frame, &mut listed, &mut said)?;
     }
+    Ok(said)
+}
+
+/// Those names of a module that aren't names of weak externals alone.
+fn wanted_of<'a, A: Allocator + Copy>(
+    alloc: A,
+    frames: &[Frame<'a>],
+    names: &[&'a [u8]],
+) -> Result<Vec<&'a [u8], A>, AllocError>
+    ensures { IfOk result (λ v. texts v.items ≡ filter (λ name. not (spec.is_theirs_alone
+        (spec.weak_externals (map plain_frame frames.now)) (map plain_frame frames.now) name)) (texts names.now)) }
+{
+    let weak = weak_externals(alloc, frames)?;
+    names_but(alloc, &weak, frames, names)
+}
+
+/// Those names of a module that aren't names of weak and lazy externals alone.
+fn needed_of<'a, A: Allocator + Copy>(
+    alloc: A,
+    frames: &[Frame<'a>],
+    names: &[&'a [u8]],
+) -> Result<Vec<&'a [u8], A>, AllocError>
+    ensures { IfOk result (λ v. texts v.items ≡ filter (λ name. not (spec.is_theirs_alone
+        (spec.weak_and_lazy (map plain_frame frames.now)) (map plain_frame frames.now) name)) (texts names.now)) }
+{
+    let defaulted = weak_and_lazy(alloc, frames)?;
+    names_but(alloc, &defaulted, frames, names)
 }
 
 /// The names of the module whose records begin the bytes, up to the first record that ends a module, or before the
@@ -193,13 +234,9 @@ pub fn module_names<'a, A: Allocator + Copy>(
     ensures libraries { IfOk result (λ said. texts said.libraries.items ≡ library_names (module_records bytes.now 0)) }
     ensures dosseg { IfOk result (λ said. said.dosseg ≡ asks_dosseg (module_records bytes.now 0)) }
 {
-    let mut said = all_names(alloc, bytes)?;
     let frames = module_frames(alloc, bytes)?;
-    let weak = weak_externals(alloc, &frames)?;
-    let defaulted = weak_and_lazy(alloc, &frames)?;
-    let wanted = names_but(alloc, &weak, &frames, &said.wanted)?;
-    let needed = names_but(alloc, &defaulted, &frames, &said.wanted)?;
-    said.wanted = wanted;
-    said.needed = needed;
+    let mut said = all_names(alloc, &frames)?;
+    said.needed = needed_of(alloc, &frames, &said.wanted)?;
+    said.wanted = wanted_of(alloc, &frames, &said.wanted)?;
     Ok(said)
 }

@@ -1,7 +1,7 @@
 -- Wanted names, each once, one after the other.
 use Rattle.std.proofs.Common.{◌≡◌, ℕ, ◌+◌, ◌<◌, ◌≤◌, Bool, true, false, cond, not, ◌&&◌, ◌||◌, nat_eq, List, [], ◌∷◌}
 use Rattle.std.proofs.Common.{◌++◌, length, map, take, get_or, refl, ap, sym, ◌∙◌, arith}
-use Rattle.std.proofs.lemmas.List.{append-nil, length-map, take_all, take_more}
+use Rattle.std.proofs.lemmas.List.{append-nil, length-map, map-append, take_all, take_more}
 use Rattle.std.proofs.lemmas.List.Elements.{filter-append}
 use Rattle.std.proofs.lemmas.List.Folds.{list_any-append}
 use Rattle.std.specs.List.{filter, list_any}
@@ -18,6 +18,13 @@ use Rattle.omf_search.specs.Results.{wanted_said}
 use Rattle.omf_search.specs.Said.{Module, Wanted, is_offered, wanted_names}
 use Rattle.omf_search.proofs.ChoiceSteps.{wanted_at, wanted_within}
 use Rattle.omf_search.proofs.Agreeing.{keys_agree, names_agree}
+
+-- the names of some that were found, and the keys that were met
+pub record IsFound (names : Names) (left : List Wanted) (missing : List held.Wanted) (known : WantedKey → Bool)
+    : Type 0 where
+  pub found : map wanted_said missing ≡ distinct names left
+  pub met : (q : Bor (List ℕ)) (m : ℕ) → known (record { wanted_by = m; key = key_of names q })
+      ≡ list_any (is_same names (record { name = q.now; wanted_by = m })) left
 
 left_out : (seen same : Bool) (x : Wanted) (f : List Wanted → List Wanted) → f [] ≡ []
     → f (x ∷ []) ≡ cond (not same) (x ∷ []) [] → f (cond seen [] (x ∷ [])) ≡ cond (same || seen) [] (x ∷ [])
@@ -170,6 +177,18 @@ module _ (names : Names) where
           not-false : (b : Bool) → not b ≡ false → b ≡ true
           not-false true u = refl
           not-false false u = absurd (let v : true ≡ false = u in cc)
+
+      pub found_next : (had now : List held.Wanted) → map wanted_said had ≡ distinct names before
+          → now ≡ cond (old (record { wanted_by = here.wanted_by; key = key })) had (had ++ here ∷ [])
+          → map wanted_said now ≡ distinct names after
+      found_next had now e is = of (old (record { wanted_by = here.wanted_by; key = key })) added is
+        where
+          of : (b : Bool) → fresh ≡ not b → now ≡ cond b had (had ++ here ∷ [])
+              → map wanted_said now ≡ distinct names after
+          of true f is = ap (map wanted_said) is ∙ found_old (map wanted_said had) e f
+          of false f is =
+              ap (map wanted_said) is ∙ map-append wanted_said had (here ∷ [])
+              ∙ found_new (map wanted_said had) e f
 
   -- with all wanted names met
   pub all_missing : (ms : List Module) (items : List held.Wanted) (i : ℕ) → length items ≤ i →

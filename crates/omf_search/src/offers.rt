@@ -37,7 +37,10 @@ pub(crate) fn insert_first<K: Eq + Hash + Copy, V: Copy, A: Allocator + Copy>(
         ((q : K) → is_some (get K.eq first.old key) ≡ false →
         get K.eq first.new q ≡ cond (K.eq key q) (Some value) (get K.eq first.old q)) }
 {
-    first.entry(key)?.or_insert(value);
+    if first.contains_key(&key) {
+        return Ok(());
+    }
+    first.insert(key, value)?;
     Ok(())
 }
 

@@ -1,8 +1,12 @@
 //! The names that stay missing.
 
-ghost use Rattle.std.specs.Prelude.{◌≡◌, IfOk, map};
+ghost use Rattle.std.specs.Prelude.{◌≡◌, ◌++◌, [], ◌∷◌, List, IfOk, OnOk, cond, map, true};
+ghost use Rattle.indexmap.specs.IndexSet.{contains};
+ghost use Rattle.omf_search.specs.inside.Met.{same_wanted};
+ghost use Rattle.omf_search.specs.inside.Taken.{IsTaken};
 ghost use Rattle.omf_search.specs.Missing.{missing_names};
 ghost use Rattle.omf_search.specs.Results.{module_said, wanted_said};
+ghost use Rattle.omf_search.specs.Said.{Module};
 
 use crate::key::Key;
 use crate::said::{Said, Wanted};
@@ -19,16 +23,38 @@ struct WantedKey<'a> {
     key: Key<'a>,
 }
 
-/// The names that modules want and none offers, in order of meeting, each once for each module that wants it.
-pub fn missing<'a, A: Allocator + Copy>(
+/// Wanted names as keys. The hash has a fixed seed.
+type WantedSet<'a, A> = IndexSet<WantedKey<'a>, BuildHasherDefault<FoldHasher>, A>;
+
+/// Appends a name, unless its key was met before.
+fn push_new<'a, A: Allocator + Copy>(
+    met: &mut WantedSet<'a, A>,
+    missing: &mut Vec<Wanted<'a>, A>,
+    key: WantedKey<'a>,
+    wanted: Wanted<'a>,
+) -> Result<(), AllocError>
+    ensures met { OnOk result ((k : WantedKey) → contains same_wanted met.new k
+        ≡ cond (same_wanted key.entry k) true (contains same_wanted met.old k)) }
+    ensures missing { OnOk result (missing.new.items ≡ cond (contains same_wanted met.old key.entry)
+        missing.old.items (missing.old.items ++ wanted.entry ∷ [])) }
+{
+    if !met.insert(key)? {
+        return Ok(());
+    }
+    missing.push(wanted)?;
+    Ok(())
+}
+
+/// Those of the wanted names that no module offers, in order, each once for each module that wants it.
+fn missing_of<'a, A: Allocator + Copy>(
     alloc: A,
     names: Names,
-    modules: &[Said<'_, 'a>],
+    taken: &Taken<'a, A>,
 ) -> Result<Vec<Wanted<'a>, A>, AllocError>
-    ensures { IfOk result (λ v. map wanted_said v.items ≡ missing_names names (map module_said modules.now)) }
+    ensures { IfOk result (λ v. (ms : List Module) → IsTaken names ms taken.now →
+        map wanted_said v.items ≡ missing_names names ms) }
 {
-    let taken = Taken::collect(alloc, names, modules)?;
-    let mut met: IndexSet<WantedKey<'a>, BuildHasherDefault<FoldHasher>, A> = IndexSet::new(alloc);
+    let mut met = IndexSet::new(alloc);
     let mut missing = Vec::new(alloc);
     for wanted in &taken.wanted {
         if taken.offers(names, wanted.name) {
@@ -38,9 +64,19 @@ pub fn missing<'a, A: Allocator + Copy>(
             wanted_by: wanted.wanted_by,
             key: Key::new(names, wanted.name),
         };
-        if met.insert(key)? {
-            missing.push(*wanted)?;
-        }
+        push_new(&mut met, &mut missing, key, *wanted)?;
     }
     Ok(missing)
+}
+
+/// The names that modules want and none offers, in order of meeting, each once for each module that wants it.
+pub fn missing<'a, A: Allocator + Copy>(
+    alloc: A,
+    names: Names,
+    modules: &[Said<'_, 'a>],
+) -> Result<Vec<Wanted<'a>, A>, AllocError>
+    ensures { IfOk result (λ v. map wanted_said v.items ≡ missing_names names (map module_said modules.now)) }
+{
+    let taken = Taken::collect(alloc, names, modules)?;
+    missing_of(alloc, names, &taken)
 }

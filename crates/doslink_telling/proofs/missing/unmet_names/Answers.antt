@@ -1,4 +1,8 @@
-use Rattle.std.proofs.Common.{◌∙◌, sym}
+use Rattle.std.proofs.Common.{◌∙◌, ap, arith, filter, map, not, sym}
+use Rattle.std.proofs.lemmas.List.{take_all}
+use Rattle.std.specs.List.{list_any}
+use Rattle.omf_search.specs.Results.{wanted_said}
+use Rattle.doslink_telling.specs.Missing.{is_mark}
 use Rattle.doslink_telling.proofs.Staying.{mark-parted, name-parted, none-parted}
 use Rattle.doslink_telling.proofs.missing.unmet_names.Goals as goal
 
@@ -15,3 +19,19 @@ loop-each-preserved g c =
     name-parted c.args.names _ c.loop-each.each-index _ c.loop-each.others.items c.push.new.self.items _
     c.loop-each-test.true
     (sym c.is_mark.ensures ∙ c.if-is_mark.false) c.in_ok-push.ensures.items c.loop-each.invariant
+
+pub returns-clause-missing : goal.returns-clause-missing
+returns-clause-missing g c =
+    let items = c.deref-each-items.result.now in
+    c.loop-each.invariant.stay
+    ∙ ap (λ ws. filter (λ w. not (is_mark c.args.names w.name)) ws)
+    (ap (map wanted_said) (take_all c.loop-each.each-index items (omega arith) ∙ c.deref-each-items.ensures.value)
+    ∙ c.in_ok-wanted.ensures)
+
+pub returns-clause-marks : goal.returns-clause-marks
+returns-clause-marks g c =
+    let items = c.deref-each-items.result.now in
+    c.loop-each.invariant.wants
+    ∙ ap (λ ws. list_any (λ w. is_mark c.args.names w.name) ws)
+    (ap (map wanted_said) (take_all c.loop-each.each-index items (omega arith) ∙ c.deref-each-items.ensures.value)
+    ∙ c.in_ok-wanted.ensures)

@@ -1,4 +1,5 @@
-use Rattle.std.proofs.Common.{◌<◌, ◌∙◌, ap, arith, length, sym}
+use Rattle.std.proofs.Common.{◌<◌, ◌≤◌, ◌∙◌, ap, arith, length, sym}
+use Rattle.std.proofs.Math.ListN.{drop_of_length-le}
 use Rattle.std.proofs.lemmas.List.{length-map}
 use Rattle.doslink_words.specs.Directives.{lines_meaning}
 use Rattle.doslink_words.specs.Said.{said_of}
@@ -26,3 +27,10 @@ returns-in-Err c =
     c.fault_at.result _ inside
     (line_here c.args.lines.now c.loop-index.index _ (omega arith)) c.in-Err.ensures c.fault_at.ensures
     c.loop-index.invariant
+
+pub returns : goal.returns
+returns c =
+    let lines = texts c.args.lines.now in
+    let past : length lines ≤ c.loop-index.index = omega (arith, length-map c.args.lines.now (λ s. s.now)) in
+    c.loop-index.invariant
+    ∙ ap (λ ls. lines_meaning c.loop-index.index ls (said_of c.loop-index.directives)) (drop_of_length-le lines past)

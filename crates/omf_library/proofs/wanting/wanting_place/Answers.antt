@@ -2,7 +2,7 @@ use Rattle.std.proofs.Common.{arith, ap, map, sym, ◌∙◌}
 use Rattle.omf_frame.specs.Lending.{plain_frame}
 use Rattle.omf_library.specs.Names.{texts, wanted_in}
 use Rattle.omf_library.specs.Defaults.{is_among}
-use Rattle.omf_library.proofs.Asking.{left-first, left-found, left-none, some-wanted}
+use Rattle.omf_library.proofs.Asking.{left-first, left-found, left-more, left-none, some-wanted}
 use Rattle.omf_library.proofs.wanting.wanting_place.Goals as goal
 
 pub loop-frame-init : goal.loop-frame-init
@@ -30,3 +30,13 @@ returns g c =
     left-none name frames c.loop-frame.frame-index (texts c.loop-frame.listed.items) c.loop-frame.invariant
     (omega arith) in
     record { first = none; exact = some-wanted name (map plain_frame frames) _ none }
+
+pub loop-frame-preserved : goal.loop-frame-preserved
+loop-frame-preserved g c =
+    let name = c.args.name.now in
+    let frame = c.frame-item.result in
+    left-more name c.args.frames.now c.loop-frame.frame-index (texts c.loop-frame.listed.items) _ frame
+    c.loop-frame.invariant c.loop-frame-test.true c.frame-item.is
+    (ap (λ l. is_among name (wanted_in (texts l) (plain_frame frame))) (sym c.deref.ensures.value)
+    ∙ sym c.in_ok-wants.ensures ∙ c.if-branch.false)
+    c.in_ok-push_listed.ensures

@@ -14,3 +14,6 @@ returns g c =
     (c.deref.ensures.value ∙ c.loop-part.invariant
     ∙ ap (keyed part_view key) (take_all c.loop-part.part-index c.args.parts.now (omega arith)))
     ∙ arranged_view part_view key 6 c.args.parts.now) c.arranged.ensures
+
+pub loop-part-init : goal.loop-part-init
+loop-part-init g c = c.new-keyed.ensures.items

@@ -1,5 +1,7 @@
-use Rattle.std.proofs.Common.{◌≡◌, ◌∙◌, ◌++◌, ◌∷◌, [], Some, ap, get_or, slice_get, sym, append_assoc}
-use Rattle.std.proofs.lemmas.List.{map-append}
+use Rattle.std.proofs.Common.{◌≡◌, ◌∙◌, ◌++◌, ◌∷◌, [], Some, ap, arith, get_or, slice_get, sym, append-nil}
+use Rattle.std.proofs.Common.{append_assoc}
+use Rattle.std.proofs.lemmas.List.{map-append, take_all}
+use Rattle.std.specs.List.{filter_map}
 use Rattle.omf_module.specs.Seen.{segment_seen}
 use Rattle.omf_order.specs.inside.Held.{segments_view}
 use Rattle.omf_order.proofs.Lists.{members-added}
@@ -15,3 +17,12 @@ loop-member-preserved g c =
     ∙ ap (λ ys. ys ++ s ∷ []) c.loop-member.invariant ∙ append_assoc (segments_view c.args.grouped.now.items) _ (s ∷ [])
     ∙ ap (λ ys. segments_view c.args.grouped.now.items ++ ys)
     (sym (members-added segments c.args.members.now c.loop-member.member-index s c.loop-member-test.true e))
+
+pub loop-member-init : goal.loop-member-init
+loop-member-init g c = sym (append-nil (segments_view c.args.grouped.now.items))
+
+pub returns : goal.returns
+returns g c =
+    c.loop-member.invariant
+    ∙ ap (λ ms. segments_view c.args.grouped.now.items ++ filter_map (slice_get c.args.from.now.segments) ms)
+    (take_all c.loop-member.member-index c.args.members.now (omega arith))

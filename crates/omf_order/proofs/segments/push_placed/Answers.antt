@@ -1,4 +1,5 @@
-use Rattle.std.proofs.Common.{◌∙◌, ap, sym}
+use Rattle.std.proofs.Common.{◌∙◌, ◌++◌, ap, arith, append-nil, filter, sym}
+use Rattle.std.proofs.lemmas.List.{take_all}
 use Rattle.omf_module.specs.Module.{Segment}
 use Rattle.omf_module.specs.Seen.{segment_seen}
 use Rattle.omf_place.specs.inside.Placing.{is_relocatable}
@@ -22,3 +23,12 @@ loop-index-preserved g c =
           (segments_view c.args.placed.now.items) c.loop-index.placed.items c.segment-segment.ensures
           (sym c.is_placed.ensures ∙ w.if-is_placed.false) c.loop-index.invariant
     ]
+
+pub loop-index-init : goal.loop-index-init
+loop-index-init g c = sym (append-nil (segments_view c.args.placed.now.items))
+
+pub returns : goal.returns
+returns g c =
+    c.loop-index.invariant
+    ∙ ap (λ ss. segments_view c.args.placed.now.items ++ filter (λ (a : Segment). is_relocatable a.standing) ss)
+    (take_all c.loop-index.index c.args.from.now.segments (omega arith))

@@ -11,7 +11,7 @@ use Rattle.omf_search.proofs.ChoiceSteps.{chosen_more, chosen_next, ended, found
 use Rattle.omf_search.proofs.ChoiceSteps.{smaller_taken, untaken, wanted_at, wanted_past, wanted_within, with_chosen}
 use Rattle.omf_search.proofs.ChoiceSteps.{with_chosen-len, with_chosen-push}
 use Rattle.omf_search.proofs.Slack.{slack}
-use Rattle.omf_search.proofs.choosing.choose.Goals as goal
+use Rattle.omf_search.proofs.choosing.choose_for.Goals as goal
 
 pub loop-next-preserved-in-None : goal.loop-next-preserved-in-None
 loop-next-preserved-in-None g c =
@@ -39,7 +39,7 @@ loop-next-smaller g c =
     let start = map module_said c.args.modules.now in
     let ms = with_chosen start c.loop-next.choices.items in
     let items = c.loop-next.taken.wanted.items in
-    let more = c.add.new.self.wanted.items in
+    let more = c.take_member.new.taken.wanted.items in
     let i = c.loop-next.next in
     let w = c.index-wanted.result.now in
     let b = member_said c.in-Some.member in
@@ -47,15 +47,17 @@ loop-next-smaller g c =
     let h : i < length items = omega (arith, c.loop-next-test.true, c.len.ensures, c.loop-next.taken.wanted.ok.0) in
     let counted = with_chosen-len c.args.modules.now c.loop-next.choices.items in
     let choice0 : held.Choice = record { member = c.in-Some.member; name = w.name; wanted_by = w.wanted_by } in
-    let grown : with_chosen start c.push.new.self.items ≡ ms ++ b.says ∷ [] =
-    ap (with_chosen start) c.in_ok-push.ensures.items ∙ with_chosen-push start c.loop-next.choices.items choice0 in
+    let grown : with_chosen start c.take_member.new.choices.items ≡ ms ++ b.says ∷ [] =
+    ap (with_chosen start) c.in_ok-take_member.ensures.choices
+    ∙ with_chosen-push start c.loop-next.choices.items choice0 in
     let within = wanted_within items (wanted_names ms) i inv.taken.wanted h in
     let at = ap wanted_said c.index-wanted.ensures ∙ wanted_at items (wanted_names ms) i inv.taken.wanted h w in
     let is =
     c.in-Some.ensures ms inv.taken
     ∙ ap (λ o. cond (is_offered c.args.names ms w.name.now) None o) (c.in_ok-offers.ensures w.name) in
     let added =
-    c.in_ok-add.ensures ms (omega (arith, counted, c.len-in-loop-next.ensures, c.loop-next.choices.ok.0)) inv.taken in
+    c.in_ok-take_member.ensures.taken ms (omega (arith, counted, c.len-in-loop-next.ensures, c.loop-next.choices.ok.0))
+    inv.taken in
     subst
     (λ (ns : List Module).
     (length more - (i + 1)) + slack c.args.names ns bs < (length items - i) + slack c.args.names ms bs) (sym grown)
@@ -76,26 +78,28 @@ loop-next-preserved g c =
     let h : i < length items = omega (arith, c.loop-next-test.true, c.len.ensures, c.loop-next.taken.wanted.ok.0) in
     let counted = with_chosen-len c.args.modules.now c.loop-next.choices.items in
     let choice0 : held.Choice = record { member = c.in-Some.member; name = w.name; wanted_by = w.wanted_by } in
-    let grown : with_chosen start c.push.new.self.items ≡ ms ++ b.says ∷ [] =
-    ap (with_chosen start) c.in_ok-push.ensures.items ∙ with_chosen-push start c.loop-next.choices.items choice0 in
+    let grown : with_chosen start c.take_member.new.choices.items ≡ ms ++ b.says ∷ [] =
+    ap (with_chosen start) c.in_ok-take_member.ensures.choices
+    ∙ with_chosen-push start c.loop-next.choices.items choice0 in
     let within = wanted_within items (wanted_names ms) i inv.taken.wanted h in
     let at = ap wanted_said c.index-wanted.ensures ∙ wanted_at items (wanted_names ms) i inv.taken.wanted h w in
     let is =
     c.in-Some.ensures ms inv.taken
     ∙ ap (λ o. cond (is_offered c.args.names ms w.name.now) None o) (c.in_ok-offers.ensures w.name) in
     let added =
-    c.in_ok-add.ensures ms (omega (arith, counted, c.len-in-loop-next.ensures, c.loop-next.choices.ok.0)) inv.taken in
+    c.in_ok-take_member.ensures.taken ms (omega (arith, counted, c.len-in-loop-next.ensures, c.loop-next.choices.ok.0))
+    inv.taken in
     record {
-      taken = subst (λ (ns : List Module). IsTaken c.args.names ns c.add.new.self) (sym grown) added;
+      taken = subst (λ (ns : List Module). IsTaken c.args.names ns c.take_member.new.taken) (sym grown) added;
       settled =
           subst (λ (ns : List Module). find (takes c.args.names bs ns) (take (i + 1) (wanted_names ns)) ≡ None)
           (sym grown) (settled_next c.args.names bs ms i (wanted_said w) (wanted_said w) b within at inv.settled is);
       chosen = λ cs rest.
           subst (λ (ds : List Choice). Chooses c.args.names bs start (ds ++ cs))
           (sym
-          (ap (map choice_said) c.in_ok-push.ensures.items
+          (ap (map choice_said) c.in_ok-take_member.ensures.choices
           ∙ map-append choice_said c.loop-next.choices.items (choice0 ∷ [])))
-          (chosen_more c.args.names bs start ms (with_chosen start c.push.new.self.items)
+          (chosen_more c.args.names bs start ms (with_chosen start c.take_member.new.choices.items)
           (map choice_said c.loop-next.choices.items) (choice_said choice0) inv.chosen
           (chosen_next c.args.names bs ms i (wanted_said w) (wanted_said w) b within at inv.settled is) grown cs rest);
     }

@@ -6,7 +6,7 @@ use Rattle.omf_search.specs.Said.{wanted_names}
 use Rattle.omf_search.specs.Search.{Choice, Chooses, takes}
 use Rattle.omf_search.proofs.ChoiceSteps.{with_chosen}
 use Rattle.omf_search.proofs.Slack.{slack}
-use Rattle.omf_search.proofs.choosing.choose.Given as goal
+use Rattle.omf_search.proofs.choosing.choose_for.Given as goal
 
 abbrev pub invariant-loop-next : goal.invariant-loop-next
 invariant-loop-next g l =

@@ -3,10 +3,10 @@ use Rattle.omf_library.specs.Defaults.{is_theirs}
 use Rattle.omf_library.specs.Names.{texts}
 use Rattle.omf_library.specs.Said.{all_defaulted}
 use Rattle.omf_library.specs.inside.Views.{externals_said}
-use Rattle.omf_library.proofs.defaults.names_but.Given as goal
+use Rattle.omf_library.proofs.defaults.names_except.Given as goal
 
 abbrev pub invariant-loop-name : goal.invariant-loop-name
 invariant-loop-name g l =
     texts l.others.items
-    ≡ filter (λ name. not (is_theirs (all_defaulted l.fn.marked) (externals_said l.externals.items)
-    (texts l.substitutes.items) name)) (texts (take l.name-index l.fn.names))
+    ≡ filter (λ name. not (is_theirs (all_defaulted l.fn.marked) (externals_said l.fn.externals)
+    (texts l.fn.substitutes) name)) (texts (take l.name-index l.fn.names))
