@@ -8,7 +8,7 @@ use omf_library::{ModuleNames, module_frames, module_names};
 use omf_module::{Module, ModuleFault, Standing};
 use omf_place::Names;
 use omf_record::PublicBase;
-use rows::{read_modules, read_row};
+use rows::{push_text, read_modules, read_row};
 use std::alloc::{AllocError, Allocator, Global};
 use std::process::Abort;
 use std::test::*;
@@ -33,14 +33,6 @@ pub enum Asked {
 struct Read<'a, A: Allocator + Copy> {
     communals: Vec<Communal<'a>, A>,
     names: ModuleNames<'a, A>,
-}
-
-/// Appends a name, as text.
-fn push_text(text: &mut String, name: &[u8]) -> Result<(), AllocError> {
-    for byte in name {
-        text.push(char::from(*byte))?;
-    }
-    Ok(())
 }
 
 /// Appends a variable, as text.

@@ -7,7 +7,7 @@
 //! `41 41 41`. A line that begins with `#` is a comment. Of places each name that is asked for stands before its own.
 
 use omf_library::{Member, ModuleNames, members, module_frames, module_names, wanting_place};
-use rows::{bytes_of, put_record};
+use rows::{bytes_of, push_text, put_record};
 use std::alloc::{AllocError, Allocator, Global};
 use std::process::Abort;
 use std::test::*;
@@ -73,10 +73,7 @@ pub fn file_of(alloc: Global, lines: &str) -> Result<Vec<u8>, Fail> {
 /// Appends a name's bytes as text.
 fn push_name(text: &mut String, name: &[u8]) -> Result<(), AllocError> {
     text.push(' ')?;
-    for byte in name {
-        text.push(char::from(*byte))?;
-    }
-    Ok(())
+    push_text(text, name)
 }
 
 /// Whether a member's bytes are those of the file at its place.

@@ -4,18 +4,10 @@ use omf_module::{Kind, Module, ModuleFault, Standing};
 use omf_order::{Order, OrderFault, order_module};
 use omf_place::{Layout, Names, Position, place};
 use omf_record::PublicBase;
-use rows::{read_modules, read_row};
+use rows::{push_text, read_modules, read_row};
 use std::alloc::{AllocError, Global};
 use std::process::Abort;
 use std::test::*;
-
-/// Appends a name, as text.
-fn push_text(text: &mut String, name: &[u8]) -> Result<(), Fail> {
-    for byte in name {
-        text.push(char::from(*byte))?;
-    }
-    Ok(())
-}
 
 fn kind_name(kind: Kind) -> &'static str {
     match kind {

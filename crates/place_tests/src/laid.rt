@@ -6,7 +6,7 @@ ghost use Rattle.omf_place.specs.Layout.{places_of};
 
 use omf_module::Module;
 use omf_place::{Combined, GroupPlace, Layout, Names, PlaceFault, Position, place};
-use rows::{read_modules, read_row};
+use rows::{push_text, read_modules, read_row};
 use std::alloc::{AllocError, Allocator, Global};
 use std::process::Abort;
 use std::test::*;
@@ -148,9 +148,7 @@ pub fn describe_fault<A: Allocator + Copy>(
         | PlaceFault::GroupTooLong { name }
         | PlaceFault::DuplicatePublic { name } => {
             text.push(' ')?;
-            for byte in &name {
-                text.push(char::from(*byte))?;
-            }
+            push_text(&mut text, &name)?;
         }
         PlaceFault::Memory | PlaceFault::ProgramTooLarge => {}
     }

@@ -162,6 +162,14 @@ pub fn push_bytes(text: &mut String, bytes: &[u8]) -> Result<(), AllocError> {
     Ok(())
 }
 
+/// Appends a name's bytes as text.
+pub fn push_text(text: &mut String, name: &[u8]) -> Result<(), AllocError> {
+    for byte in name {
+        text.push(char::from(*byte))?;
+    }
+    Ok(())
+}
+
 /// Appends a name in hexadecimal digits: its length and its bytes.
 pub fn push_name(text: &mut String, name: &str) -> Result<(), AllocError> {
     let length = name.len();
