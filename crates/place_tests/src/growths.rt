@@ -1,10 +1,10 @@
 //! Each growth refused in turn.
 
 use crate::cases::{AT_FAULT, TWO};
-use crate::laid::{outcome, same};
+use crate::laid::outcome;
 use omf_place::Names;
 use refusing::Refusing;
-use rows::{Row, read_row};
+use rows::{Row, read_row, same};
 use std::alloc::Global;
 use std::process::Abort;
 use std::test::*;
@@ -20,7 +20,7 @@ fn refuse_each<R: Abort>(rt: &R, alloc: Global, row: &Row<'_>) -> Result<u32, Fa
             wants = wants.saturating_add(1);
             continue;
         }
-        same(rt, said.as_str(), row.wanted);
+        same(said.as_str(), row.wanted)?;
         if !refusing.has_refused() {
             break;
         }
@@ -43,11 +43,6 @@ fn made_do<R: Abort>(rt: &R, alloc: Global, table: &str) -> Result<String, Fail>
 
 #[test]
 fn refused_growths(rt: HostRuntime) -> Result<(), Fail> {
-    same(&rt, made_do(&rt, rt.alloc(), TWO)?.as_str(), " 2");
-    same(
-        &rt,
-        made_do(&rt, rt.alloc(), AT_FAULT)?.as_str(),
-        " 0 1 0 1 0",
-    );
-    Ok(())
+    same(made_do(&rt, rt.alloc(), TWO)?.as_str(), " 2")?;
+    same(made_do(&rt, rt.alloc(), AT_FAULT)?.as_str(), " 0 1 0 1 0")
 }

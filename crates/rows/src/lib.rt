@@ -114,6 +114,14 @@ pub fn read_row<'a>(alloc: Global, row: &'a str) -> Result<Row<'a>, Fail> {
     Ok(Row { inputs, wanted })
 }
 
+/// A failure, where what is told isn't what is wanted.
+pub fn same(told: &str, wanted: &str) -> Result<(), Fail> {
+    if told == wanted {
+        return Ok(());
+    }
+    Err(Fail::new(format_args!("{told}, not {wanted}")))
+}
+
 fn read_input<A: Allocator + Copy>(alloc: A, bytes: &[u8]) -> Result<Module<A>, ModuleFault> {
     let mut source = MemSource::over(bytes, 65_536, None);
     read_module(alloc, &mut source)
