@@ -351,8 +351,8 @@ Group { name: [67, 79, 68, 69], members: [0] }
 Group { name: [], members: [1, 0] }
 ExternalSymbol { name: [120], local: false }
 ExternalSymbol { name: [121, 122], local: false }
-PublicSymbol { name: [97], base: InSegment(0, None), offset: 1, local: false }
-PublicSymbol { name: [98], base: InSegment(0, None), offset: 2, local: false }
+PublicSymbol { name: [97], base: InSegment { group: 0, segment: 1 }, offset: 1, local: false }
+PublicSymbol { name: [98], base: InSegment { group: 0, segment: 1 }, offset: 2, local: false }
 DataRecord { place: 79, segment: 1, offset: 3, bytes: [5], places: [0], fixups: [] }
 DataRecord { place: 87, segment: 0, offset: 0, bytes: [6], places: [0], fixups: [] }
 ",
