@@ -166,7 +166,7 @@ pub(crate) fn type_at_fault<A: Allocator + Copy>(
         LinkFault::Record {
             input,
             place,
-            fault: InputFault::Type,
+            fault: InputFault::Absent(NoRecord::Type),
         } => match module_at(inputs, *input) {
             Some(module) => module.own.get(*place as usize).copied(),
             None => None,
