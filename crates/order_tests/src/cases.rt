@@ -100,7 +100,8 @@ fn dosseg(rt: HostRuntime) -> Result<(), Fail> {
 98 28 02 00 0D 0E 01
 98 40 02 00 0F 10 01
 9A 02 FF 01 FF 02 FF 03 FF 04
-= T.MYCODE 1 Public 0; C.CODE 1 Private 0; F.FAR_DATA 1 Private 0; N.BEGDATA 16 Public 0; D.DATA 4 Public 0; B.BSS 2 Public 0; S.STACK 16 Stack 0;",
+= T.MYCODE 1 Public 0; C.CODE 1 Private 0; F.FAR_DATA 1 Private 0; \
+N.BEGDATA 16 Public 0; D.DATA 4 Public 0; B.BSS 2 Public 0; S.STACK 16 Stack 0;",
     )
 }
 

@@ -198,7 +198,7 @@ fn push_publics(text: &mut String, module: &Module) -> Result<(), AllocError> {
     Ok(())
 }
 
-/// Appends the segments, groups and publics of the module that bytes are, and whether it has more; or why they are none.
+/// Appends the segments, groups and publics of the module that bytes are, and whether there is more; or why it is none.
 pub fn push_module(alloc: Global, text: &mut String, bytes: &[u8]) -> Result<(), AllocError> {
     let module = match read_input(alloc, bytes) {
         Ok(module) => module,
