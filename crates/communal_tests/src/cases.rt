@@ -8,7 +8,6 @@ use std::test::*;
 #[test]
 fn declared(rt: HostRuntime) -> Result<(), Fail> {
     run(
-        &rt,
         rt.alloc(),
         Asked::Communals,
         "\
@@ -69,7 +68,6 @@ B0 01 61 00 62 02
 #[test]
 fn decided(rt: HostRuntime) -> Result<(), Fail> {
     run(
-        &rt,
         rt.alloc(),
         Asked::Variables(Names::Exact),
         "\
@@ -119,7 +117,6 @@ B0 01 61 00 61 01 02
 #[test]
 fn folded(rt: HostRuntime) -> Result<(), Fail> {
     run(
-        &rt,
         rt.alloc(),
         Asked::Variables(Names::AsciiFolded),
         "\
@@ -135,7 +132,6 @@ B0 01 41 00 62 03
 #[test]
 fn made(rt: HostRuntime) -> Result<(), Fail> {
     run(
-        &rt,
         rt.alloc(),
         Asked::Module { in_bss: false },
         "\
@@ -185,7 +181,6 @@ B0 01 61 00 61 88 FF FF FF FF 88 00 00 01 00
 #[test]
 fn made_in_bss(rt: HostRuntime) -> Result<(), Fail> {
     run(
-        &rt,
         rt.alloc(),
         Asked::Module { in_bss: true },
         "\
@@ -198,7 +193,6 @@ B0 01 61 00 62 02 01 62 00 61 01 01
 #[test]
 fn in_bss(rt: HostRuntime) -> Result<(), Fail> {
     run(
-        &rt,
         rt.alloc(),
         Asked::Bss,
         "\
@@ -238,7 +232,6 @@ fn in_bss(rt: HostRuntime) -> Result<(), Fail> {
 #[test]
 fn placed_locally(rt: HostRuntime) -> Result<(), Fail> {
     run(
-        &rt,
         rt.alloc(),
         Asked::Local { in_bss: false },
         "\
@@ -246,25 +239,25 @@ fn placed_locally(rt: HostRuntime) -> Result<(), Fail> {
 B8 01 61 00 62 02 01 62 00 61 03 04
 --
 B4 01 61 00 01 62 00
-= 96 06 44 47 52 4F 55 50 08 63 5F 63 6F 6D 6D 6F 6E; 96 03 42 53 53 07 46 41 52 5F 42 53 53; \
-98 48 02 00 04 05 00; 9A 03 FF 01; 98 60 0C 00 06 06 00; B6 01 01 01 61 00 00 00; B6 00 02 01 62 00 00 00; 8A 00; \
-c_common.BSS 2 Public 2; FAR_BSS.FAR_BSS 16 Private 12; DGROUP 0; a 0:0 of 0; b 1:0; and more
+= 96 06 44 47 52 4F 55 50 08 63 5F 63 6F 6D*2 6F 6E; 96 03 42 53*2 07 46 41 52 5F 42 53*2; \
+98 48 02 00 04 05 00; 9A 03 FF 01; 98 60 0C 00 06*2 00; B6 01*3 61 00*3; B6 00 02 01 62 00*3; 8A 00; \
+c_common.BSS 2 Public 2; FAR_BSS.FAR_BSS 16 Private 12; DGROUP 0; a 0:0 of 0 local; b 1:0 local; and more
 
 # the greatest length of two, far ones alone, and what stands behind the module
 B8 01 62 00 61 01 04 01 62 00 61 03 04
 --
 raw 80 03 00 01 41 00 8A 02 00 00 00 FF
-= 96 06 44 47 52 4F 55 50 08 63 5F 63 6F 6D 6D 6F 6E; 96 03 42 53 53 07 46 41 52 5F 42 53 53; \
-98 60 0C 00 04 04 00; B6 00 01 01 62 00 00 00; 8A 00;  FF\
-FAR_BSS.FAR_BSS 16 Private 12; b 0:0;
+= 96 06 44 47 52 4F 55 50 08 63 5F 63 6F 6D*2 6F 6E; 96 03 42 53*2 07 46 41 52 5F 42 53*2; \
+98 60 0C 00 04*2 00; B6 00 01*2 62 00*3; 8A 00;  FF\
+FAR_BSS.FAR_BSS 16 Private 12; b 0:0 local;
 
 # indexes of two bytes
 B8 01 61 00 62 81 00 01
 --
 96 00*125
-= 96 06 44 47 52 4F 55 50 08 63 5F 63 6F 6D 6D 6F 6E; 96 03 42 53 53 07 46 41 52 5F 42 53 53; \
-98 48 00 01 80 81 80 82 00; 9A 80 80 FF 01; B6 01 01 01 61 00 00 00; 8A 00; \
-c_common.BSS 2 Public 256; DGROUP 0; a 0:0 of 0;
+= 96 06 44 47 52 4F 55 50 08 63 5F 63 6F 6D*2 6F 6E; 96 03 42 53*2 07 46 41 52 5F 42 53*2; \
+98 48 00 01 80 81 80 82 00; 9A 80*2 FF 01; B6 01*3 61 00*3; 8A 00; \
+c_common.BSS 2 Public 256; DGROUP 0; a 0:0 of 0 local;
 
 # a local public wins, and another doesn't; so no variable is left, or one
 B8 01 61 00 62 02
@@ -277,9 +270,9 @@ B8 01 61 00 62 02
 --
 98 28 02 00 02 02 01
 90 00 01 01 61 00 00 00
-= 96 06 44 47 52 4F 55 50 08 63 5F 63 6F 6D 6D 6F 6E; 96 03 42 53 53 07 46 41 52 5F 42 53 53; \
-98 48 02 00 04 05 00; 9A 03 FF 02; B6 01 02 01 61 00 00 00; 8A 00; \
-CODE.CODE 1 Public 2; c_common.BSS 2 Public 2; DGROUP 1; a 0:0; a 1:0 of 0;
+= 96 06 44 47 52 4F 55 50 08 63 5F 63 6F 6D*2 6F 6E; 96 03 42 53*2 07 46 41 52 5F 42 53*2; \
+98 48 02 00 04 05 00; 9A 03 FF 02; B6 01 02 01 61 00*3; 8A 00; \
+CODE.CODE 1 Public 2; c_common.BSS 2 Public 2; DGROUP 1; a 0:0; a 1:0 of 0 local;
 
 # no record ends the module
 B8 01 61 00 62 02
@@ -309,9 +302,9 @@ B4 01 61 00
 B8 01 61 00 61 01 01
 --
 96 00*32761
-= 96 06 44 47 52 4F 55 50 08 63 5F 63 6F 6D 6D 6F 6E; 96 03 42 53 53 07 46 41 52 5F 42 53 53; \
-98 60 01 00 FF FF FF FF 00; B6 00 01 01 61 00 00 00; 8A 00; \
-FAR_BSS.FAR_BSS 16 Private 1; a 0:0;
+= 96 06 44 47 52 4F 55 50 08 63 5F 63 6F 6D*2 6F 6E; 96 03 42 53*2 07 46 41 52 5F 42 53*2; \
+98 60 01 00 FF*4 00; B6 00 01*2 61 00*3; 8A 00; \
+FAR_BSS.FAR_BSS 16 Private 1; a 0:0 local;
 
 B8 01 61 00 61 01 01
 --
@@ -324,7 +317,6 @@ B8 01 61 00 61 01 01
 #[test]
 fn placed_locally_in_bss(rt: HostRuntime) -> Result<(), Fail> {
     run(
-        &rt,
         rt.alloc(),
         Asked::Local { in_bss: true },
         "\
@@ -334,8 +326,8 @@ B8 01 61 00 62 03
 98 48 02 00 03 04 01
 9A 05 FF 01
 B4 01 61 00
-= 96 06 44 47 52 4F 55 50 04 5F 42 53 53; 96 03 42 53 53 07 46 41 52 5F 42 53 53; \
-98 48 03 00 07 08 00; 9A 06 FF 02; B6 02 02 01 61 00 00 00; 8A 00; \
-_BSS.BSS 2 Public 2; _BSS.BSS 2 Public 3; DGROUP 0; DGROUP 1; a 1:0 of 1; and more",
+= 96 06 44 47 52 4F 55 50 04 5F 42 53*2; 96 03 42 53*2 07 46 41 52 5F 42 53*2; \
+98 48 03 00 07 08 00; 9A 06 FF 02; B6 02*2 01 61 00*3; 8A 00; \
+_BSS.BSS 2 Public 2; _BSS.BSS 2 Public 3; DGROUP 0; DGROUP 1; a 1:0 of 1 local; and more",
     )
 }

@@ -5,12 +5,9 @@ use omf_communal::{
     communal_module, communals, has_bss, local_module, local_names, variables,
 };
 use omf_library::{ModuleNames, module_frames, module_names};
-use omf_module::{Module, ModuleFault, Standing};
 use omf_place::Names;
-use omf_record::PublicBase;
-use rows::{read_modules, read_row};
+use rows::{push_bytes, push_module, push_text, read_modules, read_row, same};
 use std::alloc::{AllocError, Allocator, Global};
-use std::process::Abort;
 use std::test::*;
 
 /// What is told of the modules of a row.
@@ -33,14 +30,6 @@ pub enum Asked {
 struct Read<'a, A: Allocator + Copy> {
     communals: Vec<Communal<'a>, A>,
     names: ModuleNames<'a, A>,
-}
-
-/// Appends a name, as text.
-fn push_text(text: &mut String, name: &[u8]) -> Result<(), AllocError> {
-    for byte in name {
-        text.push(char::from(*byte))?;
-    }
-    Ok(())
 }
 
 /// Appends a variable, as text.
@@ -125,76 +114,6 @@ fn told_variables<A: Allocator + Copy>(
     }
 }
 
-/// Appends the segments of a module: name, class, alignment, length.
-fn push_segments(text: &mut String, from: &Module) -> Result<(), AllocError> {
-    for index in 0..from.segment_count() {
-        let segment = from.segment(index);
-        push_text(text, segment.name)?;
-        text.push('.')?;
-        push_text(text, segment.class)?;
-        if let Standing::Relocatable { alignment, kind } = segment.standing {
-            write!(text, " {alignment} {kind:?}")?;
-        }
-        let length = segment.length;
-        write!(text, " {length}; ")?;
-    }
-    Ok(())
-}
-
-/// Appends the groups of a module: name and members.
-fn push_groups(text: &mut String, from: &Module) -> Result<(), AllocError> {
-    for index in 0..from.group_count() {
-        let group = from.group(index);
-        push_text(text, group.name)?;
-        for member in group.members {
-            write!(text, " {member}")?;
-        }
-        text.push_str("; ")?;
-    }
-    Ok(())
-}
-
-/// Appends the public names of a module: segment, group and offset.
-fn push_publics(text: &mut String, from: &Module) -> Result<(), AllocError> {
-    for index in 0..from.public_symbol_count() {
-        let public = from.public_symbol(index);
-        push_text(text, public.name)?;
-        let offset = public.offset;
-        match public.base {
-            PublicBase::InSegment { group, segment } => {
-                let segment = segment.saturating_sub(1);
-                match group.checked_sub(1) {
-                    Some(group) => write!(text, " {segment}:{offset} of {group}; ")?,
-                    None => write!(text, " {segment}:{offset}; ")?,
-                }
-            }
-            PublicBase::AtFrame { frame, .. } => write!(text, " at {frame}; ")?,
-        }
-    }
-    Ok(())
-}
-
-/// What the module of these bytes says.
-fn reread(alloc: Global, text: &mut String, bytes: &[u8]) -> Result<(), AllocError> {
-    let mut inputs = Vec::new(alloc);
-    inputs.push(Vec::from_slice(alloc, bytes)?)?;
-    match read_modules(alloc, &inputs) {
-        Ok(modules) => {
-            for made in &modules {
-                push_segments(text, made)?;
-                push_groups(text, made)?;
-                push_publics(text, made)?;
-                if made.external_count() != 0 || made.data_record_count() != 0 {
-                    text.push_str("and more")?;
-                }
-            }
-            Ok(())
-        }
-        Err(ModuleFault::Memory) => text.push_str("memory"),
-        Err(ModuleFault::Record { place, kind: _ }) => write!(text, "fault at {place}"),
-    }
-}
-
 /// Why variables have no place.
 fn push_plan_fault(text: &mut String, fault: PlanFault) -> Result<(), AllocError> {
     match fault {
@@ -219,17 +138,9 @@ fn told_module<A: Allocator + Copy>(
     };
     match communal_module(alloc, &variables, in_bss) {
         Ok(None) => text.push_str("none"),
-        Ok(Some(bytes)) => reread(words, text, &bytes),
+        Ok(Some(bytes)) => push_module(words, text, &bytes),
         Err(fault) => push_plan_fault(text, fault),
     }
-}
-
-/// Appends the bytes, each in hexadecimal digits.
-fn push_bytes(text: &mut String, bytes: &[u8]) -> Result<(), AllocError> {
-    for byte in bytes {
-        write!(text, " {byte:02X}")?;
-    }
-    Ok(())
 }
 
 /// Appends the records of a module from that with a number on, as type and body, and what stands behind them.
@@ -310,7 +221,7 @@ fn told_local<A: Allocator + Copy>(
         Ok(Some(bytes)) => {
             let first = module_frames(words, lowered)?.len().saturating_sub(1);
             push_records(words, text, &bytes, first)?;
-            reread(words, text, &bytes)
+            push_module(words, text, &bytes)
         }
         Err(fault) => push_plan_fault(text, fault),
     }
@@ -358,17 +269,12 @@ pub fn told<A: Allocator + Copy>(
     Ok(text)
 }
 
-/// What is told is what is wanted.
-pub fn same<R: Abort>(rt: &R, told: &str, wanted: &str) {
-    assert_eq!(rt; told.trim_ascii(), wanted.trim_ascii());
-}
-
 /// Tries each row of a table.
-pub fn run<R: Abort>(rt: &R, alloc: Global, asked: Asked, table: &str) -> Result<(), Fail> {
+pub fn run(alloc: Global, asked: Asked, table: &str) -> Result<(), Fail> {
     for row in table.split("\n\n") {
         let row = read_row(alloc, row)?;
         let text = told(alloc, alloc, asked, &row.inputs)?;
-        same(rt, text.as_str(), row.wanted);
+        same(text.trim_ascii(), row.wanted)?;
     }
     Ok(())
 }

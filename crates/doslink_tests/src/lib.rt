@@ -6,8 +6,6 @@ mod aliasing;
 #[cfg(test)]
 mod declaring;
 #[cfg(test)]
-mod memory;
-#[cfg(test)]
 mod modules;
 #[cfg(test)]
 mod records;

@@ -6,7 +6,6 @@ use crate::declaring::{
     BODY, CUT_ELEMENT, END, FAR, LOCAL, LOCAL_CLASH, LOCAL_LONG, LOCAL_START, LOCAL_TABLE, LONG,
     MANY, NEAR, OTHER_SIZE, TABLE,
 };
-use crate::memory::{Desk, Page, Pen};
 use crate::modules::{
     AMISS, ELSEWHERE, HEADLESS, KEEPS, LIBRARY, LIKE, MARKS, NAMELESS, NAMES, OFFERS, WANTS, WIDE,
 };
@@ -14,6 +13,7 @@ use crate::records::{
     BEHIND_LOWERED, BESIDE_LCOMDEF, CHOSEN, COMDAT, COMDATS, LINSYM, LOCAL_FAR, OTHER_TYPE,
     PATCHED, PATCHED_BY_NAME, REPEATS, UNLISTED, WIDELY,
 };
+use desk::{Count, Desk, Page, Pen};
 use doslink_jobs::{language_of, run_words};
 use omf_files::BufferedSink;
 use omf_frame::WriteSink;
@@ -34,6 +34,9 @@ const BINARY: [u8; 4] = [0x41, 0xFF, 0xFE, 0x0A];
 
 /// How much of the library is left where it is cut off, inside the last record of its first member.
 const CUT: usize = 64;
+
+/// The most bytes that are written to a file or a stream.
+const ROOM: usize = 20_000;
 
 /// Runs, each in a line: the program and its words | the status | what is written to standard output | and to standard
 /// error. `~` stands for a line end.
@@ -273,9 +276,8 @@ const PROGRAM: [u8; 34] = [
     0x90, 0x90,
 ];
 
-/// The path of its map, and the map.
+/// Its map.
 const MAP: &str = "\
-P.MAP
 segments
 000000 000002 public   \"CODE\" \"\"
 groups
@@ -292,33 +294,38 @@ modules
  000001 R 000001 \"CODE\" \"\"
 ";
 
-/// Runs, and what each writes: the path of its program, the program, and the path of its map and that.
+/// Runs, and what each writes: the path of its program, the program, and its map at P.MAP. What isn't written stays `old`.
 const WRITTEN: [(&str, &str, &[u8], &str); 5] = [
     (
         "doslink -o P.EXE -m P.MAP A.OBJ F.OBJ",
-        "P.EXE\n",
+        "P.EXE",
         &PROGRAM,
         MAP,
     ),
-    ("doslink A.OBJ F.OBJ", "A.EXE\n", &PROGRAM, ""),
+    ("doslink A.OBJ F.OBJ", "A.EXE", &PROGRAM, "old"),
     // a name is missing, two publics have one name, and the map is read
-    ("doslink -m P.MAP A.OBJ", "", &[], ""),
-    ("doslink -m P.MAP A.OBJ F.OBJ F.OBJ", "", &[], ""),
-    ("doslink -m F.OBJ A.OBJ F.OBJ", "", &[], ""),
+    ("doslink -m P.MAP A.OBJ", "", b"old", "old"),
+    ("doslink -m P.MAP A.OBJ F.OBJ F.OBJ", "", b"old", "old"),
+    ("doslink -m F.OBJ A.OBJ F.OBJ", "", b"old", "old"),
 ];
 
-/// What a run told, as a row of the table has it.
-fn row_of(
-    alloc: Global,
-    words: &str,
+/// What a run did: its status, both streams, and the program and its map, which were `old`.
+#[derive(Drop)]
+struct Done {
     status: u8,
-    output: &Page,
-    errors: &Page,
-) -> Result<Vec<u8>, AllocError> {
+    output: Vec<u8>,
+    errors: Vec<u8>,
+    out: Vec<u8>,
+    map: Vec<u8>,
+}
+
+/// What a run of these words tells, as a row of the table has it.
+fn told(alloc: Global, words: &str) -> Result<Vec<u8>, AllocError> {
+    let done = run_row(alloc, words, "")?;
     let mut row = Vec::from_slice(alloc, words.as_bytes())?;
     row.push(b'|')?;
-    row.push(b'0' + status % 10)?;
-    for text in [output.bytes(alloc)?, errors.bytes(alloc)?] {
+    row.push(b'0' + done.status % 10)?;
+    for text in [done.output, done.errors] {
         row.push(b'|')?;
         for byte in &text {
             row.push(if *byte == b'\n' { b'~' } else { *byte })?;
@@ -327,14 +334,8 @@ fn row_of(
     Ok(row)
 }
 
-/// The status of a run of these words, which writes files to a page, and to two others what it tells.
-fn run_row(
-    alloc: Global,
-    row: &str,
-    written: &Page,
-    output_page: &Page,
-    error_page: &Page,
-) -> Result<u8, AllocError> {
+/// What a run of these words does that may write a program at a path, or at any if it is empty, and a map at P.MAP.
+fn run_row(alloc: Global, row: &str, path: &str) -> Result<Done, AllocError> {
     let files = [
         ("A.OBJ", WANTS.as_slice()),
         ("F.OBJ", OFFERS.as_slice()),
@@ -394,17 +395,26 @@ fn run_row(
         ("UNLISTED.OBJ", UNLISTED.as_slice()),
         ("LOWERED.OBJ", BEHIND_LOWERED.as_slice()),
     ];
+    let out = Page::new(alloc, path, b"old", ROOM)?;
+    let map = Page::new(alloc, "P.MAP", b"old", ROOM)?;
+    let output_page = Page::new(alloc, "", b"", ROOM)?;
+    let error_page = Page::new(alloc, "", b"", ROOM)?;
+    let opened = Page::new(alloc, "", b"", 0)?;
+    let count = Count::new();
     let desk = Desk {
         files: files.as_slice(),
         folders: &["RUN", "LIBS", "LIBS/"],
-        written,
+        out: &out,
+        map: &map,
+        opened: &opened,
+        count: &count,
     };
     let words = row.split_ascii_whitespace().collect::<Vec<&str>>(alloc)?;
-    let Ok(mut output) = BufferedSink::new(alloc, Pen::new(output_page)) else {
+    let Ok(mut output) = BufferedSink::new(alloc, Pen::new(&output_page)) else {
         return Err(AllocError);
     };
-    let mut errors = WriteSink::new(Pen::new(error_page));
-    Ok(match words.as_slice() {
+    let mut errors = WriteSink::new(Pen::new(&error_page));
+    let status = match words.as_slice() {
         [program, words @ ..] => run_words(
             alloc,
             desk,
@@ -415,41 +425,14 @@ fn run_row(
             &mut errors,
         ),
         [] => 9,
+    };
+    Ok(Done {
+        status,
+        output: output_page.bytes(alloc)?,
+        errors: error_page.bytes(alloc)?,
+        out: out.bytes(alloc)?,
+        map: map.bytes(alloc)?,
     })
-}
-
-/// What a run of these words tells, as a row of the table has it.
-fn told(alloc: Global, row: &str) -> Result<Vec<u8>, AllocError> {
-    let written = Page::new(alloc);
-    let output = Page::new(alloc);
-    let errors = Page::new(alloc);
-    let status = run_row(alloc, row, &written, &output, &errors)?;
-    row_of(alloc, row, status, &output, &errors)
-}
-
-/// Whether the file that a run of these words writes ends in some bytes.
-fn ends_in(alloc: Global, row: &str, bytes: &[u8]) -> Result<bool, AllocError> {
-    let written = Page::new(alloc);
-    let told = Page::new(alloc);
-    run_row(alloc, row, &written, &told, &told)?;
-    Ok(written.bytes(alloc)?.ends_with(bytes))
-}
-
-/// Whether what a run of these words writes are these bytes, one behind the other.
-fn writes(
-    alloc: Global,
-    row: &str,
-    path: &str,
-    program: &[u8],
-    map: &str,
-) -> Result<bool, AllocError> {
-    let written = Page::new(alloc);
-    let told = Page::new(alloc);
-    run_row(alloc, row, &written, &told, &told)?;
-    let mut bytes = Vec::from_slice(alloc, path.as_bytes())?;
-    bytes.extend_from_slice(program)?;
-    bytes.extend_from_slice(map.as_bytes())?;
-    Ok(written.bytes(alloc)?.as_slice() == bytes.as_slice())
 }
 
 /// The first row that isn't what its run tells, if there is one.
@@ -505,7 +488,8 @@ fn default_runs_tell_these_lines(rt: HostRuntime) -> Result<(), Fail> {
 #[test]
 fn programs_end_in_these_bytes(rt: HostRuntime) -> Result<(), Fail> {
     for (row, bytes) in &PROGRAMS {
-        assert!(rt; ends_in(rt.alloc(), row, bytes)?, "{row}");
+        let done = run_row(rt.alloc(), row, "")?;
+        assert!(rt; done.out.ends_with(bytes), "{row}");
     }
     Ok(())
 }
@@ -513,7 +497,9 @@ fn programs_end_in_these_bytes(rt: HostRuntime) -> Result<(), Fail> {
 #[test]
 fn runs_write_these_files(rt: HostRuntime) -> Result<(), Fail> {
     for (row, path, program, map) in &WRITTEN {
-        assert!(rt; writes(rt.alloc(), row, path, program, map)?, "{row}");
+        let done = run_row(rt.alloc(), row, path)?;
+        assert!(rt; done.out.as_slice() == *program, "{row}");
+        assert!(rt; done.map.as_slice() == map.as_bytes(), "{row}");
     }
     Ok(())
 }

@@ -7,7 +7,6 @@ use std::test::*;
 #[test]
 fn repeated_data(rt: HostRuntime) -> Result<(), Fail> {
     run(
-        &rt,
         rt.alloc(),
         "\
 98 28 06 00 02 01 01
@@ -65,7 +64,6 @@ A0 01 02 00 AA
 #[test]
 fn mixed_orders(rt: HostRuntime) -> Result<(), Fail> {
     run(
-        &rt,
         rt.alloc(),
         "\
 98 28 04 00 02 01 01
@@ -107,7 +105,6 @@ A2 01 00 00 02 00 00 00 03 00 00 00
 #[test]
 fn overlaps(rt: HostRuntime) -> Result<(), Fail> {
     run(
-        &rt,
         rt.alloc(),
         "\
 98 28 06 00 02 01 01
@@ -179,14 +176,13 @@ fn many_fixups(rt: HostRuntime) -> Result<(), Fail> {
         table.push_str(&format!(in rt.alloc(); " {head:02X} {low:02X} 00 01 01 01 00")?)?;
     }
     table.push_str(" x200\n= 1024 of 1024 in 1: C8*1024; 0000:0000 0000:0000")?;
-    run(&rt, rt.alloc(), &table)
+    run(rt.alloc(), &table)
 }
 
 /// 87,300 fix-ups of a byte that is repeated 65,535 times take no turn over its copies for each.
 #[test]
 fn many_copies(rt: HostRuntime) -> Result<(), Fail> {
     run(
-        &rt,
         rt.alloc(),
         "\
 98 28 FF FF 02 01 01

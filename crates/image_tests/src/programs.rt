@@ -1,10 +1,10 @@
 //! Programs by their bytes, relocations and registers, and why none is made.
 
-use crate::said::{outcome, run, same};
+use crate::said::{outcome, run};
 use omf_image::{Program, build};
 use omf_place::{Names, place};
 use refusing::Refusing;
-use rows::{read_modules, read_row};
+use rows::{read_modules, read_row, same};
 use std::alloc::Allocator;
 use std::process::Abort;
 use std::test::*;
@@ -12,7 +12,6 @@ use std::test::*;
 #[test]
 fn images(rt: HostRuntime) -> Result<(), Fail> {
     run(
-        &rt,
         rt.alloc(),
         "\
 # a low byte keeps its carry
@@ -105,7 +104,6 @@ A2 01 00 00 00 00 00 00 02 00 00
 #[test]
 fn faults(rt: HostRuntime) -> Result<(), Fail> {
     run(
-        &rt,
         rt.alloc(),
         "\
 98 28 04 00 02 01 01
@@ -207,7 +205,6 @@ A0 01 00 00 00 00 00 00
 #[test]
 fn bases_and_pointers(rt: HostRuntime) -> Result<(), Fail> {
     run(
-        &rt,
         rt.alloc(),
         "\
 98 28 20 00 02 01 01
@@ -254,9 +251,8 @@ A0 01 00 00 34 12
 
 #[test]
 fn two_inputs(rt: HostRuntime) -> Result<(), Fail> {
-    run(&rt, rt.alloc(), GROUPED)?;
+    run(rt.alloc(), GROUPED)?;
     run(
-        &rt,
         rt.alloc(),
         "\
 # common segments lie over one another
@@ -290,7 +286,6 @@ A0 01 00 00 B8 00 00 8E D8
 #[test]
 fn registers(rt: HostRuntime) -> Result<(), Fail> {
     run(
-        &rt,
         rt.alloc(),
         "\
 98 68 05 00 02 01 01
@@ -321,7 +316,6 @@ fn registers(rt: HostRuntime) -> Result<(), Fail> {
 #[test]
 fn start_faults(rt: HostRuntime) -> Result<(), Fail> {
     run(
-        &rt,
         rt.alloc(),
         "\
 98 28 20 00 02 01 01
@@ -363,7 +357,6 @@ A0 01 FF 0F 00 00
 #[test]
 fn pages(rt: HostRuntime) -> Result<(), Fail> {
     run(
-        &rt,
         rt.alloc(),
         "\
 98 28 02 10 02 01 01
@@ -405,7 +398,6 @@ fn pieces(rt: HostRuntime) -> Result<(), Fail> {
 #[test]
 fn written_part(rt: HostRuntime) -> Result<(), Fail> {
     run(
-        &rt,
         rt.alloc(),
         "\
 98 28 05 00 02 01 01
@@ -460,7 +452,6 @@ A2 01 02 00 00 00 00 00 01 AA
 #[test]
 fn relocated_words(rt: HostRuntime) -> Result<(), Fail> {
     run(
-        &rt,
         rt.alloc(),
         "\
 98 28 FE FF 02 01 01
@@ -495,13 +486,13 @@ fn each_growth(rt: HostRuntime) -> Result<(), Fail> {
         let heap = Refusing::nth(rt.alloc(), number);
         let said = outcome(&heap, rt.alloc(), &row.inputs)?;
         if !heap.has_refused() {
-            same(&rt, said.as_str(), row.wanted);
+            same(said.as_str(), row.wanted)?;
             break;
         }
         match said.as_str() {
             "no memory" | "memory" => {}
             "out of memory" => refused_building = number,
-            text => same(&rt, text, row.wanted),
+            text => same(text, row.wanted)?,
         }
     }
     assert!(rt; refused_building > 4);

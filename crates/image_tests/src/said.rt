@@ -5,9 +5,8 @@ ghost use Rattle.omf_place.specs.Bounded.{IsBounded};
 use omf_image::{Program, Registers, build};
 use omf_module::Module;
 use omf_place::{Layout, Names, place};
-use rows::{push_bytes, read_modules, read_row};
+use rows::{push_bytes, read_modules, read_row, same};
 use std::alloc::{AllocError, Allocator, Global};
-use std::process::Abort;
 use std::test::*;
 
 /// The most relocated words that are written down one by one.
@@ -117,17 +116,12 @@ pub fn outcome<A: Allocator + Copy>(
     }
 }
 
-/// What is said is what is wanted.
-pub fn same<R: Abort>(rt: &R, said: &str, wanted: &str) {
-    assert_eq!(rt; said, wanted);
-}
-
 /// The inputs of each row of a table give what is wanted of them.
-pub fn run<R: Abort>(rt: &R, alloc: Global, table: &str) -> Result<(), Fail> {
+pub fn run(alloc: Global, table: &str) -> Result<(), Fail> {
     for row in table.split("\n\n") {
         let row = read_row(alloc, row)?;
         let said = outcome(alloc, alloc, &row.inputs)?;
-        same(rt, said.as_str(), row.wanted);
+        same(said.as_str(), row.wanted)?;
     }
     Ok(())
 }

@@ -1,5 +1,5 @@
 //! Files over a world in memory.
-use crate::memory::{Count, Desk, Page};
+use desk::{Count, Desk, Page};
 use omf_files::{BufferedSink, CreatedFile, open_source};
 use omf_frame::{IoFault, Sink, Source, put_all};
 use std::alloc::Global;
@@ -71,24 +71,23 @@ fn a_file_is_created_at_its_first_byte(rt: HostRuntime) -> Result<(), Fail> {
 #[test]
 fn a_file_is_opened_at_its_first_read_and_once(rt: HostRuntime) -> Result<(), Fail> {
     let alloc = rt.alloc();
-    let page = Page::new(alloc, "", b"", 100)?;
     let opened = Page::new(alloc, "", b"", 100)?;
     let count = Count::new();
-    reads_once(&rt, alloc, &page, &opened, &count)
+    reads_once(&rt, alloc, &opened, &count)
 }
 
 /// Of two sources over a desk with one file each opens its path at its first read, and not again.
 fn reads_once<'a>(
     rt: &impl Abort,
     alloc: Global,
-    page: &'a Page<'a>,
     opened: &'a Page<'a>,
     count: &'a Count,
 ) -> Result<(), Fail> {
     let desk = Desk {
         files: &[("A", b"abc")],
-        out: page,
-        map: page,
+        folders: &[],
+        out: opened,
+        map: opened,
         opened,
         count,
     };

@@ -1,5 +1,5 @@
 //! Jobs over a world in memory.
-use crate::memory::{Count, Desk, Page, Pen};
+use desk::{Count, Desk, Page, Pen};
 use omf_files::BufferedSink;
 use omf_frame::WriteSink;
 use omf_jobs::{out_of_memory, run_job, run_words};
@@ -131,6 +131,7 @@ fn run_in<'f>(
     let count = Count::new();
     let desk = Desk {
         files,
+        folders: &[],
         out: &out,
         map: &map,
         opened: &opened,

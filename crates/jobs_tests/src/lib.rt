@@ -5,5 +5,3 @@
 mod files;
 #[cfg(test)]
 mod jobs;
-#[cfg(test)]
-mod memory;

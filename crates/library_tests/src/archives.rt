@@ -6,7 +6,6 @@ use std::test::*;
 #[test]
 fn members_of_archives(rt: HostRuntime) -> Result<(), Fail> {
     run(
-        &rt,
         rt.alloc(),
         What::Members,
         "\
@@ -59,7 +58,6 @@ raw 21 3C 61 72 63 68 3E 0D
 #[test]
 fn faults_of_archives(rt: HostRuntime) -> Result<(), Fail> {
     run(
-        &rt,
         rt.alloc(),
         What::Members,
         "\

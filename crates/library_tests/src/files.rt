@@ -7,9 +7,8 @@
 //! `41 41 41`. A line that begins with `#` is a comment. Of places each name that is asked for stands before its own.
 
 use omf_library::{Member, ModuleNames, members, module_frames, module_names, wanting_place};
-use rows::{bytes_of, put_record};
+use rows::{bytes_of, push_text, put_record, same};
 use std::alloc::{AllocError, Allocator, Global};
-use std::process::Abort;
 use std::test::*;
 
 /// Appends zeros up to a multiple of the size.
@@ -73,10 +72,7 @@ pub fn file_of(alloc: Global, lines: &str) -> Result<Vec<u8>, Fail> {
 /// Appends a name's bytes as text.
 fn push_name(text: &mut String, name: &[u8]) -> Result<(), AllocError> {
     text.push(' ')?;
-    for byte in name {
-        text.push(char::from(*byte))?;
-    }
-    Ok(())
+    push_text(text, name)
 }
 
 /// Whether a member's bytes are those of the file at its place.
@@ -224,18 +220,13 @@ pub fn told<A: Allocator + Copy>(
     }
 }
 
-/// What is told is what is wanted.
-pub fn same<R: Abort>(rt: &R, told: &str, wanted: &str) {
-    assert_eq!(rt; told, wanted);
-}
-
 /// What is told of each file of a table is what is wanted.
-pub fn run<R: Abort>(rt: &R, alloc: Global, what: What, table: &str) -> Result<(), Fail> {
+pub fn run(alloc: Global, what: What, table: &str) -> Result<(), Fail> {
     for row in table.split("\n\n") {
         let (lines, wanted) = row.split_once("\n= ").unwrap_or((row, ""));
         let file = file_of(alloc, lines)?;
         let told = told(alloc, alloc, what, &file, wanted)?;
-        same(rt, told.as_str(), wanted);
+        same(told.as_str(), wanted)?;
     }
     Ok(())
 }

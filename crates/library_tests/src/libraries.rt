@@ -6,7 +6,6 @@ use std::test::*;
 #[test]
 fn members_of_libraries(rt: HostRuntime) -> Result<(), Fail> {
     run(
-        &rt,
         rt.alloc(),
         What::Members,
         "\
@@ -79,7 +78,6 @@ raw F1
 #[test]
 fn faults_of_libraries(rt: HostRuntime) -> Result<(), Fail> {
     run(
-        &rt,
         rt.alloc(),
         What::Members,
         "\

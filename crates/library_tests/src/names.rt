@@ -6,7 +6,6 @@ use std::test::*;
 #[test]
 fn names_of_modules(rt: HostRuntime) -> Result<(), Fail> {
     run(
-        &rt,
         rt.alloc(),
         What::Names,
         "\
@@ -91,7 +90,6 @@ raw 41 42
 #[test]
 fn weak_externals_are_not_wanted(rt: HostRuntime) -> Result<(), Fail> {
     run(
-        &rt,
         rt.alloc(),
         What::Names,
         "\
@@ -161,7 +159,6 @@ B4 01 6C 00
 #[test]
 fn lazy_externals_are_wanted_and_not_needed(rt: HostRuntime) -> Result<(), Fail> {
     run(
-        &rt,
         rt.alloc(),
         What::Names,
         "\
@@ -197,7 +194,6 @@ fn lazy_externals_are_wanted_and_not_needed(rt: HostRuntime) -> Result<(), Fail>
 #[test]
 fn first_records_that_want_names(rt: HostRuntime) -> Result<(), Fail> {
     run(
-        &rt,
         rt.alloc(),
         What::Places,
         "\

@@ -1,7 +1,7 @@
 //! Each growth refused in turn.
 
 use crate::lowered::{PLAIN, UNRENAMED, told};
-use refusing::Refusing;
+use refusing::refuse_each;
 use rows::module_of;
 use std::test::*;
 
@@ -12,14 +12,9 @@ fn refused_growths(rt: HostRuntime) -> Result<(), Fail> {
     let lines = "80 01 41\n96 05 44 57 41 52 46\n98 28 02 00 01 01 01\nA0 01 00 00 11\n9C 40 01";
     let module = module_of(alloc, lines)?;
     let wanted = told(alloc, alloc, &module, PLAIN, &UNRENAMED)?;
-    for number in 1..100u64 {
-        let refusing = Refusing::nth(alloc, number);
-        let answer = told(&refusing, alloc, &module, PLAIN, &UNRENAMED)?;
-        if !refusing.has_refused() {
-            assert_eq!(rt; answer.as_str(), wanted.as_str());
-            break;
-        }
-        assert_eq!(rt; answer.as_str(), "no memory");
-    }
+    let (_, made_do) = refuse_each(alloc, wanted.as_str(), |heap| {
+        told(heap, alloc, &module, PLAIN, &UNRENAMED)
+    })?;
+    assert_eq!(rt; made_do, 0u32);
     Ok(())
 }

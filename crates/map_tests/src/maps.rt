@@ -1,12 +1,13 @@
 //! Maps of linked programs.
 ghost use Rattle.std.specs.Prelude.{◌<◌};
 
-use omf_frame::{IoFault, MemSink, MemSource};
+use omf_frame::{IoFault, MemSink};
 use omf_image::{Program, build};
 use omf_map::put_map;
-use omf_module::{Module, read_module};
+use omf_module::Module;
 use omf_place::{Layout, Names, place};
-use std::alloc::{AllocError, Global};
+use rows::{publics, put_record, read_modules, read_row};
+use std::alloc::Global;
 use std::process::Abort;
 use std::test::*;
 
@@ -150,18 +151,6 @@ relocations 0
 /// The most bytes of a map here.
 const ROOM: usize = 500;
 
-/// Appends a record with the closing byte 0.
-fn put(out: &mut Vec<u8>, kind: u8, body: &[u8]) -> Result<(), AllocError> {
-    if body.len() <= 65_534 {
-        let length = (body.len() as u16 + 1).to_le_bytes();
-        out.push(kind)?;
-        out.extend_from_slice(&length)?;
-        out.extend_from_slice(body)?;
-        out.push(0)?;
-    }
-    Ok(())
-}
-
 /// Modules, their layout and their program.
 #[derive(Drop)]
 struct Linked {
@@ -170,12 +159,8 @@ struct Linked {
     program: Program,
 }
 
-fn read_bytes(alloc: Global, bytes: &[u8]) -> Result<Module, Fail> {
-    let mut source = MemSource::over(bytes, 60, None);
-    Ok(read_module(alloc, &mut source)?)
-}
-
-fn link_modules(alloc: Global, modules: Vec<Module>) -> Result<Linked, Fail> {
+fn link_inputs(alloc: Global, inputs: &[Vec<u8>]) -> Result<Linked, Fail> {
+    let modules = read_modules(alloc, inputs)?;
     let layout = place(alloc, modules.as_slice(), Names::Exact)?;
     let program = build(alloc, modules.as_slice(), &layout)?;
     Ok(Linked {
@@ -185,16 +170,16 @@ fn link_modules(alloc: Global, modules: Vec<Module>) -> Result<Linked, Fail> {
     })
 }
 
-fn link_records(alloc: Global, inputs: &[Records<'_>]) -> Result<Linked, Fail> {
-    let mut modules = Vec::new(alloc);
-    for records in inputs {
+fn link_records(alloc: Global, modules: &[Records<'_>]) -> Result<Linked, Fail> {
+    let mut inputs = Vec::new(alloc);
+    for records in modules {
         let mut bytes = Vec::new(alloc);
         for (kind, body) in *records {
-            put(&mut bytes, *kind, body)?;
+            put_record(&mut bytes, *kind, body)?;
         }
-        modules.push(read_bytes(alloc, &bytes)?)?;
+        inputs.push(bytes)?;
     }
-    link_modules(alloc, modules)
+    link_inputs(alloc, &inputs)
 }
 
 /// The map is this text, and where it is cut short for want of room a front of it.
@@ -233,28 +218,8 @@ fn programs_have_maps(rt: HostRuntime) -> Result<(), Fail> {
     Ok(())
 }
 
-/// How many publics a large module has.
+/// How many publics a large module has, and how long its segment is.
 const COUNT: u16 = 2_000;
-
-/// A module of the publics "a0", "a1" and so on, each at its number.
-fn numbered_publics(alloc: Global) -> Result<Module, Fail> {
-    let [low, high] = COUNT.to_le_bytes();
-    let mut body = [0u8, 1].to_vec(alloc)?;
-    for n in 0..COUNT {
-        let name = format!(in alloc; "a{n}")?;
-        body.push(name.len().min(255) as u8)?;
-        body.extend_from_slice(name.as_bytes())?;
-        body.extend_from_slice(&n.to_le_bytes())?;
-        body.push(0)?;
-    }
-    let mut bytes = Vec::new(alloc);
-    put(&mut bytes, HEADER.0, HEADER.1)?;
-    put(&mut bytes, 0x96, b"\x00\x04CODE")?;
-    put(&mut bytes, 0x98, &[0x28, low, high, 2, 1, 1])?;
-    put(&mut bytes, 0x90, &body)?;
-    put(&mut bytes, END.0, END.1)?;
-    read_bytes(alloc, &bytes)
-}
 
 /// The map of the module of numbered publics.
 fn numbered_map(alloc: Global) -> Result<String, Fail> {
@@ -269,9 +234,10 @@ fn numbered_map(alloc: Global) -> Result<String, Fail> {
 
 #[test]
 fn many_publics_are_listed_in_order(rt: HostRuntime) -> Result<(), Fail> {
-    let mut modules = Vec::new(rt.alloc());
-    modules.push(numbered_publics(rt.alloc())?)?;
-    let linked = link_modules(rt.alloc(), modules)?;
+    let publics = publics(rt.alloc(), COUNT)?;
+    let lines = format!(in rt.alloc(); "98 28 D0 07 02 01 01{publics}")?;
+    let row = read_row(rt.alloc(), &lines)?;
+    let linked = link_inputs(rt.alloc(), &row.inputs)?;
     let mut room = vec![in rt.alloc(); 0u8; 40_000]?;
     let mut sink = MemSink::over(&mut room, 4_096);
     let modules = linked.modules.as_slice();

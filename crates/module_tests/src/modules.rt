@@ -2,9 +2,8 @@
 
 use omf_frame::MemSource;
 use omf_module::{FaultKind, Module, ModuleFault, read_module};
-use rows::{bytes_of, module_of};
+use rows::{bytes_of, module_of, same};
 use std::alloc::{AllocError, Global};
-use std::process::Abort;
 use std::test::*;
 
 /// How far the input is read, or the number under which its fault is reported and the place, in pieces of so many bytes
@@ -38,24 +37,20 @@ fn number(kind: FaultKind) -> u8 {
     }
 }
 
-fn is_told<R: Abort>(rt: &R, told: &str, wanted: &str) {
-    assert_eq!(rt; told, wanted);
-}
-
 /// The input has this outcome, in pieces of 1, 2 and 3 bytes and whole.
-fn has_outcome<R: Abort>(rt: &R, alloc: Global, bytes: &[u8], wanted: &str) {
+fn has_outcome(alloc: Global, bytes: &[u8], wanted: &str) -> Result<(), Fail> {
     for piece in [1, 2, 3, 65536] {
-        let told = outcome(alloc, bytes, piece, None).expect(rt, "text");
-        is_told(rt, &told, wanted);
+        same(&outcome(alloc, bytes, piece, None)?, wanted)?;
     }
+    Ok(())
 }
 
 /// Each row of a table is an input and its outcome.
-fn hold<R: Abort>(rt: &R, alloc: Global, table: &str) -> Result<(), Fail> {
+fn hold(alloc: Global, table: &str) -> Result<(), Fail> {
     for row in table.split("\n\n") {
         let (input, wanted) = row.split_once("\n= ").unwrap_or((row, "no outcome"));
         let bytes = module_of(alloc, input)?;
-        has_outcome(rt, alloc, &bytes, wanted);
+        has_outcome(alloc, &bytes, wanted)?;
     }
     Ok(())
 }
@@ -162,7 +157,7 @@ A0 01 00 00 00 00
 8C 01 78 00
 9C C4 00 56 01
 = 15 at 33";
-    hold(&rt, rt.alloc(), rows)
+    hold(rt.alloc(), rows)
 }
 
 #[test]
@@ -191,7 +186,7 @@ raw 96 02 00 00 00
 
 raw 80 03 00 01 41 00 8A 02 00 00 74 FF
 = read to 11";
-    hold(&rt, rt.alloc(), rows)
+    hold(rt.alloc(), rows)
 }
 
 /// The only segment of a module, its only data record and its start.
@@ -211,10 +206,9 @@ fn first_program(rt: HostRuntime) -> Result<(), Fail> {
 80 03 00 01 41 3B 96 07 00 00 04 43 4F 44 45 44 98 07 00 28 05 00 02 01 01 30 A0 09 00 01 00 00 B8 00 00 8E D8 38 \
 9C 06 00 C8 01 04 01 01 8F 8A 07 00 C1 00 01 01 00 00 AC",
     )?;
-    has_outcome(&rt, rt.alloc(), &bytes, "read to 57");
-    is_told(&rt, &outcome(rt.alloc(), &bytes, 1, Some(30))?, "1 at 26");
-    is_told(
-        &rt,
+    has_outcome(rt.alloc(), &bytes, "read to 57")?;
+    same(&outcome(rt.alloc(), &bytes, 1, Some(30))?, "1 at 26")?;
+    same(
         &described(rt.alloc(), &bytes, true)?,
         "\
 Segment { name: [67, 79, 68, 69], class: [], length: 5, standing: Relocatable { alignment: 1, kind: Public } }
@@ -222,8 +216,7 @@ DataRecord { place: 26, segment: 0, offset: 0, bytes: [184, 0, 0, 142, 216], pla
 [ResolvedFixup { place: 38, self_relative: false, location: Base, offset: 1, frame: By(Segment(1)), \
 target: Segment(1), displacement: 0 }] }
 Some(Start { place: 47, frame: By(Segment(1)), target: Segment(1), displacement: 0 })",
-    );
-    Ok(())
+    )
 }
 
 #[test]
@@ -253,22 +246,20 @@ FF FF 01 00 FF FF 01 00 FF FF 01 00 FF FF 01 00 FF FF 01 00 FF FF 01 00 FF FF 01
 98 28 01 00 02 01 01
 A2 01 00 00 01 00 02 00 01 00 00 00 01 41 FF FF 01 00 FF FF 01 00 FF FF 00 00 00
 = read to 61";
-    hold(&rt, rt.alloc(), rows)?;
+    hold(rt.alloc(), rows)?;
     let great = module_of(
         rt.alloc(),
         "\
 98 28 01 00 02 01 01
 A2 01 00 00 01 00 02 00 01 00 00 00 01 41 FF FF 01 00 FF FF 01 00 FF FF 00 00 00",
     )?;
-    is_told(
-        &rt,
+    same(
         &described(rt.alloc(), &great, true)?,
         "\
 Segment { name: [67, 79, 68, 69], class: [], length: 1, standing: Relocatable { alignment: 1, kind: Public } }
 DataRecord { place: 26, segment: 0, offset: 0, bytes: [65], places: [9], fixups: [] }
 None",
-    );
-    Ok(())
+    )
 }
 
 #[test]
@@ -279,7 +270,7 @@ fn start_at_its_location(rt: HostRuntime) -> Result<(), Fail> {
 98 28 05 00 01 01 01
 8A C1 44 01
 = 20 at 21";
-    hold(&rt, rt.alloc(), rows)
+    hold(rt.alloc(), rows)
 }
 
 fn push_segments(told: &mut String, module: &Module) -> Result<(), AllocError> {
@@ -351,8 +342,7 @@ fn lists_are_handed_out_in_order(rt: HostRuntime) -> Result<(), Fail> {
 A0 02 03 00 05
 A0 01 00 00 06",
     )?;
-    is_told(
-        &rt,
+    same(
         &described(rt.alloc(), &bytes, false)?,
         "\
 Segment { name: [67, 79, 68, 69], class: [], length: 2, standing: Relocatable { alignment: 1, kind: Public } }
@@ -366,6 +356,5 @@ PublicSymbol { name: [98], base: InSegment { group: 0, segment: 1 }, offset: 2, 
 DataRecord { place: 79, segment: 1, offset: 3, bytes: [5], places: [0], fixups: [] }
 DataRecord { place: 87, segment: 0, offset: 0, bytes: [6], places: [0], fixups: [] }
 ",
-    );
-    Ok(())
+    )
 }

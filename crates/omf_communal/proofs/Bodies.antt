@@ -1,11 +1,9 @@
 -- The canonical bodies of the records of the module, and that each fits a frame.
-use Rattle.std.proofs.Common.{◌≡◌, ℕ, suc, ◌+◌, ◌/◌, ◌%◌, ◌<◌, ◌≤◌, Bool, true, false, cond, eqb, inl, inr, List, []}
-use Rattle.std.proofs.Common.{◌∷◌, ◌++◌, length, get_or, None, refl, sym, ap, subst, arith, ltb, length-append, lit<}
-use Rattle.std.proofs.Common.{lit≤}
+use Rattle.std.proofs.Common.{◌≡◌, ℕ, ◌+◌, ◌<◌, ◌≤◌, Bool, true, false, cond, eqb, List, [], ◌∷◌, ◌++◌, length, refl}
+use Rattle.std.proofs.Common.{arith, length-append, lit<, lit≤}
 use Rattle.std.specs.Prelude.{codes}
-use Rattle.std.proofs.lemmas.Bool.{eqb-false, ltb-true}
-use Rattle.std.specs.List.{AllByRecursion, flat_map}
-use Rattle.omf_record.specs.Language.{IsBytes, Joined, each, Index, Name, One}
+use Rattle.std.proofs.lemmas.Bool.{eqb-false}
+use Rattle.std.specs.List.{flat_map}
 use Rattle.omf_record.specs.declared.segments.SegmentDefinition.{SegmentDefinition}
 use Rattle.omf_record.specs.declared.segments.SegmentLength.{SegmentLength}
 use Rattle.omf_record.specs.declared.externals.PublicBase.{PublicBase}
@@ -13,40 +11,18 @@ use Rattle.omf_record.specs.declared.externals.PublicBase.TheVariants.{AtFrame, 
 use Rattle.omf_record.specs.declared.segments.Alignment.TheVariants as align
 use Rattle.omf_record.specs.declared.segments.Combination.TheVariants as combine
 use Rattle.omf_record.specs.declared.segments.SegmentLength.TheVariants as len
-use Rattle.omf_record.specs.Record.{Grpdef, Lnames, Modend, Segdef, Pubdef, Public, Theadr}
-use Rattle.omf_record.specs.Body.{Body, AbsoluteText, Acbp, BaseText, LengthText}
-use Rattle.omf_record.specs.inside.Fields.{ComponentText, PublicText, SegmentText}
+use Rattle.omf_record.specs.Record.{Grpdef, Segdef, Pubdef, Public, Theadr}
+use Rattle.omf_record.specs.Body.{Body, BaseText}
+use Rattle.omf_record.specs.inside.Fields.{ComponentText, PublicText}
 use Rattle.omf_record.specs.Canonical as canon
 use Rattle.omf_record.specs.Canonical.{FitsFrame, canonical}
+use Rattle.omf_write.specs.inside.Fits.{IsName}
+use Rattle.omf_write.proofs.Bodies.{each_text, header_fits, index_len, index_text, joined, name_text, names_fit}
+use Rattle.omf_write.proofs.Bodies.{segment_by}
 use Rattle.omf_communal.specs.declared.places.Before.{Before}
-use Rattle.omf_communal.specs.inside.Planned.{IsBase, IsName}
+use Rattle.omf_communal.specs.inside.Planned.{IsBase}
 use Rattle.omf_communal.specs.Records.{dgroup, far_definition, far_names, length_of, near_definition, near_name}
 use Rattle.omf_communal.specs.Records.{near_names}
-
-joined : {L M : List ℕ → Type 0} (a b : List ℕ) → L a → M b → Joined L M (a ++ b)
-joined a b l m = record { front = a; rest = b; parts = refl; first = l; second = m }
-
--- an index in its shortest form is one
-index_text : (n : ℕ) → n ≤ 32767 → Index n (canon.index n)
-index_text n h =
-    (elim (ltb n 128) as (λ b. ltb n 128 ≡ b → Index n (canon.index n)) [
-      | true ↦ λ e. let small : n ≤ 127 = omega (arith, ltb-true _ _ e) in rw e (inl (small, refl))
-      | false ↦ λ e. rw e (inr (h, refl))
-    ]) refl
-
-index_len : (n : ℕ) → length (canon.index n) ≤ 2
-index_len n = elim (ltb n 128) as (λ b. length (cond b (n ∷ []) ((128 + n / 256) ∷ n % 256 ∷ [])) ≤ 2) [
-  | true ↦ lit≤ tt
-  | false ↦ lit≤ tt
-]
-
-name_text : (n : List ℕ) → IsName n → Name n (canon.name n)
-name_text n h = (h.0, h.1, refl)
-
-each_text : {A : Type 0} (L : A → List ℕ → Type 0) (f : A → List ℕ) (xs : List A) → AllByRecursion (λ x. L x (f x)) xs
-    → each L xs (flat_map f xs)
-each_text L f [] h = refl
-each_text L f (x ∷ xs) h = joined (f x) (flat_map f xs) h.0 (each_text L f xs h.1)
 
 -- ---- names
 
@@ -67,37 +43,14 @@ far_name = (lit≤ tt, (lit< tt, (lit< tt, (lit< tt, (lit< tt, (lit< tt, (lit< t
 header_name : IsName (codes "communal")
 header_name = (lit≤ tt, (lit< tt, (lit< tt, (lit< tt, (lit< tt, (lit< tt, (lit< tt, (lit< tt, (lit< tt, tt)))))))))
 
-pub names_fit : (a b : List ℕ) → IsName a → IsName b → FitsFrame (Lnames (a ∷ b ∷ []))
-unfolding Body canonical
-names_fit a b h k = record {
-  body = each_text Name canon.name (a ∷ b ∷ []) (name_text a h, (name_text b k, tt));
-  short =
-      omega (
-        arith,
-        h.0,
-        k.0,
-        length-append (canon.name a) (flat_map canon.name (b ∷ [])),
-        length-append (canon.name b) [],
-      );
-}
+pub own_header_fits : FitsFrame (Theadr (codes "communal"))
+own_header_fits = header_fits (codes "communal") header_name
 
 pub near_names_fit : (in_bss : Bool) → FitsFrame (near_names in_bss)
 near_names_fit in_bss = names_fit dgroup (near_name in_bss) dgroup_name (is_near_name in_bss)
 
 pub far_names_fit : FitsFrame far_names
 far_names_fit = names_fit (codes "BSS") (codes "FAR_BSS") bss_name far_name
-
-pub IsBytes-from : (bytes : List ℕ) → ((i : ℕ) → get_or bytes i 0 < 256) → IsBytes bytes
-IsBytes-from [] h = tt
-IsBytes-from (b ∷ bytes) h = (h 0, IsBytes-from bytes (λ i. h (suc i)))
-
-pub header_fits : FitsFrame (Theadr (codes "communal"))
-unfolding Body canonical
-header_fits = record { body = name_text (codes "communal") header_name; short = lit≤ tt }
-
-pub end_fits : FitsFrame (Modend false None)
-unfolding Body canonical
-end_fits = record { body = (0, lit< tt, refl, refl); short = lit≤ tt }
 
 pub group_fits : (name segment : ℕ) → name ≤ 32767 → segment ≤ 32767 → FitsFrame (Grpdef name (segment ∷ []))
 unfolding Body canonical
@@ -117,34 +70,6 @@ group_fits name segment n s = record {
 }
 
 -- ---- SEGDEF
-
-segment_by : (s : SegmentDefinition) → One (Acbp s) (canon.acbp s ∷ []) → AbsoluteText s.alignment [] →
-    canon.absolute_text s.alignment ≡ [] →
-    LengthText s.length (canon.word (canon.length_word s.length)) → s.name ≤ 32767 → s.class ≤ 32767 →
-    s.overlay ≤ 32767 → FitsFrame (Segdef s)
-unfolding Body canonical
-segment_by s head absolute none len name class overlay =
-    let tail = canon.index s.name ++ (canon.index s.class ++ canon.index s.overlay) in
-    let w = canon.word (canon.length_word s.length) in
-    let is : canon.segment s ≡ (canon.acbp s ∷ []) ++ ([] ++ (w ++ tail)) = rw none refl in
-    let text : SegmentText s ((canon.acbp s ∷ []) ++ ([] ++ (w ++ tail))) =
-    joined _ _ head
-    (joined _ _ absolute
-    (joined _ _ len
-    (joined _ _ (index_text s.name name) (joined _ _ (index_text s.class class) (index_text s.overlay overlay))))) in
-    record {
-      body = subst (SegmentText s) (sym is) text;
-      short = let l = ap length is in
-          omega (
-            arith,
-            l,
-            length-append (canon.index s.name) (canon.index s.class ++ canon.index s.overlay),
-            length-append (canon.index s.class) (canon.index s.overlay),
-            index_len s.name,
-            index_len s.class,
-            index_len s.overlay,
-          );
-    }
 
 below : (n : ℕ) → n ≤ 65536 → eqb n 65536 ≡ false → n < 65536
 below n h e = let other = eqb-false n 65536 e in omega (arith, other)

@@ -42,6 +42,9 @@ use Rattle.omf_module.specs.Tables.{externals_in, frame_thread, module_of, subre
 use Rattle.omf_module.specs.Tables.{data_record, fixup_in, fixups_in, start_of, target_thread, used}
 use Rattle.omf_module.proofs.Lists.{along_from_append, along_push, flat_map_push}
 use Rattle.omf_module.proofs.Growing.{last_option}
+use Rattle.omf_write.specs.Records.{record_bytes, records_bytes}
+use Rattle.omf_write.proofs.Clean.{All-append, Clean, are_bodies, are_frames, both_false, clean_by, clean_first}
+use Rattle.omf_write.proofs.Clean.{found_at, groups-push, names-push, not_below, place_all, segments-push}
 use Rattle.omf_communal.specs.declared.places.Before.{Before}
 use Rattle.omf_communal.specs.declared.fault.PlanFault.{PlanFault}
 use Rattle.omf_communal.specs.Deciding.{Variable}
@@ -51,12 +54,10 @@ use Rattle.omf_communal.specs.Extended.{near_segments, start_said}
 use Rattle.omf_communal.specs.Locals.{before_in, end_place, inserted, local_module, with_variables}
 use Rattle.omf_communal.specs.Plan.{Place, Plan, plan}
 use Rattle.omf_communal.specs.Records.{dgroup, far_names, far_record, length_of, near_definition, near_name, near_names}
-use Rattle.omf_communal.specs.Records.{near_records, place_record, placed_records, record_bytes, records_bytes}
+use Rattle.omf_communal.specs.Records.{near_records, place_record, placed_records}
 use Rattle.omf_communal.specs.Records.{variable_records}
 use Rattle.omf_communal.specs.Whole.{IsNamed}
-use Rattle.omf_communal.proofs.Clean.{All-append, Clean, Ready, are_bodies, are_frames, both_false, clean_by}
-use Rattle.omf_communal.proofs.Clean.{clean_first}
-use Rattle.omf_communal.proofs.Clean.{found_at, groups-push, names-push, not_below, place_all, segments-push}
+use Rattle.omf_communal.proofs.Ready.{Ready}
 use Rattle.omf_communal.proofs.Fitting.{Fits, or-parts, plan_fits}
 use Rattle.omf_communal.proofs.Counting.{counts, end-of, frames-of}
 use Rattle.omf_communal.proofs.Sound.{clean_variables, fit_all, open_all}

@@ -10,7 +10,7 @@ use Rattle.std.specs.declared.result.Result.{Result}
 use Rattle.std.specs.List.{AllByRecursion, range_with_len}
 use Rattle.omf_library.specs.Members.{joined}
 use Rattle.omf_library.specs.Records.{result_and_then}
-use Rattle.omf_communal.specs.inside.Planned.{IsName}
+use Rattle.omf_write.specs.inside.Fits.{IsName}
 use Rattle.omf_communal.specs.declared.declarations.Extent.{Extent}
 use Rattle.omf_communal.specs.declared.declarations.Extent.TheVariants.{Near, Far}
 use Rattle.omf_communal.specs.declared.fault.PlanFault.{PlanFault}

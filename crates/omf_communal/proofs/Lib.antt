@@ -10,7 +10,7 @@ pub mod Putting
 pub mod Walking
 pub mod Searching
 pub mod Fitting
-pub mod Clean
+pub mod Ready
 pub mod Sound
 pub mod Counting
 pub mod Extending

@@ -1,19 +1,9 @@
 -- The bytes of records, written one after the other.
 use Rattle.std.proofs.Common.{◌≡◌, ℕ, ◌+◌, ◌<◌, List, [], ◌∷◌, ◌++◌, length, map, take, get_or, ap, sym, ◌∙◌}
-use Rattle.std.proofs.Common.{append_assoc, append-nil}
-use Rattle.std.proofs.lemmas.Grind.{flat_map-append}
 use Rattle.std.proofs.lemmas.List.{map-append, take_more}
 use Rattle.omf_record.specs.Record.{Record}
-use Rattle.omf_communal.specs.Records.{record_bytes, records_bytes}
-
--- one record more
-pub bytes-one : (out : List ℕ) (rs : List Record) (a : Record)
-    → (out ++ records_bytes rs) ++ record_bytes a ≡ out ++ records_bytes (rs ++ a ∷ [])
-bytes-one out rs a =
-    append_assoc out (records_bytes rs) (record_bytes a)
-    ∙ ap (λ t. out ++ t)
-    (ap (λ t. records_bytes rs ++ t) (sym (append-nil (record_bytes a)))
-    ∙ sym (flat_map-append record_bytes rs (a ∷ [])))
+use Rattle.omf_write.specs.Records.{record_bytes, records_bytes}
+use Rattle.omf_write.proofs.Putting.{bytes-one}
 
 -- that of one more of what has records
 pub put-turn : {C X : Type 0} (view : C → X) (f : X → Record) (xs : List C) (i : ℕ) (c : C) (front one two : List ℕ) →

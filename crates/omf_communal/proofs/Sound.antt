@@ -14,17 +14,19 @@ use Rattle.omf_module.specs.Bytes.{ModuleBytes}
 use Rattle.omf_module.specs.Faults.{component_fault, fault, is_absolute, is_beyond, when, ◌⊓◌}
 use Rattle.omf_module.specs.Tables.{groups, names, segments}
 use Rattle.omf_module.specs.inside.Entries.{segment_of}
-use Rattle.omf_communal.proofs.Clean.{All-append, Clean, Ready, are_bodies, are_frames, both_false, clean_by, clean_end}
-use Rattle.omf_communal.proofs.Clean.{clean_first, component_last, ended, nones, not_below, place_all, ready-as}
-use Rattle.omf_communal.proofs.Clean.{ready-more, segments-push}
+use Rattle.omf_write.specs.Records.{record_bytes}
+use Rattle.omf_write.proofs.Bodies.{end_fits}
+use Rattle.omf_write.proofs.Clean.{All-append, Clean, are_bodies, are_frames, both_false, clean_by, clean_end}
+use Rattle.omf_write.proofs.Clean.{clean_first, ended, nones, not_below, place_all, segments-push}
 use Rattle.omf_communal.specs.declared.places.Before.{Before}
 use Rattle.omf_communal.specs.Plan.{Place, Plan, nothing_before}
 use Rattle.omf_communal.specs.Records.{far_record, module_bytes, far_names, near_definition, near_names}
-use Rattle.omf_communal.specs.Records.{near_records, place_record, placed_records, record_bytes, records}
+use Rattle.omf_communal.specs.Records.{near_records, place_record, placed_records, records}
 use Rattle.omf_communal.specs.Records.{variable_records}
 use Rattle.omf_communal.specs.Whole.{AreWhole}
-use Rattle.omf_communal.proofs.Bodies.{end_fits, far_fits, group_fits, header_fits, far_names_fit, near_fits}
-use Rattle.omf_communal.proofs.Bodies.{near_names_fit, public_fits}
+use Rattle.omf_communal.proofs.Bodies.{far_fits, far_names_fit, group_fits, near_fits, near_names_fit}
+use Rattle.omf_communal.proofs.Bodies.{own_header_fits, public_fits}
+use Rattle.omf_communal.proofs.Ready.{Ready, component_last, ready-as, ready-more}
 use Rattle.omf_communal.proofs.Fitting.{Fits, FitsPlace, count_of, groups_with, plan_fits, segments_with}
 
 -- ---- none of them ends a module
@@ -260,7 +262,7 @@ module_sound : (in_bss : Bool) (p : Plan) → Fits nothing_before p → length (
     → ModuleBytes (place_all 0 (records in_bss p)) (module_bytes in_bss p)
 module_sound in_bss p f short =
     let fits : AllByRecursion FitsFrame (records in_bss p) = (
-      header_fits,
+      own_header_fits,
       All-append FitsFrame (variable_records false in_bss nothing_before p) (Modend false None ∷ [])
           (fit_all false in_bss nothing_before p f) (end_fits, tt),
     ) in

@@ -12,13 +12,14 @@ use Rattle.omf_library.specs.Listed.{listed_in}
 use Rattle.omf_library.specs.Names.{public_names}
 use Rattle.omf_library.specs.Records.{ends_module, module_records, result_and_then}
 use Rattle.omf_place.specs.declared.names.Names.{Names}
+use Rattle.omf_write.specs.Records.{records_bytes}
 use Rattle.omf_communal.specs.declared.fault.ClashFault.{ClashFault}
 use Rattle.omf_communal.specs.declared.fault.PlanFault.{PlanFault}
 use Rattle.omf_communal.specs.declared.places.Before.{Before}
 use Rattle.omf_communal.specs.Deciding.{Variable, variables}
 use Rattle.omf_communal.specs.Plan.{plan}
 use Rattle.omf_communal.specs.Reading.{Communal}
-use Rattle.omf_communal.specs.Records.{records_bytes, variable_records}
+use Rattle.omf_communal.specs.Records.{variable_records}
 
 -- ---- the variables
 

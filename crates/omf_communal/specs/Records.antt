@@ -1,8 +1,6 @@
 -- The records of variables (TIS OMF 1.1, the section of each), and the bytes of the module that has those of a program.
 use Rattle.std.specs.Prelude.{ℕ, ◌+◌, ◌==◌, Bool, false, List, [], ◌∷◌, ◌++◌, map, if◌then◌else◌, Option, None}
 use Rattle.std.specs.Prelude.{Some, codes}
-use Rattle.std.specs.List.{flat_map}
-use Rattle.omf_frame.specs.Frame.{frame}
 use Rattle.omf_record.specs.declared.segments.SegmentLength.{SegmentLength}
 use Rattle.omf_record.specs.declared.segments.SegmentDefinition.{SegmentDefinition}
 use Rattle.omf_record.specs.declared.externals.PublicBase.TheVariants.{InSegment}
@@ -10,8 +8,7 @@ use Rattle.omf_record.specs.declared.segments.Alignment.TheVariants as align
 use Rattle.omf_record.specs.declared.segments.Combination.TheVariants as combine
 use Rattle.omf_record.specs.declared.segments.SegmentLength.TheVariants as len
 use Rattle.omf_record.specs.Record.{Record, Theadr, Lnames, Segdef, Grpdef, Pubdef, Modend}
-use Rattle.omf_record.specs.Body.{kind_of}
-use Rattle.omf_record.specs.Canonical.{canonical}
+use Rattle.omf_write.specs.Records.{records_bytes}
 use Rattle.omf_communal.specs.declared.places.Before.{Before}
 use Rattle.omf_communal.specs.Plan.{Place, Plan, nothing_before}
 
@@ -84,14 +81,6 @@ variable_records local in_bss before p = near_names in_bss ∷ far_names ∷ pla
 abbrev pub records : (in_bss : Bool) → Plan → List Record
 records in_bss p =
     Theadr (codes "communal") ∷ (variable_records false in_bss nothing_before p ++ Modend false None ∷ [])
-
--- a record as a frame, with its canonical body
-abbrev pub record_bytes : Record → List ℕ
-record_bytes r = frame (kind_of r) (canonical r)
-
--- records, one after the other
-abbrev pub records_bytes : List Record → List ℕ
-records_bytes rs = flat_map record_bytes rs
 
 -- the module
 abbrev pub module_bytes : (in_bss : Bool) → Plan → List ℕ

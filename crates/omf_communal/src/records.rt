@@ -2,42 +2,19 @@
 
 ghost use Rattle.std.specs.Prelude.{◌≡◌, ◌++◌, ◌≤◌, [], ◌∷◌, Some, OnOk, if◌then◌else◌, length, map};
 ghost use Rattle.std.specs.Option.{option_map};
-ghost use Rattle.omf_communal.specs.Records.{record_bytes, records_bytes};
-ghost use Rattle.omf_record.specs.Body.{kind_of};
-ghost use Rattle.omf_record.specs.Canonical.{FitsFrame};
-ghost use Rattle.omf_record.specs.Record.{Lnames, Pubdef};
+ghost use Rattle.omf_record.specs.Record.{Pubdef};
 ghost use Rattle.omf_record.specs.View.{view};
+ghost use Rattle.omf_write.specs.Records.{record_bytes, records_bytes};
 ghost use Rattle.omf_communal.specs.Records as records;
 ghost use Rattle.omf_communal.specs.inside.Planned.{parts_said, places_said, plan_said, room_said, IsBase};
 
 use crate::places::{Part, Place, Room};
 use crate::planning::{Plan, whole_room};
-use omf_frame::closing;
 use omf_record::{
     Alignment, Combination, Public, PublicBase, Record, SegmentDefinition, SegmentLength,
-    encode_record,
 };
+use omf_write::{put_end, put_header, put_names, put_record};
 use std::alloc::{AllocError, Allocator};
-
-/// Appends a record as a frame.
-fn put_record<A: Allocator + Copy>(
-    alloc: A,
-    kind: u8,
-    record: &Record<'_, A>,
-    out: &mut Vec<u8, A>,
-) -> Result<(), AllocError>
-    requires kind { kind ≡ kind_of (view «record».now) }
-    requires fits { FitsFrame (view «record».now) }
-    ensures { OnOk result (out.new.items ≡ out.old.items ++ record_bytes (view «record».now)) }
-{
-    let mut body = Vec::new(alloc);
-    encode_record(record, &mut body)?;
-    let length = body.len() + 1;
-    out.extend_from_slice(&[kind, (length % 256) as u8, (length / 256) as u8])?;
-    out.extend_from_slice(&body)?;
-    out.push(closing(kind, &body))?;
-    Ok(())
-}
 
 /// How a SEGDEF says the length of a segment.
 fn length_of(part: &Part) -> SegmentLength
@@ -182,25 +159,6 @@ fn near_name(in_bss: bool) -> &'static [u8]
     if in_bss { b"_BSS" } else { b"c_common" }
 }
 
-/// Appends LNAMES with two names.
-#[tactic(auto, unfolding(omf_record::specs::View::view))]
-fn put_names<A: Allocator + Copy>(
-    alloc: A,
-    one: &[u8],
-    other: &[u8],
-    out: &mut Vec<u8, A>,
-) -> Result<(), AllocError>
-    requires one { length one.now ≤ 255 }
-    requires other { length other.now ≤ 255 }
-    ensures { OnOk result
-        (out.new.items ≡ out.old.items ++ record_bytes (Lnames (one.now ∷ other.now ∷ []))) }
-{
-    let mut names = Vec::new(alloc);
-    names.push(one)?;
-    names.push(other)?;
-    put_record(alloc, 0x96, &Record::Lnames { names }, out)
-}
-
 /// Appends the near segment and its group, if there is one.
 fn put_nears<A: Allocator + Copy>(
     alloc: A,
@@ -251,7 +209,6 @@ pub(crate) fn put_variables<A: Allocator + Copy>(
 }
 
 /// Appends the records of the module that has the variables of a program.
-#[tactic(auto, unfolding(omf_record::specs::View::view))]
 pub(crate) fn put_module<A: Allocator + Copy>(
     alloc: A,
     in_bss: bool,
@@ -260,11 +217,7 @@ pub(crate) fn put_module<A: Allocator + Copy>(
 ) -> Result<(), AllocError>
     ensures { OnOk result (out.new.items ≡ out.old.items ++ records.module_bytes in_bss (plan_said plan.now)) }
 {
-    put_record(alloc, 0x80, &Record::Theadr { name: b"communal" }, out)?;
+    put_header(alloc, b"communal", out)?;
     put_variables(alloc, false, in_bss, whole_room(), plan, out)?;
-    let end = Record::Modend {
-        main: false,
-        start: None,
-    };
-    put_record(alloc, 0x8A, &end, out)
+    put_end(alloc, out)
 }

@@ -113,14 +113,14 @@ pub record Ready (n s g : ℕ) (before : List Placed) : Type 0 where
   pub group_count : length (groups before) ≡ g
   pub relocatable : AllByRecursion (λ (x : Segment). is_absolute x.standing ≡ false) (segments before)
 
-names-push : (before : List Placed) (x : Placed) → names (before ++ x ∷ []) ≡ names before ++ names_in x.says
+pub names-push : (before : List Placed) (x : Placed) → names (before ++ x ∷ []) ≡ names before ++ names_in x.says
 names-push before x = flat_map_push (λ (placed : Placed). names_in placed.says) before x
 
-segments-push : (before : List Placed) (x : Placed)
+pub segments-push : (before : List Placed) (x : Placed)
     → segments (before ++ x ∷ []) ≡ segments before ++ segments_in (names before) x.says
 segments-push before x = along_push (λ front (placed : Placed). segments_in (names front) placed.says) before x
 
-groups-push : (before : List Placed) (x : Placed)
+pub groups-push : (before : List Placed) (x : Placed)
     → groups (before ++ x ∷ []) ≡ groups before ++ groups_in (names before) x.says
 groups-push before x = along_push (λ front (placed : Placed). groups_in (names front) placed.says) before x
 

@@ -9,7 +9,6 @@ use std::test::*;
 #[test]
 fn meeting(rt: HostRuntime) -> Result<(), Fail> {
     run(
-        &rt,
         rt.alloc(),
         Order::Meeting,
         Names::Exact,
@@ -25,7 +24,7 @@ fn meeting(rt: HostRuntime) -> Result<(), Fail> {
 98 74 10 00 05 06 01
 9A 04 FF 01 FF 02
 8C 06 5F 65 64 61 74 61 00 04 5F 65 6E 64 00
-= A.BSS 2 public; S.STACK 16 stack; DGROUP 0 1; _edata 0 of 0; _end 1 of 0;
+= A.BSS 2 Public 0; S.STACK 16 Stack 0; DGROUP 0 1; _edata 0:0 of 0; _end 1:0 of 0;
 
 # the same, but a module defines _end
 80 01 41
@@ -36,7 +35,7 @@ fn meeting(rt: HostRuntime) -> Result<(), Fail> {
 8C 06 5F 65 64 61 74 61 00 04 5F 65 6E 64 00
 --
 90 00 00 01 00 04 5F 65 6E 64 00 00 00
-= A.BSS 2 public; S.STACK 16 stack; DGROUP 0; _edata 0 of 0;
+= A.BSS 2 Public 0; S.STACK 16 Stack 0; DGROUP 0; _edata 0:0 of 0;
 
 # a local name is neither wanted nor defined
 80 01 41
@@ -51,7 +50,7 @@ B4 06 5F 65 64 61 74 61 00
 98 48 02 00 02 03 01
 98 48 02 00 04 04 01
 8C 05 5F 5F 65 6E 64 00
-= A.BSS 2 public; _END._END 1 private; CODE.CODE 2 public; _BSS.BSS 1 private; DGROUP 1; __end 1 of 0;
+= A.BSS 2 Public 0; _END._END 1 Private 0; CODE.CODE 2 Public 0; _BSS.BSS 1 Private 0; DGROUP 1; __end 1:0 of 0;
 
 # another case of letters is another name
 80 01 41
@@ -66,7 +65,6 @@ B4 06 5F 65 64 61 74 61 00
 #[test]
 fn folded(rt: HostRuntime) -> Result<(), Fail> {
     run(
-        &rt,
         rt.alloc(),
         Order::Meeting,
         Names::AsciiFolded,
@@ -75,7 +73,7 @@ fn folded(rt: HostRuntime) -> Result<(), Fail> {
 96 00 01 41 03 42 53 53
 98 48 02 00 02 03 01
 8C 04 5F 45 4E 44 00
-= A.BSS 2 public; _END._END 1 private; _BSS.BSS 1 private; DGROUP 1; _end 1 of 0;",
+= A.BSS 2 Public 0; _END._END 1 Private 0; _BSS.BSS 1 Private 0; DGROUP 1; _end 1:0 of 0;",
     )
 }
 
@@ -83,7 +81,6 @@ fn folded(rt: HostRuntime) -> Result<(), Fail> {
 #[test]
 fn dosseg(rt: HostRuntime) -> Result<(), Fail> {
     run(
-        &rt,
         rt.alloc(),
         Order::Dosseg,
         Names::Exact,
@@ -103,7 +100,8 @@ fn dosseg(rt: HostRuntime) -> Result<(), Fail> {
 98 28 02 00 0D 0E 01
 98 40 02 00 0F 10 01
 9A 02 FF 01 FF 02 FF 03 FF 04
-= T.MYCODE 1 public; C.CODE 1 private; F.FAR_DATA 1 private; N.BEGDATA 16 public; D.DATA 4 public; B.BSS 2 public; S.STACK 16 stack;",
+= T.MYCODE 1 Public 0; C.CODE 1 Private 0; F.FAR_DATA 1 Private 0; \
+N.BEGDATA 16 Public 0; D.DATA 4 Public 0; B.BSS 2 Public 0; S.STACK 16 Stack 0;",
     )
 }
 
@@ -119,7 +117,6 @@ fn listed(rt: HostRuntime) -> Result<(), Fail> {
         Item::Class(b"STACK"),
     ];
     run(
-        &rt,
         rt.alloc(),
         Order::Listed(&items),
         Names::Exact,
@@ -133,7 +130,7 @@ fn listed(rt: HostRuntime) -> Result<(), Fail> {
 98 48 02 00 05 04 01
 98 48 02 00 07 08 01
 98 48 02 00 09 0A 01
-= B.BSS 2 public; Y.DATA 2 public; X.DATA 2 public; Z.DATA 2 public; S.STACK 16 stack; Q.OTHER 2 public;",
+= B.BSS 2 Public 0; Y.DATA 2 Public 0; X.DATA 2 Public 0; Z.DATA 2 Public 0; S.STACK 16 Stack 0; Q.OTHER 2 Public 0;",
     )
 }
 
@@ -155,12 +152,12 @@ const THREE: &str = "\
 #[test]
 fn placed_as_met(rt: HostRuntime) -> Result<(), Fail> {
     let row = format!(in rt.alloc(); "{THREE}= _edata 4; b 4; d 9;")?;
-    place_all(&rt, rt.alloc(), Order::Meeting, &row)
+    place_all(rt.alloc(), Order::Meeting, &row)
 }
 
 /// Class BSS stands behind class DATA.
 #[test]
 fn placed_as_dosseg(rt: HostRuntime) -> Result<(), Fail> {
     let row = format!(in rt.alloc(); "{THREE}= _edata 4; b 4; d 3;")?;
-    place_all(&rt, rt.alloc(), Order::Dosseg, &row)
+    place_all(rt.alloc(), Order::Dosseg, &row)
 }

@@ -6,14 +6,13 @@ use std::test::*;
 
 #[test]
 fn no_modules(rt: HostRuntime) -> Result<(), Fail> {
-    expect(&rt, rt.alloc(), Names::Exact, &[], "size 0:;;")
+    expect(rt.alloc(), Names::Exact, &[], "size 0:;;")
 }
 
 /// Modules that have a layout, and what it says.
 #[test]
 fn layouts(rt: HostRuntime) -> Result<(), Fail> {
     run(
-        &rt,
         rt.alloc(),
         Names::Exact,
         "\
@@ -124,7 +123,7 @@ A0 01 00 00 34 12
 
 #[test]
 fn two_modules(rt: HostRuntime) -> Result<(), Fail> {
-    run(&rt, rt.alloc(), Names::Exact, TWO)
+    run(rt.alloc(), Names::Exact, TWO)
 }
 
 /// A stack that is one byte too long, a group that is, each alone and with two publics of one name; and these alone.
@@ -157,14 +156,13 @@ pub const AT_FAULT: &str = "\
 
 #[test]
 fn faults(rt: HostRuntime) -> Result<(), Fail> {
-    run(&rt, rt.alloc(), Names::Exact, AT_FAULT)
+    run(rt.alloc(), Names::Exact, AT_FAULT)
 }
 
 /// Fifteen private segments of 65,536 bytes, and more.
 #[test]
 fn large_programs(rt: HostRuntime) -> Result<(), Fail> {
     run(
-        &rt,
         rt.alloc(),
         Names::Exact,
         "\
@@ -208,7 +206,6 @@ fn large_programs(rt: HostRuntime) -> Result<(), Fail> {
 #[test]
 fn segments_agree_exactly(rt: HostRuntime) -> Result<(), Fail> {
     run(
-        &rt,
         rt.alloc(),
         Names::AsciiFolded,
         "\

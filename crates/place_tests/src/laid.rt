@@ -6,9 +6,8 @@ ghost use Rattle.omf_place.specs.Layout.{places_of};
 
 use omf_module::Module;
 use omf_place::{Combined, GroupPlace, Layout, Names, PlaceFault, Position, place};
-use rows::{read_modules, read_row};
+use rows::{push_text, read_modules, read_row, same};
 use std::alloc::{AllocError, Allocator, Global};
-use std::process::Abort;
 use std::test::*;
 
 /// Appends an address and a frame. What is absolute has a `=`.
@@ -148,9 +147,7 @@ pub fn describe_fault<A: Allocator + Copy>(
         | PlaceFault::GroupTooLong { name }
         | PlaceFault::DuplicatePublic { name } => {
             text.push(' ')?;
-            for byte in &name {
-                text.push(char::from(*byte))?;
-            }
+            push_text(&mut text, &name)?;
         }
         PlaceFault::Memory | PlaceFault::ProgramTooLarge => {}
     }
@@ -183,29 +180,17 @@ pub fn outcome<A: Allocator + Copy>(
     }
 }
 
-/// What is said is what is wanted.
-pub fn same<R: Abort>(rt: &R, said: &str, wanted: &str) {
-    assert_eq!(rt; said, wanted);
-}
-
 /// This is said of inputs.
-pub fn expect<R: Abort>(
-    rt: &R,
-    alloc: Global,
-    names: Names,
-    inputs: &[Vec<u8>],
-    wanted: &str,
-) -> Result<(), Fail> {
+pub fn expect(alloc: Global, names: Names, inputs: &[Vec<u8>], wanted: &str) -> Result<(), Fail> {
     let said = outcome(alloc, alloc, names, inputs)?;
-    same(rt, said.as_str(), wanted);
-    Ok(())
+    same(said.as_str(), wanted)
 }
 
 /// The inputs of each row of a table give what is wanted of them.
-pub fn run<R: Abort>(rt: &R, alloc: Global, names: Names, table: &str) -> Result<(), Fail> {
+pub fn run(alloc: Global, names: Names, table: &str) -> Result<(), Fail> {
     for row in table.split("\n\n") {
         let row = read_row(alloc, row)?;
-        expect(rt, alloc, names, &row.inputs, row.wanted)?;
+        expect(alloc, names, &row.inputs, row.wanted)?;
     }
     Ok(())
 }

@@ -59,7 +59,7 @@ fn a_public_too_many(rt: HostRuntime) -> Result<(), Fail> {
     let publics = publics(rt.alloc(), 2_000)?;
     let again = "90 00 01 02 61 37 00 00 00\n= 25 DuplicatePublic a7";
     let row = format!(in rt.alloc(); "{SEGMENT}{publics}\n{again}")?;
-    run(&rt, rt.alloc(), Names::Exact, &row)
+    run(rt.alloc(), Names::Exact, &row)
 }
 
 /// Appends a module of one part of a byte, with a name and a class of its own.
@@ -94,5 +94,5 @@ fn one_part_each(alloc: Global, count: u32) -> Result<String, AllocError> {
 #[test]
 fn modules(rt: HostRuntime) -> Result<(), Fail> {
     let row = one_part_each(rt.alloc(), 10_000)?;
-    run(&rt, rt.alloc(), Names::Exact, &row)
+    run(rt.alloc(), Names::Exact, &row)
 }

@@ -2,12 +2,11 @@
 
 ghost use Rattle.omf_place.specs.Bounded.{IsBounded};
 
-use crate::laid::{describe_fault, push_place, same};
+use crate::laid::{describe_fault, push_place};
 use omf_module::Module;
 use omf_place::{Layout, Names, place};
-use rows::{Row, read_modules, read_row};
+use rows::{Row, read_modules, read_row, same};
 use std::alloc::{AllocError, Allocator, Global};
-use std::process::Abort;
 use std::test::*;
 
 /// A name that is asked for: of all modules, or of one.
@@ -66,19 +65,18 @@ fn answers<A: Allocator + Copy>(
 }
 
 /// The answers for inputs are these: where names agree exactly, and in the line behind, where case doesn't count.
-fn expect<R: Abort>(rt: &R, alloc: Global, row: &Row<'_>, asked: &[Asked<'_>]) -> Result<(), Fail> {
+fn expect(alloc: Global, row: &Row<'_>, asked: &[Asked<'_>]) -> Result<(), Fail> {
     let exact = answers(alloc, alloc, Names::Exact, &row.inputs, asked)?;
     let folded = answers(alloc, alloc, Names::AsciiFolded, &row.inputs, asked)?;
     let (wanted, wanted_folded) = row.wanted.split_once("\n= ").unwrap_or((row.wanted, ""));
-    same(rt, exact.as_str(), wanted);
-    same(rt, folded.as_str(), wanted_folded);
-    Ok(())
+    same(exact.as_str(), wanted)?;
+    same(folded.as_str(), wanted_folded)
 }
 
 /// The answers of each row of a table are those that are wanted.
-fn run<R: Abort>(rt: &R, alloc: Global, asked: &[Asked<'_>], table: &str) -> Result<(), Fail> {
+fn run(alloc: Global, asked: &[Asked<'_>], table: &str) -> Result<(), Fail> {
     for row in table.split("\n\n") {
-        expect(rt, alloc, &read_row(alloc, row)?, asked)?;
+        expect(alloc, &read_row(alloc, row)?, asked)?;
     }
     Ok(())
 }
@@ -88,7 +86,6 @@ fn run<R: Abort>(rt: &R, alloc: Global, asked: &[Asked<'_>], table: &str) -> Res
 #[test]
 fn names(rt: HostRuntime) -> Result<(), Fail> {
     run(
-        &rt,
         rt.alloc(),
         &[
             (None, b"x"),
@@ -162,7 +159,6 @@ B6 00 00 00 00 01 78 03 00 00
 #[test]
 fn names_without_case(rt: HostRuntime) -> Result<(), Fail> {
     run(
-        &rt,
         rt.alloc(),
         &[
             (None, &[0x40]),
@@ -183,7 +179,6 @@ fn names_without_case(rt: HostRuntime) -> Result<(), Fail> {
 #[test]
 fn long_names_that_differ_in_case(rt: HostRuntime) -> Result<(), Fail> {
     run(
-        &rt,
         rt.alloc(),
         &[(None, &[b'a'; 255]), (None, &[b'A'; 255])],
         "\

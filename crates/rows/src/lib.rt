@@ -7,7 +7,8 @@
 #![tactic(auto)]
 
 use omf_frame::{MemSource, closing};
-use omf_module::{Module, ModuleFault, read_module};
+use omf_module::{Module, ModuleFault, Standing, read_module};
+use omf_record::PublicBase;
 use std::alloc::{AllocError, Allocator, Global};
 use std::test::Fail;
 
@@ -114,6 +115,14 @@ pub fn read_row<'a>(alloc: Global, row: &'a str) -> Result<Row<'a>, Fail> {
     Ok(Row { inputs, wanted })
 }
 
+/// A failure, where what is told isn't what is wanted.
+pub fn same(told: &str, wanted: &str) -> Result<(), Fail> {
+    if told == wanted {
+        return Ok(());
+    }
+    Err(Fail::new(format_args!("{told}, not {wanted}")))
+}
+
 fn read_input<A: Allocator + Copy>(alloc: A, bytes: &[u8]) -> Result<Module<A>, ModuleFault> {
     let mut source = MemSource::over(bytes, 65_536, None);
     read_module(alloc, &mut source)
@@ -132,6 +141,76 @@ pub fn read_modules<A: Allocator + Copy>(
         }
     }
     Ok(modules)
+}
+
+/// Appends the segments of a module: name, class, alignment, kind and length.
+fn push_segments(text: &mut String, module: &Module) -> Result<(), AllocError> {
+    for index in 0..module.segment_count() {
+        let segment = module.segment(index);
+        push_text(text, segment.name)?;
+        text.push('.')?;
+        push_text(text, segment.class)?;
+        match segment.standing {
+            Standing::Absolute { .. } => text.push_str(" absolute")?,
+            Standing::Relocatable { alignment, kind } => write!(text, " {alignment} {kind:?}")?,
+        }
+        let length = segment.length;
+        write!(text, " {length}; ")?;
+    }
+    Ok(())
+}
+
+/// Appends the groups of a module: name and members.
+fn push_groups(text: &mut String, module: &Module) -> Result<(), AllocError> {
+    for index in 0..module.group_count() {
+        let group = module.group(index);
+        push_text(text, group.name)?;
+        for member in group.members {
+            write!(text, " {member}")?;
+        }
+        text.push_str("; ")?;
+    }
+    Ok(())
+}
+
+/// Appends the base of a public and its offset: segment and group count from 0, as in the other lists.
+fn push_base(text: &mut String, base: PublicBase, offset: u16) -> Result<(), AllocError> {
+    match base {
+        PublicBase::InSegment { group, segment } => {
+            let segment = segment.saturating_sub(1);
+            match group.checked_sub(1) {
+                Some(group) => write!(text, " {segment}:{offset} of {group}"),
+                None => write!(text, " {segment}:{offset}"),
+            }
+        }
+        PublicBase::AtFrame { frame, .. } => write!(text, " at {frame}:{offset}"),
+    }
+}
+
+/// Appends the publics of a module: name, base and offset.
+fn push_publics(text: &mut String, module: &Module) -> Result<(), AllocError> {
+    for index in 0..module.public_symbol_count() {
+        let public = module.public_symbol(index);
+        push_text(text, public.name)?;
+        push_base(text, public.base, public.offset)?;
+        text.push_str(if public.local { " local; " } else { "; " })?;
+    }
+    Ok(())
+}
+
+/// Appends the segments, groups and publics of the module that bytes are, and whether there is more; or why it is none.
+pub fn push_module(alloc: Global, text: &mut String, bytes: &[u8]) -> Result<(), AllocError> {
+    let module = match read_input(alloc, bytes) {
+        Ok(module) => module,
+        Err(fault) => return write!(text, "{fault}"),
+    };
+    push_segments(text, &module)?;
+    push_groups(text, &module)?;
+    push_publics(text, &module)?;
+    if module.external_count() != 0 || module.data_record_count() != 0 || module.start().is_some() {
+        text.push_str("and more")?;
+    }
+    Ok(())
 }
 
 /// How many bytes at the front are this one.
@@ -158,6 +237,14 @@ pub fn push_bytes(text: &mut String, bytes: &[u8]) -> Result<(), AllocError> {
             }
             rest = rest.get(count..).unwrap_or(&[]);
         }
+    }
+    Ok(())
+}
+
+/// Appends a name's bytes as text.
+pub fn push_text(text: &mut String, name: &[u8]) -> Result<(), AllocError> {
+    for byte in name {
+        text.push(char::from(*byte))?;
     }
     Ok(())
 }

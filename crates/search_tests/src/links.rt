@@ -7,6 +7,7 @@
 use omf_library::ModuleNames;
 use omf_place::Names;
 use omf_search::{Choice, Member, Offered, Said, Wanted, Whose, choose, likes, missing};
+use rows::push_text;
 use std::alloc::{AllocError, Allocator, Global};
 use std::test::Fail;
 
@@ -83,19 +84,11 @@ fn members_of<'m, 'a, A: Allocator + Copy>(
     Ok(members)
 }
 
-/// Appends a name.
-fn push_name(text: &mut String, name: &[u8]) -> Result<(), AllocError> {
-    for byte in name {
-        text.push(char::from(*byte))?;
-    }
-    Ok(())
-}
-
 /// The members that are taken: each by its indexes, the name for which it is taken, and the module that wants it.
 fn push_choices(text: &mut String, choices: &[Choice<'_, '_>]) -> Result<(), AllocError> {
     for choice in choices {
         write!(text, "{}.{} ", choice.member.library, choice.member.member)?;
-        push_name(text, choice.name)?;
+        push_text(text, choice.name)?;
         write!(text, " {}\n", choice.wanted_by)?;
     }
     Ok(())
@@ -108,11 +101,11 @@ fn push_missing(
     like: Option<Offered<'_>>,
 ) -> Result<(), AllocError> {
     text.push_str("missing ")?;
-    push_name(text, wanted.name)?;
+    push_text(text, wanted.name)?;
     write!(text, " {}", wanted.wanted_by)?;
     if let Some(like) = like {
         text.push_str(" like ")?;
-        push_name(text, like.name)?;
+        push_text(text, like.name)?;
         match like.whose {
             Whose::Module(index) => write!(text, " {index}")?,
             Whose::Member { library, member } => write!(text, " {library}.{member}")?,

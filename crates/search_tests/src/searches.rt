@@ -1,8 +1,8 @@
 //! Searches, each with what is answered.
 
 use crate::links::outcome;
+use rows::same;
 use std::alloc::Global;
-use std::process::Abort;
 use std::test::*;
 
 /// Links, each with the members that are taken and the names that stay missing.
@@ -126,17 +126,12 @@ library
 missing _Alpha 0 like alpha 0.0
 missing BETA 0 like _beta 0.2";
 
-/// What is wanted.
-fn same<R: Abort>(rt: &R, answered: &str, wanted: &str) {
-    assert!(rt; answered == wanted, "{answered}, not {wanted}");
-}
-
 /// Each link of a table is answered as its row says.
-fn answers<R: Abort>(rt: &R, alloc: Global, table: &str, rounds: &[usize]) -> Result<(), Fail> {
+fn answers(alloc: Global, table: &str, rounds: &[usize]) -> Result<(), Fail> {
     for row in table.split("\n\n") {
         if let Some((link, wanted)) = row.split_once("\n=") {
             let answered = outcome(alloc, alloc, link, rounds)?;
-            same(rt, answered.as_str().trim(), wanted.trim());
+            same(answered.as_str().trim(), wanted.trim())?;
         }
     }
     Ok(())
@@ -144,7 +139,7 @@ fn answers<R: Abort>(rt: &R, alloc: Global, table: &str, rounds: &[usize]) -> Re
 
 #[test]
 fn searches(rt: HostRuntime) -> Result<(), Fail> {
-    answers(&rt, rt.alloc(), SEARCHES, &[99])
+    answers(rt.alloc(), SEARCHES, &[99])
 }
 
 /// A link whose later libraries are searched afterwards: so many members each time.
@@ -167,5 +162,5 @@ library
 
 #[test]
 fn rounds(rt: HostRuntime) -> Result<(), Fail> {
-    answers(&rt, rt.alloc(), ROUNDS, &[2, 5, 6])
+    answers(rt.alloc(), ROUNDS, &[2, 5, 6])
 }

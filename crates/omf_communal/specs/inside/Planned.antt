@@ -1,5 +1,5 @@
 -- Plans as the code holds them.
-use Rattle.std.specs.Prelude.{◌≡◌, ℕ, ◌<◌, ◌≤◌, true, false, List, length, map, Ok, Option, Some, None}
+use Rattle.std.specs.Prelude.{◌≡◌, ℕ, ◌<◌, ◌≤◌, true, false, List, map, Ok, Option, Some, None}
 use Rattle.std.specs.Option.{option_map}
 use Rattle.omf_communal.specs.declared.planning.Fars.{Fars}
 use Rattle.omf_communal.specs.declared.places.Before.{Before}
@@ -8,7 +8,6 @@ use Rattle.omf_communal.specs.declared.places.Part.{Part}
 use Rattle.omf_communal.specs.declared.places.Place as lent
 use Rattle.omf_communal.specs.declared.places.Room.{Room}
 use Rattle.omf_communal.specs.declared.planning.Plan as held
-use Rattle.omf_frame.specs.Primitives.{IsBytes}
 use Rattle.omf_record.specs.declared.externals.PublicBase.{PublicBase}
 use Rattle.omf_record.specs.declared.externals.PublicBase.TheVariants.{AtFrame, InSegment}
 use Rattle.omf_communal.specs.Deciding.{Variable}
@@ -57,7 +56,3 @@ pub record AreFars {A : Type 0} (first : ℕ) (vs : List Variable) (f : Fars A) 
 abbrev pub IsBase : PublicBase → Type 0
 IsBase (AtFrame group frame) = ⊥
 IsBase (InSegment group segment) = (group ≤ 32767) × (0 < segment) × (segment ≤ 32767)
-
--- at most 255 bytes
-abbrev pub IsName : List ℕ → Type 0
-IsName name = (length name ≤ 255) × IsBytes name

@@ -1,6 +1,7 @@
 use Rattle.std.proofs.Common.{◌≡◌, ◌++◌, map, take}
 use Rattle.omf_communal.specs.inside.Planned.{parts_said, room_said}
-use Rattle.omf_communal.specs.Records.{far_record, records_bytes}
+use Rattle.omf_write.specs.Records.{records_bytes}
+use Rattle.omf_communal.specs.Records.{far_record}
 use Rattle.omf_communal.proofs.records.put_fars.Given as goal
 
 abbrev pub invariant-loop-part : goal.invariant-loop-part

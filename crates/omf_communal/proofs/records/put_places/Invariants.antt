@@ -1,6 +1,7 @@
 use Rattle.std.proofs.Common.{◌≡◌, ◌++◌, map, take}
 use Rattle.omf_communal.specs.inside.Planned.{places_said}
-use Rattle.omf_communal.specs.Records.{place_record, records_bytes}
+use Rattle.omf_write.specs.Records.{records_bytes}
+use Rattle.omf_communal.specs.Records.{place_record}
 use Rattle.omf_communal.proofs.records.put_places.Given as goal
 
 abbrev pub invariant-loop-place : goal.invariant-loop-place

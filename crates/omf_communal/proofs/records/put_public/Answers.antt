@@ -3,7 +3,8 @@ use Rattle.omf_record.specs.Canonical.{FitsFrame}
 use Rattle.omf_record.specs.Record.{Pubdef}
 use Rattle.omf_record.specs.View.{public_view, view}
 use Rattle.omf_record.specs.declared.externals.Public.{Public}
-use Rattle.omf_communal.proofs.Bodies.{IsBytes-from, base_fits}
+use Rattle.omf_write.proofs.Bodies.{IsBytes-from}
+use Rattle.omf_communal.proofs.Bodies.{base_fits}
 use Rattle.omf_communal.proofs.records.put_public.Goals as goal
 
 pub put_record-requires-clause-fits : goal.put_record-requires-clause-fits

@@ -1,4 +1,6 @@
 //! A world in memory, for tests.
+#![tactic(auto)]
+
 ghost use Rattle.std.specs.Prelude.{◌≤◌, IfOk, length};
 
 use omf_files::World;
@@ -8,7 +10,7 @@ use std::io::{self, ErrorKind, Read, Write};
 
 /// What is written to a file or a stream, which takes so many bytes and then fails.
 #[derive(Drop)]
-pub(crate) struct Page<'a> {
+pub struct Page<'a> {
     path: &'a str,
     room: Cell<usize>,
     bytes: RefCell<Vec<u8>>,
@@ -16,7 +18,7 @@ pub(crate) struct Page<'a> {
 
 impl<'a> Page<'a> {
     /// One that has these bytes to begin with.
-    pub(crate) fn new(
+    pub fn new(
         alloc: Global,
         path: &'a str,
         bytes: &[u8],
@@ -31,7 +33,7 @@ impl<'a> Page<'a> {
     }
 
     /// The bytes.
-    pub(crate) fn bytes(&self, alloc: Global) -> Result<Vec<u8>, AllocError> {
+    pub fn bytes(&self, alloc: Global) -> Result<Vec<u8>, AllocError> {
         match self.bytes.try_borrow() {
             Ok(bytes) => Vec::from_slice(alloc, bytes.as_slice()),
             Err(_) => Err(AllocError),
@@ -57,6 +59,11 @@ impl<'a> Page<'a> {
         }
     }
 
+    /// Whether it is the file at a path.
+    fn stands_at(&self, path: &str) -> bool {
+        self.path.is_empty() || self.path == path
+    }
+
     /// Takes its bytes away.
     fn empty(&self) {
         if let Ok(mut page) = self.bytes.try_borrow_mut() {
@@ -67,13 +74,13 @@ impl<'a> Page<'a> {
 
 /// Writes to a page.
 #[derive(Drop)]
-pub(crate) struct Pen<'a> {
+pub struct Pen<'a> {
     page: &'a Page<'a>,
 }
 
 impl<'a> Pen<'a> {
     /// One that writes at the end of the page.
-    pub(crate) fn new(page: &'a Page<'a>) -> Pen<'a> {
+    pub fn new(page: &'a Page<'a>) -> Pen<'a> {
         Pen { page }
     }
 }
@@ -90,14 +97,15 @@ impl Write for Pen<'_> {
 
 /// How many files are open, and how many were at most.
 #[derive(Drop)]
-pub(crate) struct Count {
+pub struct Count {
     now: Cell<usize>,
     most: Cell<usize>,
 }
 
-/// A file that is read, and counted while it is open.
-pub(crate) struct Scroll<'f, 'p> {
-    rest: &'f [u8],
+/// What is opened: counted while it is open.
+pub struct Scroll<'f, 'p> {
+    /// What is left of a file; none of a folder, which can't be read.
+    rest: Option<&'f [u8]>,
     count: &'p Count,
 }
 
@@ -110,17 +118,20 @@ impl Drop for Scroll<'_, '_> {
 
 impl Read for Scroll<'_, '_> {
     fn read(&mut self, buf: &mut [u8]) -> io::Result<usize> {
-        let n = buf.len().min(self.rest.len());
-        let (front, rest) = self.rest.split_at(n);
+        let Some(left) = self.rest else {
+            return Err(io::Error::from(ErrorKind::IsADirectory));
+        };
+        let n = buf.len().min(left.len());
+        let (front, rest) = left.split_at(n);
         buf[..n].copy_from_slice(front);
-        self.rest = rest;
+        self.rest = Some(rest);
         Ok(n)
     }
 }
 
 impl Count {
     /// None is open.
-    pub(crate) fn new() -> Count {
+    pub fn new() -> Count {
         Count {
             now: Cell::new(0),
             most: Cell::new(0),
@@ -128,29 +139,44 @@ impl Count {
     }
 
     /// How many files are open.
-    pub(crate) fn open(&self) -> usize {
+    pub fn open(&self) -> usize {
         self.now.get()
     }
 
     /// How many files were open at most.
-    pub(crate) fn most(&self) -> usize {
+    pub fn most(&self) -> usize {
         self.most.get()
     }
 }
 
-/// Files that can be read by their paths, pages that can be written, and a page that lists what was opened.
+/// Files that can be read by their paths, folders, pages that can be written, and a page that lists what was opened.
 #[derive(Clone, Copy)]
-pub(crate) struct Desk<'f, 'p> {
+pub struct Desk<'f, 'p> {
     /// The files that can be read.
-    pub(crate) files: &'f [(&'f str, &'f [u8])],
-    /// A file that can be written.
-    pub(crate) out: &'p Page<'p>,
+    pub files: &'f [(&'f str, &'f [u8])],
+    /// The folders.
+    pub folders: &'f [&'f str],
+    /// A file that can be written; one without a path is any.
+    pub out: &'p Page<'p>,
     /// Another one.
-    pub(crate) map: &'p Page<'p>,
+    pub map: &'p Page<'p>,
     /// The paths that were opened or tried, each ended by a space.
-    pub(crate) opened: &'p Page<'p>,
+    pub opened: &'p Page<'p>,
     /// How many files are open.
-    pub(crate) count: &'p Count,
+    pub count: &'p Count,
+}
+
+impl<'f, 'p> Desk<'f, 'p> {
+    /// Opens a file of which this is left, or a folder.
+    fn scroll(&self, rest: Option<&'f [u8]>) -> Scroll<'f, 'p> {
+        let now = self.count.now.get().saturating_add(1);
+        self.count.now.set(now);
+        self.count.most.set(now.max(self.count.most.get()));
+        Scroll {
+            rest,
+            count: self.count,
+        }
+    }
 }
 
 impl<'f, 'p> World for Desk<'f, 'p> {
@@ -165,22 +191,21 @@ impl<'f, 'p> World for Desk<'f, 'p> {
         }
         for (name, bytes) in self.files {
             if *name == path {
-                let now = self.count.now.get().saturating_add(1);
-                self.count.now.set(now);
-                self.count.most.set(now.max(self.count.most.get()));
-                return Ok(Scroll {
-                    rest: bytes,
-                    count: self.count,
-                });
+                return Ok(self.scroll(Some(*bytes)));
+            }
+        }
+        for name in self.folders {
+            if *name == path {
+                return Ok(self.scroll(None));
             }
         }
         Err(io::Error::from(ErrorKind::NotFound))
     }
 
     fn create(&self, path: &str) -> io::Result<Pen<'p>> {
-        let page = if self.out.path == path {
+        let page = if self.out.stands_at(path) {
             self.out
-        } else if self.map.path == path {
+        } else if self.map.stands_at(path) {
             self.map
         } else {
             return Err(io::Error::from(ErrorKind::NotFound));
