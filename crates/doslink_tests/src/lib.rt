@@ -13,3 +13,5 @@ mod modules;
 mod records;
 #[cfg(test)]
 mod runs;
+#[cfg(test)]
+mod sums;

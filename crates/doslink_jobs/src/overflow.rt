@@ -1,0 +1,76 @@
+//! Fix-ups of 32 bits that became ones of 16: their sums have no more than 16 bits.
+ghost use Rattle.std.specs.Prelude.{◌≡◌, ◌≢◌, false, IfOk, IsErr, map, MatchResult};
+ghost use Rattle.doslink_jobs.specs.Overflow.{HaveOverflow, NarrowFixups};
+ghost use Rattle.doslink_jobs.specs.inside.Inputs.{input_list, lowered_bytes, own_bytes};
+ghost use Rattle.doslink_jobs.specs.inside.Stops.{OnInput};
+
+use crate::inputs::{Inputs, input_slices, input_words, module_at};
+use crate::lowering::LoweredModule;
+use crate::ordering::read_modules;
+use crate::stop::{Stop, stop_after};
+use crate::taking::Taken;
+use doslink_telling::push_overflow;
+use omf_image::first_overflow;
+use omf_lower::has_wide_fixups;
+use omf_place::{Names, PlaceFault, place};
+use std::alloc::{AllocError, Allocator};
+
+/// Whether a module that isn't linked as it stands has a fix-up of 32 bits.
+pub(crate) fn narrow_fixups<A: Allocator + Copy>(
+    alloc: A,
+    modules: &[LoweredModule<'_, A>],
+) -> Result<bool, AllocError>
+    ensures { IfOk result
+        (λ some. some ≡ false → NarrowFixups (map own_bytes modules.now) (map lowered_bytes modules.now) → ⊥) }
+{
+    for one in modules {
+        if one.lowered.is_some() && has_wide_fixups(alloc, one.own)? {
+            return Ok(true);
+        }
+    }
+    Ok(false)
+}
+
+/// Tells that the sum at a fix-up of an input has more than 16 bits, by the place of its record there, and stops.
+fn stop_at_sum<A: Allocator + Copy>(
+    alloc: A,
+    inputs: &Inputs<'_, A>,
+    taken: &Taken<'_, '_, '_, A>,
+    at: (usize, u64),
+    lines: &mut Vec<u8, A>,
+) -> Result<(), AllocError> {
+    let (input, place) = at;
+    let words = input_words(alloc, inputs, taken.words)?;
+    let word = words.get(input).copied().unwrap_or(b"");
+    let place = match module_at(inputs, input) {
+        Some(module) => module.own_place(place),
+        None => place,
+    };
+    push_overflow(lines, word, place)
+}
+
+/// Stops where the sum at a fix-up that was of 32 bits has more than 16, and tells it.
+pub(crate) fn check_sums<A: Allocator + Copy>(
+    alloc: A,
+    names: Names,
+    inputs: &Inputs<'_, A>,
+    taken: &Taken<'_, '_, '_, A>,
+    lines: &mut Vec<u8, A>,
+) -> Result<(), Stop>
+    ensures { MatchResult result (λ done. HaveOverflow names (input_list inputs.now) → ⊥)
+        (λ stop. OnInput stop (HaveOverflow names (input_list inputs.now))) }
+{
+    let slices = input_slices(alloc, inputs)?;
+    let Some(modules) = read_modules(alloc, &slices, taken, lines)? else {
+        return Ok(());
+    };
+    let layout = match place(alloc, &modules, names) {
+        Ok(layout) => layout,
+        Err(PlaceFault::Memory) => return Err(Stop::Memory),
+        Err(_) => return Ok(()),
+    };
+    match first_overflow(&modules, &layout) {
+        Some(at) => Err(stop_after(stop_at_sum(alloc, inputs, taken, at, lines))),
+        None => Ok(()),
+    }
+}
