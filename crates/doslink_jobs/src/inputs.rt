@@ -241,7 +241,7 @@ pub(crate) fn inputs_of<'a, A: Allocator + Copy>(
         (link_says (map handed_held taken.now.handed.now) (map variable_said variables.now)) marks
         (map handed_held taken.now.handed.now) (map variable_said variables.now) (input_list inputs))
         (λ stop. OnInput stop (HaveNoInputs job.now
-        (link_says (map handed_held taken.now.handed.now) (map variable_said variables.now))
+        (link_says (map handed_held taken.now.handed.now) (map variable_said variables.now)) marks
         (map handed_held taken.now.handed.now) (map variable_said variables.now))) }
 {
     let names = options_of(job).names;
@@ -268,8 +268,6 @@ pub(crate) fn inputs_of<'a, A: Allocator + Copy>(
         modules,
         communal,
     };
-    if are_narrow {
-        check_sums(alloc, names, &inputs, taken, lines)?;
-    }
+    check_sums(alloc, names, are_narrow, &inputs, taken, lines)?;
     Ok(inputs)
 }

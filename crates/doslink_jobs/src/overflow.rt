@@ -1,5 +1,5 @@
 //! Fix-ups of 32 bits that became ones of 16: their sums have no more than 16 bits.
-ghost use Rattle.std.specs.Prelude.{◌≡◌, ◌≢◌, false, IfOk, IsErr, map, MatchResult};
+ghost use Rattle.std.specs.Prelude.{◌≡◌, false, true, IfOk, map, MatchResult};
 ghost use Rattle.doslink_jobs.specs.Overflow.{HaveOverflow, NarrowFixups};
 ghost use Rattle.doslink_jobs.specs.inside.Inputs.{input_list, lowered_bytes, own_bytes};
 ghost use Rattle.doslink_jobs.specs.inside.Stops.{OnInput};
@@ -12,6 +12,7 @@ use crate::taking::Taken;
 use doslink_telling::push_overflow;
 use omf_image::first_overflow;
 use omf_lower::has_wide_fixups;
+use omf_module::one_module;
 use omf_place::{Names, PlaceFault, place};
 use std::alloc::{AllocError, Allocator};
 
@@ -49,17 +50,22 @@ fn stop_at_sum<A: Allocator + Copy>(
     push_overflow(lines, word, place)
 }
 
-/// Stops where the sum at a fix-up that was of 32 bits has more than 16, and tells it.
+/// Stops where fix-ups were of 32 bits, and the sum at one of them has more than 16, and tells that one.
 pub(crate) fn check_sums<A: Allocator + Copy>(
     alloc: A,
     names: Names,
+    are_narrow: bool,
     inputs: &Inputs<'_, A>,
     taken: &Taken<'_, '_, '_, A>,
     lines: &mut Vec<u8, A>,
 ) -> Result<(), Stop>
-    ensures { MatchResult result (λ done. HaveOverflow names (input_list inputs.now) → ⊥)
+    ensures { MatchResult result (λ done. are_narrow ≡ true → HaveOverflow names (input_list inputs.now) → ⊥)
         (λ stop. OnInput stop (HaveOverflow names (input_list inputs.now))) }
 {
+    if !are_narrow {
+        return Ok(());
+    }
+    one_module();
     let slices = input_slices(alloc, inputs)?;
     let Some(modules) = read_modules(alloc, &slices, taken, lines)? else {
         return Ok(());

@@ -186,15 +186,9 @@ doslink ITSELF.OBJ|1||doslink: ITSELF.OBJ: 60 EndlessAlias \"f\" at record 35~
 /// Runs, and the end of the file that each writes: the whole of it, or its code, which calls `f` first.
 const PROGRAMS: [(&str, &[u8]); 16] = [
     // FFFBH and the offset 4 in 32 bits
-    (
-        "doslink EFITS.OBJ F.OBJ",
-        &[0xFF, 0xFF, 0x00, 0x00, 0x90],
-    ),
+    ("doslink EFITS.OBJ F.OBJ", &[0xFF, 0xFF, 0x00, 0x00, 0x90]),
     // an offset of 16 bits goes round, and one of 32 doesn't
-    (
-        "doslink LOADER.OBJ",
-        &[0x00, 0x00, 0x05, 0x00, 0x00, 0x00],
-    ),
+    ("doslink LOADER.OBJ", &[0x00, 0x00, 0x05, 0x00, 0x00, 0x00]),
     // its default is in the module behind the next one
     (
         "doslink WEAKLY.OBJ D.OBJ RUN.LIB",

@@ -276,7 +276,11 @@ fn wide_location(last: &Data<'_>, first: u8, place: usize) -> Result<(u8, u8), O
 fn short_location(location: u8) -> u8
     ensures { result ≡ fixups.short_location location }
 {
-    if is_loader_offset(location) { 1 } else { location }
+    if is_loader_offset(location) {
+        1
+    } else {
+        location
+    }
 }
 
 /// The two bytes of a fix-up with its location, at the place to which that of the data moves.

@@ -1,6 +1,7 @@
 //! Which modules have fix-ups of 32 bits.
 
 ghost use Rattle.std.specs.Prelude.{◌≡◌, IfOk};
+ghost use Rattle.std.specs.List.{list_any};
 ghost use Rattle.omf_frame.specs.Lending.{plain_frame};
 ghost use Rattle.omf_lower.specs.Wide as wide;
 
@@ -20,12 +21,18 @@ fn is_wide_record(frame: &Frame<'_>) -> bool
     }
 }
 
+/// Whether one of some records is such a FIXUPP.
+fn has_wide_record(frames: &[Frame<'_>]) -> bool
+    ensures { result ≡ list_any (λ f. wide.is_wide_record (plain_frame f)) frames.now }
+{
+    frames.iter().any(|frame| is_wide_record(frame))
+}
+
 /// Whether a module has a fix-up of 32 bits or of a loader-resolved offset. Of a module that has none, no fix-up is
 /// written at another location.
-#[tactic(auto, unfolding(crate::specs::Wide::has_wide_fixups))]
 pub fn has_wide_fixups<A: Allocator + Copy>(alloc: A, module: &[u8]) -> Result<bool, AllocError>
     ensures { IfOk result (λ has. has ≡ wide.has_wide_fixups «module».now) }
 {
     let frames = module_frames(alloc, module)?;
-    Ok(frames.iter().any(|frame| is_wide_record(frame)))
+    Ok(has_wide_record(&frames))
 }
