@@ -124,6 +124,6 @@ none-placed names modules (held.DuplicatePublic name) layout other first is =
 pub none-laid : {A : Type 0} → OneModule → (names : Names) (inputs other : List (List ℕ)) (read : List Module)
     (fault : PlaceFault A) → inputs ≡ other → AreRead inputs read → fault ≢ held.Memory
     → IfSome (said fault) (IsFirstFault names read) → HaveOverflow names other → ⊥
-none-laid one names inputs other read fault same are no first (modules, placed, begin, only, over) =
+none-laid one names inputs other read fault same are failed first (modules, placed, begin, only, over) =
     let all : modules ≡ read = read-same one other modules read begin (subst (λ i. AreRead i read) same are) in
-    none-placed names read fault placed no first (subst (λ ms. IsOnlyLayout names ms placed) all only)
+    none-placed names read fault placed failed first (subst (λ ms. IsOnlyLayout names ms placed) all only)

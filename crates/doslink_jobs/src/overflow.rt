@@ -1,5 +1,5 @@
 //! Fix-ups of 32 bits that became ones of 16: their sums have no more than 16 bits.
-ghost use Rattle.std.specs.Prelude.{◌≡◌, false, true, IfOk, map, MatchResult};
+ghost use Rattle.std.specs.Prelude.{◌≡◌, ◌≢◌, false, true, IfOk, map, MatchResult};
 ghost use Rattle.doslink_jobs.specs.Overflow.{HaveOverflow, NarrowFixups};
 ghost use Rattle.doslink_jobs.specs.inside.Inputs.{input_list, lowered_bytes, own_bytes};
 ghost use Rattle.doslink_jobs.specs.inside.Stops.{OnInput};
@@ -50,6 +50,16 @@ fn stop_at_sum<A: Allocator + Copy>(
     push_overflow(lines, word, place)
 }
 
+/// Goes on behind modules that have no layout, where they are at fault, which the link tells.
+fn pass_unplaced<A: Allocator + Copy>(fault: PlaceFault<A>) -> Result<(), Stop>
+    ensures { MatchResult result (λ done. fault ≢ PlaceFault.Memory) (λ stop. OnInput stop ⊥) }
+{
+    match fault {
+        PlaceFault::Memory => Err(Stop::Memory),
+        _ => Ok(()),
+    }
+}
+
 /// Stops where fix-ups were of 32 bits, and the sum at one of them has more than 16, and tells that one.
 pub(crate) fn check_sums<A: Allocator + Copy>(
     alloc: A,
@@ -72,8 +82,7 @@ pub(crate) fn check_sums<A: Allocator + Copy>(
     };
     let layout = match place(alloc, &modules, names) {
         Ok(layout) => layout,
-        Err(PlaceFault::Memory) => return Err(Stop::Memory),
-        Err(_) => return Ok(()),
+        Err(fault) => return pass_unplaced(fault),
     };
     match first_overflow(&modules, &layout) {
         Some(at) => Err(stop_after(stop_at_sum(alloc, inputs, taken, at, lines))),

@@ -1,5 +1,5 @@
-use Rattle.std.proofs.Common.{◌≡◌, Any, map, ap, inl, inr, refl, subst, ◌∙◌}
-use Rattle.std.specs.Option.{option_map}
+use Rattle.std.proofs.Common.{◌≡◌, ◌++◌, Any, map, ap, inl, inr, refl, subst, ◌∙◌}
+use Rattle.std.specs.Option.{option_map, option_to_list}
 use Rattle.clap.proofs.WalkLemmas.{list_any-map}
 use Rattle.omf_communal.specs.Deciding.{variable_said}
 use Rattle.omf_communal.specs.Modules.{bytes_of}
@@ -33,6 +33,8 @@ returns g c =
     let lowered = map lowered_bytes c.in_ok-lowered.lowered.items in
     let modules = c.in_ok-modules.modules.items in
     let communal = option_map (λ v. v.items) c.in_ok-communal.communal in
+    let order = option_map (λ v. v.items) c.in_ok-order.order in
+    let linked = option_to_list order ++ (map lowered_bytes modules ++ option_to_list communal) in
     record {
       lowered = lowered;
       inputs = map lowered_bytes modules;
@@ -56,7 +58,7 @@ returns g c =
           (c.in_ok-lowered.ensures.own ∙ map-map handed_held (λ m. m.bytes) handed)
           (subst (λ ms. NarrowFixups (map own_bytes ms) (map lowered_bytes ms) → ⊥) c.deref-3.ensures.value
           (c.in_ok-are_narrow.ensures no)))
-          (λ yes. subst (λ n. HaveOverflow n _ → ⊥) c.options_of-names.ensures (c.in_ok-check_sums.ensures yes));
+          (λ yes. subst (λ n. HaveOverflow n linked → ⊥) c.options_of-names.ensures (c.in_ok-check_sums.ensures yes));
     }
 
 pub returns-in_err-lowered : goal.returns-in_err-lowered
@@ -199,7 +201,8 @@ returns-in_err-check_sums g c =
                 (module_list modules c.in_ok-communal.communal) c.options_of-names.ensures
                 (c.asks_dosseg.ensures ∙ list_any-map (λ m. m.dosseg) handed_held handed)
                 (ap (λ ms. module_list ms c.in_ok-communal.communal) c.deref-5.ensures.value) c.in_ok-order.ensures,
-            subst (λ n. HaveOverflow n _) c.options_of-names.ensures some,
+            subst (λ n. HaveOverflow n (option_to_list order ++ (map lowered_bytes modules ++ option_to_list communal)))
+                c.options_of-names.ensures some,
           ),
         ),
       ),
