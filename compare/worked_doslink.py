@@ -373,6 +373,13 @@ def wide_module(segment):
     return framed([(0x80, "0157"), (0x96, "00 04434F4445"), (0x99, segment), (0x8A, "00")])
 
 
+def sum_module(displacement):
+    """A module with the offset of its segment and a displacement in 32 bits, and FF00H more."""
+    return framed([
+        (0x80, "0153"), (0x96, "00 04434F4445"), (0x98, "28 0400 020101"),
+        (0xA0, "01 0000 00FF0000"), (0x9C, "E400 50 01" + displacement), (0x8A, "00")])
+
+
 CALLING = code_module(b"M", records.ExternalNames([b"x"], [0]), *NEAR_CALL)
 CALLED = code_module(b"X", records.PublicNames(0, 1, None, [PublicName(b"x", 2, 0)]))
 NAMING = code_module(b"N", records.Comment(0, 0x9F, b"X"))
@@ -388,6 +395,7 @@ FILES = {
     "wide.obj": wide_module("29 11000000 020201"), "empty.obj": wide_module("29 00000000 020201"),
     "absolute.obj": wide_module("01 4000 00 11000000 020201"),
     "amiss.obj": wide_module("E9 11000000 020201"), "f/X.lib": LIBRARY,
+    "sum.obj": sum_module("0001"), "fits.obj": sum_module("FF00"),
     "f/L": LIBRARY, "f/L.LIB": MAGIC, "f/Y": CALLED, "g/L.LIB": LIBRARY, "bad": b"\xFF"}
 # 17 bytes of each module; the call's end is at 3 and x at 19
 PROGRAM = header("2300 0100 0000 0200 0300" + MOST + NO_REGISTERS) + NO_TABLE + "E81000"
@@ -447,6 +455,9 @@ LINKS = [
      "wide.obj\n"),
     ("some without bytes", {"files": ["empty.obj"]}, [], "", "empty.obj\n"),
     ("absolute ones", {"files": ["absolute.obj"]}, [], "", "absolute.obj\n"),
+    ("a sum of 65,536", {"files": ["sum.obj"]}, [],
+     "doslink: sum.obj: 61 SumAbove16Bits at record 37\n", "sum.obj\n"),
+    ("a sum of 65,535", {"files": ["fits.obj"]}, [], "", "fits.obj\n"),
 ]
 
 # what is asked for, and the path of the program

@@ -157,11 +157,12 @@ class Widening:
                 # at times a self-relative one
                 first &= ~0x40 if self.happens(0.15) else 0xFF
             found += bytes([first & 0xC0 | location << 2 | place >> 8 & 3, place & 0xFF])
-            found += self.reference(reader, is_wide)
+            found += self.reference(reader, is_wide, location in (9, 13) and self.happens(0.1))
         return FIXUPS + is_wide, found
 
-    def reference(self, reader, is_wide):
-        """A reference, whose displacement becomes a wide one or not."""
+    def reference(self, reader, is_wide, is_great=False):
+        """A reference, whose displacement becomes a wide one or not, or is about as great as a word
+        may be."""
         begin, fix_data = reader.place, reader.take(1)[0]
         if not fix_data & 0x80 and fix_data >> 4 & 7 < 4:
             reader.take_index()
@@ -171,6 +172,8 @@ class Widening:
         if fix_data & 4:
             return front
         displacement = reader.take(2)
+        if is_great:
+            displacement = (65_536 - self.random.randrange(1, 20)).to_bytes(2, "little")
         return front + (self.wide(displacement) if is_wide else displacement)
 
 

@@ -12,7 +12,7 @@ The model spends no thought on speed.
 | `parsing` | how bytes are read as records: faults 2 to 6, 8 and 41 |
 | `module` | what the records of an input say together: faults 7 and 10 to 21 |
 | `placement` | where segments, groups and publics stand: faults 22 to 25 |
-| `image` | data, fix-ups and the start: faults 26 to 34 |
+| `image` | data, fix-ups and the start: faults 26 to 34, and 61 |
 | `program_file` | a program's file and how it is loaded: faults 35 to 39 |
 | `printing` | what is printed of records, programs and links |
 | `commands` | what each command of `omf` answers and writes |

@@ -27,8 +27,11 @@ COMMUNAL_NAMES = {
 }
 # that of an alias that goes round for ever
 ALIAS_NAMES = {60: "EndlessAlias"}
+# that of a fix-up of 32 bits that is linked as one of 16
+SUM_NAMES = {61: "SumAbove16Bits"}
 # all that doslink alone has
-DOSLINK_NAMES = {**LIBRARY_NAMES, **LOWERING_NAMES, **COMMUNAL_NAMES, **ALIAS_NAMES}
+DOSLINK_NAMES = {
+    **LIBRARY_NAMES, **LOWERING_NAMES, **COMMUNAL_NAMES, **ALIAS_NAMES, **SUM_NAMES}
 # what else ends a job of doslink, without a number
 MISSING, TOO_MANY_PARTS, WORDS, READ_AND_WRITTEN, WRITTEN_TWICE = "M", "P", "W", "O", "T"
 OTHER_ENDS = {

@@ -236,6 +236,36 @@ def add(content, position, width, value):
     content[position:position + width] = sum_of_both.to_bytes(width, "little")
 
 
+def overflows(references, owner, data, fixup):
+    """Whether an offset needs more than the 16 bits that it has in a program.
+
+    An offset without a target, or with one outside its frame, has another fault.
+    """
+    combined = references.layout.part(owner, data.segment)[1]
+    located = references.locate(owner, fixup.reference, Frame(combined.frame, True), [])
+    if located is None or segment_relative_faults(fixup.location, located):
+        return False
+    held = [
+        int.from_bytes(bytes(byte for _, byte in data.stored[at:at + 2]), "little")
+        for at, (place, _) in enumerate(data.stored) if place == fixup.offset]
+    offset = located.target.value - 16 * located.frame.value + located.displacement
+    return any(word + offset > HIGHEST_IN_FRAME for word in held)
+
+
+def check_sums(contents, were_wide, ignores_case):
+    """Fault 61 is an offset that had 32 bits in its module and needs more than 16.
+
+    `were_wide` has for each module whether each of its fix-ups had 32 bits.
+    """
+    modules = [module.read(content, owner) for owner, content in enumerate(contents)]
+    references = References(modules, placement.place(modules, ignores_case))
+    for owner, (each, wide) in enumerate(zip(modules, were_wide)):
+        fixups = [(data, fixup) for data in each.data for fixup in data.fixups]
+        for (data, fixup), was_wide in zip(fixups, wide):
+            if was_wide and overflows(references, owner, data, fixup):
+                raise Fault(61, owner, fixup.place)
+
+
 def find_start(modules, references):
     """CS and IP: those of the only start, else 0. Fault 33 is a second start."""
     starts = [

@@ -251,7 +251,11 @@ class Linking:
         # the modules as they are linked, and as they were read
         self.contents = [each.content for each in before] + lowered
         self.handed = before + taken + behind
+        # of each fix-up, whether it had 32 bits
+        wide = [lowering.were_wide(each.content, self.job.keeps_debug) for each in taken]
+        wide = [[] for _ in before] + wide + [[] for _ in behind]
         try:
+            image.check_sums(self.contents, wide, self.job.ignores_case)
             return image.link(self.contents, self.job.ignores_case)
         except Fault as fault:
             raise self.with_words(fault) from None

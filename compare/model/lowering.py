@@ -142,8 +142,11 @@ def location_of(first):
     return first >> 2 & 15
 
 
-def has_wide_fixup(body):
-    """Whether a fix-up of 32 bits is among subrecords of 16, before what isn't one."""
+def wide_fixups(body, width):
+    """Whether each of the fix-ups, whose displacements have a width, has 32 bits.
+
+    Only those before what isn't a subrecord are looked at.
+    """
     entries = Entries(body)
     try:
         while entries.has_more():
@@ -152,12 +155,10 @@ def has_wide_fixup(body):
                 thread(entries, first)
                 continue
             entries.byte()
-            reference(entries, 2)
-            if location_of(first) in OFFSETS_32:
-                return True
+            reference(entries, width)
+            yield location_of(first) in OFFSETS_32
     except (Ended, Obstacle):
         pass
-    return False
 
 
 def blocks(data):
@@ -198,6 +199,8 @@ class Lowering:
         self.names = []
         # of each segment, whether it is kept out of the program
         self.kept_out = []
+        # of each fix-up that isn't, whether it has 32 bits
+        self.were_wide = []
         # whether that holds of the segment of the data that came last, and that data
         self.drops_fixups = False
         self.data = Data()
@@ -389,7 +392,9 @@ class Lowering:
 
     def lower_fixups(self, kind, body):
         """Of what is kept out, threads alone, since later fix-ups may use them."""
-        is_wide = kind % 2 == 1 or self.data.width == 4 or has_wide_fixup(body)
+        wide = [] if self.drops_fixups else list(wide_fixups(body, width_of(kind)))
+        self.were_wide += wide
+        is_wide = kind % 2 == 1 or self.data.width == 4 or any(wide)
         if not self.drops_fixups and not is_wide:
             return kind, body
         try:
@@ -447,6 +452,14 @@ def lowered(content, keeps_debug, shares_far_data, owner=None, means=itself):
             found.append(Spelling().framed(kind, body))
         place = frame.behind
     return b"".join([*found, content[place:]])
+
+
+def were_wide(content, keeps_debug):
+    """Of each fix-up of a module as it is lowered, whether it had 32 bits."""
+    lowering = Lowering(keeps_debug, False, itself)
+    for frame in whole_frames(content):
+        lowering.lower(frame.kind, frame.body)
+    return lowering.were_wide
 
 
 def fits_a_frame(contents):

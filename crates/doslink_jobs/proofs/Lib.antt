@@ -10,6 +10,7 @@ pub mod Lists
 pub mod LocalModules
 pub mod Lowered
 pub mod Reading
+pub mod Overflowing
 pub mod Refused
 pub mod Texts
 pub mod Writing

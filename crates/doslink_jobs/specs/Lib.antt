@@ -5,6 +5,7 @@ pub mod Jobs
 pub mod Locals
 pub mod Maps
 pub mod Orders
+pub mod Overflow
 pub mod Refusals
 pub mod Runs
 pub mod inside

@@ -29,7 +29,8 @@ use Rattle.doslink_jobs.specs.Aliases.{EndsIn, link_aliases}
 use Rattle.doslink_jobs.specs.Communals.{AreVariablesOf, IsCommunalModule, TellsBss, declared_by}
 use Rattle.doslink_jobs.specs.Jobs.{AreFilesOf, AreInputsOf, AreLoweredFor, TakesOf, link_says, names_of, renaming_of}
 use Rattle.doslink_jobs.specs.Locals.{HaveLocals}
-use Rattle.doslink_jobs.specs.Orders.{AreRead, order_asked, order_said}
+use Rattle.doslink_jobs.specs.Orders.{AreRead, IsOrderModule, order_asked, order_said}
+use Rattle.doslink_jobs.specs.Overflow.{HaveOverflow}
 
 -- a record of some module declares no communal variables as it should, or declarations of modules clash
 abbrev pub HaveNoVariables : Names → (modules : List Held) → Type 0
@@ -73,11 +74,19 @@ HaveNoOrder names dosseg asked inputs = (read : List Module) × AreRead inputs r
 abbrev pub HaveFault : (A : Type 0) → Names → (inputs : List (List ℕ)) → Type 0
 HaveFault A names inputs = (fault : LinkFault A) × IsOnlyFault names inputs fault
 
+-- a fix-up of 32 bits that became one of 16 doesn't fit, in modules behind their order module
+abbrev pub OverflowInOrder : Job → (marks : Bool) → (modules : List Held) → (inputs : List (List ℕ)) → Type 0
+OverflowInOrder job marks modules inputs =
+    (order : Option (List ℕ))
+    × IsOrderModule (names_of job.ignore_case) marks (list_any (λ m. m.dosseg) modules) (order_of job.order) inputs order
+    × HaveOverflow (names_of job.ignore_case) (option_to_list order ++ inputs)
+
 -- Nothing is linked for the modules that a link takes, which say so of names with these communal variables: one of them
--- can't be lowered, has no place for variables that are local to it, the communal ones have none, or the order module
--- would have too many segments.
-abbrev pub HaveNoInputs : Job → (says : List search.Module) → (modules : List Held) → List Variable → Type 0
-HaveNoInputs job says modules vs =
+-- can't be lowered, has no place for variables that are local to it, the communal ones have none, the order module
+-- would have too many segments, or a fix-up of 32 bits that became one of 16 doesn't fit.
+abbrev pub HaveNoInputs : Job → (says : List search.Module) → (marks : Bool) → (modules : List Held) → List Variable
+    → Type 0
+HaveNoInputs job says marks modules vs =
     let own = map (λ m. m.bytes) modules in
     Any (IsNotLowered job says own) own
     ⊎ ((lowered : List (List ℕ)) × AreLoweredFor job says own lowered
@@ -85,8 +94,9 @@ HaveNoInputs job says modules vs =
     ⊎ ((inputs : List (List ℕ)) × HaveLocals (names_of job.ignore_case) own lowered inputs
     × (HaveNoPlace inputs vs
     ⊎ ((communal : Option (List ℕ)) × IsCommunalModule inputs vs communal
-    × HaveNoOrder (names_of job.ignore_case) (list_any (λ m. m.dosseg) modules) (order_of job.order)
-    (inputs ++ option_to_list communal))))))
+    × (HaveNoOrder (names_of job.ignore_case) (list_any (λ m. m.dosseg) modules) (order_of job.order)
+    (inputs ++ option_to_list communal)
+    ⊎ OverflowInOrder job marks modules (inputs ++ option_to_list communal)))))))
 
 -- These modules, which a link takes, can't be linked with these communal variables of theirs: a name is missing,
 -- nothing is linked for them, or a fault stands in what is.
@@ -95,7 +105,7 @@ AreRefusedWith A job modules vs =
     let names = names_of job.ignore_case in
     let says = link_says modules vs in
     (unmet names says ≢ [])
-    ⊎ (HaveNoInputs job says modules vs
+    ⊎ (HaveNoInputs job says (wants_marks names says) modules vs
     ⊎ ((linked : List (List ℕ)) × AreInputsOf job says (wants_marks names says) modules vs linked
     × HaveFault A names linked))
 

@@ -16,6 +16,7 @@ use crate::communals::{communal_bytes, variable_names};
 use crate::locals::with_locals;
 use crate::lowering::{LoweredModule, lower_for, lowered_slices};
 use crate::ordering::{Asked, is_unasked, order_bytes, read_modules};
+use crate::overflow::{check_sums, narrow_fixups};
 use crate::stop::Stop;
 use crate::taking::Taken;
 use crate::widths::warn_of_wide_segments;
@@ -121,7 +122,7 @@ pub(crate) fn input_words<'w, A: Allocator + Copy>(
 }
 
 /// The module that is the input with this index; none where that is one that is made.
-fn module_at<'m, 'a, A: Allocator + Copy>(
+pub(crate) fn module_at<'m, 'a, A: Allocator + Copy>(
     inputs: &'m Inputs<'a, A>,
     input: usize,
 ) -> Option<&'m LoweredModule<'a, A>> {
@@ -227,7 +228,7 @@ fn asks_dosseg<A: Allocator + Copy>(handed: &[Handed<'_, '_, A>]) -> bool
 
 /// The modules of a link as they are handed to it: those that it takes, lowered, with the variables that are local to
 /// each, the module of their communal variables behind them, and the order module in front of all. Segments of 32 bits
-/// are warned of.
+/// are warned of, and a fix-up of 32 bits whose sum has more than 16 is told.
 pub(crate) fn inputs_of<'a, A: Allocator + Copy>(
     alloc: A,
     job: &Job<'_>,
@@ -240,7 +241,7 @@ pub(crate) fn inputs_of<'a, A: Allocator + Copy>(
         (link_says (map handed_held taken.now.handed.now) (map variable_said variables.now)) marks
         (map handed_held taken.now.handed.now) (map variable_said variables.now) (input_list inputs))
         (λ stop. OnInput stop (HaveNoInputs job.now
-        (link_says (map handed_held taken.now.handed.now) (map variable_said variables.now))
+        (link_says (map handed_held taken.now.handed.now) (map variable_said variables.now)) marks
         (map handed_held taken.now.handed.now) (map variable_said variables.now))) }
 {
     let names = options_of(job).names;
@@ -251,6 +252,7 @@ pub(crate) fn inputs_of<'a, A: Allocator + Copy>(
         offered: &offered,
     })?;
     let lowered = lower_for(alloc, job, taken, &says, lines)?;
+    let are_narrow = narrow_fixups(alloc, &lowered)?;
     let modules = with_locals(alloc, names, lowered, taken, lines)?;
     let communal = communal_bytes(alloc, &modules, taken, variables, lines)?;
     let asked = Asked {
@@ -261,9 +263,11 @@ pub(crate) fn inputs_of<'a, A: Allocator + Copy>(
     };
     let order = order_of(alloc, &modules, &communal, &asked, taken, lines)?;
     warn_of_wide_segments(alloc, job, &modules, taken, lines)?;
-    Ok(Inputs {
+    let inputs = Inputs {
         order,
         modules,
         communal,
-    })
+    };
+    check_sums(alloc, names, are_narrow, &inputs, taken, lines)?;
+    Ok(inputs)
 }

@@ -11,6 +11,7 @@ mod linking;
 mod locals;
 mod lowering;
 mod ordering;
+mod overflow;
 mod paths;
 mod places;
 mod program;

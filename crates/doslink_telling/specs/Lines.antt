@@ -81,6 +81,10 @@ obstacle_label obstacle.TooLong = (52, codes "TooLong")
 abbrev pub obstacle_line : (word : List ℕ) (place : ℕ) → Obstacle → List ℕ
 obstacle_line word place fault = located word (obstacle_label fault) (codes " at record ") place
 
+-- the line of a fix-up of 32 bits whose sum has more than 16, by the place of its record in its module
+abbrev pub overflow_line : (word : List ℕ) (place : ℕ) → List ℕ
+overflow_line word place = located word (61, codes "SumAbove16Bits") (codes " at record ") place
+
 -- the line of an alias that goes round for ever, by the place of its record in its module
 abbrev pub endless_line : (word : List ℕ) (place : ℕ) (name : List ℕ) → List ℕ
 endless_line word place name = concat (codes "doslink: " ∷ word ∷ codes ": 60 EndlessAlias " ∷ printed_name name

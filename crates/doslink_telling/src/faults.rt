@@ -208,6 +208,18 @@ pub fn push_obstacle<A: Allocator + Copy>(
     push_located(lines, word, obstacle_label(obstacle), " at record ", place)
 }
 
+/// Appends the line of a fix-up of 32 bits whose sum has more than 16, by the place of its record in the module for which
+/// this is the word.
+pub fn push_overflow<A: Allocator + Copy>(
+    lines: &mut Vec<u8, A>,
+    word: &[u8],
+    place: u64,
+) -> Result<(), AllocError>
+    ensures { OnOk result (lines.new.items ≡ lines.old.items ++ spec.overflow_line word.now place) }
+{
+    push_located(lines, word, (61, "SumAbove16Bits"), " at record ", place)
+}
+
 /// Appends the line of an alias that goes round for ever, by the place of its record in the module for which this is the
 /// word.
 pub fn push_endless_alias<A: Allocator + Copy>(

@@ -12,7 +12,8 @@ mod telling;
 pub use communals::{push_clash, push_entry_fault, push_unplaced};
 pub use faults::{
     push_absent_line, push_device_line, push_duplicate, push_endless_alias, push_fault,
-    push_obstacle, push_order_line, push_path_line, push_stock_fault, push_wide_line,
+    push_obstacle, push_order_line, push_overflow, push_path_line, push_stock_fault,
+    push_wide_line,
 };
 pub use mapping::table;
 pub use missing::{Unmet, push_missing_lines, unmet_names};

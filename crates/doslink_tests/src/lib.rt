@@ -11,3 +11,5 @@ mod modules;
 mod records;
 #[cfg(test)]
 mod runs;
+#[cfg(test)]
+mod sums;

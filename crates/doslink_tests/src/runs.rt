@@ -13,6 +13,10 @@ use crate::records::{
     BEHIND_LOWERED, BESIDE_LCOMDEF, CHOSEN, COMDAT, COMDATS, LINSYM, LOCAL_FAR, OTHER_TYPE,
     PATCHED, PATCHED_BY_NAME, REPEATS, UNLISTED, WIDELY,
 };
+use crate::sums::{
+    EXTERNAL_FITS, EXTERNAL_SUM, GROUP_FITS, GROUP_SUM, LOADER, REPEATED_FITS, REPEATED_SUM,
+    SEGMENT_FITS, SEGMENT_SUM, WIDELY_REPEATED,
+};
 use desk::{Count, Desk, Page, Pen};
 use doslink_jobs::{language_of, run_words};
 use omf_files::BufferedSink;
@@ -140,6 +144,23 @@ doslink -v LOCAL.OBJ ALIAS.OBJ RUN.LIB|0|LOCAL.OBJ~ALIAS.OBJ~RUN.LIB(c.c) for \"
 doslink --ignore-case CALLS.OBJ CASE.OBJ F.OBJ|1||doslink: CASE.OBJ: 60 EndlessAlias \"F\" at record 8~
 ";
 
+/// Runs with offsets of 32 bits whose sums are 65,535, and 65,536 or more, in the same form.
+const SUM_RUNS: &str = "\
+doslink EFITS.OBJ F.OBJ|0||
+doslink ESUM.OBJ F.OBJ|1||doslink: ESUM.OBJ: 61 SumAbove16Bits at record 46~
+doslink --order dosseg A.OBJ ESUM.OBJ F.OBJ|1||doslink: ESUM.OBJ: 61 SumAbove16Bits at record 46~
+doslink F.OBJ ESUM.OBJ|0||
+doslink SFITS.OBJ|0||
+doslink SSUM.OBJ|1||doslink: SSUM.OBJ: 61 SumAbove16Bits at record 39~
+doslink GFITS.OBJ|0||
+doslink GSUM.OBJ|1||doslink: GSUM.OBJ: 61 SumAbove16Bits at record 53~
+doslink RFITS.OBJ|0||
+doslink RSUM.OBJ|1||doslink: RSUM.OBJ: 61 SumAbove16Bits at record 44~
+doslink WSUM.OBJ|1||doslink: WSUM.OBJ: 61 SumAbove16Bits at record 57~
+doslink ESUM.OBJ|1||doslink: ESUM.OBJ: \"f\" is missing: record 28 (0000001C), wanted by \"s.c\"~
+doslink LOADER.OBJ|0||
+";
+
 /// Runs with weak and lazy externals, in the same form.
 const DEFAULT_RUNS: &str = "\
 doslink -v WEAKLY.OBJ RUN.LIB|0|WEAKLY.OBJ~RUN.LIB(c.c) for \"g\"~|
@@ -166,7 +187,11 @@ doslink ITSELF.OBJ|1||doslink: ITSELF.OBJ: 60 EndlessAlias \"f\" at record 35~
 ";
 
 /// Runs, and the end of the file that each writes: the whole of it, or its code, which calls `f` first.
-const PROGRAMS: [(&str, &[u8]); 14] = [
+const PROGRAMS: [(&str, &[u8]); 16] = [
+    // FFFBH and the offset 4 in 32 bits
+    ("doslink EFITS.OBJ F.OBJ", &[0xFF, 0xFF, 0x00, 0x00, 0x90]),
+    // an offset of 16 bits goes round, and one of 32 doesn't
+    ("doslink LOADER.OBJ", &[0x00, 0x00, 0x05, 0x00, 0x00, 0x00]),
     // its default is in the module behind the next one
     (
         "doslink WEAKLY.OBJ D.OBJ RUN.LIB",
@@ -295,7 +320,7 @@ modules
 ";
 
 /// Runs, and what each writes: the path of its program, the program, and its map at P.MAP. What isn't written stays `old`.
-const WRITTEN: [(&str, &str, &[u8], &str); 5] = [
+const WRITTEN: [(&str, &str, &[u8], &str); 6] = [
     (
         "doslink -o P.EXE -m P.MAP A.OBJ F.OBJ",
         "P.EXE",
@@ -307,6 +332,8 @@ const WRITTEN: [(&str, &str, &[u8], &str); 5] = [
     ("doslink -m P.MAP A.OBJ", "", b"old", "old"),
     ("doslink -m P.MAP A.OBJ F.OBJ F.OBJ", "", b"old", "old"),
     ("doslink -m F.OBJ A.OBJ F.OBJ", "", b"old", "old"),
+    // a sum has more than 16 bits
+    ("doslink -m P.MAP SSUM.OBJ", "", b"old", "old"),
 ];
 
 /// What a run did: its status, both streams, and the program and its map, which were `old`.
@@ -394,6 +421,16 @@ fn run_row(alloc: Global, row: &str, path: &str) -> Result<Done, AllocError> {
         ("CHOSEN.OBJ", CHOSEN.as_slice()),
         ("UNLISTED.OBJ", UNLISTED.as_slice()),
         ("LOWERED.OBJ", BEHIND_LOWERED.as_slice()),
+        ("EFITS.OBJ", EXTERNAL_FITS.as_slice()),
+        ("ESUM.OBJ", EXTERNAL_SUM.as_slice()),
+        ("SFITS.OBJ", SEGMENT_FITS.as_slice()),
+        ("SSUM.OBJ", SEGMENT_SUM.as_slice()),
+        ("GFITS.OBJ", GROUP_FITS.as_slice()),
+        ("GSUM.OBJ", GROUP_SUM.as_slice()),
+        ("RFITS.OBJ", REPEATED_FITS.as_slice()),
+        ("RSUM.OBJ", REPEATED_SUM.as_slice()),
+        ("WSUM.OBJ", WIDELY_REPEATED.as_slice()),
+        ("LOADER.OBJ", LOADER.as_slice()),
     ];
     let out = Page::new(alloc, path, b"old", ROOM)?;
     let map = Page::new(alloc, "P.MAP", b"old", ROOM)?;
@@ -474,6 +511,13 @@ fn communal_runs_tell_these_lines(rt: HostRuntime) -> Result<(), Fail> {
 #[test]
 fn alias_runs_tell_these_lines(rt: HostRuntime) -> Result<(), Fail> {
     let wrong = first_wrong(rt.alloc(), ALIAS_RUNS)?;
+    assert_eq!(rt; wrong, None);
+    Ok(())
+}
+
+#[test]
+fn sum_runs_tell_these_lines(rt: HostRuntime) -> Result<(), Fail> {
+    let wrong = first_wrong(rt.alloc(), SUM_RUNS)?;
     assert_eq!(rt; wrong, None);
     Ok(())
 }

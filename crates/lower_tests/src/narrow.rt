@@ -59,21 +59,21 @@ fn fixups(rt: HostRuntime) -> Result<(), Fail> {
         rt.alloc(),
         PLAIN,
         "\
-# LEDATA: locations 9 and 13 become 1, displacements two bytes; others and threads stay
+# LEDATA: locations 9 and 13 become 5, displacements two bytes; others and threads stay
 A1 01 04 00 00 00 05 00 00 00 FF FF 00 00 AA
 9D 40 01 E4 00 54 01 F4 04 50 01 34 12 00 00 CC 06 54 01 C4 07 9D
 9C E4 00 54 01
 --
 A0 01 04 00 05 00 00 00 FF FF 00 00 AA
-9C 40 01 C4 00 54 01 C4 04 50 01 34 12 CC 06 54 01 C4 07 9D
-9C C4 00 54 01
+9C 40 01 D4 00 54 01 D4 04 50 01 34 12 CC 06 54 01 C4 07 9D
+9C D4 00 54 01
 
 # the same behind LEDATA of 16 bits
 A0 01 00 00 05 00 00 00
 9D E4 00 54 01
 --
 A0 01 00 00 05 00 00 00
-9C C4 00 54 01
+9C D4 00 54 01
 
 # LIDATA: each repeat count before a place moves it by two; one block, one behind it, one in a third
 A3 01 00*4 02 00*5 04 AA BB 00*2 01 00*5 02 11 22 03 00*3 01 00 01 00*5 03 33 44 55
@@ -81,7 +81,7 @@ A3 01 00*4 02 00*5 04 AA BB 00*2 01 00*5 02 11 22 03 00*3 01 00 01 00*5 03 33 44
 9C C4 22 50 01 34 12
 --
 A2 01 00 00 02 00 00 00 04 AA BB 00 00 01 00 00 00 02 11 22 03 00 01 00 01 00 00 00 03 33 44 55
-9C C4 06 54 01 C4 0E 54 01 C4 19 54 01 C4 05 54 01
+9C C4 06 54 01 C4 0E 54 01 C4 19 54 01 D4 05 54 01
 9C C4 1A 50 01 34 12
 
 # LIDATA of 16 bits: a location of 32 in its content
@@ -89,7 +89,7 @@ A2 01 00 00 01 00 00 00 04 AA BB 00 00
 9D E4 05 54 01
 --
 A2 01 00 00 01 00 00 00 04 AA BB 00 00
-9C C4 05 54 01",
+9C D4 05 54 01",
     )
 }
 
@@ -106,7 +106,7 @@ A0 01 00 00 05 00 00 00 FF FF 00 00
 9C E4 00 54 01 F4 04 50 01 34 12
 --
 A0 01 00 00 05 00 00 00 FF FF 00 00
-9C C4 00 54 01 C4 04 50 01 34 12
+9C D4 00 54 01 D4 04 50 01 34 12
 
 # behind threads and fix-ups of 16 bits, which stay; the data of the last record counts
 A0 01 00 00 FF FF FF FF FF FF FF FF
@@ -117,18 +117,29 @@ A0 01 08 00 00 00 05 00 00 00
 A0 01 00 00 FF FF FF FF FF FF FF FF
 9C C4 04 9D 53 C8 00 54 01
 A0 01 08 00 00 00 05 00 00 00
-9C 40 01 C4 00 54 01 8C 00 56 80 01 C4 02 9D C4 02 12 01 80 01 34 12 CC 06 54 01
+9C 40 01 C4 00 54 01 8C 00 56 80 01 D4 02 9D D4 02 12 01 80 01 34 12 CC 06 54 01
 
 # repeated data
 A2 01 00 00 02 00 00 00 06 AA BB 05 00 00 00
 9C E4 07 54 01
 --
 A2 01 00 00 02 00 00 00 06 AA BB 05 00 00 00
-9C C4 07 54 01
+9C D4 07 54 01
+
+# loader-resolved offsets, location 5, become 1: in LEDATA, and in LIDATA of 32 bits
+A0 01 00 00 00 00 00 00
+9C D4 00 54 01 C8 02 54 01 94 01 54 01
+A3 01 00 00 00 00 02 00 00 00 00 00 02 AA BB
+9D D4 07 54 01
+--
+A0 01 00 00 00 00 00 00
+9C C4 00 54 01 C8 02 54 01 84 01 54 01
+A2 01 00 00 02 00 00 00 02 AA BB
+9C C4 05 54 01
 
 # records without one stay, up to what isn't a subrecord
 A0 01 00 00 00 00 00 00
-9C C4 00 54 01 C8 02 54 01 CC 00 54 01 94 00 54 01
+9C C4 00 54 01 C8 02 54 01 CC 00 54 01 80 00 54 01
 
 A0 01 00 00 00 00 00 00
 9C C4 00 34 01 E4 00 54 01

@@ -23,3 +23,4 @@ pub mod Leading
 pub mod Listing
 pub mod Finishing
 pub mod Readiness
+pub mod Overflowing

@@ -5,6 +5,7 @@ pub mod Reference
 pub mod Value
 pub mod Records
 pub mod Faults
+pub mod Overflow
 pub mod Labels
 pub mod Registers
 pub mod Program

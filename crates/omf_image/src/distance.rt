@@ -5,6 +5,7 @@ ghost use Rattle.omf_image.specs.Reference.{frame'};
 ghost use Rattle.omf_image.specs.Value.{modulo, real_address, real_frame, from_frame, from_address, base_patch};
 ghost use Rattle.omf_image.specs.Value.{patches_at};
 ghost use Rattle.omf_image.specs.Faults.{is_mixed, in_frame, target_in_frame, fits_short, short_distance};
+ghost use Rattle.omf_image.specs.Overflow.{is_above, is_measured};
 ghost use Rattle.omf_record.specs.Numbers.{location_width};
 ghost use Rattle.omf_image.specs.inside.Patches.{patch_end};
 ghost use Rattle.omf_image.specs.inside.Lookups.{listed, EndsBy};
@@ -89,6 +90,21 @@ impl Resolved {
         ensures { result ≡ target_in_frame self.now }
     {
         self.in_frame(u64::from(self.address()))
+    }
+
+    /// Whether the target has a distance from its frame.
+    pub fn is_measured(&self) -> bool
+        ensures { result ≡ is_measured self.now }
+    {
+        !self.is_mixed(false, Location::LoaderOffset) && self.is_framed()
+    }
+
+    /// Whether the sum of a word and the target's distance from its frame is 65,536 or more.
+    pub fn is_above(&self, word: u32) -> bool
+        ensures { result ≡ is_above self.now word }
+    {
+        let to = u64::from(self.address()) + u64::from(self.displacement);
+        16 * u64::from(self.base()) + 65536 <= to + u64::from(word)
     }
 
     /// Whether the distance from the end of a byte fits a signed byte.

@@ -1,6 +1,8 @@
 -- What is left of entries while one of them is looked for.
-use Rattle.std.proofs.Common.{◌≡◌, ℕ, zero, suc, ◌<◌, ◌≤◌, Bool, true, false, ◌||◌, List, length, Option, None, Some}
+use Rattle.std.proofs.Common.{◌≡◌, ℕ, zero, suc, ◌<◌, ◌≤◌, Bool, true, false, ◌||◌, List, [], ◌∷◌, length, map}
+use Rattle.std.proofs.Common.{Option, None, Some}
 use Rattle.std.proofs.Common.{refl, sym, ap, ◌∙◌, arith, le_refl}
+use Rattle.std.specs.List.{list_any}
 use Rattle.std.specs.Option.{option_map_or}
 use Rattle.omf_lower.specs.Fields.{any_up_to, any_entry}
 
@@ -63,3 +65,9 @@ none_at front (suc most) rest e = ap (and_then front most) e
 pub any_none : (front : List ℕ → Option (Bool × List ℕ)) (bytes rest : List ℕ) → AnyLeft front bytes rest
     → front rest ≡ None → any_entry front bytes ≡ false
 any_none front bytes rest left e = sym left.all ∙ none_at front left.most rest e
+
+-- one of a list is so as it is seen
+pub any-mapped : {X Y : Type 0} (p : Y → Bool) (f : X → Y) (xs : List X)
+    → list_any (λ x. p (f x)) xs ≡ list_any p (map f xs)
+any-mapped p f [] = refl
+any-mapped p f (x ∷ xs) = ap (λ r. p (f x) || r) (any-mapped p f xs)

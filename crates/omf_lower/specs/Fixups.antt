@@ -103,11 +103,17 @@ location_of first = first / 4 % 16
 abbrev pub is_wide : ℕ → Bool
 is_wide location = (location == 9) || (location == 13)
 
--- a subrecord: whether it is a fix-up of 32 bits, and the bytes behind it
+-- a loader-resolved offset, 5, is an offset of 16 bits as 1 is; so 5 is free for the fix-ups that were of 32 bits
+abbrev pub is_loader_offset : ℕ → Bool
+is_loader_offset location = location == 5
+
+-- a subrecord: whether it is a fix-up of 32 bits or of a loader-resolved offset, and the bytes behind it
 unfoldable pub subrecord_front : ℕ → List ℕ → Option (Bool × List ℕ)
 subrecord_front width [] = None
 subrecord_front width (first ∷ bytes) =
-    option_map (λ rest. (nat_le 128 first && is_wide (location_of first), rest)) (behind_subrecord width first bytes)
+    option_map
+    (λ rest. (nat_le 128 first && (is_wide (location_of first) || is_loader_offset (location_of first)), rest))
+    (behind_subrecord width first bytes)
 
 -- a displacement in at most two bytes
 abbrev pub narrowed : List ℕ → Result (List ℕ) Obstacle
@@ -126,11 +132,15 @@ low_place (place, content) =
     else if (slice_index content 2 == 0) && (slice_index content 3 == 0) then Ok place
     else Err Above16Bits
 
--- a location of 32 bits, 9 or 13, becomes one of 16, 1. Bit 6, M, is set: it isn't self-relative
+-- a location of 32 bits, 9 or 13, becomes one of 16, 5. Bit 6, M, is set: it isn't self-relative
 abbrev pub wide_location : Data → ℕ → ℕ → Result (ℕ × ℕ) Obstacle
 wide_location last first place =
     if first / 64 % 2 == 0 then Err Location
-    else (ok_or (located last place) Location >>= low_place >>= λ to. Ok (locat first 1 to))
+    else (ok_or (located last place) Location >>= low_place >>= λ to. Ok (locat first 5 to))
+
+-- another location stays, but that 5 becomes 1
+abbrev pub short_location : ℕ → ℕ
+short_location location = if is_loader_offset location then 1 else location
 
 -- the two bytes of a fix-up with its location, bits 5 to 2 of the first, at the place to which that of the data moves
 abbrev pub moved : Data → ℕ → ℕ → Result (ℕ × ℕ) Obstacle
@@ -138,8 +148,8 @@ moved last first low =
     let location = location_of first in
     let place = first % 4 * 256 + low in
     if is_wide location then wide_location last first place
-    else if moves last then (ok_or (located last place) Location >>= λ to. Ok (locat first location to.0))
-    else Ok (first, low)
+    else if moves last then (ok_or (located last place) Location >>= λ to. Ok (locat first (short_location location) to.0))
+    else Ok (locat first (short_location location) place)
 
 -- the text of a fix-up
 abbrev pub fixup_text : Data → ℕ → ℕ × Reference → Result (List ℕ) Obstacle

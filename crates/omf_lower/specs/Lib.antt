@@ -7,6 +7,7 @@ pub mod Data
 pub mod Fixups
 pub mod Seen
 pub mod Records
+pub mod Wide
 pub mod Module
 pub mod Law
 pub mod inside

@@ -187,8 +187,15 @@ fn is_wide(location: u8) -> bool
     location == 9 || location == 13
 }
 
-/// Whether the subrecord at the front, whose displacement has so many bytes, is a fix-up of 32 bits, and the bytes behind
-/// it. None where none is there.
+/// Whether a loader-resolved offset has this location.
+fn is_loader_offset(location: u8) -> bool
+    ensures { result ≡ fixups.is_loader_offset location }
+{
+    location == 5
+}
+
+/// Whether the subrecord at the front, whose displacement has so many bytes, is a fix-up of 32 bits or of a
+/// loader-resolved offset, and the bytes behind it. None where none is there.
 #[tactic(auto, unfolding(crate::specs::Fixups::subrecord_front))]
 fn take_subrecord(width: usize, bytes: &[u8]) -> Option<(bool, &[u8])>
     ensures said { change_said result ≡ fixups.subrecord_front width bytes.now }
@@ -198,10 +205,15 @@ fn take_subrecord(width: usize, bytes: &[u8]) -> Option<(bool, &[u8])>
         return None;
     };
     let after = behind_subrecord(width, *first, rest)?;
-    Some((128 <= *first && is_wide(location_of(*first)), after))
+    let location = location_of(*first);
+    Some((
+        128 <= *first && (is_wide(location) || is_loader_offset(location)),
+        after,
+    ))
 }
 
-/// Whether a fix-up of 32 bits is among subrecords, whose displacements have so many bytes, before what isn't one.
+/// Whether a fix-up of 32 bits or of a loader-resolved offset is among subrecords, whose displacements have so many
+/// bytes, before what isn't one.
 pub(crate) fn has_wide(width: usize, bytes: &[u8]) -> bool
     ensures { result ≡ any_entry (fixups.subrecord_front width) bytes.now }
 {
@@ -257,7 +269,18 @@ fn wide_location(last: &Data<'_>, first: u8, place: usize) -> Result<(u8, u8), O
     }
     let (to, content) = located(last, place).ok_or(Obstacle::Location)?;
     let to = low_place(to, content)?;
-    Ok(locat(first, 1, to))
+    Ok(locat(first, 5, to))
+}
+
+/// The location of a fix-up that isn't of 32 bits, as it is written.
+fn short_location(location: u8) -> u8
+    ensures { result ≡ fixups.short_location location }
+{
+    if is_loader_offset(location) {
+        1
+    } else {
+        location
+    }
 }
 
 /// The two bytes of a fix-up with its location, at the place to which that of the data moves.
@@ -270,10 +293,10 @@ fn moved(last: &Data<'_>, first: u8, low: u8) -> Result<(u8, u8), Obstacle>
         return wide_location(last, first, place);
     }
     if last.kind != 0xA3 {
-        return Ok((first, low));
+        return Ok(locat(first, short_location(location), place));
     }
     let (to, _) = located(last, place).ok_or(Obstacle::Location)?;
-    Ok(locat(first, location, to))
+    Ok(locat(first, short_location(location), to))
 }
 
 /// What is written for a fix-up with these two bytes and this reference.

@@ -16,6 +16,7 @@ mod recipe;
 mod records;
 mod seen;
 mod segments;
+mod wide;
 mod written;
 
 pub use fault::{LoweringFault, Obstacle};
@@ -23,3 +24,4 @@ pub use laws::{externals_are_renamed, records_are_kept};
 pub use lowering::{Lowering, lower};
 pub use places::record_place;
 pub use segments::is_far_data;
+pub use wide::has_wide_fixups;

@@ -1,5 +1,5 @@
-use Rattle.std.proofs.Common.{◌≡◌, Any, map, ap, inl, inr, refl, subst, ◌∙◌}
-use Rattle.std.specs.Option.{option_map}
+use Rattle.std.proofs.Common.{◌≡◌, ◌++◌, Any, map, ap, inl, inr, refl, subst, ◌∙◌}
+use Rattle.std.specs.Option.{option_map, option_to_list}
 use Rattle.clap.proofs.WalkLemmas.{list_any-map}
 use Rattle.omf_communal.specs.Deciding.{variable_said}
 use Rattle.omf_communal.specs.Modules.{bytes_of}
@@ -9,10 +9,12 @@ use Rattle.doslink_stock.specs.Seen.{handed_held}
 use Rattle.doslink_words.specs.Said.{order_of}
 use Rattle.doslink_jobs.specs.Communals.{IsCommunalModule}
 use Rattle.doslink_jobs.specs.Jobs.{link_says, names_of}
+use Rattle.doslink_jobs.specs.Overflow.{HaveOverflow, NarrowFixups}
 use Rattle.doslink_jobs.specs.Refusals.{HaveNoPlace, IsNotLowered}
 use Rattle.doslink_jobs.specs.inside.Inputs.{lowered_bytes, module_list, own_bytes}
 use Rattle.doslink_jobs.proofs.Declaring.{offers-names, said-with-variables}
 use Rattle.doslink_jobs.proofs.Lists.{map-map}
+use Rattle.doslink_jobs.proofs.Overflowing.{fit-of}
 use Rattle.doslink_jobs.proofs.Reading.{no-order-for, order-for}
 use Rattle.doslink_jobs.proofs.Refused.{locals-of, lowered-of, no-locals-of, refused-exit}
 use Rattle.doslink_jobs.proofs.inputs.inputs_of.Goals as goal
@@ -31,6 +33,8 @@ returns g c =
     let lowered = map lowered_bytes c.in_ok-lowered.lowered.items in
     let modules = c.in_ok-modules.modules.items in
     let communal = option_map (λ v. v.items) c.in_ok-communal.communal in
+    let order = option_map (λ v. v.items) c.in_ok-order.order in
+    let linked = option_to_list order ++ (map lowered_bytes modules ++ option_to_list communal) in
     record {
       lowered = lowered;
       inputs = map lowered_bytes modules;
@@ -41,14 +45,20 @@ returns g c =
           (map own_bytes c.in_ok-lowered.lowered.items) lowered (map lowered_bytes modules) c.options_of-names.ensures
           c.in_ok-lowered.ensures.own c.in_ok-modules.ensures;
       placed = subst (λ ms. IsCommunalModule (map lowered_bytes ms) (map variable_said c.args.variables.now) communal)
-          c.deref-3.ensures.value c.in_ok-communal.ensures;
+          c.deref-4.ensures.value c.in_ok-communal.ensures;
       ordered = order-for (option_map (λ v. v.items) c.in_ok-order.order) (order_of job.order)
           c.options_of-names.result.names (names_of job.ignore_case) c.args.marks c.asks_dosseg.result _
-          (module_list c.deref-4.result.now c.in_ok-communal.communal)
+          (module_list c.deref-5.result.now c.in_ok-communal.communal)
           (module_list modules c.in_ok-communal.communal) c.options_of-names.ensures
           (c.asks_dosseg.ensures ∙ list_any-map (λ m. m.dosseg) handed_held handed)
-          (ap (λ ms. module_list ms c.in_ok-communal.communal) c.deref-4.ensures.value) c.in_ok-order.ensures;
+          (ap (λ ms. module_list ms c.in_ok-communal.communal) c.deref-5.ensures.value) c.in_ok-order.ensures;
       together = refl;
+      fit = fit-of _ _ c.in_ok-are_narrow.are_narrow
+          (λ no. subst (λ os. NarrowFixups os lowered → ⊥)
+          (c.in_ok-lowered.ensures.own ∙ map-map handed_held (λ m. m.bytes) handed)
+          (subst (λ ms. NarrowFixups (map own_bytes ms) (map lowered_bytes ms) → ⊥) c.deref-3.ensures.value
+          (c.in_ok-are_narrow.ensures no)))
+          (λ yes. subst (λ n. HaveOverflow n linked → ⊥) c.options_of-names.ensures (c.in_ok-check_sums.ensures yes));
     }
 
 pub returns-in_err-lowered : goal.returns-in_err-lowered
@@ -113,7 +123,7 @@ returns-in_err-communal g c =
             (map own_bytes c.in_ok-lowered.lowered.items) lowered (map lowered_bytes modules)
             c.options_of-names.ensures c.in_ok-lowered.ensures.own c.in_ok-modules.ensures,
         inl (subst (λ ms. HaveNoPlace (map lowered_bytes ms) (map variable_said c.args.variables.now))
-            c.deref-3.ensures.value none),
+            c.deref-4.ensures.value none),
       ),
     ))
     c.in_err-communal.ensures
@@ -144,13 +154,57 @@ returns-in_err-order g c =
         inr (
           communal,
           subst (λ ms. IsCommunalModule (map lowered_bytes ms) (map variable_said c.args.variables.now) communal)
-              c.deref-3.ensures.value c.in_ok-communal.ensures,
-          no-order-for (order_of job.order) c.options_of-names.result.names (names_of job.ignore_case)
-              c.asks_dosseg.result _ (module_list c.deref-4.result.now c.in_ok-communal.communal)
+              c.deref-4.ensures.value c.in_ok-communal.ensures,
+          inl (no-order-for (order_of job.order) c.options_of-names.result.names (names_of job.ignore_case)
+              c.asks_dosseg.result _ (module_list c.deref-5.result.now c.in_ok-communal.communal)
               (module_list modules c.in_ok-communal.communal) c.options_of-names.ensures
               (c.asks_dosseg.ensures ∙ list_any-map (λ m. m.dosseg) handed_held handed)
-              (ap (λ ms. module_list ms c.in_ok-communal.communal) c.deref-4.ensures.value) none,
+              (ap (λ ms. module_list ms c.in_ok-communal.communal) c.deref-5.ensures.value) none),
         ),
       ),
     ))
     c.in_err-order.ensures
+
+pub returns-in_err-check_sums : goal.returns-in_err-check_sums
+returns-in_err-check_sums g c =
+    let job = c.args.job.now in
+    let handed = c.args.taken.now.handed.now in
+    let says = link_says (map handed_held handed) (map variable_said c.args.variables.now) in
+    let same : map module_said c.deref-2.result.now ≡ says =
+    ap (map module_said) c.deref-2.ensures.value
+    ∙ said-with-variables c.in_ok-says.says.items c.push.new.self.items _ (map needs (map handed_held handed))
+    c.args.variables.now (c.in_ok-says.ensures ∙ map-map handed_held needs handed) c.in_ok-push.ensures.items
+    (offers-names c.deref.result.now c.args.variables.now
+    (ap bytes_of c.deref.ensures.value ∙ c.in_ok-offered.ensures)) in
+    let lowered = map lowered_bytes c.in_ok-lowered.lowered.items in
+    let modules = c.in_ok-modules.modules.items in
+    let communal = option_map (λ v. v.items) c.in_ok-communal.communal in
+    let order = option_map (λ v. v.items) c.in_ok-order.order in
+    refused-exit _ c.from_residual-in_err-check_sums.result _ c.from_residual-in_err-check_sums.ensures.1
+    (λ some. inr (
+      lowered,
+      lowered-of job handed lowered _ says same c.in_ok-lowered.ensures.lowered,
+      inr (
+        map lowered_bytes modules,
+        locals-of c.options_of-names.result.names (names_of job.ignore_case) handed
+            (map own_bytes c.in_ok-lowered.lowered.items) lowered (map lowered_bytes modules)
+            c.options_of-names.ensures c.in_ok-lowered.ensures.own c.in_ok-modules.ensures,
+        inr (
+          communal,
+          subst (λ ms. IsCommunalModule (map lowered_bytes ms) (map variable_said c.args.variables.now) communal)
+              c.deref-4.ensures.value c.in_ok-communal.ensures,
+          inr (
+            order,
+            order-for order (order_of job.order)
+                c.options_of-names.result.names (names_of job.ignore_case) c.args.marks c.asks_dosseg.result _
+                (module_list c.deref-5.result.now c.in_ok-communal.communal)
+                (module_list modules c.in_ok-communal.communal) c.options_of-names.ensures
+                (c.asks_dosseg.ensures ∙ list_any-map (λ m. m.dosseg) handed_held handed)
+                (ap (λ ms. module_list ms c.in_ok-communal.communal) c.deref-5.ensures.value) c.in_ok-order.ensures,
+            subst (λ n. HaveOverflow n (option_to_list order ++ (map lowered_bytes modules ++ option_to_list communal)))
+                c.options_of-names.ensures some,
+          ),
+        ),
+      ),
+    ))
+    c.in_err-check_sums.ensures

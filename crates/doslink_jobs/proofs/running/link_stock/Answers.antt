@@ -66,6 +66,10 @@ returns-in_err-inputs g c =
     c.options_of-names.ensures c.in_ok-found.ensures c.as_slice-handed.ensures.value in
     let vs = map variable_said c.in_ok-variables.variables.items in
     let are = subst (λ n. AreVariablesOf n modules vs) c.options_of-names.ensures c.in_ok-variables.ensures in
+    let marks : c.in_ok-marks.marks ≡ wants_marks names (link_says modules vs) =
+    c.in_ok-marks.ensures.marks
+    ∙ ap (λ n. wants_marks n (link_says modules (map variable_said c.deref-2.result.now))) c.options_of-names.ensures
+    ∙ ap (λ l. wants_marks names (link_says modules (map variable_said l))) c.deref-2.ensures.value in
     refused-exit _ c.from_residual-in_err-inputs.result _ c.from_residual-in_err-inputs.ensures.1
     (λ none. (
       modules,
@@ -74,8 +78,9 @@ returns-in_err-inputs g c =
         vs,
         are,
         inr (inl
-            (subst (λ l. HaveNoInputs job (link_says modules (map variable_said l)) modules (map variable_said l))
-            c.deref-3.ensures.value none)),
+            (subst (λ m. HaveNoInputs job (link_says modules vs) m modules vs) marks
+            (subst (λ l. HaveNoInputs job (link_says modules (map variable_said l)) c.in_ok-marks.marks modules
+            (map variable_said l)) c.deref-3.ensures.value none))),
       ),
     ))
     c.in_err-inputs.ensures

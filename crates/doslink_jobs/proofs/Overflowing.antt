@@ -1,0 +1,129 @@
+-- Fix-ups that were of 32 bits, and their sums.
+use Rattle.std.proofs.Common.{◌≡◌, ◌≢◌, ℕ, ◌∷◌, [], ◌++◌, Bool, true, false, All, Any, List, map, zip, length, get_or}
+use Rattle.std.proofs.Common.{Some, None, IfSome, refl, sym, subst, ap, ap₂, ◌∙◌, true≢false}
+use Rattle.std.specs.declared.option.Option.{Option}
+use Rattle.std.specs.Borrow.{Bor}
+use Rattle.omf_image.specs.Overflow.{has_overflow}
+use Rattle.omf_lower.specs.Wide.{has_wide_fixups}
+use Rattle.omf_module.specs.Bytes.{ModuleBytes}
+use Rattle.omf_module.specs.Module.{Module}
+use Rattle.omf_module.specs.Tables.{module_of}
+use Rattle.omf_place.specs.Faults.{IsFirstFault, IsOnlyLayout, PlacementFault, placement_fault}
+use Rattle.omf_place.specs.Layout.{Layout}
+use Rattle.omf_place.specs.Said.{said}
+use Rattle.omf_place.specs.declared.faults.PlaceFault.{PlaceFault}
+use Rattle.omf_place.specs.declared.faults.PlaceFault.TheVariants as held
+use Rattle.omf_place.specs.declared.names.Names.{Names}
+use Rattle.omf_record.specs.Records.{Placed}
+use Rattle.doslink_link.specs.Linking.{AllBeginWith, BeginsWith, bytes_of}
+use Rattle.doslink_jobs.specs.declared.lowering.LoweredModule.{LoweredModule}
+use Rattle.doslink_jobs.specs.Orders.{AreRead, AreUnread}
+use Rattle.doslink_jobs.specs.Overflow.{HaveOverflow, NarrowFixups}
+use Rattle.doslink_jobs.specs.inside.Inputs.{lowered_bytes, own_bytes}
+
+-- ---- which modules have such fix-ups
+
+-- a module, and what is linked of it
+abbrev pub both_bytes : {A : Type 0} → LoweredModule A → List ℕ × List ℕ
+both_bytes m = (own_bytes m, lowered_bytes m)
+
+abbrev pub IsNarrow : List ℕ × List ℕ → Type 0
+IsNarrow m = (m.0 ≢ m.1) × (has_wide_fixups m.0 ≡ true)
+
+zip-both : {X Y Z : Type 0} (f : X → Y) (g : X → Z) (xs : List X) → zip (map f xs) (map g xs) ≡ map (λ x. (f x, g x)) xs
+zip-both f g [] = refl
+zip-both f g (x ∷ xs) = ap (λ l. (f x, g x) ∷ l) (zip-both f g xs)
+
+none-of : {X : Type 0} (P : X → Type 0) (xs : List X) → All (λ x. P x → ⊥) xs → Any P xs → ⊥
+none-of P xs none (k, x, h, is, p) = none k x h (subst P (sym is) p)
+
+-- none has one
+pub not-narrow : {A : Type 0} (modules : List (LoweredModule A)) → All (λ m. IsNarrow m → ⊥) (map both_bytes modules)
+    → NarrowFixups (map own_bytes modules) (map lowered_bytes modules) → ⊥
+not-narrow modules none some =
+    none-of IsNarrow (map both_bytes modules) none (subst (Any IsNarrow) (zip-both own_bytes lowered_bytes modules) some)
+
+-- a module that has none
+pub has-none : (m : List ℕ × List ℕ) → has_wide_fixups m.0 ≡ false → IsNarrow m → ⊥
+has-none m none narrow = true≢false (sym narrow.1 ∙ none)
+
+-- no module has one, where no sum is too great
+pub fit-of : (N O : Type 0) (are_narrow : Bool) → (are_narrow ≡ false → N → ⊥) → (are_narrow ≡ true → O → ⊥) → N → O
+    → ⊥
+fit-of N O true none fits narrow over = fits refl over
+fit-of N O false none fits narrow over = none refl narrow
+
+-- ---- what inputs begin with
+
+-- bytes begin with one module at most
+abbrev pub OneModule : Type 0
+OneModule = (rs ss : List Placed) (x y r s : List ℕ) → ModuleBytes rs x → ModuleBytes ss y → x ++ r ≡ y ++ s
+    → (rs ≡ ss) × (x ≡ y) × (r ≡ s)
+
+begins-same : OneModule → (rs ss : List Placed) (bytes : List ℕ) → BeginsWith rs bytes → BeginsWith ss bytes → rs ≡ ss
+begins-same one rs ss bytes (x, r, is, sound) (y, s, same, other) = (one rs ss x y r s sound other (sym is ∙ same)).0
+
+begin-same : OneModule → (lists others : List (List Placed)) (inputs : List (List ℕ)) → AllBeginWith lists inputs
+    → AllBeginWith others inputs → lists ≡ others
+begin-same one [] [] [] all other = refl
+begin-same one [] (o ∷ os) [] all other = absurd other
+begin-same one (l ∷ ls) os [] all other = absurd all
+begin-same one [] os (i ∷ is) all other = absurd all
+begin-same one (l ∷ ls) [] (i ∷ is) all other = absurd other
+begin-same one (l ∷ ls) (o ∷ os) (i ∷ is) all other =
+    ap₂ (λ x xs. x ∷ xs) (begins-same one l o i all.0 other.0) (begin-same one ls os is all.1 other.1)
+
+-- inputs begin with one list of modules at most
+read-same : OneModule → (inputs : List (List ℕ)) (read other : List Module) → AreRead inputs read → AreRead inputs other
+    → read ≡ other
+read-same one inputs read other (lists, all, are) (others, begin, same) =
+    are ∙ ap (map module_of) (begin-same one lists others inputs all begin) ∙ sym same
+
+-- ---- whether a sum is too great
+
+-- not where an input begins with no module
+pub none-unread : (names : Names) (inputs other : List (List ℕ)) → inputs ≡ other → AreUnread inputs
+    → HaveOverflow names other → ⊥
+none-unread names inputs other same unread (modules, layout, read, is, over) =
+    unread modules (subst (λ i. AreRead i modules) (sym same) read)
+
+-- one is
+pub overflow-is : (names : Names) (inputs other : List (List ℕ)) (modules : List Module) (layout : Layout)
+    → inputs ≡ other → AreRead inputs modules → IsOnlyLayout names modules layout → has_overflow layout modules ≡ true
+    → HaveOverflow names other
+overflow-is names inputs other modules layout same read is over =
+    (modules, layout, subst (λ i. AreRead i modules) same read, is, over)
+
+-- none is
+pub none-over : OneModule → (names : Names) (inputs other : List (List ℕ)) (read : List Module) (layout : Layout)
+    → inputs ≡ other → AreRead inputs read → IsOnlyLayout names read layout → has_overflow layout read ≡ false
+    → HaveOverflow names other → ⊥
+none-over one names inputs other read layout same are is none (modules, placed, begin, only, over) =
+    let all : modules ≡ read = read-same one other modules read begin (subst (λ i. AreRead i read) same are) in
+    let there : placed ≡ layout = is.1 placed (subst (λ ms. IsOnlyLayout names ms placed) all only).0 in
+    true≢false (sym over ∙ ap₂ has_overflow there all ∙ none)
+
+first-none : (names : Names) (modules : List Module) (fault : PlacementFault) (layout : Layout)
+    → IsFirstFault names modules fault → IsOnlyLayout names modules layout → ⊥
+first-none names modules fault layout (addresses, size, placed, only, stands) ((others, at, none, is), one) =
+    let same = only others layout.size at in
+    let clash : None ≡ Some fault =
+    sym none ∙ ap₂ (placement_fault names modules) same.0 same.1 ∙ stands in cc
+
+none-placed : {A : Type 0} (names : Names) (modules : List Module) (fault : PlaceFault A) (layout : Layout)
+    → fault ≢ held.Memory → IfSome (said fault) (IsFirstFault names modules) → IsOnlyLayout names modules layout → ⊥
+none-placed names modules held.Memory layout other first is = other refl
+none-placed names modules (held.SegmentTooLong name) layout other first is =
+    first-none names modules _ layout first is
+none-placed names modules held.ProgramTooLarge layout other first is = first-none names modules _ layout first is
+none-placed names modules (held.GroupTooLong name) layout other first is = first-none names modules _ layout first is
+none-placed names modules (held.DuplicatePublic name) layout other first is =
+    first-none names modules _ layout first is
+
+-- not where modules have no layout
+pub none-laid : {A : Type 0} → OneModule → (names : Names) (inputs other : List (List ℕ)) (read : List Module)
+    (fault : PlaceFault A) → inputs ≡ other → AreRead inputs read → fault ≢ held.Memory
+    → IfSome (said fault) (IsFirstFault names read) → HaveOverflow names other → ⊥
+none-laid one names inputs other read fault same are failed first (modules, placed, begin, only, over) =
+    let all : modules ≡ read = read-same one other modules read begin (subst (λ i. AreRead i read) same are) in
+    none-placed names read fault placed failed first (subst (λ ms. IsOnlyLayout names ms placed) all only)

@@ -1,0 +1,18 @@
+-- Which modules have fix-ups of 32 bits.
+use Rattle.std.specs.Prelude.{ℕ, ◌==◌, Bool, false, if◌then◌else◌, List}
+use Rattle.std.specs.List.{list_any}
+use Rattle.omf_frame.specs.Frame.{Frame}
+use Rattle.omf_library.specs.Records.{module_records}
+use Rattle.omf_lower.specs.Fields.{any_entry}
+use Rattle.omf_lower.specs.Fixups.{subrecord_front}
+
+-- a FIXUPP, 9CH or 9DH, with a fix-up of 32 bits or of a loader-resolved offset
+abbrev pub is_wide_record : Frame → Bool
+is_wide_record f =
+    if f.kind == 0x9C then any_entry (subrecord_front 2) f.body
+    else if f.kind == 0x9D then any_entry (subrecord_front 4) f.body
+    else false
+
+-- a module has such a record
+unfoldable pub has_wide_fixups : List ℕ → Bool
+has_wide_fixups module' = list_any is_wide_record (module_records module' 0)
