@@ -9,7 +9,7 @@ from generator.objects import (
     CLASSES, LAZY, MARKS, NAMES, SEGMENTS, TITLES, WEAK, ObjectMaker, any_plan, module_of_alias,
     module_of_default, module_of_external, module_of_far_data, module_of_links,
     module_of_long_aliases, module_of_long_externals, module_of_many_parts, module_of_no_alignment,
-    module_of_publics, segments_called)
+    module_of_publics, module_of_sum, segments_called)
 from model import ordering
 from model.directives import Job
 from model.placement import folded
@@ -36,6 +36,8 @@ LOCAL_EVERY, LOCAL = 50, [{}, {"public": b"NEAR"}, {"start": b"start"}]
 CHAIN_EVERY, TWICE_EVERY = 250, 250
 # one job in so many has a segment of no alignment, which is lowered or not; one a number of no form
 AMISS_EVERY, NO_NUMBER_EVERY = 200, 250
+# one has an offset, of 32 bits or 16, with a sum of the most or one more
+SUM_EVERY, SUM_LOCATIONS, SUMS = 50, [9, 1, 13, 5], [65_535, 65_536]
 # lengths of a body that externals by indexes, or of aliases, have by their names
 LONG_BODIES, LONG_EVERY = [65_534, 65_535], 150
 MEMBER_NAMES = [b"printf.o", b"exit.o", b"system.o", b"a_long_name_of_a_member.o", b"x"]
@@ -194,6 +196,14 @@ class JobMaker:
         """A module with a record that is none of its type, which is lowered or not."""
         self.files["amiss.obj"] = module_of_no_alignment(self.random.choice([0x98, 0x99]))
         self.job.files, self.folders = ["amiss.obj"], []
+        return self.asked()
+
+    def make_sum(self, location, total):
+        """A module twice: the segment of the second begins at 4, and the sum there is this."""
+        word = self.random.choice([0, 1, 0xFF, 0xFF00, 0xFFFB])
+        self.files["sum.obj"] = module_of_sum(
+            location, word, total - 4 - word, self.random.choice([False, True]))
+        self.job.files, self.folders = ["sum.obj", "sum.obj"], []
         return self.asked()
 
     def make_no_number(self, front):
@@ -553,6 +563,9 @@ def case(random, number=1):
         return maker.make_twice()
     if number % NO_NUMBER_EVERY == 24:
         return maker.make_no_number(NO_NUMBERS[number // NO_NUMBER_EVERY % len(NO_NUMBERS)])
+    if number % SUM_EVERY == 38:
+        turn, which = divmod(number // SUM_EVERY, len(SUMS))
+        return maker.make_sum(SUM_LOCATIONS[turn % len(SUM_LOCATIONS)], SUMS[which])
     if number % AMISS_EVERY == 11:
         return maker.make_amiss()
     return maker.make()

@@ -544,6 +544,23 @@ def module_of_publics(names):
     return b"".join(map(records.Spelling().record, made))
 
 
+def module_of_sum(location, word, displacement, is_repeated):
+    """A module of four bytes, with the offset of its segment at this location, a displacement, and
+    a word that stands there."""
+    spelling = records.Spelling()
+    stored = word.to_bytes(4, "little")
+    data = (0xA2, b"\1\0\0\1\0\0\0\4") if is_repeated else (0xA0, b"\1\0\0")
+    place = 5 if is_repeated else 0
+    return b"".join([
+        spelling.record(records.Header(b"SUM")),
+        spelling.record(records.NameList([b"", b"CODE"])),
+        spelling.framed(0x98, b"\x28\4\0\2\1\1"),
+        spelling.framed(data[0], data[1] + stored),
+        spelling.framed(0x9C, (
+            bytes([0xC0 | location << 2, place, 0x50, 1]) + displacement.to_bytes(2, "little"))),
+        spelling.record(records.ModuleEnd(False, None))])
+
+
 def module_of_no_alignment(kind):
     """A module with a 32-bit segment, and one by this type of record whose alignment is none."""
     spelling = records.Spelling()
