@@ -320,7 +320,7 @@ modules
 ";
 
 /// Runs, and what each writes: the path of its program, the program, and its map at P.MAP. What isn't written stays `old`.
-const WRITTEN: [(&str, &str, &[u8], &str); 6] = [
+const WRITTEN: [(&str, &str, &[u8], &str); 7] = [
     (
         "doslink -o P.EXE -m P.MAP A.OBJ F.OBJ",
         "P.EXE",
@@ -334,6 +334,13 @@ const WRITTEN: [(&str, &str, &[u8], &str); 6] = [
     ("doslink -m F.OBJ A.OBJ F.OBJ", "", b"old", "old"),
     // a sum has more than 16 bits
     ("doslink -m P.MAP SSUM.OBJ", "", b"old", "old"),
+    // the map comes behind the program, which can't be created here
+    (
+        "doslink -o Q.EXE -m P.MAP A.OBJ F.OBJ",
+        "P.EXE",
+        b"old",
+        "old",
+    ),
 ];
 
 /// What a run did: its status, both streams, and the program and its map, which were `old`.
