@@ -116,9 +116,9 @@ fn what_is_read(rt: HostRuntime) {
     let read = "\
 982A0000020101 => Segdef { segment: SegmentDefinition { alignment: Byte, combination: Public2, \
 length: Whole, name: 2, class: 1, overlay: 1 } }
-9C100167018805260134 => Fixupp { subrecords: [SetTarget(Zero, Segment(1)), SetFrame(Three, Group(1)), \
-Fixup(Fixup { self_relative: true, location: Base, offset: 5, reference: Reference { frame: By(External(1)), \
-target: By(External(52)), displacement: None } })] }";
+9C100167018805260134 => Fixupp { subrecords: [SetTarget(Zero, Segment(1)), SetFrame(Three, By(Group(1))), \
+Fixup(Fixup { self_relative: true, location: Base, offset: 5, reference: Reference { \
+frame: By(By(External(1))), target: By(External(52)), displacement: None } })] }";
     hold(&rt, rt.alloc(), Ask::Content, read);
     assert_eq!(rt;
         (SegmentLength::Whole.bytes(), Location::Pointer.width()),
