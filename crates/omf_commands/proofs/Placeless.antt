@@ -20,10 +20,15 @@ use Rattle.omf_module.specs.declared.Start.{Start}
 use Rattle.omf_module.specs.Module.{DataRecord, Module}
 use Rattle.omf_module.specs.Before.{along_from, along, last}
 use Rattle.omf_module.specs.inside.Running.{later}
-use Rattle.omf_module.specs.Tables.{Stretch, names, names_in, segments, segments_in, groups, groups_in, externals}
-use Rattle.omf_module.specs.Tables.{externals_in, publics, publics_in, stretches, stretches_in, subrecords}
-use Rattle.omf_module.specs.Tables.{subrecords_in, fixup_of, fixup_in, fixups_in, fixups, fixups_on, data_records}
-use Rattle.omf_module.specs.Tables.{start_of, start_in, start, frame_thread, target_thread, used}
+use Rattle.omf_module.specs.Tables.{Stretch, names, segments_in, groups_in}
+use Rattle.omf_module.specs.inside.Said.{segments, groups, externals}
+use Rattle.omf_module.specs.inside.Said.{names_in}
+use Rattle.omf_module.specs.Tables.{externals_in, publics_in, stretches, stretches_in, subrecords}
+use Rattle.omf_module.specs.inside.Said.{publics}
+use Rattle.omf_module.specs.Tables.{subrecords_in, fixup_of, fixup_in, fixups_in, fixups, fixups_on}
+use Rattle.omf_module.specs.inside.Said.{data_records}
+use Rattle.omf_module.specs.Tables.{start_of, start_in, frame_thread, target_thread, used}
+use Rattle.omf_module.specs.inside.Said.{start}
 use Rattle.omf_module.specs.Tables.{module_of}
 use Rattle.omf_module.proofs.Lists.{last_append}
 

@@ -6,7 +6,9 @@ use Rattle.omf_record.specs.Records.{Placed}
 use Rattle.omf_module.specs.declared.fault.CheckFault.{CheckFault}
 use Rattle.omf_module.specs.Before.{along, first, last, entry}
 use Rattle.omf_module.specs.Tables.{Stretch, stretches, subrecords, frame_thread, target_thread, used}
-use Rattle.omf_module.specs.Faults.{tables, segment_fault, group_items, data_fault, public_fault, start_fault}
+use Rattle.omf_module.specs.Faults.{group_items, data_fault, public_fault}
+use Rattle.omf_module.specs.inside.Checking.{segment_fault}
+use Rattle.omf_module.specs.inside.Checking.{tables, start_fault}
 use Rattle.omf_module.specs.Faults.{subrecord_item, items, header_fault, fault, first_fault}
 use Rattle.omf_module.specs.inside.Contents.{last_contents}
 use Rattle.omf_commands.proofs.Placeless.{unplaced, unplaced_said, placeless_stretch, along_same, map_along, map_last}

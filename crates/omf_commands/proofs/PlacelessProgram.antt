@@ -19,12 +19,14 @@ use Rattle.omf_image.specs.declared.faults.FixFault.{FixFault}
 use Rattle.omf_image.specs.declared.faults.FixFault.TheVariants.{At, TooManyRelocations, Memory}
 use Rattle.omf_image.specs.declared.faults.FixKind.{FixKind}
 use Rattle.omf_image.specs.declared.faults.FixKind.TheVariants.{CoversRelocated}
-use Rattle.omf_image.specs.Faults.{fixup_fault, fixups_fault, record_fault, records_fault, data_fault}
+use Rattle.omf_image.specs.Faults.{fixup_fault, fixups_fault, record_fault, records_fault}
+use Rattle.omf_image.specs.inside.Whole.{data_fault}
 use Rattle.omf_image.specs.inside.Stops.{or_else}
 use Rattle.std.specs.Option.{option_or}
 use Rattle.omf_image.specs.Located.{covers_word}
 use Rattle.omf_image.specs.Records.{hits, stored_of, entry_start, meaning, Entry, entries, fixup_patches, datum}
-use Rattle.omf_image.specs.Records.{record_relocations, relocations, program_byte, page_covered, written}
+use Rattle.omf_image.specs.Records.{record_relocations, relocations, program_byte, written}
+use Rattle.omf_image.specs.inside.Whole.{page_covered}
 use Rattle.omf_image.specs.inside.Lookups.{patches_of}
 use Rattle.omf_image.specs.inside.Entries.{entries_from, module_entries}
 use Rattle.omf_image.specs.Registers.{StartEntry, starts, starts_fault, program_fault, entry_at, registers}

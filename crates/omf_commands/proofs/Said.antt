@@ -10,7 +10,8 @@ use Rattle.omf_place.specs.Layout.{Layout}
 use Rattle.omf_place.specs.declared.names.Names.{Names}
 use Rattle.omf_image.specs.Building.{IsProgramOf}
 use Rattle.omf_image.specs.Program.{Program}
-use Rattle.omf_image.specs.Records.{program_byte, page_covered, relocations, written}
+use Rattle.omf_image.specs.Records.{program_byte, relocations, written}
+use Rattle.omf_image.specs.inside.Whole.{page_covered}
 use Rattle.omf_image.specs.Registers.{program_fault, registers}
 use Rattle.omf_commands.specs.Records.{says_of}
 use Rattle.omf_commands.specs.Linking.{IsFileOf, IsLinked}

@@ -19,9 +19,8 @@ use Rattle.omf_image.specs.Registers.{registers, program_fault}
 use Rattle.omf_image.specs.declared.faults.FixFault.{FixFault}
 use Rattle.omf_image.specs.declared.faults.FixFault.TheVariants as build
 use Rattle.mz.specs.File.{Mz, MzFile}
-use Rattle.mz.specs.Laws.{memory}
-use Rattle.mz.specs.Loading.{Loaded, loading}
-use Rattle.mz.specs.Reading.{reading}
+use Rattle.mz.specs.Loading.{Loaded, loaded, loading}
+use Rattle.mz.specs.Reading.{file_of, reading}
 use Rattle.omf_faults.specs.declared.fault.InputFault.TheVariants.{Fix}
 use Rattle.omf_faults.specs.declared.fault.ProgramFault.{ProgramFault}
 use Rattle.omf_faults.specs.declared.fault.ProgramFault.TheVariants as program
@@ -80,7 +79,7 @@ pub record HoldsProgram (paragraph : ℕ) (layout : Layout) (modules : List Modu
 abbrev pub HoldsAtEachParagraph : Names → List Module → (file : List ℕ) → Type 0
 HoldsAtEachParagraph names modules file =
     (layout : Layout) × IsOnlyLayout names modules layout
-    × ((paragraph : ℕ) → HoldsProgram paragraph layout modules (memory paragraph file)
+    × ((paragraph : ℕ) → HoldsProgram paragraph layout modules (loaded paragraph (file_of file))
     × (16 * paragraph + layout.size ≤ 1048576
     → (mz : MzFile) × (loaded : Loaded) × (reading file ≡ Ok mz) × (loading paragraph mz ≡ Ok loaded)
     × HoldsProgram paragraph layout modules loaded))

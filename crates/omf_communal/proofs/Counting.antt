@@ -21,7 +21,8 @@ use Rattle.omf_library.specs.Listed.{listed_in}
 use Rattle.omf_library.specs.Records.{ends_module, module_records, place_behind, record_at, record_or_fault}
 use Rattle.omf_library.specs.Records.{records_up_to}
 use Rattle.omf_module.specs.Before.{along_from}
-use Rattle.omf_module.specs.Tables.{groups_in, names, names_in, segments_in}
+use Rattle.omf_module.specs.Tables.{groups_in, names, segments_in}
+use Rattle.omf_module.specs.inside.Said.{names_in}
 use Rattle.omf_communal.specs.Extended.{counted}
 use Rattle.omf_communal.proofs.Walking.{same-before}
 use Rattle.omf_communal.specs.Locals.{before_in, count_of, end_place}

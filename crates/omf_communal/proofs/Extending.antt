@@ -32,12 +32,17 @@ use Rattle.omf_record.specs.Numbers.{segment_len}
 use Rattle.std.proofs.lemmas.Bool.{eqb-true, ltb-false}
 use Rattle.omf_module.specs.Before.{along, along_from, first, last}
 use Rattle.omf_module.specs.Bytes.{ModuleBytes}
-use Rattle.omf_module.specs.Faults.{Tables, begun, fault, frame_fault, items, location_fault, misses}
-use Rattle.omf_module.specs.Faults.{check_label, header_fault, start_fault, tables, target_fault, when, ◌⊓◌}
+use Rattle.omf_module.specs.Faults.{fault, frame_fault, items, location_fault, misses}
+use Rattle.omf_module.specs.inside.Checking.{Tables, begun}
+use Rattle.omf_module.specs.Faults.{check_label, header_fault, target_fault, ◌⊓◌}
+use Rattle.omf_module.specs.inside.Checking.{start_fault, tables, when}
 use Rattle.omf_module.specs.Module.{Group, Segment}
-use Rattle.omf_module.specs.Tables.{data_records, externals, fixups, groups, groups_in, name_at, names, names_in}
-use Rattle.omf_module.specs.Tables.{publics}
-use Rattle.omf_module.specs.Tables.{publics_in, segments, segments_in, start, start_in, stretches, stretches_in}
+use Rattle.omf_module.specs.Tables.{fixups, groups_in, name_at, names}
+use Rattle.omf_module.specs.inside.Said.{data_records, externals, groups}
+use Rattle.omf_module.specs.inside.Said.{names_in}
+use Rattle.omf_module.specs.inside.Said.{publics}
+use Rattle.omf_module.specs.Tables.{publics_in, segments_in, start_in, stretches, stretches_in}
+use Rattle.omf_module.specs.inside.Said.{segments, start}
 use Rattle.omf_module.specs.Tables.{externals_in, frame_thread, module_of, subrecords, subrecords_in}
 use Rattle.omf_module.specs.Tables.{data_record, fixup_in, fixups_in, start_of, target_thread, used}
 use Rattle.omf_module.proofs.Lists.{along_from_append, along_push, flat_map_push}

@@ -4,9 +4,12 @@ use Rattle.std.proofs.Common.{length-append}
 use Rattle.omf_record.specs.Records.{Placed}
 use Rattle.omf_module.specs.declared.fault.CheckFault.TheVariants.{GroupOfAbsolute}
 use Rattle.omf_module.specs.Before.{entry}
-use Rattle.omf_module.specs.Faults.{begun, component_fault, is_absolute, when}
+use Rattle.omf_module.specs.Faults.{component_fault, is_absolute}
+use Rattle.omf_module.specs.inside.Checking.{begun, when}
 use Rattle.omf_module.specs.Module.{Segment}
-use Rattle.omf_module.specs.Tables.{groups, groups_in, names, names_in, segments, segments_in}
+use Rattle.omf_module.specs.Tables.{groups_in, names, segments_in}
+use Rattle.omf_module.specs.inside.Said.{groups, segments}
+use Rattle.omf_module.specs.inside.Said.{names_in}
 use Rattle.omf_module.proofs.Growing.{begun_push}
 use Rattle.omf_write.proofs.Clean.{groups-push, names-push, segments-push}
 

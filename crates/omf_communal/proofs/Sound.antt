@@ -11,8 +11,10 @@ use Rattle.omf_record.specs.Records.{AreToEnd, Placed, is_end}
 use Rattle.omf_module.specs.declared.fault.CheckFault.TheVariants.{GroupIndex, NameIndex, SegmentIndex}
 use Rattle.omf_module.specs.Before.{entry, first}
 use Rattle.omf_module.specs.Bytes.{ModuleBytes}
-use Rattle.omf_module.specs.Faults.{component_fault, fault, is_absolute, is_beyond, when, ◌⊓◌}
-use Rattle.omf_module.specs.Tables.{groups, names, segments}
+use Rattle.omf_module.specs.Faults.{component_fault, fault, is_absolute, is_beyond, ◌⊓◌}
+use Rattle.omf_module.specs.inside.Checking.{when}
+use Rattle.omf_module.specs.Tables.{names}
+use Rattle.omf_module.specs.inside.Said.{groups, segments}
 use Rattle.omf_module.specs.inside.Entries.{segment_of}
 use Rattle.omf_write.specs.Records.{record_bytes}
 use Rattle.omf_write.proofs.Bodies.{end_fits}

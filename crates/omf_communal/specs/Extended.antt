@@ -14,7 +14,8 @@ use Rattle.omf_module.specs.declared.Standing.TheVariants.{Relocatable}
 use Rattle.omf_module.specs.declared.Start.{Start}
 use Rattle.omf_module.specs.Bytes.{ModuleBytes}
 use Rattle.omf_module.specs.Module.{Group, Module, PublicSymbol, Segment}
-use Rattle.omf_module.specs.Tables.{groups, module_of, names, segments}
+use Rattle.omf_module.specs.Tables.{module_of, names}
+use Rattle.omf_module.specs.inside.Said.{groups, segments}
 use Rattle.omf_communal.specs.declared.places.Before.{Before}
 use Rattle.omf_communal.specs.Deciding.{Variable}
 use Rattle.omf_communal.specs.Locals.{local_module}

@@ -6,7 +6,7 @@ ghost use Rattle.std.specs.Cmp.{partial_equiv_from_equiv};
 ghost use Rattle.std.specs.Cmp.Lexicographic.{on_texts_equal, bytes_decides};
 ghost use Rattle.std.specs.Hash as fed;
 ghost use Rattle.std.specs.List.{flat_map, fold};
-ghost use Rattle.omf_place.specs.Names.{folded};
+ghost use Rattle.omf_place.specs.inside.Named.{folded};
 ghost use Rattle.omf_communal.specs.inside.Keys.{key_of, key_text, same_key};
 
 use omf_place::Names;

@@ -13,7 +13,7 @@ use Rattle.omf_image.specs.Records.{program_byte, bytes_of, Entry, entries, entr
 use Rattle.omf_image.specs.Records.{relocations}
 use Rattle.omf_image.specs.inside.Leading.{relocated_words}
 use Rattle.omf_image.specs.inside.WellPlaced.{WellPlaced, AllWellPlaced, AllInside, IsImage}
-use Rattle.omf_image.specs.Faults.{data_fault}
+use Rattle.omf_image.specs.inside.Whole.{data_fault}
 use Rattle.omf_image.specs.inside.Patches.{relocated_places}
 use Rattle.omf_image.proofs.Law.{length-patched_all}
 use Rattle.omf_image.proofs.Hits.{SpacedBy, spaced_filter}

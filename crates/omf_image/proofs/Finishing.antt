@@ -16,7 +16,7 @@ use Rattle.omf_image.specs.inside.Leading.{last_or}
 use Rattle.omf_image.specs.Records.{datum, program_byte, entries, relocations, written, bytes_of, entry_start}
 use Rattle.omf_image.specs.inside.Leading.{relocated_words}
 use Rattle.omf_image.specs.inside.WellPlaced.{WellPlaced, AllWellPlaced, AllInside, LiesInContent}
-use Rattle.omf_image.specs.Faults.{data_fault}
+use Rattle.omf_image.specs.inside.Whole.{data_fault}
 use Rattle.std.specs.Option.{option_or}
 use Rattle.omf_image.specs.declared.start.Registers.{Registers}
 use Rattle.omf_image.specs.Registers.{starts, starts_fault, program_fault, registers, moved}

@@ -19,7 +19,8 @@ use Rattle.omf_image.specs.Located.{Datum, covers, byte_of, in_page, covers_word
 use Rattle.omf_image.specs.inside.Leading.{last_or}
 use Rattle.omf_image.specs.Records.{Entry, entry_start, bytes_of, datum, patches, record_relocations}
 use Rattle.omf_image.specs.inside.WellPlaced.{WellPlaced}
-use Rattle.omf_image.specs.Faults.{fixups_fault, record_fault, records_fault, data_fault}
+use Rattle.omf_image.specs.Faults.{fixups_fault, record_fault, records_fault}
+use Rattle.omf_image.specs.inside.Whole.{data_fault}
 use Rattle.std.specs.Option.{option_or}
 use Rattle.omf_image.specs.inside.States.{State, begun, Holds}
 use Rattle.omf_image.specs.declared.patch.Patch.{Patch}

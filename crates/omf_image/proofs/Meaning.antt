@@ -12,6 +12,8 @@ use Rattle.omf_record.specs.Numbers.{location_width}
 use Rattle.omf_module.specs.declared.ResolvedFixup.{ResolvedFixup}
 use Rattle.omf_module.specs.Module.{DataRecord}
 use Rattle.omf_place.specs.Layout.{Layout}
+use Rattle.std.specs.Bool.{then_some}
+use Rattle.omf_module.specs.Before.{first}
 use Rattle.omf_image.specs.declared.faults.FixKind.{FixKind}
 use Rattle.omf_image.specs.declared.faults.FixKind.TheVariants.{Mixed, OutOfFrame, ShortTooFar, OverlapRelocated}
 use Rattle.omf_image.specs.declared.patch.Patch.{Patch}
@@ -19,7 +21,7 @@ use Rattle.omf_image.specs.declared.reference.Resolved.{Resolved}
 use Rattle.omf_image.specs.Records.{Entry, entry_start, meaning, patches_on, fixup_patches, hits, stored_of}
 use Rattle.omf_image.specs.inside.Lookups.{patches_of}
 use Rattle.omf_image.specs.inside.WellPlaced.{LiesInContent}
-use Rattle.omf_image.specs.Faults.{first_kind, first_test, resolved_fault, fixup_fault, fixups_fault}
+use Rattle.omf_image.specs.Faults.{first_test, resolved_fault, fixup_fault, fixups_fault}
 use Rattle.omf_image.specs.inside.Stops.{or_else}
 use Rattle.std.specs.Option.{option_or}
 use Rattle.omf_image.specs.declared.faults.FixFault.{FixFault}
@@ -36,8 +38,8 @@ use Rattle.omf_image.specs.Building.{Answers}
 use Rattle.omf_image.proofs.Records.{hits_room}
 use Rattle.omf_image.proofs.Members.{In, in_index}
 
-pub first_four : (m o t c : Bool) → first_kind ((m, Mixed) ∷ (o, OutOfFrame) ∷ (t, ShortTooFar) ∷ []) ≡ None → c ≡ true
-    → first_kind ((m, Mixed) ∷ (o, OutOfFrame) ∷ (t, ShortTooFar) ∷ (not c, OverlapRelocated) ∷ []) ≡ None
+pub first_four : (m o t c : Bool) → first (then_some m Mixed ∷ then_some o OutOfFrame ∷ then_some t ShortTooFar ∷ []) ≡ None → c ≡ true
+    → first (then_some m Mixed ∷ then_some o OutOfFrame ∷ then_some t ShortTooFar ∷ then_some (not c) OverlapRelocated ∷ []) ≡ None
 first_four true o t c h k = cc
 first_four false true t c h k = cc
 first_four false false true c h k = cc

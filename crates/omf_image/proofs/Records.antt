@@ -28,7 +28,8 @@ use Rattle.omf_image.specs.inside.WellPlaced.{LiesInContent, WellPlaced, AllWell
 use Rattle.omf_image.specs.declared.faults.FixKind.{FixKind}
 use Rattle.omf_image.specs.declared.faults.FixFault.{FixFault}
 use Rattle.omf_image.specs.Faults.{is_mixed, out_of_frame, too_far, first_test, resolved_fault, fixup_fault}
-use Rattle.omf_image.specs.Faults.{fixups_fault, record_fault, records_fault, data_fault}
+use Rattle.omf_image.specs.Faults.{fixups_fault, record_fault, records_fault}
+use Rattle.omf_image.specs.inside.Whole.{data_fault}
 use Rattle.omf_image.specs.inside.Stops.{or_else}
 use Rattle.std.specs.Option.{option_or}
 use Rattle.omf_image.proofs.Law.{at_paragraph, AllClear, AllInside, sides, law, length-patched_all}

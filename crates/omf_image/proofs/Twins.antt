@@ -11,6 +11,8 @@ use Rattle.omf_record.specs.declared.fixups.Location.TheVariants.{LowByte, Offse
 use Rattle.omf_record.specs.Expansion.{StandTogether, StandWhole}
 use Rattle.omf_record.specs.Numbers.{location_width}
 use Rattle.omf_module.specs.declared.ResolvedFixup.{ResolvedFixup}
+use Rattle.std.specs.Bool.{then_some}
+use Rattle.omf_module.specs.Before.{first}
 use Rattle.omf_image.specs.declared.reference.Base.{Base as Frame}
 use Rattle.omf_image.specs.declared.reference.Base.TheVariants.{Relocatable as Moving, Absolute as Fixed}
 use Rattle.omf_image.specs.declared.faults.FixKind.TheVariants.{Mixed, OutOfFrame, ShortTooFar, OverlapRelocated}
@@ -22,7 +24,7 @@ use Rattle.omf_image.specs.inside.Patches.{patch_start, patch_end, is_relocated}
 use Rattle.omf_image.specs.inside.Marks.{touches, touches_relocated}
 use Rattle.omf_image.specs.Reference.{frame'}
 use Rattle.omf_image.specs.Value.{modulo, from_frame, base_patch, patches_at}
-use Rattle.omf_image.specs.Faults.{first_kind, first_test, is_mixed, out_of_frame}
+use Rattle.omf_image.specs.Faults.{first_test, is_mixed, out_of_frame}
 use Rattle.omf_image.specs.inside.States.{State, at_start, Holds}
 use Rattle.omf_image.specs.Records.{hits, patches_on}
 use Rattle.omf_image.specs.inside.Stored.{Copied, begins, Agree, Twins, IsStored, once_at}
@@ -363,15 +365,15 @@ module _ (r : Resolved) (l : Location) (start o : ℕ) (places bytes contents : 
   same_tests is e =
       let ps = patches_at 0 r false l 0 0 in
       ap (λ (b : Bool).
-      first_kind
-      ((is_mixed false l r, Mixed) ∷ (b, OutOfFrame) ∷ (false, ShortTooFar)
-      ∷ (not (all_clear earlier (patches_on 0 r false l start is)), OverlapRelocated) ∷ []))
+      first
+      (then_some (is_mixed false l r) Mixed ∷ then_some b OutOfFrame ∷ then_some false ShortTooFar
+      ∷ then_some (not (all_clear earlier (patches_on 0 r false l start is))) OverlapRelocated ∷ []))
       (out_same r l is (once_at o is) start 0)
       ∙ ap
       (λ (b : Bool).
-      first_kind
-      ((is_mixed false l r, Mixed) ∷ (out_of_frame false l r (once_at o is) 0, OutOfFrame) ∷ (false, ShortTooFar)
-      ∷ (not b, OverlapRelocated) ∷ []))
+      first
+      (then_some (is_mixed false l r) Mixed ∷ then_some (out_of_frame false l r (once_at o is) 0) OutOfFrame
+      ∷ then_some false ShortTooFar ∷ then_some (not b) OverlapRelocated ∷ []))
       (ap (all_clear earlier) (added_at r l start is)
       ∙ clear_more places bytes contents earlier once o (location_width l) ps sized ends (inside_location r l)
       (width_some l) together whole twins is e

@@ -1,13 +1,15 @@
 -- What linking makes of modules and their layout.
-use Rattle.std.specs.Prelude.{◌≡◌, ℕ, ◌+◌, ◌≤◌, ◌<◌, false, All, List, length, get_or, Option, Some, None, Result, Ok}
+use Rattle.std.specs.Prelude.{◌≡◌, ℕ, ◌+◌, ◌≤◌, ◌<◌, false, All, List, length, map, get_or, Option, Some, None, Result, Ok}
 use Rattle.std.specs.Prelude.{Err}
+use Rattle.std.specs.List.{list_any}
 use Rattle.omf_module.specs.Module.{Module}
 use Rattle.omf_place.specs.Layout.{Layout}
 use Rattle.omf_image.specs.declared.faults.FixFault.{FixFault}
 use Rattle.omf_image.specs.declared.faults.FixFault.TheVariants.{At, TooManyRelocations, Memory}
 use Rattle.omf_image.specs.Program.{Program}
 use Rattle.omf_image.specs.Words.{add_words}
-use Rattle.omf_image.specs.Records.{page_covered, program_byte, relocations, written}
+use Rattle.omf_image.specs.Located.{in_page}
+use Rattle.omf_image.specs.Records.{datum, entries, program_byte, relocations, written}
 use Rattle.omf_image.specs.Registers.{registers, moved, program_fault}
 
 -- At each paragraph P the image with P added to the words at the relocations is the located program, and the registers
@@ -22,7 +24,7 @@ pub record IsProgramOf (layout : Layout) (modules : List Module) (p : Program) :
   pub below : All (λ r. r + 2 ≤ p.written) p.relocations
   pub at_zero : registers 0 layout modules ≡ p.registers
   pub at_each : (P : ℕ) → registers P layout modules ≡ moved P p.registers
-  pub pages : (k : ℕ) → get_or p.made k false ≡ page_covered layout modules k
+  pub pages : (k : ℕ) → get_or p.made k false ≡ list_any (in_page k) (map (datum 0 layout) (entries modules))
 
 -- what holds where a step succeeded; else it answered the fault, or memory ran out
 abbrev pub Answers : {X : Type 0} → Result X FixFault → (fault : Option FixFault) → (holds : X → Type 0) → Type 0

@@ -2,11 +2,13 @@
 use Rattle.std.specs.Prelude.{ℕ, ◌+◌, ◌*◌, ℤ, pos, ◌-ℤ◌, ◌+ℤ◌, int_le, Bool, true, false, not, ◌&&◌, ◌||◌, cond}
 use Rattle.std.specs.Prelude.{nat_le, nat_lt, List, [], ◌∷◌, ◌++◌, Option, Some, None, Result, Ok, Err}
 use Rattle.std.specs.Int.{cast_signed, w16}
+use Rattle.std.specs.Bool.{then_some}
 use Rattle.std.specs.List.{list_all}
 use Rattle.std.specs.Option.{option_map, option_or}
 use Rattle.omf_record.specs.declared.fixups.Location.{Location}
 use Rattle.omf_record.specs.declared.fixups.Location.TheVariants.{LowByte, Base}
 use Rattle.omf_module.specs.declared.ResolvedFixup.{ResolvedFixup}
+use Rattle.omf_module.specs.Before.{first}
 use Rattle.omf_module.specs.Module.{Module}
 use Rattle.omf_image.specs.declared.reference.Base.{Base as Frame}
 use Rattle.omf_image.specs.declared.reference.Base.TheVariants.{Relocatable as Moving, Absolute as Fixed}
@@ -81,20 +83,16 @@ too_far true LowByte reference positions start =
     not (list_all (λ i. fits_short (short_distance reference (start + i))) positions)
 too_far _ _ reference positions start = false
 
--- the kind of the first test that is true
-abbrev pub first_kind : (tests : List (Bool × FixKind)) → Option FixKind
-first_kind [] = None
-first_kind (t ∷ ts) = cond t.0 (Some t.1) (first_kind ts)
-
 -- The first test that is true of a fix-up whose frame and target are known: of its range, at the positions of its
 -- location, and of what it adds there after earlier patches of its data record.
 abbrev pub first_test : Resolved → (self_relative : Bool) → Location → (start : ℕ) → (positions : List ℕ)
     → (earlier : List Patch) → Option FixKind
 first_test reference self_relative location start positions earlier =
-    first_kind ((is_mixed self_relative location reference, Mixed)
-    ∷ (out_of_frame self_relative location reference positions start, OutOfFrame)
-    ∷ (too_far self_relative location reference positions start, ShortTooFar)
-    ∷ (not (all_clear earlier (patches_on 0 reference self_relative location start positions)), OverlapRelocated) ∷ [])
+    first (then_some (is_mixed self_relative location reference) Mixed
+    ∷ then_some (out_of_frame self_relative location reference positions start) OutOfFrame
+    ∷ then_some (too_far self_relative location reference positions start) ShortTooFar
+    ∷ then_some (not (all_clear earlier (patches_on 0 reference self_relative location start positions)))
+    OverlapRelocated ∷ [])
 
 -- the fault of a reference: that nothing was found for it, or that of what was found
 abbrev pub resolved_fault : Result Resolved FixKind → (Resolved → Option FixKind) → Option FixKind
@@ -127,6 +125,3 @@ records_fault layout words [] = None
 records_fault layout words (entry ∷ later) =
     option_or (record_fault layout words entry) (records_fault layout (words ++ record_relocations layout entry) later)
 
--- the first fault of all data records
-abbrev pub data_fault : Layout → List Module → Option FixFault
-data_fault layout modules = records_fault layout [] (entries modules)

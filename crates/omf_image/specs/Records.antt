@@ -98,6 +98,3 @@ entry_end layout entry =
 abbrev pub written : Layout → List Module → ℕ
 written layout modules = fold max 0 (map (entry_end layout) (entries modules))
 
--- data covers a byte of the page
-abbrev pub page_covered : Layout → List Module → (page : ℕ) → Bool
-page_covered layout modules page = list_any (in_page page) (map (datum 0 layout) (entries modules))

@@ -1,6 +1,7 @@
 -- What the frame and the target of a reference stand for under a layout (TIS OMF 1.1, FIXUPP).
 use Rattle.std.specs.Prelude.{ℕ, ◌-◌, ◌*◌, if◌then◌else◌, false, [], Option, Some, None, get_or, Result, Ok, Err}
 use Rattle.std.specs.Option.{option_map, ok_or}
+use Rattle.std.specs.Result.{result_map_both}
 use Rattle.omf_record.specs.declared.fixups.FrameMethod.{FrameMethod}
 use Rattle.omf_record.specs.declared.fixups.FrameMethod.TheVariants as by
 use Rattle.omf_record.specs.declared.fixups.TargetMethod.{TargetMethod}
@@ -15,11 +16,6 @@ use Rattle.omf_place.specs.declared.layout.Position.{Position}
 use Rattle.omf_place.specs.declared.layout.Position.TheVariants.{Relocatable, Absolute}
 use Rattle.omf_image.specs.declared.reference.Resolved.{Resolved}
 
--- what is found by what was found
-abbrev pub on_found : {A B : Type 0} → Result A FixKind → (A → Result B FixKind) → Result B FixKind
-on_found (Ok value) next = next value
-on_found (Err kind) next = Err kind
-
 -- both; where neither is found, an external that means no public is named before a group without members
 abbrev pub both : {A B : Type 0} → Result A FixKind → Result B FixKind → Result (A × B) FixKind
 both (Ok a) (Ok b) = Ok (a, b)
@@ -31,11 +27,12 @@ both (Err kind) _ = Err kind
 abbrev pub group_position : (frame : Option ℕ) → Result Position FixKind
 group_position frame = ok_or (option_map (λ f. Relocatable (16 * f) (Some f)) frame) EmptyGroup
 
--- the frame of what stands somewhere
-abbrev pub own_frame : Position → Result Frame FixKind
-own_frame (Relocatable address None) = Err EmptyGroup
-own_frame (Relocatable address (Some frame)) = Ok (Moving frame)
-own_frame (Absolute address frame) = Ok (Fixed frame)
+-- the frame of what stands somewhere, where that was found
+abbrev pub own_frame : Result Position FixKind → Result Frame FixKind
+own_frame (Ok (Relocatable address None)) = Err EmptyGroup
+own_frame (Ok (Relocatable address (Some frame))) = Ok (Moving frame)
+own_frame (Ok (Absolute address frame)) = Ok (Fixed frame)
+own_frame (Err kind) = Err kind
 
 -- What an external of a module means: a local one the local public of its name in its own module and nothing else,
 -- another one the public of its name and never a local one.
@@ -57,9 +54,9 @@ target_of layout input module' (to.External index) = external_at layout input mo
 
 -- the frame that a method names; here is the segment of the data record
 abbrev pub frame_of : Layout → (input : ℕ) → Module → (here : ℕ) → TargetMethod → FrameMethod → Result Frame FixKind
-frame_of layout input module' here target (by.By method) = on_found (target_of layout input module' method) own_frame
-frame_of layout input module' here target by.Location = own_frame (segment_position layout input here)
-frame_of layout input module' here target by.Target = on_found (target_of layout input module' target) own_frame
+frame_of layout input module' here target (by.By method) = own_frame (target_of layout input module' method)
+frame_of layout input module' here target by.Location = own_frame (Ok (segment_position layout input here))
+frame_of layout input module' here target by.Target = own_frame (target_of layout input module' target)
 
 -- where the target is absolute and the frame relocatable, the target's own frame is used in the frame's place
 abbrev pub used_frame : (target : Position) → (named : Frame) → Frame
@@ -75,5 +72,5 @@ frame' reference = used_frame reference.target reference.named_frame
 abbrev pub resolved : Layout → (input : ℕ) → Module → (here : ℕ) → FrameMethod → TargetMethod → (displacement : ℕ)
     → Result Resolved FixKind
 resolved layout input module' here frame target displacement =
-    on_found (both (target_of layout input module' target) (frame_of layout input module' here target frame))
-    (λ f. Ok (record { target = f.0; named_frame = f.1; displacement = displacement }))
+    result_map_both (λ f. record { target = f.0; named_frame = f.1; displacement = displacement }) (λ kind. kind)
+    (both (target_of layout input module' target) (frame_of layout input module' here target frame))

@@ -1,10 +1,12 @@
 -- The registers at the start (TIS OMF 1.1, MODEND, and SEGDEF of a stack), and the faults of the start.
 use Rattle.std.specs.Prelude.{ℕ, ◌+◌, ◌-◌, ◌*◌, ◌/◌, ◌%◌, false, not, nat_lt, cond, List, [], ◌∷◌}
 use Rattle.std.specs.Prelude.{find, flat_map, length, slice_get, Option, Some, None, Result, Ok, Err}
+use Rattle.std.specs.Bool.{then_some}
 use Rattle.std.specs.List.{enumerate_from}
 use Rattle.std.specs.Option.{option_map, option_map_or, option_and_then, option_or, option_to_list}
 use Rattle.omf_module.specs.declared.Kind.TheVariants.{Stack}
 use Rattle.omf_module.specs.declared.Start.{Start}
+use Rattle.omf_module.specs.Before.{first}
 use Rattle.omf_module.specs.Module.{Module}
 use Rattle.omf_place.specs.declared.layout.Combined.{Combined}
 use Rattle.omf_place.specs.Layout.{Layout}
@@ -17,8 +19,8 @@ use Rattle.omf_image.specs.declared.reference.Resolved.{Resolved}
 use Rattle.omf_image.specs.declared.start.Registers.{Registers}
 use Rattle.omf_image.specs.Reference.{frame', resolved}
 use Rattle.omf_image.specs.Value.{modulo, real_frame, from_frame}
-use Rattle.omf_image.specs.Records.{relocations}
-use Rattle.omf_image.specs.Faults.{both_move, target_in_frame, first_kind, resolved_fault, data_fault}
+use Rattle.omf_image.specs.Records.{entries, relocations}
+use Rattle.omf_image.specs.Faults.{both_move, target_in_frame, resolved_fault, records_fault}
 
 -- a start with its module and the module's input
 pub record StartEntry : Type 0 where
@@ -40,7 +42,7 @@ start_meaning layout entry =
 -- the fault of a start: frame and target have to move with the program, and the target to lie in the frame
 abbrev pub start_kind : Result Resolved FixKind → Option FixKind
 start_kind found = resolved_fault found (λ reference.
-    first_kind ((not (both_move reference), Mixed) ∷ (not (target_in_frame reference), OutOfFrame) ∷ []))
+    first (then_some (not (both_move reference)) Mixed ∷ then_some (not (target_in_frame reference)) OutOfFrame ∷ []))
 
 -- a second start, else the fault of the only one
 abbrev pub starts_fault : Layout → List StartEntry → Option FixFault
@@ -52,7 +54,7 @@ starts_fault layout (entry ∷ (second ∷ later)) = Some (At TwoStarts second.i
 -- the first fault, in order: data and fix-ups, the start, more relocated words than the format holds
 unfoldable pub program_fault : Layout → List Module → Option FixFault
 program_fault layout modules =
-    option_or (data_fault layout modules) (option_or (starts_fault layout (starts modules))
+    option_or (records_fault layout [] (entries modules)) (option_or (starts_fault layout (starts modules))
     (cond (nat_lt 65535 (length (relocations layout modules))) (Some TooManyRelocations) None))
 
 -- CS and IP at a start

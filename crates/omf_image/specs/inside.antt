@@ -1,4 +1,5 @@
 -- How the code sees what it works on: no public contract cites any of it.
+pub mod Whole
 pub mod Patches
 pub mod Entries
 pub mod Lookups

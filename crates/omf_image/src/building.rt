@@ -6,7 +6,7 @@ ghost use Rattle.std.specs.List.{range_with_len};
 ghost use Rattle.omf_module.specs.Module.{Module as PlainModule};
 ghost use Rattle.omf_image.specs.Records.{Entry, entries};
 ghost use Rattle.omf_image.specs.inside.Entries.{module_entries};
-ghost use Rattle.omf_image.specs.Faults.{data_fault};
+ghost use Rattle.omf_image.specs.inside.Whole.{data_fault};
 ghost use Rattle.omf_image.specs.inside.Pages.{IsBlank};
 ghost use Rattle.omf_image.specs.inside.Ready.{IsEntryReady};
 ghost use Rattle.omf_image.specs.inside.States.{state};

@@ -3,7 +3,9 @@
 ghost use Rattle.std.specs.Prelude.{◌≡◌, ◌+◌, ◌∷◌, []};
 ghost use Rattle.std.specs.List.{list_all};
 ghost use Rattle.omf_image.specs.declared.faults.FixKind.TheVariants.{Mixed, OutOfFrame, ShortTooFar};
-ghost use Rattle.omf_image.specs.Faults.{is_mixed, out_of_frame, too_far, first_kind, in_frame, fits_short};
+ghost use Rattle.std.specs.Bool.{then_some};
+ghost use Rattle.omf_module.specs.Before.{first};
+ghost use Rattle.omf_image.specs.Faults.{is_mixed, out_of_frame, too_far, in_frame, fits_short};
 ghost use Rattle.omf_image.specs.Faults.{short_distance};
 
 use crate::faults::FixKind;
@@ -66,9 +68,9 @@ pub fn range_fault(
     start: u32,
     hits: &[u32],
 ) -> Option<FixKind>
-    ensures { result ≡ first_kind ((is_mixed self_relative location resolved.now, Mixed)
-        ∷ (out_of_frame self_relative location resolved.now hits.now start, OutOfFrame)
-        ∷ (too_far self_relative location resolved.now hits.now start, ShortTooFar) ∷ []) }
+    ensures { result ≡ first (then_some (is_mixed self_relative location resolved.now) Mixed
+        ∷ then_some (out_of_frame self_relative location resolved.now hits.now start) OutOfFrame
+        ∷ then_some (too_far self_relative location resolved.now hits.now start) ShortTooFar ∷ []) }
 {
     if resolved.is_mixed(self_relative, location) {
         Some(FixKind::Mixed)

@@ -57,7 +57,7 @@ fn external_position<A: Allocator + Copy>(
 
 /// The frame of what stands somewhere.
 fn own_frame(position: Position) -> Result<Base, Missing>
-    ensures { found result ≡ own_frame position }
+    ensures { found result ≡ own_frame (Ok position) }
 {
     match position {
         Position::Relocatable(_, Some(frame)) => Ok(Base::Relocatable(frame)),

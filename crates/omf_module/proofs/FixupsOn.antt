@@ -9,7 +9,7 @@ use Rattle.omf_record.specs.Records.{Placed}
 use Rattle.omf_module.specs.declared.ResolvedFixup.{ResolvedFixup}
 use Rattle.omf_module.specs.Before.{along_from}
 use Rattle.omf_module.specs.Tables.{Stretch, stretches, subrecords, fixups, fixups_in, fixups_on, data_record}
-use Rattle.omf_module.specs.Tables.{data_records}
+use Rattle.omf_module.specs.inside.Said.{data_records}
 use Rattle.omf_module.specs.inside.Running.{add_to_last}
 use Rattle.std.proofs.lemmas.List.Elements.{filter_map-append}
 use Rattle.omf_module.proofs.Lists.{enumerate_push}

@@ -11,11 +11,15 @@ use Rattle.omf_record.specs.declared.fixups.Reference.{Reference}
 use Rattle.omf_record.specs.declared.externals.Line.{Line}
 use Rattle.omf_record.specs.Records.{Placed}
 use Rattle.omf_module.specs.Before.{first, last}
-use Rattle.omf_module.specs.Tables.{names, segments, groups, externals, publics, stretches, subrecords, fixups, start}
-use Rattle.omf_module.specs.Tables.{Stretch, frame_thread, target_thread, names_in, segments_in, groups_in}
-use Rattle.omf_module.specs.Tables.{externals_in, publics_in, subrecords_in, stretches_in, frame_set, target_set}
+use Rattle.omf_module.specs.Tables.{names, stretches, subrecords, fixups}
+use Rattle.omf_module.specs.inside.Said.{segments, groups, externals, publics, start}
+use Rattle.omf_module.specs.Tables.{Stretch, frame_thread, target_thread, segments_in, groups_in}
+use Rattle.omf_module.specs.inside.Said.{names_in}
+use Rattle.omf_module.specs.Tables.{externals_in, publics_in, subrecords_in, stretches_in}
+use Rattle.omf_module.specs.inside.Checking.{frame_set, target_set}
 use Rattle.omf_module.specs.Tables.{data_record, fixups_in, start_in, used}
-use Rattle.omf_module.specs.Faults.{begun, items}
+use Rattle.omf_module.specs.Faults.{items}
+use Rattle.omf_module.specs.inside.Checking.{begun}
 use Rattle.omf_module.specs.inside.Running.{State, state_of, checked, step_record, thread_numbers, slot, later}
 use Rattle.omf_module.proofs.FixupsOn.{new_data}
 use Rattle.omf_record.specs.declared.fixups.ThreadNumber.TheVariants.{Zero, One, Two, Three}

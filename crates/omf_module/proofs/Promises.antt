@@ -42,10 +42,13 @@ use Rattle.omf_module.specs.Before.{first, entry}
 use Rattle.omf_module.specs.Tables.{used, name_at, standing_of}
 use Rattle.omf_module.specs.Tables.{fixup_of, start_of}
 use Rattle.omf_module.specs.inside.Entries.{segment_of, group_of, public_of, external_of}
-use Rattle.omf_module.specs.Faults.{check_label, header_fault, segment_fault, when, ◌⊓◌, is_beyond, misses}
-use Rattle.omf_module.specs.Faults.{Tables}
+use Rattle.omf_module.specs.Faults.{check_label, ◌⊓◌, is_beyond, misses}
+use Rattle.omf_module.specs.inside.Checking.{segment_fault}
+use Rattle.omf_module.specs.inside.Checking.{when}
+use Rattle.omf_module.specs.inside.Checking.{opening_fault}
 use Rattle.omf_module.specs.Faults.{is_absolute, component_fault, data_fault, public_fault, frame_fault, target_fault}
-use Rattle.omf_module.specs.Faults.{holds_base, place_fault, relative_fault, fixup_fault, location_fault, start_fault}
+use Rattle.omf_module.specs.Faults.{holds_base, place_fault, relative_fault, location_fault}
+use Rattle.omf_module.specs.inside.Checking.{fixup_fault, start_fault}
 use Rattle.omf_module.specs.inside.Contents.{lies_in}
 use Rattle.omf_module.specs.inside.Running.{State, state_of, checked, slot, group_fault, add_to_last, add_data}
 use Rattle.omf_module.specs.inside.Running.{module_in, later, step, step_record, step_subrecord, step_subrecords, ◌>>=◌}
@@ -342,7 +345,7 @@ group_keeps s name is e h =
 
 -- ---- PUBDEF
 
-base_fits : (t : Tables) (b : PublicBase) (text : List ℕ) → BaseText b text → public_fault t b ≡ None
+base_fits : (t : Module) (b : PublicBase) (text : List ℕ) → BaseText b text → public_fault t b ≡ None
     → BaseMeans t.segments t.groups t.externals b
 base_fits t (public_base.AtFrame group frame) text b e = b.second.second.0
 base_fits t (public_base.InSegment group segment) text b e =
@@ -358,12 +361,13 @@ with_publics s ps = record s { publics = s.publics ++ ps }
 publics_keep : (s : State) (local : Bool) (base : PublicBase) (listed : List Public) (text : List ℕ)
     → BaseText base text
     → AllByRecursion (λ (p : PublicSymbol). IsShort p.name × (p.offset < 65536)) (map (public_of local base) listed)
-    → public_fault s.tables base ≡ None → Promises s → Promises (with_publics s (map (public_of local base) listed))
+    → public_fault (module_in s) base ≡ None → Promises s
+    → Promises (with_publics s (map (public_of local base) listed))
 publics_keep s local base listed text b n e h =
     let m = h.sound in
     let bases =
     all_map (λ (p : PublicSymbol). BaseMeans s.tables.segments s.tables.groups s.tables.externals p.base)
-    (public_of local base) listed (λ p. base_fits s.tables base text b e) in
+    (public_of local base) listed (λ p. base_fits (module_in s) base text b e) in
     record {
       names = h.names;
       sound = record {
@@ -438,13 +442,13 @@ data_keeps s place i offset n pairs cs len copies e stand h =
 
 -- ---- FIXUPP
 
-target_means : (t : Tables) (m : TargetMethod) → target_fault t (Some m) ≡ None
+target_means : (t : Module) (m : TargetMethod) → target_fault t (Some m) ≡ None
     → TargetMeans t.segments t.groups t.externals m
 target_means t (to.Segment i) e = is_index t.segments i (when_none (misses t.segments i) SegmentIndex e)
 target_means t (to.Group i) e = is_index t.groups i (when_none (misses t.groups i) GroupIndex e)
 target_means t (to.External i) e = is_index t.externals i (when_none (misses t.externals i) ExternalIndex e)
 
-frame_means : (t : Tables) (m : FrameMethod) → frame_fault t (Some m) ≡ None
+frame_means : (t : Module) (m : FrameMethod) → frame_fault t (Some m) ≡ None
     → FrameMeans t.segments t.groups t.externals m
 frame_means t (by.By method) e = target_means t method e
 frame_means t by.Location e = tt
@@ -471,23 +475,24 @@ abbrev OnData : State → DataRecord → List ResolvedFixup → Type 0
 OnData s d fs = AllByRecursion (FixupFits s.tables.segments s.tables.groups s.tables.externals d) fs
 
 fixup_fits : (s : State) (place : ℕ) (x : Fixup) (f : Option FrameMethod) (t : Option TargetMethod) (d : DataRecord)
-    → fixup_fault s.tables f t s.contents x ≡ None → LastFits s.contents (d ∷ [])
+    → fixup_fault (module_in s) f t s.contents x ≡ None → LastFits s.contents (d ∷ [])
     → OnData s d (option_to_list (fixup_of place x f t))
 fixup_fits s place x None t d e h = cc_list e
   where
-    cc_list : fixup_fault s.tables None t s.contents x ≡ None → OnData s d (option_to_list (fixup_of place x None t))
+    cc_list : fixup_fault (module_in s) None t s.contents x ≡ None
+        → OnData s d (option_to_list (fixup_of place x None t))
     cc_list e = tt
 fixup_fits s place x (Some f) None d e h = tt
 fixup_fits s place x (Some f) (Some t) d e h =
     let a =
-    none_both (frame_fault s.tables (Some f))
-    (target_fault s.tables (Some t) ⊓ place_fault s.contents x ⊓ relative_fault x) e in
-    let b = none_both (target_fault s.tables (Some t)) (place_fault s.contents x ⊓ relative_fault x) a.1 in
+    none_both (frame_fault (module_in s) (Some f))
+    (target_fault (module_in s) (Some t) ⊓ place_fault s.contents x ⊓ relative_fault x) e in
+    let b = none_both (target_fault (module_in s) (Some t)) (place_fault s.contents x ⊓ relative_fault x) a.1 in
     let c = none_both (place_fault s.contents x) (relative_fault x) b.1 in
     let stand = place_fits s.contents x d c.0 h in (
       record {
-        frame = frame_means s.tables f a.0;
-        target = target_means s.tables t b.0;
+        frame = frame_means (module_in s) f a.0;
+        target = target_means (module_in s) t b.0;
         together = stand.together;
         whole = stand.whole;
         relative = relative_fits x.self_relative (holds_base x.location) c.1;
@@ -567,7 +572,7 @@ subrecord_keeps place s t (sub.Fixup x) e h =
     let f = used (slot s.frame_threads) x.reference.frame in
     let g = used (slot s.target_threads) x.reference.target in
     let p =
-    by_fault (fixup_fault s.tables f g s.contents x) (with_fixups s (option_to_list (fixup_of place x f g))) t e in
+    by_fault (fixup_fault (module_in s) f g s.contents x) (with_fixups s (option_to_list (fixup_of place x f g))) t e in
     subst Promises p.1
     (fixups_keep s (option_to_list (fixup_of place x f g)) (λ d l. fixup_fits s place x f g d p.0 l) h)
 
@@ -595,19 +600,25 @@ abbrev StartIsSound : State → Option Start → Type 0
 StartIsSound s o = IfSome o (StartFits s.tables.segments s.tables.groups s.tables.externals)
 
 start_fits : (s : State) (place : ℕ) (r : Reference) (f : Option FrameMethod) (t : Option TargetMethod)
-    → start_fault s.tables f t ≡ None → StartIsSound s s.start → StartIsSound s (later (start_of place r f t) s.start)
+    → start_fault (module_in s) f t ≡ None → StartIsSound s s.start
+    → StartIsSound s (later (start_of place r f t) s.start)
 start_fits s place r None t e h = h
 start_fits s place r (Some f) None e h = h
 start_fits s place r (Some f) (Some t) e h =
-    let a = none_both (frame_fault s.tables (Some f)) (target_fault s.tables (Some t) ⊓ location_fault (Some f)) e in
-    let b = none_both (target_fault s.tables (Some t)) (location_fault (Some f)) a.1 in
-    record { frame = frame_means s.tables f a.0; target = target_means s.tables t b.0; no_location = no_location f b.1 }
+    let a =
+    none_both (frame_fault (module_in s) (Some f)) (target_fault (module_in s) (Some t) ⊓ location_fault (Some f)) e in
+    let b = none_both (target_fault (module_in s) (Some t)) (location_fault (Some f)) a.1 in
+    record {
+      frame = frame_means (module_in s) f a.0;
+      target = target_means (module_in s) t b.0;
+      no_location = no_location f b.1;
+    }
 
 abbrev with_start : State → Option Start → State
 with_start s o = record s { start = later o s.start }
 
 start_keeps : (s : State) (place : ℕ) (r : Reference) (f : Option FrameMethod) (t : Option TargetMethod)
-    → start_fault s.tables f t ≡ None → Promises s → Promises (with_start s (start_of place r f t))
+    → start_fault (module_in s) f t ≡ None → Promises s → Promises (with_start s (start_of place r f t))
 start_keeps s place r f t e h =
     let m = h.sound in
     record {
@@ -635,7 +646,7 @@ record_keeps place s t (Coment kind class bytes) body b e h = subst Promises (ok
 record_keeps place s t (Linnum group segment lines) body b e h = subst Promises (ok_is s t e) h
 record_keeps place s t (Lnames listed) body b e h = subst Promises (ok_is _ t e) (names_keep s listed body b h)
 record_keeps place s t (Segdef d) body b e h =
-    subst Promises (by_fault (segment_fault s.tables d) _ t e).1 (segment_keeps s d body b h)
+    subst Promises (by_fault (segment_fault s.tables.names d) _ t e).1 (segment_keeps s d body b h)
 record_keeps place s t (Grpdef name is) body b e h =
     let p = by_fault (group_fault s.tables name is) _ t e in
     let q =
@@ -646,7 +657,7 @@ record_keeps place s t (Extdef local listed) body b e h =
     subst Promises (ok_is _ t e)
     (externals_keep s (map (external_of local) listed) (externals_short local listed body b) h)
 record_keeps place s t (Pubdef local base listed) body b e h =
-    let p = by_fault (public_fault s.tables base) _ t e in
+    let p = by_fault (public_fault (module_in s) base) _ t e in
     subst Promises p.1
     (publics_keep s local base listed (base_text local base listed body b).0 (base_text local base listed body b).1
     (publics_named local base listed body b) p.0 h)
@@ -665,15 +676,15 @@ record_keeps place s t (Modend main None) body b e h = subst Promises (ok_is s t
 record_keeps place s t (Modend main (Some r)) body b e h =
     let f = used (slot s.frame_threads) r.frame in
     let g = used (slot s.target_threads) r.target in
-    let p = by_fault (start_fault s.tables f g) _ t e in
+    let p = by_fault (start_fault (module_in s) f g) _ t e in
     subst Promises p.1 (start_keeps s place r f g p.0 h)
 
 pub step_keeps : (place : ℕ) (s t : State) (r : Record) (body : List ℕ) → Body r body → step s place r ≡ Ok t
     → Promises s → Promises t
 unfolding step
 step_keeps place s t r body b e h =
-    let p = then_ok (checked (header_fault s.begun r) (record s { begun = true })) (λ u. step_record place u r) t e in
-    let q = by_fault (header_fault s.begun r) (record s { begun = true }) p.0 p.1 in
+    let p = then_ok (checked (opening_fault s.begun r) (record s { begun = true })) (λ u. step_record place u r) t e in
+    let q = by_fault (opening_fault s.begun r) (record s { begun = true }) p.0 p.1 in
     record_keeps place p.0 t r body b p.2
     (subst Promises q.1 (record { names = h.names; sound = h.sound; last = h.last }))
 

@@ -14,10 +14,11 @@ use Rattle.omf_record.specs.declared.fixups.Subrecord.TheVariants as sub
 use Rattle.omf_module.specs.declared.fault.CheckFault.{CheckFault}
 use Rattle.omf_module.specs.declared.ResolvedFixup.{ResolvedFixup}
 use Rattle.omf_module.specs.Before.{along, along_from, first}
-use Rattle.omf_module.specs.Tables.{stretches, subrecords, fixups, frame_thread, target_thread, data_record, fixup_in}
+use Rattle.omf_module.specs.Tables.{module_of, stretches, subrecords, fixups, frame_thread, target_thread}
+use Rattle.omf_module.specs.Tables.{data_record, fixup_in}
 use Rattle.omf_record.specs.Numbers.{thread_number}
 use Rattle.omf_record.specs.Records.{Placed}
-use Rattle.omf_module.specs.Faults.{tables, subrecord_item}
+use Rattle.omf_module.specs.Faults.{subrecord_item}
 use Rattle.omf_module.specs.inside.Contents.{last_contents}
 use Rattle.omf_module.specs.inside.Running.{State, state_of, checked, step_subrecord, step_subrecords, step_record}
 use Rattle.omf_module.specs.inside.Running.{thread_numbers, add_to_last, ◌>>=◌}
@@ -48,7 +49,7 @@ inside_none : (place : ℕ) (rs : List Placed) → Inside place rs [] ≡ record
 inside_none place rs = simp append-nil
 
 abbrev item : List Placed → List Subrecord → Subrecord → Option CheckFault
-item rs earlier x = subrecord_item (tables rs) (last_contents rs) (subrecords rs ++ earlier) x
+item rs earlier x = subrecord_item (module_of rs) (last_contents rs) (subrecords rs ++ earlier) x
 
 frame_set_more : (subs : List Subrecord) (t : ThreadNumber) (method : FrameMethod)
     → map (frame_thread (subs ++ sub.SetFrame t method ∷ [])) thread_numbers

@@ -6,7 +6,8 @@ use Rattle.omf_record.specs.Record.{Fixupp, Ledata, Lidata}
 use Rattle.omf_record.specs.Records.{Placed}
 use Rattle.omf_module.specs.declared.fault.CheckFault.{CheckFault}
 use Rattle.omf_module.specs.Before.{along, along_from, first}
-use Rattle.omf_module.specs.Faults.{begun, header_fault, items, fault, first_fault}
+use Rattle.omf_module.specs.Faults.{header_fault, items, fault, first_fault}
+use Rattle.omf_module.specs.inside.Checking.{begun, opening_fault}
 use Rattle.omf_module.specs.inside.Running.{State, state_of, checked, step, step_record, ◌>>=◌}
 use Rattle.omf_module.proofs.Lists.{along_push, along_from_append}
 use Rattle.omf_module.proofs.Growing.{Steps, header_steps, comment_steps, lines_steps, names_steps, externals_steps}
@@ -35,12 +36,29 @@ by_header : (h : Option CheckFault) (place : ℕ) (s : State) (r : Record) (is :
 by_header None place s r is t e = e
 by_header (Some f) place s r is t e = refl
 
+-- a header is wanted where no record has been read
+opening_is : (rs : List Placed) (r : Record) → opening_fault (begun rs) r ≡ header_fault rs r
+opening_is [] (Theadr name) = refl
+opening_is [] (Coment t c bytes) = refl
+opening_is [] (Modend main start) = refl
+opening_is [] (Extdef local listed) = refl
+opening_is [] (Pubdef local base listed) = refl
+opening_is [] (Linnum g s lines) = refl
+opening_is [] (Lnames listed) = refl
+opening_is [] (Segdef d) = refl
+opening_is [] (Grpdef name components) = refl
+opening_is [] (Fixupp subs) = refl
+opening_is [] (Ledata segment offset bytes) = refl
+opening_is [] (Lidata segment offset blocks) = refl
+opening_is (x ∷ rs) r = refl
+
 pub step_whole : (rs : List Placed) (r : Placed)
     → step (state_of rs) r.place r.says ≡ checked (fault rs r.says) (state_of (rs ++ r ∷ []))
 unfolding step
 step_whole rs r =
-    by_header (header_fault (begun rs) r.says) r.place _ r.says (items rs r.says) _
-    (record_steps r.says r.place r.body rs)
+    rw (opening_is rs r.says)
+    (by_header (header_fault rs r.says) r.place _ r.says (items rs r.says) _
+    (record_steps r.says r.place r.body rs))
 
 first_append_none : {A : Type 0} (xs ys : List (Option A)) → first xs ≡ None → first (xs ++ ys) ≡ first ys
 first_append_none [] ys e = refl

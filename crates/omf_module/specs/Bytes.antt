@@ -1,6 +1,7 @@
 -- Whole modules in bytes, and the fault of reading bytes as a module.
-use Rattle.std.specs.Prelude.{◌≡◌, ℕ, List, [], ◌∷◌, ◌++◌, length, None, Some, ◌⊎◌}
-use Rattle.omf_record.specs.Records.{Placed, AreRecords, AreBeforeEnd, AreToEnd, NoRecordAt}
+use Rattle.std.specs.Prelude.{◌≡◌, ℕ, false, List, [], ◌∷◌, ◌++◌, length, None, Some, ◌⊎◌}
+use Rattle.std.specs.List.{AllByRecursion}
+use Rattle.omf_record.specs.Records.{Placed, AreRecords, is_end, AreToEnd, NoRecordAt}
 use Rattle.omf_record.specs.declared.fault.NoRecord.{NoRecord}
 use Rattle.omf_module.specs.declared.fault.CheckFault.{CheckFault}
 use Rattle.omf_module.specs.declared.fault.FaultKind.{FaultKind}
@@ -16,7 +17,7 @@ pub record ModuleBytes (rs : List Placed) (bytes : List ℕ) : Type 0 where
 -- the bytes are the sound beginning of a module
 pub record Beginning (rs : List Placed) (bytes : List ℕ) : Type 0 where
   pub records : AreRecords 0 rs bytes
-  pub open' : AreBeforeEnd rs
+  pub open' : AllByRecursion (λ (r : Placed). is_end r.says ≡ false) rs
   pub sound : first_fault rs ≡ None
 
 -- a record begins at this place, the bytes from there on being these, and a check refuses it behind the records before

@@ -1,6 +1,7 @@
--- What the checks of a module refuse, on the tables as they stand before a record.
+-- What the checks of a module refuse, by what the records before a record say.
 use Rattle.std.specs.Prelude.{ℕ, ◌+◌, ◌==◌, Bool, true, false, not, ◌||◌, ◌&&◌, if◌then◌else◌, nat_le, nat_lt, List, []}
 use Rattle.std.specs.Prelude.{◌∷◌, ◌++◌, length, map, codes, Option, None, Some, option_map}
+use Rattle.std.specs.Bool.{then_some}
 use Rattle.std.specs.List.{list_any}
 use Rattle.omf_record.specs.Record.{Record, Theadr, Modend, Pubdef, Segdef, Grpdef}
 use Rattle.omf_record.specs.Record.{Fixupp, Ledata, Lidata}
@@ -11,7 +12,6 @@ use Rattle.omf_record.specs.declared.fixups.FrameMethod.{FrameMethod}
 use Rattle.omf_record.specs.declared.fixups.FrameMethod.TheVariants as by
 use Rattle.omf_record.specs.declared.fixups.TargetMethod.{TargetMethod}
 use Rattle.omf_record.specs.declared.fixups.TargetMethod.TheVariants as to
-use Rattle.omf_record.specs.declared.segments.SegmentDefinition.{SegmentDefinition}
 use Rattle.omf_record.specs.declared.externals.PublicBase.{PublicBase}
 use Rattle.omf_record.specs.declared.externals.PublicBase.TheVariants.{AtFrame, InSegment}
 use Rattle.omf_record.specs.declared.fixups.Location.{Location}
@@ -26,10 +26,10 @@ use Rattle.omf_module.specs.declared.fault.CheckFault.TheVariants.{FixupPlace, D
 use Rattle.omf_module.specs.declared.fault.CheckFault.TheVariants.{SelfRelativeBase, FrameOfLocation, GroupOfAbsolute}
 use Rattle.omf_module.specs.declared.Standing.{Standing}
 use Rattle.omf_module.specs.declared.Standing.TheVariants.{Absolute, Relocatable}
-use Rattle.omf_module.specs.Module.{Segment, Group, ExternalSymbol}
+use Rattle.omf_module.specs.Module.{Segment, Module}
 use Rattle.omf_module.specs.Before.{along, first, last, entry}
-use Rattle.omf_module.specs.Tables.{names, segments, groups, externals, Stretch, stretches, subrecords, frame_thread}
-use Rattle.omf_module.specs.Tables.{target_thread, used}
+use Rattle.omf_module.specs.Tables.{names, Stretch, stretches, subrecords, frame_thread, target_thread}
+use Rattle.omf_module.specs.Tables.{used, module_of}
 
 -- the number and the name with which a fault is printed
 abbrev pub check_label : CheckFault → ℕ × List ℕ
@@ -47,10 +47,6 @@ check_label SelfRelativeBase = (19, codes "SelfRelativeBase")
 check_label FrameOfLocation = (20, codes "FrameOfLocation")
 check_label GroupOfAbsolute = (21, codes "GroupOfAbsolute")
 
--- the fault, where the test holds
-abbrev pub when : Bool → CheckFault → Option CheckFault
-when test fault = if test then Some fault else None
-
 -- of two faults the one with the smaller number
 infixr 6 ◌⊓◌
 abbrev pub ◌⊓◌ : Option CheckFault → Option CheckFault → Option CheckFault
@@ -66,62 +62,46 @@ is_beyond list index = nat_lt (length list) index
 abbrev pub misses : {A : Type 0} → List A → ℕ → Bool
 misses list index = index == 0 || is_beyond list index
 
--- the tables as they stand before a record
-pub record Tables : Type 0 where
-  pub names : List (List ℕ)
-  pub segments : List Segment
-  pub groups : List Group
-  pub externals : List ExternalSymbol
-
--- the tables of these records
-abbrev pub tables : List Placed → Tables
-tables before =
-    record { names = names before; segments = segments before; groups = groups before; externals = externals before }
-
 -- a segment at a frame that its definition names
 abbrev pub is_absolute : Standing → Bool
 is_absolute (Absolute frame offset) = true
 is_absolute (Relocatable alignment kind) = false
 
--- a segment's name and class may be 0
-abbrev pub segment_fault : Tables → SegmentDefinition → Option CheckFault
-segment_fault tables definition =
-    when (is_beyond tables.names definition.name || is_beyond tables.names definition.class) NameIndex
-
 -- a component of a group
 abbrev pub component_fault : Option Segment → Option CheckFault
 component_fault None = Some SegmentIndex
-component_fault (Some segment) = when (is_absolute segment.standing) GroupOfAbsolute
+component_fault (Some segment) = then_some (is_absolute segment.standing) GroupOfAbsolute
 
 -- its name and each of its components is an item
-abbrev pub group_items : Tables → ℕ → List ℕ → List (Option CheckFault)
-group_items tables name components =
-    when (misses tables.names name) NameIndex ∷ map (λ index. component_fault (entry tables.segments index)) components
+abbrev pub group_items : (names : List (List ℕ)) → List Segment → ℕ → List ℕ → List (Option CheckFault)
+group_items names segments name components =
+    then_some (misses names name) NameIndex ∷ map (λ index. component_fault (entry segments index)) components
 
 -- so many bytes from an offset on in a segment
 abbrev pub data_fault : Option Segment → (offset length : ℕ) → Option CheckFault
 data_fault None offset length = Some SegmentIndex
 data_fault (Some segment) offset length =
-    when (nat_lt segment.length (offset + length)) DataOutside ⊓ when (is_absolute segment.standing) DataInAbsolute
+    then_some (nat_lt segment.length (offset + length)) DataOutside
+    ⊓ then_some (is_absolute segment.standing) DataInAbsolute
 
 -- the group may be 0; the segment isn't, since the frame word stands in its place
-abbrev pub public_fault : Tables → PublicBase → Option CheckFault
-public_fault tables (AtFrame group frame) = when (is_beyond tables.groups group) GroupIndex
-public_fault tables (InSegment group segment) =
-    when (misses tables.segments segment) SegmentIndex ⊓ when (is_beyond tables.groups group) GroupIndex
+abbrev pub public_fault : Module → PublicBase → Option CheckFault
+public_fault said (AtFrame group frame) = then_some (is_beyond said.groups group) GroupIndex
+public_fault said (InSegment group segment) =
+    then_some (misses said.segments segment) SegmentIndex ⊓ then_some (is_beyond said.groups group) GroupIndex
 
 -- a target in use; none: its thread isn't set
-abbrev pub target_fault : Tables → Option TargetMethod → Option CheckFault
-target_fault tables None = Some ThreadNotSet
-target_fault tables (Some (to.Segment index)) = when (misses tables.segments index) SegmentIndex
-target_fault tables (Some (to.Group index)) = when (misses tables.groups index) GroupIndex
-target_fault tables (Some (to.External index)) = when (misses tables.externals index) ExternalIndex
+abbrev pub target_fault : Module → Option TargetMethod → Option CheckFault
+target_fault said None = Some ThreadNotSet
+target_fault said (Some (to.Segment index)) = then_some (misses said.segments index) SegmentIndex
+target_fault said (Some (to.Group index)) = then_some (misses said.groups index) GroupIndex
+target_fault said (Some (to.External index)) = then_some (misses said.externals index) ExternalIndex
 
 -- a frame in use, likewise
-abbrev pub frame_fault : Tables → Option FrameMethod → Option CheckFault
-frame_fault tables None = Some ThreadNotSet
-frame_fault tables (Some (by.By method)) = target_fault tables (Some method)
-frame_fault tables (Some _) = None
+abbrev pub frame_fault : Module → Option FrameMethod → Option CheckFault
+frame_fault said None = Some ThreadNotSet
+frame_fault said (Some (by.By method)) = target_fault said (Some method)
+frame_fault said (Some _) = None
 
 -- a base can't be relative to itself
 abbrev pub holds_base : Location → Bool
@@ -134,67 +114,56 @@ abbrev pub place_fault : Option (List (ℕ × ℕ)) → Fixup → Option CheckFa
 place_fault None fixup = Some FixupBeforeData
 place_fault (Some contents) fixup =
     let end = fixup.offset + location_width fixup.location in
-    when (not (list_any (λ c. nat_le c.0 fixup.offset && nat_le end (c.0 + c.1)) contents)) FixupPlace
+    then_some (not (list_any (λ c. nat_le c.0 fixup.offset && nat_le end (c.0 + c.1)) contents)) FixupPlace
 
 -- a fix-up that is relative to its own location
 abbrev pub relative_fault : Fixup → Option CheckFault
-relative_fault fixup = if fixup.self_relative then when (holds_base fixup.location) SelfRelativeBase else None
-
--- a fix-up by the methods that it uses: the smallest of its faults
-abbrev pub fixup_fault : Tables → Option FrameMethod → Option TargetMethod → Option (List (ℕ × ℕ)) → Fixup
-    → Option CheckFault
-fixup_fault tables frame target contents fixup =
-    frame_fault tables frame ⊓ target_fault tables target ⊓ place_fault contents fixup ⊓ relative_fault fixup
+relative_fault fixup = if fixup.self_relative then then_some (holds_base fixup.location) SelfRelativeBase else None
 
 -- a start has no location
 abbrev pub location_fault : Option FrameMethod → Option CheckFault
 location_fault (Some by.Location) = Some FrameOfLocation
 location_fault _ = None
 
--- a start by the methods that it uses: the smallest of its faults
-abbrev pub start_fault : Tables → Option FrameMethod → Option TargetMethod → Option CheckFault
-start_fault tables frame target = frame_fault tables frame ⊓ target_fault tables target ⊓ location_fault frame
-
 -- ---- the items of a record, in order, each with the smallest fault that stands there: the name and each component of
 -- GRPDEF, each subrecord of FIXUPP, and any other record as a whole
 
 -- a subrecord, with those before it in all FIXUPP records: only a fix-up can be at fault
-abbrev pub subrecord_item : Tables → Option (List (ℕ × ℕ)) → List Subrecord → Subrecord → Option CheckFault
-subrecord_item tables contents before (sub.Fixup fixup) =
-    fixup_fault tables (used (frame_thread before) fixup.reference.frame)
-    (used (target_thread before) fixup.reference.target) contents fixup
-subrecord_item tables contents before _ = None
+abbrev pub subrecord_item : Module → Option (List (ℕ × ℕ)) → List Subrecord → Subrecord → Option CheckFault
+subrecord_item said contents before (sub.Fixup fixup) =
+    frame_fault said (used (frame_thread before) fixup.reference.frame)
+    ⊓ target_fault said (used (target_thread before) fixup.reference.target)
+    ⊓ place_fault contents fixup ⊓ relative_fault fixup
+subrecord_item said contents before _ = None
 
--- the items of a record after these
+-- the items of a record after these: the name and the class of a segment may be 0
 abbrev pub items : List Placed → Record → List (Option CheckFault)
-items before (Segdef definition) = segment_fault (tables before) definition ∷ []
-items before (Grpdef name components) = group_items (tables before) name components
-items before (Pubdef local base listed) = public_fault (tables before) base ∷ []
-items before (Ledata segment offset bytes) = data_fault (entry (segments before) segment) offset (length bytes) ∷ []
+items before (Segdef definition) =
+    then_some (is_beyond (names before) definition.name || is_beyond (names before) definition.class) NameIndex ∷ []
+items before (Grpdef name components) = group_items (names before) (module_of before).segments name components
+items before (Pubdef local base listed) = public_fault (module_of before) base ∷ []
+items before (Ledata segment offset bytes) =
+    data_fault (entry (module_of before).segments segment) offset (length bytes) ∷ []
 items before (Lidata segment offset blocks) =
-    data_fault (entry (segments before) segment) offset (length (expansion blocks)) ∷ []
+    data_fault (entry (module_of before).segments segment) offset (length (expansion blocks)) ∷ []
 items before (Fixupp subs) =
     let contents = option_map (λ (data' : Stretch). data'.contents) (last (stretches before)) in
-    along (λ earlier s. subrecord_item (tables before) contents (subrecords before ++ earlier) s ∷ []) subs
+    along (λ earlier s. subrecord_item (module_of before) contents (subrecords before ++ earlier) s ∷ []) subs
 items before (Modend main (Some reference)) =
-    start_fault (tables before) (used (frame_thread (subrecords before)) reference.frame)
-    (used (target_thread (subrecords before)) reference.target) ∷ []
+    let frame = used (frame_thread (subrecords before)) reference.frame in
+    let target = used (target_thread (subrecords before)) reference.target in
+    (frame_fault (module_of before) frame ⊓ target_fault (module_of before) target ⊓ location_fault frame) ∷ []
 items before _ = []
 
--- some record has been read
-abbrev pub begun : List Placed → Bool
-begun [] = false
-begun (_ ∷ before) = true
-
 -- the first record has to be a header
-abbrev pub header_fault : Bool → Record → Option CheckFault
-header_fault true record' = None
-header_fault false (Theadr name) = None
-header_fault false _ = Some NotHeader
+abbrev pub header_fault : List Placed → Record → Option CheckFault
+header_fault [] (Theadr name) = None
+header_fault [] _ = Some NotHeader
+header_fault (_ ∷ before) record' = None
 
 -- the fault of a record after these
 abbrev pub fault : List Placed → Record → Option CheckFault
-fault before record' = first (header_fault (begun before) record' ∷ items before record')
+fault before record' = first (header_fault before record' ∷ items before record')
 
 -- the first fault of the records, with its record's place
 abbrev pub first_fault : List Placed → Option (ℕ × CheckFault)

@@ -1,9 +1,11 @@
 -- What reading a module answers, and where the source then stands.
-use Rattle.std.specs.Prelude.{◌≡◌, ℕ, List, length, Some, Ok, Err, IfSome, ◌⊎◌}
+use Rattle.std.specs.Prelude.{◌≡◌, ℕ, ◌-◌, List, length, Some, Ok, Err, IfSome, ◌⊎◌}
 use Rattle.std.specs.declared.option.Option.{Option}
 use Rattle.std.specs.declared.result.Result.{Result}
 use Rattle.std.specs.Io.KnownBytes.{Consumes, Keeps}
-use Rattle.omf_frame.specs.Reading.{TakesWhole, TakesPart}
+use Rattle.omf_frame.specs.Device.{TakesAtMost}
+use Rattle.omf_frame.specs.Frame.{record_len}
+use Rattle.omf_frame.specs.Reading.{TakesWhole}
 use Rattle.omf_frame.specs.declared.reading.FramingFault.TheVariants.{InputTooLong}
 use Rattle.omf_record.specs.Records.{Placed}
 use Rattle.omf_record.specs.declared.fault.NoRecord.TheVariants.{Framing}
@@ -23,7 +25,7 @@ failures_in _ = 0
 -- What is taken of the record at fault: the whole of it, all that is left of one that is cut off, of one of length 0
 -- its three bytes; at the limit nothing, and where the source failed not all of it.
 abbrev pub TakesFaulty : Option (List ℕ) → Option (List ℕ) → FaultKind → Type 0
-TakesFaulty old new kind.Device = TakesPart old new
+TakesFaulty old new kind.Device = IfSome old (λ bytes. TakesAtMost old new (record_len bytes - 1))
 TakesFaulty old new (kind.Absent (Framing InputTooLong)) = Keeps old new
 TakesFaulty old new _ = TakesWhole old new
 

@@ -1,6 +1,7 @@
 -- What the records of a module define, and what the module says (TIS OMF 1.1, the section of each record).
-use Rattle.std.specs.Prelude.{ℕ, Bool, zero, suc, ◌-◌, if◌then◌else◌, ◌==◌, List, [], ◌∷◌, ◌++◌, length, map, Option}
+use Rattle.std.specs.Prelude.{ℕ, Bool, zero, suc, ◌-◌, ◌==◌, List, [], ◌∷◌, ◌++◌, length, map, Option}
 use Rattle.std.specs.Prelude.{None, Some, unwrap_or}
+use Rattle.std.specs.Bool.{then_some}
 use Rattle.std.specs.Option.{option_to_list}
 use Rattle.std.specs.List.{flat_map, filter_map, enumerate_from}
 use Rattle.omf_record.specs.Record.{Record, Modend, Extdef, Pubdef, Lnames, Segdef}
@@ -34,14 +35,9 @@ use Rattle.omf_module.specs.Before.{along, last, entry}
 
 -- ---- 96H LNAMES: List of Names Record
 
--- the names that a record lists
-abbrev pub names_in : Record → List (List ℕ)
-names_in (Lnames names) = names
-names_in _ = []
-
 -- the names that these records list
 abbrev pub names : List Placed → List (List ℕ)
-names records = flat_map (λ (placed : Placed). names_in placed.says) records
+names records = flat_map (λ (placed : Placed). elim placed.says [ Lnames listed ↦ listed | _ ↦ [] ]) records
 
 -- the name that an index means; 0 means the empty one
 abbrev pub name_at : List (List ℕ) → ℕ → List ℕ
@@ -76,10 +72,6 @@ segments_in names (Segdef definition) =
     } ∷ []
 segments_in names _ = []
 
--- the segments that these records define, each with the names before it
-abbrev pub segments : List Placed → List Segment
-segments records = along (λ before (placed : Placed). segments_in (names before) placed.says) records
-
 -- ---- 9AH GRPDEF: Group Definition Record
 
 -- the part of a group that a record defines, with the names before it; its members count from 0
@@ -87,10 +79,6 @@ abbrev pub groups_in : List (List ℕ) → Record → List Group
 groups_in names (Grpdef name components) =
     record { name = name_at names name; members = map (λ index. index - 1) components } ∷ []
 groups_in names _ = []
-
--- the parts of groups that these records define, each with the names before it
-abbrev pub groups : List Placed → List Group
-groups records = along (λ before (placed : Placed). groups_in (names before) placed.says) records
 
 -- ---- 8CH EXTDEF and B4H LEXTDEF: (Local) External Names Definition Record; 90H PUBDEF and B6H LPUBDEF: (Local) Public
 -- Names Definition Record
@@ -100,19 +88,11 @@ abbrev pub externals_in : Record → List ExternalSymbol
 externals_in (Extdef local listed) = map (λ external. record { name = external.name; local = local }) listed
 externals_in _ = []
 
--- the externals that these records list
-abbrev pub externals : List Placed → List ExternalSymbol
-externals records = flat_map (λ (placed : Placed). externals_in placed.says) records
-
 -- the public symbols that a record defines
 abbrev pub publics_in : Record → List PublicSymbol
 publics_in (Pubdef local base listed) =
     map (λ p. record { name = p.name; base = base; offset = p.offset; local = local }) listed
 publics_in _ = []
-
--- the public symbols that these records define
-abbrev pub publics : List Placed → List PublicSymbol
-publics records = flat_map (λ (placed : Placed). publics_in placed.says) records
 
 -- ---- A0H LEDATA: Logical Enumerated Data Record; A2H LIDATA: Logical Iterated Data Record
 
@@ -153,23 +133,15 @@ subrecords_in _ = []
 abbrev pub subrecords : List Placed → List Subrecord
 subrecords records = flat_map (λ (placed : Placed). subrecords_in placed.says) records
 
--- what a subrecord sets the frame thread of this number to
-abbrev pub frame_set : ℕ → Subrecord → Option FrameMethod
-frame_set number (sub.SetFrame thread method) = if thread_number thread == number then Some method else None
-frame_set number _ = None
-
--- what a subrecord sets the target thread of this number to
-abbrev pub target_set : ℕ → Subrecord → Option TargetMethod
-target_set number (sub.SetTarget thread method) = if thread_number thread == number then Some method else None
-target_set number _ = None
-
--- the thread in force after these subrecords: the last one of that kind and number
+-- the frame thread in force after these subrecords: what the last one that sets the thread of this number sets it to
 abbrev pub frame_thread : List Subrecord → ℕ → Option FrameMethod
-frame_thread before number = last (filter_map (frame_set number) before)
+frame_thread before number =
+    last (filter_map (elim [ sub.SetFrame n method ↦ then_some (thread_number n == number) method | _ ↦ None ]) before)
 
 -- the same of targets
 abbrev pub target_thread : List Subrecord → ℕ → Option TargetMethod
-target_thread before number = last (filter_map (target_set number) before)
+target_thread before number =
+    last (filter_map (elim [ sub.SetTarget n method ↦ then_some (thread_number n == number) method | _ ↦ None ]) before)
 
 -- the method that a fix-up or start uses
 abbrev pub used : {M : Type 0} → (ℕ → Option M) → Datum M → Option M
@@ -212,17 +184,13 @@ fixups records =
 -- those that are on the data record of this number, which counts from 1
 abbrev pub fixups_on : ℕ → List (ℕ × ResolvedFixup) → List ResolvedFixup
 fixups_on number fixups =
-    filter_map (λ (fixup : ℕ × ResolvedFixup). if fixup.0 == number then Some fixup.1 else None) fixups
+    filter_map (λ (fixup : ℕ × ResolvedFixup). then_some (fixup.0 == number) fixup.1) fixups
 
 -- a data record: data with its number, and the fix-ups on it
 abbrev pub data_record : List (ℕ × ResolvedFixup) → ℕ × Stretch → DataRecord
 data_record fixups d =
     let s = d.1 in
     record { place = s.place; segment = s.segment; offset = s.offset; pairs = s.pairs; fixups = fixups_on d.0 fixups }
-
--- the data records of these records
-abbrev pub data_records : List Placed → List DataRecord
-data_records records = map (data_record (fixups records)) (enumerate_from 1 (stretches records))
 
 -- a start by the methods that it uses; there is none where a thread isn't set
 abbrev pub start_of : ℕ → Reference → Option FrameMethod → Option TargetMethod → Option Start
@@ -237,18 +205,13 @@ start_in before place (Modend main (Some reference)) =
     (used (target_thread before) reference.target)
 start_in before place _ = None
 
--- the last start of these records
-abbrev pub start : List Placed → Option Start
-start records =
-    last (along (λ before (p : Placed). option_to_list (start_in (subrecords before) p.place p.says)) records)
-
--- what these records say as a module
+-- what these records say as a module: segments and groups each with the names before it, and the last start
 abbrev pub module_of : List Placed → Module
 module_of records = record {
-  segments = segments records;
-  groups = groups records;
-  externals = externals records;
-  publics = publics records;
-  data_records = data_records records;
-  start = start records;
+  segments = along (λ before (placed : Placed). segments_in (names before) placed.says) records;
+  groups = along (λ before (placed : Placed). groups_in (names before) placed.says) records;
+  externals = flat_map (λ (placed : Placed). externals_in placed.says) records;
+  publics = flat_map (λ (placed : Placed). publics_in placed.says) records;
+  data_records = map (data_record (fixups records)) (enumerate_from 1 (stretches records));
+  start = last (along (λ before (p : Placed). option_to_list (start_in (subrecords before) p.place p.says)) records);
 }

@@ -28,7 +28,9 @@ ghost use Rattle.omf_module.specs.Before.{first, entry};
 ghost use Rattle.omf_module.specs.Tables as tables;
 ghost use Rattle.omf_module.specs.inside.Entries as defined;
 ghost use Rattle.omf_module.specs.Faults as faults;
+ghost use Rattle.omf_module.specs.inside.Checking as checking;
 ghost use Rattle.omf_module.specs.inside.Running as running;
+ghost use Rattle.omf_module.specs.inside.Running.{module_in};
 ghost use Rattle.omf_module.specs.Sound.{IsSound};
 ghost use Rattle.omf_module.specs.inside.Building.{Gives, state, contents_of};
 
@@ -216,7 +218,7 @@ fn location_fault(frame: Option<FrameMethod>) -> Option<CheckFault>
 /// The fault of a first record that isn't THEADR.
 #[tactic(auto, unfolding(omf_record::specs::View::view))]
 fn header_fault<A: Allocator + Copy>(begun: bool, record: &Record<'_, A>) -> Option<CheckFault>
-    ensures { result ≡ faults.header_fault begun (view «record».now) }
+    ensures { result ≡ checking.opening_fault begun (view «record».now) }
 {
     match record {
         Record::Theadr { .. } => None,
@@ -242,7 +244,7 @@ impl<A: Allocator + Copy> LastData<A> {
 impl<A: Allocator + Copy> Builder<A> {
     /// The fault of an index that has to mean a segment.
     fn segment_index(&self, index: u16) -> Option<CheckFault>
-        ensures { result ≡ faults.when (faults.misses (state self.now).tables.segments index) CheckFault.SegmentIndex }
+        ensures { result ≡ checking.when (faults.misses (state self.now).tables.segments index) CheckFault.SegmentIndex }
     {
         let count = self.store.segment_count();
         when(misses(count, index), CheckFault::SegmentIndex)
@@ -250,7 +252,7 @@ impl<A: Allocator + Copy> Builder<A> {
 
     /// The fault of an index that has to mean a group.
     fn group_index(&self, index: u16) -> Option<CheckFault>
-        ensures { result ≡ faults.when (faults.misses (state self.now).tables.groups index) CheckFault.GroupIndex }
+        ensures { result ≡ checking.when (faults.misses (state self.now).tables.groups index) CheckFault.GroupIndex }
     {
         let count = self.store.group_count();
         when(misses(count, index), CheckFault::GroupIndex)
@@ -259,7 +261,7 @@ impl<A: Allocator + Copy> Builder<A> {
     /// The fault of an index that has to mean an external.
     fn external_index(&self, index: u16) -> Option<CheckFault>
         ensures { result
-            ≡ faults.when (faults.misses (state self.now).tables.externals index) CheckFault.ExternalIndex }
+            ≡ checking.when (faults.misses (state self.now).tables.externals index) CheckFault.ExternalIndex }
     {
         let count = self.store.external_count();
         when(misses(count, index), CheckFault::ExternalIndex)
@@ -267,7 +269,7 @@ impl<A: Allocator + Copy> Builder<A> {
 
     /// The fault of a frame by its method; none: its thread isn't set.
     fn frame_fault(&self, frame: Option<FrameMethod>) -> Option<CheckFault>
-        ensures { result ≡ faults.frame_fault (state self.now).tables frame }
+        ensures { result ≡ faults.frame_fault (module_in (state self.now)) frame }
     {
         match frame {
             None => Some(CheckFault::ThreadNotSet),
@@ -278,7 +280,7 @@ impl<A: Allocator + Copy> Builder<A> {
 
     /// The fault of a target by its method; none: its thread isn't set.
     fn target_fault(&self, target: Option<TargetMethod>) -> Option<CheckFault>
-        ensures { result ≡ faults.target_fault (state self.now).tables target }
+        ensures { result ≡ faults.target_fault (module_in (state self.now)) target }
     {
         let Some(method) = target else {
             return Some(CheckFault::ThreadNotSet);
@@ -297,7 +299,7 @@ impl<A: Allocator + Copy> Builder<A> {
         target: Option<TargetMethod>,
         fixup: &Fixup,
     ) -> Option<CheckFault>
-        ensures { result ≡ faults.fixup_fault (state self.now).tables frame target (state self.now).contents fixup.now }
+        ensures { result ≡ checking.fixup_fault (module_in (state self.now)) frame target (state self.now).contents fixup.now }
     {
         let of_place = smaller(self.last_data.place_fault(fixup), relative_fault(fixup));
         smaller(
@@ -312,7 +314,7 @@ impl<A: Allocator + Copy> Builder<A> {
         frame: Option<FrameMethod>,
         target: Option<TargetMethod>,
     ) -> Option<CheckFault>
-        ensures { result ≡ faults.start_fault (state self.now).tables frame target }
+        ensures { result ≡ checking.start_fault (module_in (state self.now)) frame target }
     {
         let of_target = smaller(self.target_fault(target), location_fault(frame));
         smaller(self.frame_fault(frame), of_target)
@@ -408,7 +410,7 @@ impl<A: Allocator + Copy> Builder<A> {
 
     /// The fault of what the offsets of public symbols count from.
     fn public_fault(&self, base: PublicBase) -> Option<CheckFault>
-        ensures { result ≡ faults.public_fault (state self.now).tables base }
+        ensures { result ≡ faults.public_fault (module_in (state self.now)) base }
     {
         let groups = self.store.group_count();
         match base {

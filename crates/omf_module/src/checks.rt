@@ -3,6 +3,7 @@ ghost use Rattle.std.specs.Prelude.{◌≡◌, ◌+◌, ◌==◌, ◌||◌, ◌<
 ghost use Rattle.std.specs.Option.{option_copied};
 ghost use Rattle.omf_module.specs.Before.{entry};
 ghost use Rattle.omf_module.specs.Faults as faults;
+ghost use Rattle.omf_module.specs.inside.Checking as checking;
 ghost use Rattle.omf_module.specs.Faults.{◌⊓◌};
 
 use crate::Standing;
@@ -26,7 +27,7 @@ pub fn smaller(one: Option<CheckFault>, other: Option<CheckFault>) -> Option<Che
 
 /// The fault, where the test holds.
 pub fn when(test: bool, fault: CheckFault) -> Option<CheckFault>
-    ensures { result ≡ faults.when test fault }
+    ensures { result ≡ checking.when test fault }
 {
     if test { Some(fault) } else { None }
 }

@@ -20,13 +20,14 @@ use Rattle.omf_place.specs.Faults.{segment_fault}
 use Rattle.omf_place.specs.inside.Steps.{is_long_segment}
 use Rattle.omf_place.specs.Parts.{Input, inputs_from, inputs}
 use Rattle.omf_place.specs.Layout.{Layout, layout_at, local_public, module_places, places_of, segment_in}
-use Rattle.omf_place.specs.Named.{value_where}
+use Rattle.omf_place.specs.inside.Named.{value_where}
 use Rattle.omf_place.specs.Names.{Table, agrees, means}
 use Rattle.omf_place.specs.inside.Steps.{empty}
 use Rattle.omf_place.specs.Parts.{Site, module_sites, sites, is_part}
 use Rattle.omf_place.specs.inside.Placing.{sites_from, is_relocatable}
 use Rattle.omf_place.specs.Placed.{IsPlaced, address_of}
-use Rattle.omf_place.specs.Scopes.{Entry, local_tables, table}
+use Rattle.omf_place.specs.Scopes.{Entry, table}
+use Rattle.omf_place.specs.inside.HeldNames.{local_tables}
 use Rattle.omf_place.specs.inside.Steps.{owned_by, same_owner}
 use Rattle.omf_place.specs.Tables.{segment_start, segment_end, leaders, combined_segment, placed, group_frame}
 use Rattle.omf_place.specs.Tables.{in_segment, placed_public, publics_of, placed_publics}

@@ -5,7 +5,8 @@ use Rattle.std.specs.List.{AllByRecursion}
 use Rattle.omf_module.specs.declared.Standing.{Standing}
 use Rattle.omf_module.specs.declared.Standing.TheVariants.{Absolute, Relocatable}
 use Rattle.omf_module.specs.Sound.{SegmentFits, IsStanding}
-use Rattle.omf_place.specs.Parts.{Site, combines, rank, before, placement_order, is_part}
+use Rattle.omf_place.specs.Parts.{Site, combines, placement_order, is_part}
+use Rattle.omf_place.specs.inside.Ranks.{rank, before}
 use Rattle.omf_place.specs.inside.Placing.{parts}
 use Rattle.omf_place.specs.Placed.{greatest, members, leads, is_common, is_stack, alignment_of}
 use Rattle.omf_place.specs.inside.Numbered.{IsNumberedFrom}

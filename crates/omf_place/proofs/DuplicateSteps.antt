@@ -16,10 +16,11 @@ use Rattle.omf_place.specs.declared.names.Names.TheVariants.{Exact}
 use Rattle.omf_place.specs.declared.scopes.Entry as held
 use Rattle.omf_place.specs.Faults.{DuplicatePublic, duplicate_in}
 use Rattle.omf_place.specs.inside.HeldNames.{HoldsAll, IsOwner, Scopes, entry_view, scopes_of, table_of, with_entry}
-use Rattle.omf_place.specs.Named.{value_where}
+use Rattle.omf_place.specs.inside.Named.{value_where}
 use Rattle.omf_place.specs.Names.{Table, agrees, means, spelled}
 use Rattle.omf_place.specs.inside.Steps.{empty}
-use Rattle.omf_place.specs.Scopes.{Entry, clashes, local_tables, table}
+use Rattle.omf_place.specs.Scopes.{Entry, clashes, table}
+use Rattle.omf_place.specs.inside.HeldNames.{local_tables}
 use Rattle.omf_place.specs.inside.Steps.{owned_by, repeats, same_owner}
 use Rattle.omf_place.proofs.Finds.{find-here, find-more}
 use Rattle.omf_place.proofs.GreatestAt.{All-at}

@@ -11,7 +11,8 @@ use Rattle.omf_module.specs.declared.Standing.{Standing}
 use Rattle.omf_module.specs.declared.Standing.TheVariants.{Absolute, Relocatable}
 use Rattle.omf_place.specs.declared.order.Joining.{Joining}
 use Rattle.omf_place.specs.declared.order.Joining.TheVariants as joining
-use Rattle.omf_place.specs.Parts.{Site, combines, same_class, rank, is_part}
+use Rattle.omf_place.specs.Parts.{Site, combines, same_class, is_part}
+use Rattle.omf_place.specs.inside.Ranks.{rank}
 use Rattle.omf_place.specs.inside.Placing.{joins, joins_kind}
 use Rattle.std.specs.Borrow.{Bor}
 use denote.Enum.Bare.{sameb}

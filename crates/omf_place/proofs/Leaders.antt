@@ -12,7 +12,8 @@ use Rattle.omf_module.specs.declared.Kind.{Kind}
 use Rattle.omf_module.specs.declared.Kind.TheVariants.{Private, Public, Stack, Common}
 use Rattle.omf_module.specs.declared.Standing.{Standing}
 use Rattle.omf_module.specs.declared.Standing.TheVariants.{Absolute, Relocatable}
-use Rattle.omf_place.specs.Parts.{Site, are_joined, combines, same_class, rank}
+use Rattle.omf_place.specs.Parts.{Site, are_joined, combines, same_class}
+use Rattle.omf_place.specs.inside.Ranks.{rank}
 use Rattle.omf_place.specs.inside.Placing.{joins, joins_kind}
 
 joins_kind-same : (j k : Kind) → joins_kind j k ≡ true → j ≡ k

@@ -11,7 +11,8 @@ use Rattle.omf_module.specs.declared.Standing.{Standing}
 use Rattle.omf_module.specs.declared.Standing.TheVariants.{Absolute, Relocatable}
 use Rattle.omf_place.specs.declared.sites.Site as stored
 use Rattle.omf_place.specs.inside.Sites.{site, sites_view}
-use Rattle.omf_place.specs.Parts.{Site, rank}
+use Rattle.omf_place.specs.Parts.{Site}
+use Rattle.omf_place.specs.inside.Ranks.{rank}
 use Rattle.omf_place.specs.Placed.{greatest, members, leads, alignment_of, is_common}
 use Rattle.omf_place.specs.inside.Keys.{segment_place}
 use Rattle.omf_place.specs.inside.Numbered.{IsNumberedFrom}

@@ -3,7 +3,7 @@ use Rattle.std.proofs.Common.{◌≡◌, ℕ, Bool, true, false, cond, not, List
 use Rattle.std.proofs.Common.{is_some, subst, refl, ap, sym, ◌∙◌}
 use Rattle.indexmap.specs.IndexMap.{insert_entry}
 use Rattle.std.specs.Map.{lookup}
-use Rattle.omf_place.specs.Named.{value_where}
+use Rattle.omf_place.specs.inside.Named.{value_where}
 
 abbrev pub vector_name : {A : Type 0} → Vec ℕ A → List ℕ
 vector_name key = key.items

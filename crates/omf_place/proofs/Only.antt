@@ -8,7 +8,8 @@ use Rattle.std.proofs.lemmas.Bool.{cases_lt, eqb-true}
 use Rattle.std.proofs.lemmas.List.{ext_get_or}
 use Rattle.omf_module.specs.declared.Standing.{Standing}
 use Rattle.omf_module.specs.declared.Standing.TheVariants.{Absolute, Relocatable}
-use Rattle.omf_place.specs.Parts.{Site, inserted, sorted, placement_order, is_part, combines, rank, before}
+use Rattle.omf_place.specs.Parts.{Site, inserted, sorted, placement_order, is_part, combines}
+use Rattle.omf_place.specs.inside.Ranks.{rank, before}
 use Rattle.omf_place.specs.inside.Placing.{parts, is_relocatable, joins}
 use Rattle.omf_place.specs.Placed.{IsNextStart, FollowFrom, StandsAside, IsPlaced, address_of, is_unit, is_common}
 use Rattle.omf_place.specs.Placed.{leads, unit_alignment, unit_length}

@@ -6,7 +6,8 @@ use Rattle.std.proofs.lemmas.List.{length-map}
 use Rattle.std.proofs.lemmas.Option.{slice_get-map, get_or_from_slice_get}
 use Rattle.std.specs.Option.{option_map}
 use Rattle.omf_module.specs.declared.Standing.TheVariants.{Absolute, Relocatable}
-use Rattle.omf_place.specs.Parts.{Site, rank, placement_order, is_part, before}
+use Rattle.omf_place.specs.Parts.{Site, placement_order, is_part}
+use Rattle.omf_place.specs.inside.Ranks.{rank, before}
 use Rattle.omf_place.specs.inside.Placing.{parts, is_relocatable}
 use Rattle.omf_place.specs.Placed.{IsNextStart, FollowFrom, StandsAside, IsPlaced, address_of, is_unit, is_common}
 use Rattle.omf_place.specs.Placed.{leads, unit_alignment, unit_length}

@@ -10,7 +10,8 @@ use Rattle.std.specs.List.{AllByRecursion}
 use Rattle.omf_place.specs.declared.greatest.Asked.TheVariants.{End}
 use Rattle.omf_place.specs.declared.sites.Site as stored
 use Rattle.omf_place.specs.declared.order.Rank.{Rank}
-use Rattle.omf_place.specs.Parts.{rank, placement_order}
+use Rattle.omf_place.specs.Parts.{placement_order}
+use Rattle.omf_place.specs.inside.Ranks.{rank}
 use Rattle.omf_place.specs.Placed.{leads}
 use Rattle.omf_place.specs.inside.Small.{IsSmall}
 use Rattle.omf_place.specs.inside.Spans.{AreSpans, addresses_in}

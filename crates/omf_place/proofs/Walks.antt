@@ -10,7 +10,8 @@ use Rattle.std.proofs.lemmas.Option.{slice_get-map, slice_get-get_or, slice_get_
 use Rattle.omf_place.specs.declared.sites.Site as stored
 use Rattle.omf_place.specs.declared.order.Rank.{Rank}
 use Rattle.omf_place.specs.inside.Sites.{site, sites_view}
-use Rattle.omf_place.specs.Parts.{Site, inserted, sorted, rank, placement_order, before, is_part}
+use Rattle.omf_place.specs.Parts.{Site, inserted, sorted, placement_order, is_part}
+use Rattle.omf_place.specs.inside.Ranks.{rank, before}
 use Rattle.omf_place.specs.inside.Placing.{parts}
 use Rattle.omf_place.specs.Placed.{FollowFrom, IsNextStart, leads, is_common, is_unit, unit_alignment, unit_length}
 use Rattle.omf_place.specs.Placed.{address_of}

@@ -10,7 +10,8 @@ use Rattle.omf_module.specs.declared.Kind.TheVariants.{Public, Stack, Common}
 use Rattle.omf_module.specs.declared.Standing.{Standing}
 use Rattle.omf_module.specs.declared.Standing.TheVariants.{Absolute, Relocatable}
 use Rattle.omf_module.specs.Sound.{SegmentFits, IsStanding}
-use Rattle.omf_place.specs.Parts.{Site, combines, kind_in, are_joined, rank, is_part}
+use Rattle.omf_place.specs.Parts.{Site, combines, kind_in, are_joined, is_part}
+use Rattle.omf_place.specs.inside.Ranks.{rank}
 use Rattle.omf_place.specs.inside.Placing.{joins, joins_kind, is_relocatable, is_kind_common}
 use Rattle.omf_place.specs.Placed.{IsPlaced, FollowFrom, StandsAside, greatest, members, leads, is_unit, is_common}
 use Rattle.omf_place.specs.Placed.{unit_length, address_of}

@@ -1,10 +1,11 @@
 -- A layout, and what it is of a program.
-use Rattle.std.specs.Prelude.{ℕ, List, [], get_or, length, map, Option, None}
+use Rattle.std.specs.Prelude.{ℕ, List, [], get_or, length, map, Option, None, Some}
+use Rattle.std.specs.List.{range_with_len}
 use Rattle.omf_module.specs.Module.{Module}
 use Rattle.omf_place.specs.Parts.{sites}
 use Rattle.omf_place.specs.Parts.{Input, inputs}
 use Rattle.omf_place.specs.Names.{Table, means}
-use Rattle.omf_place.specs.Scopes.{local_tables, table}
+use Rattle.omf_place.specs.Scopes.{table}
 use Rattle.omf_place.specs.Tables.{placed, leaders, combined_segment, group_frame as frame_of_group, placed_groups}
 use Rattle.omf_place.specs.Tables.{placed_publics}
 use Rattle.omf_place.specs.declared.layout.Combined.{Combined}
@@ -33,14 +34,12 @@ pub record Layout : Type 0 where
   -- the local publics of each module, by input
   pub locals : List (Table Position)
 
--- what the addresses of the segments make of a program
-module _ (program : List Module) (addresses : List ℕ) where
-  -- the places of a module
-  abbrev pub module_places : Input → ModulePlaces
-  module_places n = record {
-    segments = map (placed (sites program) addresses) n.sites;
-    groups = map (λ g. frame_of_group program addresses g.name) n.says.groups;
-  }
+-- the places of a module of a program, by the addresses of the program's segments
+abbrev pub module_places : List Module → (addresses : List ℕ) → Input → ModulePlaces
+module_places program addresses n = record {
+  segments = map (placed (sites program) addresses) n.sites;
+  groups = map (λ g. frame_of_group program addresses g.name) n.says.groups;
+}
 
 -- under a choice of which names of publics agree
 abbrev pub layout_at : Names → List Module → (addresses : List ℕ) → (size : ℕ) → Layout
@@ -50,7 +49,7 @@ layout_at names program addresses size = record {
   combined = map (combined_segment (sites program) addresses) (leaders (sites program));
   groups = placed_groups program addresses;
   publics = table names None (placed_publics program addresses);
-  locals = local_tables names (length program) (placed_publics program addresses);
+  locals = map (λ n. table names (Some n) (placed_publics program addresses)) (range_with_len 0 (length program));
 }
 
 -- The places of a module, by its index among the inputs; what is out of range isn't looked at.
@@ -61,9 +60,9 @@ places_of layout input = get_or layout.modules input (record { segments = []; gr
 abbrev pub segment_in : ModulePlaces → (segment : ℕ) → Position
 segment_in places segment = get_or places.segments segment (Absolute 0 0)
 
--- where a segment of a module stands
+-- where a segment of a module stands, by their indexes; what is out of range isn't looked at
 abbrev pub segment_position : Layout → (input segment : ℕ) → Position
-segment_position layout input segment = segment_in (places_of layout input) segment
+segment_position layout input segment = get_or (places_of layout input).segments segment (Absolute 0 0)
 
 -- the frame of a GRPDEF's group, if it has one
 abbrev pub group_frame : Layout → (input group : ℕ) → Option ℕ

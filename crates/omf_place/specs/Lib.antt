@@ -1,6 +1,5 @@
 pub mod Parts
 pub mod Placed
-pub mod Named
 pub mod Names
 pub mod Scopes
 pub mod Tables

@@ -6,7 +6,7 @@ use Rattle.omf_module.specs.declared.Kind.TheVariants.{Stack, Common}
 use Rattle.omf_module.specs.declared.Standing.{Standing}
 use Rattle.omf_module.specs.declared.Standing.TheVariants.{Absolute, Relocatable}
 use Rattle.std.specs.List.{AllByRecursion}
-use Rattle.omf_place.specs.Parts.{Site, kind_in, are_joined, combines, rank, placement_order}
+use Rattle.omf_place.specs.Parts.{Site, kind_in, are_joined, combines, first_of_segment, placement_order}
 
 -- the greatest of what is asked of each; 0 of none
 abbrev pub greatest : {X : Type 0} → (X → ℕ) → List X → ℕ
@@ -31,7 +31,7 @@ members ss a = filter (combines a) ss
 
 -- the first part of its combined segment
 abbrev pub leads : List Site → Site → Bool
-leads ss a = (rank ss a).segment == a.position
+leads ss a = first_of_segment ss a == a.position
 
 -- Each part is placed by itself, and the parts of a common segment are placed as one.
 abbrev pub is_unit : List Site → Site → Bool
@@ -68,7 +68,7 @@ FollowFrom ss addresses end (u ∷ us) size =
 abbrev pub StandsAside : List Site → List ℕ → Site → Standing → Type 0
 StandsAside ss addresses a (Absolute frame offset) = address_of addresses a ≡ 16 * frame + offset
 StandsAside ss addresses a (Relocatable alignment kind) =
-    is_unit ss a ≡ false → address_of addresses a ≡ slice_index addresses (rank ss a).segment
+    is_unit ss a ≡ false → address_of addresses a ≡ slice_index addresses (first_of_segment ss a)
 
 -- the addresses of the segments, by position, and the size of the program, by the rules
 pub record IsPlaced (ss : List Site) (addresses : List ℕ) (size : ℕ) : Type 0 where

@@ -1,6 +1,5 @@
 -- Names known to all modules, and names of one module.
-use Rattle.std.specs.Prelude.{ℕ, Bool, nat_eq, ◌&&◌, List, filter, map, Option, Some}
-use Rattle.std.specs.List.{range_with_len}
+use Rattle.std.specs.Prelude.{ℕ, Bool, nat_eq, ◌&&◌, List, filter, map, Option}
 use Rattle.std.specs.Option.{option_eq}
 use Rattle.omf_place.specs.Names.{Table, agrees}
 use Rattle.omf_place.specs.declared.names.Names.{Names}
@@ -15,10 +14,6 @@ pub record Entry (V : Type 0) : Type 0 where
 abbrev pub table : {V : Type 0} → Names → Option ℕ → List (Entry V) → Table V
 table names owner es =
     record { names = names; entries = map (λ e. (e.name, e.value)) (filter (λ e. option_eq nat_eq owner e.owner) es) }
-
--- those of each of some modules, by its index
-abbrev pub local_tables : {V : Type 0} → Names → (count : ℕ) → List (Entry V) → List (Table V)
-local_tables names count es = map (λ m. table names (Some m) es) (range_with_len 0 count)
 
 -- a name known to all and one of a module are never one name, nor are those of two modules
 abbrev pub clashes : {V : Type 0} → Names → Entry V → Entry V → Bool

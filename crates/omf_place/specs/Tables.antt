@@ -11,7 +11,7 @@ use Rattle.omf_record.specs.declared.externals.PublicBase.TheVariants.{AtFrame, 
 use Rattle.omf_module.specs.declared.Standing.{Standing}
 use Rattle.omf_module.specs.declared.Standing.TheVariants.{Absolute, Relocatable}
 use Rattle.omf_module.specs.Module.{Module, PublicSymbol}
-use Rattle.omf_place.specs.Parts.{Site, sites, rank, placement_order}
+use Rattle.omf_place.specs.Parts.{Site, sites, first_of_segment, placement_order}
 use Rattle.omf_place.specs.Placed.{greatest, members, leads, address_of}
 use Rattle.omf_place.specs.Parts.{Input, inputs}
 use Rattle.omf_place.specs.Scopes.{Entry}
@@ -28,7 +28,7 @@ leaders ss = filter (leads ss) (placement_order ss)
 module _ (ss : List Site) (addresses : List ℕ) where
   -- the address of its first part
   abbrev pub segment_start : Site → ℕ
-  segment_start a = slice_index addresses (rank ss a).segment
+  segment_start a = slice_index addresses (first_of_segment ss a)
 
   -- the greatest end of its parts
   abbrev pub segment_end : Site → ℕ

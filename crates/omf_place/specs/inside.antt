@@ -1,4 +1,5 @@
 -- How the code sees what it works on: no public contract cites any of it.
+pub mod Ranks
 pub mod Placing
 pub mod Steps
 pub mod Numbered

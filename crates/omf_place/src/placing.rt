@@ -9,7 +9,8 @@ ghost use Rattle.omf_place.specs.Faults.{IsFirstFault, IsOnlyLayout, segment_fau
 ghost use Rattle.omf_place.specs.inside.Steps.{later_fault, size_fault};
 ghost use Rattle.omf_place.specs.Layout.{layout_at};
 ghost use Rattle.omf_place.specs.inside.Numbered.{IsNumberedFrom};
-ghost use Rattle.omf_place.specs.Parts.{rank, placement_order, sites as sites_of};
+ghost use Rattle.omf_place.specs.Parts.{placement_order, sites as sites_of};
+ghost use Rattle.omf_place.specs.inside.Ranks.{rank};
 ghost use Rattle.omf_place.specs.Placed.{IsPlaced};
 ghost use Rattle.omf_place.specs.inside.Placing.{IsOnlyPlacement};
 ghost use Rattle.omf_place.specs.Said.{said};

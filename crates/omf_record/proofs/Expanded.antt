@@ -1,4 +1,5 @@
 -- What blocks expand to: how long it is, and how it goes on behind what is laid.
+use Rattle.std.specs.List.{repeat as copies}
 use Rattle.std.proofs.Common.{◌≡◌, ◌≢◌, ℕ, zero, suc, ◌+◌, ◌*◌, List, [], ◌∷◌, ◌++◌, ◌<◌, ◌≤◌, inl, inr, min, length}
 use Rattle.std.proofs.Common.{get_or, map, take, drop, refl, sym, ap, ◌∙◌, append_assoc, arith}
 use Rattle.std.proofs.lemmas.Bool.{cases_lt}
@@ -9,7 +10,7 @@ use Rattle.std.proofs.lemmas.List.{drop_all, take-append-le}
 use Rattle.std.proofs.Math.Seq.{take-append-add}
 use borrow.Rule.Slice.PartMut.{put_mid, post_of}
 use Rattle.omf_record.specs.Record.{Block, Content, Nested, Blocks, End, More, blocks_of}
-use Rattle.omf_record.specs.Expansion.{copies, stored_len, expansion_at, expansions_at, expansion, places, bytes}
+use Rattle.omf_record.specs.Expansion.{stored_len, expansion_at, expansions_at, expansion, places, bytes}
 use Rattle.omf_record.specs.Expansion.{capped}
 use Rattle.omf_record.specs.inside.Fields.{stored_from}
 use Rattle.omf_record.specs.inside.Expansion.{repeat_of, once_at, expanded_len, all_expanded_len}

@@ -7,7 +7,7 @@ use Rattle.omf_record.specs.declared.codec.ReadError.{ReadError}
 use Rattle.omf_record.specs.declared.codec.ReadError.TheVariants as errors
 use Rattle.omf_record.specs.inside.Format.{join, Format, IsFree, NoneBegins, Completes, Found, Fails, Lawful, IsMade}
 use Rattle.omf_record.specs.inside.Format.{IsOutput, Writes, Written, WritesItem, Splits}
-use Rattle.omf_record.specs.Language.{Joined}
+use Rattle.omf_record.specs.Language.{◌⋆◌ as Joined}
 use Rattle.omf_record.specs.inside.FormatLaws.{behind, same, when}
 
 -- what fails to be one's text fails to be the other's

@@ -1,9 +1,10 @@
 -- What holds of the bytes of blocks with their places holds of their expansion; and where its places lie.
+use Rattle.std.specs.List.{repeat as copies}
 use Rattle.std.proofs.Common.{◌≡◌, ℕ, zero, suc, ◌+◌, ◌<◌, ◌≤◌, List, [], ◌∷◌, ◌++◌, length, get_or, subst, arith}
 use Rattle.std.specs.List.{AllByRecursion}
 use Rattle.omf_record.specs.Record.{Block, Content, Nested, Blocks, End, More}
 use Rattle.omf_record.specs.Canonical as canon
-use Rattle.omf_record.specs.Expansion.{copies, stored_len, all_stored_len, expansion_at, expansions_at, places}
+use Rattle.omf_record.specs.Expansion.{stored_len, all_stored_len, expansion_at, expansions_at, places}
 use Rattle.omf_record.specs.inside.Fields.{stored_from}
 use Rattle.omf_record.proofs.Stored.{length-block, length-blocks}
 

@@ -1,11 +1,12 @@
 -- Wherever an expansion has a byte of a content, the bytes of the content stand around it, one after the other.
+use Rattle.std.specs.List.{repeat as copies}
 use Rattle.std.proofs.Common.{◌≡◌, ℕ, ◌+◌, ◌-◌, ◌<◌, ◌≤◌, ◌⊎◌, inl, inr, List, ◌++◌, length, get_or, sym, ap, ◌∙◌}
 use Rattle.std.proofs.Common.{arith}
 use Rattle.std.proofs.lemmas.Bool.{cases_lt}
 use Rattle.std.proofs.lemmas.List.{length-append, get_or_append_left, get_or-append-add, map-append}
 use Rattle.std.proofs.lemmas.List.{length-map}
 use Rattle.omf_record.specs.Record.{Block, Content, Nested, Blocks, End, More, blocks_of}
-use Rattle.omf_record.specs.Expansion.{copies, stored_len, all_stored_len, expansion_at, expansions_at, expansion}
+use Rattle.omf_record.specs.Expansion.{stored_len, all_stored_len, expansion_at, expansions_at, expansion}
 use Rattle.omf_record.specs.Expansion.{places, contents_at, all_contents_at, contents, LiesInOne, StandTogether}
 use Rattle.omf_record.specs.Expansion.{StandWhole}
 use Rattle.omf_record.specs.inside.Fields.{stored_from}

@@ -1,14 +1,9 @@
 -- What repeated data stands for: each byte with the place at which it is stored (TIS OMF 1.1, LIDATA).
 use Rattle.std.specs.Prelude.{◌≡◌, ℕ, zero, suc, ◌+◌, ◌-◌, ◌<◌, ◌≤◌, List, [], ◌∷◌, ◌++◌, length, get_or, map}
 use Rattle.std.specs.Prelude.{min, ◌⊎◌}
-use Rattle.std.specs.List.{enumerate_from}
+use Rattle.std.specs.List.{enumerate_from, repeat}
 use Rattle.omf_record.specs.Record.{Block, Content, Nested, Blocks, End, More, blocks_of, Record, Theadr, Coment}
 use Rattle.omf_record.specs.Record.{Modend, Extdef, Pubdef, Linnum, Lnames, Segdef, Grpdef, Fixupp, Ledata, Lidata}
-
--- a list so many times, one copy behind the other
-abbrev pub copies : {A : Type 0} → ℕ → List A → List A
-copies zero xs = []
-copies (suc n) xs = xs ++ copies n xs
 
 abbrev mutual
   -- The bytes that a block takes in its body: two words, and the length byte and the content, or the blocks.
@@ -24,8 +19,8 @@ abbrev mutual
 abbrev mutual
   -- the expansion of a block that is stored at a place
   pub expansion_at : ℕ → Block → List (ℕ × ℕ)
-  expansion_at place (Content repeat bytes) = copies repeat (enumerate_from (place + 5) bytes)
-  expansion_at place (Nested repeat blocks) = copies repeat (expansions_at (place + 4) blocks)
+  expansion_at place (Content count bytes) = repeat count (enumerate_from (place + 5) bytes)
+  expansion_at place (Nested count blocks) = repeat count (expansions_at (place + 4) blocks)
 
   -- the expansions of blocks, the first of which is stored at a place
   pub expansions_at : ℕ → Blocks → List (ℕ × ℕ)

@@ -1,7 +1,8 @@
 //! Repeated data: its expansion.
 
 ghost use Rattle.std.specs.Prelude.{◌≡◌, ◌≤◌, ◌<◌, ◌+◌, ◌*◌, ℕ, length, map, take, slice_index};
-ghost use Rattle.omf_record.specs.Expansion.{copies, stored_len, all_stored_len, expansion_at};
+ghost use Rattle.std.specs.List.{repeat as copies};
+ghost use Rattle.omf_record.specs.Expansion.{stored_len, all_stored_len, expansion_at};
 ghost use Rattle.omf_record.specs.inside.Fields.{stored_from};
 ghost use Rattle.omf_record.specs.Expansion.{expansions_at, expansion, bytes as byte_values, places, blocks_len};
 ghost use Rattle.omf_record.specs.inside.Expansion.{repeat_of, once_at};

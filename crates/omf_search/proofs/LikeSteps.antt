@@ -13,7 +13,8 @@ use Rattle.std.specs.List.{enumerate_from, find, flat_map}
 use Rattle.std.specs.Map.{lookup}
 use Rattle.std.specs.Option.{option_and_then, option_map, option_or}
 use Rattle.std.specs.Str.{bytes_eq}
-use Rattle.omf_place.specs.Names.{agrees, folded}
+use Rattle.omf_place.specs.Names.{agrees}
+use Rattle.omf_place.specs.inside.Named.{folded}
 use Rattle.omf_place.specs.declared.names.Names.TheVariants as by
 use Rattle.omf_search.specs.declared.key.Key.{Key}
 use Rattle.omf_search.specs.declared.key.Key.TheVariants.{AsciiFolded}

@@ -3,7 +3,7 @@ use Rattle.std.proofs.Common.{◌≡◌, ℕ, suc, ◌+◌, ◌/◌, ◌%◌, �
 use Rattle.std.proofs.Common.{length, get_or, None, refl, sym, ap, subst, arith, ltb, length-append, lit<, lit≤}
 use Rattle.std.proofs.lemmas.Bool.{ltb-true}
 use Rattle.std.specs.List.{AllByRecursion, flat_map}
-use Rattle.omf_record.specs.Language.{IsBytes, Joined, each, Index, Name, One}
+use Rattle.omf_record.specs.Language.{IsBytes, ◌⋆◌ as Joined, each, Index, Name, One}
 use Rattle.omf_record.specs.declared.segments.SegmentDefinition.{SegmentDefinition}
 use Rattle.omf_record.specs.Record.{Lnames, Modend, Segdef, Theadr}
 use Rattle.omf_record.specs.Body.{Body, AbsoluteText, Acbp, LengthText}

@@ -15,9 +15,12 @@ use Rattle.omf_record.proofs.RecordLaws.{body_bytes}
 use Rattle.omf_module.specs.declared.fault.CheckFault.{CheckFault}
 use Rattle.omf_module.specs.declared.fault.CheckFault.TheVariants.{GroupOfAbsolute}
 use Rattle.omf_module.specs.Before.{along_from, entry, first}
-use Rattle.omf_module.specs.Faults.{begun, component_fault, fault, header_fault, is_absolute, items, when}
+use Rattle.omf_module.specs.Faults.{component_fault, fault, header_fault, is_absolute, items}
+use Rattle.omf_module.specs.inside.Checking.{begun, when}
 use Rattle.omf_module.specs.Module.{Segment}
-use Rattle.omf_module.specs.Tables.{groups, groups_in, names, names_in, segments, segments_in}
+use Rattle.omf_module.specs.Tables.{groups_in, names, segments_in}
+use Rattle.omf_module.specs.inside.Said.{groups, segments}
+use Rattle.omf_module.specs.inside.Said.{names_in}
 use Rattle.omf_module.proofs.Lists.{along_push, flat_map_push}
 use Rattle.omf_module.proofs.Growing.{begun_push}
 use Rattle.omf_write.specs.Records.{record_bytes, records_bytes}

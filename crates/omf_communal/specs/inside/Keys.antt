@@ -2,7 +2,7 @@
 use Rattle.std.specs.Prelude.{ℕ, Bool, List, ◌∷◌}
 use Rattle.std.specs.Borrow.{Bor}
 use Rattle.std.specs.Str.{bytes_eq}
-use Rattle.omf_place.specs.Names.{folded}
+use Rattle.omf_place.specs.inside.Named.{folded}
 use Rattle.omf_place.specs.declared.names.Names.{Names}
 use Rattle.omf_place.specs.declared.names.Names.TheVariants as by
 use Rattle.omf_communal.specs.declared.key.Key.{Key}

@@ -1,7 +1,7 @@
 use Rattle.std.proofs.Common.{◌≡◌, ◌∙◌, ℕ, List, Bool, false, None, filter, get_or, length, refl, sym, ap, arith, subst}
 use Rattle.std.proofs.lemmas.List.{length-replicate}
 use Rattle.std.specs.List.{range_with_len}
-use Rattle.omf_image.specs.Faults.{data_fault}
+use Rattle.omf_image.specs.inside.Whole.{data_fault}
 use Rattle.omf_image.specs.Program.{Program}
 use Rattle.omf_image.specs.Registers.{starts, starts_fault, program_fault}
 use Rattle.omf_image.specs.inside.States.{state}

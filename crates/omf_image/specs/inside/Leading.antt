@@ -4,8 +4,10 @@ use Rattle.std.specs.List.{list_any}
 use Rattle.omf_module.specs.Module.{Module}
 use Rattle.omf_place.specs.Layout.{Layout}
 use Rattle.omf_image.specs.Located.{covers, byte_of, in_page}
-use Rattle.omf_image.specs.Records.{Entry, entries, datum, program_byte, page_covered, record_relocations}
-use Rattle.omf_image.specs.Faults.{records_fault, data_fault}
+use Rattle.omf_image.specs.Records.{Entry, entries, datum, program_byte, record_relocations}
+use Rattle.omf_image.specs.inside.Whole.{page_covered}
+use Rattle.omf_image.specs.Faults.{records_fault}
+use Rattle.omf_image.specs.inside.Whole.{data_fault}
 use Rattle.omf_image.specs.inside.States.{State}
 
 -- a flag stands at each of the addresses, and no other

@@ -19,11 +19,15 @@ use Rattle.omf_module.specs.Module.{PublicSymbol, DataRecord, Module}
 use Rattle.omf_module.specs.Before.{first, entry}
 use Rattle.omf_module.specs.Tables.{subrecords, frame_thread}
 use Rattle.omf_module.specs.inside.Entries.{segment_of, group_of, external_of, public_of}
-use Rattle.omf_module.specs.Tables.{target_thread, used, fixup_of, start_of, data_records, publics}
-use Rattle.omf_module.specs.Tables.{start}
-use Rattle.omf_module.specs.Faults.{Tables, tables, group_items, begun, header_fault, segment_fault}
+use Rattle.omf_module.specs.Tables.{target_thread, used, fixup_of, start_of}
+use Rattle.omf_module.specs.inside.Said.{data_records, publics}
+use Rattle.omf_module.specs.inside.Said.{start}
+use Rattle.omf_module.specs.Faults.{group_items}
+use Rattle.omf_module.specs.inside.Checking.{segment_fault}
+use Rattle.omf_module.specs.inside.Checking.{Tables, tables, begun, opening_fault}
 use Rattle.omf_module.specs.inside.Contents.{last_contents}
-use Rattle.omf_module.specs.Faults.{public_fault, data_fault, fixup_fault, start_fault}
+use Rattle.omf_module.specs.Faults.{public_fault, data_fault}
+use Rattle.omf_module.specs.inside.Checking.{fixup_fault, start_fault}
 
 pub record State : Type 0 where
   pub begun : Bool
@@ -52,6 +56,17 @@ state_of records = record {
   start = start records;
 }
 
+-- the module of what is kept
+abbrev pub module_in : State → Module
+module_in state = record {
+  segments = state.tables.segments;
+  groups = state.tables.groups;
+  externals = state.tables.externals;
+  publics = state.publics;
+  data_records = state.data_records;
+  start = state.start;
+}
+
 infixl 10 ◌>>=◌
 abbrev pub ◌>>=◌ : {A B : Type 0} → Result A CheckFault → (A → Result B CheckFault) → Result B CheckFault
 (Ok value) >>= next = next value
@@ -59,7 +74,7 @@ abbrev pub ◌>>=◌ : {A B : Type 0} → Result A CheckFault → (A → Result 
 
 -- the first fault of a group's name and components
 abbrev pub group_fault : Tables → ℕ → List ℕ → Option CheckFault
-group_fault tables name components = first (group_items tables name components)
+group_fault tables name components = first (group_items tables.names tables.segments name components)
 
 -- the state, unless there is a fault
 abbrev pub checked : {A : Type 0} → Option CheckFault → A → Result A CheckFault
@@ -96,7 +111,7 @@ step_subrecord place state (sub.SetTarget thread method) =
 step_subrecord place state (sub.Fixup fixup) =
     let frame = used (slot state.frame_threads) fixup.reference.frame in
     let target = used (slot state.target_threads) fixup.reference.target in
-    checked (fixup_fault state.tables frame target state.contents fixup)
+    checked (fixup_fault (module_in state) frame target state.contents fixup)
     (record state {
       data_records =
           add_to_last (option_to_list (fixup_of place fixup frame target)) state.data_records;
@@ -113,7 +128,7 @@ step_record place state (Linnum group segment lines) = Ok state
 step_record place state (Lnames listed) =
     Ok (record state { tables = record state.tables { names = state.tables.names ++ listed } })
 step_record place state (Segdef definition) =
-    checked (segment_fault state.tables definition)
+    checked (segment_fault state.tables.names definition)
     (record state {
       tables =
           record state.tables { segments = state.tables.segments ++ segment_of state.tables.names definition ∷ [] };
@@ -130,7 +145,7 @@ step_record place state (Extdef local listed) =
           record state.tables { externals = state.tables.externals ++ map (external_of local) listed };
     })
 step_record place state (Pubdef local base listed) =
-    checked (public_fault state.tables base)
+    checked (public_fault (module_in state) base)
     (record state { publics = state.publics ++ map (public_of local base) listed })
 step_record place state (Ledata segment offset bytes) =
     checked (data_fault (entry state.tables.segments segment) offset (length bytes))
@@ -143,22 +158,11 @@ step_record place state (Modend main None) = Ok state
 step_record place state (Modend main (Some reference)) =
     let frame = used (slot state.frame_threads) reference.frame in
     let target = used (slot state.target_threads) reference.target in
-    checked (start_fault state.tables frame target)
+    checked (start_fault (module_in state) frame target)
     (record state { start = later (start_of place reference frame target) state.start })
 
 -- one record, which stands at this place
 unfoldable pub step : State → (place : ℕ) → Record → Result State CheckFault
 step state place record' =
-    checked (header_fault state.begun record') (record state { begun = true })
+    checked (opening_fault state.begun record') (record state { begun = true })
     >>= λ next. step_record place next record'
-
--- the module of what is kept
-abbrev pub module_in : State → Module
-module_in state = record {
-  segments = state.tables.segments;
-  groups = state.tables.groups;
-  externals = state.tables.externals;
-  publics = state.publics;
-  data_records = state.data_records;
-  start = state.start;
-}

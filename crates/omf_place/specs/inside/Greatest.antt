@@ -3,7 +3,8 @@ use Rattle.std.specs.Prelude.{◌≡◌, ℕ, ◌+◌, ◌<◌, ◌^◌, max, �
 use Rattle.std.specs.List.{AllByRecursion}
 use Rattle.omf_place.specs.declared.greatest.Asked.{Asked}
 use Rattle.omf_place.specs.declared.greatest.Asked.TheVariants.{Alignment, Length, End}
-use Rattle.omf_place.specs.Parts.{Site, rank}
+use Rattle.omf_place.specs.Parts.{Site}
+use Rattle.omf_place.specs.inside.Ranks.{rank}
 use Rattle.omf_place.specs.Placed.{address_of, alignment_of, greatest, members}
 
 -- the greatest value of those first met at a place

@@ -1,8 +1,10 @@
 -- Names and their tables as the code holds them.
 use Rattle.std.specs.Prelude.{◌≡◌, ℕ, ◌<◌, List, [], ◌∷◌, ◌++◌, get_or, length, map, Option, Some, None, IfSome, Vec}
-use Rattle.omf_place.specs.Names.{Table, folded}
+use Rattle.omf_place.specs.Names.{Table}
+use Rattle.omf_place.specs.inside.Named.{folded}
 use Rattle.omf_place.specs.inside.Steps.{empty}
-use Rattle.omf_place.specs.Scopes.{Entry, local_tables, table}
+use Rattle.std.specs.List.{range_with_len}
+use Rattle.omf_place.specs.Scopes.{Entry, table}
 use Rattle.omf_place.specs.declared.folded.FoldedName.{FoldedName}
 use Rattle.omf_place.specs.declared.folded.FoldedName.TheVariants.{Held, Asked}
 use Rattle.omf_place.specs.declared.named.ByName.{ByName}
@@ -10,6 +12,10 @@ use Rattle.omf_place.specs.declared.named.ByName.TheVariants as by
 use Rattle.omf_place.specs.declared.names.Names.{Names}
 use Rattle.omf_place.specs.declared.names.Names.TheVariants.{Exact, AsciiFolded}
 use Rattle.omf_place.specs.declared.scopes.Entry as held
+
+-- the names of each of some modules, by its index
+abbrev pub local_tables : {V : Type 0} → Names → (count : ℕ) → List (Entry V) → List (Table V)
+local_tables names count es = map (λ m. table names (Some m) es) (range_with_len 0 count)
 
 -- the name of a key
 abbrev pub key_name : {A : Type 0} → FoldedName A → List ℕ

@@ -1,8 +1,17 @@
 -- The values of a table by their names.
-use Rattle.std.specs.Prelude.{ℕ, List, map, Option}
+use Rattle.std.specs.Prelude.{ℕ, Bool, List, [], ◌∷◌, map, Option, Some, None, if◌then◌else◌}
+use Rattle.std.specs.Char.{to_ascii_lowercase}
 use Rattle.std.specs.Borrow.{Bor}
 use Rattle.std.specs.Str.{bytes_eq}
-use Rattle.omf_place.specs.Named.{value_where}
+
+-- 41H to 5AH become 61H to 7AH, and all other bytes stay
+abbrev pub folded : List ℕ → List ℕ
+folded name = map to_ascii_lowercase name
+
+-- the value of the first entry whose name passes a test
+abbrev pub value_where : {V : Type 0} → (List ℕ → Bool) → List (List ℕ × V) → Option V
+value_where test [] = None
+value_where test (e ∷ es) = if test e.0 then Some e.1 else value_where test es
 
 -- the value at a name
 abbrev pub value_of : {V : Type 0} → List (List ℕ × V) → List ℕ → Option V

@@ -5,7 +5,8 @@ use Rattle.omf_module.specs.declared.Standing.{Standing}
 use Rattle.omf_module.specs.declared.Standing.TheVariants.{Absolute, Relocatable}
 use Rattle.std.specs.List.{AllByRecursion}
 use Rattle.omf_place.specs.declared.starts.Measure.{Measure}
-use Rattle.omf_place.specs.Parts.{Site, rank, placement_order}
+use Rattle.omf_place.specs.Parts.{Site, placement_order}
+use Rattle.omf_place.specs.inside.Ranks.{rank}
 use Rattle.omf_place.specs.Placed.{IsNextStart, is_unit, is_common, is_stack, unit_alignment, unit_length, alignment_of}
 
 -- the alignment and the length with which a site is placed, where these are the greatest of its combined segment

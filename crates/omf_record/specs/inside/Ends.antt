@@ -2,7 +2,7 @@
 use Rattle.std.proofs.Common.{◌≡◌, ℕ, ◌+◌, ◌*◌, ◌/◌, ◌%◌, ◌<◌, Bool, eqb, List, [], ◌∷◌, ◌++◌, Option, Some}
 use Rattle.std.proofs.Common.{None, refl, sym, ap, ◌∙◌, append-nil, arith}
 use Rattle.std.proofs.lemmas.Bool.{eqb-true, eqb-false}
-use Rattle.omf_record.specs.Language.{Joined, One}
+use Rattle.omf_record.specs.Language.{◌⋆◌ as Joined, One}
 use Rattle.omf_record.specs.Body.{bits, ReferenceText}
 use Rattle.omf_record.specs.Numbers.{bit}
 use Rattle.omf_record.specs.Canonical as canon

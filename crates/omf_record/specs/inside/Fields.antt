@@ -1,11 +1,11 @@
 -- Fields of bodies, each by a word of its own.
 use Rattle.std.specs.Prelude.{◌≡◌, ℕ, ◌*◌, List, Option, is_none}
 use Rattle.std.specs.List.{enumerate_from}
-use Rattle.omf_record.specs.Types.{FrameMethod, TargetMethod, Reference, SegmentDefinition, Line}
+use Rattle.omf_record.specs.Types.{FrameMethod, TargetMethod, Datum, Reference, SegmentDefinition, Line}
 use Rattle.omf_record.specs.Language.{◌⋆◌, optional, One, Byte, Word, Index, Name}
 use Rattle.omf_record.specs.Numbers.{bit, frame_code, target_code}
 use Rattle.omf_record.specs.Record.{External, Public}
-use Rattle.omf_record.specs.Body.{bits, AbsoluteText, LengthText, Acbp, FrameBits, TargetBits}
+use Rattle.omf_record.specs.Body.{bits, AbsoluteText, LengthText, Acbp, DatumBits, DatumText}
 
 -- F0, F1, F2, F4, F5
 abbrev pub frame_number : FrameMethod → ℕ
@@ -26,6 +26,22 @@ FrameIndex method = optional Index (frame_code method).1
 -- the index behind a target method
 abbrev pub TargetIndex : TargetMethod → List ℕ → Type 0
 TargetIndex method = optional Index (target_code method).1
+
+-- F and the frame, in the fix data byte
+abbrev pub FrameBits : Datum FrameMethod → ℕ → Type 0
+FrameBits frame b = DatumBits frame_code 7 6 4 frame b
+
+-- T and the target
+abbrev pub TargetBits : Datum TargetMethod → ℕ → Type 0
+TargetBits target b = DatumBits target_code 3 1 0 target b
+
+-- what stands for the frame behind the fix data byte
+abbrev pub FrameText : Datum FrameMethod → List ℕ → Type 0
+FrameText frame = DatumText frame_code frame
+
+-- what stands for the target
+abbrev pub TargetText : Datum TargetMethod → List ℕ → Type 0
+TargetText target = DatumText target_code target
 
 -- the fix data byte: F, frame, T, P, target
 abbrev pub FixData : Reference → ℕ → Type 0

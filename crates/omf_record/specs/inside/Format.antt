@@ -1,7 +1,7 @@
 -- What a field is: its texts, the canonical one among them, what may stand behind it; and what reading and writing it
 -- answer.
 use Rattle.std.specs.Prelude.{◌≡◌, ℕ, ◌+◌, ◌<◌, ◌≤◌, ◌⊎◌, List, [], ◌∷◌, ◌++◌, length, replicate, Result, Ok, Err}
-use Rattle.omf_record.specs.Language.{IsBytes, Joined}
+use Rattle.omf_record.specs.Language.{IsBytes, ◌⋆◌ as Joined}
 use Rattle.omf_record.specs.declared.codec.ReadError.{ReadError}
 use Rattle.omf_record.specs.declared.codec.ReadError.TheVariants as errors
 use Rattle.omf_record.specs.declared.output.Unwritten.{Unwritten}

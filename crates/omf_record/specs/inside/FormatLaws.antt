@@ -7,7 +7,7 @@ use Rattle.std.specs.List.{flat_map}
 use Rattle.std.proofs.lemmas.List.{length-append, replicate-append-replicate}
 use Rattle.std.proofs.lemmas.List.Concat.{flat_map-cons}
 use Rattle.std.proofs.lemmas.Bool.{cases_eq}
-use Rattle.omf_record.specs.Language.{IsBytes, Joined, each}
+use Rattle.omf_record.specs.Language.{IsBytes, ◌⋆◌ as Joined, each}
 use Rattle.omf_record.specs.inside.Format.{join, Format, IsFree, Lawful, Completes, IsFilled, IsMade, Splits, free}
 
 append_cancel : (s r q : List ℕ) → s ++ r ≡ s ++ q → r ≡ q

@@ -2,7 +2,7 @@
 -- free.
 use Rattle.std.proofs.Common.{◌≡◌, ℕ, ◌<◌, List, [], ◌∷◌, ◌++◌, length, refl, sym, ap, subst, ◌∙◌, arith}
 use Rattle.std.proofs.lemmas.List.{length-append}
-use Rattle.omf_record.specs.Language.{Joined, One}
+use Rattle.omf_record.specs.Language.{◌⋆◌ as Joined, One}
 use Rattle.omf_record.specs.inside.Format.{join, Format, Completes, IsFree, IsMade, IsFilled, Lawful, Splits, free}
 use Rattle.omf_record.specs.inside.FormatLaws.{behind, behind_lawful, behind_blank, behind_filled, made_lawful}
 use Rattle.omf_record.specs.inside.FormatLaws.{made_blank, made_filled}

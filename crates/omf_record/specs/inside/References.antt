@@ -2,8 +2,9 @@
 use Rattle.std.proofs.Common.{◌≡◌, ◌≢◌, ℕ, ◌+◌, ◌*◌, ◌/◌, ◌%◌, ◌<◌, cond, eqb, List, [], Option, Some, None, refl}
 use Rattle.std.proofs.Common.{subst, arith}
 use Rattle.std.proofs.lemmas.Bool.{eqb-true, eqb-false}
-use Rattle.omf_record.specs.Language.{Joined, Index, Word, optional}
-use Rattle.omf_record.specs.Body.{bits, FrameBits, TargetBits, FrameText, TargetText, ReferenceText}
+use Rattle.omf_record.specs.Language.{◌⋆◌ as Joined, Index, Word, optional}
+use Rattle.omf_record.specs.Body.{bits, ReferenceText}
+use Rattle.omf_record.specs.inside.Fields.{FrameBits, TargetBits, FrameText, TargetText}
 use Rattle.omf_record.specs.inside.Fields.{FixData}
 use Rattle.omf_record.specs.inside.Fields.{absent}
 use Rattle.omf_record.specs.Canonical as canon

@@ -2,7 +2,7 @@
 use Rattle.std.proofs.Common.{◌≡◌, ℕ, ◌/◌, ◌%◌, ◌<◌, cond, eqb, List, [], ◌∷◌, ◌++◌, Option, Some, None, refl, sym, ap}
 use Rattle.std.proofs.Common.{subst, ◌∙◌, append-nil, arith}
 use Rattle.std.proofs.lemmas.Bool.{eqb-true, eqb-false}
-use Rattle.omf_record.specs.Language.{Joined, Word, Index}
+use Rattle.omf_record.specs.Language.{◌⋆◌ as Joined, Word, Index}
 use Rattle.omf_record.specs.Body.{bits, AbsoluteText, LengthText, Acbp}
 use Rattle.omf_record.specs.inside.Fields.{SegmentText}
 use Rattle.omf_record.specs.Numbers.{alignment_number, combination_number, big}

@@ -2,7 +2,7 @@
 use Rattle.std.proofs.Common.{◌≡◌, ◌≢◌, ℕ, ◌+◌, ◌-◌, ◌*◌, ◌/◌, ◌%◌, ◌<◌, cond, eqb, ltb, List, [], ◌∷◌, ◌++◌, Option}
 use Rattle.std.proofs.Common.{Some, None, refl, sym, ap, subst, ◌∙◌, append-nil, arith}
 use Rattle.std.proofs.lemmas.Bool.{eqb-true, eqb-false, ltb-true, ltb-false, lt-ltb}
-use Rattle.omf_record.specs.Language.{Joined, Byte, Index, One}
+use Rattle.omf_record.specs.Language.{◌⋆◌ as Joined, Byte, Index, One}
 use Rattle.omf_record.specs.Body.{bits, ReferenceText, SubrecordText}
 use Rattle.omf_record.specs.inside.Fields.{FrameIndex, TargetIndex}
 use Rattle.omf_record.specs.Numbers.{bit, thread_number, location_number}

@@ -7,7 +7,8 @@ use Rattle.omf_image.specs.declared.patch.Patch.{Patch}
 use Rattle.omf_image.specs.Located.{covers_word}
 use Rattle.omf_image.specs.Records.{Entry, bytes_of, datum, patches, fixup_patches}
 use Rattle.omf_image.specs.inside.WellPlaced.{LiesInContent, WellPlaced}
-use Rattle.omf_image.specs.Faults.{fixups_fault, data_fault}
+use Rattle.omf_image.specs.Faults.{fixups_fault}
+use Rattle.omf_image.specs.inside.Whole.{data_fault}
 use Rattle.omf_image.specs.inside.Ready.{IsFixupReady}
 use Rattle.omf_image.specs.Building.{Answers}
 use Rattle.omf_image.specs.inside.States.{state, Holds}

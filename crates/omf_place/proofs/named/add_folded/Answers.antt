@@ -1,7 +1,7 @@
 use Rattle.std.proofs.Common.{◌∙◌, ap}
 use Rattle.std.specs.Str.{bytes_eq}
 use Rattle.omf_place.specs.inside.HeldNames.{folded_table, key_name}
-use Rattle.omf_place.specs.Names.{folded}
+use Rattle.omf_place.specs.inside.Named.{folded}
 use Rattle.omf_place.specs.declared.folded.FoldedName.TheVariants.{Held}
 use Rattle.omf_place.specs.declared.names.Names.TheVariants.{AsciiFolded}
 use Rattle.omf_place.proofs.NamedLookups.{insert-absent, insert-fresh, insert-there}

@@ -1,7 +1,7 @@
 use Rattle.std.proofs.Common.{◌∙◌}
 use Rattle.std.specs.Str.{bytes_eq}
 use Rattle.omf_place.specs.inside.HeldNames.{key_name}
-use Rattle.omf_place.specs.Names.{folded}
+use Rattle.omf_place.specs.inside.Named.{folded}
 use Rattle.omf_place.proofs.NamedLookups.{lookup-named}
 use Rattle.omf_place.proofs.named.folded_value.Goals as goal
 

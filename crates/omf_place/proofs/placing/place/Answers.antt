@@ -8,7 +8,8 @@ use Rattle.omf_place.specs.inside.Steps.{later_fault, size_fault}
 use Rattle.omf_place.specs.Layout.{layout_at}
 use Rattle.omf_place.specs.Placed.{IsPlaced}
 use Rattle.omf_place.specs.inside.Placing.{IsOnlyPlacement}
-use Rattle.omf_place.specs.Parts.{placement_order, rank, sites}
+use Rattle.omf_place.specs.Parts.{placement_order, sites}
+use Rattle.omf_place.specs.inside.Ranks.{rank}
 use Rattle.omf_place.specs.Said.{said}
 use Rattle.omf_place.specs.inside.Numbered.{IsNumberedFrom}
 use Rattle.omf_place.specs.inside.Sites.{sites_view}

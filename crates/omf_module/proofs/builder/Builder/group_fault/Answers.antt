@@ -1,7 +1,8 @@
 use Rattle.std.proofs.Common.{◌≡◌, None, sym, arith}
 use Rattle.std.proofs.lemmas.Grind.{common_steps}
 use Rattle.omf_module.specs.declared.fault.CheckFault.TheVariants.{NameIndex}
-use Rattle.omf_module.specs.Faults.{when, misses}
+use Rattle.omf_module.specs.Faults.{misses}
+use Rattle.omf_module.specs.inside.Checking.{when}
 use Rattle.omf_module.specs.inside.Building.{state}
 use Rattle.omf_module.proofs.Lists.{first_none}
 use Rattle.omf_module.proofs.builder.Builder.group_fault.Goals as goal

@@ -1,7 +1,7 @@
 use Rattle.std.proofs.Common.{◌≡◌, take}
 use Rattle.std.specs.Hash as fed
 use Rattle.std.specs.List.{fold, flat_map}
-use Rattle.omf_place.specs.Names.{folded}
+use Rattle.omf_place.specs.inside.Named.{folded}
 use Rattle.omf_place.proofs.folded.FoldedNameHash.hash.Given as goal
 
 abbrev pub invariant-loop-byte : goal.invariant-loop-byte

@@ -1,0 +1,71 @@
+-- The checks as the code makes them, part by part.
+use Rattle.std.specs.Prelude.{ℕ, ◌==◌, ◌||◌, Bool, true, false, List, [], ◌∷◌}
+use Rattle.std.specs.Bool.{then_some}
+use Rattle.std.specs.declared.option.Option.{Option}
+use Rattle.std.specs.declared.option.Option.TheVariants.{Some, None}
+use Rattle.omf_record.specs.Record.{Record, Theadr}
+use Rattle.omf_record.specs.declared.segments.SegmentDefinition.{SegmentDefinition}
+use Rattle.omf_record.specs.Numbers.{thread_number}
+use Rattle.omf_record.specs.Records.{Placed}
+use Rattle.omf_record.specs.declared.fixups.FrameMethod.{FrameMethod}
+use Rattle.omf_record.specs.declared.fixups.TargetMethod.{TargetMethod}
+use Rattle.omf_record.specs.declared.fixups.Fixup.{Fixup}
+use Rattle.omf_record.specs.declared.fixups.Subrecord.{Subrecord}
+use Rattle.omf_record.specs.declared.fixups.Subrecord.TheVariants as sub
+use Rattle.omf_module.specs.declared.fault.CheckFault.{CheckFault}
+use Rattle.omf_module.specs.declared.fault.CheckFault.TheVariants.{NotHeader, NameIndex}
+use Rattle.omf_module.specs.Module.{Segment, Group, ExternalSymbol, Module}
+use Rattle.omf_module.specs.Tables.{names}
+use Rattle.omf_module.specs.inside.Said.{segments, groups, externals}
+use Rattle.omf_module.specs.Faults.{is_beyond, ◌⊓◌, frame_fault, target_fault, place_fault, relative_fault, location_fault}
+
+-- the tables as they stand before a record
+pub record Tables : Type 0 where
+  pub names : List (List ℕ)
+  pub segments : List Segment
+  pub groups : List Group
+  pub externals : List ExternalSymbol
+
+-- the tables of these records
+abbrev pub tables : List Placed → Tables
+tables before =
+    record { names = names before; segments = segments before; groups = groups before; externals = externals before }
+
+-- the fault, where the test holds
+abbrev pub when : Bool → CheckFault → Option CheckFault
+when test fault = then_some test fault
+
+-- a segment's name and class may be 0
+abbrev pub segment_fault : (names : List (List ℕ)) → SegmentDefinition → Option CheckFault
+segment_fault names definition = when (is_beyond names definition.name || is_beyond names definition.class) NameIndex
+
+-- some record has been read
+abbrev pub begun : List Placed → Bool
+begun [] = false
+begun (_ ∷ before) = true
+
+-- the first record has to be a header
+abbrev pub opening_fault : Bool → Record → Option CheckFault
+opening_fault true record' = None
+opening_fault false (Theadr name) = None
+opening_fault false _ = Some NotHeader
+
+-- what a subrecord sets the frame thread of this number to
+abbrev pub frame_set : ℕ → Subrecord → Option FrameMethod
+frame_set number (sub.SetFrame thread method) = then_some (thread_number thread == number) method
+frame_set number _ = None
+
+-- what a subrecord sets the target thread of this number to
+abbrev pub target_set : ℕ → Subrecord → Option TargetMethod
+target_set number (sub.SetTarget thread method) = then_some (thread_number thread == number) method
+target_set number _ = None
+
+-- a fix-up by the methods that it uses: the smallest of its faults
+abbrev pub fixup_fault : Module → Option FrameMethod → Option TargetMethod → Option (List (ℕ × ℕ)) → Fixup
+    → Option CheckFault
+fixup_fault said frame target contents fixup =
+    frame_fault said frame ⊓ target_fault said target ⊓ place_fault contents fixup ⊓ relative_fault fixup
+
+-- a start by the methods that it uses: the smallest of its faults
+abbrev pub start_fault : Module → Option FrameMethod → Option TargetMethod → Option CheckFault
+start_fault said frame target = frame_fault said frame ⊓ target_fault said target ⊓ location_fault frame

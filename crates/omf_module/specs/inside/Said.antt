@@ -1,0 +1,42 @@
+-- What a module says, table by table.
+use Rattle.std.specs.Prelude.{ℕ, List, [], map, flat_map}
+use Rattle.std.specs.List.{enumerate_from}
+use Rattle.std.specs.Option.{option_to_list}
+use Rattle.std.specs.declared.option.Option.{Option}
+use Rattle.omf_record.specs.Record.{Record, Lnames}
+use Rattle.omf_record.specs.Records.{Placed}
+use Rattle.omf_module.specs.declared.Start.{Start}
+use Rattle.omf_module.specs.Module.{Segment, Group, ExternalSymbol, PublicSymbol, DataRecord}
+use Rattle.omf_module.specs.Before.{along, last}
+use Rattle.omf_module.specs.Tables.{names, segments_in, groups_in, externals_in, publics_in, stretches, subrecords}
+use Rattle.omf_module.specs.Tables.{fixups, data_record, start_in}
+
+-- the names that a record lists
+abbrev pub names_in : Record → List (List ℕ)
+names_in (Lnames names) = names
+names_in _ = []
+
+-- the segments that these records define, each with the names before it
+abbrev pub segments : List Placed → List Segment
+segments records = along (λ before (placed : Placed). segments_in (names before) placed.says) records
+
+-- the parts of groups that these records define, each with the names before it
+abbrev pub groups : List Placed → List Group
+groups records = along (λ before (placed : Placed). groups_in (names before) placed.says) records
+
+-- the externals that these records list
+abbrev pub externals : List Placed → List ExternalSymbol
+externals records = flat_map (λ (placed : Placed). externals_in placed.says) records
+
+-- the public symbols that these records define
+abbrev pub publics : List Placed → List PublicSymbol
+publics records = flat_map (λ (placed : Placed). publics_in placed.says) records
+
+-- the data records of these records
+abbrev pub data_records : List Placed → List DataRecord
+data_records records = map (data_record (fixups records)) (enumerate_from 1 (stretches records))
+
+-- the last start of these records
+abbrev pub start : List Placed → Option Start
+start records =
+    last (along (λ before (p : Placed). option_to_list (start_in (subrecords before) p.place p.says)) records)
