@@ -41,8 +41,7 @@ none-of P xs none (k, x, h, is, p) = none k x h (subst P (sym is) p)
 pub not-narrow : {A : Type 0} (modules : List (LoweredModule A)) → All (λ m. IsNarrow m → ⊥) (map both_bytes modules)
     → NarrowFixups (map own_bytes modules) (map lowered_bytes modules) → ⊥
 not-narrow modules none some =
-    none-of IsNarrow (map both_bytes modules) none
-    (subst (Any IsNarrow) (zip-both own_bytes lowered_bytes modules) some)
+    none-of IsNarrow (map both_bytes modules) none (subst (Any IsNarrow) (zip-both own_bytes lowered_bytes modules) some)
 
 -- a module that has none
 pub has-none : (m : List ℕ × List ℕ) → has_wide_fixups m.0 ≡ false → IsNarrow m → ⊥
