@@ -228,7 +228,9 @@ class Declaration:
 
     @property
     def constructors(self):
-        return [it[0] for it in map(self.without_marks, self.parts) if self.kind == "data" and it[1:2] == [":"]]
+        if self.kind != "data":
+            return []
+        return [name for it in map(self.without_marks, self.parts) for name in it[: find(it, lambda word: word == ":")]]
 
     @staticmethod
     def without_marks(tokens):
@@ -667,11 +669,14 @@ class Repository:
         return set().union(*map(self.found_in, self.cited_by(one))) - {one}
 
     def count(self, found):
-        """How many lines definitions and types have together, without comments."""
+        """How many lines definitions and types have together, without comments and without lines that hold no word, such
+        as one that only closes a bracket."""
         types = {it for it in found if isinstance(it, Type)}
         files = {}
         for crate, file, name in set(found) - types:
             files.setdefault((crate, file), []).append(name)
-        texts = [without_comments(self.code[it.crate].shown(it.name), CODE_COMMENT) for it in types]
-        return sum(len(self.specs[file].numbers(names)) for file, names in files.items()) + sum(
-            bool(line.strip()) for text in texts for line in text.split("\n"))
+        texts = [without_comments(self.code[it.crate].shown(it.name), CODE_COMMENT).split("\n") for it in types]
+        for file, names in files.items():
+            specs = self.specs[file]
+            texts.append([specs.lines[at] for at in specs.numbers(names)])
+        return sum(bool(re.search(r"\w", line)) for lines in texts for line in lines)

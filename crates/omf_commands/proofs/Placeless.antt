@@ -18,16 +18,18 @@ use Rattle.omf_record.specs.declared.fixups.Subrecord.TheVariants as sub
 use Rattle.omf_module.specs.declared.ResolvedFixup.{ResolvedFixup}
 use Rattle.omf_module.specs.declared.Start.{Start}
 use Rattle.omf_module.specs.Module.{DataRecord, Module}
-use Rattle.omf_module.specs.Before.{along_from, along, last}
+use Rattle.omf_module.specs.Before.{along, last}
 use Rattle.omf_module.specs.inside.Running.{later}
-use Rattle.omf_module.specs.Tables.{Stretch, names, segments_in, groups_in}
+use Rattle.omf_module.specs.Tables.{DataRecord, names, segments_in, groups_in}
 use Rattle.omf_module.specs.inside.Said.{segments, groups, externals}
 use Rattle.omf_module.specs.inside.Said.{names_in}
-use Rattle.omf_module.specs.Tables.{externals_in, publics_in, stretches, stretches_in, subrecords}
+use Rattle.omf_module.specs.Tables.{externals_in, publics_in, data_of, data_in, subrecords}
 use Rattle.omf_module.specs.inside.Said.{publics}
-use Rattle.omf_module.specs.Tables.{subrecords_in, fixup_of, fixup_in, fixups_in, fixups, fixups_on}
+use Rattle.omf_module.specs.Tables.{subrecords_in, fixup_in, fixups_in, fixups, fixups_on}
+use Rattle.omf_module.specs.inside.Checking.{fixup_of}
 use Rattle.omf_module.specs.inside.Said.{data_records}
-use Rattle.omf_module.specs.Tables.{start_of, start_in, frame_thread, target_thread, used}
+use Rattle.omf_module.specs.Tables.{start_in, frame_thread, target_thread, used}
+use Rattle.omf_module.specs.inside.Checking.{start_of}
 use Rattle.omf_module.specs.inside.Said.{start}
 use Rattle.omf_module.specs.Tables.{module_of}
 use Rattle.omf_module.proofs.Lists.{last_append}
@@ -50,7 +52,7 @@ unplaced_said rs others same =
 abbrev pub placeless_fixup : ResolvedFixup → ResolvedFixup
 placeless_fixup x = record x { place = 0 }
 
-abbrev pub placeless_stretch : Stretch → Stretch
+abbrev pub placeless_stretch : DataRecord → DataRecord
 placeless_stretch d = record d { place = 0 }
 
 abbrev pub placeless_data : DataRecord → DataRecord
@@ -66,19 +68,19 @@ placeless m = record m { data_records = map placeless_data m.data_records; start
 
 pub along_same : {X A B : Type 0} (v : X → A) (h : List A → A → List B) (f : List X → X → List B) →
     ((before : List X) (x : X) → h (map v before) (v x) ≡ f before x) →
-    (before xs : List X) → along_from (map v before) h (map v xs) ≡ along_from before f xs
+    (before xs : List X) → along (map v before) h (map v xs) ≡ along before f xs
 along_same v h f same before [] = refl
 along_same v h f same before (x ∷ xs) =
     ap₂ (λ ys zs. ys ++ zs) (same before x)
-    (ap (λ b. along_from b h (map v xs)) (sym (map-append v before (x ∷ [])))
+    (ap (λ b. along b h (map v xs)) (sym (map-append v before (x ∷ [])))
     ∙ along_same v h f same (before ++ x ∷ []) xs)
 
 pub map_along : {X A B : Type 0} (g : A → B) (f : List X → X → List A) (before xs : List X)
-    → along_from before (λ b x. map g (f b x)) xs ≡ map g (along_from before f xs)
+    → along before (λ b x. map g (f b x)) xs ≡ map g (along before f xs)
 map_along g f before [] = refl
 map_along g f before (x ∷ xs) =
     ap (λ ys. map g (f before x) ++ ys) (map_along g f (before ++ x ∷ []) xs)
-    ∙ sym (map-append g (f before x) (along_from (before ++ x ∷ []) f xs))
+    ∙ sym (map-append g (f before x) (along (before ++ x ∷ []) f xs))
 
 map_flat : {X A B : Type 0} (g : A → B) (f : X → List A) (xs : List X)
     → flat_map (λ x. map g (f x)) xs ≡ map g (flat_map f xs)
@@ -135,16 +137,16 @@ publics_same rs = flat_map-map (λ (r : Placed). publics_in r.says) unplaced rs
 pub subrecords_same : (rs : List Placed) → subrecords (map unplaced rs) ≡ subrecords rs
 subrecords_same rs = flat_map-map (λ (r : Placed). subrecords_in r.says) unplaced rs
 
-stretch_same : (place : ℕ) (r : Record) → stretches_in 0 r ≡ map placeless_stretch (stretches_in place r)
+stretch_same : (place : ℕ) (r : Record) → data_in 0 r ≡ map placeless_stretch (data_in place r)
 stretch_same place (Ledata segment offset bytes) = refl
 stretch_same place (Lidata segment offset blocks) = refl
 stretch_same place _ = refl
 
-pub stretches_same : (rs : List Placed) → stretches (map unplaced rs) ≡ map placeless_stretch (stretches rs)
+pub stretches_same : (rs : List Placed) → data_of (map unplaced rs) ≡ map placeless_stretch (data_of rs)
 stretches_same rs =
-    flat_map-map (λ (r : Placed). stretches_in r.place r.says) unplaced rs
+    flat_map-map (λ (r : Placed). data_in r.place r.says) unplaced rs
     ∙ (ap (λ f. flat_map f rs) (fun_ext (λ (r : Placed). stretch_same r.place r.says))
-    ∙ map_flat placeless_stretch (λ (r : Placed). stretches_in r.place r.says) rs)
+    ∙ map_flat placeless_stretch (λ (r : Placed). data_in r.place r.says) rs)
 
 -- ---- fix-ups and data
 
@@ -165,7 +167,7 @@ fixup_same place before (sub.SetTarget t method) = refl
 fixups_in_same : (before : List Subrecord) (r : Placed)
     → fixups_in before (unplaced r) ≡ map placeless_fixup (fixups_in before r)
 fixups_in_same before r =
-    ap (λ f. along f (subrecords_in r.says))
+    ap (λ f. along [] f (subrecords_in r.says))
     (fun_ext (λ earlier. fun_ext (λ x. fixup_same r.place (before ++ earlier) x)))
     ∙ map_along placeless_fixup (λ earlier x. option_to_list (fixup_in r.place (before ++ earlier) x)) []
     (subrecords_in r.says)
@@ -174,7 +176,7 @@ abbrev placeless_numbered : ℕ × ResolvedFixup → ℕ × ResolvedFixup
 placeless_numbered x = (x.0, placeless_fixup x.1)
 
 abbrev numbered_fixups : List Placed → Placed → List (ℕ × ResolvedFixup)
-numbered_fixups before r = map (λ x. (length (stretches before), x)) (fixups_in (subrecords before) r)
+numbered_fixups before r = map (λ x. (length (data_of before), x)) (fixups_in (subrecords before) r)
 
 numbered_same : (before : List Placed) (r : Placed)
     → numbered_fixups (map unplaced before) (unplaced r) ≡ map placeless_numbered (numbered_fixups before r)
@@ -198,7 +200,7 @@ fixups_on_same n (x ∷ xs) =
 
 data_records_same : (rs : List Placed) → data_records (map unplaced rs) ≡ map placeless_data (data_records rs)
 data_records_same rs =
-    rw (fixups_same rs, stretches_same rs, map_enumerate placeless_stretch 1 (stretches rs))
+    rw (fixups_same rs, stretches_same rs, map_enumerate placeless_stretch 1 (data_of rs))
     (simp (map-map, fixups_on_same))
 
 -- ---- the start
@@ -224,7 +226,7 @@ start_same rs =
     (λ b r.
     ap (λ xs. option_to_list (start_in xs 0 r.says)) (subrecords_same b) ∙ start_in_same (subrecords b) r.place r.says)
     [] rs ∙ map_along placeless_start starts_in [] rs)
-    ∙ map_last placeless_start (along starts_in rs)
+    ∙ map_last placeless_start (along [] starts_in rs)
 
 -- ---- the module
 

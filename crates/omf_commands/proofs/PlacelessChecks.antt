@@ -5,7 +5,7 @@ use Rattle.omf_record.specs.Record.{Record, Modend, Pubdef, Segdef, Grpdef, Fixu
 use Rattle.omf_record.specs.Records.{Placed}
 use Rattle.omf_module.specs.declared.fault.CheckFault.{CheckFault}
 use Rattle.omf_module.specs.Before.{along, first, last, entry}
-use Rattle.omf_module.specs.Tables.{Stretch, stretches, subrecords, frame_thread, target_thread, used}
+use Rattle.omf_module.specs.Tables.{DataRecord, data_of, subrecords, frame_thread, target_thread, used}
 use Rattle.omf_module.specs.Faults.{group_items, data_fault, public_fault}
 use Rattle.omf_module.specs.inside.Checking.{segment_fault}
 use Rattle.omf_module.specs.inside.Checking.{tables, start_fault}
@@ -20,13 +20,13 @@ tables_same before = rw (names_same before, segments_same before, groups_same be
 
 contents_same : (before : List Placed) → last_contents (map unplaced before) ≡ last_contents before
 contents_same before =
-    ap (λ ds. option_map (λ (d : Stretch). d.contents) (last ds)) (stretches_same before)
-    ∙ (ap (option_map (λ (d : Stretch). d.contents)) (map_last placeless_stretch (stretches before))
-    ∙ of_stretch (last (stretches before)))
+    ap (λ ds. option_map (λ (d : DataRecord). d.contents) (last ds)) (stretches_same before)
+    ∙ (ap (option_map (λ (d : DataRecord). d.contents)) (map_last placeless_stretch (data_of before))
+    ∙ of_stretch (last (data_of before)))
   where
-    of_stretch : (o : Option Stretch)
-        → option_map (λ (d : Stretch). d.contents) (option_map placeless_stretch o)
-        ≡ option_map (λ (d : Stretch). d.contents) o
+    of_stretch : (o : Option DataRecord)
+        → option_map (λ (d : DataRecord). d.contents) (option_map placeless_stretch o)
+        ≡ option_map (λ (d : DataRecord). d.contents) o
     of_stretch None = refl
     of_stretch (Some d) = refl
 
@@ -38,9 +38,9 @@ items_same before (Ledata segment offset bytes) =
     ap (λ ss. data_fault (entry ss segment) offset (length bytes) ∷ []) (segments_same before)
 items_same before (Lidata segment offset blocks) = rw (segments_same before)
 items_same before (Fixupp subs) =
-    ap₂ (λ t c. along (λ earlier x. subrecord_item t c (subrecords (map unplaced before) ++ earlier) x ∷ []) subs)
+    ap₂ (λ t c. along [] (λ earlier x. subrecord_item t c (subrecords (map unplaced before) ++ earlier) x ∷ []) subs)
     (tables_same before) (contents_same before)
-    ∙ ap (λ s. along (λ earlier x. subrecord_item (tables before) (last_contents before) (s ++ earlier) x ∷ []) subs)
+    ∙ ap (λ s. along [] (λ earlier x. subrecord_item (tables before) (last_contents before) (s ++ earlier) x ∷ []) subs)
     (subrecords_same before)
 items_same before (Modend main (Some r)) =
     ap₂ (λ t s. start_fault t (used (frame_thread s) r.frame) (used (target_thread s) r.target) ∷ [])
@@ -78,7 +78,7 @@ faulty_same rs =
     ap (λ os. is_some (first os))
     (along_same unplaced fault_in (λ before r. map (option_map placeless_fault) (fault_in before r)) fault_in_same [] rs
     ∙ map_along (option_map placeless_fault) fault_in [] rs)
-    ∙ (ap is_some (map_first placeless_fault (along fault_in rs)) ∙ is_some_map placeless_fault (first_fault rs))
+    ∙ (ap is_some (map_first placeless_fault (along [] fault_in rs)) ∙ is_some_map placeless_fault (first_fault rs))
 
 -- where no check refuses records, none refuses others that say the same
 pub sound_of : (rs others : List Placed) → map (λ (r : Placed). r.says) rs ≡ map (λ (r : Placed). r.says) others

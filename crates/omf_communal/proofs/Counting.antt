@@ -20,7 +20,7 @@ use Rattle.omf_library.specs.Fields.{name_front}
 use Rattle.omf_library.specs.Listed.{listed_in}
 use Rattle.omf_library.specs.Records.{ends_module, module_records, place_behind, record_at, record_or_fault}
 use Rattle.omf_library.specs.Records.{records_up_to}
-use Rattle.omf_module.specs.Before.{along_from}
+use Rattle.omf_module.specs.Before.{along}
 use Rattle.omf_module.specs.Tables.{groups_in, names, segments_in}
 use Rattle.omf_module.specs.inside.Said.{names_in}
 use Rattle.omf_communal.specs.Extended.{counted}
@@ -215,14 +215,14 @@ counted-by : {A : Type 0} (kind : ℕ) (give : List (List ℕ) → Record → Li
     → ((ns : List (List ℕ)) (says : Record) → cond (kind_of says == kind) 1 0 ≡ length (give ns says))
     → (before rs : List Placed)
     → count_of kind (map frame_of_record rs)
-    ≡ length (along_from before (λ front (r : Placed). give (names front) r.says) rs)
+    ≡ length (along before (λ front (r : Placed). give (names front) r.says) rs)
 counted-by kind give same before [] = refl
 counted-by kind give same before (r ∷ rs) =
     count-more kind (frame_of_record r) (map frame_of_record rs)
     ∙ ap₂ (λ x y. x + y) (same (names before) r.says) (counted-by kind give same (before ++ r ∷ []) rs)
     ∙ sym
     (length-append (give (names before) r.says)
-    (along_from (before ++ r ∷ []) (λ front (r : Placed). give (names front) r.says) rs))
+    (along (before ++ r ∷ []) (λ front (r : Placed). give (names front) r.says) rs))
 
 pub counts : (rs : List Placed) → AllByRecursion (λ (r : Placed). Body r.says r.body) rs
     → before_in (map frame_of_record rs) ≡ counted rs

@@ -30,7 +30,7 @@ use Rattle.omf_record.specs.declared.fixups.Subrecord.{Subrecord}
 use Rattle.omf_record.specs.declared.segments.SegmentLength.TheVariants as len
 use Rattle.omf_record.specs.Numbers.{segment_len}
 use Rattle.std.proofs.lemmas.Bool.{eqb-true, ltb-false}
-use Rattle.omf_module.specs.Before.{along, along_from, first, last}
+use Rattle.omf_module.specs.Before.{along, first, last}
 use Rattle.omf_module.specs.Bytes.{ModuleBytes}
 use Rattle.omf_module.specs.Faults.{fault, frame_fault, items, location_fault, misses}
 use Rattle.omf_module.specs.inside.Checking.{Tables, begun}
@@ -41,10 +41,11 @@ use Rattle.omf_module.specs.Tables.{fixups, groups_in, name_at, names}
 use Rattle.omf_module.specs.inside.Said.{data_records, externals, groups}
 use Rattle.omf_module.specs.inside.Said.{names_in}
 use Rattle.omf_module.specs.inside.Said.{publics}
-use Rattle.omf_module.specs.Tables.{publics_in, segments_in, start_in, stretches, stretches_in}
+use Rattle.omf_module.specs.Tables.{publics_in, segments_in, start_in, data_of, data_in}
 use Rattle.omf_module.specs.inside.Said.{segments, start}
 use Rattle.omf_module.specs.Tables.{externals_in, frame_thread, module_of, subrecords, subrecords_in}
-use Rattle.omf_module.specs.Tables.{data_record, fixup_in, fixups_in, start_of, target_thread, used}
+use Rattle.omf_module.specs.Tables.{data_record, fixup_in, fixups_in, target_thread, used}
+use Rattle.omf_module.specs.inside.Checking.{start_of}
 use Rattle.omf_module.proofs.Lists.{along_from_append, along_push, flat_map_push}
 use Rattle.omf_module.proofs.Growing.{last_option}
 use Rattle.omf_write.specs.Records.{record_bytes, records_bytes}
@@ -152,12 +153,12 @@ All-split P (x ∷ xs) ys h = let t = All-split P xs ys h.1 in ((h.0, t.0), t.1)
 
 -- ---- checks one behind the other
 
-clean-of : (before rs : List Placed) → first (along_from before found_at rs) ≡ None → Clean before rs
+clean-of : (before rs : List Placed) → first (along before found_at rs) ≡ None → Clean before rs
 clean-of before [] h = tt
 clean-of before (r ∷ rs) h =
     (elim (fault before r.says) as (λ o.
     fault before r.says ≡ o
-    → first (option_map (λ check. (r.place, check)) o ∷ along_from (before ++ r ∷ []) found_at rs) ≡ None
+    → first (option_map (λ check. (r.place, check)) o ∷ along (before ++ r ∷ []) found_at rs) ≡ None
     → Clean before (r ∷ rs)) [
       | None ↦ λ e k. (e, clean-of (before ++ r ∷ []) rs k)
       | Some x ↦ λ e k. absurd (cc)
@@ -248,7 +249,7 @@ no_externals (Fixupp ss) h = absurd h
 no_externals (Ledata segment offset bytes) h = absurd h
 no_externals (Lidata segment offset blocks) h = absurd h
 
-no_stretches : (place : ℕ) (r : Record) → IsOurs r → stretches_in place r ≡ []
+no_stretches : (place : ℕ) (r : Record) → IsOurs r → data_in place r ≡ []
 no_stretches place (Lnames ns) h = refl
 no_stretches place (Segdef s) h = refl
 no_stretches place (Grpdef name ss) h = refl
@@ -267,7 +268,7 @@ none-given : {A : Type 0} (f : Record → List A) → ((r : Record) → IsOurs r
 none-given f none [] h = refl
 none-given f none (r ∷ rs) h = ap₂ (λ x y. x ++ y) (none r h.0) (none-given f none rs h.1)
 
-no-data : (at : ℕ) (rs : List Record) → AllByRecursion IsOurs rs → stretches (place_all at rs) ≡ []
+no-data : (at : ℕ) (rs : List Record) → AllByRecursion IsOurs rs → data_of (place_all at rs) ≡ []
 no-data at [] h = refl
 no-data at (r ∷ rs) h = ap₂ (λ x y. x ++ y) (no_stretches at r h.0) (no-data (at + length (record_bytes r)) rs h.1)
 
@@ -283,10 +284,10 @@ module _ (before : List Placed) (at : ℕ) (rs : List Record) (all : AllByRecurs
       flat-placed externals_in before at rs
       ∙ ap (λ l. externals before ++ l) (none-given externals_in no_externals rs all) ∙ append-nil (externals before)
 
-  pub same-stretches : stretches (before ++ place_all at rs) ≡ stretches before
+  pub same-stretches : data_of (before ++ place_all at rs) ≡ data_of before
   same-stretches =
-      flat_map-append (λ (placed : Placed). stretches_in placed.place placed.says) before (place_all at rs)
-      ∙ ap (λ l. stretches before ++ l) (no-data at rs all) ∙ append-nil (stretches before)
+      flat_map-append (λ (placed : Placed). data_in placed.place placed.says) before (place_all at rs)
+      ∙ ap (λ l. data_of before ++ l) (no-data at rs all) ∙ append-nil (data_of before)
 
 -- ---- the names of variables, and their segments, groups and publics
 
@@ -380,24 +381,24 @@ near_group-is in_bss b before h =
     ∙ ap (λ n. record { name = dgroup; members = n ∷ [] } ∷ []) (omega arith)
 
 far-segments : (in_bss : Bool) (b : Before) (ns : List ℕ) (before : List Placed) (at : ℕ) → Named in_bss b before
-    → along_from before segments_by (place_all at (map (far_record b) ns)) ≡ map far_segment ns
+    → along before segments_by (place_all at (map (far_record b) ns)) ≡ map far_segment ns
 far-segments in_bss b [] before at h = refl
 far-segments in_bss b (n ∷ ns) before at h =
     ap₂ (λ x y. x ++ y) (far_segment-is in_bss b before n h)
     (far-segments in_bss b ns _ _ (named-push in_bss b before _ refl h))
 
 far-groups : (b : Before) (ns : List ℕ) (before : List Placed) (at : ℕ)
-    → along_from before groups_by (place_all at (map (far_record b) ns)) ≡ []
+    → along before groups_by (place_all at (map (far_record b) ns)) ≡ []
 far-groups b [] before at = refl
 far-groups b (n ∷ ns) before at = far-groups b ns _ _
 
 places-segments : (ps : List Place) (before : List Placed) (at : ℕ)
-    → along_from before segments_by (place_all at (map (place_record true) ps)) ≡ []
+    → along before segments_by (place_all at (map (place_record true) ps)) ≡ []
 places-segments [] before at = refl
 places-segments (p ∷ ps) before at = places-segments ps _ _
 
 places-groups : (ps : List Place) (before : List Placed) (at : ℕ)
-    → along_from before groups_by (place_all at (map (place_record true) ps)) ≡ []
+    → along before groups_by (place_all at (map (place_record true) ps)) ≡ []
 places-groups [] before at = refl
 places-groups (p ∷ ps) before at = places-groups ps _ _
 
@@ -419,12 +420,12 @@ far-named in_bss b (n ∷ ns) before at h =
 
 -- the near segment and its group
 near-segments : (in_bss : Bool) (b : Before) (o : Option ℕ) (before : List Placed) (at : ℕ) → Named in_bss b before
-    → along_from before segments_by (place_all at (near_records b o)) ≡ near_segments in_bss o
+    → along before segments_by (place_all at (near_records b o)) ≡ near_segments in_bss o
 near-segments in_bss b None before at h = refl
 near-segments in_bss b (Some n) before at h = ap (λ l. l ++ []) (near_segment-is in_bss b before n h)
 
 near-groups : (in_bss : Bool) (b : Before) (o : Option ℕ) (before : List Placed) (at : ℕ) → Named in_bss b before
-    → along_from before groups_by (place_all at (near_records b o)) ≡ near_groups b o
+    → along before groups_by (place_all at (near_records b o)) ≡ near_groups b o
 near-groups in_bss b None before at h = refl
 near-groups in_bss b (Some n) before at h =
     ap (λ l. l ++ []) (near_group-is in_bss b _ (named-push in_bss b before _ refl h))
@@ -458,17 +459,17 @@ module _ (in_bss : Bool) (b : Before) (p : Plan) (before : List Placed) (at : �
       place-append at near (far ++ places) ∙ ap (λ l. place_all at near ++ l) (place-append two far places)
 
   in-parts : {A : Type 0} (f : List Placed → Placed → List A)
-      → along_from before f (place_all at (placed_records true b p))
-      ≡ along_from before f (place_all at near)
-      ++ (along_from (before ++ place_all at near) f (place_all two far)
-      ++ along_from ((before ++ place_all at near) ++ place_all two far) f (place_all three places))
+      → along before f (place_all at (placed_records true b p))
+      ≡ along before f (place_all at near)
+      ++ (along (before ++ place_all at near) f (place_all two far)
+      ++ along ((before ++ place_all at near) ++ place_all two far) f (place_all three places))
   in-parts f =
-      ap (along_from before f) parts-of
+      ap (along before f) parts-of
       ∙ along_from_append f before (place_all at near) (place_all two far ++ place_all three places)
-      ∙ ap (λ l. along_from before f (place_all at near) ++ l)
+      ∙ ap (λ l. along before f (place_all at near) ++ l)
       (along_from_append f (before ++ place_all at near) (place_all two far) (place_all three places))
 
-  all-segments : along_from before segments_by (place_all at (placed_records true b p))
+  all-segments : along before segments_by (place_all at (placed_records true b p))
       ≡ near_segments in_bss p.near ++ map far_segment p.far
   all-segments =
       in-parts segments_by
@@ -476,7 +477,7 @@ module _ (in_bss : Bool) (b : Before) (p : Plan) (before : List Placed) (at : �
       (ap₂ (λ x y. x ++ y) (far-segments in_bss b p.far _ two (near-named in_bss b p.near before at h))
       (places-segments p.places _ three) ∙ append-nil (map far_segment p.far))
 
-  all-groups : along_from before groups_by (place_all at (placed_records true b p)) ≡ near_groups b p.near
+  all-groups : along before groups_by (place_all at (placed_records true b p)) ≡ near_groups b p.near
   all-groups =
       in-parts groups_by
       ∙ ap₂ (λ x y. x ++ y) (near-groups in_bss b p.near before at h)
@@ -614,22 +615,22 @@ end-externals r e = let m = is_modend r e in subst (λ x. externals_in x ≡ [])
 end-publics : (r : Record) → is_end r ≡ true → publics_in r ≡ []
 end-publics r e = let m = is_modend r e in subst (λ x. publics_in x ≡ []) (sym m.2) refl
 
-end-stretches : (place : ℕ) (r : Record) → is_end r ≡ true → stretches_in place r ≡ []
-end-stretches place r e = let m = is_modend r e in subst (λ x. stretches_in place x ≡ []) (sym m.2) refl
+end-stretches : (place : ℕ) (r : Record) → is_end r ≡ true → data_in place r ≡ []
+end-stretches place r e = let m = is_modend r e in subst (λ x. data_in place x ≡ []) (sym m.2) refl
 
 end-subrecords : (r : Record) → is_end r ≡ true → subrecords_in r ≡ []
 end-subrecords r e = let m = is_modend r e in subst (λ x. subrecords_in x ≡ []) (sym m.2) refl
 
 abbrev fixups_by : List Placed → Placed → List (ℕ × ResolvedFixup)
-fixups_by front placed = map (λ x. (length (stretches front), x)) (fixups_in (subrecords front) placed)
+fixups_by front placed = map (λ x. (length (data_of front), x)) (fixups_in (subrecords front) placed)
 
 no-fixups : (front : List Placed) (x : Placed) → subrecords_in x.says ≡ [] → fixups_by front x ≡ []
 no-fixups front x h =
-    ap (λ ss. map (λ y. (length (stretches front), y))
-    (along (λ earlier subrecord. option_to_list (fixup_in x.place (subrecords front ++ earlier) subrecord)) ss)) h
+    ap (λ ss. map (λ y. (length (data_of front), y))
+    (along [] (λ earlier subrecord. option_to_list (fixup_in x.place (subrecords front ++ earlier) subrecord)) ss)) h
 
 our-fixups : (before : List Placed) (at : ℕ) (rs : List Record) → AllByRecursion IsOurs rs
-    → along_from before fixups_by (place_all at rs) ≡ []
+    → along before fixups_by (place_all at rs) ≡ []
 our-fixups before at [] h = refl
 our-fixups before at (r ∷ rs) h =
     let x : Placed = record { place = at; body = canonical r; says = r } in
@@ -661,10 +662,10 @@ module _ (front : List Placed) (x : Placed) (e : is_end x.says ≡ true) where
       flat_map_push (λ (placed : Placed). publics_in placed.says) front x
       ∙ nothing-more (publics front) _ (end-publics x.says e)
 
-  stretches-end : stretches (front ++ x ∷ []) ≡ stretches front
+  stretches-end : data_of (front ++ x ∷ []) ≡ data_of front
   stretches-end =
-      flat_map_push (λ (placed : Placed). stretches_in placed.place placed.says) front x
-      ∙ nothing-more (stretches front) _ (end-stretches x.place x.says e)
+      flat_map_push (λ (placed : Placed). data_in placed.place placed.says) front x
+      ∙ nothing-more (data_of front) _ (end-stretches x.place x.says e)
 
   fixups-end : fixups (front ++ x ∷ []) ≡ fixups front
   fixups-end =
@@ -692,7 +693,7 @@ no-start before place (Fixupp ss) h = refl
 no-start before place (Ledata segment offset bytes) h = refl
 no-start before place (Lidata segment offset blocks) h = refl
 
-no-starts : (before rs : List Placed) → AreBeforeEnd rs → along_from before start_by rs ≡ []
+no-starts : (before rs : List Placed) → AreBeforeEnd rs → along before start_by rs ≡ []
 no-starts before [] h = refl
 no-starts before (r ∷ rs) h =
     ap₂ (λ x y. x ++ y) (ap option_to_list (no-start (subrecords before) r.place r.says h.0))

@@ -7,8 +7,9 @@ use Rattle.std.proofs.lemmas.List.Concat.{flat_map-append}
 use Rattle.std.specs.List.{enumerate_from}
 use Rattle.omf_record.specs.Records.{Placed}
 use Rattle.omf_module.specs.declared.ResolvedFixup.{ResolvedFixup}
-use Rattle.omf_module.specs.Before.{along_from}
-use Rattle.omf_module.specs.Tables.{Stretch, stretches, subrecords, fixups, fixups_in, fixups_on, data_record}
+use Rattle.omf_module.specs.Before.{along}
+use Rattle.omf_module.specs.Module.{DataRecord}
+use Rattle.omf_module.specs.Tables.{data_of, subrecords, fixups, fixups_in, fixups_on, data_record}
 use Rattle.omf_module.specs.inside.Said.{data_records}
 use Rattle.omf_module.specs.inside.Running.{add_to_last}
 use Rattle.std.proofs.lemmas.List.Elements.{filter_map-append}
@@ -28,11 +29,11 @@ up_to_tagged n k [] le = tt
 up_to_tagged n k (f ∷ fs) le = (le, up_to_tagged n k fs le)
 
 fixups_up_to : (before rs : List Placed)
-    → UpTo (length (stretches (before ++ rs)))
-    (along_from before (λ before r. map (λ x. (length (stretches before), x)) (fixups_in (subrecords before) r)) rs)
+    → UpTo (length (data_of (before ++ rs)))
+    (along before (λ before r. map (λ x. (length (data_of before), x)) (fixups_in (subrecords before) r)) rs)
 fixups_up_to before [] = tt
 fixups_up_to before (r ∷ rs) =
-    let le : length (stretches before) ≤ length (stretches (before ++ r ∷ rs)) =
+    let le : length (data_of before) ≤ length (data_of (before ++ r ∷ rs)) =
     rw (flat_map-append, length-append) (omega arith) in
     up_to_append _ _ _ (up_to_tagged _ _ (fixups_in (subrecords before) r) le)
     (rw append_assoc at (fixups_up_to (before ++ r ∷ []) rs))
@@ -52,20 +53,20 @@ other_on k n [] ne = refl
 other_on k n (f ∷ fs) ne = rw (ne_eqb n k ne) (other_on k n fs ne)
 
 -- one more data record has no fix-up yet
-pub new_data : (rs : List Placed) (d : Stretch)
-    → map (data_record (fixups rs)) (enumerate_from 1 (stretches rs ++ d ∷ []))
+pub new_data : (rs : List Placed) (d : DataRecord)
+    → map (data_record (fixups rs)) (enumerate_from 1 (data_of rs ++ d ∷ []))
     ≡ data_records rs
     ++ record { place = d.place; segment = d.segment; offset = d.offset; pairs = d.pairs; fixups = [] } ∷ []
 new_data rs d =
-    let none : fixups_on (1 + length (stretches rs)) (fixups rs) ≡ [] =
-    none_on (length (stretches rs)) _ _ (omega arith) (fixups_up_to [] rs) in
+    let none : fixups_on (1 + length (data_of rs)) (fixups rs) ≡ [] =
+    none_on (length (data_of rs)) _ _ (omega arith) (fixups_up_to [] rs) in
     rw (enumerate_push, map-append)
     (ap (λ fs.
     data_records rs ++ record { place = d.place; segment = d.segment; offset = d.offset; pairs = d.pairs; fixups = fs }
     ∷ []) none)
 
 -- more fix-ups go to the last one
-pub new_fixups : (xs : List (ℕ × ResolvedFixup)) (fs : List ResolvedFixup) (n t : ℕ) (ds : List Stretch)
+pub new_fixups : (xs : List (ℕ × ResolvedFixup)) (fs : List ResolvedFixup) (n t : ℕ) (ds : List DataRecord)
     → t + 1 ≡ n + length ds
     → map (data_record (xs ++ map (λ x. (t, x)) fs)) (enumerate_from n ds)
     ≡ add_to_last fs (map (data_record xs) (enumerate_from n ds))

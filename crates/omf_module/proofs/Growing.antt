@@ -1,22 +1,27 @@
 -- What is kept, one record further.
 use Rattle.std.proofs.Common.{◌≡◌, ℕ, Bool, true, List, [], ◌∷◌, ◌++◌, length, map, Option, None, Some, refl}
 use Rattle.std.proofs.lemmas.List.{append-nil}
-use Rattle.std.specs.Option.{option_to_list, option_map}
+use Rattle.std.specs.Option.{option_to_list, option_map, option_zip}
+use Rattle.std.specs.Prelude.{unwrap_or}
 use Rattle.std.specs.List.{filter_map, enumerate_from}
 use Rattle.omf_record.specs.Record.{Record, Theadr, Coment, Modend, Extdef, Pubdef, Linnum, Lnames, Segdef, Grpdef}
 use Rattle.omf_record.specs.Record.{Ledata, Lidata, External as ExternalName, Public, Block}
 use Rattle.omf_record.specs.declared.externals.PublicBase.{PublicBase}
 use Rattle.omf_record.specs.declared.segments.SegmentDefinition.{SegmentDefinition}
 use Rattle.omf_record.specs.declared.fixups.Reference.{Reference}
+use Rattle.omf_record.specs.declared.fixups.Fixup.{Fixup}
 use Rattle.omf_record.specs.declared.externals.Line.{Line}
 use Rattle.omf_record.specs.Records.{Placed}
 use Rattle.omf_module.specs.Before.{first, last}
-use Rattle.omf_module.specs.Tables.{names, stretches, subrecords, fixups}
+use Rattle.omf_module.specs.Tables.{names, data_of, subrecords, fixups}
 use Rattle.omf_module.specs.inside.Said.{segments, groups, externals, publics, start}
-use Rattle.omf_module.specs.Tables.{Stretch, frame_thread, target_thread, segments_in, groups_in}
+use Rattle.omf_module.specs.declared.ResolvedFixup.{ResolvedFixup}
+use Rattle.omf_module.specs.declared.Start.{Start}
+use Rattle.omf_module.specs.Tables.{contents_in, frame_thread, target_thread, segments_in, groups_in}
 use Rattle.omf_module.specs.inside.Said.{names_in}
-use Rattle.omf_module.specs.Tables.{externals_in, publics_in, subrecords_in, stretches_in}
-use Rattle.omf_module.specs.inside.Checking.{frame_set, target_set}
+use Rattle.omf_module.specs.Tables.{externals_in, publics_in, subrecords_in, data_in}
+use Rattle.omf_module.specs.inside.Checking.{frame_set, target_set, fixup_of, start_of}
+use Rattle.omf_module.specs.inside.Contents.{last_contents}
 use Rattle.omf_module.specs.Tables.{data_record, fixups_in, start_in, used}
 use Rattle.omf_module.specs.Faults.{items}
 use Rattle.omf_module.specs.inside.Checking.{begun}
@@ -52,10 +57,10 @@ grown rs r = record {
       map (λ n. later (last (filter_map (target_set n) (subrecords_in r.says))) (target_thread (subrecords rs) n))
       thread_numbers;
   data_records =
-      map (data_record (fixups rs ++ map (λ x. (length (stretches rs), x)) (fixups_in (subrecords rs) r)))
-      (enumerate_from 1 (stretches rs ++ stretches_in r.place r.says));
+      map (data_record (fixups rs ++ map (λ x. (length (data_of rs), x)) (fixups_in (subrecords rs) r)))
+      (enumerate_from 1 (data_of rs ++ data_in r.place r.says));
   contents =
-      option_map (λ (d : Stretch). d.contents) (later (last (stretches_in r.place r.says)) (last (stretches rs)));
+      later (last (filter_map (λ (placed : Placed). contents_in placed.says) (r ∷ []))) (last_contents rs);
   start = later (last (option_to_list (start_in (subrecords rs) r.place r.says))) (start rs);
 }
 
@@ -130,6 +135,29 @@ used_slots threads (datum.Thread Two) = refl
 used_slots threads (datum.Thread Three) = refl
 used_slots threads (datum.By method) = refl
 
+pub start_of-is : (place : ℕ) (r : Reference) (f : Option FrameMethod) (t : Option TargetMethod)
+    → start_of place r f t
+    ≡ option_map (λ (m : FrameMethod × TargetMethod).
+    record { place = place; frame = m.0; target = m.1; displacement = unwrap_or r.displacement 0 }) (option_zip f t)
+start_of-is place r None t = refl
+start_of-is place r (Some f) None = refl
+start_of-is place r (Some f) (Some t) = refl
+
+pub fixup_of-is : (place : ℕ) (x : Fixup) (f : Option FrameMethod) (t : Option TargetMethod)
+    → fixup_of place x f t
+    ≡ option_map (λ (m : FrameMethod × TargetMethod). record {
+      place = place;
+      self_relative = x.self_relative;
+      location = x.location;
+      offset = x.offset;
+      frame = m.0;
+      target = m.1;
+      displacement = unwrap_or x.reference.displacement 0;
+    }) (option_zip f t)
+fixup_of-is place x None t = refl
+fixup_of-is place x (Some f) None = refl
+fixup_of-is place x (Some f) (Some t) = refl
+
 pub start_steps : (main : Bool) (r : Reference) → Steps (Modend main (Some r))
 unfolding step_record
 start_steps main r place body rs =
@@ -139,4 +167,5 @@ start_steps main r place body rs =
       used_slots (frame_thread (subrecords rs)) r.frame,
       used_slots
           (target_thread (subrecords rs)) r.target,
+      start_of-is,
     ) (simp (append-nil, last_option))

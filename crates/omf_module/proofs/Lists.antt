@@ -6,7 +6,7 @@ use Rattle.std.proofs.lemmas.Grind.{flat_map-append}
 use Rattle.std.specs.List.{flat_map, enumerate_from, slice_get}
 use Rattle.std.specs.Option.{option_map}
 use Rattle.std.proofs.lemmas.Option.{slice_get_within, get_or_from_slice_get}
-use Rattle.omf_module.specs.Before.{along_from, along, last, first, entry}
+use Rattle.omf_module.specs.Before.{along, last, first, entry}
 use Rattle.omf_module.specs.inside.Running.{later}
 
 pub flat_map_push : {X A : Type 0} (f : X → List A) (xs : List X) (x : X)
@@ -14,15 +14,15 @@ pub flat_map_push : {X A : Type 0} (f : X → List A) (xs : List X) (x : X)
 flat_map_push f xs x = flat_map-append f xs (x ∷ []) ∙ ap (λ zs. flat_map f xs ++ zs) (append-nil (f x))
 
 pub along_from_append : {A B : Type 0} (f : List A → A → List B) (before xs ys : List A)
-    → along_from before f (xs ++ ys) ≡ along_from before f xs ++ along_from (before ++ xs) f ys
+    → along before f (xs ++ ys) ≡ along before f xs ++ along (before ++ xs) f ys
 along_from_append f before [] ys = rw append-nil refl
 along_from_append f before (x ∷ xs) ys =
     ap (λ zs. f before x ++ zs) (along_from_append f (before ++ x ∷ []) xs ys)
     ∙ rw (append_assoc before (x ∷ []) xs) (sym (append_assoc (f before x) _ _))
 
 pub along_push : {A B : Type 0} (f : List A → A → List B) (xs : List A) (x : A)
-    → along f (xs ++ x ∷ []) ≡ along f xs ++ f xs x
-along_push f xs x = along_from_append f [] xs (x ∷ []) ∙ ap (λ zs. along f xs ++ zs) (append-nil (f xs x))
+    → along [] f (xs ++ x ∷ []) ≡ along [] f xs ++ f xs x
+along_push f xs x = along_from_append f [] xs (x ∷ []) ∙ ap (λ zs. along [] f xs ++ zs) (append-nil (f xs x))
 
 pub last_append : {A : Type 0} (xs ys : List A) → last (xs ++ ys) ≡ later (last ys) (last xs)
 last_append xs ys = rw reverse-append (heads (reverse ys) (reverse xs))

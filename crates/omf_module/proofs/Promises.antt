@@ -40,7 +40,7 @@ use Rattle.omf_module.specs.declared.Start.{Start}
 use Rattle.omf_module.specs.Module.{Segment, Group, ExternalSymbol, PublicSymbol, DataRecord, Module}
 use Rattle.omf_module.specs.Before.{first, entry}
 use Rattle.omf_module.specs.Tables.{used, name_at, standing_of}
-use Rattle.omf_module.specs.Tables.{fixup_of, start_of}
+use Rattle.omf_module.specs.inside.Checking.{fixup_of, start_of}
 use Rattle.omf_module.specs.inside.Entries.{segment_of, group_of, public_of, external_of}
 use Rattle.omf_module.specs.Faults.{check_label, ◌⊓◌, is_beyond, misses}
 use Rattle.omf_module.specs.inside.Checking.{segment_fault}

@@ -13,8 +13,8 @@ use Rattle.omf_record.specs.declared.fixups.Subrecord.{Subrecord}
 use Rattle.omf_record.specs.declared.fixups.Subrecord.TheVariants as sub
 use Rattle.omf_module.specs.declared.fault.CheckFault.{CheckFault}
 use Rattle.omf_module.specs.declared.ResolvedFixup.{ResolvedFixup}
-use Rattle.omf_module.specs.Before.{along, along_from, first}
-use Rattle.omf_module.specs.Tables.{module_of, stretches, subrecords, fixups, frame_thread, target_thread}
+use Rattle.omf_module.specs.Before.{along, first}
+use Rattle.omf_module.specs.Tables.{module_of, data_of, subrecords, fixups, frame_thread, target_thread}
 use Rattle.omf_module.specs.Tables.{data_record, fixup_in}
 use Rattle.omf_record.specs.Numbers.{thread_number}
 use Rattle.omf_record.specs.Records.{Placed}
@@ -25,7 +25,7 @@ use Rattle.omf_module.specs.inside.Running.{thread_numbers, add_to_last, ◌>>=�
 use Rattle.std.proofs.lemmas.List.Elements.{filter_map-append}
 use Rattle.omf_module.proofs.Lists.{along_push, last_append}
 use Rattle.omf_module.proofs.FixupsOn.{new_fixups}
-use Rattle.omf_module.proofs.Growing.{Steps, state_push, used_slots}
+use Rattle.omf_module.proofs.Growing.{Steps, state_push, used_slots, fixup_of-is}
 
 -- what is kept after these subrecords of a record that stands behind `rs`
 abbrev Inside : ℕ → List Placed → List Subrecord → State
@@ -36,9 +36,9 @@ Inside place rs done = record (state_of rs) {
   data_records =
       map (data_record
       (fixups rs
-      ++ map (λ x. (length (stretches rs), x))
-      (along (λ earlier x. option_to_list (fixup_in place (subrecords rs ++ earlier) x)) done)))
-      (enumerate_from 1 (stretches rs));
+      ++ map (λ x. (length (data_of rs), x))
+      (along [] (λ earlier x. option_to_list (fixup_in place (subrecords rs ++ earlier) x)) done)))
+      (enumerate_from 1 (data_of rs));
 }
 
 inside_whole : (place : ℕ) (body : List ℕ) (rs : List Placed) (subs : List Subrecord)
@@ -68,17 +68,17 @@ target_set_more subs Two method = simp (filter_map-append, last_append)
 target_set_more subs Three method = simp (filter_map-append, last_append)
 
 abbrev FixupsIn : ℕ → List Placed → List Subrecord → List ResolvedFixup
-FixupsIn place rs done = along (λ earlier x. option_to_list (fixup_in place (subrecords rs ++ earlier) x)) done
+FixupsIn place rs done = along [] (λ earlier x. option_to_list (fixup_in place (subrecords rs ++ earlier) x)) done
 
 data_more : (place : ℕ) (rs : List Placed) (done : List Subrecord) (x : Subrecord) →
-    map (data_record (fixups rs ++ map (λ x. (length (stretches rs), x)) (FixupsIn place rs (done ++ x ∷ []))))
-    (enumerate_from 1 (stretches rs))
+    map (data_record (fixups rs ++ map (λ x. (length (data_of rs), x)) (FixupsIn place rs (done ++ x ∷ []))))
+    (enumerate_from 1 (data_of rs))
     ≡ add_to_last (option_to_list (fixup_in place (subrecords rs ++ done) x))
-    (map (data_record (fixups rs ++ map (λ x. (length (stretches rs), x)) (FixupsIn place rs done)))
-    (enumerate_from 1 (stretches rs)))
+    (map (data_record (fixups rs ++ map (λ x. (length (data_of rs), x)) (FixupsIn place rs done)))
+    (enumerate_from 1 (data_of rs)))
 data_more place rs done x =
     rw (along_push, map-append, ← append_assoc)
-    (new_fixups _ (option_to_list (fixup_in place (subrecords rs ++ done) x)) 1 (length (stretches rs)) (stretches rs)
+    (new_fixups _ (option_to_list (fixup_in place (subrecords rs ++ done) x)) 1 (length (data_of rs)) (data_of rs)
     (omega arith))
 
 one : (place : ℕ) (rs : List Placed) (done : List Subrecord) (x : Subrecord)
@@ -95,23 +95,24 @@ one place rs done (sub.Fixup c) =
       used_slots (frame_thread (subrecords rs ++ done)) c.reference.frame,
       used_slots
           (target_thread (subrecords rs ++ done)) c.reference.target,
+      fixup_of-is,
       ← data_more place rs done (sub.Fixup c),
     )
     (simp (filter_map-append, last_append))
 
 by_item : (place : ℕ) (rs : List Placed) (done todo : List Subrecord) (x : Subrecord) (o : Option CheckFault)
     → step_subrecords place (Inside place rs (done ++ x ∷ [])) todo
-    ≡ checked (first (along_from (done ++ x ∷ []) (λ earlier x. item rs earlier x ∷ []) todo))
+    ≡ checked (first (along (done ++ x ∷ []) (λ earlier x. item rs earlier x ∷ []) todo))
     (Inside place rs ((done ++ x ∷ []) ++ todo))
     → (checked o (Inside place rs (done ++ x ∷ [])) >>= λ t. step_subrecords place t todo)
-    ≡ checked (first (o ∷ along_from (done ++ x ∷ []) (λ earlier x. item rs earlier x ∷ []) todo))
+    ≡ checked (first (o ∷ along (done ++ x ∷ []) (λ earlier x. item rs earlier x ∷ []) todo))
     (Inside place rs (done ++ x ∷ todo))
 by_item place rs done todo x None rest = rest ∙ rw append_assoc refl
 by_item place rs done todo x (Some f) rest = refl
 
 inside : (place : ℕ) (rs : List Placed) (done todo : List Subrecord)
     → step_subrecords place (Inside place rs done) todo
-    ≡ checked (first (along_from done (λ earlier x. item rs earlier x ∷ []) todo)) (Inside place rs (done ++ todo))
+    ≡ checked (first (along done (λ earlier x. item rs earlier x ∷ []) todo)) (Inside place rs (done ++ todo))
 unfolding step_subrecords
 inside place rs done [] = rw append-nil refl
 inside place rs done (x ∷ todo) =

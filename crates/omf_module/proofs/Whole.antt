@@ -5,7 +5,7 @@ use Rattle.omf_record.specs.Record.{Record, Theadr, Coment, Modend, Extdef, Pubd
 use Rattle.omf_record.specs.Record.{Fixupp, Ledata, Lidata}
 use Rattle.omf_record.specs.Records.{Placed}
 use Rattle.omf_module.specs.declared.fault.CheckFault.{CheckFault}
-use Rattle.omf_module.specs.Before.{along, along_from, first}
+use Rattle.omf_module.specs.Before.{along, first}
 use Rattle.omf_module.specs.Faults.{header_fault, items, fault, first_fault}
 use Rattle.omf_module.specs.inside.Checking.{begun, opening_fault}
 use Rattle.omf_module.specs.inside.Running.{State, state_of, checked, step, step_record, ◌>>=◌}
@@ -82,7 +82,7 @@ module _ (rs : List Placed) (r : Placed) (sound : first_fault rs ≡ None) where
       → (t ≡ state_of (rs ++ r ∷ [])) × (first_fault (rs ++ r ∷ []) ≡ None)
   ok_more t e =
       let p = by_fault (fault rs r.says) (state_of (rs ++ r ∷ [])) t (sym (step_whole rs r) ∙ e) in
-      (sym p.1, rw (along_push, p.0) (first_append_none (along place_fault rs) (None ∷ []) sound))
+      (sym p.1, rw (along_push, p.0) (first_append_none (along [] place_fault rs) (None ∷ []) sound))
 
   pub err_of : (f : CheckFault) → step (state_of rs) r.place r.says ≡ Err f → fault rs r.says ≡ Some f
   err_of f e = by_err (fault rs r.says) (state_of (rs ++ r ∷ [])) f (sym (step_whole rs r) ∙ e)
@@ -102,5 +102,5 @@ pub no_fault_at : (done todo : List Placed) (r : Placed) → first_fault (done +
     → fault done r.says ≡ None
 no_fault_at done todo r e =
     none_mapped (λ f. (r.place, f)) (fault done r.says)
-    (none_of (along place_fault done) (along_from (done ++ r ∷ []) place_fault todo) _
+    (none_of (along [] place_fault done) (along (done ++ r ∷ []) place_fault todo) _
     (sym (ap first (along_from_append place_fault [] done (r ∷ todo))) ∙ e))

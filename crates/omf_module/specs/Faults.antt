@@ -2,7 +2,7 @@
 use Rattle.std.specs.Prelude.{ℕ, ◌+◌, ◌==◌, Bool, true, false, not, ◌||◌, ◌&&◌, if◌then◌else◌, nat_le, nat_lt, List, []}
 use Rattle.std.specs.Prelude.{◌∷◌, ◌++◌, length, map, codes, Option, None, Some, option_map}
 use Rattle.std.specs.Bool.{then_some}
-use Rattle.std.specs.List.{list_any}
+use Rattle.std.specs.List.{filter_map, list_any}
 use Rattle.omf_record.specs.Record.{Record, Theadr, Modend, Pubdef, Segdef, Grpdef}
 use Rattle.omf_record.specs.Record.{Fixupp, Ledata, Lidata}
 use Rattle.omf_record.specs.Expansion.{expansion}
@@ -28,7 +28,7 @@ use Rattle.omf_module.specs.declared.Standing.{Standing}
 use Rattle.omf_module.specs.declared.Standing.TheVariants.{Absolute, Relocatable}
 use Rattle.omf_module.specs.Module.{Segment, Module}
 use Rattle.omf_module.specs.Before.{along, first, last, entry}
-use Rattle.omf_module.specs.Tables.{names, Stretch, stretches, subrecords, frame_thread, target_thread}
+use Rattle.omf_module.specs.Tables.{names, contents_in, subrecords, frame_thread, target_thread}
 use Rattle.omf_module.specs.Tables.{used, module_of}
 
 -- the number and the name with which a fault is printed
@@ -71,11 +71,6 @@ is_absolute (Relocatable alignment kind) = false
 abbrev pub component_fault : Option Segment → Option CheckFault
 component_fault None = Some SegmentIndex
 component_fault (Some segment) = then_some (is_absolute segment.standing) GroupOfAbsolute
-
--- its name and each of its components is an item
-abbrev pub group_items : (names : List (List ℕ)) → List Segment → ℕ → List ℕ → List (Option CheckFault)
-group_items names segments name components =
-    then_some (misses names name) NameIndex ∷ map (λ index. component_fault (entry segments index)) components
 
 -- so many bytes from an offset on in a segment
 abbrev pub data_fault : Option Segment → (offset length : ℕ) → Option CheckFault
@@ -136,19 +131,21 @@ subrecord_item said contents before (sub.Fixup fixup) =
     ⊓ place_fault contents fixup ⊓ relative_fault fixup
 subrecord_item said contents before _ = None
 
--- the items of a record after these: the name and the class of a segment may be 0
+-- the items of a record after these: a segment's name and class may be 0, a group's name and each component is an item
 abbrev pub items : List Placed → Record → List (Option CheckFault)
 items before (Segdef definition) =
     then_some (is_beyond (names before) definition.name || is_beyond (names before) definition.class) NameIndex ∷ []
-items before (Grpdef name components) = group_items (names before) (module_of before).segments name components
+items before (Grpdef name components) =
+    then_some (misses (names before) name) NameIndex
+    ∷ map (λ index. component_fault (entry (module_of before).segments index)) components
 items before (Pubdef local base listed) = public_fault (module_of before) base ∷ []
 items before (Ledata segment offset bytes) =
     data_fault (entry (module_of before).segments segment) offset (length bytes) ∷ []
 items before (Lidata segment offset blocks) =
     data_fault (entry (module_of before).segments segment) offset (length (expansion blocks)) ∷ []
 items before (Fixupp subs) =
-    let contents = option_map (λ (data' : Stretch). data'.contents) (last (stretches before)) in
-    along (λ earlier s. subrecord_item (module_of before) contents (subrecords before ++ earlier) s ∷ []) subs
+    let contents = last (filter_map (λ (placed : Placed). contents_in placed.says) before) in
+    along [] (λ earlier s. subrecord_item (module_of before) contents (subrecords before ++ earlier) s ∷ []) subs
 items before (Modend main (Some reference)) =
     let frame = used (frame_thread (subrecords before)) reference.frame in
     let target = used (target_thread (subrecords before)) reference.target in
@@ -168,4 +165,4 @@ fault before record' = first (header_fault before record' ∷ items before recor
 -- the first fault of the records, with its record's place
 abbrev pub first_fault : List Placed → Option (ℕ × CheckFault)
 first_fault records =
-    first (along (λ before (r : Placed). option_map (λ check. (r.place, check)) (fault before r.says) ∷ []) records)
+    first (along [] (λ before (r : Placed). option_map (λ check. (r.place, check)) (fault before r.says) ∷ []) records)

@@ -2,7 +2,7 @@
 use Rattle.std.specs.Prelude.{ℕ, Bool, zero, suc, ◌-◌, ◌==◌, List, [], ◌∷◌, ◌++◌, length, map, Option}
 use Rattle.std.specs.Prelude.{None, Some, unwrap_or}
 use Rattle.std.specs.Bool.{then_some}
-use Rattle.std.specs.Option.{option_to_list}
+use Rattle.std.specs.Option.{option_map, option_to_list, option_zip}
 use Rattle.std.specs.List.{flat_map, filter_map, enumerate_from}
 use Rattle.omf_record.specs.Record.{Record, Modend, Extdef, Pubdef, Lnames, Segdef}
 use Rattle.omf_record.specs.Record.{Grpdef, Fixupp, Ledata, Lidata}
@@ -96,31 +96,23 @@ publics_in _ = []
 
 -- ---- A0H LEDATA: Logical Enumerated Data Record; A2H LIDATA: Logical Iterated Data Record
 
--- Data for a segment, which counts from 0: the bytes with their stored places, and the contents that were stored, each
--- with its first stored place and its length. The bytes of LEDATA are one content.
-pub record Stretch : Type 0 where
-  pub place : ℕ
-  pub segment : ℕ
-  pub offset : ℕ
-  pub pairs : List (ℕ × ℕ)
-  pub contents : List (ℕ × ℕ)
+-- the data record that a record at this place gives, as yet with no fix-ups; segments count from 0
+abbrev pub data_in : ℕ → Record → List DataRecord
+data_in place (Ledata segment offset bytes) =
+    record { place = place; segment = segment - 1; offset = offset; pairs = enumerate_from 0 bytes; fixups = [] } ∷ []
+data_in place (Lidata segment offset blocks) =
+    record { place = place; segment = segment - 1; offset = offset; pairs = expansion blocks; fixups = [] } ∷ []
+data_in place _ = []
 
--- data by what a record says, whose segment counts from 1
-abbrev pub stretch : (place segment offset : ℕ) → (pairs contents : List (ℕ × ℕ)) → Stretch
-stretch place segment offset pairs contents =
-    record { place = place; segment = segment - 1; offset = offset; pairs = pairs; contents = contents }
+-- the contents that a record stores, each with its first stored place and its length; the bytes of LEDATA are one
+abbrev pub contents_in : Record → Option (List (ℕ × ℕ))
+contents_in (Ledata segment offset bytes) = Some ((0, length bytes) ∷ [])
+contents_in (Lidata segment offset blocks) = Some (contents blocks)
+contents_in _ = None
 
--- the data that a record at this place gives
-abbrev pub stretches_in : ℕ → Record → List Stretch
-stretches_in place (Ledata segment offset bytes) =
-    stretch place segment offset (enumerate_from 0 bytes) ((0, length bytes) ∷ []) ∷ []
-stretches_in place (Lidata segment offset blocks) =
-    stretch place segment offset (expansion blocks) (contents blocks) ∷ []
-stretches_in place _ = []
-
--- the data of these records
-abbrev pub stretches : List Placed → List Stretch
-stretches records = flat_map (λ (placed : Placed). stretches_in placed.place placed.says) records
+-- the data records of these records, as yet with no fix-ups
+abbrev pub data_of : List Placed → List DataRecord
+data_of records = flat_map (λ (placed : Placed). data_in placed.place placed.says) records
 
 -- ---- 9CH FIXUPP: Fixup Record, its thread subrecords
 
@@ -150,68 +142,56 @@ used threads (datum.By method) = Some method
 
 -- ---- 9CH FIXUPP: Fixup Record, its fix-up subrecords; 8AH MODEND: Module End Record
 
--- a fix-up by the methods that it uses; there is none where a thread isn't set
-abbrev pub fixup_of : ℕ → Fixup → Option FrameMethod → Option TargetMethod → Option ResolvedFixup
-fixup_of place fixup (Some frame) (Some target) = Some (record {
+-- the methods of frame and target that a reference uses behind these subrecords; none where a thread isn't set
+abbrev pub methods : List Subrecord → Reference → Option (FrameMethod × TargetMethod)
+methods before r = option_zip (used (frame_thread before) r.frame) (used (target_thread before) r.target)
+
+-- the fix-up of a subrecord, with the subrecords before it
+abbrev pub fixup_in : ℕ → List Subrecord → Subrecord → Option ResolvedFixup
+fixup_in place before (sub.Fixup fixup) = option_map (λ (m : FrameMethod × TargetMethod). record {
   place = place;
   self_relative = fixup.self_relative;
   location = fixup.location;
   offset = fixup.offset;
-  frame = frame;
-  target = target;
+  frame = m.0;
+  target = m.1;
   displacement = unwrap_or fixup.reference.displacement 0;
-})
-fixup_of place fixup _ _ = None
-
--- the fix-up of a subrecord, with the subrecords before it
-abbrev pub fixup_in : ℕ → List Subrecord → Subrecord → Option ResolvedFixup
-fixup_in place before (sub.Fixup fixup) =
-    fixup_of place fixup (used (frame_thread before) fixup.reference.frame)
-    (used (target_thread before) fixup.reference.target)
+}) (methods before fixup.reference)
 fixup_in place before _ = None
 
 -- the fix-ups of a record, with the subrecords before it
 abbrev pub fixups_in : List Subrecord → Placed → List ResolvedFixup
 fixups_in before placed =
-    along (λ earlier subrecord. option_to_list (fixup_in placed.place (before ++ earlier) subrecord))
+    along [] (λ earlier subrecord. option_to_list (fixup_in placed.place (before ++ earlier) subrecord))
     (subrecords_in placed.says)
 
 -- all fix-ups, each with how many data records stand before it: the last of these is the one that it is on
 abbrev pub fixups : List Placed → List (ℕ × ResolvedFixup)
 fixups records =
-    along (λ before placed. map (λ x. (length (stretches before), x)) (fixups_in (subrecords before) placed)) records
+    along [] (λ before placed. map (λ x. (length (data_of before), x)) (fixups_in (subrecords before) placed)) records
 
 -- those that are on the data record of this number, which counts from 1
 abbrev pub fixups_on : ℕ → List (ℕ × ResolvedFixup) → List ResolvedFixup
 fixups_on number fixups =
     filter_map (λ (fixup : ℕ × ResolvedFixup). then_some (fixup.0 == number) fixup.1) fixups
 
--- a data record: data with its number, and the fix-ups on it
-abbrev pub data_record : List (ℕ × ResolvedFixup) → ℕ × Stretch → DataRecord
-data_record fixups d =
-    let s = d.1 in
-    record { place = s.place; segment = s.segment; offset = s.offset; pairs = s.pairs; fixups = fixups_on d.0 fixups }
-
--- a start by the methods that it uses; there is none where a thread isn't set
-abbrev pub start_of : ℕ → Reference → Option FrameMethod → Option TargetMethod → Option Start
-start_of place r (Some f) (Some t) =
-    Some (record { place = place; frame = f; target = t; displacement = unwrap_or r.displacement 0 })
-start_of place reference _ _ = None
+-- a data record, by its number, with the fix-ups on it
+abbrev pub data_record : List (ℕ × ResolvedFixup) → ℕ × DataRecord → DataRecord
+data_record fixups numbered = record numbered.1 { fixups = fixups_on numbered.0 fixups }
 
 -- the start of a MODEND record, with the subrecords before it
 abbrev pub start_in : List Subrecord → ℕ → Record → Option Start
-start_in before place (Modend main (Some reference)) =
-    start_of place reference (used (frame_thread before) reference.frame)
-    (used (target_thread before) reference.target)
+start_in before place (Modend main (Some r)) = option_map (λ (m : FrameMethod × TargetMethod).
+    record { place = place; frame = m.0; target = m.1; displacement = unwrap_or r.displacement 0 }) (methods before r)
 start_in before place _ = None
 
 -- what these records say as a module: segments and groups each with the names before it, and the last start
 abbrev pub module_of : List Placed → Module
 module_of records = record {
-  segments = along (λ before (placed : Placed). segments_in (names before) placed.says) records;
-  groups = along (λ before (placed : Placed). groups_in (names before) placed.says) records;
+  segments = along [] (λ before (placed : Placed). segments_in (names before) placed.says) records;
+  groups = along [] (λ before (placed : Placed). groups_in (names before) placed.says) records;
   externals = flat_map (λ (placed : Placed). externals_in placed.says) records;
   publics = flat_map (λ (placed : Placed). publics_in placed.says) records;
-  data_records = map (data_record (fixups records)) (enumerate_from 1 (stretches records));
-  start = last (along (λ before (p : Placed). option_to_list (start_in (subrecords before) p.place p.says)) records);
+  data_records = map (data_record (fixups records)) (enumerate_from 1 (data_of records));
+  start = last (along [] (λ before (p : Placed). option_to_list (start_in (subrecords before) p.place p.says)) records);
 }

@@ -164,7 +164,7 @@ fn fixup_of(
     frame: Option<FrameMethod>,
     target: Option<TargetMethod>,
 ) -> Option<ResolvedFixup>
-    ensures { result ≡ tables.fixup_of place fixup.now frame target }
+    ensures { result ≡ checking.fixup_of place fixup.now frame target }
 {
     Some(ResolvedFixup {
         place,
@@ -184,7 +184,7 @@ fn start_of(
     frame: Option<FrameMethod>,
     target: Option<TargetMethod>,
 ) -> Option<Start>
-    ensures { result ≡ tables.start_of place reference.now frame target }
+    ensures { result ≡ checking.start_of place reference.now frame target }
 {
     Some(Start {
         place,

@@ -14,10 +14,8 @@ use Rattle.omf_place.specs.declared.names.Names.{Names}
 
 -- why a program has no layout, with the name of the first at fault
 pub data PlacementFault : Type 0 where
-  SegmentTooLong : (name : List ℕ) → PlacementFault
+  SegmentTooLong GroupTooLong DuplicatePublic : (name : List ℕ) → PlacementFault
   ProgramTooLarge : PlacementFault
-  GroupTooLong : (name : List ℕ) → PlacementFault
-  DuplicatePublic : (name : List ℕ) → PlacementFault
 
 -- an end is more than 65,536 above its frame
 abbrev pub is_too_long : (frame end : ℕ) → Bool

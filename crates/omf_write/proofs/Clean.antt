@@ -14,7 +14,7 @@ use Rattle.omf_record.specs.Records.{AreToEnd, Placed, frame_of_record, is_end}
 use Rattle.omf_record.proofs.RecordLaws.{body_bytes}
 use Rattle.omf_module.specs.declared.fault.CheckFault.{CheckFault}
 use Rattle.omf_module.specs.declared.fault.CheckFault.TheVariants.{GroupOfAbsolute}
-use Rattle.omf_module.specs.Before.{along_from, entry, first}
+use Rattle.omf_module.specs.Before.{along, entry, first}
 use Rattle.omf_module.specs.Faults.{component_fault, fault, header_fault, is_absolute, items}
 use Rattle.omf_module.specs.inside.Checking.{begun, when}
 use Rattle.omf_module.specs.Module.{Segment}
@@ -100,11 +100,11 @@ Clean before (r ∷ rs) = (fault before r.says ≡ None) × Clean (before ++ r �
 abbrev pub found_at : List Placed → Placed → List (Option (ℕ × CheckFault))
 found_at front r = option_map (λ check. (r.place, check)) (fault front r.says) ∷ []
 
-pub clean_first : (before rs : List Placed) → Clean before rs → first (along_from before found_at rs) ≡ None
+pub clean_first : (before rs : List Placed) → Clean before rs → first (along before found_at rs) ≡ None
 clean_first before [] h = refl
 clean_first before (r ∷ rs) h =
     ap (λ (o : Option CheckFault).
-    first {A = ℕ × CheckFault} (option_map (λ check. (r.place, check)) o ∷ along_from (before ++ r ∷ []) found_at rs))
+    first {A = ℕ × CheckFault} (option_map (λ check. (r.place, check)) o ∷ along (before ++ r ∷ []) found_at rs))
     h.0
     ∙ clean_first (before ++ r ∷ []) rs h.1
 

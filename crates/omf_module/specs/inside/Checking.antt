@@ -1,5 +1,5 @@
 -- The checks as the code makes them, part by part.
-use Rattle.std.specs.Prelude.{ℕ, ◌==◌, ◌||◌, Bool, true, false, List, [], ◌∷◌}
+use Rattle.std.specs.Prelude.{ℕ, ◌==◌, ◌||◌, Bool, true, false, List, [], ◌∷◌, map, unwrap_or}
 use Rattle.std.specs.Bool.{then_some}
 use Rattle.std.specs.declared.option.Option.{Option}
 use Rattle.std.specs.declared.option.Option.TheVariants.{Some, None}
@@ -10,14 +10,18 @@ use Rattle.omf_record.specs.Records.{Placed}
 use Rattle.omf_record.specs.declared.fixups.FrameMethod.{FrameMethod}
 use Rattle.omf_record.specs.declared.fixups.TargetMethod.{TargetMethod}
 use Rattle.omf_record.specs.declared.fixups.Fixup.{Fixup}
+use Rattle.omf_record.specs.declared.fixups.Reference.{Reference}
 use Rattle.omf_record.specs.declared.fixups.Subrecord.{Subrecord}
 use Rattle.omf_record.specs.declared.fixups.Subrecord.TheVariants as sub
 use Rattle.omf_module.specs.declared.fault.CheckFault.{CheckFault}
 use Rattle.omf_module.specs.declared.fault.CheckFault.TheVariants.{NotHeader, NameIndex}
+use Rattle.omf_module.specs.declared.ResolvedFixup.{ResolvedFixup}
+use Rattle.omf_module.specs.declared.Start.{Start}
 use Rattle.omf_module.specs.Module.{Segment, Group, ExternalSymbol, Module}
+use Rattle.omf_module.specs.Before.{entry}
 use Rattle.omf_module.specs.Tables.{names}
 use Rattle.omf_module.specs.inside.Said.{segments, groups, externals}
-use Rattle.omf_module.specs.Faults.{is_beyond, ◌⊓◌, frame_fault, target_fault, place_fault, relative_fault, location_fault}
+use Rattle.omf_module.specs.Faults.{component_fault, is_beyond, misses, ◌⊓◌, frame_fault, target_fault, place_fault, relative_fault, location_fault}
 
 -- the tables as they stand before a record
 pub record Tables : Type 0 where
@@ -38,6 +42,11 @@ when test fault = then_some test fault
 -- a segment's name and class may be 0
 abbrev pub segment_fault : (names : List (List ℕ)) → SegmentDefinition → Option CheckFault
 segment_fault names definition = when (is_beyond names definition.name || is_beyond names definition.class) NameIndex
+
+-- its name and each of its components is an item
+abbrev pub group_items : (names : List (List ℕ)) → List Segment → ℕ → List ℕ → List (Option CheckFault)
+group_items names segments name components =
+    when (misses names name) NameIndex ∷ map (λ index. component_fault (entry segments index)) components
 
 -- some record has been read
 abbrev pub begun : List Placed → Bool
@@ -69,3 +78,22 @@ fixup_fault said frame target contents fixup =
 -- a start by the methods that it uses: the smallest of its faults
 abbrev pub start_fault : Module → Option FrameMethod → Option TargetMethod → Option CheckFault
 start_fault said frame target = frame_fault said frame ⊓ target_fault said target ⊓ location_fault frame
+
+-- a fix-up by the methods that it uses; there is none where a thread isn't set
+abbrev pub fixup_of : ℕ → Fixup → Option FrameMethod → Option TargetMethod → Option ResolvedFixup
+fixup_of place fixup (Some frame) (Some target) = Some (record {
+  place = place;
+  self_relative = fixup.self_relative;
+  location = fixup.location;
+  offset = fixup.offset;
+  frame = frame;
+  target = target;
+  displacement = unwrap_or fixup.reference.displacement 0;
+})
+fixup_of place fixup _ _ = None
+
+-- a start by the methods that it uses; there is none where a thread isn't set
+abbrev pub start_of : ℕ → Reference → Option FrameMethod → Option TargetMethod → Option Start
+start_of place r (Some f) (Some t) =
+    Some (record { place = place; frame = f; target = t; displacement = unwrap_or r.displacement 0 })
+start_of place reference _ _ = None

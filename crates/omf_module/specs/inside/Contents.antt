@@ -1,10 +1,10 @@
 -- Contents of the code, as plain pairs of a first stored place and a length.
-use Rattle.std.specs.Prelude.{ℕ, ◌+◌, Bool, ◌&&◌, nat_le, List, Option, option_map}
-use Rattle.std.specs.List.{list_any}
+use Rattle.std.specs.Prelude.{ℕ, ◌+◌, Bool, ◌&&◌, nat_le, List, Option}
+use Rattle.std.specs.List.{filter_map, list_any}
 use Rattle.omf_record.specs.Records.{Placed}
 use Rattle.omf_module.specs.declared.contents.Content.{Content}
 use Rattle.omf_module.specs.Before.{last}
-use Rattle.omf_module.specs.Tables.{Stretch, stretches}
+use Rattle.omf_module.specs.Tables.{contents_in}
 
 abbrev pub pair : Content → ℕ × ℕ
 pair content = (content.place, content.len)
@@ -19,4 +19,4 @@ lies_in contents at width = list_any (lies_within at width) contents
 
 -- the contents of the last data record
 abbrev pub last_contents : List Placed → Option (List (ℕ × ℕ))
-last_contents records = option_map (λ (data' : Stretch). data'.contents) (last (stretches records))
+last_contents records = last (filter_map (λ (placed : Placed). contents_in placed.says) records)

@@ -19,10 +19,11 @@ use Rattle.omf_module.specs.Module.{PublicSymbol, DataRecord, Module}
 use Rattle.omf_module.specs.Before.{first, entry}
 use Rattle.omf_module.specs.Tables.{subrecords, frame_thread}
 use Rattle.omf_module.specs.inside.Entries.{segment_of, group_of, external_of, public_of}
-use Rattle.omf_module.specs.Tables.{target_thread, used, fixup_of, start_of}
+use Rattle.omf_module.specs.Tables.{target_thread, used}
+use Rattle.omf_module.specs.inside.Checking.{fixup_of, start_of}
 use Rattle.omf_module.specs.inside.Said.{data_records, publics}
 use Rattle.omf_module.specs.inside.Said.{start}
-use Rattle.omf_module.specs.Faults.{group_items}
+use Rattle.omf_module.specs.inside.Checking.{group_items}
 use Rattle.omf_module.specs.inside.Checking.{segment_fault}
 use Rattle.omf_module.specs.inside.Checking.{Tables, tables, begun, opening_fault}
 use Rattle.omf_module.specs.inside.Contents.{last_contents}

@@ -8,7 +8,7 @@ use Rattle.omf_record.specs.Records.{Placed}
 use Rattle.omf_module.specs.declared.Start.{Start}
 use Rattle.omf_module.specs.Module.{Segment, Group, ExternalSymbol, PublicSymbol, DataRecord}
 use Rattle.omf_module.specs.Before.{along, last}
-use Rattle.omf_module.specs.Tables.{names, segments_in, groups_in, externals_in, publics_in, stretches, subrecords}
+use Rattle.omf_module.specs.Tables.{names, segments_in, groups_in, externals_in, publics_in, data_of, subrecords}
 use Rattle.omf_module.specs.Tables.{fixups, data_record, start_in}
 
 -- the names that a record lists
@@ -18,11 +18,11 @@ names_in _ = []
 
 -- the segments that these records define, each with the names before it
 abbrev pub segments : List Placed → List Segment
-segments records = along (λ before (placed : Placed). segments_in (names before) placed.says) records
+segments records = along [] (λ before (placed : Placed). segments_in (names before) placed.says) records
 
 -- the parts of groups that these records define, each with the names before it
 abbrev pub groups : List Placed → List Group
-groups records = along (λ before (placed : Placed). groups_in (names before) placed.says) records
+groups records = along [] (λ before (placed : Placed). groups_in (names before) placed.says) records
 
 -- the externals that these records list
 abbrev pub externals : List Placed → List ExternalSymbol
@@ -34,9 +34,9 @@ publics records = flat_map (λ (placed : Placed). publics_in placed.says) record
 
 -- the data records of these records
 abbrev pub data_records : List Placed → List DataRecord
-data_records records = map (data_record (fixups records)) (enumerate_from 1 (stretches records))
+data_records records = map (data_record (fixups records)) (enumerate_from 1 (data_of records))
 
 -- the last start of these records
 abbrev pub start : List Placed → Option Start
 start records =
-    last (along (λ before (p : Placed). option_to_list (start_in (subrecords before) p.place p.says)) records)
+    last (along [] (λ before (p : Placed). option_to_list (start_in (subrecords before) p.place p.says)) records)
