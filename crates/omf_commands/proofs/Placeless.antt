@@ -25,7 +25,8 @@ use Rattle.omf_module.specs.inside.Said.{segments, groups, externals}
 use Rattle.omf_module.specs.inside.Said.{names_in}
 use Rattle.omf_module.specs.Tables.{externals_in, publics_in, data_of, data_in, subrecords}
 use Rattle.omf_module.specs.inside.Said.{publics}
-use Rattle.omf_module.specs.Tables.{subrecords_in, fixup_in, fixups_in, fixups, fixups_on}
+use Rattle.omf_module.specs.Tables.{fixup_in, fixups_in, fixups}
+use Rattle.omf_module.specs.inside.Said.{subrecords_in, fixups_on}
 use Rattle.omf_module.specs.inside.Checking.{fixup_of}
 use Rattle.omf_module.specs.inside.Said.{data_records}
 use Rattle.omf_module.specs.Tables.{start_in, frame_thread, target_thread, used}

@@ -32,9 +32,13 @@ use Rattle.omf_record.specs.Numbers.{segment_len}
 use Rattle.std.proofs.lemmas.Bool.{eqb-true, ltb-false}
 use Rattle.omf_module.specs.Before.{along, first, last}
 use Rattle.omf_module.specs.Bytes.{ModuleBytes}
-use Rattle.omf_module.specs.Faults.{fault, frame_fault, items, location_fault, misses}
+use Rattle.omf_module.specs.Faults.{fault, items, misses}
+use Rattle.omf_module.specs.inside.Checking.{location_fault}
+use Rattle.omf_module.specs.inside.Checking.{frame_fault}
 use Rattle.omf_module.specs.inside.Checking.{Tables, begun}
-use Rattle.omf_module.specs.Faults.{check_label, header_fault, target_fault, ◌⊓◌}
+use Rattle.omf_module.specs.Faults.{header_fault}
+use Rattle.omf_module.specs.Labels.{check_label}
+use Rattle.omf_module.specs.inside.Checking.{target_fault, ◌⊓◌}
 use Rattle.omf_module.specs.inside.Checking.{start_fault, tables, when}
 use Rattle.omf_module.specs.Module.{Group, Segment}
 use Rattle.omf_module.specs.Tables.{fixups, groups_in, name_at, names}
@@ -43,7 +47,8 @@ use Rattle.omf_module.specs.inside.Said.{names_in}
 use Rattle.omf_module.specs.inside.Said.{publics}
 use Rattle.omf_module.specs.Tables.{publics_in, segments_in, start_in, data_of, data_in}
 use Rattle.omf_module.specs.inside.Said.{segments, start}
-use Rattle.omf_module.specs.Tables.{externals_in, frame_thread, module_of, subrecords, subrecords_in}
+use Rattle.omf_module.specs.Tables.{externals_in, frame_thread, module_of, subrecords}
+use Rattle.omf_module.specs.inside.Said.{subrecords_in}
 use Rattle.omf_module.specs.Tables.{data_record, fixup_in, fixups_in, target_thread, used}
 use Rattle.omf_module.specs.inside.Checking.{start_of}
 use Rattle.omf_module.proofs.Lists.{along_from_append, along_push, flat_map_push}

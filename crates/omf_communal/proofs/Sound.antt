@@ -11,7 +11,8 @@ use Rattle.omf_record.specs.Records.{AreToEnd, Placed, is_end}
 use Rattle.omf_module.specs.declared.fault.CheckFault.TheVariants.{GroupIndex, NameIndex, SegmentIndex}
 use Rattle.omf_module.specs.Before.{entry, first}
 use Rattle.omf_module.specs.Bytes.{ModuleBytes}
-use Rattle.omf_module.specs.Faults.{component_fault, fault, is_absolute, is_beyond, ◌⊓◌}
+use Rattle.omf_module.specs.Faults.{component_fault, fault, is_absolute, is_beyond}
+use Rattle.omf_module.specs.inside.Checking.{◌⊓◌}
 use Rattle.omf_module.specs.inside.Checking.{when}
 use Rattle.omf_module.specs.Tables.{names}
 use Rattle.omf_module.specs.inside.Said.{groups, segments}

@@ -6,7 +6,7 @@ use Rattle.std.specs.Option.{option_map}
 use Rattle.std.specs.Borrow.{Bor}
 use Rattle.omf_record.specs.Labels.{no_record_label}
 use Rattle.omf_record.specs.declared.fault.NoRecord.TheVariants as absent
-use Rattle.omf_module.specs.Faults.{check_label}
+use Rattle.omf_module.specs.Labels.{check_label}
 use Rattle.omf_image.specs.Labels.{fix_label}
 use Rattle.omf_text.specs.Printing.{printed_name}
 use Rattle.omf_faults.specs.declared.fault.InputFault.{InputFault}

@@ -5,7 +5,8 @@ use Rattle.std.proofs.lemmas.List.{append_assoc, append-nil}
 use Rattle.std.proofs.lemmas.Bool.{cases_Bool, and_parts, and_from, leb-true, ltb-true, le-leb, lt-ltb, cond-true}
 use Rattle.std.proofs.lemmas.Bool.{cond-false}
 use Rattle.omf_image.specs.Words.{word_at, add_words}
-use Rattle.omf_image.specs.Located.{Datum, covers, byte_of, located}
+use Rattle.omf_image.specs.Located.{Datum, covers, located}
+use Rattle.omf_image.specs.inside.Whole.{byte_of}
 use Rattle.omf_image.specs.inside.Leading.{last_or}
 use Rattle.omf_image.proofs.Words.{length-add_word}
 use Rattle.omf_image.proofs.Moved.{MovedBy, word, AllApart, AllWordsInside, add_words-moves, moved_once}

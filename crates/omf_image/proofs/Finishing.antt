@@ -11,7 +11,8 @@ use Rattle.omf_place.specs.Layout.{Layout}
 use Rattle.omf_image.specs.declared.faults.FixFault.{FixFault}
 use Rattle.omf_image.specs.declared.faults.FixFault.TheVariants.{TooManyRelocations}
 use Rattle.omf_image.specs.Words.{add_words}
-use Rattle.omf_image.specs.Located.{covers, byte_of, in_page}
+use Rattle.omf_image.specs.Located.{covers, in_page}
+use Rattle.omf_image.specs.inside.Whole.{byte_of}
 use Rattle.omf_image.specs.inside.Leading.{last_or}
 use Rattle.omf_image.specs.Records.{datum, program_byte, entries, relocations, written, bytes_of, entry_start}
 use Rattle.omf_image.specs.inside.Leading.{relocated_words}

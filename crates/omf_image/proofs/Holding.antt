@@ -8,7 +8,8 @@ use Rattle.omf_image.specs.declared.patch.Patch.TheVariants.{Byte, Word, Relocat
 use Rattle.omf_image.specs.Words.{word_at, put_word, add_byte, add_word}
 use Rattle.omf_image.specs.Patch.{patched, patched_all}
 use Rattle.omf_image.specs.inside.Patches.{relocated_places, patch_end}
-use Rattle.omf_image.specs.Located.{Datum, covers, byte_of}
+use Rattle.omf_image.specs.Located.{Datum, covers}
+use Rattle.omf_image.specs.inside.Whole.{byte_of}
 use Rattle.omf_image.specs.inside.Pages.{IsLaid}
 use Rattle.omf_image.specs.inside.Marks.{IsMarked}
 use Rattle.omf_image.specs.inside.States.{State, at_start, begun, IsRoom, Holds}

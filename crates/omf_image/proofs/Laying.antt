@@ -8,7 +8,8 @@ use Rattle.std.proofs.lemmas.List.{get_or-set_same, get_or-set_other}
 use Rattle.std.proofs.lemmas.List.Elements.{All-get_or}
 use Rattle.std.proofs.lemmas.Bool.{cases_eq, cases_lt, cond-true, cond-false}
 use Rattle.std.proofs.lemmas.Bool.Decides.{nat_tests}
-use Rattle.omf_image.specs.Located.{Datum, covers, byte_of, in_page}
+use Rattle.omf_image.specs.Located.{Datum, covers, in_page}
+use Rattle.omf_image.specs.inside.Whole.{byte_of}
 use Rattle.omf_image.specs.inside.Pages.{page_bytes, joined, IsPage, IsPaged, IsLaid, MakesPages}
 use Rattle.omf_image.proofs.Carry.{covers-from}
 use Rattle.omf_image.proofs.Paging.{full, paged-set, page_bytes-present, length-joined, get_or-joined, get_or-lists}

@@ -15,7 +15,8 @@ use Rattle.omf_image.specs.declared.faults.FixFault.{FixFault}
 use Rattle.omf_image.specs.declared.faults.FixFault.TheVariants.{At, TooManyRelocations, Memory}
 use Rattle.omf_image.specs.declared.faults.FixKind.TheVariants.{CoversRelocated}
 use Rattle.omf_image.specs.inside.Patches.{relocated_places}
-use Rattle.omf_image.specs.Located.{Datum, covers, byte_of, in_page, covers_word}
+use Rattle.omf_image.specs.Located.{Datum, covers, in_page, covers_word}
+use Rattle.omf_image.specs.inside.Whole.{byte_of}
 use Rattle.omf_image.specs.inside.Leading.{last_or}
 use Rattle.omf_image.specs.Records.{Entry, entry_start, bytes_of, datum, patches, record_relocations}
 use Rattle.omf_image.specs.inside.WellPlaced.{WellPlaced}

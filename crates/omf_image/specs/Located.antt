@@ -12,13 +12,10 @@ pub record Datum : Type 0 where
 abbrev pub covers : (address : ℕ) → Datum → Bool
 covers address datum = nat_le datum.start address && nat_lt address (datum.start + length datum.bytes)
 
--- the byte that it has there
-abbrev pub byte_of : (address : ℕ) → Datum → ℕ
-byte_of address datum = get_or datum.bytes (address - datum.start) 0
-
 -- the byte at an address: that of the last datum that covers it, else 0
 abbrev pub located : List Datum → (address : ℕ) → ℕ
-located data' address = fold (λ earlier byte. byte) 0 (map (byte_of address) (filter (covers address) data'))
+located data' address =
+    fold (λ earlier byte. byte) 0 (map (λ d. get_or d.bytes (address - d.start) 0) (filter (covers address) data'))
 
 -- it covers a byte of one of the words
 abbrev pub covers_word : Datum → (words : List ℕ) → Bool

@@ -9,7 +9,9 @@ use Rattle.omf_record.specs.declared.fixups.TargetMethod.TheVariants as to
 use Rattle.omf_module.specs.Module.{ExternalSymbol, Module}
 use Rattle.omf_image.specs.declared.reference.Base.{Base as Frame}
 use Rattle.omf_image.specs.declared.reference.Base.TheVariants.{Relocatable as Moving, Absolute as Fixed}
-use Rattle.omf_place.specs.Layout.{Layout, group_frame, local_public, public, segment_position}
+use Rattle.omf_place.specs.Names.{means}
+use Rattle.omf_place.specs.declared.names.Names.TheVariants.{Exact}
+use Rattle.omf_place.specs.Layout.{Layout, group_frame, segment_position}
 use Rattle.omf_image.specs.declared.faults.FixKind.{FixKind}
 use Rattle.omf_image.specs.declared.faults.FixKind.TheVariants.{Unresolved, EmptyGroup}
 use Rattle.omf_place.specs.declared.layout.Position.{Position}
@@ -23,10 +25,6 @@ both (Ok a) (Err kind) = Err kind
 both (Err EmptyGroup) (Err kind) = Err kind
 both (Err kind) _ = Err kind
 
--- a group stands at 16 times its frame, which it has if it has members
-abbrev pub group_position : (frame : Option ℕ) → Result Position FixKind
-group_position frame = ok_or (option_map (λ f. Relocatable (16 * f) (Some f)) frame) EmptyGroup
-
 -- the frame of what stands somewhere, where that was found
 abbrev pub own_frame : Result Position FixKind → Result Frame FixKind
 own_frame (Ok (Relocatable address None)) = Err EmptyGroup
@@ -38,7 +36,8 @@ own_frame (Err kind) = Err kind
 -- another one the public of its name and never a local one.
 abbrev pub meant : Layout → (input : ℕ) → ExternalSymbol → Option Position
 meant layout input external =
-    if external.local then local_public layout input external.name else public layout external.name
+    if external.local then means (get_or layout.locals input (record { names = Exact; entries = [] })) external.name
+    else means layout.publics external.name
 
 -- where an external of a module stands, by its index, if it means a public
 abbrev pub external_at : Layout → (input : ℕ) → Module → (external : ℕ) → Result Position FixKind
@@ -46,10 +45,11 @@ external_at layout input module' external =
     let symbol = get_or module'.externals external (record { name = []; local = false }) in
     ok_or (meant layout input symbol) Unresolved
 
--- where a target stands, in the module of an input
+-- where a target stands, in the module of an input; a group at 16 times its frame, which it has if it has members
 abbrev pub target_of : Layout → (input : ℕ) → Module → TargetMethod → Result Position FixKind
 target_of layout input module' (to.Segment index) = Ok (segment_position layout input (index - 1))
-target_of layout input module' (to.Group index) = group_position (group_frame layout input (index - 1))
+target_of layout input module' (to.Group index) =
+    ok_or (option_map (λ f. Relocatable (16 * f) (Some f)) (group_frame layout input (index - 1))) EmptyGroup
 target_of layout input module' (to.External index) = external_at layout input module' (index - 1)
 
 -- the frame that a method names; here is the segment of the data record
@@ -69,8 +69,7 @@ abbrev pub frame' : Resolved → Frame
 frame' reference = used_frame reference.target reference.named_frame
 
 -- a reference with its frame and its target found
-abbrev pub resolved : Layout → (input : ℕ) → Module → (here : ℕ) → FrameMethod → TargetMethod → (displacement : ℕ)
-    → Result Resolved FixKind
+abbrev pub resolved : Layout → ℕ → Module → ℕ → FrameMethod → TargetMethod → ℕ → Result Resolved FixKind
 resolved layout input module' here frame target displacement =
     result_map_both (λ f. record { target = f.0; named_frame = f.1; displacement = displacement }) (λ kind. kind)
     (both (target_of layout input module' target) (frame_of layout input module' here target frame))

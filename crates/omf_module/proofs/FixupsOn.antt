@@ -9,7 +9,8 @@ use Rattle.omf_record.specs.Records.{Placed}
 use Rattle.omf_module.specs.declared.ResolvedFixup.{ResolvedFixup}
 use Rattle.omf_module.specs.Before.{along}
 use Rattle.omf_module.specs.Module.{DataRecord}
-use Rattle.omf_module.specs.Tables.{data_of, subrecords, fixups, fixups_in, fixups_on, data_record}
+use Rattle.omf_module.specs.Tables.{data_of, subrecords, fixups, fixups_in, data_record}
+use Rattle.omf_module.specs.inside.Said.{fixups_on}
 use Rattle.omf_module.specs.inside.Said.{data_records}
 use Rattle.omf_module.specs.inside.Running.{add_to_last}
 use Rattle.std.proofs.lemmas.List.Elements.{filter_map-append}

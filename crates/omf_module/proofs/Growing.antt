@@ -19,7 +19,8 @@ use Rattle.omf_module.specs.declared.ResolvedFixup.{ResolvedFixup}
 use Rattle.omf_module.specs.declared.Start.{Start}
 use Rattle.omf_module.specs.Tables.{contents_in, frame_thread, target_thread, segments_in, groups_in}
 use Rattle.omf_module.specs.inside.Said.{names_in}
-use Rattle.omf_module.specs.Tables.{externals_in, publics_in, subrecords_in, data_in}
+use Rattle.omf_module.specs.Tables.{externals_in, publics_in, data_in}
+use Rattle.omf_module.specs.inside.Said.{subrecords_in}
 use Rattle.omf_module.specs.inside.Checking.{frame_set, target_set, fixup_of, start_of}
 use Rattle.omf_module.specs.inside.Contents.{last_contents}
 use Rattle.omf_module.specs.Tables.{data_record, fixups_in, start_in, used}
@@ -27,6 +28,7 @@ use Rattle.omf_module.specs.Faults.{items}
 use Rattle.omf_module.specs.inside.Checking.{begun}
 use Rattle.omf_module.specs.inside.Running.{State, state_of, checked, step_record, thread_numbers, slot, later}
 use Rattle.omf_module.proofs.FixupsOn.{new_data}
+use Rattle.omf_module.proofs.InOrder.{start_in_order}
 use Rattle.omf_record.specs.declared.fixups.ThreadNumber.TheVariants.{Zero, One, Two, Three}
 use Rattle.omf_record.specs.declared.fixups.FrameMethod.{FrameMethod}
 use Rattle.omf_record.specs.declared.fixups.TargetMethod.{TargetMethod}
@@ -168,4 +170,5 @@ start_steps main r place body rs =
       used_slots
           (target_thread (subrecords rs)) r.target,
       start_of-is,
+      start_in_order,
     ) (simp (append-nil, last_option))

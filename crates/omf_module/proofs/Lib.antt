@@ -16,3 +16,4 @@ pub mod Fitting
 pub mod Promises
 pub mod Promised
 pub mod Only
+pub mod InOrder

@@ -7,6 +7,7 @@ use Rattle.std.specs.List.{AllByRecursion}
 use Rattle.std.specs.Option.{option_to_list}
 use Rattle.std.proofs.lemmas.List.{append-nil}
 use Rattle.std.proofs.lemmas.Bool.Decides.{nat_tests}
+use Rattle.std.specs.Option.{option_or}
 use Rattle.omf_record.specs.Record.{Record, Public, External as ExternalName, Theadr, Coment, Modend, Extdef, Pubdef}
 use Rattle.omf_record.specs.Record.{Linnum, Lnames, Segdef, Grpdef, Fixupp, Ledata, Lidata}
 use Rattle.omf_record.specs.Language.{each}
@@ -42,12 +43,16 @@ use Rattle.omf_module.specs.Before.{first, entry}
 use Rattle.omf_module.specs.Tables.{used, name_at, standing_of}
 use Rattle.omf_module.specs.inside.Checking.{fixup_of, start_of}
 use Rattle.omf_module.specs.inside.Entries.{segment_of, group_of, public_of, external_of}
-use Rattle.omf_module.specs.Faults.{check_label, ◌⊓◌, is_beyond, misses}
+use Rattle.omf_module.specs.Faults.{is_beyond, misses}
+use Rattle.omf_module.specs.Labels.{check_label}
+use Rattle.omf_module.specs.inside.Checking.{◌⊓◌}
 use Rattle.omf_module.specs.inside.Checking.{segment_fault}
 use Rattle.omf_module.specs.inside.Checking.{when}
 use Rattle.omf_module.specs.inside.Checking.{opening_fault}
-use Rattle.omf_module.specs.Faults.{is_absolute, component_fault, data_fault, public_fault, frame_fault, target_fault}
-use Rattle.omf_module.specs.Faults.{holds_base, place_fault, relative_fault, location_fault}
+use Rattle.omf_module.specs.Faults.{is_absolute, component_fault, data_fault, public_fault}
+use Rattle.omf_module.specs.inside.Checking.{frame_fault, target_fault}
+use Rattle.omf_module.specs.Faults.{holds_base, place_fault}
+use Rattle.omf_module.specs.inside.Checking.{relative_fault, location_fault}
 use Rattle.omf_module.specs.inside.Checking.{fixup_fault, start_fault}
 use Rattle.omf_module.specs.inside.Contents.{lies_in}
 use Rattle.omf_module.specs.inside.Running.{State, state_of, checked, slot, group_fault, add_to_last, add_data}
@@ -166,6 +171,10 @@ when_none false f e = refl
 one_of_two : (f g : CheckFault) (t : Bool) → cond t (Some f) (Some g) ≡ None → ⊥
 one_of_two f g true e = cc
 one_of_two f g false e = cc
+
+none_or : (a b : Option CheckFault) → option_or a b ≡ None → (a ≡ None) × (b ≡ None)
+none_or None b e = (refl, e)
+none_or (Some f) b e = cc
 
 none_both : (a b : Option CheckFault) → a ⊓ b ≡ None → (a ≡ None) × (b ≡ None)
 none_both None b e = (refl, e)
@@ -350,7 +359,7 @@ base_fits : (t : Module) (b : PublicBase) (text : List ℕ) → BaseText b text 
 base_fits t (public_base.AtFrame group frame) text b e = b.second.second.0
 base_fits t (public_base.InSegment group segment) text b e =
     let missing = when (misses t.segments segment) SegmentIndex in
-    let p = none_both missing (when (is_beyond t.groups group) GroupIndex) e in (
+    let p = none_or missing (when (is_beyond t.groups group) GroupIndex) e in (
       is_index t.segments segment (when_none (misses t.segments segment) SegmentIndex p.0),
       not_past t.groups group (when_none (is_beyond t.groups group) GroupIndex p.1),
     )
@@ -406,7 +415,7 @@ data_fits ss gs es place (suc i) offset n pairs len copies e = go (slice_get ss 
     go None k f = cc
     go (Some s) k f =
         let p =
-        none_both (when (nat_lt s.length (offset + n)) DataOutside) (when (is_absolute s.standing) DataInAbsolute) f in
+        none_or (when (nat_lt s.length (offset + n)) DataOutside) (when (is_absolute s.standing) DataInAbsolute) f in
         let here : suc i - 1 ≡ i = omega arith in
         let within = not_less s.length (offset + n) (when_none (nat_lt s.length (offset + n)) DataOutside p.0) in
         record {

@@ -25,6 +25,7 @@ use Rattle.omf_module.specs.inside.Running.{thread_numbers, add_to_last, ◌>>=�
 use Rattle.std.proofs.lemmas.List.Elements.{filter_map-append}
 use Rattle.omf_module.proofs.Lists.{along_push, last_append}
 use Rattle.omf_module.proofs.FixupsOn.{new_fixups}
+use Rattle.omf_module.proofs.InOrder.{fixup_in_order}
 use Rattle.omf_module.proofs.Growing.{Steps, state_push, used_slots, fixup_of-is}
 
 -- what is kept after these subrecords of a record that stands behind `rs`
@@ -96,6 +97,7 @@ one place rs done (sub.Fixup c) =
       used_slots
           (target_thread (subrecords rs ++ done)) c.reference.target,
       fixup_of-is,
+      fixup_in_order,
       ← data_more place rs done (sub.Fixup c),
     )
     (simp (filter_map-append, last_append))

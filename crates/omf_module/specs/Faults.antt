@@ -2,6 +2,8 @@
 use Rattle.std.specs.Prelude.{ℕ, ◌+◌, ◌==◌, Bool, true, false, not, ◌||◌, ◌&&◌, if◌then◌else◌, nat_le, nat_lt, List, []}
 use Rattle.std.specs.Prelude.{◌∷◌, ◌++◌, length, map, codes, Option, None, Some, option_map}
 use Rattle.std.specs.Bool.{then_some}
+use Rattle.std.specs.Option.{option_and_then, option_or, option_to_list}
+use Rattle.std.specs.Prelude.{is_none}
 use Rattle.std.specs.List.{filter_map, list_any}
 use Rattle.omf_record.specs.Record.{Record, Theadr, Modend, Pubdef, Segdef, Grpdef}
 use Rattle.omf_record.specs.Record.{Fixupp, Ledata, Lidata}
@@ -31,29 +33,6 @@ use Rattle.omf_module.specs.Before.{along, first, last, entry}
 use Rattle.omf_module.specs.Tables.{names, contents_in, subrecords, frame_thread, target_thread}
 use Rattle.omf_module.specs.Tables.{used, module_of}
 
--- the number and the name with which a fault is printed
-abbrev pub check_label : CheckFault → ℕ × List ℕ
-check_label NotHeader = (7, codes "NotHeader")
-check_label NameIndex = (10, codes "NameIndex")
-check_label SegmentIndex = (11, codes "SegmentIndex")
-check_label GroupIndex = (12, codes "GroupIndex")
-check_label ExternalIndex = (13, codes "ExternalIndex")
-check_label ThreadNotSet = (14, codes "ThreadNotSet")
-check_label FixupBeforeData = (15, codes "FixupBeforeData")
-check_label FixupPlace = (16, codes "FixupPlace")
-check_label DataOutside = (17, codes "DataOutside")
-check_label DataInAbsolute = (18, codes "DataInAbsolute")
-check_label SelfRelativeBase = (19, codes "SelfRelativeBase")
-check_label FrameOfLocation = (20, codes "FrameOfLocation")
-check_label GroupOfAbsolute = (21, codes "GroupOfAbsolute")
-
--- of two faults the one with the smaller number
-infixr 6 ◌⊓◌
-abbrev pub ◌⊓◌ : Option CheckFault → Option CheckFault → Option CheckFault
-None ⊓ other = other
-(Some one) ⊓ None = Some one
-(Some one) ⊓ (Some other) = if nat_le (check_label one).0 (check_label other).0 then Some one else Some other
-
 -- an index that may be 0 is refused where it is beyond the end of the list
 abbrev pub is_beyond : {A : Type 0} → List A → ℕ → Bool
 is_beyond list index = nat_lt (length list) index
@@ -76,27 +55,25 @@ component_fault (Some segment) = then_some (is_absolute segment.standing) GroupO
 abbrev pub data_fault : Option Segment → (offset length : ℕ) → Option CheckFault
 data_fault None offset length = Some SegmentIndex
 data_fault (Some segment) offset length =
-    then_some (nat_lt segment.length (offset + length)) DataOutside
-    ⊓ then_some (is_absolute segment.standing) DataInAbsolute
+    option_or (then_some (nat_lt segment.length (offset + length)) DataOutside)
+    (then_some (is_absolute segment.standing) DataInAbsolute)
 
 -- the group may be 0; the segment isn't, since the frame word stands in its place
 abbrev pub public_fault : Module → PublicBase → Option CheckFault
 public_fault said (AtFrame group frame) = then_some (is_beyond said.groups group) GroupIndex
 public_fault said (InSegment group segment) =
-    then_some (misses said.segments segment) SegmentIndex ⊓ then_some (is_beyond said.groups group) GroupIndex
+    option_or (then_some (misses said.segments segment) SegmentIndex)
+    (then_some (is_beyond said.groups group) GroupIndex)
 
--- a target in use; none: its thread isn't set
-abbrev pub target_fault : Module → Option TargetMethod → Option CheckFault
-target_fault said None = Some ThreadNotSet
-target_fault said (Some (to.Segment index)) = then_some (misses said.segments index) SegmentIndex
-target_fault said (Some (to.Group index)) = then_some (misses said.groups index) GroupIndex
-target_fault said (Some (to.External index)) = then_some (misses said.externals index) ExternalIndex
-
--- a frame in use, likewise
-abbrev pub frame_fault : Module → Option FrameMethod → Option CheckFault
-frame_fault said None = Some ThreadNotSet
-frame_fault said (Some (by.By method)) = target_fault said (Some method)
-frame_fault said (Some _) = None
+-- the faults of a frame and a target in use, in the order of their numbers; where one is absent, its thread isn't set
+abbrev pub reference_faults : Module → Option FrameMethod → Option TargetMethod → List (Option CheckFault)
+reference_faults said frame target =
+    let named = option_to_list (option_and_then (elim [ by.By method ↦ Some method | _ ↦ None ]) frame) in
+    let used = named ++ option_to_list target in
+    then_some (list_any (elim [ to.Segment index ↦ misses said.segments index | _ ↦ false ]) used) SegmentIndex
+    ∷ then_some (list_any (elim [ to.Group index ↦ misses said.groups index | _ ↦ false ]) used) GroupIndex
+    ∷ then_some (list_any (elim [ to.External index ↦ misses said.externals index | _ ↦ false ]) used) ExternalIndex
+    ∷ then_some (is_none frame || is_none target) ThreadNotSet ∷ []
 
 -- a base can't be relative to itself
 abbrev pub holds_base : Location → Bool
@@ -111,27 +88,20 @@ place_fault (Some contents) fixup =
     let end = fixup.offset + location_width fixup.location in
     then_some (not (list_any (λ c. nat_le c.0 fixup.offset && nat_le end (c.0 + c.1)) contents)) FixupPlace
 
--- a fix-up that is relative to its own location
-abbrev pub relative_fault : Fixup → Option CheckFault
-relative_fault fixup = if fixup.self_relative then then_some (holds_base fixup.location) SelfRelativeBase else None
-
--- a start has no location
-abbrev pub location_fault : Option FrameMethod → Option CheckFault
-location_fault (Some by.Location) = Some FrameOfLocation
-location_fault _ = None
-
 -- ---- the items of a record, in order, each with the smallest fault that stands there: the name and each component of
 -- GRPDEF, each subrecord of FIXUPP, and any other record as a whole
 
--- a subrecord, with those before it in all FIXUPP records: only a fix-up can be at fault
+-- a subrecord, with those before it in all FIXUPP records: only a fix-up can be at fault; a base
+-- isn't relative to itself
 abbrev pub subrecord_item : Module → Option (List (ℕ × ℕ)) → List Subrecord → Subrecord → Option CheckFault
 subrecord_item said contents before (sub.Fixup fixup) =
-    frame_fault said (used (frame_thread before) fixup.reference.frame)
-    ⊓ target_fault said (used (target_thread before) fixup.reference.target)
-    ⊓ place_fault contents fixup ⊓ relative_fault fixup
+    first (reference_faults said (used (frame_thread before) fixup.reference.frame)
+    (used (target_thread before) fixup.reference.target) ++ place_fault contents fixup
+    ∷ then_some (fixup.self_relative && holds_base fixup.location) SelfRelativeBase ∷ [])
 subrecord_item said contents before _ = None
 
--- the items of a record after these: a segment's name and class may be 0, a group's name and each component is an item
+-- the items of a record after these: a segment's name and class may be 0, a group's name and each component is an item;
+-- a start has no location
 abbrev pub items : List Placed → Record → List (Option CheckFault)
 items before (Segdef definition) =
     then_some (is_beyond (names before) definition.name || is_beyond (names before) definition.class) NameIndex ∷ []
@@ -149,7 +119,8 @@ items before (Fixupp subs) =
 items before (Modend main (Some reference)) =
     let frame = used (frame_thread (subrecords before)) reference.frame in
     let target = used (target_thread (subrecords before)) reference.target in
-    (frame_fault (module_of before) frame ⊓ target_fault (module_of before) target ⊓ location_fault frame) ∷ []
+    let location = elim frame [ Some by.Location ↦ Some FrameOfLocation | _ ↦ None ] in
+    first (reference_faults (module_of before) frame target ++ location ∷ []) ∷ []
 items before _ = []
 
 -- the first record has to be a header

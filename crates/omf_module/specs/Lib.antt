@@ -1,6 +1,7 @@
 pub mod Before
 pub mod Module
 pub mod Tables
+pub mod Labels
 pub mod Faults
 pub mod Seen
 pub mod Bytes

@@ -7,7 +7,8 @@ use Rattle.std.specs.List.{flat_map, filter_map, enumerate_from}
 use Rattle.omf_record.specs.Record.{Record, Modend, Extdef, Pubdef, Lnames, Segdef}
 use Rattle.omf_record.specs.Record.{Grpdef, Fixupp, Ledata, Lidata}
 use Rattle.omf_record.specs.Expansion.{expansion, contents}
-use Rattle.omf_record.specs.Numbers.{thread_number, segment_len}
+use Rattle.std.specs.Prelude.{slice_index}
+use Rattle.omf_record.specs.Numbers.{alignment_number, thread_number, segment_len}
 use Rattle.omf_record.specs.Records.{Placed}
 use Rattle.omf_record.specs.declared.segments.SegmentDefinition.{SegmentDefinition}
 use Rattle.omf_record.specs.declared.externals.PublicBase.{PublicBase}
@@ -52,14 +53,11 @@ kind_of combine.Stack = kinds.Stack
 kind_of combine.Common = kinds.Common
 kind_of _ = kinds.Public
 
--- where a segment stands
+-- where a segment stands: an absolute one, and by the field A at a byte, a word, a paragraph, a page, a double word
 abbrev pub standing_of : Alignment → Combination → Standing
 standing_of (align.Absolute frame offset) combination = Absolute frame offset
-standing_of align.Byte combination = Relocatable 1 (kind_of combination)
-standing_of align.Word combination = Relocatable 2 (kind_of combination)
-standing_of align.Paragraph combination = Relocatable 16 (kind_of combination)
-standing_of align.Page combination = Relocatable 256 (kind_of combination)
-standing_of align.DoubleWord combination = Relocatable 4 (kind_of combination)
+standing_of alignment combination =
+    Relocatable (slice_index (0 ∷ 1 ∷ 2 ∷ 16 ∷ 256 ∷ 4 ∷ []) (alignment_number alignment)) (kind_of combination)
 
 -- the segment that a record defines, with the names before it
 abbrev pub segments_in : List (List ℕ) → Record → List Segment
@@ -116,14 +114,9 @@ data_of records = flat_map (λ (placed : Placed). data_in placed.place placed.sa
 
 -- ---- 9CH FIXUPP: Fixup Record, its thread subrecords
 
--- the subrecords of a FIXUPP record
-abbrev pub subrecords_in : Record → List Subrecord
-subrecords_in (Fixupp subrecords) = subrecords
-subrecords_in _ = []
-
 -- all subrecords of all FIXUPP records
 abbrev pub subrecords : List Placed → List Subrecord
-subrecords records = flat_map (λ (placed : Placed). subrecords_in placed.says) records
+subrecords records = flat_map (λ (placed : Placed). elim placed.says [ Fixupp listed ↦ listed | _ ↦ [] ]) records
 
 -- the frame thread in force after these subrecords: what the last one that sets the thread of this number sets it to
 abbrev pub frame_thread : List Subrecord → ℕ → Option FrameMethod
@@ -163,21 +156,17 @@ fixup_in place before _ = None
 abbrev pub fixups_in : List Subrecord → Placed → List ResolvedFixup
 fixups_in before placed =
     along [] (λ earlier subrecord. option_to_list (fixup_in placed.place (before ++ earlier) subrecord))
-    (subrecords_in placed.says)
+    (subrecords (placed ∷ []))
 
 -- all fix-ups, each with how many data records stand before it: the last of these is the one that it is on
 abbrev pub fixups : List Placed → List (ℕ × ResolvedFixup)
 fixups records =
     along [] (λ before placed. map (λ x. (length (data_of before), x)) (fixups_in (subrecords before) placed)) records
 
--- those that are on the data record of this number, which counts from 1
-abbrev pub fixups_on : ℕ → List (ℕ × ResolvedFixup) → List ResolvedFixup
-fixups_on number fixups =
-    filter_map (λ (fixup : ℕ × ResolvedFixup). then_some (fixup.0 == number) fixup.1) fixups
-
 -- a data record, by its number, with the fix-ups on it
 abbrev pub data_record : List (ℕ × ResolvedFixup) → ℕ × DataRecord → DataRecord
-data_record fixups numbered = record numbered.1 { fixups = fixups_on numbered.0 fixups }
+data_record fixups numbered =
+    record numbered.1 { fixups = filter_map (λ (x : ℕ × ResolvedFixup). then_some (x.0 == numbered.0) x.1) fixups }
 
 -- the start of a MODEND record, with the subrecords before it
 abbrev pub start_in : List Subrecord → ℕ → Record → Option Start

@@ -196,7 +196,7 @@ fn start_of(
 
 /// The fault of a base that would be relative to itself.
 fn relative_fault(fixup: &Fixup) -> Option<CheckFault>
-    ensures { result ≡ faults.relative_fault fixup.now }
+    ensures { result ≡ checking.relative_fault fixup.now }
 {
     if fixup.self_relative {
         when(holds_base(fixup.location), CheckFault::SelfRelativeBase)
@@ -207,7 +207,7 @@ fn relative_fault(fixup: &Fixup) -> Option<CheckFault>
 
 /// The fault of a start with the frame of its location, which it hasn't.
 fn location_fault(frame: Option<FrameMethod>) -> Option<CheckFault>
-    ensures { result ≡ faults.location_fault frame }
+    ensures { result ≡ checking.location_fault frame }
 {
     match frame {
         Some(FrameMethod::Location) => Some(CheckFault::FrameOfLocation),
@@ -269,7 +269,7 @@ impl<A: Allocator + Copy> Builder<A> {
 
     /// The fault of a frame by its method; none: its thread isn't set.
     fn frame_fault(&self, frame: Option<FrameMethod>) -> Option<CheckFault>
-        ensures { result ≡ faults.frame_fault (module_in (state self.now)) frame }
+        ensures { result ≡ checking.frame_fault (module_in (state self.now)) frame }
     {
         match frame {
             None => Some(CheckFault::ThreadNotSet),
@@ -280,7 +280,7 @@ impl<A: Allocator + Copy> Builder<A> {
 
     /// The fault of a target by its method; none: its thread isn't set.
     fn target_fault(&self, target: Option<TargetMethod>) -> Option<CheckFault>
-        ensures { result ≡ faults.target_fault (module_in (state self.now)) target }
+        ensures { result ≡ checking.target_fault (module_in (state self.now)) target }
     {
         let Some(method) = target else {
             return Some(CheckFault::ThreadNotSet);
@@ -417,13 +417,11 @@ impl<A: Allocator + Copy> Builder<A> {
             PublicBase::AtFrame { group, .. } => {
                 when(is_beyond(groups, group), CheckFault::GroupIndex)
             }
-            PublicBase::InSegment { group, segment } => smaller(
-                when(
-                    misses(self.store.segment_count(), segment),
-                    CheckFault::SegmentIndex,
-                ),
-                when(is_beyond(groups, group), CheckFault::GroupIndex),
-            ),
+            PublicBase::InSegment { group, segment } => {
+                let segments = self.store.segment_count();
+                when(misses(segments, segment), CheckFault::SegmentIndex)
+                    .or(when(is_beyond(groups, group), CheckFault::GroupIndex))
+            }
         }
     }
 

@@ -4,7 +4,7 @@ ghost use Rattle.std.specs.Option.{option_copied};
 ghost use Rattle.omf_module.specs.Before.{entry};
 ghost use Rattle.omf_module.specs.Faults as faults;
 ghost use Rattle.omf_module.specs.inside.Checking as checking;
-ghost use Rattle.omf_module.specs.Faults.{◌⊓◌};
+ghost use Rattle.omf_module.specs.inside.Checking.{◌⊓◌};
 
 use crate::Standing;
 use crate::fault::CheckFault;

@@ -1,6 +1,6 @@
 //! Why bytes are no object module.
 ghost use Rattle.std.specs.Prelude.{◌≡◌};
-ghost use Rattle.omf_module.specs.Faults.{check_label};
+ghost use Rattle.omf_module.specs.Labels.{check_label};
 
 use omf_record::NoRecord;
 use std::alloc::AllocError;

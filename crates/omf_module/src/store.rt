@@ -29,7 +29,7 @@ ghost use Rattle.omf_module.specs.Seen.{segment_seen, group_seen, external_seen,
 ghost use Rattle.omf_module.specs.inside.Running.{add_to_last};
 
 use crate::ResolvedFixup;
-use crate::checks::{entry, is_absolute, smaller, when};
+use crate::checks::{entry, is_absolute, when};
 use crate::entries::{
     DataEntry, ExternalEntry, GroupEntry, PublicEntry, SegmentEntry, fix_last, group_entry,
     last_places, segment_entry,
@@ -401,13 +401,11 @@ impl<A: Allocator + Copy> Store<A> {
     {
         match entry(&self.segments, index) {
             None => Some(CheckFault::SegmentIndex),
-            Some(segment) => smaller(
-                when(
-                    is_above(segment.length, offset, count),
-                    CheckFault::DataOutside,
-                ),
-                when(is_absolute(segment.standing), CheckFault::DataInAbsolute),
-            ),
+            Some(segment) => {
+                let outside = is_above(segment.length, offset, count);
+                let absolute = is_absolute(segment.standing);
+                when(outside, CheckFault::DataOutside).or(when(absolute, CheckFault::DataInAbsolute))
+            }
         }
     }
 }

@@ -19,7 +19,7 @@ use Rattle.omf_place.specs.inside.Program.{IsPlacedInput, RowIs, input_view}
 use Rattle.omf_place.specs.Parts.{Site}
 use Rattle.omf_place.specs.inside.Groups.{GroupReach, widened, no_stand, reach_in, join, reach_of_span, reached}
 use Rattle.omf_place.specs.inside.Stands.{stand_of}
-use Rattle.omf_place.specs.Tables.{Grpdef, Span, grpdefs_of, span, widen, segment_start, segment_end}
+use Rattle.omf_place.specs.Tables.{Grpdef, grpdefs_of, span, widen, segment_start, segment_end}
 use Rattle.omf_place.specs.inside.Steps.{components}
 use Rattle.omf_place.proofs.KeyPlaces.{map_congr, map_two}
 use Rattle.omf_place.proofs.Walks.{All-map}
@@ -32,13 +32,13 @@ abbrev reach_at : ℕ → ℕ → Reach
 reach_at f e = record { frame = f; end = e }
 
 -- the spans of two lists, together
-abbrev pub together : Option Span → Option Span → Option Span
+abbrev pub together : Option (ℕ × ℕ) → Option (ℕ × ℕ) → Option (ℕ × ℕ)
 together None t = t
 together (Some s) None = Some s
-together (Some s) (Some t) = Some (record { start = min s.start t.start; end = max s.end t.end })
+together (Some s) (Some t) = Some (min s.0 t.0, max s.1 t.1)
 
-abbrev span_at : ℕ → ℕ → Span
-span_at s e = record { start = s; end = e }
+abbrev span_at : ℕ → ℕ → ℕ × ℕ
+span_at s e = (s, e)
 
 spans_eq : (a b c d : ℕ) → a ≡ c → b ≡ d → Some (span_at a b) ≡ Some (span_at c d)
 spans_eq a b c d p q = cc
@@ -46,31 +46,31 @@ spans_eq a b c d p q = cc
 reaches_eq : (a b c d : ℕ) → a ≡ c → b ≡ d → Some (reach_at a b) ≡ Some (reach_at c d)
 reaches_eq a b c d p q = cc
 
-together-widen : (s t : Option Span) (a b : ℕ) → widen (together s t) a b ≡ together s (widen t a b)
+together-widen : (s t : Option (ℕ × ℕ)) (a b : ℕ) → widen (together s t) a b ≡ together s (widen t a b)
 together-widen None t a b = refl
 together-widen (Some s) None a b = refl
 together-widen (Some s) (Some t) a b = spans_eq _ _ _ _ (omega arith) (omega arith)
 
-together-none : (s : Option Span) → together s None ≡ s
+together-none : (s : Option (ℕ × ℕ)) → together s None ≡ s
 together-none None = refl
 together-none (Some s) = refl
 
-pub join_reaches : (s t : Option Span)
+pub join_reaches : (s t : Option (ℕ × ℕ))
     → join (option_map reach_of_span s) (option_map reach_of_span t) ≡ option_map reach_of_span (together s t)
 join_reaches None t = refl
 join_reaches (Some s) None = refl
-join_reaches (Some s) (Some t) = reaches_eq _ _ _ _ (sym (min_div s.start t.start)) refl
+join_reaches (Some s) (Some t) = reaches_eq _ _ _ _ (sym (min_div s.0 t.0)) refl
 
-widen_reach : (s : Option Span) (t : Stand) (start end : ℕ) → t.frame ≡ start / 16 → t.end ≡ end
+widen_reach : (s : Option (ℕ × ℕ)) (t : Stand) (start end : ℕ) → t.frame ≡ start / 16 → t.end ≡ end
     → Some (widened (option_map reach_of_span s) t) ≡ option_map reach_of_span (widen s start end)
 widen_reach None t start end f e = reaches_eq _ _ _ _ f e
-widen_reach (Some s) t start end f e = reaches_eq _ _ _ _ (omega (arith, f, min_div s.start start)) (omega (arith, e))
+widen_reach (Some s) t start end f e = reaches_eq _ _ _ _ (omega (arith, f, min_div s.0 start)) (omega (arith, e))
 
 module _ (ss : List Site) (A : List ℕ) where
-  abbrev step : Option Span → Site → Option Span
+  abbrev step : Option (ℕ × ℕ) → Site → Option (ℕ × ℕ)
   step s a = widen s (segment_start ss A a) (segment_end ss A a)
 
-  fold-together : (s t : Option Span) (xs : List Site) → together s (fold step t xs) ≡ fold step (together s t) xs
+  fold-together : (s t : Option (ℕ × ℕ)) (xs : List Site) → together s (fold step t xs) ≡ fold step (together s t) xs
   fold-together s t [] = refl
   fold-together s t (x ∷ xs) =
       fold-together s (step t x) xs
@@ -99,7 +99,7 @@ module _ (ss : List Site) (A : List ℕ) where
 
   reach_span : (n : Input) → RowIs n → (stands : List Stand) → stands ≡ map (stand_of ss A) n.sites →
       (members : List ℕ) → AllByRecursion (IsMember n.says.segments n.says.groups n.says.externals) members →
-      (s : Option Span) →
+      (s : Option (ℕ × ℕ)) →
       fold (λ r k. Some (widened r (get_or stands k no_stand))) (option_map reach_of_span s) members
       ≡ option_map reach_of_span (fold step s (components n.sites members))
   reach_span n row stands own [] all s = refl

@@ -34,7 +34,7 @@ duplicate_in names publics = option_map (λ p. DuplicatePublic p.1.name)
 module _ (program : List Module) (addresses : List ℕ) where
   -- a group, by its name, ends more than 65,536 above its frame
   abbrev pub is_long_group : List ℕ → Bool
-  is_long_group name = option_map_or (λ s. is_too_long (s.start / 16) s.end) (group_span program addresses name) false
+  is_long_group name = option_map_or (λ s. is_too_long (s.0 / 16) s.1) (group_span program addresses name) false
 
   -- fault 24: the first group that is too long: the GRPDEFs stand in order, so the first that names it is its first
   abbrev pub group_fault : Option PlacementFault

@@ -69,29 +69,24 @@ grpdefs_of n =
 abbrev pub grpdefs : List Module → List Grpdef
 grpdefs program = flat_map grpdefs_of (inputs program)
 
--- the least start and the greatest end of some combined segments
-pub record Span : Type 0 where
-  pub start : ℕ
-  pub end : ℕ
+-- the least start and the greatest end of some combined segments, with one more
+abbrev pub widen : Option (ℕ × ℕ) → (start end : ℕ) → Option (ℕ × ℕ)
+widen None start end = Some (start, end)
+widen (Some s) start end = Some (min s.0 start, max s.1 end)
 
--- a span, with a combined segment more
-abbrev pub widen : Option Span → (start end : ℕ) → Option Span
-widen None start end = Some (record { start = start; end = end })
-widen (Some s) start end = Some (record { start = min s.start start; end = max s.end end })
-
--- the span of the combined segments of some parts, where there are any
-abbrev pub span : List Site → (addresses : List ℕ) → List Site → Option Span
+-- the least start and the greatest end of the combined segments of some parts, where there are any
+abbrev pub span : List Site → (addresses : List ℕ) → List Site → Option (ℕ × ℕ)
 span ss addresses parts = fold (λ s a. widen s (segment_start ss addresses a) (segment_end ss addresses a)) None parts
 
 module _ (program : List Module) (addresses : List ℕ) where
   -- All GRPDEFs of one name are one group.
-  abbrev pub group_span : List ℕ → Option Span
+  abbrev pub group_span : List ℕ → Option (ℕ × ℕ)
   group_span name = span (sites program) addresses
       (flat_map (λ g. g.sites) (filter (λ g. bytes_eq name g.name) (grpdefs program)))
 
   -- the paragraph of a group's start, where it has members
   abbrev pub group_frame : List ℕ → Option ℕ
-  group_frame name = option_map (λ s. s.start / 16) (group_span name)
+  group_frame name = option_map (λ s. s.0 / 16) (group_span name)
 
   -- whether a GRPDEF is the first of its name
   abbrev pub is_first_grpdef : Grpdef → Bool

@@ -3,7 +3,8 @@ use Rattle.std.specs.Prelude.{◌≡◌, ℕ, ◌≤◌, ◌==◌, ◌||◌, Boo
 use Rattle.std.specs.List.{list_any}
 use Rattle.omf_module.specs.Module.{Module}
 use Rattle.omf_place.specs.Layout.{Layout}
-use Rattle.omf_image.specs.Located.{covers, byte_of, in_page}
+use Rattle.omf_image.specs.Located.{covers, in_page}
+use Rattle.omf_image.specs.inside.Whole.{byte_of}
 use Rattle.omf_image.specs.Records.{Entry, entries, datum, program_byte, record_relocations}
 use Rattle.omf_image.specs.inside.Whole.{page_covered}
 use Rattle.omf_image.specs.Faults.{records_fault}

@@ -1,7 +1,8 @@
 -- An image in pages of 4,096 bytes. A page that was not made is empty, and reads as zeros.
 use Rattle.std.specs.Prelude.{◌≡◌, ℕ, ◌*◌, ◌≤◌, ◌⊎◌, ◌==◌, ◌||◌, false, get_or, cond, not, Bool, List, map, flat_map}
 use Rattle.std.specs.Prelude.{take, replicate, length, All}
-use Rattle.omf_image.specs.Located.{Datum, covers, byte_of, in_page}
+use Rattle.omf_image.specs.Located.{Datum, covers, in_page}
+use Rattle.omf_image.specs.inside.Whole.{byte_of}
 
 -- its bytes, and which pages were made
 pub record Paged : Type 0 where

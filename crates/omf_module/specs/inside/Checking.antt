@@ -18,10 +18,11 @@ use Rattle.omf_module.specs.declared.fault.CheckFault.TheVariants.{NotHeader, Na
 use Rattle.omf_module.specs.declared.ResolvedFixup.{ResolvedFixup}
 use Rattle.omf_module.specs.declared.Start.{Start}
 use Rattle.omf_module.specs.Module.{Segment, Group, ExternalSymbol, Module}
+use Rattle.omf_module.specs.Labels.{check_label}
 use Rattle.omf_module.specs.Before.{entry}
 use Rattle.omf_module.specs.Tables.{names}
 use Rattle.omf_module.specs.inside.Said.{segments, groups, externals}
-use Rattle.omf_module.specs.Faults.{component_fault, is_beyond, misses, ◌⊓◌, frame_fault, target_fault, place_fault, relative_fault, location_fault}
+use Rattle.omf_module.specs.Faults.{component_fault, is_beyond, misses, place_fault, holds_base}
 
 -- the tables as they stand before a record
 pub record Tables : Type 0 where
@@ -68,6 +69,35 @@ frame_set number _ = None
 abbrev pub target_set : ℕ → Subrecord → Option TargetMethod
 target_set number (sub.SetTarget thread method) = then_some (thread_number thread == number) method
 target_set number _ = None
+
+-- of two faults the one with the smaller number
+infixr 6 ◌⊓◌
+abbrev pub ◌⊓◌ : Option CheckFault → Option CheckFault → Option CheckFault
+None ⊓ other = other
+(Some one) ⊓ None = Some one
+(Some one) ⊓ (Some other) = if nat_le (check_label one).0 (check_label other).0 then Some one else Some other
+
+-- a target in use; none: its thread isn't set
+abbrev pub target_fault : Module → Option TargetMethod → Option CheckFault
+target_fault said None = Some ThreadNotSet
+target_fault said (Some (to.Segment index)) = then_some (misses said.segments index) SegmentIndex
+target_fault said (Some (to.Group index)) = then_some (misses said.groups index) GroupIndex
+target_fault said (Some (to.External index)) = then_some (misses said.externals index) ExternalIndex
+
+-- a frame in use, likewise
+abbrev pub frame_fault : Module → Option FrameMethod → Option CheckFault
+frame_fault said None = Some ThreadNotSet
+frame_fault said (Some (by.By method)) = target_fault said (Some method)
+frame_fault said (Some _) = None
+
+-- a fix-up that is relative to its own location
+abbrev pub relative_fault : Fixup → Option CheckFault
+relative_fault fixup = if fixup.self_relative then then_some (holds_base fixup.location) SelfRelativeBase else None
+
+-- a start has no location
+abbrev pub location_fault : Option FrameMethod → Option CheckFault
+location_fault (Some by.Location) = Some FrameOfLocation
+location_fault _ = None
 
 -- a fix-up by the methods that it uses: the smallest of its faults
 abbrev pub fixup_fault : Module → Option FrameMethod → Option TargetMethod → Option (List (ℕ × ℕ)) → Fixup

@@ -1,9 +1,12 @@
 -- What a module says, table by table.
-use Rattle.std.specs.Prelude.{ℕ, List, [], map, flat_map}
+use Rattle.std.specs.Prelude.{ℕ, ◌==◌, List, [], map, flat_map, filter_map}
 use Rattle.std.specs.List.{enumerate_from}
 use Rattle.std.specs.Option.{option_to_list}
 use Rattle.std.specs.declared.option.Option.{Option}
-use Rattle.omf_record.specs.Record.{Record, Lnames}
+use Rattle.omf_record.specs.Record.{Record, Lnames, Fixupp}
+use Rattle.omf_record.specs.declared.fixups.Subrecord.{Subrecord}
+use Rattle.omf_module.specs.declared.ResolvedFixup.{ResolvedFixup}
+use Rattle.std.specs.Bool.{then_some}
 use Rattle.omf_record.specs.Records.{Placed}
 use Rattle.omf_module.specs.declared.Start.{Start}
 use Rattle.omf_module.specs.Module.{Segment, Group, ExternalSymbol, PublicSymbol, DataRecord}
@@ -40,3 +43,13 @@ data_records records = map (data_record (fixups records)) (enumerate_from 1 (dat
 abbrev pub start : List Placed → Option Start
 start records =
     last (along [] (λ before (p : Placed). option_to_list (start_in (subrecords before) p.place p.says)) records)
+
+-- those that are on the data record of this number, which counts from 1
+abbrev pub fixups_on : ℕ → List (ℕ × ResolvedFixup) → List ResolvedFixup
+fixups_on number fixups =
+    filter_map (λ (fixup : ℕ × ResolvedFixup). then_some (fixup.0 == number) fixup.1) fixups
+
+-- the subrecords of a FIXUPP record
+abbrev pub subrecords_in : Record → List Subrecord
+subrecords_in (Fixupp subrecords) = subrecords
+subrecords_in _ = []

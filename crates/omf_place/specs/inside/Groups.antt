@@ -8,7 +8,7 @@ use Rattle.omf_place.specs.declared.groups.Grpdef as held
 use Rattle.omf_place.specs.declared.groups.Reach.{Reach}
 use Rattle.omf_place.specs.declared.stands.Stand.{Stand}
 use Rattle.omf_place.specs.Parts.{Site, sites}
-use Rattle.omf_place.specs.Tables.{Grpdef, Span, grpdefs, span}
+use Rattle.omf_place.specs.Tables.{Grpdef, grpdefs, span}
 use Rattle.omf_place.specs.inside.Named.{value_of}
 use Rattle.omf_module.specs.Module.{Module}
 
@@ -32,8 +32,8 @@ join (Some r) None = Some r
 join (Some r) (Some s) = Some (record { frame = min r.frame s.frame; end = max r.end s.end })
 
 -- a span in narrow numbers: its frame and its end
-abbrev pub reach_of_span : Span → Reach
-reach_of_span s = record { frame = s.start / 16; end = s.end }
+abbrev pub reach_of_span : ℕ × ℕ → Reach
+reach_of_span s = record { frame = s.0 / 16; end = s.1 }
 
 -- a GRPDEF with what its components reach
 pub record GroupReach : Type 0 where
