@@ -23,7 +23,7 @@ use Rattle.omf_module.specs.Tables.{externals_in, publics_in, data_in}
 use Rattle.omf_module.specs.inside.Said.{subrecords_in}
 use Rattle.omf_module.specs.inside.Checking.{frame_set, target_set, fixup_of, start_of}
 use Rattle.omf_module.specs.inside.Contents.{last_contents}
-use Rattle.omf_module.specs.Tables.{data_record, fixups_in, start_in, used}
+use Rattle.omf_module.specs.Tables.{data_record, fixups_in, start_in, used, module_of}
 use Rattle.omf_module.specs.Faults.{items}
 use Rattle.omf_module.specs.inside.Checking.{begun}
 use Rattle.omf_module.specs.inside.Running.{State, state_of, checked, step_record, thread_numbers, slot, later}
@@ -170,5 +170,6 @@ start_steps main r place body rs =
       used_slots
           (target_thread (subrecords rs)) r.target,
       start_of-is,
-      start_in_order,
+      start_in_order (module_of rs) (used (frame_thread (subrecords rs)) r.frame)
+          (used (target_thread (subrecords rs)) r.target),
     ) (simp (append-nil, last_option))

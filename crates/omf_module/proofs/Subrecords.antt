@@ -15,7 +15,7 @@ use Rattle.omf_module.specs.declared.fault.CheckFault.{CheckFault}
 use Rattle.omf_module.specs.declared.ResolvedFixup.{ResolvedFixup}
 use Rattle.omf_module.specs.Before.{along, first}
 use Rattle.omf_module.specs.Tables.{module_of, data_of, subrecords, fixups, frame_thread, target_thread}
-use Rattle.omf_module.specs.Tables.{data_record, fixup_in}
+use Rattle.omf_module.specs.Tables.{data_record, fixup_in, used}
 use Rattle.omf_record.specs.Numbers.{thread_number}
 use Rattle.omf_record.specs.Records.{Placed}
 use Rattle.omf_module.specs.Faults.{subrecord_item}
@@ -97,7 +97,8 @@ one place rs done (sub.Fixup c) =
       used_slots
           (target_thread (subrecords rs ++ done)) c.reference.target,
       fixup_of-is,
-      fixup_in_order,
+      fixup_in_order (module_of rs) (used (frame_thread (subrecords rs ++ done)) c.reference.frame)
+          (used (target_thread (subrecords rs ++ done)) c.reference.target) (last_contents rs) c,
       ← data_more place rs done (sub.Fixup c),
     )
     (simp (filter_map-append, last_append))

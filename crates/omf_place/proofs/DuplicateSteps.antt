@@ -53,7 +53,8 @@ module _ {V : Type 0} (names : Names) where
       ((b && agrees names x.name e.name) || list_any (λ y. clashes names y x) es)
       ≡ is_some (value_where (agrees names x.name) (pairs (cond b (e ∷ owned_by x.owner es) (owned_by x.owner es))))) [
         | true ↦ (elim (agrees names x.name e.name) as (λ b. (b || list_any (λ y. clashes names y x) es)
-            ≡ is_some (cond b (Some e.value) (value_where (agrees names x.name) (pairs (owned_by x.owner es))))) [
+            ≡ is_some (option_map (λ (p : List ℕ × V). p.1) (cond b (Some (e.name, e.value))
+            (find (λ p. agrees names x.name p.0) (pairs (owned_by x.owner es)))))) [
               | true ↦ refl
               | false ↦ any-means x es
             ])

@@ -41,7 +41,7 @@ abbrev span_at : ℕ → ℕ → ℕ × ℕ
 span_at s e = (s, e)
 
 spans_eq : (a b c d : ℕ) → a ≡ c → b ≡ d → Some (span_at a b) ≡ Some (span_at c d)
-spans_eq a b c d p q = cc
+spans_eq a b c d p q = rw (p, q)
 
 reaches_eq : (a b c d : ℕ) → a ≡ c → b ≡ d → Some (reach_at a b) ≡ Some (reach_at c d)
 reaches_eq a b c d p q = cc

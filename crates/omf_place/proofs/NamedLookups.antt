@@ -1,6 +1,7 @@
 -- Look-ups in a map, as look-ups in its entries by name.
 use Rattle.std.proofs.Common.{◌≡◌, ℕ, Bool, true, false, cond, not, List, [], ◌∷◌, ◌++◌, Option, Some, None, Vec, map}
-use Rattle.std.proofs.Common.{is_some, subst, refl, ap, sym, ◌∙◌}
+use Rattle.std.proofs.Common.{is_some, find, subst, refl, ap, sym, ◌∙◌}
+use Rattle.std.specs.Option.{option_map}
 use Rattle.indexmap.specs.IndexMap.{insert_entry}
 use Rattle.std.specs.Map.{lookup}
 use Rattle.omf_place.specs.inside.Named.{value_where}
@@ -12,6 +13,11 @@ none_from : {A : Type 0} (o : Option A) → is_some o ≡ false → o ≡ None
 none_from None e = refl
 none_from (Some x) e = cc
 
+value_of_cond : {N V : Type 0} (b : Bool) (e : N × V) (o : Option (N × V))
+    → cond b (Some e.1) (option_map (λ p. p.1) o) ≡ option_map (λ p. p.1) (cond b (Some e) o)
+value_of_cond true e o = refl
+value_of_cond false e o = refl
+
 -- keys that have names
 module _ {K V : Type 0} (f : K → List ℕ) where
   abbrev pub named : List (K × V) → List (List ℕ × V)
@@ -20,14 +26,18 @@ module _ {K V : Type 0} (f : K → List ℕ) where
   pub lookup-named : (test : List ℕ → Bool) (es : List (K × V))
       → lookup (λ k. test (f k)) es ≡ value_where test (named es)
   lookup-named test [] = refl
-  lookup-named test (e ∷ es) = ap (λ o. cond (test (f e.0)) (Some e.1) o) (lookup-named test es)
+  lookup-named test (e ∷ es) =
+      ap (λ o. cond (test (f e.0)) (Some e.1) o) (lookup-named test es)
+      ∙ value_of_cond (test (f e.0)) (f e.0, e.1) (find (λ n. test n.0) (named es))
 
   module _ (same : List ℕ → List ℕ → Bool) where
     named-insert : (key : K) (v : V) (es : List (K × V)) → value_where (same (f key)) (named es) ≡ None →
         named (insert_entry (λ a b. same (f a) (f b)) es key v) ≡ named es ++ (f key, v) ∷ []
     named-insert key v [] h = refl
     named-insert key v (e ∷ es) h =
-        (elim (same (f key) (f e.0)) as (λ b. cond b (Some e.1) (value_where (same (f key)) (named es)) ≡ None →
+        (elim (same (f key) (f e.0)) as (λ b.
+        option_map (λ (n : List ℕ × V). n.1)
+        (cond b (Some (f e.0, e.1)) (find (λ n. same (f key) n.0) (named es))) ≡ None →
         named (cond b ((e.0, v) ∷ es) (e ∷ insert_entry (λ a c. same (f a) (f c)) es key v))
         ≡ (f e.0, e.1) ∷ (named es ++ (f key, v) ∷ []))
         [ true ↦ λ g. cc | false ↦ λ g. ap (λ xs. (f e.0, e.1) ∷ xs) (named-insert key v es g) ]) h

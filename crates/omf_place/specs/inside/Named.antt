@@ -1,5 +1,5 @@
 -- The values of a table by their names.
-use Rattle.std.specs.Prelude.{ℕ, Bool, List, [], ◌∷◌, map, Option, Some, None, if◌then◌else◌}
+use Rattle.std.specs.Prelude.{ℕ, Bool, List, map, find, Option, option_map}
 use Rattle.std.specs.Char.{to_ascii_lowercase}
 use Rattle.std.specs.Borrow.{Bor}
 use Rattle.std.specs.Str.{bytes_eq}
@@ -10,8 +10,7 @@ folded name = map to_ascii_lowercase name
 
 -- the value of the first entry whose name passes a test
 abbrev pub value_where : {V : Type 0} → (List ℕ → Bool) → List (List ℕ × V) → Option V
-value_where test [] = None
-value_where test (e ∷ es) = if test e.0 then Some e.1 else value_where test es
+value_where test es = option_map (λ e. e.1) (find (λ e. test e.0) es)
 
 -- the value at a name
 abbrev pub value_of : {V : Type 0} → List (List ℕ × V) → List ℕ → Option V
