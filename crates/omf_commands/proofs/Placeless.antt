@@ -19,21 +19,15 @@ use Rattle.omf_module.specs.declared.ResolvedFixup.{ResolvedFixup}
 use Rattle.omf_module.specs.declared.Start.{Start}
 use Rattle.omf_module.specs.Module.{DataRecord, Module}
 use Rattle.omf_module.specs.Before.{along, last}
+use Rattle.omf_module.specs.Tables.{names, segments_in, groups_in, externals_in, publics_in, data_of, data_in}
+use Rattle.omf_module.specs.Tables.{subrecords}
+use Rattle.omf_module.specs.Tables.{fixup_in, fixups_in, fixups, start_in, frame_thread, target_thread, used, module_of}
+use Rattle.omf_module.specs.inside.Said.{names_in, segments, groups, externals, publics, subrecords_in, fixups_on}
+use Rattle.omf_module.specs.inside.Said.{data_records, start}
+use Rattle.omf_module.specs.inside.Checking.{fixup_of, start_of}
 use Rattle.omf_module.specs.inside.Running.{later}
-use Rattle.omf_module.specs.Tables.{DataRecord, names, segments_in, groups_in}
-use Rattle.omf_module.specs.inside.Said.{segments, groups, externals}
-use Rattle.omf_module.specs.inside.Said.{names_in}
-use Rattle.omf_module.specs.Tables.{externals_in, publics_in, data_of, data_in, subrecords}
-use Rattle.omf_module.specs.inside.Said.{publics}
-use Rattle.omf_module.specs.Tables.{fixup_in, fixups_in, fixups}
-use Rattle.omf_module.specs.inside.Said.{subrecords_in, fixups_on}
-use Rattle.omf_module.specs.inside.Checking.{fixup_of}
-use Rattle.omf_module.specs.inside.Said.{data_records}
-use Rattle.omf_module.specs.Tables.{start_in, frame_thread, target_thread, used}
-use Rattle.omf_module.specs.inside.Checking.{start_of}
-use Rattle.omf_module.specs.inside.Said.{start}
-use Rattle.omf_module.specs.Tables.{module_of}
 use Rattle.omf_module.proofs.Lists.{last_append}
+use Rattle.omf_module.proofs.Growing.{fixup_of-is, start_of-is}
 
 -- ---- without places
 
@@ -52,9 +46,6 @@ unplaced_said rs others same =
 
 abbrev pub placeless_fixup : ResolvedFixup → ResolvedFixup
 placeless_fixup x = record x { place = 0 }
-
-abbrev pub placeless_stretch : DataRecord → DataRecord
-placeless_stretch d = record d { place = 0 }
 
 abbrev pub placeless_data : DataRecord → DataRecord
 placeless_data d = record d { place = 0; fixups = map placeless_fixup d.fixups }
@@ -138,16 +129,16 @@ publics_same rs = flat_map-map (λ (r : Placed). publics_in r.says) unplaced rs
 pub subrecords_same : (rs : List Placed) → subrecords (map unplaced rs) ≡ subrecords rs
 subrecords_same rs = flat_map-map (λ (r : Placed). subrecords_in r.says) unplaced rs
 
-stretch_same : (place : ℕ) (r : Record) → data_in 0 r ≡ map placeless_stretch (data_in place r)
-stretch_same place (Ledata segment offset bytes) = refl
-stretch_same place (Lidata segment offset blocks) = refl
-stretch_same place _ = refl
+data_in_same : (place : ℕ) (r : Record) → data_in 0 r ≡ map placeless_data (data_in place r)
+data_in_same place (Ledata segment offset bytes) = refl
+data_in_same place (Lidata segment offset blocks) = refl
+data_in_same place _ = refl
 
-pub stretches_same : (rs : List Placed) → data_of (map unplaced rs) ≡ map placeless_stretch (data_of rs)
-stretches_same rs =
+data_of_same : (rs : List Placed) → data_of (map unplaced rs) ≡ map placeless_data (data_of rs)
+data_of_same rs =
     flat_map-map (λ (r : Placed). data_in r.place r.says) unplaced rs
-    ∙ (ap (λ f. flat_map f rs) (fun_ext (λ (r : Placed). stretch_same r.place r.says))
-    ∙ map_flat placeless_stretch (λ (r : Placed). data_in r.place r.says) rs)
+    ∙ (ap (λ f. flat_map f rs) (fun_ext (λ (r : Placed). data_in_same r.place r.says))
+    ∙ map_flat placeless_data (λ (r : Placed). data_in r.place r.says) rs)
 
 -- ---- fix-ups and data
 
@@ -160,18 +151,20 @@ fixup_of_same place x None target = refl
 fixup_same : (place : ℕ) (before : List Subrecord) (x : Subrecord)
     → option_to_list (fixup_in 0 before x) ≡ map placeless_fixup (option_to_list (fixup_in place before x))
 fixup_same place before (sub.Fixup x) =
-    fixup_of_same place x (used (frame_thread before) x.reference.frame)
-    (used (target_thread before) x.reference.target)
+    let f = used (frame_thread before) x.reference.frame in
+    let t = used (target_thread before) x.reference.target in
+    ap option_to_list (sym (fixup_of-is 0 x f t))
+    ∙ (fixup_of_same place x f t ∙ ap (λ o. map placeless_fixup (option_to_list o)) (fixup_of-is place x f t))
 fixup_same place before (sub.SetFrame t method) = refl
 fixup_same place before (sub.SetTarget t method) = refl
 
 fixups_in_same : (before : List Subrecord) (r : Placed)
     → fixups_in before (unplaced r) ≡ map placeless_fixup (fixups_in before r)
 fixups_in_same before r =
-    ap (λ f. along [] f (subrecords_in r.says))
+    ap (λ f. along [] f (subrecords (r ∷ [])))
     (fun_ext (λ earlier. fun_ext (λ x. fixup_same r.place (before ++ earlier) x)))
     ∙ map_along placeless_fixup (λ earlier x. option_to_list (fixup_in r.place (before ++ earlier) x)) []
-    (subrecords_in r.says)
+    (subrecords (r ∷ []))
 
 abbrev placeless_numbered : ℕ × ResolvedFixup → ℕ × ResolvedFixup
 placeless_numbered x = (x.0, placeless_fixup x.1)
@@ -182,7 +175,7 @@ numbered_fixups before r = map (λ x. (length (data_of before), x)) (fixups_in (
 numbered_same : (before : List Placed) (r : Placed)
     → numbered_fixups (map unplaced before) (unplaced r) ≡ map placeless_numbered (numbered_fixups before r)
 numbered_same before r =
-    rw (stretches_same before, length-map, subrecords_same before, fixups_in_same (subrecords before) r) (simp map-map)
+    rw (data_of_same before, length-map, subrecords_same before, fixups_in_same (subrecords before) r) (simp map-map)
 
 fixups_same : (rs : List Placed) → fixups (map unplaced rs) ≡ map placeless_numbered (fixups rs)
 fixups_same rs =
@@ -201,7 +194,7 @@ fixups_on_same n (x ∷ xs) =
 
 data_records_same : (rs : List Placed) → data_records (map unplaced rs) ≡ map placeless_data (data_records rs)
 data_records_same rs =
-    rw (fixups_same rs, stretches_same rs, map_enumerate placeless_stretch 1 (data_of rs))
+    rw (fixups_same rs, data_of_same rs, map_enumerate placeless_data 1 (data_of rs))
     (simp (map-map, fixups_on_same))
 
 -- ---- the start
@@ -215,7 +208,10 @@ start_of_same place r None target = refl
 start_in_same : (before : List Subrecord) (place : ℕ) (r : Record)
     → option_to_list (start_in before 0 r) ≡ map placeless_start (option_to_list (start_in before place r))
 start_in_same before place (Modend main (Some r)) =
-    start_of_same place r (used (frame_thread before) r.frame) (used (target_thread before) r.target)
+    let f = used (frame_thread before) r.frame in
+    let t = used (target_thread before) r.target in
+    ap option_to_list (sym (start_of-is 0 r f t))
+    ∙ (start_of_same place r f t ∙ ap (λ o. map placeless_start (option_to_list o)) (start_of-is place r f t))
 start_in_same before place _ = refl
 
 abbrev starts_in : List Placed → Placed → List Start

@@ -1,55 +1,48 @@
 -- What the checks refuse doesn't hang on where the records stand.
-use Rattle.std.proofs.Common.{◌≡◌, ℕ, true, List, [], ◌∷◌, ◌++◌, map, length, Option, None, Some, is_some, option_map}
+use Rattle.std.proofs.Common.{◌≡◌, ℕ, List, [], ◌∷◌, ◌++◌, map, length, Option, None, Some, is_some, option_map}
 use Rattle.std.proofs.Common.{refl, sym, ap, ap₂, ◌∙◌}
+use Rattle.std.specs.List.{filter_map, cons_option}
 use Rattle.omf_record.specs.Record.{Record, Modend, Pubdef, Segdef, Grpdef, Fixupp, Ledata, Lidata}
 use Rattle.omf_record.specs.Records.{Placed}
 use Rattle.omf_module.specs.declared.fault.CheckFault.{CheckFault}
 use Rattle.omf_module.specs.Before.{along, first, last, entry}
-use Rattle.omf_module.specs.Tables.{DataRecord, data_of, subrecords, frame_thread, target_thread, used}
-use Rattle.omf_module.specs.Faults.{group_items, data_fault, public_fault}
-use Rattle.omf_module.specs.inside.Checking.{segment_fault}
-use Rattle.omf_module.specs.inside.Checking.{tables, start_fault}
-use Rattle.omf_module.specs.Faults.{subrecord_item, items, header_fault, fault, first_fault}
+use Rattle.omf_module.specs.Tables.{contents_in, subrecords, module_of}
+use Rattle.omf_module.specs.Faults.{data_fault, public_fault, subrecord_item, items, fault, first_fault}
+use Rattle.omf_module.specs.inside.Checking.{segment_fault, group_items}
 use Rattle.omf_module.specs.inside.Contents.{last_contents}
-use Rattle.omf_commands.proofs.Placeless.{unplaced, unplaced_said, placeless_stretch, along_same, map_along, map_last}
-use Rattle.omf_commands.proofs.Placeless.{is_some_map, none_of, names_same, segments_same, groups_same, externals_same}
-use Rattle.omf_commands.proofs.Placeless.{subrecords_same, stretches_same}
-
-tables_same : (before : List Placed) → tables (map unplaced before) ≡ tables before
-tables_same before = rw (names_same before, segments_same before, groups_same before, externals_same before)
+use Rattle.omf_commands.proofs.Placeless.{unplaced, unplaced_said, along_same, map_along, is_some_map, none_of}
+use Rattle.omf_commands.proofs.Placeless.{names_same, segments_same, groups_same, externals_same, subrecords_same}
+use Rattle.omf_commands.proofs.Placeless.{module_of_unplaced}
 
 contents_same : (before : List Placed) → last_contents (map unplaced before) ≡ last_contents before
-contents_same before =
-    ap (λ ds. option_map (λ (d : DataRecord). d.contents) (last ds)) (stretches_same before)
-    ∙ (ap (option_map (λ (d : DataRecord). d.contents)) (map_last placeless_stretch (data_of before))
-    ∙ of_stretch (last (data_of before)))
+contents_same before = ap last (each before)
   where
-    of_stretch : (o : Option DataRecord)
-        → option_map (λ (d : DataRecord). d.contents) (option_map placeless_stretch o)
-        ≡ option_map (λ (d : DataRecord). d.contents) o
-    of_stretch None = refl
-    of_stretch (Some d) = refl
+    each : (rs : List Placed) → filter_map (λ (r : Placed). contents_in r.says) (map unplaced rs)
+        ≡ filter_map (λ (r : Placed). contents_in r.says) rs
+    each [] = refl
+    each (r ∷ rs) = ap (cons_option (contents_in r.says)) (each rs)
 
 items_same : (before : List Placed) (r : Record) → items (map unplaced before) r ≡ items before r
-items_same before (Segdef d) = ap (λ t. segment_fault t d ∷ []) (tables_same before)
-items_same before (Grpdef name components) = ap (λ t. group_items t name components) (tables_same before)
-items_same before (Pubdef local base listed) = ap (λ t. public_fault t base ∷ []) (tables_same before)
+items_same before (Segdef d) = ap (λ ns. segment_fault ns d ∷ []) (names_same before)
+items_same before (Grpdef name components) =
+    ap₂ (λ ns ss. group_items ns ss name components) (names_same before) (segments_same before)
+items_same before (Pubdef local base listed) = ap (λ m. public_fault m base ∷ []) (module_of_unplaced before)
 items_same before (Ledata segment offset bytes) =
     ap (λ ss. data_fault (entry ss segment) offset (length bytes) ∷ []) (segments_same before)
 items_same before (Lidata segment offset blocks) = rw (segments_same before)
 items_same before (Fixupp subs) =
-    ap₂ (λ t c. along [] (λ earlier x. subrecord_item t c (subrecords (map unplaced before) ++ earlier) x ∷ []) subs)
-    (tables_same before) (contents_same before)
-    ∙ ap (λ s. along [] (λ earlier x. subrecord_item (tables before) (last_contents before) (s ++ earlier) x ∷ []) subs)
+    ap₂ (λ m c. along [] (λ earlier x. subrecord_item m c (subrecords (map unplaced before) ++ earlier) x ∷ []) subs)
+    (module_of_unplaced before) (contents_same before)
+    ∙ ap
+    (λ s. along [] (λ earlier x. subrecord_item (module_of before) (last_contents before) (s ++ earlier) x ∷ []) subs)
     (subrecords_same before)
 items_same before (Modend main (Some r)) =
-    ap₂ (λ t s. start_fault t (used (frame_thread s) r.frame) (used (target_thread s) r.target) ∷ [])
-    (tables_same before) (subrecords_same before)
+    rw (segments_same before, groups_same before, externals_same before, subrecords_same before)
 items_same before _ = refl
 
 fault_same : (before : List Placed) (r : Record) → fault (map unplaced before) r ≡ fault before r
 fault_same [] r = refl
-fault_same (b ∷ before) r = ap (λ xs. first (header_fault true r ∷ xs)) (items_same (b ∷ before) r)
+fault_same (b ∷ before) r = ap first (items_same (b ∷ before) r)
 
 -- the fault of a record with its place, and without
 abbrev fault_in : List Placed → Placed → List (Option (ℕ × CheckFault))

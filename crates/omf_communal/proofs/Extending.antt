@@ -33,24 +33,16 @@ use Rattle.std.proofs.lemmas.Bool.{eqb-true, ltb-false}
 use Rattle.omf_module.specs.Before.{along, first, last}
 use Rattle.omf_module.specs.Bytes.{ModuleBytes}
 use Rattle.omf_module.specs.Faults.{fault, items, misses}
-use Rattle.omf_module.specs.inside.Checking.{location_fault}
-use Rattle.omf_module.specs.inside.Checking.{frame_fault}
-use Rattle.omf_module.specs.inside.Checking.{Tables, begun}
-use Rattle.omf_module.specs.Faults.{header_fault}
 use Rattle.omf_module.specs.Labels.{check_label}
-use Rattle.omf_module.specs.inside.Checking.{target_fault, ◌⊓◌}
-use Rattle.omf_module.specs.inside.Checking.{start_fault, tables, when}
-use Rattle.omf_module.specs.Module.{Group, Segment}
-use Rattle.omf_module.specs.Tables.{fixups, groups_in, name_at, names}
-use Rattle.omf_module.specs.inside.Said.{data_records, externals, groups}
-use Rattle.omf_module.specs.inside.Said.{names_in}
-use Rattle.omf_module.specs.inside.Said.{publics}
-use Rattle.omf_module.specs.Tables.{publics_in, segments_in, start_in, data_of, data_in}
-use Rattle.omf_module.specs.inside.Said.{segments, start}
-use Rattle.omf_module.specs.Tables.{externals_in, frame_thread, module_of, subrecords}
+use Rattle.omf_module.specs.Module.{Group, Module, Segment}
+use Rattle.omf_module.specs.Tables.{data_record, data_in, data_of, externals_in, fixup_in, fixups, fixups_in, groups_in}
+use Rattle.omf_module.specs.Tables.{frame_thread, module_of, name_at, names, publics_in, segments_in, start_in}
+use Rattle.omf_module.specs.Tables.{subrecords, target_thread, used}
+use Rattle.omf_module.specs.inside.Checking.{begun, frame_fault, location_fault, start_fault, start_of, target_fault}
+use Rattle.omf_module.specs.inside.Checking.{when, ◌⊓◌}
+use Rattle.omf_module.specs.inside.Said.{data_records, externals, groups, names_in, publics, segments, start}
 use Rattle.omf_module.specs.inside.Said.{subrecords_in}
-use Rattle.omf_module.specs.Tables.{data_record, fixup_in, fixups_in, target_thread, used}
-use Rattle.omf_module.specs.inside.Checking.{start_of}
+use Rattle.omf_module.proofs.InOrder.{start_in_order}
 use Rattle.omf_module.proofs.Lists.{along_from_append, along_push, flat_map_push}
 use Rattle.omf_module.proofs.Growing.{last_option}
 use Rattle.omf_write.specs.Records.{record_bytes, records_bytes}
@@ -538,14 +530,14 @@ when-false true c h = absurd (cc)
 when-false false c h = refl
 
 -- longer tables, of as many externals
-record Longer (one other : Tables) : Type 0 where
+record Longer (one other : Module) : Type 0 where
   more_segments : List Segment
   more_groups : List Group
   segments : other.segments ≡ one.segments ++ more_segments
   groups : other.groups ≡ one.groups ++ more_groups
   externals : other.externals ≡ one.externals
 
-target-kept : (one other : Tables) (m : Option TargetMethod) → Longer one other → target_fault one m ≡ None
+target-kept : (one other : Module) (m : Option TargetMethod) → Longer one other → target_fault one m ≡ None
     → target_fault other m ≡ None
 target-kept one other None l h = h
 target-kept one other (Some (to.Segment i)) l h =
@@ -556,7 +548,7 @@ target-kept one other (Some (to.Group i)) l h =
     ∙ ap (λ t. when t GroupIndex) (misses-more one.groups l.more_groups i (when-false _ GroupIndex h))
 target-kept one other (Some (to.External i)) l h = ap (λ ss. when (misses ss i) ExternalIndex) l.externals ∙ h
 
-frame-kept : (one other : Tables) (m : Option FrameMethod) → Longer one other → frame_fault one m ≡ None
+frame-kept : (one other : Module) (m : Option FrameMethod) → Longer one other → frame_fault one m ≡ None
     → frame_fault other m ≡ None
 frame-kept one other None l h = h
 frame-kept one other (Some (by.By m)) l h = target-kept one other (Some m) l h
@@ -576,9 +568,15 @@ first-one : (o : Option CheckFault) → first (o ∷ []) ≡ None → o ≡ None
 first-one None h = refl
 first-one (Some x) h = absurd (cc)
 
+-- what no check refuses has no item at fault
+items-clean : (before : List Placed) (r : Record) → begun before ≡ true → fault before r ≡ None
+    → first (items before r) ≡ None
+items-clean [] r b f = cc
+items-clean (x ∷ before) r b f = f
+
 -- the end is clean behind longer tables too
 end-kept : (before after : List Placed) (says : Record) → is_end says ≡ true → begun before ≡ true →
-    begun after ≡ true → subrecords after ≡ subrecords before → Longer (tables before) (tables after) →
+    begun after ≡ true → subrecords after ≡ subrecords before → Longer (module_of before) (module_of after) →
     fault before says ≡ None → fault after says ≡ None
 end-kept before after says e b c same longer h =
     let m = is_modend says e in
@@ -587,21 +585,25 @@ end-kept before after says e b c same longer h =
     by : (main : Bool) (s : Option Reference) → fault before (Modend main s) ≡ None → fault after (Modend main s) ≡ None
     by main None f = clean_by after (Modend main None) c refl
     by main (Some r) f =
-        let parts =
-        first-one _
-        (sym (ap (λ t. first (header_fault t (Modend main (Some r)) ∷ items before (Modend main (Some r)))) b) ∙ f) in
         let frames = λ (rs : List Placed). used (frame_thread (subrecords rs)) r.frame in
         let targets = λ (rs : List Placed). used (target_thread (subrecords rs)) r.target in
-        let one = least-none (frame_fault (tables before) (frames before)) _ parts in
-        let two = least-none (target_fault (tables before) (targets before)) (location_fault (frames before)) one.1 in
+        let parts : start_fault (module_of before) (frames before) (targets before) ≡ None =
+        start_in_order (module_of before) (frames before) (targets before)
+        ∙ first-one _ (items-clean before (Modend main (Some r)) b f) in
+        let one = least-none (frame_fault (module_of before) (frames before)) _ parts in
+        let two =
+        least-none (target_fault (module_of before) (targets before)) (location_fault (frames before)) one.1 in
         let same-frames : frames after ≡ frames before = ap (λ s. used (frame_thread s) r.frame) same in
         let same-targets : targets after ≡ targets before = ap (λ s. used (target_thread s) r.target) same in
         clean_by after (Modend main (Some r)) c
-        (ap₂ (λ x y. first (start_fault (tables after) x y ∷ [])) same-frames same-targets
-        ∙ ap (λ x. first ((x ⊓ (target_fault (tables after) (targets before) ⊓ location_fault (frames before))) ∷ []))
-        (frame-kept (tables before) (tables after) (frames before) longer one.0)
+        (ap (λ (o : Option CheckFault). first (o ∷ []))
+        (sym (start_in_order (module_of after) (frames after) (targets after)))
+        ∙ ap₂ (λ x y. first (start_fault (module_of after) x y ∷ [])) same-frames same-targets
+        ∙ ap
+        (λ x. first ((x ⊓ (target_fault (module_of after) (targets before) ⊓ location_fault (frames before))) ∷ []))
+        (frame-kept (module_of before) (module_of after) (frames before) longer one.0)
         ∙ ap (λ x. first ((x ⊓ location_fault (frames before)) ∷ []))
-        (target-kept (tables before) (tables after) (targets before) longer two.0)
+        (target-kept (module_of before) (module_of after) (targets before) longer two.0)
         ∙ ap (λ x. first (x ∷ [])) two.1)
 
 -- what it defines: nothing
@@ -632,7 +634,8 @@ fixups_by front placed = map (λ x. (length (data_of front), x)) (fixups_in (sub
 no-fixups : (front : List Placed) (x : Placed) → subrecords_in x.says ≡ [] → fixups_by front x ≡ []
 no-fixups front x h =
     ap (λ ss. map (λ y. (length (data_of front), y))
-    (along [] (λ earlier subrecord. option_to_list (fixup_in x.place (subrecords front ++ earlier) subrecord)) ss)) h
+    (along [] (λ earlier subrecord. option_to_list (fixup_in x.place (subrecords front ++ earlier) subrecord))
+    (ss ++ []))) h
 
 our-fixups : (before : List Placed) (at : ℕ) (rs : List Record) → AllByRecursion IsOurs rs
     → along before fixups_by (place_all at rs) ≡ []
@@ -806,7 +809,7 @@ module _ (in_bss : Bool) (b : Before) (p : Plan) (init : List Placed) (at : ℕ)
       All-append (λ (r : Placed). is_end r.says ≡ false) init more none-ends
       (before-end at added (open_all true in_bss b p))
 
-  longer : Longer (tables init) (tables front)
+  longer : Longer (module_of init) (module_of front)
   longer = record {
     more_segments = near_segments in_bss p.near ++ map far_segment p.far;
     more_groups = near_groups b p.near;

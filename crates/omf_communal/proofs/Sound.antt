@@ -7,12 +7,12 @@ use Rattle.std.proofs.lemmas.Bool.{ne_eqb}
 use Rattle.omf_frame.specs.Frame.{place_limit}
 use Rattle.omf_record.specs.Record.{Record, Theadr, Modend, Segdef, Grpdef}
 use Rattle.omf_record.specs.Canonical.{FitsFrame, canonical}
+use Rattle.std.specs.Option.{option_or}
 use Rattle.omf_record.specs.Records.{AreToEnd, Placed, is_end}
 use Rattle.omf_module.specs.declared.fault.CheckFault.TheVariants.{GroupIndex, NameIndex, SegmentIndex}
 use Rattle.omf_module.specs.Before.{entry, first}
 use Rattle.omf_module.specs.Bytes.{ModuleBytes}
 use Rattle.omf_module.specs.Faults.{component_fault, fault, is_absolute, is_beyond}
-use Rattle.omf_module.specs.inside.Checking.{◌⊓◌}
 use Rattle.omf_module.specs.inside.Checking.{when}
 use Rattle.omf_module.specs.Tables.{names}
 use Rattle.omf_module.specs.inside.Said.{groups, segments}
@@ -163,7 +163,7 @@ place_ok : (local : Bool) (n s g : ℕ) (p : Place) (before : List Placed) → R
     → fault before (place_record local p) ≡ None
 place_ok local n s g p before r f =
     clean_by before (place_record local p) r.is_begun
-    (ap (λ t. first ((when t SegmentIndex ⊓ when (is_beyond (groups before) p.group) GroupIndex) ∷ []))
+    (ap (λ t. first (option_or (when t SegmentIndex) (when (is_beyond (groups before) p.group) GroupIndex) ∷ []))
     (both_false _ _ (not_none p.segment f.positive)
     (not_below (length (segments before)) p.segment (omega (arith, r.segment_count, f.segment))))
     ∙ ap (λ t. first (when t GroupIndex ∷ []))

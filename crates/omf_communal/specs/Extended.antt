@@ -15,7 +15,6 @@ use Rattle.omf_module.specs.declared.Start.{Start}
 use Rattle.omf_module.specs.Bytes.{ModuleBytes}
 use Rattle.omf_module.specs.Module.{Group, Module, PublicSymbol, Segment}
 use Rattle.omf_module.specs.Tables.{module_of, names}
-use Rattle.omf_module.specs.inside.Said.{groups, segments}
 use Rattle.omf_communal.specs.declared.places.Before.{Before}
 use Rattle.omf_communal.specs.Deciding.{Variable}
 use Rattle.omf_communal.specs.Locals.{local_module}
@@ -25,7 +24,11 @@ use Rattle.omf_communal.specs.Whole.{IsNamed}
 
 -- what stands in a module of these records
 abbrev pub counted : List Placed → Before
-counted rs = record { names = length (names rs); segments = length (segments rs); groups = length (groups rs) }
+counted rs = record {
+  names = length (names rs);
+  segments = length (module_of rs).segments;
+  groups = length (module_of rs).groups;
+}
 
 -- the segments of a plan: the near one, public and at an even address, and the far ones, private and at a paragraph
 abbrev pub near_segments : (in_bss : Bool) → Option ℕ → List Segment

@@ -38,8 +38,11 @@ use Rattle.omf_image.specs.Building.{Answers}
 use Rattle.omf_image.proofs.Records.{hits_room}
 use Rattle.omf_image.proofs.Members.{In, in_index}
 
-pub first_four : (m o t c : Bool) → first (then_some m Mixed ∷ then_some o OutOfFrame ∷ then_some t ShortTooFar ∷ []) ≡ None → c ≡ true
-    → first (then_some m Mixed ∷ then_some o OutOfFrame ∷ then_some t ShortTooFar ∷ then_some (not c) OverlapRelocated ∷ []) ≡ None
+pub first_four : (m o t c : Bool)
+    → first (then_some m Mixed ∷ then_some o OutOfFrame ∷ then_some t ShortTooFar ∷ []) ≡ None → c ≡ true
+    → first
+    (then_some m Mixed ∷ then_some o OutOfFrame ∷ then_some t ShortTooFar ∷ then_some (not c) OverlapRelocated ∷ [])
+    ≡ None
 first_four true o t c h k = cc
 first_four false true t c h k = cc
 first_four false false true c h k = cc

@@ -5,7 +5,9 @@ use Rattle.std.proofs.Common.{ap, ◌∙◌, sym, subst}
 use Rattle.std.proofs.lemmas.List.{append_assoc, append-nil, map-append, length-map}
 use Rattle.std.proofs.lemmas.List.Elements.{recursion_from_All}
 use Rattle.std.proofs.lemmas.Bool.{or_parts, and_parts}
+use Rattle.std.specs.Bool.{then_some}
 use Rattle.std.specs.List.{list_all, AllByRecursion}
+use Rattle.omf_module.specs.Before.{first}
 use Rattle.omf_module.specs.declared.ResolvedFixup.{ResolvedFixup}
 use Rattle.omf_module.specs.Module.{DataRecord, Module}
 use Rattle.omf_record.specs.declared.fixups.Location.{Location}
@@ -26,6 +28,7 @@ use Rattle.omf_image.specs.inside.Lookups.{patches_of}
 use Rattle.omf_image.specs.inside.Leading.{relocated_words}
 use Rattle.omf_image.specs.inside.WellPlaced.{LiesInContent, WellPlaced, AllWellPlaced}
 use Rattle.omf_image.specs.declared.faults.FixKind.{FixKind}
+use Rattle.omf_image.specs.declared.faults.FixKind.TheVariants.{Mixed, OutOfFrame, ShortTooFar, OverlapRelocated}
 use Rattle.omf_image.specs.declared.faults.FixFault.{FixFault}
 use Rattle.omf_image.specs.Faults.{is_mixed, out_of_frame, too_far, first_test, resolved_fault, fixup_fault}
 use Rattle.omf_image.specs.Faults.{fixups_fault, record_fault, records_fault}
@@ -43,6 +46,15 @@ use Rattle.omf_image.proofs.Members.{In}
 none_cond : {A : Type 0} (b : Bool) (a : A) (o : Option A) → cond b (Some a) o ≡ None → (b ≡ false) × (o ≡ None)
 none_cond true a o h = cc
 none_cond false a o h = (refl, h)
+
+none_of_four : (m o t c : Bool)
+    → first (then_some m Mixed ∷ then_some o OutOfFrame ∷ then_some t ShortTooFar ∷ then_some c OverlapRelocated ∷ [])
+    ≡ None → (m ≡ false) × (c ≡ false)
+none_of_four true o t c h = cc
+none_of_four false true t c h = cc
+none_of_four false false true c h = cc
+none_of_four false false false true h = cc
+none_of_four false false false false h = (refl, refl)
 
 not-false : (b : Bool) → not b ≡ false → b ≡ true
 not-false true h = refl
@@ -104,20 +116,19 @@ sound P layout e earlier x (Err k) lies h = cc
 sound P layout e earlier x (Ok r) lies h =
     let is = hits x.offset (stored_of e.data_record) in
     let start = entry_start layout e in
-    let one = none_cond (is_mixed x.self_relative x.location r) _ _ h in
-    let two = none_cond (out_of_frame x.self_relative x.location r is start) _ _ one.1 in
-    let three = none_cond (too_far x.self_relative x.location r is start) _ _ two.1 in
     let mine : List Patch = patches_on 0 r x.self_relative x.location start is in
-    let four = none_cond (not (all_clear earlier mine)) _ _ three.1 in
+    let none =
+    none_of_four (is_mixed x.self_relative x.location r) (out_of_frame x.self_relative x.location r is start)
+    (too_far x.self_relative x.location r is start) (not (all_clear earlier mine)) h in
     record {
-      stays = stay_list P r x start is one.0;
+      stays = stay_list P r x start is none.0;
       itself =
           hits_clear r x.self_relative x.location start (length (stored_of e.data_record)) is
           (hits_spaced e.data_record x lies) (hits_room e.data_record x lies);
       inside =
           hits_within r x.self_relative x.location start 0 (length (stored_of e.data_record)) is
           (λ i k. (omega arith, hits_room e.data_record x lies i k));
-      others = not-false (all_clear earlier mine) four.0;
+      others = not-false (all_clear earlier mine) none.1;
     }
 
 -- ---- one data record

@@ -100,8 +100,8 @@ frame_in_order : (said : Module) (f : Option FrameMethod) (t : Option TargetMeth
 frame_in_order said None t rest late =
     with_thread (no_segment said t) (no_group said t) (no_external said t) (is_none t) rest late
 frame_in_order said (Some (by.By (to.Segment index))) t rest late =
-    with_segment (misses said.segments index) (no_segment said t) (no_group said t) (no_external said t) (is_none t) rest
-    late
+    with_segment (misses said.segments index) (no_segment said t) (no_group said t) (no_external said t) (is_none t)
+    rest late
 frame_in_order said (Some (by.By (to.Group index))) t rest late =
     with_group (misses said.groups index) (no_segment said t) (no_group said t) (no_external said t) (is_none t) rest
     late
@@ -137,7 +137,8 @@ then_late (Some f) b late = late
 placed : (said : Module) (f : Option FrameMethod) (t : Option TargetMethod) (x : Fixup) (p : Option CheckFault)
     → p ⊓ Some SelfRelativeBase ≡ first (p ∷ Some SelfRelativeBase ∷ []) → IsLate p
     → frame_fault said f ⊓ target_fault said t ⊓ p ⊓ relative_fault x
-    ≡ first (reference_faults said f t ++ p ∷ then_some (x.self_relative && holds_base x.location) SelfRelativeBase ∷ [])
+    ≡ first (reference_faults said f t
+    ++ p ∷ then_some (x.self_relative && holds_base x.location) SelfRelativeBase ∷ [])
 placed said f t x p e late =
     ap (λ q. frame_fault said f ⊓ target_fault said t ⊓ q) (then_relative p e x.self_relative (holds_base x.location))
     ∙ in_order said f t (p ∷ then_some (x.self_relative && holds_base x.location) SelfRelativeBase ∷ [])

@@ -68,11 +68,11 @@ public_fault said (InSegment group segment) =
 -- the faults of a frame and a target in use, in the order of their numbers; where one is absent, its thread isn't set
 abbrev pub reference_faults : Module → Option FrameMethod → Option TargetMethod → List (Option CheckFault)
 reference_faults said frame target =
-    let named = option_to_list (option_and_then (elim [ by.By method ↦ Some method | _ ↦ None ]) frame) in
-    let used = named ++ option_to_list target in
-    then_some (list_any (elim [ to.Segment index ↦ misses said.segments index | _ ↦ false ]) used) SegmentIndex
-    ∷ then_some (list_any (elim [ to.Group index ↦ misses said.groups index | _ ↦ false ]) used) GroupIndex
-    ∷ then_some (list_any (elim [ to.External index ↦ misses said.externals index | _ ↦ false ]) used) ExternalIndex
+    let by_target : Option TargetMethod = option_and_then (elim [ by.By method ↦ Some method | _ ↦ None ]) frame in
+    let all : List TargetMethod = option_to_list by_target ++ option_to_list target in
+    then_some (list_any (elim [ to.Segment index ↦ misses said.segments index | _ ↦ false ]) all) SegmentIndex
+    ∷ then_some (list_any (elim [ to.Group index ↦ misses said.groups index | _ ↦ false ]) all) GroupIndex
+    ∷ then_some (list_any (elim [ to.External index ↦ misses said.externals index | _ ↦ false ]) all) ExternalIndex
     ∷ then_some (is_none frame || is_none target) ThreadNotSet ∷ []
 
 -- a base can't be relative to itself
@@ -119,7 +119,7 @@ items before (Fixupp subs) =
 items before (Modend main (Some reference)) =
     let frame = used (frame_thread (subrecords before)) reference.frame in
     let target = used (target_thread (subrecords before)) reference.target in
-    let location = elim frame [ Some by.Location ↦ Some FrameOfLocation | _ ↦ None ] in
+    let location : Option CheckFault = elim frame [ Some by.Location ↦ Some FrameOfLocation | _ ↦ None ] in
     first (reference_faults (module_of before) frame target ++ location ∷ []) ∷ []
 items before _ = []
 

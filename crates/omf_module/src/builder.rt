@@ -299,7 +299,8 @@ impl<A: Allocator + Copy> Builder<A> {
         target: Option<TargetMethod>,
         fixup: &Fixup,
     ) -> Option<CheckFault>
-        ensures { result ≡ checking.fixup_fault (module_in (state self.now)) frame target (state self.now).contents fixup.now }
+        ensures { result
+            ≡ checking.fixup_fault (module_in (state self.now)) frame target (state self.now).contents fixup.now }
     {
         let of_place = smaller(self.last_data.place_fault(fixup), relative_fault(fixup));
         smaller(

@@ -9,12 +9,12 @@ use Rattle.std.specs.Option.{option_to_list}
 use Rattle.omf_record.specs.declared.externals.PublicBase.TheVariants.{InSegment}
 use Rattle.omf_record.specs.Record.{Record, Theadr, Modend, Pubdef, Lnames, Grpdef}
 use Rattle.omf_record.specs.Canonical.{FitsFrame, canonical}
+use Rattle.std.specs.Option.{option_or}
 use Rattle.omf_record.specs.Records.{AreToEnd, Placed, is_end}
 use Rattle.omf_module.specs.declared.fault.CheckFault.TheVariants.{GroupIndex, NameIndex, SegmentIndex}
 use Rattle.omf_module.specs.Before.{entry, first}
 use Rattle.omf_module.specs.Bytes.{ModuleBytes}
 use Rattle.omf_module.specs.Faults.{component_fault, fault, is_absolute, is_beyond}
-use Rattle.omf_module.specs.inside.Checking.{◌⊓◌}
 use Rattle.omf_module.specs.inside.Checking.{when}
 use Rattle.omf_module.specs.Module.{Segment}
 use Rattle.omf_module.specs.Tables.{names, standing_of}
@@ -216,7 +216,7 @@ mark_ok : (n s : ℕ) (before : List Placed) (names' : List (List ℕ)) (place :
     → fault before (Pubdef false (InSegment 1 (segment_index place)) (map public_of names')) ≡ None
 mark_ok n s before names' place r h =
     clean_by before (Pubdef false (InSegment 1 (segment_index place)) (map public_of names')) r.is_begun
-    (ap (λ t. first ((when t SegmentIndex ⊓ when (is_beyond (groups before) 1) GroupIndex) ∷ []))
+    (ap (λ t. first (option_or (when t SegmentIndex) (when (is_beyond (groups before) 1) GroupIndex) ∷ []))
     (both_false _ _ (not_zero place)
     (not_below (length (segments before)) (place + 1) (omega (arith, r.segment_count, h))))
     ∙ ap (λ t. first (when t GroupIndex ∷ [])) (not_below (length (groups before)) 1 (omega (arith, r.group_count))))

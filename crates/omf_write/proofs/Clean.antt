@@ -15,7 +15,7 @@ use Rattle.omf_record.proofs.RecordLaws.{body_bytes}
 use Rattle.omf_module.specs.declared.fault.CheckFault.{CheckFault}
 use Rattle.omf_module.specs.declared.fault.CheckFault.TheVariants.{GroupOfAbsolute}
 use Rattle.omf_module.specs.Before.{along, entry, first}
-use Rattle.omf_module.specs.Faults.{component_fault, fault, header_fault, is_absolute, items}
+use Rattle.omf_module.specs.Faults.{component_fault, fault, is_absolute, items}
 use Rattle.omf_module.specs.inside.Checking.{begun, when}
 use Rattle.omf_module.specs.Module.{Segment}
 use Rattle.omf_module.specs.Tables.{groups_in, names, segments_in}
@@ -161,7 +161,8 @@ ready-as n s g m t h before e f k r = record {
 
 pub clean_by : (before : List Placed) (r : Record) → begun before ≡ true → first (items before r) ≡ None
     → fault before r ≡ None
-clean_by before r b h = ap (λ t. first (header_fault t r ∷ items before r)) b ∙ h
+clean_by [] r b h = cc
+clean_by (x ∷ before) r b h = h
 
 pub not_below : (a b : ℕ) → b ≤ a → ltb a b ≡ false
 not_below a b h = (elim (ltb a b) as (λ t. ltb a b ≡ t → t ≡ false) [
