@@ -44,7 +44,7 @@ use Rattle.omf_module.specs.inside.Said.{data_records, externals, groups, names_
 use Rattle.omf_module.specs.inside.Said.{subrecords_in}
 use Rattle.omf_module.proofs.InOrder.{start_in_order}
 use Rattle.omf_module.proofs.Lists.{along_from_append, along_push, flat_map_push}
-use Rattle.omf_module.proofs.Growing.{last_option}
+use Rattle.omf_module.proofs.Growing.{last_option, start_of-is}
 use Rattle.omf_write.specs.Records.{record_bytes, records_bytes}
 use Rattle.omf_write.proofs.Clean.{All-append, Clean, are_bodies, are_frames, both_false, clean_by, clean_first}
 use Rattle.omf_write.proofs.Clean.{found_at, groups-push, names-push, not_below, place_all, segments-push}
@@ -716,7 +716,10 @@ start-end front x h =
 same-start : (before : List Subrecord) (place other : ℕ) (r : Record)
     → option_map start_said (start_in before place r) ≡ option_map start_said (start_in before other r)
 same-start before place other (Modend main (Some r)) =
-    by (used (frame_thread before) r.frame) (used (target_thread before) r.target)
+    let f = used (frame_thread before) r.frame in
+    let t = used (target_thread before) r.target in
+    ap (option_map start_said) (sym (start_of-is place r f t))
+    ∙ (by f t ∙ ap (option_map start_said) (start_of-is other r f t))
   where
     by : (f : Option FrameMethod) (t : Option TargetMethod)
         → option_map start_said (start_of place r f t) ≡ option_map start_said (start_of other r f t)

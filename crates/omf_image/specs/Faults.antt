@@ -9,7 +9,6 @@ use Rattle.omf_record.specs.declared.fixups.Location.{Location}
 use Rattle.omf_record.specs.declared.fixups.Location.TheVariants.{LowByte, Base}
 use Rattle.omf_module.specs.declared.ResolvedFixup.{ResolvedFixup}
 use Rattle.omf_module.specs.Before.{first}
-use Rattle.omf_module.specs.Module.{Module}
 use Rattle.omf_image.specs.declared.reference.Base.{Base as Frame}
 use Rattle.omf_image.specs.declared.reference.Base.TheVariants.{Relocatable as Moving, Absolute as Fixed}
 use Rattle.omf_place.specs.Layout.{Layout}
@@ -26,7 +25,7 @@ use Rattle.omf_image.specs.Patch.{all_clear}
 use Rattle.omf_image.specs.Reference.{frame'}
 use Rattle.omf_image.specs.Value.{real_address, real_frame}
 use Rattle.omf_image.specs.Located.{covers_word}
-use Rattle.omf_image.specs.Records.{hits, stored_of, Entry, entries, entry_start, meaning, patches_on, fixup_patches}
+use Rattle.omf_image.specs.Records.{hits, stored_of, Entry, entry_start, meaning, patches_on, fixup_patches}
 use Rattle.omf_image.specs.Records.{record_relocations, datum}
 
 -- a relocatable thing moves with the program
@@ -123,4 +122,3 @@ abbrev pub records_fault : Layout → (words : List ℕ) → List Entry → Opti
 records_fault layout words [] = None
 records_fault layout words (entry ∷ later) =
     option_or (record_fault layout words entry) (records_fault layout (words ++ record_relocations layout entry) later)
-

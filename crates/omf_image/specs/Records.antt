@@ -14,7 +14,7 @@ use Rattle.omf_image.specs.declared.reference.Resolved.{Resolved}
 use Rattle.omf_image.specs.Patch.{patched_all, relocated_place}
 use Rattle.omf_image.specs.Reference.{resolved}
 use Rattle.omf_image.specs.Value.{real_address, patches_at}
-use Rattle.omf_image.specs.Located.{Datum, located, in_page}
+use Rattle.omf_image.specs.Located.{Datum, located}
 
 -- the expanded bytes of a data record
 abbrev pub bytes_of : DataRecord → List ℕ
@@ -96,4 +96,3 @@ entry_end layout entry =
 -- are data.
 abbrev pub written : Layout → List Module → ℕ
 written layout modules = fold max 0 (map (entry_end layout) (entries modules))
-
