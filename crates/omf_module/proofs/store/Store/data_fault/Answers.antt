@@ -14,11 +14,11 @@ returns-in-Some-clause-exact g c = λ n k.
     ∙ entry-map (segment c.self.inside.bytes.items) c.self.inside.segments.items c.args.index c.in-Some.segment.now
     kept_one in
     rw (
-      c.smaller.ensures,
+      c.or.ensures,
       c.when.ensures,
       c.when-in-Some.ensures,
-      c.is_absolute.ensures,
-      c.is_above.ensures.exact n
+      c.is_absolute-absolute.ensures,
+      c.is_above-outside.ensures.exact n
           k,
       at_index,
     ) refl
