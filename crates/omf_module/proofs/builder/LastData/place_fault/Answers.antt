@@ -3,7 +3,7 @@ use Rattle.std.proofs.Common.{sym, ◌∙◌, arith}
 use Rattle.std.proofs.lemmas.Bool.{le-leb}
 use Rattle.omf_module.specs.declared.contents.Content.{Content}
 use Rattle.omf_module.specs.declared.fault.CheckFault.TheVariants.{FixupPlace}
-use Rattle.omf_module.specs.Faults as faults
+use Rattle.omf_module.specs.inside.Checking.{when}
 use Rattle.omf_module.specs.inside.Contents.{pair, lies_in}
 use Rattle.omf_module.proofs.builder.LastData.place_fault.Goals as goal
 use Rattle.omf_module.proofs.builder.LastData.place_fault.Goals.{in-Stored, in-Repeated}
@@ -24,12 +24,12 @@ returns g c = elim c.match-self.branch [
   | in-Stored w ↦
       let len = w.in-Stored.len in
       rw w.in-Stored.is
-      (c.when.ensures ∙ ap (λ b. faults.when (not b) FixupPlace)
+      (c.when.ensures ∙ ap (λ b. when (not b) FixupPlace)
       (w.lies-is ∙ ap₂ (λ o v. leb (o + v) len) w.from.ensures (c.from-width.ensures ∙ c.width.ensures)
       ∙ lies_in_one _ _ len))
   | in-Repeated w ↦
       rw w.in-Repeated.is
-      (c.when.ensures ∙ ap (λ b. faults.when (not b) FixupPlace)
+      (c.when.ensures ∙ ap (λ b. when (not b) FixupPlace)
       (w.lies-is ∙ w.lies_in-lies.ensures
       ∙ ap (λ (cs : List Content). lies_in (map pair cs) w.from-in-Repeated.result c.from-width.result)
       w.deref.ensures.value
