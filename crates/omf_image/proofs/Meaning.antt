@@ -177,10 +177,10 @@ fixups_parts layout e earlier [] ys = ap (λ (ps : List Patch). fixups_fault lay
 fixups_parts layout e earlier (x ∷ xs) ys =
     let f : ResolvedFixup → List Patch = fixup_patches 0 layout e in
     let o = fixup_fault layout e earlier x in
-    let first = fixups_fault layout e (earlier ++ f x) xs in
+    let own = fixups_fault layout e (earlier ++ f x) xs in
     ap (or_else o (e.input, x.place)) (fixups_parts layout e (earlier ++ f x) xs ys)
-    ∙ or_first o (e.input, x.place) first (fixups_fault layout e ((earlier ++ f x) ++ flat_map f xs) ys)
-    ∙ ap (λ (ps : List Patch). option_or (or_else o (e.input, x.place) first) (fixups_fault layout e ps ys))
+    ∙ or_first o (e.input, x.place) own (fixups_fault layout e ((earlier ++ f x) ++ flat_map f xs) ys)
+    ∙ ap (λ (ps : List Patch). option_or (or_else o (e.input, x.place) own) (fixups_fault layout e ps ys))
     (append_assoc earlier (f x) (flat_map f xs))
 
 pub fixups_left : (layout : Layout) (e : Entry) (xs : List ResolvedFixup) (n : ℕ)

@@ -150,17 +150,17 @@ sound_fixups P layout e earlier (x ∷ xs) lies h before =
     let rest : List Patch = flat_map (fixup_patches 0 layout e) xs in
     let both =
     none_or_else (fixup_fault layout e earlier x) (e.input, x.place) (fixups_fault layout e (earlier ++ mine) xs) h in
-    let first = sound P layout e earlier x (meaning layout e x) lies.0 both.0 in
+    let own = sound P layout e earlier x (meaning layout e x) lies.0 both.0 in
     let others =
     sound_fixups P layout e (earlier ++ mine) xs lies.1 both.1
-    (clear_append earlier mine before first.itself first.others) in
+    (clear_append earlier mine before own.itself own.others) in
     record {
       stays =
-          ap (λ (l : List Patch). l ++ flat_map (fixup_patches P layout e) xs) first.stays
+          ap (λ (l : List Patch). l ++ flat_map (fixup_patches P layout e) xs) own.stays
           ∙ ap (λ (l : List Patch). map (at_paragraph P) mine ++ l) others.stays
           ∙ sym (map-append (at_paragraph P) mine rest);
       apart = subst AllClear (append_assoc earlier mine rest) others.apart;
-      inside = within_append 0 (length (stored_of e.data_record)) mine rest first.inside others.inside;
+      inside = within_append 0 (length (stored_of e.data_record)) mine rest own.inside others.inside;
     }
 
 inside_from_within : (lo n : ℕ) (ps : List Patch) → Within lo n ps → AllInside n ps

@@ -1,6 +1,6 @@
 //! What the frame and the target of a reference stand for.
 
-ghost use Rattle.std.specs.Prelude.{◌≡◌, ◌<◌, length};
+ghost use Rattle.std.specs.Prelude.{◌≡◌, ◌<◌, length, Ok};
 ghost use Rattle.std.specs.Option.{ok_or};
 ghost use Rattle.omf_image.specs.declared.faults.FixKind.TheVariants.{Unresolved};
 ghost use Rattle.omf_module.specs.Seen.{external_seen};
