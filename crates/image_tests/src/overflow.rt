@@ -61,7 +61,7 @@ A0 01 00 00 00 FF 00 00
 98 28 04 00 02 01 01
 A0 01 00 00 00 FF 00 00
 9C D4 00 50 01 00 01
-= record 36 of input 0; none
+= record 37 of input 0; none
 
 # the first of all that do
 98 28 04 00 02 01 01
@@ -72,25 +72,25 @@ A0 01 00 00 00 FF 00 00
 9C D4 02 50 01 FF FF
 A0 01 00 00 FF FF 00 00
 9C D4 00 50 01 FF FF
-= record 46 of input 1; none
+= record 47 of input 1; none
 
 # the lower byte is another fix-up's too, the upper one, or both
 98 28 04 00 02 01 01
 A0 01 00 00 00 00 00 00
 9C D4 01 54 01
 9C CC 00 54 01
-= record 36 of input 0; none
+= record 37 of input 0; none
 
 98 28 04 00 02 01 01
 A0 01 00 00 00 00 00 00
 9C C0 01 54 01
 9C D4 00 54 01
-= record 44 of input 0; none
+= record 45 of input 0; none
 
 98 28 04 00 02 01 01
 A0 01 00 00 00 00 00 00
 9C D4 00 54 01 D4 00 54 01
-= record 36 of input 0; none
+= record 37 of input 0; none
 
 # the bytes before and behind are
 98 28 04 00 02 01 01
@@ -136,7 +136,7 @@ A0 01 00 00 FF FF 00 00
 --
 98 28 01 00 02 01 01
 8A C1 50 01 FF FF
-= none; record 25 of input 1
+= none; record 26 of input 1
 
 # two starts, and one that is at fault
 98 28 01 00 02 01 01
