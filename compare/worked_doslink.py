@@ -380,6 +380,20 @@ def sum_module(displacement):
         (0xA0, "01 0000 00FF0000"), (0x9C, "E400 50 01" + displacement), (0x8A, "00")])
 
 
+def shared_module(fixup):
+    """A module with the offset of its segment in 32 bits, and a fix-up behind it."""
+    return framed([
+        (0x80, "0153"), (0x96, "00 04434F4445"), (0x98, "28 0600 020101"),
+        (0xA0, "01 0000 000000000000"), (0x9C, "E400 54 01"), (0x9C, fixup), (0x8A, "00")])
+
+
+def start_module(kind, displacement):
+    """A module that starts so far in its segment."""
+    return framed([
+        (0x80, "0153"), (0x96, "00 04434F4445"), (0x98, "28 0400 020101"),
+        (0xA0, "01 0000 90909090"), (kind, "C1 50 01" + displacement)])
+
+
 CALLING = code_module(b"M", records.ExternalNames([b"x"], [0]), *NEAR_CALL)
 CALLED = code_module(b"X", records.PublicNames(0, 1, None, [PublicName(b"x", 2, 0)]))
 NAMING = code_module(b"N", records.Comment(0, 0x9F, b"X"))
@@ -396,6 +410,8 @@ FILES = {
     "absolute.obj": wide_module("01 4000 00 11000000 020201"),
     "amiss.obj": wide_module("E9 11000000 020201"), "f/X.lib": LIBRARY,
     "sum.obj": sum_module("0001"), "fits.obj": sum_module("FF00"),
+    "shared.obj": shared_module("C001 54 01"), "base.obj": shared_module("C802 54 01"),
+    "start.obj": start_module(0x8B, "FCFF0000"), "start16.obj": start_module(0x8A, "FCFF"),
     "f/L": LIBRARY, "f/L.LIB": MAGIC, "f/Y": CALLED, "g/L.LIB": LIBRARY, "bad": b"\xFF"}
 # 17 bytes of each module; the call's end is at 3 and x at 19
 PROGRAM = header("2300 0100 0000 0200 0300" + MOST + NO_REGISTERS) + NO_TABLE + "E81000"
@@ -458,6 +474,16 @@ LINKS = [
     ("a sum of 65,536", {"files": ["sum.obj"]}, [],
      "doslink: sum.obj: 61 SumAbove16Bits at record 37\n", "sum.obj\n"),
     ("a sum of 65,535", {"files": ["fits.obj"]}, [], "", "fits.obj\n"),
+    ("a byte in the word of an offset", {"files": ["shared.obj"]}, [],
+     "doslink: shared.obj: 61 SumAbove16Bits at record 39\n", "shared.obj\n"),
+    ("a base behind it", {"files": ["base.obj"]}, [], "", "base.obj\n"),
+    ("a start at 65,536", {"files": ["fits.obj", "start.obj"]}, [],
+     "doslink: start.obj: 61 SumAbove16Bits at record 37\n", "fits.obj\nstart.obj\n"),
+    ("a start at 65,532", {"files": ["start.obj"]}, [], "", "start.obj\n"),
+    ("a start of 16 bits at 65,536", {"files": ["fits.obj", "start16.obj"]}, [], "",
+     "fits.obj\nstart16.obj\n"),
+    ("two starts", {"files": ["fits.obj", "start.obj", "start.obj"]}, [],
+     "doslink: start.obj: 33 TwoStarts at record 37\n", "fits.obj\nstart.obj\nstart.obj\n"),
 ]
 
 # what is asked for, and the path of the program

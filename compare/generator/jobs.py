@@ -9,7 +9,7 @@ from generator.objects import (
     CLASSES, LAZY, MARKS, NAMES, SEGMENTS, TITLES, WEAK, ObjectMaker, any_plan, module_of_alias,
     module_of_default, module_of_external, module_of_far_data, module_of_links,
     module_of_long_aliases, module_of_long_externals, module_of_many_parts, module_of_no_alignment,
-    module_of_publics, module_of_sum, segments_called)
+    module_of_publics, module_of_shared_word, module_of_start, module_of_sum, segments_called)
 from model import ordering
 from model.directives import Job
 from model.placement import folded
@@ -38,6 +38,12 @@ CHAIN_EVERY, TWICE_EVERY = 250, 250
 AMISS_EVERY, NO_NUMBER_EVERY = 200, 250
 # one has an offset, of 32 bits or 16, with a sum of the most or one more
 SUM_EVERY, SUM_LOCATIONS, SUMS = 50, [9, 1, 13, 5], [65_535, 65_536]
+# one an offset of 32 bits in the word at 4, and a fix-up of this location and place, in it or not
+SHARED_EVERY, SHARED = 50, [
+    (0, 4), (0, 3), (1, 5), (2, 6), (3, 1), (1, 2), (5, 3), (0, 6), (3, 0), (9, 4), (2, 5), (1, 6),
+    (0, 5), (2, 3), (3, 4), (2, 2)]
+# one a start by this type of MODEND with such a sum, alone or beside another one
+START_EVERY, STARTS = 50, [(0x8B, 1), (0x8A, 1), (0x8B, 2), (0x8B, 1)]
 # lengths of a body that externals by indexes, or of aliases, have by their names
 LONG_BODIES, LONG_EVERY = [65_534, 65_535], 150
 MEMBER_NAMES = [b"printf.o", b"exit.o", b"system.o", b"a_long_name_of_a_member.o", b"x"]
@@ -204,6 +210,22 @@ class JobMaker:
         self.files["sum.obj"] = module_of_sum(
             location, word, total - 4 - word, self.random.choice([False, True]))
         self.job.files, self.folders = ["sum.obj", "sum.obj"], []
+        return self.asked()
+
+    def make_shared(self, location, place):
+        """A module with an offset of 32 bits and another fix-up, which share a word or not."""
+        relative = location in (0, 1) and self.happens(0.3)
+        self.files["shared.obj"] = module_of_shared_word(location, place, relative)
+        self.job.files, self.folders = ["shared.obj"], []
+        return self.asked()
+
+    def make_start(self, kind, count, total):
+        """A module with an offset of 32 bits or without, and so many with a start, which has this
+        sum in the first."""
+        self.files["sum.obj"] = module_of_sum(self.random.choice([1, 9]), 0, 0, False)
+        self.files["start.obj"] = module_of_start(kind, total - 4)
+        self.job.files = ["sum.obj"] + count * ["start.obj"]
+        self.folders = []
         return self.asked()
 
     def make_no_number(self, front):
@@ -566,6 +588,11 @@ def case(random, number=1):
     if number % SUM_EVERY == 38:
         turn, which = divmod(number // SUM_EVERY, len(SUMS))
         return maker.make_sum(SUM_LOCATIONS[turn % len(SUM_LOCATIONS)], SUMS[which])
+    if number % SHARED_EVERY == 46:
+        return maker.make_shared(*SHARED[number // SHARED_EVERY % len(SHARED)])
+    if number % START_EVERY == 41:
+        turn, which = divmod(number // START_EVERY, len(SUMS))
+        return maker.make_start(*STARTS[turn % len(STARTS)], SUMS[which])
     if number % AMISS_EVERY == 11:
         return maker.make_amiss()
     return maker.make()

@@ -561,6 +561,33 @@ def module_of_sum(location, word, displacement, is_repeated):
         spelling.record(records.ModuleEnd(False, None))])
 
 
+def module_of_shared_word(location, place, relative):
+    """A module of twelve bytes, with the offset of its segment in 32 bits at the fifth of them, and
+    a fix-up at this location and place, which is self-relative or not, before it or behind."""
+    spelling = records.Spelling()
+    first = (0x80 if relative else 0xC0) | location << 2
+    fixups = [bytes([0xE4, 4, 0x54, 1]), bytes([first, place, 0x54, 1])]
+    return b"".join([
+        spelling.record(records.Header(b"SHARED")),
+        spelling.record(records.NameList([b"", b"CODE"])),
+        spelling.framed(0x98, b"\x28\x0C\0\2\1\1"),
+        spelling.framed(0xA0, b"\1\0\0" + bytes(12)),
+        *[spelling.framed(0x9C, body) for body in (fixups if place % 2 else reversed(fixups))],
+        spelling.record(records.ModuleEnd(False, None))])
+
+
+def module_of_start(kind, displacement):
+    """A module of four bytes whose start, by this type of MODEND, stands so far in its segment."""
+    spelling = records.Spelling()
+    width = 4 if kind % 2 else 2
+    return b"".join([
+        spelling.record(records.Header(b"START")),
+        spelling.record(records.NameList([b"", b"CODE"])),
+        spelling.framed(0x98, b"\x28\4\0\2\1\1"),
+        spelling.framed(0xA0, b"\1\0\0\x90\x90\x90\x90"),
+        spelling.framed(kind, b"\xC1\x50\1" + displacement.to_bytes(width, "little"))])
+
+
 def module_of_no_alignment(kind):
     """A module with a 32-bit segment, and one by this type of record whose alignment is none."""
     spelling = records.Spelling()

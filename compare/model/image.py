@@ -236,10 +236,19 @@ def add(content, position, width, value):
     content[position:position + width] = sum_of_both.to_bytes(width, "little")
 
 
+def is_shared(data, fixup):
+    """Whether another fix-up of the data reaches into the word of an offset."""
+    word = range(fixup.offset, fixup.offset + 2)
+    return any(
+        place in word for other in data.fixups if other is not fixup
+        for place in range(other.offset, other.offset + other.location.width))
+
+
 def overflows(references, owner, data, fixup):
     """Whether an offset needs more than the 16 bits that it has in a program.
 
-    An offset without a target, or with one outside its frame, has another fault.
+    An offset without a target, or with one outside its frame, has another fault. Where another
+    fix-up changes the word too, no sum tells what is in it.
     """
     combined = references.layout.part(owner, data.segment)[1]
     located = references.locate(owner, fixup.reference, Frame(combined.frame, True), [])
@@ -249,13 +258,25 @@ def overflows(references, owner, data, fixup):
         int.from_bytes(bytes(byte for _, byte in data.stored[at:at + 2]), "little")
         for at, (place, _) in enumerate(data.stored) if place == fixup.offset]
     offset = located.target.value - 16 * located.frame.value + located.displacement
+    if held and is_shared(data, fixup):
+        return True
     return any(word + offset > HIGHEST_IN_FRAME for word in held)
 
 
-def check_sums(contents, were_wide, ignores_case):
-    """Fault 61 is an offset that had 32 bits in its module and needs more than 16.
+def start_overflows(references, owner, start):
+    """Whether IP needs more than 16 bits; a start that is at fault has another fault."""
+    located = references.locate(owner, start.reference, None, [])
+    if located is None or self_relative_faults(Location.OFFSET, located, []):
+        return False
+    offset = located.target.value - 16 * located.frame.value + located.displacement
+    return offset > HIGHEST_IN_FRAME
 
-    `were_wide` has for each module whether each of its fix-ups had 32 bits.
+
+def check_sums(contents, were_wide, start_was_wide, ignores_case):
+    """Fault 61 is an offset or a start that had 32 bits in its module and needs more than 16.
+
+    `were_wide` has for each module whether each of its fix-ups had 32 bits. Of two starts neither
+    is looked at.
     """
     modules = [module.read(content, owner) for owner, content in enumerate(contents)]
     references = References(modules, placement.place(modules, ignores_case))
@@ -264,6 +285,10 @@ def check_sums(contents, were_wide, ignores_case):
         for (data, fixup), was_wide in zip(fixups, wide):
             if was_wide and overflows(references, owner, data, fixup):
                 raise Fault(61, owner, fixup.place)
+    starts = [(owner, each.start) for owner, each in enumerate(modules) if each.start is not None]
+    if start_was_wide and len(starts) == 1 and start_overflows(references, *starts[0]):
+        owner, start = starts[0]
+        raise Fault(61, owner, start.place)
 
 
 def find_start(modules, references):

@@ -254,8 +254,9 @@ class Linking:
         # of each fix-up, whether it had 32 bits
         wide = [lowering.were_wide(each.content, self.job.keeps_debug) for each in taken]
         wide = [[] for _ in before] + wide + [[] for _ in behind]
+        wide_start = any(lowering.has_wide_start(each.content) for each in taken)
         try:
-            image.check_sums(self.contents, wide, self.job.ignores_case)
+            image.check_sums(self.contents, wide, wide_start, self.job.ignores_case)
             return image.link(self.contents, self.job.ignores_case)
         except Fault as fault:
             raise self.with_words(fault) from None

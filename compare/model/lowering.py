@@ -31,6 +31,8 @@ FAR_DATA = b"FAR_DATA"
 # offsets reach, and whether it has 32 bits
 ALIGNMENT, COMBINATION, BIG, USE_32 = 0xE0, 0x1C, 0x02, 0x01
 BYTE_ALIGNED, PUBLIC = 0x20, 0x08
+# the bit of the byte that begins a MODEND by which it has a start
+HAS_START = 0x40
 # locations: an offset of 16 bits, and those of 32
 OFFSET, OFFSETS_32 = 1, (9, 13)
 # a comment of a class that means nothing
@@ -460,6 +462,13 @@ def were_wide(content, keeps_debug):
     for frame in whole_frames(content):
         lowering.lower(frame.kind, frame.body)
     return lowering.were_wide
+
+
+def has_wide_start(content):
+    """Whether a module has a start of 32 bits."""
+    return any(
+        frame.kind == END_32 and frame.body[:1] and frame.body[0] & HAS_START
+        for frame in whole_frames(content))
 
 
 def fits_a_frame(contents):

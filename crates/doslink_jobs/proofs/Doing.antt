@@ -11,8 +11,8 @@ use Rattle.doslink_jobs.specs.declared.stop.Stop.{Stop}
 use Rattle.doslink_jobs.specs.declared.stop.Stop.TheVariants.{Input, Words, Device, Memory}
 use Rattle.doslink_stock.specs.Files.{Held, members, objects}
 use Rattle.doslink_stock.specs.Search.{Takes}
-use Rattle.doslink_jobs.specs.Jobs.{AreDefaults, AreFilesOf, EndsWith, IsDone, IsLinked, names_of}
-use Rattle.doslink_jobs.specs.Refusals.{IsRefusedJob}
+use Rattle.doslink_jobs.specs.Jobs.{AreDefaults, AreFilesOf, EndsWith, IsDone, IsLinkOf, IsLinked, names_of}
+use Rattle.doslink_jobs.specs.Refusals.{IsRefusedJob, IsRefusedOf}
 use Rattle.doslink_jobs.specs.Runs.{AskForNone, EndsBy}
 use Rattle.doslink_jobs.specs.inside.Adding.{AddsDefaults, AreGiven}
 use Rattle.doslink_jobs.specs.inside.Inputs.{IsLinkedStock}
@@ -33,6 +33,25 @@ of-files A job files os ms first second linked = record {
   are_inputs = linked.are_inputs;
   faultless = linked.faultless;
 }
+
+-- a link of modules is one of what takes them
+pub link-of : (A : Type 0) (job : Job) (modules : List Held) (takes : List Held → Type 0) → takes modules
+    → IsLinkOf A job (λ ms. ms ≡ modules) → IsLinkOf A job takes
+link-of A job modules takes taken linked = record {
+  modules = linked.modules;
+  variables = linked.variables;
+  linked = linked.linked;
+  taken = subst takes (sym linked.taken) taken;
+  are_variables = linked.are_variables;
+  met = linked.met;
+  are_inputs = linked.are_inputs;
+  faultless = linked.faultless;
+}
+
+-- modules that can't be linked are such of what takes them
+pub link-refused : (A : Type 0) (job : Job) (modules : List Held) (takes : List Held → Type 0) → takes modules
+    → IsRefusedOf A job (λ ms. ms ≡ modules) → IsRefusedOf A job takes
+link-refused A job modules takes taken (ms, same, refused) = (ms, subst takes (sym same) taken, refused)
 
 -- the files of a job
 pub files-of : (told : Text → Option (List ℕ)) (folders all : List Text) (job : Job) (given files : List (List ℕ))

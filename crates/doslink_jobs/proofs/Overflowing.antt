@@ -1,10 +1,11 @@
--- Fix-ups that were of 32 bits, and their sums.
-use Rattle.std.proofs.Common.{◌≡◌, ◌≢◌, ℕ, ◌∷◌, [], ◌++◌, Bool, true, false, All, Any, List, map, zip, length, get_or}
-use Rattle.std.proofs.Common.{Some, None, IfSome, refl, sym, subst, ap, ap₂, ◌∙◌, true≢false}
+-- Fix-ups and a start that were of 32 bits, and their sums.
+use Rattle.std.proofs.Common.{◌≡◌, ◌≢◌, ◌⊎◌, ℕ, ◌∷◌, [], ◌++◌, Bool, true, false, All, Any, List, map, zip}
+use Rattle.std.proofs.Common.{Some, None, IfSome, cond, is_some, inl, inr, refl, sym, subst, ap, ap₂, ◌∙◌, true≢false}
 use Rattle.std.specs.declared.option.Option.{Option}
-use Rattle.std.specs.Borrow.{Bor}
-use Rattle.omf_image.specs.Overflow.{has_overflow}
-use Rattle.omf_lower.specs.Wide.{has_wide_fixups}
+use Rattle.std.specs.List.{list_any}
+use Rattle.std.specs.Option.{option_or}
+use Rattle.omf_image.specs.Overflow.{first_overflow, start_overflow}
+use Rattle.omf_lower.specs.Wide.{has_wide_fixups, has_wide_start}
 use Rattle.omf_module.specs.Bytes.{ModuleBytes}
 use Rattle.omf_module.specs.Module.{Module}
 use Rattle.omf_module.specs.Tables.{module_of}
@@ -15,11 +16,13 @@ use Rattle.omf_place.specs.declared.faults.PlaceFault.{PlaceFault}
 use Rattle.omf_place.specs.declared.faults.PlaceFault.TheVariants as held
 use Rattle.omf_place.specs.declared.names.Names.{Names}
 use Rattle.omf_record.specs.Records.{Placed}
-use Rattle.doslink_link.specs.Linking.{AllBeginWith, BeginsWith, bytes_of}
+use Rattle.doslink_link.specs.Linking.{AllBeginWith, BeginsWith}
 use Rattle.doslink_jobs.specs.declared.lowering.LoweredModule.{LoweredModule}
 use Rattle.doslink_jobs.specs.Orders.{AreRead, AreUnread}
-use Rattle.doslink_jobs.specs.Overflow.{HaveOverflow, NarrowFixups}
+use Rattle.doslink_jobs.specs.declared.overflow.Narrowed.{Narrowed}
+use Rattle.doslink_jobs.specs.Overflow.{HaveOverflow, NarrowFixups, NarrowStart}
 use Rattle.doslink_jobs.specs.inside.Inputs.{lowered_bytes, own_bytes}
+use Rattle.doslink_jobs.specs.inside.Sums.{SomeOverflows}
 
 -- ---- which modules have such fix-ups
 
@@ -41,7 +44,8 @@ none-of P xs none (k, x, h, is, p) = none k x h (subst P (sym is) p)
 pub not-narrow : {A : Type 0} (modules : List (LoweredModule A)) → All (λ m. IsNarrow m → ⊥) (map both_bytes modules)
     → NarrowFixups (map own_bytes modules) (map lowered_bytes modules) → ⊥
 not-narrow modules none some =
-    none-of IsNarrow (map both_bytes modules) none (subst (Any IsNarrow) (zip-both own_bytes lowered_bytes modules) some)
+    none-of IsNarrow (map both_bytes modules) none
+    (subst (Any IsNarrow) (zip-both own_bytes lowered_bytes modules) some)
 
 -- a module that has none
 pub has-none : (m : List ℕ × List ℕ) → has_wide_fixups m.0 ≡ false → IsNarrow m → ⊥
@@ -52,6 +56,37 @@ pub fit-of : (N O : Type 0) (are_narrow : Bool) → (are_narrow ≡ false → N 
     → ⊥
 fit-of N O true none fits narrow over = fits refl over
 fit-of N O false none fits narrow over = none refl narrow
+
+-- ---- what is looked at
+
+-- neither is too great
+pub none-above : (fixup start : Option (ℕ × ℕ)) (narrow : Bool) → None ≡ option_or fixup (cond narrow start None)
+    → (is_some fixup ≡ false) × (narrow ≡ true → is_some start ≡ false)
+none-above None None narrow none = (refl, λ so. refl)
+none-above None (Some x) true none = cc
+none-above None (Some x) false none = (refl, λ so. cc)
+none-above (Some x) start narrow none = cc
+
+-- one is
+pub some-above : (fixup start : Option (ℕ × ℕ)) (narrow : Bool) (at : ℕ × ℕ)
+    → Some at ≡ option_or fixup (cond narrow start None)
+    → (is_some fixup ≡ true) ⊎ ((narrow ≡ true) × (is_some start ≡ true))
+some-above (Some x) start narrow at some = inl refl
+some-above None (Some x) true at some = inr (refl, refl)
+some-above None None true at some = cc
+some-above None start false at some = cc
+
+-- the same by the names of the job, and by its modules
+pub overflows-in : (names other : Names) (narrowed : Narrowed) (own modules inputs : List (List ℕ)) → names ≡ other
+    → narrowed.start ≡ list_any has_wide_start own → own ≡ modules → SomeOverflows narrowed names inputs
+    → HaveOverflow first_overflow other inputs ⊎ (NarrowStart modules × HaveOverflow start_overflow other inputs)
+overflows-in names other narrowed own modules inputs same start are (inl over) =
+    inl (subst (λ n. HaveOverflow first_overflow n inputs) same over)
+overflows-in names other narrowed own modules inputs same start are (inr over) =
+    inr (
+      sym (start ∙ ap (list_any has_wide_start) are) ∙ over.0,
+      subst (λ n. HaveOverflow start_overflow n inputs) same over.1,
+    )
 
 -- ---- what inputs begin with
 
@@ -82,26 +117,26 @@ read-same one inputs read other (lists, all, are) (others, begin, same) =
 -- ---- whether a sum is too great
 
 -- not where an input begins with no module
-pub none-unread : (names : Names) (inputs other : List (List ℕ)) → inputs ≡ other → AreUnread inputs
-    → HaveOverflow names other → ⊥
-none-unread names inputs other same unread (modules, layout, read, is, over) =
+pub none-unread : (found : Layout → List Module → Option (ℕ × ℕ)) (names : Names) (inputs other : List (List ℕ))
+    → inputs ≡ other → AreUnread inputs → HaveOverflow found names other → ⊥
+none-unread found names inputs other same unread (modules, layout, read, is, over) =
     unread modules (subst (λ i. AreRead i modules) (sym same) read)
 
 -- one is
-pub overflow-is : (names : Names) (inputs other : List (List ℕ)) (modules : List Module) (layout : Layout)
-    → inputs ≡ other → AreRead inputs modules → IsOnlyLayout names modules layout → has_overflow layout modules ≡ true
-    → HaveOverflow names other
-overflow-is names inputs other modules layout same read is over =
+pub overflow-is : (found : Layout → List Module → Option (ℕ × ℕ)) (names : Names) (inputs other : List (List ℕ))
+    (modules : List Module) (layout : Layout) → inputs ≡ other → AreRead inputs modules
+    → IsOnlyLayout names modules layout → is_some (found layout modules) ≡ true → HaveOverflow found names other
+overflow-is found names inputs other modules layout same read is over =
     (modules, layout, subst (λ i. AreRead i modules) same read, is, over)
 
 -- none is
-pub none-over : OneModule → (names : Names) (inputs other : List (List ℕ)) (read : List Module) (layout : Layout)
-    → inputs ≡ other → AreRead inputs read → IsOnlyLayout names read layout → has_overflow layout read ≡ false
-    → HaveOverflow names other → ⊥
-none-over one names inputs other read layout same are is none (modules, placed, begin, only, over) =
+pub none-over : (found : Layout → List Module → Option (ℕ × ℕ)) → OneModule → (names : Names)
+    (inputs other : List (List ℕ)) (read : List Module) (layout : Layout) → inputs ≡ other → AreRead inputs read
+    → IsOnlyLayout names read layout → is_some (found layout read) ≡ false → HaveOverflow found names other → ⊥
+none-over found one names inputs other read layout same are is none (modules, placed, begin, only, over) =
     let all : modules ≡ read = read-same one other modules read begin (subst (λ i. AreRead i read) same are) in
     let there : placed ≡ layout = is.1 placed (subst (λ ms. IsOnlyLayout names ms placed) all only).0 in
-    true≢false (sym over ∙ ap₂ has_overflow there all ∙ none)
+    true≢false (sym over ∙ ap₂ (λ l ms. is_some (found l ms)) there all ∙ none)
 
 first-none : (names : Names) (modules : List Module) (fault : PlacementFault) (layout : Layout)
     → IsFirstFault names modules fault → IsOnlyLayout names modules layout → ⊥
@@ -121,9 +156,10 @@ none-placed names modules (held.DuplicatePublic name) layout other first is =
     first-none names modules _ layout first is
 
 -- not where modules have no layout
-pub none-laid : {A : Type 0} → OneModule → (names : Names) (inputs other : List (List ℕ)) (read : List Module)
-    (fault : PlaceFault A) → inputs ≡ other → AreRead inputs read → fault ≢ held.Memory
-    → IfSome (said fault) (IsFirstFault names read) → HaveOverflow names other → ⊥
-none-laid one names inputs other read fault same are failed first (modules, placed, begin, only, over) =
+pub none-laid : {A : Type 0} (found : Layout → List Module → Option (ℕ × ℕ)) → OneModule → (names : Names)
+    (inputs other : List (List ℕ)) (read : List Module) (fault : PlaceFault A) → inputs ≡ other
+    → AreRead inputs read → fault ≢ held.Memory → IfSome (said fault) (IsFirstFault names read)
+    → HaveOverflow found names other → ⊥
+none-laid found one names inputs other read fault same are failed first (modules, placed, begin, only, over) =
     let all : modules ≡ read = read-same one other modules read begin (subst (λ i. AreRead i read) same are) in
     none-placed names read fault placed failed first (subst (λ ms. IsOnlyLayout names ms placed) all only)

@@ -14,6 +14,7 @@ use Rattle.omf_place.specs.declared.names.Names.{Names}
 use Rattle.omf_place.specs.declared.names.Names.TheVariants.{AsciiFolded, Exact}
 use Rattle.omf_commands.specs.Outcome.{IsFaultless}
 use Rattle.omf_communal.specs.Deciding.{Variable}
+use Rattle.omf_image.specs.Overflow.{first_overflow, start_overflow}
 use Rattle.omf_lower.specs.declared.lowering.Lowering.{Lowering}
 use Rattle.omf_lower.specs.Module.{lowered}
 use Rattle.omf_search.specs.Said.{Module}
@@ -28,7 +29,7 @@ use Rattle.doslink_jobs.specs.Communals.{AreVariablesOf, IsCommunalModule, offer
 use Rattle.doslink_jobs.specs.FarData.{TellsFit}
 use Rattle.doslink_jobs.specs.Locals.{HaveLocals}
 use Rattle.doslink_jobs.specs.Orders.{IsOrderModule}
-use Rattle.doslink_jobs.specs.Overflow.{HaveOverflow, NarrowFixups}
+use Rattle.doslink_jobs.specs.Overflow.{HaveOverflow, NarrowFixups, NarrowStart}
 use Rattle.doslink_files.specs.Files.{AreFound, AreTold, IsFound}
 
 -- which names agree, by `--ignore-case`
@@ -77,8 +78,8 @@ link_says modules vs = map needs modules ++ offering vs ∷ []
 
 -- These are linked for the modules that a link takes, which say so of names with their communal variables: the modules
 -- lowered, each with the variables that are local to it, the module of communal variables behind them and the order
--- module in front of all, where there are these. Marks are wanted or not. Where fix-ups of 32 bits became ones of 16,
--- none of their sums has more than 16 bits.
+-- module in front of all, where there are these. Marks are wanted or not. Where fix-ups of 32 bits or a start became
+-- ones of 16, none of their sums has more than 16 bits.
 pub record AreInputsOf (job : Job) (says : List Module) (marks : Bool) (modules : List Held) (vs : List Variable)
     (linked : List (List ℕ)) : Type 0 where
   pub lowered : List (List ℕ)
@@ -91,7 +92,10 @@ pub record AreInputsOf (job : Job) (says : List Module) (marks : Bool) (modules 
   pub ordered : IsOrderModule (names_of job.ignore_case) marks (list_any (λ m. m.dosseg) modules) (order_of job.order)
       (inputs ++ option_to_list communal) order
   pub together : linked ≡ option_to_list order ++ (inputs ++ option_to_list communal)
-  pub fit : NarrowFixups (map (λ m. m.bytes) modules) lowered → HaveOverflow (names_of job.ignore_case) linked → ⊥
+  pub fit : NarrowFixups (map (λ m. m.bytes) modules) lowered
+      → HaveOverflow first_overflow (names_of job.ignore_case) linked → ⊥
+  pub start_fits : NarrowStart (map (λ m. m.bytes) modules)
+      → HaveOverflow start_overflow (names_of job.ignore_case) linked → ⊥
 
 -- A link was done of the modules that it takes: none of their names is missing, those of their communal variables being
 -- offered too, and what is linked for them has no fault.

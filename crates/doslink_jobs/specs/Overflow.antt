@@ -1,7 +1,8 @@
--- Fix-ups of 32 bits that became ones of 16, and their sums.
-use Rattle.std.specs.Prelude.{◌≡◌, ◌≢◌, ℕ, true, Any, List, zip}
-use Rattle.omf_image.specs.Overflow.{has_overflow}
-use Rattle.omf_lower.specs.Wide.{has_wide_fixups}
+-- Fix-ups of 32 bits that became ones of 16, a start that did, and their sums.
+use Rattle.std.specs.Prelude.{◌≡◌, ◌≢◌, ℕ, true, Any, is_some, List, zip}
+use Rattle.std.specs.declared.option.Option.{Option}
+use Rattle.std.specs.List.{list_any}
+use Rattle.omf_lower.specs.Wide.{has_wide_fixups, has_wide_start}
 use Rattle.omf_module.specs.Module.{Module}
 use Rattle.omf_place.specs.Faults.{IsOnlyLayout}
 use Rattle.omf_place.specs.Layout.{Layout}
@@ -12,8 +13,12 @@ use Rattle.doslink_jobs.specs.Orders.{AreRead}
 abbrev pub NarrowFixups : (modules lowered : List (List ℕ)) → Type 0
 NarrowFixups modules lowered = Any (λ m. (m.0 ≢ m.1) × (has_wide_fixups m.0 ≡ true)) (zip modules lowered)
 
--- the sum at a fix-up that was of 32 bits has more than 16, in the program of the modules that inputs begin with
-abbrev pub HaveOverflow : Names → (inputs : List (List ℕ)) → Type 0
-HaveOverflow names inputs =
+-- a module has a start of 32 bits, and so is never linked as it stands
+abbrev pub NarrowStart : (modules : List (List ℕ)) → Type 0
+NarrowStart modules = list_any has_wide_start modules ≡ true
+
+-- in the program of the modules that inputs begin with this finds a sum that has more than 16 bits
+abbrev pub HaveOverflow : (found : Layout → List Module → Option (ℕ × ℕ)) → Names → (inputs : List (List ℕ)) → Type 0
+HaveOverflow found names inputs =
     (modules : List Module) × (layout : Layout) × AreRead inputs modules × IsOnlyLayout names modules layout
-    × (has_overflow layout modules ≡ true)
+    × (is_some (found layout modules) ≡ true)

@@ -11,6 +11,7 @@ use Rattle.omf_communal.specs.Locals.{local_module, local_variables}
 use Rattle.omf_communal.specs.Modules as communal
 use Rattle.omf_communal.specs.Reading.{Communal, communals_of}
 use Rattle.omf_commands.specs.Outcome.{IsOnlyFault}
+use Rattle.omf_image.specs.Overflow.{first_overflow, start_overflow}
 use Rattle.omf_library.specs.Records.{module_records}
 use Rattle.omf_lower.specs.declared.lowering.Lowering.{Lowering}
 use Rattle.omf_lower.specs.Module.{lowered}
@@ -30,7 +31,7 @@ use Rattle.doslink_jobs.specs.Communals.{AreVariablesOf, IsCommunalModule, Tells
 use Rattle.doslink_jobs.specs.Jobs.{AreFilesOf, AreInputsOf, AreLoweredFor, TakesOf, link_says, names_of, renaming_of}
 use Rattle.doslink_jobs.specs.Locals.{HaveLocals}
 use Rattle.doslink_jobs.specs.Orders.{AreRead, IsOrderModule, order_asked, order_said}
-use Rattle.doslink_jobs.specs.Overflow.{HaveOverflow}
+use Rattle.doslink_jobs.specs.Overflow.{HaveOverflow, NarrowStart}
 
 -- a record of some module declares no communal variables as it should, or declarations of modules clash
 abbrev pub HaveNoVariables : Names → (modules : List Held) → Type 0
@@ -74,16 +75,19 @@ HaveNoOrder names dosseg asked inputs = (read : List Module) × AreRead inputs r
 abbrev pub HaveFault : (A : Type 0) → Names → (inputs : List (List ℕ)) → Type 0
 HaveFault A names inputs = (fault : LinkFault A) × IsOnlyFault names inputs fault
 
--- a fix-up of 32 bits that became one of 16 doesn't fit, in modules behind their order module
+-- a fix-up of 32 bits that became one of 16 doesn't fit, or the start doesn't that did, in modules behind their order
+-- module
 abbrev pub OverflowInOrder : Job → (marks : Bool) → (modules : List Held) → (inputs : List (List ℕ)) → Type 0
 OverflowInOrder job marks modules inputs =
     (order : Option (List ℕ))
     × IsOrderModule (names_of job.ignore_case) marks (list_any (λ m. m.dosseg) modules) (order_of job.order) inputs order
-    × HaveOverflow (names_of job.ignore_case) (option_to_list order ++ inputs)
+    × (HaveOverflow first_overflow (names_of job.ignore_case) (option_to_list order ++ inputs)
+    ⊎ (NarrowStart (map (λ m. m.bytes) modules)
+    × HaveOverflow start_overflow (names_of job.ignore_case) (option_to_list order ++ inputs)))
 
 -- Nothing is linked for the modules that a link takes, which say so of names with these communal variables: one of them
 -- can't be lowered, has no place for variables that are local to it, the communal ones have none, the order module
--- would have too many segments, or a fix-up of 32 bits that became one of 16 doesn't fit.
+-- would have too many segments, or a fix-up or start of 32 bits that became one of 16 doesn't fit.
 abbrev pub HaveNoInputs : Job → (says : List search.Module) → (marks : Bool) → (modules : List Held) → List Variable
     → Type 0
 HaveNoInputs job says marks modules vs =

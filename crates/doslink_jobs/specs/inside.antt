@@ -7,3 +7,4 @@ pub mod Listed
 pub mod Meanings
 pub mod Reading
 pub mod Stops
+pub mod Sums

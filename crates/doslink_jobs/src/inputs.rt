@@ -16,7 +16,7 @@ use crate::communals::{communal_bytes, variable_names};
 use crate::locals::with_locals;
 use crate::lowering::{LoweredModule, lower_for, lowered_slices};
 use crate::ordering::{Asked, is_unasked, order_bytes, read_modules};
-use crate::overflow::{check_sums, narrow_fixups};
+use crate::overflow::{check_sums, find_narrowed};
 use crate::stop::Stop;
 use crate::taking::Taken;
 use crate::widths::warn_of_wide_segments;
@@ -228,7 +228,7 @@ fn asks_dosseg<A: Allocator + Copy>(handed: &[Handed<'_, '_, A>]) -> bool
 
 /// The modules of a link as they are handed to it: those that it takes, lowered, with the variables that are local to
 /// each, the module of their communal variables behind them, and the order module in front of all. Segments of 32 bits
-/// are warned of, and a fix-up of 32 bits whose sum has more than 16 is told.
+/// are warned of, and a fix-up or start of 32 bits whose sum has more than 16 is told.
 pub(crate) fn inputs_of<'a, A: Allocator + Copy>(
     alloc: A,
     job: &Job<'_>,
@@ -252,7 +252,7 @@ pub(crate) fn inputs_of<'a, A: Allocator + Copy>(
         offered: &offered,
     })?;
     let lowered = lower_for(alloc, job, taken, &says, lines)?;
-    let are_narrow = narrow_fixups(alloc, &lowered)?;
+    let narrowed = find_narrowed(alloc, &lowered)?;
     let modules = with_locals(alloc, names, lowered, taken, lines)?;
     let communal = communal_bytes(alloc, &modules, taken, variables, lines)?;
     let asked = Asked {
@@ -268,6 +268,6 @@ pub(crate) fn inputs_of<'a, A: Allocator + Copy>(
         modules,
         communal,
     };
-    check_sums(alloc, names, are_narrow, &inputs, taken, lines)?;
+    check_sums(alloc, names, narrowed, &inputs, taken, lines)?;
     Ok(inputs)
 }

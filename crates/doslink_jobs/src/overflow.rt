@@ -1,8 +1,14 @@
-//! Fix-ups of 32 bits that became ones of 16: their sums have no more than 16 bits.
-ghost use Rattle.std.specs.Prelude.{◌≡◌, ◌≢◌, false, true, IfOk, map, MatchResult};
-ghost use Rattle.doslink_jobs.specs.Overflow.{HaveOverflow, NarrowFixups};
+//! Fix-ups of 32 bits that became ones of 16, and a start that did: their sums have no more than 16 bits.
+ghost use Rattle.std.specs.Prelude.{◌≡◌, ◌≢◌, cond, false, IfOk, map, MatchResult, None};
+ghost use Rattle.std.specs.List.{list_any};
+ghost use Rattle.std.specs.Option.{option_or};
+ghost use Rattle.omf_image.specs.Overflow as image;
+ghost use Rattle.omf_lower.specs.Wide as wide;
+ghost use Rattle.omf_place.specs.Bounded.{IsBounded};
+ghost use Rattle.doslink_jobs.specs.Overflow.{NarrowFixups};
 ghost use Rattle.doslink_jobs.specs.inside.Inputs.{input_list, lowered_bytes, own_bytes};
 ghost use Rattle.doslink_jobs.specs.inside.Stops.{OnInput};
+ghost use Rattle.doslink_jobs.specs.inside.Sums.{AllFit, SomeOverflows};
 
 use crate::inputs::{Inputs, input_slices, input_words, module_at};
 use crate::lowering::LoweredModule;
@@ -10,14 +16,23 @@ use crate::ordering::read_modules;
 use crate::stop::{Stop, stop_after};
 use crate::taking::Taken;
 use doslink_telling::push_overflow;
-use omf_image::first_overflow;
-use omf_lower::has_wide_fixups;
-use omf_module::one_module;
-use omf_place::{Names, PlaceFault, place};
+use omf_image::{first_overflow, start_overflow};
+use omf_lower::{has_wide_fixups, has_wide_start};
+use omf_module::{Module, one_module};
+use omf_place::{Layout, Names, PlaceFault, place};
 use std::alloc::{AllocError, Allocator};
 
+/// What of the modules of a link was of 32 bits.
+#[derive(Clone, Copy, Debug)]
+pub(crate) struct Narrowed {
+    /// Whether a fix-up was.
+    pub(crate) fixups: bool,
+    /// Whether a start was.
+    pub(crate) start: bool,
+}
+
 /// Whether a module that isn't linked as it stands has a fix-up of 32 bits.
-pub(crate) fn narrow_fixups<A: Allocator + Copy>(
+fn narrow_fixups<A: Allocator + Copy>(
     alloc: A,
     modules: &[LoweredModule<'_, A>],
 ) -> Result<bool, AllocError>
@@ -32,7 +47,57 @@ pub(crate) fn narrow_fixups<A: Allocator + Copy>(
     Ok(false)
 }
 
-/// Tells that the sum at a fix-up of an input has more than 16 bits, by the place of its record there, and stops.
+/// Whether a module has a start of 32 bits.
+fn narrow_start<A: Allocator + Copy>(
+    alloc: A,
+    modules: &[LoweredModule<'_, A>],
+) -> Result<bool, AllocError>
+    ensures { IfOk result (λ has. has ≡ list_any wide.has_wide_start (map own_bytes modules.now)) }
+{
+    for one in modules {
+        if has_wide_start(alloc, one.own)? {
+            return Ok(true);
+        }
+    }
+    Ok(false)
+}
+
+/// What of modules was of 32 bits.
+pub(crate) fn find_narrowed<A: Allocator + Copy>(
+    alloc: A,
+    modules: &[LoweredModule<'_, A>],
+) -> Result<Narrowed, AllocError>
+    ensures fixups { IfOk result
+        (λ n. n.fixups ≡ false → NarrowFixups (map own_bytes modules.now) (map lowered_bytes modules.now) → ⊥) }
+    ensures start { IfOk result (λ n. n.start ≡ list_any wide.has_wide_start (map own_bytes modules.now)) }
+{
+    let fixups = narrow_fixups(alloc, modules)?;
+    let start = narrow_start(alloc, modules)?;
+    Ok(Narrowed { fixups, start })
+}
+
+/// The first fix-up whose sum has more than 16 bits, else the start if it was of 32 bits and its sum has more: the
+/// input and the place of its record there.
+fn first_above<A: Allocator + Copy>(
+    narrowed: Narrowed,
+    modules: &[Module<A>],
+    layout: &Layout<A>,
+) -> Option<(usize, u64)>
+    requires { IsBounded modules.now layout.now }
+    ensures { result ≡ option_or (image.first_overflow layout.now modules.now)
+        (cond narrowed.start (image.start_overflow layout.now modules.now) None) }
+{
+    if let Some(at) = first_overflow(modules, layout) {
+        return Some(at);
+    }
+    if narrowed.start {
+        return start_overflow(modules, layout);
+    }
+    None
+}
+
+/// Tells that the sum at a fix-up or start of an input has more than 16 bits, by the place of its record there, and
+/// stops.
 fn stop_at_sum<A: Allocator + Copy>(
     alloc: A,
     inputs: &Inputs<'_, A>,
@@ -60,19 +125,19 @@ fn pass_unplaced<A: Allocator + Copy>(fault: PlaceFault<A>) -> Result<(), Stop>
     }
 }
 
-/// Stops where fix-ups were of 32 bits, and the sum at one of them has more than 16, and tells that one.
+/// Stops where fix-ups or the start were of 32 bits, and the sum at one of them has more than 16, and tells that one.
 pub(crate) fn check_sums<A: Allocator + Copy>(
     alloc: A,
     names: Names,
-    are_narrow: bool,
+    narrowed: Narrowed,
     inputs: &Inputs<'_, A>,
     taken: &Taken<'_, '_, '_, A>,
     lines: &mut Vec<u8, A>,
 ) -> Result<(), Stop>
-    ensures { MatchResult result (λ done. are_narrow ≡ true → HaveOverflow names (input_list inputs.now) → ⊥)
-        (λ stop. OnInput stop (HaveOverflow names (input_list inputs.now))) }
+    ensures { MatchResult result (λ done. AllFit narrowed names (input_list inputs.now))
+        (λ stop. OnInput stop (SomeOverflows narrowed names (input_list inputs.now))) }
 {
-    if !are_narrow {
+    if !narrowed.fixups && !narrowed.start {
         return Ok(());
     }
     one_module();
@@ -84,7 +149,7 @@ pub(crate) fn check_sums<A: Allocator + Copy>(
         Ok(layout) => layout,
         Err(fault) => return pass_unplaced(fault),
     };
-    match first_overflow(&modules, &layout) {
+    match first_above(narrowed, &modules, &layout) {
         Some(at) => Err(stop_after(stop_at_sum(alloc, inputs, taken, at, lines))),
         None => Ok(()),
     }

@@ -3,11 +3,11 @@ ghost use Rattle.std.specs.Prelude.{◌≡◌, ◌-◌, ◌^◌, ◌<◌, ◌++�
 ghost use Rattle.omf_files.specs.Files.{sink_failures};
 ghost use Rattle.doslink_files.specs.Files.{AreFound, AreTold, contents};
 ghost use Rattle.doslink_stock.specs.Files.{members};
-ghost use Rattle.doslink_stock.specs.Seen.{entry_held};
+ghost use Rattle.doslink_stock.specs.Seen.{entry_held, handed_held};
 ghost use Rattle.doslink_words.specs.Tokens.{texts};
-ghost use Rattle.doslink_jobs.specs.Jobs.{EndsWith, IsDone, IsLinked, Tells};
+ghost use Rattle.doslink_jobs.specs.Jobs.{EndsWith, IsDone, IsLinkOf, IsLinked, Tells};
 ghost use Rattle.doslink_jobs.specs.inside.Adding.{AddsDefaults, AreGiven};
-ghost use Rattle.doslink_jobs.specs.Refusals.{IsRefused, IsRefusedJob};
+ghost use Rattle.doslink_jobs.specs.Refusals.{IsRefused, IsRefusedJob, IsRefusedOf};
 ghost use Rattle.doslink_jobs.specs.inside.Inputs.{IsLinkedStock, IsRefusedStock};
 ghost use Rattle.doslink_jobs.specs.inside.Stops as stops;
 ghost use Rattle.doslink_jobs.specs.inside.Stops.{OnInput, told_text};
@@ -28,6 +28,27 @@ use omf_frame::{Sink, put_all};
 use std::alloc::{AllocError, Allocator};
 use std::io::Write;
 
+/// Links the modules that a link takes. Names that are missing stop it.
+fn link_taken<W: World + Copy, A: Allocator + Copy>(
+    alloc: A,
+    world: W,
+    job: &Job<'_>,
+    files: &[InputFile<A>],
+    stock: &Stock<'_, A>,
+    places: &Places<A>,
+    taken: &Taken<'_, '_, '_, A>,
+    lines: &mut Vec<u8, A>,
+) -> Result<(), Stop>
+    ensures { MatchResult result (λ done. IsLinkOf A job.now (λ ms. ms ≡ map handed_held taken.now.handed.now))
+        (λ stop. OnInput stop (IsRefusedOf A job.now (λ ms. ms ≡ map handed_held taken.now.handed.now))) }
+{
+    let names = options_of(job).names;
+    let variables = variables_of(alloc, names, taken, lines)?;
+    let marks = check_names(alloc, names, files, stock, taken.handed, &variables, lines)?;
+    let inputs = inputs_of(alloc, job, taken, &variables, marks, lines)?;
+    write_program(alloc, world, job, places, taken, &inputs, lines)
+}
+
 /// Links the modules that a link takes of these. They are told where the job asks for that; names that are missing stop
 /// it.
 fn link_stock<W: World + Copy, O: Write + Drop, A: Allocator + Copy>(
@@ -46,8 +67,7 @@ fn link_stock<W: World + Copy, O: Write + Drop, A: Allocator + Copy>(
         (map entry_held stock.now.objects.items) (map entry_held stock.now.members.items))) }
 {
     let places = places_of(alloc, job, files, lines)?;
-    let names = options_of(job).names;
-    let found = search(alloc, stock, names)?;
+    let found = search(alloc, stock, options_of(job).names)?;
     let handed = found.as_slice();
     let words = module_words(alloc, files, handed)?;
     let taken = Taken {
@@ -57,10 +77,7 @@ fn link_stock<W: World + Copy, O: Write + Drop, A: Allocator + Copy>(
     if job.verbose {
         tell_taken(alloc, output, &taken, lines)?;
     }
-    let variables = variables_of(alloc, names, &taken, lines)?;
-    let marks = check_names(alloc, names, files, stock, handed, &variables, lines)?;
-    let inputs = inputs_of(alloc, job, &taken, &variables, marks, lines)?;
-    write_program(alloc, world, job, &places, &taken, &inputs, lines)
+    link_taken(alloc, world, job, files, stock, &places, &taken, lines)
 }
 
 /// Links what the files hold.

@@ -14,8 +14,9 @@ use crate::records::{
     PATCHED, PATCHED_BY_NAME, REPEATS, UNLISTED, WIDELY,
 };
 use crate::sums::{
-    EXTERNAL_FITS, EXTERNAL_SUM, GROUP_FITS, GROUP_SUM, LOADER, REPEATED_FITS, REPEATED_SUM,
-    SEGMENT_FITS, SEGMENT_SUM, WIDELY_REPEATED,
+    EXTERNAL_FITS, EXTERNAL_SUM, FAR_POINTER, GROUP_FITS, GROUP_SUM, LOADER, LOCAL_WIDE_START,
+    REPEATED_FITS, REPEATED_SUM, SEGMENT_FITS, SEGMENT_SUM, SHARED_BYTE, SHARED_WORD, SHORT_START,
+    WIDE_END, WIDE_START, WIDELY_REPEATED,
 };
 use desk::{Count, Desk, Page, Pen};
 use doslink_jobs::{language_of, run_words};
@@ -144,7 +145,8 @@ doslink -v LOCAL.OBJ ALIAS.OBJ RUN.LIB|0|LOCAL.OBJ~ALIAS.OBJ~RUN.LIB(c.c) for \"
 doslink --ignore-case CALLS.OBJ CASE.OBJ F.OBJ|1||doslink: CASE.OBJ: 60 EndlessAlias \"F\" at record 8~
 ";
 
-/// Runs with offsets of 32 bits whose sums are 65,535, and 65,536 or more, in the same form.
+/// Runs with offsets and starts of 32 bits whose sums are 65,535, and 65,536 or more, or whose words other fix-ups
+/// share, in the same form.
 const SUM_RUNS: &str = "\
 doslink EFITS.OBJ F.OBJ|0||
 doslink ESUM.OBJ F.OBJ|1||doslink: ESUM.OBJ: 61 SumAbove16Bits at record 46~
@@ -159,6 +161,19 @@ doslink RSUM.OBJ|1||doslink: RSUM.OBJ: 61 SumAbove16Bits at record 44~
 doslink WSUM.OBJ|1||doslink: WSUM.OBJ: 61 SumAbove16Bits at record 57~
 doslink ESUM.OBJ|1||doslink: ESUM.OBJ: \"f\" is missing: record 28 (0000001C), wanted by \"s.c\"~
 doslink LOADER.OBJ|0||
+doslink BYTE.OBJ|1||doslink: BYTE.OBJ: 61 SumAbove16Bits at record 41~
+doslink WORD.OBJ|1||doslink: WORD.OBJ: 61 SumAbove16Bits at record 49~
+doslink POINTER.OBJ|0||
+doslink START.OBJ|0||
+doslink F.OBJ START.OBJ|1||doslink: START.OBJ: 61 SumAbove16Bits at record 39~
+doslink --order dosseg F.OBJ START.OBJ|1||doslink: START.OBJ: 61 SumAbove16Bits at record 39~
+doslink F.OBJ LWIDE.OBJ|1||doslink: LWIDE.OBJ: 61 SumAbove16Bits at record 48~
+doslink F.OBJ START16.OBJ|0||
+doslink F.OBJ START16.OBJ END32.OBJ|0||
+doslink F.OBJ START16.OBJ EFITS.OBJ|0||
+doslink F.OBJ START.OBJ START.OBJ|1||doslink: START.OBJ: 33 TwoStarts at record 39~
+doslink ESUM.OBJ F.OBJ START.OBJ|1||doslink: ESUM.OBJ: 61 SumAbove16Bits at record 46~
+doslink F.OBJ START.OBJ ESUM.OBJ|1||doslink: START.OBJ: 61 SumAbove16Bits at record 39~
 ";
 
 /// Runs with weak and lazy externals, in the same form.
@@ -187,11 +202,37 @@ doslink ITSELF.OBJ|1||doslink: ITSELF.OBJ: 60 EndlessAlias \"f\" at record 35~
 ";
 
 /// Runs, and the end of the file that each writes: the whole of it, or its code, which calls `f` first.
-const PROGRAMS: [(&str, &[u8]); 16] = [
+const PROGRAMS: [(&str, &[u8]); 19] = [
     // FFFBH and the offset 4 in 32 bits
     ("doslink EFITS.OBJ F.OBJ", &[0xFF, 0xFF, 0x00, 0x00, 0x90]),
     // an offset of 16 bits goes round, and one of 32 doesn't
     ("doslink LOADER.OBJ", &[0x00, 0x00, 0x05, 0x00, 0x00, 0x00]),
+    // a far pointer of an offset of 32 bits and a base at its upper word
+    (
+        "doslink POINTER.OBJ",
+        &[
+            0x4D, 0x5A, 0x26, 0x00, 0x01, 0x00, 0x01, 0x00, 0x02, 0x00, 0x01, 0x00, 0xFF, 0xFF,
+            0x00, 0x00, 0x00, 0x00, 0x00, 0x00, 0x00, 0x00, 0x00, 0x00, 0x1C, 0x00, 0x00, 0x00,
+            0x02, 0x00, 0x00, 0x00, 0x00, 0x00, 0x00, 0x00, 0x00, 0x00,
+        ],
+    ),
+    // a start of 32 bits at FFFFH, and one of 16 bits at 10000H, which goes round
+    (
+        "doslink START.OBJ",
+        &[
+            0x4D, 0x5A, 0x24, 0x00, 0x01, 0x00, 0x00, 0x00, 0x02, 0x00, 0x01, 0x00, 0xFF, 0xFF,
+            0x00, 0x00, 0x00, 0x00, 0x00, 0x00, 0xFF, 0xFF, 0x00, 0x00, 0x1C, 0x00, 0x00, 0x00,
+            0x00, 0x00, 0x00, 0x00, 0x90, 0x90, 0x90, 0x90,
+        ],
+    ),
+    (
+        "doslink F.OBJ START16.OBJ",
+        &[
+            0x4D, 0x5A, 0x25, 0x00, 0x01, 0x00, 0x00, 0x00, 0x02, 0x00, 0x01, 0x00, 0xFF, 0xFF,
+            0x00, 0x00, 0x00, 0x00, 0x00, 0x00, 0x00, 0x00, 0x00, 0x00, 0x1C, 0x00, 0x00, 0x00,
+            0x00, 0x00, 0x00, 0x00, 0x90, 0x90, 0x90, 0x90, 0x90,
+        ],
+    ),
     // its default is in the module behind the next one
     (
         "doslink WEAKLY.OBJ D.OBJ RUN.LIB",
@@ -438,6 +479,13 @@ fn run_row(alloc: Global, row: &str, path: &str) -> Result<Done, AllocError> {
         ("RSUM.OBJ", REPEATED_SUM.as_slice()),
         ("WSUM.OBJ", WIDELY_REPEATED.as_slice()),
         ("LOADER.OBJ", LOADER.as_slice()),
+        ("BYTE.OBJ", SHARED_BYTE.as_slice()),
+        ("WORD.OBJ", SHARED_WORD.as_slice()),
+        ("POINTER.OBJ", FAR_POINTER.as_slice()),
+        ("START.OBJ", WIDE_START.as_slice()),
+        ("START16.OBJ", SHORT_START.as_slice()),
+        ("LWIDE.OBJ", LOCAL_WIDE_START.as_slice()),
+        ("END32.OBJ", WIDE_END.as_slice()),
     ];
     let out = Page::new(alloc, path, b"old", ROOM)?;
     let map = Page::new(alloc, "P.MAP", b"old", ROOM)?;

@@ -1,50 +1,39 @@
 //! Maps of linked programs.
-ghost use Rattle.std.specs.Prelude.{◌<◌};
 
-use omf_frame::{IoFault, MemSink};
+ghost use Rattle.std.specs.Prelude.{◌-◌, ◌^◌, ◌<◌};
+ghost use Rattle.omf_place.specs.Bounded.{IsBounded};
+
+use omf_frame::MemSink;
 use omf_image::{Program, build};
 use omf_map::put_map;
 use omf_module::Module;
 use omf_place::{Layout, Names, place};
-use rows::{publics, put_record, read_modules, read_row};
-use std::alloc::Global;
-use std::process::Abort;
+use rows::{publics, read_modules, read_row, same};
+use std::alloc::{AllocError, Global};
 use std::test::*;
 
-/// The records of a module, each its type and its body.
-type Records<'a> = &'a [(u8, &'a [u8])];
-
-const HEADER: (u8, &[u8]) = (0x80, b"\x01A");
-
-const END: (u8, &[u8]) = (0x8A, &[0]);
-
-/// A module that takes a word of another one by a group.
-const DATA_USER: [(u8, &[u8]); 10] = [
-    HEADER,
-    (0x96, b"\x00\x04CODE\x05_DATA\x06DGROUP"),
-    (0x98, &[0x68, 0x12, 0, 2, 2, 1]),
-    (0x98, &[0x48, 3, 0, 3, 3, 1]),
-    (0x9A, &[4, 0xFF, 2]),
-    (0x8C, b"\x01x\x00"),
-    (0xA0, &[1, 0, 0, 0xB8, 0, 0, 0xA1, 0, 0]),
-    (0x9C, &[0x44, 1, 8, 1]),
-    (0x9C, &[0xC8, 1, 0x8C, 0xC4, 4, 0x8C]),
-    (0x8A, &[0xC1, 0, 1, 1, 0, 0]),
-];
-
-/// The module that has the word.
-const DATA_OWNER: [(u8, &[u8]); 7] = [
-    HEADER,
-    (0x96, b"\x00\x05_DATA\x06DGROUP"),
-    (0x98, &[0x48, 2, 0, 2, 2, 1]),
-    (0x9A, &[3, 0xFF, 1]),
-    (0x90, b"\x01\x01\x01x\x00\x00\x00"),
-    (0xA0, &[1, 0, 0, 0x34, 0x12]),
-    END,
-];
-
-const GROUPED_MAP: &str = "\
-segments
+/// Modules, and the map of their program.
+const MAPS: &str = "\
+# a module that takes a word of another one by a group, and the module that has the word
+80 01 41
+96 00 04 43 4F 44 45 05 5F 44 41 54 41 06 44 47 52 4F 55 50
+98 68 12 00 02 02 01
+98 48 03 00 03 03 01
+9A 04 FF 02
+8C 01 78 00
+A0 01 00 00 B8 00 00 A1 00 00
+9C 44 01 08 01
+9C C8 01 8C C4 04 8C
+8A C1 00 01 01 00 00
+--
+80 01 41
+96 00 05 5F 44 41 54 41 06 44 47 52 4F 55 50
+98 48 02 00 02 02 01
+9A 03 FF 01
+90 01 01 01 78 00 00 00
+A0 01 00 00 34 12
+8A 00
+= segments
 000000 000012 public   \"CODE\" \"CODE\"
 000012 000006 public   \"_DATA\" \"_DATA\"
 groups
@@ -55,21 +44,16 @@ entry 0000:0000
 stack 0000:0000
 size 000018
 relocations 1
-";
 
-/// A module that names the base of an absolute segment.
-const ABSOLUTE: [(u8, &[u8]); 7] = [
-    HEADER,
-    (0x96, b"\x00\x04CODE"),
-    (0x98, &[0x28, 2, 0, 2, 1, 1]),
-    (0x98, &[0, 0, 0xB8, 0, 0, 0x40, 1, 1, 1]),
-    (0xA0, &[1, 0, 0, 0, 0]),
-    (0x9C, &[0xC8, 0, 4, 2, 2]),
-    END,
-];
-
-const ABSOLUTE_MAP: &str = "\
-segments
+# a module that names the base of an absolute segment
+80 01 41
+96 00 04 43 4F 44 45
+98 28 02 00 02 01 01
+98 00 00 B8 00 00 40 01 01 01
+A0 01 00 00 00 00
+9C C8 00 04 02 02
+8A 00
+= segments
 000000 000002 public   \"CODE\" \"\"
 0B8000 004000 absolute \"\" \"\"
 groups
@@ -78,36 +62,29 @@ entry 0000:0000
 stack 0000:0000
 size 000002
 relocations 0
-";
 
-/// A private, a stack and a common segment and an absolute one before it, a group without members, publics of
-/// both sorts, and a start.
-const MIXED: [(u8, &[u8]); 10] = [
-    HEADER,
-    (0x96, b"\x00\x02\"\xFF\x01G\x04\\ ~\x7F"),
-    (0x98, &[0x60, 4, 0, 2, 1, 1]),
-    (0x98, &[0x74, 0, 1, 2, 1, 1]),
-    (0x98, &[0, 0x40, 0, 2, 0x10, 0, 4, 2, 1]),
-    (0x98, &[0x78, 2, 0, 2, 1, 1]),
-    (0x9A, &[3]),
-    (0x90, b"\x00\x00\x40\x00\x01x\x6C\x04\x00"),
-    (0x90, b"\x00\x04\x04\\ ~\x7F\x01\x00\x00"),
-    (0x8A, &[0xC1, 0, 1, 1, 2, 0]),
-];
-
-/// A longer common segment and an absolute one of 65,536 bytes, a group with a member, and a public of it.
-const LONGER: [(u8, &[u8]); 7] = [
-    HEADER,
-    (0x96, b"\x00\x02\"\xFF\x01H"),
-    (0x98, &[0x78, 5, 0, 2, 1, 1]),
-    (0x98, &[2, 0, 0xB8, 0, 0, 0, 3, 1, 1]),
-    (0x9A, &[3, 0xFF, 1]),
-    (0x90, b"\x01\x01\x01z\x03\x00\x00"),
-    END,
-];
-
-const MIXED_MAP: &str = "\
-segments
+# a private, a stack and a common segment and an absolute one before it, a group without members, publics of both
+# sorts, and a start; and a longer common segment and an absolute one of 65,536 bytes, a group with a member, and a
+# public of it
+80 01 41
+96 00 02 22 FF 01 47 04 5C 20 7E 7F
+98 60 04 00 02 01 01
+98 74 00 01 02 01 01
+98 00 40 00 02 10 00 04 02 01
+98 78 02 00 02 01 01
+9A 03
+90 00 00 40 00 01 78 6C 04 00
+90 00 04 04 5C 20 7E 7F 01 00 00
+8A C1 00 01 01 02 00
+--
+80 01 41
+96 00 02 22 FF 01 48
+98 78 05 00 02 01 01
+98 02 00 B8 00 00 00 03 01 01
+9A 03 FF 01
+90 01 01 01 7A 03 00 00
+8A 00
+= segments
 000000 000004 private  \"\\x22\\xFF\" \"\"
 000010 000100 stack    \"\\x22\\xFF\" \"\"
 000110 000005 common   \"\\x22\\xFF\" \"\"
@@ -124,20 +101,15 @@ entry 0000:0002
 stack 0001:0100
 size 000115
 relocations 0
-";
 
-/// A public, and local publics of its name and of another one.
-const LOCALS: [(u8, &[u8]); 6] = [
-    HEADER,
-    (0x96, b"\x00\x04CODE"),
-    (0x98, &[0x28, 4, 0, 2, 1, 1]),
-    (0xB6, b"\x00\x01\x01x\x02\x00\x00\x01y\x03\x00\x00"),
-    (0x90, b"\x00\x01\x01x\x01\x00\x00"),
-    END,
-];
-
-const LOCALS_MAP: &str = "\
-segments
+# a public, and local publics of its name and of another one
+80 01 41
+96 00 04 43 4F 44 45
+98 28 04 00 02 01 01
+B6 00 01 01 78 02 00 00 01 79 03 00 00
+90 00 01 01 78 01 00 00
+8A 00
+= segments
 000000 000004 public   \"CODE\" \"\"
 groups
 publics
@@ -145,105 +117,104 @@ publics
 entry 0000:0000
 stack 0000:0000
 size 000004
-relocations 0
-";
+relocations 0";
 
-/// The most bytes of a map here.
-const ROOM: usize = 500;
+/// What is linked.
+type Linked<'a> = (&'a [Module], &'a Layout, &'a Program);
 
-/// Modules, their layout and their program.
-#[derive(Drop)]
-struct Linked {
-    modules: Vec<Module>,
-    layout: Layout,
-    program: Program,
-}
+/// How many bytes a sink takes, and how many of them at once.
+type Room = (usize, usize);
 
-fn link_inputs(alloc: Global, inputs: &[Vec<u8>]) -> Result<Linked, Fail> {
-    let modules = read_modules(alloc, inputs)?;
-    let layout = place(alloc, modules.as_slice(), Names::Exact)?;
-    let program = build(alloc, modules.as_slice(), &layout)?;
-    Ok(Linked {
-        modules,
-        layout,
-        program,
-    })
-}
-
-fn link_records(alloc: Global, modules: &[Records<'_>]) -> Result<Linked, Fail> {
-    let mut inputs = Vec::new(alloc);
-    for records in modules {
-        let mut bytes = Vec::new(alloc);
-        for (kind, body) in *records {
-            put_record(&mut bytes, *kind, body)?;
-        }
-        inputs.push(bytes)?;
-    }
-    link_inputs(alloc, &inputs)
-}
-
-/// The map is this text, and where it is cut short for want of room a front of it.
-fn maps<R: Abort>(rt: &R, linked: &Linked, map: &str, piece: usize) -> Result<(), Fail>
-    requires { 0 < piece }
+/// Whether the sink took the whole map.
+fn has_put(linked: Linked<'_>, sink: &mut MemSink<'_>) -> bool
+    requires { sink.old.failures < 2 ^ 64 - 1 }
 {
-    let modules = linked.modules.as_slice();
-    for room in 0..map.len() {
-        let mut bytes = [0u8; ROOM];
-        let mut sink = MemSink::over(&mut bytes[..room.min(ROOM)], piece);
-        let done = put_map(&mut sink, modules, &linked.layout, &linked.program);
-        assert_eq!(rt; done, Err(IoFault), "{room}");
-        assert_eq!(rt; sink.written(), &map.as_bytes()[..room]);
+    let (modules, layout, program) = linked;
+    put_map(sink, modules, layout, program).is_ok()
+}
+
+/// What a sink took of the map, and whether it failed.
+fn told(alloc: Global, linked: Linked<'_>, (room, piece): Room) -> Result<String, Fail> {
+    let mut bytes = vec![in alloc; 0u8; room]?;
+    let mut sink = MemSink::over(&mut bytes, piece.max(1));
+    let end = if has_put(linked, &mut sink) {
+        ""
+    } else {
+        "cut"
+    };
+    let text = str::from_utf8(sink.written())?;
+    Ok(format!(in alloc; "{text}{end}")?)
+}
+
+/// The map, or as much of it as there is room for.
+fn wanted(alloc: Global, map: &str, room: usize) -> Result<String, AllocError> {
+    match map.get(..room) {
+        Some(front) if room < map.len() => format!(in alloc; "{front}cut"),
+        _ => String::from_str(alloc, map),
     }
-    let mut bytes = [0u8; ROOM];
-    let mut sink = MemSink::over(&mut bytes[..map.len().min(ROOM)], piece);
-    let done = put_map(&mut sink, modules, &linked.layout, &linked.program);
-    assert_eq!(rt; done, Ok(()));
-    assert_eq!(rt; sink.written(), map.as_bytes());
+}
+
+/// The map is this text, or a front of it, in sinks with room for so many bytes, each number up to one more than all.
+fn maps(alloc: Global, linked: Linked<'_>, map: &str, least: usize) -> Result<(), Fail> {
+    for room in least.min(map.len())..=map.len().saturating_add(1) {
+        let wanted = wanted(alloc, map, room)?;
+        for piece in [1usize, 7, 4_096] {
+            same(&told(alloc, linked, (room, piece))?, &wanted)?;
+        }
+    }
     Ok(())
+}
+
+/// That of modules that were placed.
+fn built_maps(
+    alloc: Global,
+    modules: &[Module],
+    layout: &Layout,
+    map: &str,
+    least: usize,
+) -> Result<(), Fail>
+    requires { IsBounded modules.now layout.now }
+{
+    let program = build(alloc, modules, layout)?;
+    maps(alloc, (modules, layout, &program), map, least)
+}
+
+/// That of modules.
+fn placed_maps(alloc: Global, modules: &[Module], map: &str, least: usize) -> Result<(), Fail> {
+    let layout = place(alloc, modules, Names::Exact)?;
+    built_maps(alloc, modules, &layout, map, least)
+}
+
+/// That of a row of a table.
+fn row_maps(alloc: Global, row: &str, least: usize) -> Result<(), Fail> {
+    let row = read_row(alloc, row)?;
+    let modules = read_modules(alloc, &row.inputs)?;
+    let map = format!(in alloc; "{}\n", row.wanted)?;
+    placed_maps(alloc, &modules, &map, least)
 }
 
 #[test]
 fn programs_have_maps(rt: HostRuntime) -> Result<(), Fail> {
-    let rows: [(&[Records<'_>], &str); 4] = [
-        (&[&DATA_USER, &DATA_OWNER], GROUPED_MAP),
-        (&[&ABSOLUTE], ABSOLUTE_MAP),
-        (&[&MIXED, &LONGER], MIXED_MAP),
-        (&[&LOCALS], LOCALS_MAP),
-    ];
-    for (inputs, map) in rows {
-        let linked = link_records(rt.alloc(), inputs)?;
-        maps(&rt, &linked, map, 1)?;
-        maps(&rt, &linked, map, 7)?;
+    for row in MAPS.split("\n\n") {
+        row_maps(rt.alloc(), row, 0)?;
     }
     Ok(())
 }
 
-/// How many publics a large module has, and how long its segment is.
-const COUNT: u16 = 2_000;
-
-/// The map of the module of numbered publics.
-fn numbered_map(alloc: Global) -> Result<String, Fail> {
-    let mut map = String::new(alloc);
-    map.push_str("segments\n000000 0007D0 public   \"CODE\" \"\"\ngroups\npublics\n")?;
-    for n in 0..COUNT {
-        map.push_str(&format!(in alloc; "{n:06X} R \"a{n}\"\n")?)?;
+/// The module of 2,000 numbered publics, and its map.
+fn numbered_row(alloc: Global) -> Result<String, Fail> {
+    let mut row = String::new(alloc);
+    write!(row, "98 28 D0 07 02 01 01{}", publics(alloc, 2_000)?)?;
+    row.push_str("\n= segments\n000000 0007D0 public   \"CODE\" \"\"\ngroups\npublics\n")?;
+    for n in 0..2_000u16 {
+        write!(row, "{n:06X} R \"a{n}\"\n")?;
     }
-    map.push_str("entry 0000:0000\nstack 0000:0000\nsize 0007D0\nrelocations 0\n")?;
-    Ok(map)
+    row.push_str("entry 0000:0000\nstack 0000:0000\nsize 0007D0\nrelocations 0")?;
+    Ok(row)
 }
 
 #[test]
 fn many_publics_are_listed_in_order(rt: HostRuntime) -> Result<(), Fail> {
-    let publics = publics(rt.alloc(), COUNT)?;
-    let lines = format!(in rt.alloc(); "98 28 D0 07 02 01 01{publics}")?;
-    let row = read_row(rt.alloc(), &lines)?;
-    let linked = link_inputs(rt.alloc(), &row.inputs)?;
-    let mut room = vec![in rt.alloc(); 0u8; 40_000]?;
-    let mut sink = MemSink::over(&mut room, 4_096);
-    let modules = linked.modules.as_slice();
-    let done = put_map(&mut sink, modules, &linked.layout, &linked.program);
-    assert_eq!(rt; done, Ok(()));
-    let map = numbered_map(rt.alloc())?;
-    assert_eq!(rt; sink.written(), map.as_bytes());
-    Ok(())
+    let row = numbered_row(rt.alloc())?;
+    row_maps(rt.alloc(), &row, usize::MAX)
 }

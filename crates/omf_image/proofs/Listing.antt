@@ -11,6 +11,7 @@ use Rattle.omf_module.specs.declared.Start.{Start}
 use Rattle.omf_place.specs.Layout.{Layout}
 use Rattle.omf_image.specs.declared.faults.FixKind.TheVariants.{TwoStarts}
 use Rattle.omf_image.specs.declared.faults.FixFault.TheVariants.{At}
+use Rattle.omf_image.specs.Overflow.{only_overflow, start_overflow}
 use Rattle.omf_image.specs.Registers.{StartEntry, starts, starts_fault, start_meaning, entry_at}
 use Rattle.omf_image.specs.inside.Entries.{module_start, starts_from}
 use Rattle.omf_image.specs.inside.Starts.{FindsStart, GivesEntry}
@@ -84,3 +85,12 @@ two_starts layout ms f g one two =
     let n = some_item ms g.0 two.0 in
     let e : StartEntry = record { input = f.0; module' = m.0; start = f.1 } in
     ap (starts_fault layout) (one.1 m.0 m.1 ∙ ap (λ (es : List StartEntry). e ∷ es) (two.1 n.0 n.1))
+
+-- of two starts neither is looked at
+pub neither_overflows : (layout : Layout) (ms : List Module) (f g : ℕ × Start) → FindsStart ms 0 (Some f)
+    → FindsStart ms (f.0 + 1) (Some g) → start_overflow layout ms ≡ None
+neither_overflows layout ms f g one two =
+    let m = some_item ms f.0 one.0 in
+    let n = some_item ms g.0 two.0 in
+    let e : StartEntry = record { input = f.0; module' = m.0; start = f.1 } in
+    ap (only_overflow layout) (one.1 m.0 m.1 ∙ ap (λ (es : List StartEntry). e ∷ es) (two.1 n.0 n.1))

@@ -1,14 +1,17 @@
--- Whether some of a list is so, one behind the other, and whether a sum at some word has more than 16 bits.
+-- Whether some of a list is so, what is found first in it, and which word of a data record is too small.
 use Rattle.std.proofs.Common.{◌≡◌, ℕ, zero, suc, ◌+◌, ◌-◌, ◌<◌, ◌≤◌, ◌||◌, ◌&&◌, Bool, true, false, List, [], ◌∷◌, ◌++◌}
 use Rattle.std.proofs.Common.{cond}
-use Rattle.std.proofs.Common.{arith, filter, map, zip, length, get_or, eqb, refl, ap, ◌∙◌, sym}
-use Rattle.std.proofs.lemmas.List.Folds.{list_any-append}
-use Rattle.std.specs.List.{list_any, range_with_len}
+use Rattle.std.proofs.Common.{arith, drop, filter, map, zip, length, get_or, slice_get, eqb, refl, ap, ◌∙◌, sym}
+use Rattle.std.proofs.Common.{Option, Some, None}
+use Rattle.std.proofs.lemmas.List.{drop_all}
+use Rattle.std.proofs.lemmas.List.Elements.{filter_map-append}
+use Rattle.std.specs.List.{filter_map, list_any, range_with_len}
+use Rattle.std.specs.Option.{option_or}
 use Rattle.omf_image.specs.declared.reference.Resolved.{Resolved}
 use Rattle.omf_image.specs.Overflow.{is_above}
 use Rattle.omf_image.specs.Records.{hits}
 use Rattle.omf_image.specs.Words.{word_at}
-use Rattle.omf_image.proofs.Meaning.{first_of_zip, second_of_zip}
+use Rattle.omf_image.proofs.Meaning.{drop_more, first_of_zip, second_of_zip}
 
 or_left : (a b : Bool) → a ≡ true → (a || b) ≡ true
 or_left a b is = ap (λ x. x || b) is
@@ -27,13 +30,6 @@ pub any_later : {X : Type 0} (p : X → Bool) (front rest : List X) (x : X) (all
     → p x ≡ false → list_any p front ≡ all → list_any p rest ≡ all
 any_later p front rest x all split is some =
     sym (or_right (p x) (list_any p rest) is) ∙ sym (ap (list_any p) split) ∙ some
-
--- none of the first is
-pub any_behind : {X : Type 0} (p : X → Bool) (front first rest : List X) (all : Bool) → front ≡ first ++ rest
-    → list_any p first ≡ false → list_any p front ≡ all → list_any p rest ≡ all
-any_behind p front first rest all split is some =
-    sym (or_right (list_any p first) (list_any p rest) is) ∙ sym (list_any-append p first rest)
-    ∙ sym (ap (list_any p) split) ∙ some
 
 -- some of those that pass a test, as they are seen
 any_filtered : {X Y : Type 0} (p : Y → Bool) (f : X → Y) (test : X → Bool) (xs : List X)
@@ -77,3 +73,85 @@ first_false a b is = ap (λ x. x && b) is
 
 pub second_false : (a b : Bool) → a ≡ true → b ≡ false → (a && b) ≡ false
 second_false a b is it = ap (λ x. x && b) is ∙ it
+
+-- ---- a word that has no room
+
+-- all elements are so counted, or some are so
+or_each : {X : Type 0} (p : X → Bool) (all : Bool) (xs : List X)
+    → list_any (λ x. all || p x) xs ≡ (list_any (λ x. true) xs && (all || list_any p xs))
+or_each p all [] = refl
+or_each p true (x ∷ xs) = refl
+or_each p false (x ∷ xs) = refl
+
+-- there is one that passes a test, as it is seen
+some_filtered : {X Y : Type 0} (f : X → Y) (test : X → Bool) (xs : List X)
+    → list_any (λ y. true) (map f (filter test xs)) ≡ list_any test xs
+some_filtered f test [] = refl
+some_filtered f test (x ∷ xs) = go (test x) (some_filtered f test xs)
+  where
+    go : (b : Bool) → list_any (λ y. true) (map f (filter test xs)) ≡ list_any test xs
+        → list_any (λ y. true) (map f (cond b (x ∷ filter test xs) (filter test xs))) ≡ (b || list_any test xs)
+    go true rest = refl
+    go false rest = rest
+
+-- a test of the elements at the positions from one on
+any_from : (q : ℕ → Bool) (xs : List ℕ) (i n : ℕ) → i + n ≡ length xs
+    → list_any (λ k. q (get_or xs k 0)) (range_with_len i n) ≡ list_any q (drop i xs)
+any_from q xs i zero h = sym (ap (list_any q) (drop_all i xs (omega (arith, h))))
+any_from q xs i (suc n) h =
+    ap (λ b. q (get_or xs i 0) || b) (any_from q xs (i + 1) n (omega (arith, h)))
+    ∙ sym (ap (list_any q) (drop_more xs i 0 (omega (arith, h))))
+
+-- a word stands where a byte was stored
+word_there : (f : ℕ → ℕ) (offset : ℕ) (places bytes : List ℕ) → length bytes ≡ length places
+    → list_any (λ w. true) (map f (hits offset (map (λ (p : ℕ × ℕ). p.0) (zip places bytes))))
+    ≡ list_any (λ place. eqb place offset) places
+word_there f offset places bytes same =
+    ap (λ ps. list_any (λ w. true) (map f (hits offset ps))) (first_of_zip places bytes (sym same))
+    ∙ some_filtered f (λ i. eqb (get_or places i 0) offset) (range_with_len 0 (length places))
+    ∙ any_from (λ place. eqb place offset) places 0 (length places) (omega arith)
+
+-- it has no room where it is shared, or where its sum is too great
+pub without_room : (r : Resolved) (offset : ℕ) (shared : Bool) (places bytes : List ℕ) → length bytes ≡ length places
+    → list_any (λ w. shared || is_above r w) (map (word_at (map (λ (p : ℕ × ℕ). p.1) (zip places bytes)))
+    (hits offset (map (λ (p : ℕ × ℕ). p.0) (zip places bytes))))
+    ≡ (list_any (λ place. eqb place offset) places
+    && (shared || list_any (is_above r) (map (word_at (map (λ (p : ℕ × ℕ). p.1) (zip places bytes)))
+    (hits offset (map (λ (p : ℕ × ℕ). p.0) (zip places bytes))))))
+without_room r offset shared places bytes same =
+    let f = word_at (map (λ (p : ℕ × ℕ). p.1) (zip places bytes)) in
+    let words = map f (hits offset (map (λ (p : ℕ × ℕ). p.0) (zip places bytes))) in
+    or_each (is_above r) shared words
+    ∙ ap (λ there. there && (shared || list_any (is_above r) words)) (word_there f offset places bytes same)
+
+-- ---- what is found first
+
+first_joined : {X : Type 0} (xs ys : List X) → slice_get (xs ++ ys) 0 ≡ option_or (slice_get xs 0) (slice_get ys 0)
+first_joined [] ys = refl
+first_joined (x ∷ xs) ys = refl
+
+-- it stands in the first part
+pub found_here : {X Y : Type 0} (f : X → Option Y) (front first rest : List X) (y : Y) (all : Option Y)
+    → front ≡ first ++ rest → slice_get (filter_map f first) 0 ≡ Some y → slice_get (filter_map f front) 0 ≡ all
+    → Some y ≡ all
+found_here f front first rest y all split is found =
+    sym (ap (λ o. option_or o (slice_get (filter_map f rest) 0)) is)
+    ∙ sym (first_joined (filter_map f first) (filter_map f rest))
+    ∙ sym (ap (λ l. slice_get l 0) (filter_map-append f first rest))
+    ∙ sym (ap (λ l. slice_get (filter_map f l) 0) split) ∙ found
+
+-- nothing is found there
+pub found_later : {X Y : Type 0} (f : X → Option Y) (front first rest : List X) (all : Option Y)
+    → front ≡ first ++ rest → slice_get (filter_map f first) 0 ≡ None → slice_get (filter_map f front) 0 ≡ all
+    → slice_get (filter_map f rest) 0 ≡ all
+found_later f front first rest all split is found =
+    sym (ap (λ o. option_or o (slice_get (filter_map f rest) 0)) is)
+    ∙ sym (first_joined (filter_map f first) (filter_map f rest))
+    ∙ sym (ap (λ l. slice_get l 0) (filter_map-append f first rest))
+    ∙ sym (ap (λ l. slice_get (filter_map f l) 0) split) ∙ found
+
+-- what is found for one element
+pub found_at : {X Y : Type 0} (f : X → Option Y) (x : X) (o : Option Y) → f x ≡ o
+    → slice_get (filter_map f (x ∷ [])) 0 ≡ o
+found_at f x None is = rw is refl
+found_at f x (Some y) is = rw is refl

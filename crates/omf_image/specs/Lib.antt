@@ -5,9 +5,9 @@ pub mod Reference
 pub mod Value
 pub mod Records
 pub mod Faults
-pub mod Overflow
 pub mod Labels
 pub mod Registers
+pub mod Overflow
 pub mod Program
 pub mod Building
 pub mod inside

@@ -1,10 +1,12 @@
--- Loader-resolved offsets, location 5, that need more than the 16 bits of their word.
-use Rattle.std.specs.Prelude.{ℕ, pos, ◌+ℤ◌, int_le, Bool, true, false, not, ◌&&◌, List, map}
-use Rattle.std.specs.List.{list_any}
-use Rattle.std.specs.Option.{option_map_or}
+-- Loader-resolved offsets, location 5, that need more than the 16 bits of their word, and a start that does.
+use Rattle.std.specs.Prelude.{ℕ, ◌+◌, pos, ◌+ℤ◌, int_le, nat_lt, Bool, true, false, not, ◌&&◌, ◌||◌, if◌then◌else◌}
+use Rattle.std.specs.Prelude.{List, [], ◌∷◌, map, filter, find, length, slice_get, Option, Some, None}
+use Rattle.std.specs.List.{filter_map, list_any}
+use Rattle.std.specs.Option.{option_map, option_map_or}
 use Rattle.std.specs.Result.{result_ok}
 use Rattle.omf_record.specs.declared.fixups.Location.{Location}
 use Rattle.omf_record.specs.declared.fixups.Location.TheVariants.{LoaderOffset}
+use Rattle.omf_record.specs.Numbers.{location_width}
 use Rattle.omf_module.specs.declared.ResolvedFixup.{ResolvedFixup}
 use Rattle.omf_module.specs.Module.{DataRecord, Module}
 use Rattle.omf_place.specs.Layout.{Layout}
@@ -12,7 +14,8 @@ use Rattle.omf_image.specs.declared.reference.Resolved.{Resolved}
 use Rattle.omf_image.specs.Words.{word_at}
 use Rattle.omf_image.specs.Value.{from_frame}
 use Rattle.omf_image.specs.Records.{Entry, bytes_of, entries, hits, meaning, stored_of}
-use Rattle.omf_image.specs.Faults.{is_mixed, target_in_frame}
+use Rattle.omf_image.specs.Faults.{both_move, is_mixed, target_in_frame}
+use Rattle.omf_image.specs.Registers.{StartEntry, start_meaning, starts}
 
 -- a loader-resolved offset in its frame
 abbrev pub is_loader_offset : (self_relative : Bool) → Location → Bool
@@ -31,17 +34,45 @@ is_above reference word = int_le (pos 65536) (pos word +ℤ from_frame 0 referen
 abbrev pub words_at : (offset : ℕ) → DataRecord → List ℕ
 words_at offset data_record = map (word_at (bytes_of data_record)) (hits offset (stored_of data_record))
 
--- so the sum at a fix-up, whose word stands in a data record before it is added
+-- the location of a fix-up reaches into the word that was stored at the place offset
+abbrev pub touches : (offset : ℕ) → ResolvedFixup → Bool
+touches offset fixup =
+    nat_lt fixup.offset (offset + 2) && nat_lt offset (fixup.offset + location_width fixup.location)
+
+-- more than one fix-up of a data record does: they share the word
+abbrev pub is_shared : (offset : ℕ) → DataRecord → Bool
+is_shared offset data_record = nat_lt 1 (length (filter (touches offset) data_record.fixups))
+
+-- A fix-up is of such an offset, its target has a distance, and a word stands for it that other fix-ups share, or where
+-- its sum is too great.
 abbrev pub overflows : Layout → Entry → ResolvedFixup → Bool
 overflows layout entry fixup =
     is_loader_offset fixup.self_relative fixup.location
-    && option_map_or (λ r. is_measured r && list_any (is_above r) (words_at fixup.offset entry.data_record))
-    (result_ok (meaning layout entry fixup)) false
+    && option_map_or (λ r. is_measured r
+    && list_any (λ w. is_shared fixup.offset entry.data_record || is_above r w)
+    (words_at fixup.offset entry.data_record)) (result_ok (meaning layout entry fixup)) false
 
--- so a sum of a data record
-abbrev pub entry_overflows : Layout → Entry → Bool
-entry_overflows layout entry = list_any (overflows layout entry) entry.data_record.fixups
+-- the first such fix-up of a data record: its input, and the place of its record there
+abbrev pub entry_overflow : Layout → Entry → Option (ℕ × ℕ)
+entry_overflow layout entry =
+    option_map (λ f. (entry.input, f.place)) (find (overflows layout entry) entry.data_record.fixups)
 
--- so a sum of a program
-abbrev pub has_overflow : Layout → List Module → Bool
-has_overflow layout modules = list_any (entry_overflows layout) (entries modules)
+-- the first of a program
+abbrev pub first_overflow : Layout → List Module → Option (ℕ × ℕ)
+first_overflow layout modules = slice_get (filter_map (entry_overflow layout) (entries modules)) 0
+
+-- A start has no fault (TIS OMF 1.1, MODEND), and its displacement and the target's distance from its frame are 65,536
+-- or more together.
+abbrev pub start_overflows : Layout → StartEntry → Bool
+start_overflows layout entry =
+    option_map_or (λ r. both_move r && target_in_frame r && is_above r 0) (result_ok (start_meaning layout entry)) false
+
+-- the only one of some starts, if it is such a one: its input, and the place of its record there
+abbrev pub only_overflow : Layout → List StartEntry → Option (ℕ × ℕ)
+only_overflow layout (entry ∷ []) =
+    if start_overflows layout entry then Some (entry.input, entry.start.place) else None
+only_overflow layout _ = None
+
+-- that of a program
+abbrev pub start_overflow : Layout → List Module → Option (ℕ × ℕ)
+start_overflow layout modules = only_overflow layout (starts modules)

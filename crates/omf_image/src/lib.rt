@@ -30,7 +30,7 @@ use extent::written;
 pub use faults::{FixFault, FixKind};
 use omf_module::{Module, all_promise};
 use omf_place::Layout;
-pub use overflow::first_overflow;
+pub use overflow::{first_overflow, start_overflow};
 pub use program::Program;
 pub use start::Registers;
 use start::start_registers;

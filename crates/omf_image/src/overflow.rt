@@ -1,18 +1,20 @@
-//! Loader-resolved offsets that need more than the 16 bits of their word.
+//! Loader-resolved offsets that need more than the 16 bits of their word, and a start that does.
 
-ghost use Rattle.std.specs.Prelude.{◌≡◌, ◌<◌, All, is_some, length};
-ghost use Rattle.std.specs.List.{list_any};
+ghost use Rattle.std.specs.Prelude.{◌≡◌, ◌<◌, ◌||◌, All, filter, length, nat_lt, slice_get};
+ghost use Rattle.std.specs.List.{filter_map, list_any};
 ghost use Rattle.omf_module.specs.Seen.{data_seen};
 ghost use Rattle.omf_place.specs.Bounded.{IsBounded};
 ghost use Rattle.omf_place.specs.Layout.{places_of};
 ghost use Rattle.omf_image.specs.Overflow as spec;
 ghost use Rattle.omf_image.specs.Records.{entries};
+ghost use Rattle.omf_image.specs.Registers.{starts};
 ghost use Rattle.omf_image.specs.Words as words;
 ghost use Rattle.omf_image.specs.inside.Entries.{module_entries};
-ghost use Rattle.omf_image.specs.inside.Ready.{IsEntryReady, IsFixupReady};
+ghost use Rattle.omf_image.specs.inside.Ready.{IsEntryReady, IsFixupReady, IsStartReady};
 
 use crate::reference::{Resolved, resolve};
-use omf_module::{DataRecord, Module, ResolvedFixup, all_promise};
+use crate::start::next_start;
+use omf_module::{DataRecord, Module, ResolvedFixup, Start, all_promise};
 use omf_place::Layout;
 use omf_record::Location;
 use std::alloc::Allocator;
@@ -40,7 +42,43 @@ fn has_word_above(resolved: &Resolved, data_record: &DataRecord<'_>, offset: u16
     false
 }
 
-/// Whether the sum at a fix-up of a data record needs more than 16 bits.
+/// Whether a fix-up reaches into the word that was stored at a place of a data record.
+fn touches(fixup: &ResolvedFixup, offset: u16) -> bool
+    ensures { result ≡ spec.touches offset fixup.now }
+{
+    let begin = u32::from(fixup.offset);
+    let end = begin + u32::from(fixup.location.width());
+    begin < u32::from(offset) + 2 && u32::from(offset) < end
+}
+
+/// Whether more than one of the fix-ups of a data record reaches into the word that was stored at a place.
+fn is_shared(fixups: &[ResolvedFixup], offset: u16) -> bool
+    ensures { result ≡ nat_lt 1 (length (filter (spec.touches offset) fixups.now)) }
+{
+    let mut is_touched = false;
+    for fixup in fixups {
+        if touches(fixup, offset) {
+            if is_touched {
+                return true;
+            }
+            is_touched = true;
+        }
+    }
+    false
+}
+
+/// Whether a word stands at a place of a data record that fix-ups share, or where the sum needs more than 16 bits.
+fn has_no_room(resolved: &Resolved, data_record: &DataRecord<'_>, offset: u16) -> bool
+    requires { length data_record.now.bytes.now ≡ length data_record.now.places.now }
+    ensures { result ≡ list_any
+        (λ w. spec.is_shared offset (data_seen data_record.now) || spec.is_above resolved.now w)
+        (spec.words_at offset (data_seen data_record.now)) }
+{
+    data_record.places.contains(&offset)
+        && (is_shared(data_record.fixups, offset) || has_word_above(resolved, data_record, offset))
+}
+
+/// Whether a fix-up of a data record needs more than the 16 bits of its word.
 fn overflows<A: Allocator + Copy>(
     layout: &Layout<A>,
     input: usize,
@@ -69,62 +107,63 @@ fn overflows<A: Allocator + Copy>(
         fixup.displacement,
     ) {
         Ok(resolved) => {
-            resolved.is_measured() && has_word_above(&resolved, data_record, fixup.offset)
+            resolved.is_measured() && has_no_room(&resolved, data_record, fixup.offset)
         }
         Err(_) => false,
     }
 }
 
-/// The place of the record of the first fix-up of a data record whose sum needs more than 16 bits.
+/// The first fix-up of a data record that does: its input and the place of its record there.
 fn overflow_of<A: Allocator + Copy>(
     layout: &Layout<A>,
     input: usize,
     module: &Module<A>,
     data_record: &DataRecord<'_>,
-) -> Option<u64>
+) -> Option<(usize, u64)>
     requires lengths { length data_record.now.bytes.now ≡ length data_record.now.places.now }
     requires ready { IsEntryReady layout.now
         (record { input = input; module' = «module».now; data_record = data_seen data_record.now }) }
-    ensures { is_some result ≡ spec.entry_overflows layout.now
+    ensures { result ≡ spec.entry_overflow layout.now
         (record { input = input; module' = «module».now; data_record = data_seen data_record.now }) }
 {
     for fixup in data_record.fixups {
         if overflows(layout, input, module, data_record, fixup) {
-            return Some(fixup.place);
+            return Some((input, fixup.place));
         }
     }
     None
 }
 
-/// The place of the record of a module's first such fix-up.
+/// The first of a module.
 fn overflow_in<A: Allocator + Copy>(
     layout: &Layout<A>,
     input: usize,
     module: &Module<A>,
-) -> Option<u64>
+) -> Option<(usize, u64)>
     requires { All (IsEntryReady layout.now) (module_entries input «module».now) }
-    ensures { is_some result ≡ list_any (spec.entry_overflows layout.now) (module_entries input «module».now) }
+    ensures { result
+        ≡ slice_get (filter_map (spec.entry_overflow layout.now) (module_entries input «module».now)) 0 }
 {
     for index in 0..module.data_record_count() {
         let data_record = module.data_record(index);
-        if let Some(place) = overflow_of(layout, input, module, &data_record) {
-            return Some(place);
+        if let Some(found) = overflow_of(layout, input, module, &data_record) {
+            return Some(found);
         }
     }
     None
 }
 
-/// The first such fix-up of modules: its input and the place of its record there.
+/// The first of modules.
 fn overflow_among<A: Allocator + Copy>(
     modules: &[Module<A>],
     layout: &Layout<A>,
 ) -> Option<(usize, u64)>
     requires { All (IsEntryReady layout.now) (entries modules.now) }
-    ensures { is_some result ≡ spec.has_overflow layout.now modules.now }
+    ensures { result ≡ spec.first_overflow layout.now modules.now }
 {
     for (input, module) in modules.iter().enumerate() {
-        if let Some(place) = overflow_in(layout, input, module) {
-            return Some((input, place));
+        if let Some(found) = overflow_in(layout, input, module) {
+            return Some(found);
         }
     }
     None
@@ -132,14 +171,77 @@ fn overflow_among<A: Allocator + Copy>(
 
 /// The first fix-up of modules by which a loader-resolved offset is put into a word that is too small for it: its
 /// input, counted from 0, and the place of its record there. The sum of what the word holds, of the displacement and
-/// of the target's distance from its frame is 65,536 or more.
+/// of the target's distance from its frame is 65,536 or more, or other fix-ups of its data reach into the word too.
 pub fn first_overflow<A: Allocator + Copy>(
     modules: &[Module<A>],
     layout: &Layout<A>,
 ) -> Option<(usize, u64)>
     requires { IsBounded modules.now layout.now }
-    ensures { is_some result ≡ spec.has_overflow layout.now modules.now }
+    ensures { result ≡ spec.first_overflow layout.now modules.now }
 {
     all_promise(modules);
     overflow_among(modules, layout)
+}
+
+/// Whether the displacement of a start and its distance from its frame need more than 16 bits together.
+fn start_overflows<A: Allocator + Copy>(
+    layout: &Layout<A>,
+    input: usize,
+    module: &Module<A>,
+    start: Start,
+) -> bool
+    requires { IsStartReady layout.now (record { input = input; module' = «module».now; start = start }) }
+    ensures { result
+        ≡ spec.start_overflows layout.now (record { input = input; module' = «module».now; start = start }) }
+{
+    match resolve(
+        layout,
+        input,
+        module,
+        0,
+        start.frame,
+        start.target,
+        start.displacement,
+    ) {
+        Ok(resolved) => {
+            !resolved.is_mixed(true, Location::Offset)
+                && resolved.is_framed()
+                && resolved.is_above(0)
+        }
+        Err(_) => false,
+    }
+}
+
+/// The only start of modules, where it does: its input and the place of its record there.
+fn overflow_at_start<A: Allocator + Copy>(
+    modules: &[Module<A>],
+    layout: &Layout<A>,
+) -> Option<(usize, u64)>
+    requires { All (IsStartReady layout.now) (starts modules.now) }
+    ensures { result ≡ spec.start_overflow layout.now modules.now }
+{
+    let Some((input, start)) = next_start(modules, 0) else {
+        return None;
+    };
+    if let Some((_, _)) = next_start(modules, input + 1) {
+        return None;
+    }
+    let module = &modules[input];
+    if start_overflows(layout, input, module, start) {
+        return Some((input, start.place));
+    }
+    None
+}
+
+/// The only start of modules, where the start's offset needs more than 16 bits: its input, counted from 0, and the
+/// place of its record there. None too where the modules have two starts, or where the start is at fault.
+pub fn start_overflow<A: Allocator + Copy>(
+    modules: &[Module<A>],
+    layout: &Layout<A>,
+) -> Option<(usize, u64)>
+    requires { IsBounded modules.now layout.now }
+    ensures { result ≡ spec.start_overflow layout.now modules.now }
+{
+    all_promise(modules);
+    overflow_at_start(modules, layout)
 }

@@ -106,7 +106,10 @@ fn stack<A: Allocator + Copy>(layout: &Layout<A>, modules: &[Module<A>]) -> (u16
 }
 
 /// The first start of the modules from an input on, with its input.
-fn next_start<A: Allocator + Copy>(modules: &[Module<A>], from: usize) -> Option<(usize, Start)>
+pub(crate) fn next_start<A: Allocator + Copy>(
+    modules: &[Module<A>],
+    from: usize,
+) -> Option<(usize, Start)>
     requires { from ≤ length modules.now }
     ensures { FindsStart modules.now from result }
 {

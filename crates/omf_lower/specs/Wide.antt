@@ -1,5 +1,5 @@
--- Which modules have fix-ups of 32 bits.
-use Rattle.std.specs.Prelude.{ℕ, ◌==◌, Bool, false, if◌then◌else◌, List}
+-- Which modules have fix-ups of 32 bits, or a start of 32 bits.
+use Rattle.std.specs.Prelude.{ℕ, ◌/◌, ◌%◌, ◌==◌, ◌&&◌, Bool, false, if◌then◌else◌, List, slice_index}
 use Rattle.std.specs.List.{list_any}
 use Rattle.omf_frame.specs.Frame.{Frame}
 use Rattle.omf_library.specs.Records.{module_records}
@@ -16,3 +16,11 @@ is_wide_record f =
 -- a module has such a record
 unfoldable pub has_wide_fixups : List ℕ → Bool
 has_wide_fixups module' = list_any is_wide_record (module_records module' 0)
+
+-- a MODEND, 8BH, with a start: bit 6 of its first byte tells (TIS OMF 1.1, MODEND)
+abbrev pub is_wide_start : Frame → Bool
+is_wide_start f = (f.kind == 0x8B) && (slice_index f.body 0 / 64 % 2 == 1)
+
+-- a module has such a record
+unfoldable pub has_wide_start : List ℕ → Bool
+has_wide_start module' = list_any is_wide_start (module_records module' 0)

@@ -1,5 +1,5 @@
 -- What stands in a store stays where it is, and what is kept at its end is there.
-use Rattle.std.proofs.Common.{◌≡◌, ℕ, ◌-◌, ◌≤◌, ◌<◌, Bool, List, [], ◌∷◌, ◌++◌, length, get_or, take, drop, map, Option}
+use Rattle.std.proofs.Common.{◌≡◌, ℕ, ◌-◌, ◌≤◌, ◌<◌, Bool, List, [], ◌∷◌, ◌++◌, length, get_or, take, drop, map}
 use Rattle.std.proofs.Common.{Some, refl, subst, sym, ap, ◌∙◌, arith, length-append, length-drop, length-take}
 use Rattle.std.specs.List.{AllByRecursion, zip, slice_get}
 use Rattle.std.specs.Option.{option_map}
@@ -163,6 +163,25 @@ once_kept places laid now cut from at len is f l k h =
     let count : length now - from ≡ len = omega (arith, ap length is, length-append places laid, f, l) in
     let grown : cut ≡ places ++ k.0 = rw front at k.1 in
     (k.0, grown, rw (count, back, grown) at h)
+
+-- a list made longer: where what is new begins, and how much of it there is
+pub behind_from : {X : Type 0} (front more now slice : List X) (from : ℕ) → from ≡ length front
+    → now ≡ front ++ more → slice ≡ now → from ≤ length slice
+behind_from front more now slice from f is same =
+    omega (arith, f, ap length same, ap length is, length-append front more)
+
+pub behind_long : {X : Type 0} (front more now slice : List X) (from : ℕ) → from ≡ length front
+    → now ≡ front ++ more → slice ≡ now → length (take (length slice - from) (drop from slice)) ≡ length more
+behind_long front more now slice from f is same =
+    omega (
+      arith,
+      f,
+      ap length same,
+      ap length is,
+      length-append front more,
+      length-drop from slice,
+      length-take (length slice - from) (drop from slice),
+    )
 
 -- a list, after all that stood behind its front was written anew
 pub written_behind : {X : Type 0} (front more now slice written said : List X) (from n : ℕ) → from ≡ length front

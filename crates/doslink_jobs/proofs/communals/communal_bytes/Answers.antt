@@ -1,5 +1,18 @@
+use Rattle.std.proofs.Common.{◌≡◌, [], length, map, ap, sym, ◌∙◌}
+use Rattle.std.proofs.lemmas.Bool.{eqb-true}
+use Rattle.std.proofs.lemmas.List.{nil_from_length}
+use Rattle.std.specs.List.{list_any}
+use Rattle.omf_communal.specs.Answers.{communal_module}
+use Rattle.omf_communal.specs.Bss.{has_bss}
+use Rattle.omf_communal.specs.Deciding.{variable_said}
 use Rattle.doslink_jobs.proofs.Refused.{OnInput-weaker, plan-fault, refused-exit}
 use Rattle.doslink_jobs.proofs.communals.communal_bytes.Goals as goal
+
+pub returns-then-is_empty : goal.returns-then-is_empty
+returns-then-is_empty g c =
+    let vs = c.args.variables.now in
+    let none : vs ≡ [] = nil_from_length vs (eqb-true (length vs) 0 (sym c.is_empty.ensures ∙ c.if-is_empty.true)) in
+    λ modules read. ap (λ l. communal_module (list_any has_bss modules) (map variable_said l)) none
 
 pub returns-in_err-in_bss : goal.returns-in_err-in_bss
 returns-in_err-in_bss g c =
@@ -10,3 +23,8 @@ returns-in-Err g c =
     OnInput-weaker c.stop_unplaced.result
     (λ other. (c.in_ok-in_bss.in_bss, c.in_ok-in_bss.ensures, plan-fault c.in-Err.fault _ c.in-Err.ensures other))
     c.stop_unplaced.ensures
+
+pub returns-in-Ok : goal.returns-in-Ok
+returns-in-Ok g c =
+    λ modules read. ap (λ b. communal_module b (map variable_said c.args.variables.now))
+    (sym (c.in_ok-in_bss.ensures modules read)) ∙ c.in-Ok.ensures

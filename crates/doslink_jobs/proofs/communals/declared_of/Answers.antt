@@ -1,4 +1,5 @@
-use Rattle.std.proofs.Common.{IsErr, Ok, ap, ◌∙◌}
+use Rattle.std.proofs.Common.{IsErr, Ok, map, ap, ◌∙◌, arith}
+use Rattle.std.proofs.lemmas.List.{take_all}
 use Rattle.doslink_stock.proofs.Walks.{map-step}
 use Rattle.doslink_stock.specs.Seen.{handed_held}
 use Rattle.doslink_jobs.specs.Communals.{declared_by}
@@ -6,6 +7,9 @@ use Rattle.doslink_jobs.specs.inside.Declaring.{declared_said}
 use Rattle.doslink_jobs.proofs.Declaring.{declared-one}
 use Rattle.doslink_jobs.proofs.Refused.{OnInput-weaker, and-then-err, any-seen, entry-fault}
 use Rattle.doslink_jobs.proofs.communals.declared_of.Goals as goal
+
+pub loop-each-init : goal.loop-each-init
+loop-each-init g c = ap (λ ds. map (λ d. Ok (declared_said d)) ds) c.new-all.ensures.items
 
 pub loop-each-preserved : goal.loop-each-preserved
 loop-each-preserved g c =
@@ -23,3 +27,9 @@ returns-in-Err g c =
     c.each-item.result c.loop-each-test.true c.each-item.is
     (and-then-err _ _ (entry-fault c.in-Err.fault _ c.in-Err.ensures other)))
     c.stop_at_entry.ensures
+
+pub returns : goal.returns
+returns g c =
+    c.loop-each.invariant
+    ∙ ap (λ hs. map (λ h. declared_by (handed_held h)) hs)
+    (take_all c.loop-each.each-index c.args.taken.now.handed.now (omega arith))

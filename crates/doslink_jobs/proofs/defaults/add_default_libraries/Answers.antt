@@ -1,8 +1,10 @@
-use Rattle.std.proofs.Common.{All, map, refl, subst, sym}
+use Rattle.std.proofs.Common.{All, IsErr, map, refl, subst, sym}
 use Rattle.std.proofs.lemmas.List.Elements.{All-weaker}
 use Rattle.doslink_files.specs.Files.{contents}
+use Rattle.doslink_stock.specs.Files.{members}
 use Rattle.doslink_jobs.specs.Jobs.{AsksEarly, AsksFor}
 use Rattle.doslink_jobs.proofs.Adding.{AddsFound-none, AddsFound-then, AsksEarly-all}
+use Rattle.doslink_jobs.proofs.Refused.{refused-exit}
 use Rattle.doslink_jobs.proofs.defaults.add_default_libraries.Goals as goal
 
 pub rounds-init : goal.rounds-init
@@ -23,3 +25,14 @@ rounds-preserved g c =
     AddsFound-then (g.W.World.bytes c.args.world.now) (map (λ f. f.now) c.args.folders.now) names
     (contents c.args.files.now.items) mid (contents c.add_found.new.files.items) c.rounds.invariant
     (c.in_ok-add_found.ensures names asked)
+
+pub returns-in_err-found : goal.returns-in_err-found
+returns-in_err-found g c =
+    refused-exit _ c.from_residual.result _ c.from_residual.ensures.1
+    (λ fault. (c.rounds.invariant, subst (λ fs. IsErr (members (contents fs))) c.deref.ensures.value fault))
+    c.in_err-found.ensures
+
+pub returns-in_err-add_found : goal.returns-in_err-add_found
+returns-in_err-add_found g c =
+    refused-exit _ c.from_residual-in_err-add_found.result _ c.from_residual-in_err-add_found.ensures.1
+    (λ none. absurd none) c.in_err-add_found.ensures

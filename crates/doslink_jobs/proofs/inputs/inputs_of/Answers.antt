@@ -1,8 +1,11 @@
-use Rattle.std.proofs.Common.{◌≡◌, ◌++◌, Any, map, ap, inl, inr, refl, subst, ◌∙◌}
+use Rattle.std.proofs.Common.{◌≡◌, ◌++◌, Any, true, map, ap, inl, inr, refl, subst, ◌∙◌}
+use Rattle.std.specs.List.{list_any}
 use Rattle.std.specs.Option.{option_map, option_to_list}
 use Rattle.clap.proofs.WalkLemmas.{list_any-map}
 use Rattle.omf_communal.specs.Deciding.{variable_said}
 use Rattle.omf_communal.specs.Modules.{bytes_of}
+use Rattle.omf_image.specs.Overflow.{first_overflow, start_overflow}
+use Rattle.omf_lower.specs.Wide.{has_wide_start}
 use Rattle.omf_search.specs.Results.{module_said}
 use Rattle.doslink_stock.specs.Files.{needs}
 use Rattle.doslink_stock.specs.Seen.{handed_held}
@@ -14,7 +17,7 @@ use Rattle.doslink_jobs.specs.Refusals.{HaveNoPlace, IsNotLowered}
 use Rattle.doslink_jobs.specs.inside.Inputs.{lowered_bytes, module_list, own_bytes}
 use Rattle.doslink_jobs.proofs.Declaring.{offers-names, said-with-variables}
 use Rattle.doslink_jobs.proofs.Lists.{map-map}
-use Rattle.doslink_jobs.proofs.Overflowing.{fit-of}
+use Rattle.doslink_jobs.proofs.Overflowing.{fit-of, overflows-in}
 use Rattle.doslink_jobs.proofs.Reading.{no-order-for, order-for}
 use Rattle.doslink_jobs.proofs.Refused.{locals-of, lowered-of, no-locals-of, refused-exit}
 use Rattle.doslink_jobs.proofs.inputs.inputs_of.Goals as goal
@@ -53,12 +56,21 @@ returns g c =
           (c.asks_dosseg.ensures ∙ list_any-map (λ m. m.dosseg) handed_held handed)
           (ap (λ ms. module_list ms c.in_ok-communal.communal) c.deref-5.ensures.value) c.in_ok-order.ensures;
       together = refl;
-      fit = fit-of _ _ c.in_ok-are_narrow.are_narrow
+      fit = fit-of _ _ c.in_ok-narrowed.narrowed.fixups
           (λ no. subst (λ os. NarrowFixups os lowered → ⊥)
           (c.in_ok-lowered.ensures.own ∙ map-map handed_held (λ m. m.bytes) handed)
           (subst (λ ms. NarrowFixups (map own_bytes ms) (map lowered_bytes ms) → ⊥) c.deref-3.ensures.value
-          (c.in_ok-are_narrow.ensures no)))
-          (λ yes. subst (λ n. HaveOverflow n linked → ⊥) c.options_of-names.ensures (c.in_ok-check_sums.ensures yes));
+          (c.in_ok-narrowed.ensures.fixups no)))
+          (λ yes. subst (λ n. HaveOverflow first_overflow n linked → ⊥) c.options_of-names.ensures
+          (c.in_ok-check_sums.ensures.fixups yes));
+      start_fits = λ narrow.
+          let start : c.in_ok-narrowed.narrowed.start ≡ true =
+          c.in_ok-narrowed.ensures.start
+          ∙ ap (λ ms. list_any has_wide_start (map own_bytes ms)) c.deref-3.ensures.value
+          ∙ ap (list_any has_wide_start) (c.in_ok-lowered.ensures.own ∙ map-map handed_held (λ m. m.bytes) handed)
+          ∙ narrow in
+          subst (λ n. HaveOverflow start_overflow n linked → ⊥) c.options_of-names.ensures
+          (c.in_ok-check_sums.ensures.start start);
     }
 
 pub returns-in_err-lowered : goal.returns-in_err-lowered
@@ -201,8 +213,13 @@ returns-in_err-check_sums g c =
                 (module_list modules c.in_ok-communal.communal) c.options_of-names.ensures
                 (c.asks_dosseg.ensures ∙ list_any-map (λ m. m.dosseg) handed_held handed)
                 (ap (λ ms. module_list ms c.in_ok-communal.communal) c.deref-5.ensures.value) c.in_ok-order.ensures,
-            subst (λ n. HaveOverflow n (option_to_list order ++ (map lowered_bytes modules ++ option_to_list communal)))
-                c.options_of-names.ensures some,
+            overflows-in c.options_of-names.result.names (names_of job.ignore_case) c.in_ok-narrowed.narrowed
+                (map own_bytes c.in_ok-lowered.lowered.items) (map (λ m. m.bytes) (map handed_held handed))
+                (option_to_list order ++ (map lowered_bytes modules ++ option_to_list communal))
+                c.options_of-names.ensures
+                (c.in_ok-narrowed.ensures.start
+                ∙ ap (λ ms. list_any has_wide_start (map own_bytes ms)) c.deref-3.ensures.value)
+                (c.in_ok-lowered.ensures.own ∙ map-map handed_held (λ m. m.bytes) handed) some,
           ),
         ),
       ),

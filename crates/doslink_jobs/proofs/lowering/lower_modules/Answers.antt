@@ -1,13 +1,21 @@
-use Rattle.std.proofs.Common.{IsErr, sym, ap, subst, ◌∙◌}
+use Rattle.std.proofs.Common.{IsErr, Ok, map, sym, ap, subst, ◌∙◌, arith}
+use Rattle.std.proofs.lemmas.List.{take_all}
 use Rattle.omf_alias.specs.Said.{aliases_said}
 use Rattle.omf_lower.specs.Module.{lowered}
 use Rattle.doslink_stock.proofs.Walks.{map-step}
 use Rattle.doslink_stock.specs.Seen.{handed_held}
-use Rattle.doslink_jobs.specs.inside.Inputs.{own_bytes}
+use Rattle.doslink_jobs.specs.Jobs.{AreLowered}
+use Rattle.doslink_jobs.specs.inside.Inputs.{lowered_bytes, own_bytes}
 use Rattle.doslink_jobs.specs.inside.Meanings.{means}
 use Rattle.doslink_jobs.proofs.Lowered.{answer-lowered, lowered-as, lowered-next}
 use Rattle.doslink_jobs.proofs.Refused.{OnInput-weaker, any-seen, lowering-fault}
 use Rattle.doslink_jobs.proofs.lowering.lower_modules.Goals as goal
+
+pub loop-each-init : goal.loop-each-init
+loop-each-init g c = record {
+  own = ap (map own_bytes) c.new-modules.ensures.items;
+  lowered = sym (ap (λ ms. map Ok (map lowered_bytes ms)) c.new-modules.ensures.items);
+}
 
 pub loop-each-preserved : goal.loop-each-preserved
 loop-each-preserved g c = record {
@@ -36,3 +44,15 @@ returns-in-Err-clause-refused g c =
     (handed_held c.each-item.result).bytes)) (ap aliases_said c.deref.ensures.value ∙ c.in_ok-aliases.ensures)
     (lowering-fault g.row.A.Denot (handed_held c.each-item.result).bytes c.in-Err.fault _ c.in-Err.ensures other)))
     c.stop_at_record.ensures
+
+pub returns-clause-own : goal.returns-clause-own
+returns-clause-own g c =
+    c.loop-each.invariant.own
+    ∙ ap (λ hs. map (λ h. (handed_held h).bytes) hs)
+    (take_all c.loop-each.each-index c.args.taken.now.handed.now (omega arith))
+
+pub returns-clause-lowered : goal.returns-clause-lowered
+returns-clause-lowered g c =
+    subst (λ hs. AreLowered c.args.lowering (means c.args.meanings.now) (map (λ h. (handed_held h).bytes) hs)
+    (map lowered_bytes c.loop-each.modules.items))
+    (take_all c.loop-each.each-index c.args.taken.now.handed.now (omega arith)) c.loop-each.invariant.lowered

@@ -1,12 +1,17 @@
-use Rattle.std.proofs.Common.{ap, refl, subst, ◌∙◌}
+use Rattle.std.proofs.Common.{ap, refl, subst, sym, ◌∙◌}
 use Rattle.std.proofs.lemmas.Result.{err_from_is_err_and}
 use Rattle.std.specs.Io.KnownBytes.{Appends}
 use Rattle.omf_commands.specs.Mapping.{report_map}
 use Rattle.omf_frame.proofs.Told.{Appends-trans, AppendsFront-more, AppendsFront-then}
 use Rattle.omf_frame.specs.Device.{AppendsFront}
+use Rattle.omf_place.specs.Bounded.{IsBounded}
 use Rattle.doslink_link.specs.Linking.{bytes_of}
 use Rattle.doslink_telling.specs.Table.{table}
 use Rattle.doslink_jobs.proofs.program.put_map.Goals as goal
+
+pub table-requires : goal.table-requires
+table-requires g c =
+    subst (λ ms. IsBounded ms c.args.report.now.layout) (sym c.deref.ensures.value) c.requires.bounded
 
 pub returns-in_err-write_map-clause-written : goal.returns-in_err-write_map-clause-written
 returns-in_err-write_map-clause-written g c =

@@ -1,4 +1,5 @@
-use Rattle.std.proofs.Common.{◌++◌, ◌∙◌, ap, ap₂, append_assoc, arith}
+use Rattle.std.proofs.Common.{◌<◌, ◌++◌, ◌∙◌, Some, ap, ap₂, append_assoc, arith, subst, sym}
+use Rattle.std.proofs.lemmas.Option.{slice_get-get_or}
 use Rattle.std.specs.List.{enumerate_from, flat_map}
 use Rattle.omf_search.specs.Results.{bytes_of}
 use Rattle.doslink_telling.specs.Table.{module_line, module_lines, segment_lines}
@@ -29,3 +30,13 @@ pub returns : goal.returns
 returns g c =
     each-done (module_lines c.args.layout.now (bytes_of c.args.inputs.now) (bytes_of c.args.words.now))
     c.args.modules.now c.loop-input.input c.loop-input.text.items _ (omega arith) c.loop-input.invariant
+
+pub push_segments-requires : goal.push_segments-requires
+push_segments-requires g c =
+    let i = c.loop-input.input in
+    let from = c.index-modules-input.result in
+    let is = slice_get-get_or c.args.modules.now i from c.loop-input-test.true ∙ ap Some (sym c.index-modules-input.is)
+    in record {
+      input = subst (λ n. i < n) (sym c.requires.modules) c.loop-input-test.true;
+      placed = (c.requires.each i from is).segments;
+    }

@@ -1,4 +1,4 @@
-use Rattle.std.proofs.Common.{rules, ◌≡◌, ◌+◌, ◌-◌, ◌∙◌, Bool, true, false, ap, sym, eqb, get_or, length}
+use Rattle.std.proofs.Common.{rules, ◌≡◌, ◌+◌, ◌-◌, ◌∙◌, true, false, ap, sym, eqb, get_or, length}
 use Rattle.std.specs.List.{list_any, range_with_len}
 use Rattle.omf_image.specs.Overflow.{is_above}
 use Rattle.omf_image.specs.Words.{word_at}

@@ -1,9 +1,9 @@
-use Rattle.std.proofs.Common.{◌+◌, ◌∙◌, ap, sym, subst, drop, is_some, All}
-use Rattle.omf_image.specs.Overflow.{entry_overflows, has_overflow}
+use Rattle.std.proofs.Common.{◌+◌, ◌∙◌, sym, subst, drop, All}
+use Rattle.omf_image.specs.Overflow.{entry_overflow}
 use Rattle.omf_image.specs.inside.Entries.{module_entries, entries_from}
 use Rattle.omf_image.specs.inside.Ready.{IsEntryReady}
 use Rattle.omf_image.proofs.Listing.{all_left, all_right, module_next}
-use Rattle.omf_image.proofs.Overflowing.{any_behind}
+use Rattle.omf_image.proofs.Overflowing.{found_here, found_later}
 use Rattle.omf_image.proofs.overflow.overflow_among.Goals as goal
 
 pub overflow_in-requires : goal.overflow_in-requires
@@ -14,6 +14,16 @@ overflow_in-requires g c =
     (entries_from (i + 1) (drop (i + 1) c.args.modules.now))
     (subst (All (IsEntryReady c.args.layout.now))
     (module_next c.args.modules.now i m c.loop-input-test.true c.index-modules-input.is) c.loop-input.invariant.ready)
+
+pub returns-in-Some : goal.returns-in-Some
+returns-in-Some g c =
+    let i = c.loop-input.input in
+    let m = c.index-modules-input.result in
+    let ms = c.args.modules.now in
+    found_here (entry_overflow c.args.layout.now) (entries_from i (drop i ms)) (module_entries i m)
+    (entries_from (i + 1) (drop (i + 1) ms)) c.in-Some.found _
+    (module_next ms i m c.loop-input-test.true c.index-modules-input.is) (sym c.in-Some.ensures)
+    c.loop-input.invariant.first
 
 pub loop-input-preserved : goal.loop-input-preserved
 loop-input-preserved g c =
@@ -26,8 +36,8 @@ loop-input-preserved g c =
       ready =
           all_right (IsEntryReady layout) (module_entries i m) (entries_from (i + 1) (drop (i + 1) ms))
           (subst (All (IsEntryReady layout)) next c.loop-input.invariant.ready);
-      some =
-          any_behind (entry_overflows layout) (entries_from i (drop i ms)) (module_entries i m)
-          (entries_from (i + 1) (drop (i + 1) ms)) (has_overflow layout ms) next
-          (sym c.overflow_in.ensures ∙ ap is_some c.in_default.is) c.loop-input.invariant.some;
+      first =
+          found_later (entry_overflow layout) (entries_from i (drop i ms)) (module_entries i m)
+          (entries_from (i + 1) (drop (i + 1) ms)) _ next
+          (sym c.overflow_in.ensures ∙ c.in_default.is) c.loop-input.invariant.first;
     }

@@ -1,6 +1,6 @@
-use Rattle.std.proofs.Common.{◌≡◌, drop, All}
-use Rattle.std.specs.List.{list_any}
-use Rattle.omf_image.specs.Overflow.{entry_overflows, has_overflow}
+use Rattle.std.proofs.Common.{◌≡◌, drop, slice_get, All}
+use Rattle.std.specs.List.{filter_map}
+use Rattle.omf_image.specs.Overflow.{entry_overflow, first_overflow}
 use Rattle.omf_image.specs.inside.Entries.{entries_from}
 use Rattle.omf_image.specs.inside.Ready.{IsEntryReady}
 use Rattle.omf_image.proofs.overflow.overflow_among.Given as goal
@@ -8,6 +8,6 @@ use Rattle.omf_image.proofs.overflow.overflow_among.Given as goal
 abbrev pub invariant-loop-input : goal.invariant-loop-input
 invariant-loop-input g l = record {
   ready : All (IsEntryReady l.layout) (entries_from l.input (drop l.input l.modules));
-  some : list_any (entry_overflows l.layout) (entries_from l.input (drop l.input l.modules))
-      ≡ has_overflow l.layout l.modules;
+  first : slice_get (filter_map (entry_overflow l.layout) (entries_from l.input (drop l.input l.modules))) 0
+      ≡ first_overflow l.layout l.modules;
 }

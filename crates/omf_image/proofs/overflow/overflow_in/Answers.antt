@@ -1,11 +1,11 @@
-use Rattle.std.proofs.Common.{◌≡◌, ◌<◌, ◌+◌, arith, ap, sym, drop, is_some, length, ◌∙◌}
-use Rattle.std.specs.List.{list_any}
+use Rattle.std.proofs.Common.{◌+◌, ◌∙◌, arith, drop, sym, []}
+use Rattle.std.proofs.Common.{◌∷◌}
 use Rattle.omf_module.specs.Seen.{data_seen}
-use Rattle.omf_image.specs.Overflow.{entry_overflows}
+use Rattle.omf_image.specs.Overflow.{entry_overflow}
 use Rattle.omf_image.specs.inside.Entries.{module_entries}
 use Rattle.omf_image.specs.inside.Ready.{IsEntryReady}
 use Rattle.omf_image.proofs.Listing.{entry_of, all_at, entry_next}
-use Rattle.omf_image.proofs.Overflowing.{any_here, any_later}
+use Rattle.omf_image.proofs.Overflowing.{found_at, found_here, found_later}
 use Rattle.omf_image.proofs.overflow.overflow_in.Goals as goal
 
 pub overflow_of-requires-clause-ready : goal.overflow_of-requires-clause-ready
@@ -20,21 +20,22 @@ returns-in-Some g c =
     let m = c.args.module.now in
     let i = c.loop-index.index in
     let d = data_seen c.data_record-data_record.result in
-    any_here (entry_overflows c.args.layout.now) (drop i (module_entries c.args.input m))
-    (drop (i + 1) (module_entries c.args.input m)) (entry_of c.args.input m d)
-    (list_any (entry_overflows c.args.layout.now) (module_entries c.args.input m))
+    let e = entry_of c.args.input m d in
+    found_here (entry_overflow c.args.layout.now) (drop i (module_entries c.args.input m)) (e ∷ [])
+    (drop (i + 1) (module_entries c.args.input m)) c.in-Some.found _
     (entry_next c.args.input m i d (omega (arith, c.loop-index-test.true, c.data_record_count-index-end.ensures))
     c.data_record-data_record.ensures.seen)
-    (sym c.overflow_of.ensures ∙ ap is_some c.in-Some.is) c.loop-index.invariant
+    (found_at (entry_overflow c.args.layout.now) e _ (sym c.in-Some.ensures)) c.loop-index.invariant
 
 pub loop-index-preserved : goal.loop-index-preserved
 loop-index-preserved g c =
     let m = c.args.module.now in
     let i = c.loop-index.index in
     let d = data_seen c.data_record-data_record.result in
-    any_later (entry_overflows c.args.layout.now) (drop i (module_entries c.args.input m))
-    (drop (i + 1) (module_entries c.args.input m)) (entry_of c.args.input m d)
-    (list_any (entry_overflows c.args.layout.now) (module_entries c.args.input m))
+    let e = entry_of c.args.input m d in
+    found_later (entry_overflow c.args.layout.now) (drop i (module_entries c.args.input m)) (e ∷ [])
+    (drop (i + 1) (module_entries c.args.input m)) _
     (entry_next c.args.input m i d (omega (arith, c.loop-index-test.true, c.data_record_count-index-end.ensures))
     c.data_record-data_record.ensures.seen)
-    (sym c.overflow_of.ensures ∙ ap is_some c.in_default.is) c.loop-index.invariant
+    (found_at (entry_overflow c.args.layout.now) e _ (sym c.overflow_of.ensures ∙ c.in_default.is))
+    c.loop-index.invariant

@@ -1,5 +1,5 @@
-use Rattle.std.proofs.Common.{◌≡◌, ◌+◌, ◌++◌, map, drop, refl, sym, ap, ◌∙◌, arith, append_assoc}
-use Rattle.std.proofs.lemmas.List.{drop_more, map_push}
+use Rattle.std.proofs.Common.{◌≡◌, ◌+◌, ◌++◌, map, drop, refl, sym, ap, ◌∙◌, arith, append_assoc, []}
+use Rattle.std.proofs.lemmas.List.{append-nil, drop_all, drop_more, map_push}
 use Rattle.omf_record.specs.Record.{Blocks, More, blocks_of}
 use Rattle.omf_record.specs.View.{block_view}
 use Rattle.omf_record.specs.Expansion.{stored_len, all_stored_len, contents_at, all_contents_at}
@@ -39,3 +39,14 @@ loop-block-preserved g t c =
       ends = omega (arith, here.0);
       gives = rw (here.0, here.1, append_assoc) gives;
     }
+
+pub loop-block-init : goal.loop-block-init
+loop-block-init g t c = record { ends = refl; gives = refl }
+
+pub returns : goal.returns
+returns g t c =
+    let none : drop c.loop-block.block-index c.args.blocks.now ≡ [] =
+    drop_all c.loop-block.block-index c.args.blocks.now c.loop-block-test.false in
+    let ends = rw none at c.loop-block.invariant.ends in
+    let gives = rw none at c.loop-block.invariant.gives in
+    (omega (arith, ends), rw append-nil at gives)

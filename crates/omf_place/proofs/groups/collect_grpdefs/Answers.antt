@@ -1,7 +1,16 @@
+use Rattle.std.proofs.Common.{◌≤◌, length, map, ap, ◌∙◌, arith}
+use Rattle.std.proofs.lemmas.List.{take_all}
+use Rattle.std.specs.List.{flat_map}
+use Rattle.omf_place.specs.Tables.{grpdefs_of}
+use Rattle.omf_place.specs.inside.Groups.{grpdef_view, reached}
+use Rattle.omf_place.specs.inside.OfProgram.{of_program}
 use Rattle.omf_place.specs.Parts.{sites}
-use Rattle.omf_place.specs.inside.Program.{IsPlacedInput, addresses_of}
+use Rattle.omf_place.specs.inside.Program.{IsPlacedInput, addresses_of, input_view}
 use Rattle.omf_place.proofs.Turns.{at_turn}
 use Rattle.omf_place.proofs.groups.collect_grpdefs.Goals as goal
+
+pub loop-input-init : goal.loop-input-init
+loop-input-init g c = ap (map grpdef_view) c.new-all.ensures.items
 
 pub push_grpdefs-requires : goal.push_grpdefs-requires
 push_grpdefs-requires g c =
@@ -9,3 +18,12 @@ push_grpdefs-requires g c =
     (at_turn (IsPlacedInput (sites p.modules.now) (addresses_of p.stands.now)) p.inputs.items
     c.deref-input-items.result.now c.loop-input.input-index c.input-item.result
     c.deref-input-items.ensures.value c.requires.each c.loop-input-test.true c.input-item.is).components
+
+pub returns : goal.returns
+returns g c =
+    let p = c.args.program.now in
+    let whole : length p.inputs.items ≤ c.loop-input.input-index =
+    omega (arith, ap length c.deref-input-items.ensures.value, c.loop-input-test.false) in
+    c.loop-input.invariant
+    ∙ ap (λ xs. map (of_program (λ ms A. reached (sites ms) A) p) (flat_map grpdefs_of xs))
+    (ap (map input_view) (take_all c.loop-input.input-index p.inputs.items whole) ∙ c.requires.made)

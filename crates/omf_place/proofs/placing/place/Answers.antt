@@ -42,6 +42,9 @@ check_segments-requires-clause-spans g c =
     subst (λ ss. AreSpans (sites_view ss) c.in_ok-started.started.spans.items)
     (c.deref.ensures.value ∙ sym c.deref-2.ensures.value) c.in_ok-started.ensures.spans
 
+pub check_segments-requires-clause-small : goal.check_segments-requires-clause-small
+check_segments-requires-clause-small g c = c.in_ok-started.ensures.small
+
 pub place_started-requires-clause-numbered : goal.place_started-requires-clause-numbered
 place_started-requires-clause-numbered g c =
     subst (λ ss. IsNumberedFrom 0 (sites_view ss)) (sym c.deref-3.ensures.value) c.in_ok-sites.ensures.numbered
@@ -69,6 +72,9 @@ place_started-requires-clause-placed g c =
     subst
     (λ ss. IsPlaced (sites_view ss) (addresses_in c.in_ok-started.started.spans.items) c.in_ok-started.started.size)
     (c.deref.ensures.value ∙ sym c.deref-3.ensures.value) c.in_ok-started.ensures.placed
+
+pub place_started-requires-clause-size : goal.place_started-requires-clause-size
+place_started-requires-clause-size g c = c.in_ok-check_segments.ensures.size
 
 pub returns-in_err-check_segments-clause-fault : goal.returns-in_err-check_segments-clause-fault
 returns-in_err-check_segments-clause-fault g c =

@@ -1,4 +1,4 @@
-use Rattle.std.proofs.Common.{◌≡◌, ◌++◌, ◌∷◌, [], List, ℕ, map, length, refl, sym, ap, ◌∙◌, arith}
+use Rattle.std.proofs.Common.{◌≡◌, ◌++◌, ◌∷◌, [], List, ℕ, map, length, refl, sym, ap, ◌∙◌, arith, length-append}
 use Rattle.std.proofs.lemmas.List.{take_at}
 use Rattle.omf_record.specs.View.{block_view}
 use Rattle.omf_record.specs.Expansion.{expansion, places, bytes}
@@ -15,6 +15,15 @@ piece from len = record { from = from; len = len }
 same_piece : (xs more : List ℕ) (from len : ℕ) → from ≡ length xs → len ≡ length more → piece from len ≡ last_of xs more
 same_piece xs more from len e f = rw (e, f) refl
 
+pub keep_expansion-requires-clause-len : goal.keep_expansion-requires-clause-len
+keep_expansion-requires-clause-len g c = c.requires.len
+
+pub keep_expansion-requires-clause-small : goal.keep_expansion-requires-clause-small
+keep_expansion-requires-clause-small g c = c.requires.small
+
+pub keep_expansion-requires-clause-short : goal.keep_expansion-requires-clause-short
+keep_expansion-requires-clause-short g c = c.requires.short
+
 pub invariant_of-self : goal.invariant_of-self
 unfolding IsConsistent
 invariant_of-self g c =
@@ -23,6 +32,16 @@ invariant_of-self g c =
     rw (b.1, p.1) ((
       (stays c.self.inside.bytes.items b.0 c.self.inside.places.items p.0 _ c.self.invariant.0).1,
       rises_on c.self.inside.places.items p.0 _ c.self.invariant.1,
+    ))
+
+pub keep_once-places_from-requires-clause-from : goal.keep_once-places_from-requires-clause-from
+keep_once-places_from-requires-clause-from g c =
+    rw c.in_ok-keep_expansion.ensures.ok.1
+    (omega (
+      arith,
+      c.len-places_from.ensures,
+      c.self.inside.places.ok.0,
+      length-append c.self.inside.places.items (places (expansion (map block_view c.args.blocks.now))),
     ))
 
 pub keep_once-places_from-requires-clause-other : goal.keep_once-places_from-requires-clause-other
