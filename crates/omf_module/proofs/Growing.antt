@@ -1,5 +1,5 @@
 -- What is kept, one record further.
-use Rattle.std.proofs.Common.{◌≡◌, ℕ, Bool, true, List, [], ◌∷◌, ◌++◌, length, map, Option, None, Some, refl}
+use Rattle.std.proofs.Common.{◌≡◌, ℕ, ◌-◌, Bool, true, List, [], ◌∷◌, ◌++◌, length, map, Option, None, Some, refl}
 use Rattle.std.proofs.lemmas.List.{append-nil}
 use Rattle.std.specs.Option.{option_to_list, option_map, option_zip}
 use Rattle.std.specs.Prelude.{unwrap_or}
@@ -11,12 +11,11 @@ use Rattle.omf_record.specs.declared.segments.SegmentDefinition.{SegmentDefiniti
 use Rattle.omf_record.specs.declared.fixups.Reference.{Reference}
 use Rattle.omf_record.specs.declared.fixups.Fixup.{Fixup}
 use Rattle.omf_record.specs.declared.externals.Line.{Line}
+use Rattle.omf_record.specs.Expansion.{expansion}
 use Rattle.omf_record.specs.Records.{Placed}
 use Rattle.omf_module.specs.Before.{first, last}
 use Rattle.omf_module.specs.Tables.{names, data_of, subrecords, fixups}
 use Rattle.omf_module.specs.inside.Said.{segments, groups, externals, publics, start}
-use Rattle.omf_module.specs.declared.ResolvedFixup.{ResolvedFixup}
-use Rattle.omf_module.specs.declared.Start.{Start}
 use Rattle.omf_module.specs.Tables.{contents_in, frame_thread, target_thread, segments_in, groups_in}
 use Rattle.omf_module.specs.inside.Said.{names_in}
 use Rattle.omf_module.specs.Tables.{externals_in, publics_in, data_in}
@@ -122,11 +121,35 @@ no_start_steps main place body rs = rw state_push (simp append-nil)
 
 pub data_steps : (segment offset : ℕ) (bytes : List ℕ) → Steps (Ledata segment offset bytes)
 unfolding step_record
-data_steps segment offset bytes place body rs = rw (state_push, first_single) (simp (append-nil, new_data))
+data_steps segment offset bytes place body rs =
+    rw (
+      state_push,
+      first_single,
+      append-nil (fixups rs),
+      new_data rs (record {
+        place = place;
+        segment = segment - 1;
+        offset = offset;
+        pairs = enumerate_from 0 bytes;
+        fixups = [];
+      }),
+    ) (simp append-nil)
 
 pub repeated_steps : (segment offset : ℕ) (blocks : List Block) → Steps (Lidata segment offset blocks)
 unfolding step_record
-repeated_steps segment offset blocks place body rs = rw (state_push, first_single) (simp (append-nil, new_data))
+repeated_steps segment offset blocks place body rs =
+    rw (
+      state_push,
+      first_single,
+      append-nil (fixups rs),
+      new_data rs (record {
+        place = place;
+        segment = segment - 1;
+        offset = offset;
+        pairs = expansion blocks;
+        fixups = [];
+      }),
+    ) (simp append-nil)
 
 -- what the four slots hold
 pub used_slots : {M : Type 0} (threads : ℕ → Option M) (d : Datum M)

@@ -1,6 +1,6 @@
 -- What a module promises: every index means something, names are short, data lies in its segment, and fix-ups in their
 -- data.
-use Rattle.std.specs.Prelude.{◌≡◌, ℕ, ◌+◌, ◌<◌, ◌≤◌, true, false, All, List, length, None, Some, slice_get, IfSome}
+use Rattle.std.specs.Prelude.{◌≡◌, ℕ, ◌+◌, ◌<◌, ◌≤◌, true, false, All, List, length, Some, slice_get, IfSome}
 use Rattle.omf_record.specs.Numbers.{location_width}
 use Rattle.omf_record.specs.declared.externals.PublicBase.{PublicBase}
 use Rattle.omf_record.specs.declared.externals.PublicBase.TheVariants.{AtFrame, InSegment}

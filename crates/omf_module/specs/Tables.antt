@@ -1,5 +1,5 @@
 -- What the records of a module define, and what the module says (TIS OMF 1.1, the section of each record).
-use Rattle.std.specs.Prelude.{ℕ, Bool, zero, suc, ◌-◌, ◌==◌, List, [], ◌∷◌, ◌++◌, length, map, Option}
+use Rattle.std.specs.Prelude.{ℕ, ◌-◌, ◌==◌, List, [], ◌∷◌, ◌++◌, length, map, Option}
 use Rattle.std.specs.Prelude.{None, Some, unwrap_or}
 use Rattle.std.specs.Bool.{then_some}
 use Rattle.std.specs.Option.{option_map, option_to_list, option_zip}
@@ -10,9 +10,6 @@ use Rattle.omf_record.specs.Expansion.{expansion, contents}
 use Rattle.std.specs.Prelude.{slice_index}
 use Rattle.omf_record.specs.Numbers.{alignment_number, thread_number, segment_len}
 use Rattle.omf_record.specs.Records.{Placed}
-use Rattle.omf_record.specs.declared.segments.SegmentDefinition.{SegmentDefinition}
-use Rattle.omf_record.specs.declared.externals.PublicBase.{PublicBase}
-use Rattle.omf_record.specs.declared.externals.PublicBase.TheVariants as public_base
 use Rattle.omf_record.specs.declared.segments.Alignment.{Alignment}
 use Rattle.omf_record.specs.declared.segments.Alignment.TheVariants as align
 use Rattle.omf_record.specs.declared.segments.Combination.{Combination}
@@ -22,7 +19,6 @@ use Rattle.omf_record.specs.declared.fixups.TargetMethod.{TargetMethod}
 use Rattle.omf_record.specs.declared.fixups.Datum.{Datum}
 use Rattle.omf_record.specs.declared.fixups.Datum.TheVariants as datum
 use Rattle.omf_record.specs.declared.fixups.Reference.{Reference}
-use Rattle.omf_record.specs.declared.fixups.Fixup.{Fixup}
 use Rattle.omf_record.specs.declared.fixups.Subrecord.{Subrecord}
 use Rattle.omf_record.specs.declared.fixups.Subrecord.TheVariants as sub
 use Rattle.omf_module.specs.declared.Kind.{Kind}

@@ -420,8 +420,10 @@ impl<A: Allocator + Copy> Builder<A> {
             }
             PublicBase::InSegment { group, segment } => {
                 let segments = self.store.segment_count();
-                when(misses(segments, segment), CheckFault::SegmentIndex)
-                    .or(when(is_beyond(groups, group), CheckFault::GroupIndex))
+                when(misses(segments, segment), CheckFault::SegmentIndex).or(when(
+                    is_beyond(groups, group),
+                    CheckFault::GroupIndex,
+                ))
             }
         }
     }

@@ -404,8 +404,10 @@ impl<A: Allocator + Copy> Store<A> {
             Some(segment) => {
                 let outside = is_above(segment.length, offset, count);
                 let absolute = is_absolute(segment.standing);
-                when(outside, CheckFault::DataOutside)
-                    .or(when(absolute, CheckFault::DataInAbsolute))
+                when(outside, CheckFault::DataOutside).or(when(
+                    absolute,
+                    CheckFault::DataInAbsolute,
+                ))
             }
         }
     }

@@ -1,5 +1,5 @@
 -- What repeated data stands for: each byte with the place at which it is stored (TIS OMF 1.1, LIDATA).
-use Rattle.std.specs.Prelude.{◌≡◌, ℕ, zero, suc, ◌+◌, ◌-◌, ◌<◌, ◌≤◌, List, [], ◌∷◌, ◌++◌, length, get_or, map}
+use Rattle.std.specs.Prelude.{◌≡◌, ℕ, ◌+◌, ◌-◌, ◌<◌, ◌≤◌, List, [], ◌∷◌, ◌++◌, length, get_or, map}
 use Rattle.std.specs.Prelude.{min, ◌⊎◌}
 use Rattle.std.specs.List.{enumerate_from, repeat}
 use Rattle.omf_record.specs.Record.{Block, Content, Nested, Blocks, End, More, blocks_of, Record, Theadr, Coment}

@@ -1,5 +1,5 @@
 -- Fields of bodies, each by a word of its own.
-use Rattle.std.specs.Prelude.{◌≡◌, ℕ, ◌*◌, List, Option, is_none}
+use Rattle.std.specs.Prelude.{◌≡◌, ℕ, List, Option, is_none}
 use Rattle.std.specs.List.{enumerate_from}
 use Rattle.omf_record.specs.Types.{FrameMethod, TargetMethod, Datum, Reference, SegmentDefinition, Line}
 use Rattle.omf_record.specs.Language.{◌⋆◌, optional, One, Byte, Word, Index, Name}
