@@ -244,7 +244,8 @@ impl<A: Allocator + Copy> LastData<A> {
 impl<A: Allocator + Copy> Builder<A> {
     /// The fault of an index that has to mean a segment.
     fn segment_index(&self, index: u16) -> Option<CheckFault>
-        ensures { result ≡ checking.when (faults.misses (state self.now).tables.segments index) CheckFault.SegmentIndex }
+        ensures { result
+            ≡ checking.when (faults.misses (state self.now).tables.segments index) CheckFault.SegmentIndex }
     {
         let count = self.store.segment_count();
         when(misses(count, index), CheckFault::SegmentIndex)
