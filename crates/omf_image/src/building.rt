@@ -1,4 +1,4 @@
-//! All data records of a program.
+//! The program of modules: their data records, the start, and the relocations.
 
 ghost use Rattle.std.specs.Prelude.{◌≡◌, ◌<◌, ◌≤◌, ◌^◌, ◌++◌, [], List, All, false, filter, length, slice_index_or};
 ghost use Rattle.std.specs.Prelude.{replicate, OnOk, IfOk};
@@ -8,18 +8,25 @@ ghost use Rattle.omf_image.specs.Records.{Entry, entries};
 ghost use Rattle.omf_image.specs.inside.Entries.{module_entries};
 ghost use Rattle.omf_image.specs.inside.Whole.{data_fault};
 ghost use Rattle.omf_image.specs.inside.Pages.{IsBlank};
-ghost use Rattle.omf_image.specs.inside.Ready.{IsEntryReady};
+ghost use Rattle.omf_place.specs.Bounded.{IsBounded};
+ghost use Rattle.omf_image.specs.inside.Ready.{IsEntryReady, IsReady};
 ghost use Rattle.omf_image.specs.inside.States.{state};
-ghost use Rattle.omf_image.specs.Building.{Answers};
+ghost use Rattle.omf_image.specs.Building.{Answers, Builds};
 ghost use Rattle.omf_image.specs.inside.Leading.{IsWhole, Leads};
 
 use crate::adding::add_record;
+use crate::extent::written;
 use crate::faults::FixFault;
 use crate::pages::Pages;
+use crate::program::Program;
+use crate::start::start_registers;
 use crate::work::Work;
-use omf_module::Module;
+use omf_module::{Module, all_promise};
 use omf_place::Layout;
 use std::alloc::{AllocError, Allocator};
+
+/// The most relocated words that a program file holds.
+const MOST_RELOCATIONS: usize = 65535;
 
 impl<A: Allocator + Copy> Work<A> {
     /// An image of zeros without data.
@@ -93,4 +100,45 @@ pub fn flagged<A: Allocator + Copy>(alloc: A, flags: &[bool]) -> Result<Vec<u32,
         }
     }
     Ok(addresses)
+}
+
+/// Links modules all of whose references are there, and whose data lies inside their layout.
+fn build_program<A: Allocator + Copy>(
+    alloc: A,
+    modules: &[Module<A>],
+    layout: &Layout<A>,
+) -> Result<Program<A>, FixFault>
+    requires { IsReady layout.now modules.now }
+    ensures { Builds layout.now modules.now result }
+{
+    let mut work = Work::new(alloc, layout.size())?;
+    let mut hits = Vec::new(alloc);
+    add_modules(&mut work, &mut hits, layout, modules)?;
+    let registers = start_registers(layout, modules)?;
+    let written = written(layout, modules);
+    let relocations = flagged(alloc, &work.words)?;
+    if relocations.len() > MOST_RELOCATIONS {
+        return Err(FixFault::TooManyRelocations);
+    }
+    let Work {
+        pages,
+        words: _,
+        touched: _,
+        relocated: _,
+    } = work;
+    Ok(Program::new(pages, written, relocations, registers))
+}
+
+/// Links modules by their layout. The faults are 26 to 34, in order of data records and fix-ups, then that of the
+/// start, then that of too many relocated words; `Memory` where memory ran out.
+pub fn build<A: Allocator + Copy>(
+    alloc: A,
+    modules: &[Module<A>],
+    layout: &Layout<A>,
+) -> Result<Program<A>, FixFault>
+    requires { IsBounded modules.now layout.now }
+    ensures { Builds layout.now modules.now result }
+{
+    all_promise(modules);
+    build_program(alloc, modules, layout)
 }

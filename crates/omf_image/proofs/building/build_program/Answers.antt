@@ -9,7 +9,7 @@ use Rattle.omf_image.specs.Building.{IsProgramOf}
 use Rattle.omf_image.proofs.Finishing.{leads_first, no_fault, flags_are, program_limits, program_is, data_first}
 use Rattle.omf_image.proofs.Finishing.{start_second, count_last}
 use Rattle.omf_image.proofs.Leading.{refused_by}
-use Rattle.omf_image.proofs.build_program.Goals as goal
+use Rattle.omf_image.proofs.building.build_program.Goals as goal
 
 pub add_modules-requires-clause-whole : goal.add_modules-requires-clause-whole
 add_modules-requires-clause-whole g c =
