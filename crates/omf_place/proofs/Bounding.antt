@@ -1,13 +1,13 @@
 -- The bounds of a layout in which no fault stands.
 use Rattle.std.proofs.Common.{◌≡◌, ℕ, zero, suc, ◌+◌, ◌*◌, ◌/◌, ◌≤◌, Bool, true, false, cond, nat_lt, ◌++◌, List, []}
-use Rattle.std.proofs.Common.{◌∷◌, length, map, find, Option, Some, None, IfSome, slice_get, get_or, ◌<◌, ◌⊎◌, inl, inr}
+use Rattle.std.proofs.Common.{◌∷◌, length, map, find, Option, Some, None, slice_get, inl, inr}
 use Rattle.std.proofs.Common.{refl, ap, sym, ◌∙◌, subst, arith}
 use Rattle.std.proofs.lemmas.Bool.{cases_lt, lt-ltb}
-use Rattle.std.proofs.lemmas.List.{get_or_past, length-map}
-use Rattle.std.proofs.lemmas.List.FromFn.{get_or-map-range_with_len, length-map-range_with_len}
+use Rattle.std.proofs.lemmas.List.{length-map}
+use Rattle.std.proofs.lemmas.List.FromFn.{length-map-range_with_len}
 use Rattle.std.proofs.lemmas.Option.{slice_get-map, get_or_from_slice_get}
 use Rattle.std.specs.List.{AllByRecursion}
-use Rattle.std.specs.Option.{option_map, option_and_then, option_to_list}
+use Rattle.std.specs.Option.{option_map}
 use Rattle.omf_module.specs.declared.Standing.{Standing}
 use Rattle.omf_module.specs.declared.Standing.TheVariants.{Absolute, Relocatable}
 use Rattle.omf_module.specs.Module.{Module, Segment, Group}
@@ -15,26 +15,18 @@ use Rattle.omf_place.specs.Bounded.{LiesInside, ArePlacesOf, IsBounded}
 use Rattle.omf_place.specs.declared.layout.Combined.{Combined}
 use Rattle.omf_place.specs.declared.layout.Position.TheVariants as position
 use Rattle.omf_place.specs.declared.names.Names.{Names}
-use Rattle.omf_place.specs.declared.names.Names.TheVariants.{Exact}
 use Rattle.omf_place.specs.Faults.{segment_fault}
 use Rattle.omf_place.specs.inside.Steps.{is_long_segment}
 use Rattle.omf_place.specs.Parts.{Input, inputs_from, inputs}
-use Rattle.omf_place.specs.Layout.{Layout, layout_at, local_public, module_places, places_of, segment_in}
-use Rattle.omf_place.specs.inside.Named.{value_where}
-use Rattle.omf_place.specs.Names.{Table, agrees, means}
-use Rattle.omf_place.specs.inside.Steps.{empty}
+use Rattle.omf_place.specs.Layout.{Layout, layout_at, module_places, places_of, segment_in}
 use Rattle.omf_place.specs.Parts.{Site, module_sites, sites, is_part}
 use Rattle.omf_place.specs.inside.Placing.{sites_from, is_relocatable}
 use Rattle.omf_place.specs.Placed.{IsPlaced, address_of}
-use Rattle.omf_place.specs.Scopes.{Entry, table}
-use Rattle.omf_place.specs.inside.HeldNames.{local_tables}
-use Rattle.omf_place.specs.inside.Steps.{owned_by, same_owner}
+use Rattle.omf_place.specs.Scopes.{table}
 use Rattle.omf_place.specs.Tables.{segment_start, segment_end, leaders, combined_segment, placed, group_frame}
-use Rattle.omf_place.specs.Tables.{in_segment, placed_public, publics_of, placed_publics}
-use Rattle.omf_place.specs.inside.Steps.{public_entry}
+use Rattle.omf_place.specs.Tables.{placed_publics}
 use Rattle.omf_place.proofs.LinkProgram.{inputs-length}
-use Rattle.omf_place.proofs.KeyPlaces.{All-make}
-use Rattle.omf_place.proofs.LinkRows.{All-flat, input_rows, row_at}
+use Rattle.omf_place.proofs.LinkRows.{input_rows, row_at}
 use Rattle.omf_place.specs.inside.Program.{RowIs}
 use Rattle.omf_place.proofs.SiteLists.{length-module_sites, numbered_sites}
 use Rattle.omf_place.proofs.Walks.{All-get, numbered_found}

@@ -1,5 +1,5 @@
 -- Where the parts start (TIS OMF 1.1, SEGDEF, the alignment): a relation between the segments and their addresses.
-use Rattle.std.specs.Prelude.{◌≡◌, ℕ, ◌+◌, ◌*◌, ◌%◌, ◌<◌, ◌≤◌, max, Bool, true, false, ◌==◌, ◌||◌, not, List, [], ◌∷◌}
+use Rattle.std.specs.Prelude.{◌≡◌, ℕ, ◌+◌, ◌*◌, ◌%◌, ◌<◌, ◌≤◌, max, Bool, false, ◌==◌, ◌||◌, not, List, [], ◌∷◌}
 use Rattle.std.specs.Prelude.{Some}
 use Rattle.std.specs.Prelude.{length, filter, fold, slice_index, if◌then◌else◌}
 use Rattle.omf_module.specs.declared.Kind.TheVariants.{Stack, Common}

@@ -1,8 +1,9 @@
-use Rattle.std.proofs.Common.{◌∙◌, ap, map, sym, take, ◌+◌}
-use Rattle.std.proofs.lemmas.List.{map-append}
+use Rattle.std.proofs.Common.{◌≤◌, ◌∙◌, ap, arith, length, map, sym, take, ◌+◌}
+use Rattle.std.proofs.lemmas.List.{map-append, take_all}
 use Rattle.omf_place.specs.Layout.{module_places}
 use Rattle.omf_place.specs.Parts.{sites}
 use Rattle.omf_place.specs.Rows.{row_view}
+use Rattle.omf_place.specs.inside.OfProgram.{of_program}
 use Rattle.omf_place.specs.inside.Program.{IsPlacedInput, addresses_of, input_view}
 use Rattle.omf_place.specs.inside.Rows.{placed_row}
 use Rattle.omf_place.specs.inside.Sites.{sites_view}
@@ -11,6 +12,9 @@ use Rattle.omf_place.proofs.KeyPlaces.{map_two}
 use Rattle.omf_place.proofs.LinkRows.{row_same}
 use Rattle.omf_place.proofs.Turns.{at_turn}
 use Rattle.omf_place.proofs.rows.module_rows.Goals as goal
+
+pub loop-input-init : goal.loop-input-init
+loop-input-init g c = ap (map row_view) c.new-all.ensures.items
 
 pub segments_of-requires : goal.segments_of-requires
 segments_of-requires g c =
@@ -43,3 +47,12 @@ loop-input-preserved g c =
     (λ j. record { segments = segments j; groups = groups j })
     ∙ ap (λ ys. map (λ y. module_places ms A (input_view y)) (take (i + 1) ys)) same
     ∙ sym (map_two input_view (module_places ms A) (take (i + 1) p.inputs.items))
+
+pub returns : goal.returns
+returns g c =
+    let p = c.args.groups.now.program.now in
+    let whole : length p.inputs.items ≤ c.loop-input.input-index =
+    omega (arith, ap length c.deref-input-items.ensures.value, c.loop-input-test.false) in
+    c.loop-input.invariant
+    ∙ ap (map (of_program module_places p))
+    (ap (map input_view) (take_all c.loop-input.input-index p.inputs.items whole) ∙ c.requires.made)
