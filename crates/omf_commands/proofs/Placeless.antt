@@ -1,11 +1,12 @@
 -- What records say as a module doesn't tell where they stand, but for the places of its data, fix-ups and start.
-use Rattle.std.proofs.Common.{◌≡◌, ℕ, ◌+◌, ◌==◌, true, false, if◌then◌else◌, List, [], ◌∷◌, ◌++◌, length, map, Option}
-use Rattle.std.proofs.Common.{None, Some, is_some, true≢false, refl, sym, ap, ap₂, ◌∙◌, option_map, option_to_list}
+use Rattle.std.proofs.Common.{◌≡◌, ℕ, ◌+◌, ◌==◌, true, false, List, [], ◌∷◌, ◌++◌, length, map, Option, None}
+use Rattle.std.proofs.Common.{Some, is_some, true≢false, refl, sym, ap, ap₂, ◌∙◌, option_map, option_to_list}
 use Rattle.std.proofs.Common.{flat_map}
 use Rattle.std.proofs.Math.Path.{fun_ext}
 use Rattle.std.proofs.lemmas.List.{map-append, length-map}
 use Rattle.std.proofs.lemmas.List.Folds.{flat_map-map}
 use Rattle.std.proofs.lemmas.Simd.{map-map}
+use Rattle.std.specs.Bool.{then_some}
 use Rattle.std.specs.List.{enumerate_from, cons_option}
 use Rattle.omf_record.specs.Record.{Record, Modend, Ledata, Lidata}
 use Rattle.omf_record.specs.Records.{Placed}
@@ -188,8 +189,8 @@ fixups_on_same n [] = refl
 fixups_on_same n (x ∷ xs) =
     elim (x.0
     == n) as (λ b.
-    cons_option (if b then Some (placeless_fixup x.1) else None) (fixups_on n (map placeless_numbered xs))
-    ≡ map placeless_fixup (cons_option (if b then Some x.1 else None) (fixups_on n xs)))
+    cons_option (then_some b (placeless_fixup x.1)) (fixups_on n (map placeless_numbered xs))
+    ≡ map placeless_fixup (cons_option (then_some b x.1) (fixups_on n xs)))
     [ true ↦ ap (λ ys. placeless_fixup x.1 ∷ ys) (fixups_on_same n xs) | false ↦ fixups_on_same n xs ]
 
 data_records_same : (rs : List Placed) → data_records (map unplaced rs) ≡ map placeless_data (data_records rs)

@@ -1,18 +1,19 @@
 -- What the checks refuse doesn't hang on where the records stand.
-use Rattle.std.proofs.Common.{◌≡◌, ℕ, List, [], ◌∷◌, ◌++◌, map, length, Option, None, Some, is_some, option_map}
+use Rattle.std.proofs.Common.{◌≡◌, ℕ, Bool, List, [], ◌∷◌, ◌++◌, map, length, Option, None, Some, is_some, option_map}
 use Rattle.std.proofs.Common.{refl, sym, ap, ap₂, ◌∙◌}
 use Rattle.std.specs.List.{filter_map, cons_option}
 use Rattle.omf_record.specs.Record.{Record, Modend, Pubdef, Segdef, Grpdef, Fixupp, Ledata, Lidata}
 use Rattle.omf_record.specs.Records.{Placed}
+use Rattle.omf_record.specs.declared.fixups.Reference.{Reference}
 use Rattle.omf_module.specs.declared.fault.CheckFault.{CheckFault}
 use Rattle.omf_module.specs.Before.{along, first, last, entry}
-use Rattle.omf_module.specs.Tables.{contents_in, subrecords, module_of}
+use Rattle.omf_module.specs.Tables.{contents_in, subrecords, frame_thread, target_thread, used, module_of}
 use Rattle.omf_module.specs.Faults.{data_fault, public_fault, subrecord_item, items, fault, first_fault}
-use Rattle.omf_module.specs.inside.Checking.{segment_fault, group_items}
+use Rattle.omf_module.specs.inside.Checking.{segment_fault, group_items, start_fault}
 use Rattle.omf_module.specs.inside.Contents.{last_contents}
+use Rattle.omf_module.proofs.InOrder.{start_in_order}
 use Rattle.omf_commands.proofs.Placeless.{unplaced, unplaced_said, along_same, map_along, is_some_map, none_of}
-use Rattle.omf_commands.proofs.Placeless.{names_same, segments_same, groups_same, externals_same, subrecords_same}
-use Rattle.omf_commands.proofs.Placeless.{module_of_unplaced}
+use Rattle.omf_commands.proofs.Placeless.{names_same, segments_same, subrecords_same, module_of_unplaced}
 
 contents_same : (before : List Placed) → last_contents (map unplaced before) ≡ last_contents before
 contents_same before = ap last (each before)
@@ -21,6 +22,18 @@ contents_same before = ap last (each before)
         ≡ filter_map (λ (r : Placed). contents_in r.says) rs
     each [] = refl
     each (r ∷ rs) = ap (cons_option (contents_in r.says)) (each rs)
+
+-- the item of a start
+start_item : (before : List Placed) (main : Bool) (r : Reference)
+    → items before (Modend main (Some r))
+    ≡ start_fault (module_of before) (used (frame_thread (subrecords before)) r.frame)
+    (used (target_thread (subrecords before)) r.target)
+    ∷ []
+start_item before main r =
+    ap (λ o. o ∷ [])
+    (sym
+    (start_in_order (module_of before) (used (frame_thread (subrecords before)) r.frame)
+    (used (target_thread (subrecords before)) r.target)))
 
 items_same : (before : List Placed) (r : Record) → items (map unplaced before) r ≡ items before r
 items_same before (Segdef d) = ap (λ ns. segment_fault ns d ∷ []) (names_same before)
@@ -37,7 +50,10 @@ items_same before (Fixupp subs) =
     (λ s. along [] (λ earlier x. subrecord_item (module_of before) (last_contents before) (s ++ earlier) x ∷ []) subs)
     (subrecords_same before)
 items_same before (Modend main (Some r)) =
-    rw (segments_same before, groups_same before, externals_same before, subrecords_same before)
+    start_item (map unplaced before) main r
+    ∙ (ap₂ (λ m s. start_fault m (used (frame_thread s) r.frame) (used (target_thread s) r.target) ∷ [])
+    (module_of_unplaced before) (subrecords_same before)
+    ∙ sym (start_item before main r))
 items_same before _ = refl
 
 fault_same : (before : List Placed) (r : Record) → fault (map unplaced before) r ≡ fault before r
