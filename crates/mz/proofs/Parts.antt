@@ -8,23 +8,24 @@ use Rattle.omf_image.specs.Program.{Program}
 use Rattle.mz.specs.declared.format.Header.{Header}
 use Rattle.mz.specs.Header.{header_len}
 use Rattle.mz.specs.inside.Format.{header_bytes, entry_bytes}
-use Rattle.mz.specs.File.{header_of, entry_of, file_image, paragraphs, table, padding, written}
+use Rattle.mz.specs.File.{header_of, entry_of, file_image, paragraphs, table_bytes, padding, file_bytes}
 
 -- the entries of a range of addresses, between those of the addresses before and behind it
-module _ (addresses part : List ℕ) (i j : ℕ) (ordered : i ≤ j) (is : part ≡ table (slice_range addresses i j)) where
-  pub table_joined : table (take i addresses) ++ part ≡ table (take j addresses)
+module _ (addresses part : List ℕ) (i j : ℕ) (ordered : i ≤ j)
+    (is : part ≡ table_bytes (slice_range addresses i j)) where
+  pub table_joined : table_bytes (take i addresses) ++ part ≡ table_bytes (take j addresses)
   table_joined =
       let same : i + (j - i) ≡ j = omega arith in
-      ap (λ l. table (take i addresses) ++ l) is
+      ap (λ l. table_bytes (take i addresses) ++ l) is
       ∙ sym (flat_map-append (λ a. entry_bytes (entry_of a)) (take i addresses) (slice_range addresses i j))
-      ∙ ap table (sym (take-add i (j - i) addresses) ∙ ap (λ (n : ℕ). take n addresses) same)
+      ∙ ap table_bytes (sym (take-add i (j - i) addresses) ∙ ap (λ (n : ℕ). take n addresses) same)
 
-  pub table_split : table addresses ≡ table (take i addresses) ++ (part ++ table (drop j addresses))
+  pub table_split : table_bytes addresses ≡ table_bytes (take i addresses) ++ (part ++ table_bytes (drop j addresses))
   table_split =
-      ap table (sym (take-append-drop j addresses))
+      ap table_bytes (sym (take-append-drop j addresses))
       ∙ flat_map-append (λ a. entry_bytes (entry_of a)) (take j addresses) (drop j addresses)
-      ∙ ap (λ l. l ++ table (drop j addresses)) (sym table_joined)
-      ∙ append_assoc (table (take i addresses)) part (table (drop j addresses))
+      ∙ ap (λ l. l ++ table_bytes (drop j addresses)) (sym table_joined)
+      ∙ append_assoc (table_bytes (take i addresses)) part (table_bytes (drop j addresses))
 
 -- what of a piece of a list lies before an end, between the bytes before and behind it
 module _ (xs piece : List ℕ) (i end len : ℕ) (before : i ≤ end) (least : len ≡ min (length piece) (end - i))
@@ -45,8 +46,8 @@ module _ (xs piece : List ℕ) (i end len : ℕ) (before : i ≤ end) (least : l
 pub file_parts : (p : Program) (header : Header) (len count : ℕ) (head addresses : List ℕ)
     → header ≡ header_of p → head ≡ header_bytes header → len ≡ header_len header → count ≡ header.relocation_count
     → addresses ≡ p.relocations
-    → written p ≡ head ++ (table addresses ++ (take (len - (28 + 4 * count)) (replicate 16 0) ++ file_image p))
-unfolding written
+    → file_bytes p ≡ head ++ (table_bytes addresses ++ (take (len - (28 + 4 * count)) (replicate 16 0) ++ file_image p))
+unfolding file_bytes
 file_parts p header len count head addresses is head_is len_is count_is addresses_are =
     let n = length p.relocations in
     let rounded : header.header_paragraphs ≡ paragraphs n = ap (λ (h : Header). h.header_paragraphs) is in
@@ -56,5 +57,5 @@ file_parts p header len count head addresses is head_is len_is count_is addresse
     let zeros : take {A = ℕ} (len - (28 + 4 * count)) (replicate 16 0) ≡ padding p =
     take-replicate {X = ℕ} (len - (28 + 4 * count)) 16 0 few ∙ ap (λ (k : ℕ). replicate k 0) same in
     rw (head_is, is, addresses_are, zeros)
-    (append_assoc (header_bytes (header_of p) ++ table p.relocations) (padding p) (file_image p)
-    ∙ append_assoc (header_bytes (header_of p)) (table p.relocations) (padding p ++ file_image p))
+    (append_assoc (header_bytes (header_of p) ++ table_bytes p.relocations) (padding p) (file_image p)
+    ∙ append_assoc (header_bytes (header_of p)) (table_bytes p.relocations) (padding p ++ file_image p))

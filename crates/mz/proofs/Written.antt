@@ -19,7 +19,8 @@ use Rattle.mz.specs.declared.fault.MzFault.TheVariants.{RelocationOutside}
 use Rattle.mz.specs.Header.{magic, header_at, header_len, told_len, is_accepted, entry_address, is_inside}
 use Rattle.mz.specs.inside.Format.{has_table_inside}
 use Rattle.mz.specs.inside.Format.{header_bytes, entry_bytes}
-use Rattle.mz.specs.File.{paragraphs, file_image, file_len, header_of, entry_of, table, padding, written, MzFile}
+use Rattle.mz.specs.File.{paragraphs, file_image, file_len, header_of, entry_of, table_bytes, padding, file_bytes}
+use Rattle.mz.specs.File.{MzFile}
 use Rattle.mz.specs.Reading.{entries_at, file_of, reading}
 use Rattle.mz.specs.inside.Steps.{file_in}
 use Rattle.mz.specs.declared.fault.LoadFault.{LoadFault}
@@ -50,7 +51,7 @@ len_back len = elim (cases_Bool (len % 512 == 0)) [
 pub told_len-header_of : (p : Program) → told_len (header_of p) ≡ file_len p
 told_len-header_of p = len_back (file_len p)
 
-length-table : (rs : List ℕ) → length (table rs) ≡ 4 * length rs
+length-table : (rs : List ℕ) → length (table_bytes rs) ≡ 4 * length rs
 length-table [] = refl
 length-table (r ∷ rs) = omega (arith, length-table rs)
 
@@ -59,12 +60,12 @@ entry a b = record { offset = a; segment = b }
 
 -- the table, behind some bytes, is read as its entries
 entries_back : (pre rs post : List ℕ) → AllByRecursion (λ r. r < 1048576) rs
-    → entries_at (length rs) (length pre) (pre ++ (table rs ++ post)) ≡ map entry_of rs
+    → entries_at (length rs) (length pre) (pre ++ (table_bytes rs ++ post)) ≡ map entry_of rs
 unfolding entry
 entries_back pre [] post h = refl
 entries_back pre (r ∷ rs) post h =
     let e = entry_of r in
-    let tail = table rs ++ post in
+    let tail = table_bytes rs ++ post in
     let four = entry_bytes e in
     let b = pre ++ (four ++ tail) in
     let byte : (i k : ℕ) → k ≡ length pre + i → get_or b k 0 ≡ get_or (four ++ tail) i 0 =
@@ -266,33 +267,35 @@ module _ (p : Program) (w : IsProgram p) where
     overlay = omega arith;
   }
 
-  in_two : written p ≡ head ++ (table p.relocations ++ (padding p ++ file_image p))
-  unfolding written head
+  in_two : file_bytes p ≡ head ++ (table_bytes p.relocations ++ (padding p ++ file_image p))
+  unfolding file_bytes head
   in_two =
-      append_assoc (head ++ table p.relocations) (padding p) (file_image p)
-      ∙ append_assoc head (table p.relocations) (padding p ++ file_image p)
+      append_assoc (head ++ table_bytes p.relocations) (padding p) (file_image p)
+      ∙ append_assoc head (table_bytes p.relocations) (padding p ++ file_image p)
 
-  header_is : header_at (written p) ≡ header_of p
+  header_is : header_at (file_bytes p) ≡ header_of p
   unfolding head
   header_is =
-      ap header_at in_two ∙ header_back (header_of p) (table p.relocations ++ (padding p ++ file_image p)) words_fit
+      ap header_at in_two
+      ∙ header_back (header_of p) (table_bytes p.relocations ++ (padding p ++ file_image p)) words_fit
 
-  magic_is : word_at (written p) 0 ≡ magic
-  unfolding written
+  magic_is : word_at (file_bytes p) 0 ≡ magic
+  unfolding file_bytes
   magic_is = refl
 
   front : List ℕ
-  front = header_bytes (header_of p) ++ table p.relocations ++ padding p
+  front = header_bytes (header_of p) ++ table_bytes p.relocations ++ padding p
 
   length-front : length front ≡ 16 * paragraphs (length p.relocations)
   unfolding front
   length-front =
       let m = length p.relocations in
-      let a : length (header_bytes (header_of p) ++ table p.relocations ++ padding p)
-      ≡ length (header_bytes (header_of p) ++ table p.relocations) + length (padding p) =
-      length-append (header_bytes (header_of p) ++ table p.relocations) (padding p) in
-      let b : length (header_bytes (header_of p) ++ table p.relocations) ≡ 28 + length (table p.relocations) =
-      length-append (header_bytes (header_of p)) (table p.relocations) in
+      let a : length (header_bytes (header_of p) ++ table_bytes p.relocations ++ padding p)
+      ≡ length (header_bytes (header_of p) ++ table_bytes p.relocations) + length (padding p) =
+      length-append (header_bytes (header_of p) ++ table_bytes p.relocations) (padding p) in
+      let b : length (header_bytes (header_of p) ++ table_bytes p.relocations)
+      ≡ 28 + length (table_bytes p.relocations) =
+      length-append (header_bytes (header_of p)) (table_bytes p.relocations) in
       let c : length (padding p) ≡ 16 * paragraphs m - (28 + 4 * m) =
       length-replicate (16 * paragraphs m - (28 + 4 * m)) 0 in
       omega (arith, a, b, c, length-table p.relocations)
@@ -300,14 +303,14 @@ module _ (p : Program) (w : IsProgram p) where
   length-image : length (file_image p) ≡ p.written
   length-image = length-take-le p.written p.image w.written
 
-  pub length-written : length (written p) ≡ file_len p
-  unfolding written front
+  pub length-written : length (file_bytes p) ≡ file_len p
+  unfolding file_bytes front
   length-written =
       length-append front (file_image p) ∙ ap (λ (k : ℕ). k + length (file_image p)) length-front
       ∙ ap (λ (k : ℕ). 16 * paragraphs (length p.relocations) + k) length-image
 
-  image_is : drop (16 * paragraphs (length p.relocations)) (written p) ≡ file_image p
-  unfolding written front
+  image_is : drop (16 * paragraphs (length p.relocations)) (file_bytes p) ≡ file_image p
+  unfolding file_bytes front
   image_is = drop_at front (file_image p) (16 * paragraphs (length p.relocations)) length-front
 
   below : AllByRecursion (λ r. r + 2 ≤ p.written) p.relocations
@@ -316,7 +319,7 @@ module _ (p : Program) (w : IsProgram p) where
   inside : AllByRecursion (λ r. r + 2 ≤ length (file_image p)) p.relocations
   inside = subst (λ (n : ℕ). AllByRecursion (λ r. r + 2 ≤ n) p.relocations) (sym length-image) below
 
-  entries_are : entries_at (length p.relocations) 28 (written p) ≡ map entry_of p.relocations
+  entries_are : entries_at (length p.relocations) 28 (file_bytes p) ≡ map entry_of p.relocations
   unfolding head
   entries_are =
       ap (entries_at (length p.relocations) 28) in_two
@@ -335,30 +338,30 @@ module _ (p : Program) (w : IsProgram p) where
       (and_from _ _ (le-leb 28 h.relocation_table (omega arith))
       (le-leb (h.relocation_table + 4 * h.relocation_count) (header_len h) (omega arith))))
 
-  file_is : file_in (header_of p) (written p) ≡ Ok (as_file p)
+  file_is : file_in (header_of p) (file_bytes p) ≡ Ok (as_file p)
   file_is =
       let h = header_of p in
       let answer : List Entry → List ℕ → Result MzFile MzFault =
       λ es bs.
       cond (list_all (is_inside (length bs)) es) (Ok (record { header = h; entries = es; image = bs }))
       (Err RelocationOutside) in
-      ap (λ (es : List Entry). answer es (drop (header_len h) (written p))) entries_are
+      ap (λ (es : List Entry). answer es (drop (header_len h) (file_bytes p))) entries_are
       ∙ ap (answer (map entry_of p.relocations)) image_is
       ∙ cond-true _ _ _ (all_inside (length (file_image p)) p.relocations inside)
 
-  pub reads_back : (rest : List ℕ) → reading (written p ++ rest) ≡ Ok (as_file p)
+  pub reads_back : (rest : List ℕ) → reading (file_bytes p ++ rest) ≡ Ok (as_file p)
   reads_back rest =
-      let b = written p in
+      let b = file_bytes p in
       let long : 28 ≤ length b = omega (arith, length-written) in
       let header : header_at (b ++ rest) ≡ header_of p = header_at-append b rest long ∙ header_is in
       reads_accepted b rest long magic_is (ap is_accepted header_is ∙ accepted)
       ∙ whole_behind b rest (header_of p) header accepted (length-written ∙ sym (told_len-header_of p))
       ∙ file_is
 
-  pub tells_length : (rest : List ℕ) → told_len (header_at (written p ++ rest)) ≡ length (written p)
+  pub tells_length : (rest : List ℕ) → told_len (header_at (file_bytes p ++ rest)) ≡ length (file_bytes p)
   tells_length rest =
-      let long : 28 ≤ length (written p) = omega (arith, length-written) in
-      ap told_len (header_at-append (written p) rest long ∙ header_is) ∙ told_len-header_of p ∙ sym length-written
+      let long : 28 ≤ length (file_bytes p) = omega (arith, length-written) in
+      ap told_len (header_at-append (file_bytes p) rest long ∙ header_is) ∙ told_len-header_of p ∙ sym length-written
 
   loaded_back : (P : ℕ) → loaded P (as_file p) ≡ moved P p
   unfolding loaded
@@ -379,9 +382,9 @@ module _ (p : Program) (w : IsProgram p) where
   pub refuses : (P : ℕ) → memory_len < 16 * P + length p.image → loading P (as_file p) ≡ Err DoesNotFit
   refuses P above = does_not_fit P (as_file p) (omega (arith, needed_is, above))
 
-  pub memory_back : (rest : List ℕ) (P : ℕ) → memory P (written p ++ rest) ≡ moved P p
+  pub memory_back : (rest : List ℕ) (P : ℕ) → memory P (file_bytes p ++ rest) ≡ moved P p
   memory_back rest P =
-      let b = written p in
+      let b = file_bytes p in
       let h = header_of p in
       let long : 28 ≤ length b = omega (arith, length-written) in
       let header : header_at (b ++ rest) ≡ h = header_at-append b rest long ∙ header_is in

@@ -54,22 +54,22 @@ abbrev pub entry_of : ℕ → Entry
 entry_of address = record { offset = address % 16; segment = address / 16 }
 
 -- the relocation table for words at these addresses
-abbrev pub table : (addresses : List ℕ) → List ℕ
-table addresses = flat_map (λ address. word_bytes (address % 16) ++ word_bytes (address / 16)) addresses
+abbrev pub table_bytes : (addresses : List ℕ) → List ℕ
+table_bytes addresses = flat_map (λ address. word_bytes (address % 16) ++ word_bytes (address / 16)) addresses
 
 -- bytes 00 from the end of the table to the end of the header's last paragraph
 abbrev pub padding : Program → List ℕ
 padding program = replicate (16 * paragraphs (length program.relocations) - (28 + 4 * length program.relocations)) 0
 
 -- the bytes of the file
-unfoldable pub written : Program → List ℕ
-written program =
-    flat_map word_bytes (words_of program) ++ table program.relocations ++ padding program
+unfoldable pub file_bytes : Program → List ℕ
+file_bytes program =
+    flat_map word_bytes (words_of program) ++ table_bytes program.relocations ++ padding program
     ++ take program.written program.image
 
 -- these bytes are the file of a program
 abbrev pub Mz : Program → List ℕ → Type 0
-Mz program bytes = IsProgram program × (bytes ≡ written program)
+Mz program bytes = IsProgram program × (bytes ≡ file_bytes program)
 
 -- what a file holds: the words of its header, its relocation table and its image
 pub record MzFile : Type 0 where

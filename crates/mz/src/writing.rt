@@ -2,7 +2,7 @@
 ghost use Rattle.std.specs.Prelude.{◌≡◌, ◌-◌, ◌*◌, ◌^◌, ◌<◌, All, length, IsOkUnless};
 ghost use Rattle.omf_frame.specs.Device.{Writes};
 ghost use Rattle.omf_image.specs.Program.{IsProgram};
-ghost use Rattle.mz.specs.File.{table, Mz, written, file_image, header_of, paragraphs, padding};
+ghost use Rattle.mz.specs.File.{table_bytes, Mz, file_bytes, file_image, header_of, paragraphs, padding};
 ghost use Rattle.mz.specs.declared.fault.MzFault.TheVariants.{Device};
 
 use crate::fault::MzFault;
@@ -49,7 +49,7 @@ fn header_of<A: Allocator + Copy>(program: &Program<A>) -> Header
 fn put_entries(addresses: &[u32], bytes: &mut [u8])
     requires low { All (λ address. address < 1048576) addresses.now }
     requires room { length bytes.old ≡ 4 * length addresses.now }
-    ensures { bytes.new ≡ table addresses.now }
+    ensures { bytes.new ≡ table_bytes addresses.now }
 {
     for (index, address) in addresses.iter().enumerate() {
         let entry = Entry {
@@ -65,7 +65,7 @@ fn put_entries(addresses: &[u32], bytes: &mut [u8])
 fn put_table<K: Sink>(addresses: &[u32], sink: &mut K) -> Result<(), IoFault>
     requires low { All (λ address. address < 1048576) addresses.now }
     requires working { K.failures sink.old < 2 ^ 64 - 1 }
-    ensures { Writes K.written K.failures sink.old sink.new (table addresses.now) result }
+    ensures { Writes K.written K.failures sink.old sink.new (table_bytes addresses.now) result }
 {
     let mut bytes = [0; ENTRIES_AT_ONCE * ENTRY_LEN];
     let mut at = 0;
@@ -102,7 +102,7 @@ fn put_image<A: Allocator + Copy, K: Sink>(
 fn put_file<A: Allocator + Copy, K: Sink>(program: &Program<A>, sink: &mut K) -> Result<(), IoFault>
     requires { K.failures sink.old < 2 ^ 64 - 1 }
     ensures limits { IsProgram program.now }
-    ensures written { Writes K.written K.failures sink.old sink.new (written program.now) result }
+    ensures written { Writes K.written K.failures sink.old sink.new (file_bytes program.now) result }
 {
     let header = header_of(program);
     let filled = HEADER_LEN + ENTRY_LEN * usize::from(header.relocation_count);
@@ -122,11 +122,11 @@ pub fn write_mz<A: Allocator + Copy, K: Sink>(
 ) -> Result<(), MzFault>
     requires { K.failures sink.old < 2 ^ 64 - 1 }
     // What is written is a file of the format.
-    ensures format { Mz program.now (written program.now) }
+    ensures format { Mz program.now (file_bytes program.now) }
     // The only fault is `Device`.
     ensures device { IsOkUnless result Device }
     // All of the file was written and the sink never failed; or a front of it was, and the sink failed once.
-    ensures written { Writes K.written K.failures sink.old sink.new (written program.now) result }
+    ensures written { Writes K.written K.failures sink.old sink.new (file_bytes program.now) result }
 {
     match put_file(program, sink) {
         Ok(()) => Ok(()),

@@ -11,7 +11,7 @@ use Rattle.omf_image.specs.Program.{Program, IsProgram}
 use Rattle.omf_image.specs.Records.{program_byte}
 use Rattle.omf_image.specs.declared.start.Registers.{Registers}
 use Rattle.omf_image.specs.Words.{put_word, add_word, add_words}
-use Rattle.mz.specs.File.{written}
+use Rattle.mz.specs.File.{file_bytes}
 use Rattle.omf_commands.specs.Linking.{IsLinked, IsFileOf}
 
 abbrev AreBytes : List ℕ → Type 0
@@ -44,8 +44,8 @@ abbrev parts : List ℕ → ℕ → List ℕ → Registers → Program
 parts image end relocations r =
     record { image = image; written = end; relocations = relocations; registers = r; made = [] }
 
-written_parts : (p : Program) → written p ≡ written (parts p.image p.written p.relocations p.registers)
-unfolding written
+written_parts : (p : Program) → file_bytes p ≡ file_bytes (parts p.image p.written p.relocations p.registers)
+unfolding file_bytes
 written_parts p = refl
 
 image_byte : (names : Names) (modules : List Module) (layout : Layout) (p : Program) → IsLinked names modules layout p
@@ -57,7 +57,7 @@ image_byte names modules layout p linked limits i h =
 
 same_written : (names : Names) (modules : List Module) (layout : Layout) (p q : Program)
     → IsLinked names modules layout p → IsLinked names modules layout q → IsProgram p → IsProgram q
-    → written p ≡ written q
+    → file_bytes p ≡ file_bytes q
 same_written names modules layout p q a b m n =
     let long = a.program.sized ∙ sym b.program.sized in
     let image : p.image ≡ q.image = ext_get_or 0 p.image q.image long (λ i h.
@@ -67,8 +67,8 @@ same_written names modules layout p q a b m n =
     let registers : p.registers ≡ q.registers = sym a.program.at_zero ∙ b.program.at_zero in
     let ends : p.written ≡ q.written = a.program.written ∙ sym b.program.written in
     written_parts p
-    ∙ (ap₂ (λ x y. written (parts x p.written y p.registers)) image relocations
-    ∙ (ap₂ (λ n r. written (parts q.image n q.relocations r)) ends registers ∙ sym (written_parts q)))
+    ∙ (ap₂ (λ x y. file_bytes (parts x p.written y p.registers)) image relocations
+    ∙ (ap₂ (λ n r. file_bytes (parts q.image n q.relocations r)) ends registers ∙ sym (written_parts q)))
 
 pub same_file : (names : Names) (modules : List Module) (file other : List ℕ) → IsFileOf names modules file
     → IsFileOf names modules other → file ≡ other

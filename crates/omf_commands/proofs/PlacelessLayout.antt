@@ -14,7 +14,7 @@ use Rattle.omf_place.specs.Parts.{Site, module_sites, sites}
 use Rattle.omf_place.specs.inside.Placing.{sites_from}
 use Rattle.omf_place.specs.Placed.{address_of, IsPlaced}
 use Rattle.omf_place.specs.Parts.{Input, inputs_from}
-use Rattle.omf_place.specs.Tables.{group_frame, segment_frame, public_frame, in_segment, placed_public, publics_of}
+use Rattle.omf_place.specs.Tables.{frame_of_group, segment_frame, public_frame, in_segment, placed_public, publics_of}
 use Rattle.omf_place.specs.Tables.{Grpdef}
 use Rattle.omf_place.specs.Tables.{is_first_grpdef, placed_groups}
 use Rattle.omf_place.specs.inside.Steps.{placed_group}
@@ -43,7 +43,7 @@ inputs_same position input (m ∷ ms) =
 -- ---- groups and publics
 
 group_frame_same : (modules : List Module) (addresses name : List ℕ)
-    → group_frame (map placeless modules) addresses name ≡ group_frame modules addresses name
+    → frame_of_group (map placeless modules) addresses name ≡ frame_of_group modules addresses name
 group_frame_same modules addresses name = simp (sites_same, inputs_same, flat_map-map)
 
 public_frame_same : (modules : List Module) (addresses : List ℕ) (m : Module) (a : Site) (group : ℕ) →

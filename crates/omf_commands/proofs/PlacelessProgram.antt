@@ -24,12 +24,12 @@ use Rattle.omf_image.specs.inside.Whole.{data_fault}
 use Rattle.omf_image.specs.inside.Stops.{or_else}
 use Rattle.std.specs.Option.{option_or}
 use Rattle.omf_image.specs.Located.{covers_word}
-use Rattle.omf_image.specs.Records.{hits, stored_of, entry_start, meaning, Entry, entries, fixup_patches, datum}
+use Rattle.omf_image.specs.Records.{hits, stored_of, entry_start, meaning, DataEntry, entries, fixup_patches, datum}
 use Rattle.omf_image.specs.Records.{record_relocations, relocations, program_byte, written}
 use Rattle.omf_image.specs.inside.Whole.{page_covered}
 use Rattle.omf_image.specs.inside.Lookups.{patches_of}
 use Rattle.omf_image.specs.inside.Entries.{entries_from, module_entries}
-use Rattle.omf_image.specs.Registers.{StartEntry, starts, starts_fault, program_fault, entry_at, registers}
+use Rattle.omf_image.specs.Registers.{StartEntry, starts, starts_fault, program_fault, entry_point, registers}
 use Rattle.omf_image.specs.inside.Starts.{is_stack}
 use Rattle.omf_image.specs.inside.Entries.{module_start, starts_from}
 use Rattle.omf_image.specs.inside.Starts.{count_fault, is_stack_segment}
@@ -37,7 +37,7 @@ use Rattle.omf_commands.proofs.Placeless.{placeless, placeless_fixup, placeless_
 
 -- ---- data
 
-abbrev placeless_entry : Entry → Entry
+abbrev placeless_entry : DataEntry → DataEntry
 placeless_entry e =
     record { input = e.input; module' = placeless e.module'; data_record = placeless_data e.data_record }
 
@@ -51,7 +51,7 @@ entries_same input (m ∷ ms) =
     own : module_entries input (placeless m) ≡ map placeless_entry (module_entries input m)
     own = simp map-map
 
-patches_same : (P : ℕ) (layout : Layout) (e : Entry) (x : ResolvedFixup)
+patches_same : (P : ℕ) (layout : Layout) (e : DataEntry) (x : ResolvedFixup)
     → fixup_patches P layout (placeless_entry e) (placeless_fixup x) ≡ fixup_patches P layout e x
 patches_same P layout e x =
     patches_for (meaning layout e x) (entry_start layout e) (hits x.offset (stored_of e.data_record))
@@ -61,10 +61,10 @@ patches_same P layout e x =
     patches_for (Err k) start is = refl
     patches_for (Ok r) start is = refl
 
-datum_same : (P : ℕ) (layout : Layout) (e : Entry) → datum P layout (placeless_entry e) ≡ datum P layout e
+datum_same : (P : ℕ) (layout : Layout) (e : DataEntry) → datum P layout (placeless_entry e) ≡ datum P layout e
 datum_same P layout e = simp (flat_map-map, patches_same)
 
-relocated_same : (layout : Layout) (e : Entry)
+relocated_same : (layout : Layout) (e : DataEntry)
     → record_relocations layout (placeless_entry e) ≡ record_relocations layout e
 relocated_same layout e = simp (flat_map-map, patches_same)
 
@@ -108,11 +108,11 @@ first_fault : (first rest : Option FixFault)
 first_fault None rest = refl
 first_fault (Some f) rest = refl
 
-fixup_same : (layout : Layout) (e : Entry) (earlier : List Patch) (x : ResolvedFixup)
+fixup_same : (layout : Layout) (e : DataEntry) (earlier : List Patch) (x : ResolvedFixup)
     → fixup_fault layout (placeless_entry e) earlier (placeless_fixup x) ≡ fixup_fault layout e earlier x
 fixup_same layout e earlier x = refl
 
-fixups_same : (layout : Layout) (e : Entry) (earlier : List Patch) (xs : List ResolvedFixup) →
+fixups_same : (layout : Layout) (e : DataEntry) (earlier : List Patch) (xs : List ResolvedFixup) →
     fixups_fault layout (placeless_entry e) earlier (map placeless_fixup xs)
     ≡ option_map placeless_fault (fixups_fault layout e earlier xs)
 fixups_same layout e earlier [] = refl
@@ -127,7 +127,7 @@ fault_if : (b : Bool) (kind : FixKind) (input place : ℕ) (rest : Option FixFau
 fault_if true kind input place rest = refl
 fault_if false kind input place rest = refl
 
-record_same : (layout : Layout) (words : List ℕ) (e : Entry)
+record_same : (layout : Layout) (words : List ℕ) (e : DataEntry)
     → record_fault layout words (placeless_entry e) ≡ option_map placeless_fault (record_fault layout words e)
 record_same layout words e =
     ap₂ (λ d rest. cond (covers_word d words) (Some (At CoversRelocated e.input 0)) rest) (datum_same 0 layout e)
@@ -135,7 +135,7 @@ record_same layout words e =
     ∙ fault_if (covers_word (datum 0 layout e) words) CoversRelocated e.input e.data_record.place
     (fixups_fault layout e [] e.data_record.fixups)
 
-records_same : (layout : Layout) (words : List ℕ) (es : List Entry)
+records_same : (layout : Layout) (words : List ℕ) (es : List DataEntry)
     → records_fault layout words (map placeless_entry es) ≡ option_map placeless_fault (records_fault layout words es)
 records_same layout words [] = refl
 records_same layout words (e ∷ es) =
@@ -203,7 +203,7 @@ faulty_same layout modules =
 -- ---- the registers
 
 entry_same : (P : ℕ) (layout : Layout) (es : List StartEntry)
-    → entry_at P layout (map placeless_start_entry es) ≡ entry_at P layout es
+    → entry_point P layout (map placeless_start_entry es) ≡ entry_point P layout es
 entry_same P layout [] = refl
 entry_same P layout (e ∷ es) = refl
 

@@ -102,8 +102,7 @@ module _ {S : Type 0} (told : S → Option (List ℕ)) (failures : S → ℕ) wh
   abbrev pub Links : {A : Type 0} → Names → (olds news : List S) (wold wnew : Option (List ℕ))
       → Result (Report A) (LinkFault A) → Type 0
   Links names olds news wold wnew (Ok report) =
-      AllRead olds news
-      (λ modules. IsReport names modules report
+      AllRead olds news (λ modules. IsReport names modules report
       × ((file : List ℕ) × Mz report.program file × Appends wold wnew file))
   Links names olds news wold wnew (Err link.Output) =
       AllRead olds news (λ modules. (file : List ℕ) × IsFileOf names modules file × AppendsFront wold wnew file)

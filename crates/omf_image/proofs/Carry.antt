@@ -5,7 +5,7 @@ use Rattle.std.proofs.lemmas.List.{append_assoc, append-nil}
 use Rattle.std.proofs.lemmas.Bool.{cases_Bool, and_parts, and_from, leb-true, ltb-true, le-leb, lt-ltb, cond-true}
 use Rattle.std.proofs.lemmas.Bool.{cond-false}
 use Rattle.omf_image.specs.Words.{word_at, add_words}
-use Rattle.omf_image.specs.Located.{Datum, covers, located}
+use Rattle.omf_image.specs.Located.{LocatedBytes, covers, located}
 use Rattle.omf_image.specs.inside.Whole.{byte_of}
 use Rattle.omf_image.specs.inside.Leading.{last_or}
 use Rattle.omf_image.proofs.Words.{length-add_word}
@@ -14,14 +14,14 @@ use Rattle.omf_image.proofs.Members.{In, In-cases, In-left, In-map, In-map-from,
 
 -- a datum at paragraph 0, with the places of its relocated words
 pub record Piece : Type 0 where
-  pub datum : Datum
+  pub datum : LocatedBytes
   pub words : List ℕ
 
 -- the same at paragraph P
-abbrev pub datum_at : ℕ → Piece → Datum
+abbrev pub datum_at : ℕ → Piece → LocatedBytes
 datum_at P p = record { start = p.datum.start; bytes = add_words P p.words p.datum.bytes }
 
-abbrev pub datum_at_0 : Piece → Datum
+abbrev pub datum_at_0 : Piece → LocatedBytes
 datum_at_0 p = p.datum
 
 -- the addresses of its relocated words
@@ -44,10 +44,10 @@ EachApart [] = Unit {0}
 EachApart (p ∷ ps) = AllApart p.words × AllWordsInside (length p.datum.bytes) p.words × EachApart ps
 
 -- a datum laid over a memory
-abbrev pub lay : Datum → (ℕ → ℕ) → ℕ → ℕ
+abbrev pub lay : LocatedBytes → (ℕ → ℕ) → ℕ → ℕ
 lay d m a = cond (covers a d) (byte_of a d) (m a)
 
-abbrev pub lay_all : List Datum → (ℕ → ℕ) → ℕ → ℕ
+abbrev pub lay_all : List LocatedBytes → (ℕ → ℕ) → ℕ → ℕ
 lay_all [] m = m
 lay_all (d ∷ ds) m = lay_all ds (lay d m)
 
@@ -55,24 +55,24 @@ length-add_words : (P : ℕ) (rs : List ℕ) (xs : List ℕ) → length (add_wor
 length-add_words P [] xs = refl
 length-add_words P (r ∷ rs) xs = length-add_words P rs _ ∙ length-add_word P r xs
 
-pub covers-from : (a : ℕ) (d : Datum) → d.start ≤ a → a < d.start + length d.bytes → covers a d ≡ true
+pub covers-from : (a : ℕ) (d : LocatedBytes) → d.start ≤ a → a < d.start + length d.bytes → covers a d ≡ true
 covers-from a d h k = and_from _ _ (le-leb d.start a h) (lt-ltb a (d.start + length d.bytes) k)
 
 covers-same : (P a : ℕ) (p : Piece) → covers a (datum_at P p) ≡ covers a p.datum
 covers-same P a p =
     ap (λ (n : ℕ). leb p.datum.start a && ltb a (p.datum.start + n)) (length-add_words P p.words p.datum.bytes)
 
-lay-in : (d : Datum) (m : ℕ → ℕ) (a : ℕ) → covers a d ≡ true → lay d m a ≡ byte_of a d
+lay-in : (d : LocatedBytes) (m : ℕ → ℕ) (a : ℕ) → covers a d ≡ true → lay d m a ≡ byte_of a d
 lay-in d m a h = cond-true (covers a d) (byte_of a d) (m a) h
 
-lay-out : (d : Datum) (m : ℕ → ℕ) (a : ℕ) → covers a d ≡ false → lay d m a ≡ m a
+lay-out : (d : LocatedBytes) (m : ℕ → ℕ) (a : ℕ) → covers a d ≡ false → lay d m a ≡ m a
 lay-out d m a h = cond-false (covers a d) (byte_of a d) (m a) h
 
 pub add_sub : (a b : ℕ) → a + b - a ≡ b
 add_sub a b = omega arith
 
 -- the i-th byte of a datum that is laid over a memory
-lay-at : (d : Datum) (m : ℕ → ℕ) (i : ℕ) → i < length d.bytes → lay d m (d.start + i) ≡ get_or d.bytes i 0
+lay-at : (d : LocatedBytes) (m : ℕ → ℕ) (i : ℕ) → i < length d.bytes → lay d m (d.start + i) ≡ get_or d.bytes i 0
 lay-at d m i h =
     lay-in d m (d.start + i) (covers-from (d.start + i) d (omega arith) (omega arith))
     ∙ ap (λ (k : ℕ). get_or d.bytes k 0) (add_sub d.start i)
@@ -144,7 +144,7 @@ carry P rs (p ∷ ps) m m' each free moved =
     (carry P (rs ++ addresses p) ps (lay p.datum m) (lay (datum_at P p) m') each.2 free.1 step)
 
 -- laying all data in order gives each address the byte of the last datum that covers it
-located-lay_all : (ds : List Datum) (m : ℕ → ℕ) (a : ℕ)
+located-lay_all : (ds : List LocatedBytes) (m : ℕ → ℕ) (a : ℕ)
     → lay_all ds m a ≡ last_or (m a) (map (byte_of a) (filter (covers a) ds))
 located-lay_all [] m a = refl
 located-lay_all (d ∷ ds) m a =
@@ -153,12 +153,12 @@ located-lay_all (d ∷ ds) m a =
       | inl t ↦
           ap (λ (n : ℕ). last_or n (map (byte_of a) (filter (covers a) ds))) (lay-in d m a t)
           ∙ sym
-          (ap (λ (l : List Datum). last_or (m a) (map (byte_of a) l))
+          (ap (λ (l : List LocatedBytes). last_or (m a) (map (byte_of a) l))
           (cond-true (covers a d) (d ∷ filter (covers a) ds) (filter (covers a) ds) t))
       | inr t ↦
           ap (λ (n : ℕ). last_or n (map (byte_of a) (filter (covers a) ds))) (lay-out d m a t)
           ∙ sym
-          (ap (λ (l : List Datum). last_or (m a) (map (byte_of a) l))
+          (ap (λ (l : List LocatedBytes). last_or (m a) (map (byte_of a) l))
           (cond-false (covers a d) (d ∷ filter (covers a) ds) (filter (covers a) ds) t))
     ])
 

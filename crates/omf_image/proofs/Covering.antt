@@ -3,17 +3,18 @@ use Rattle.std.proofs.Common.{◌≡◌, ℕ, ◌+◌, ◌-◌, ◌<◌, ◌≤�
 use Rattle.std.proofs.Common.{refl, ◌∙◌, sym, arith, inl, inr, eq-eqb}
 use Rattle.std.proofs.lemmas.Bool.{and_parts, or_cases, or_left, or_right, leb-true, ltb-true, cases_lt, true≢false}
 use Rattle.std.proofs.lemmas.Bool.{eqb-true, false_from_ne_true}
-use Rattle.omf_image.specs.Located.{Datum, covers, covers_word}
+use Rattle.omf_image.specs.Located.{LocatedBytes, covers, covers_word}
 use Rattle.omf_image.specs.inside.Leading.{IsListed}
 use Rattle.omf_image.proofs.Carry.{covers-from}
 use Rattle.omf_image.proofs.Members.{any_from, any_in}
 
-covered_by : (a : ℕ) (d : Datum) → covers a d ≡ true → (d.start ≤ a) × (a < d.start + length d.bytes)
+covered_by : (a : ℕ) (d : LocatedBytes) → covers a d ≡ true → (d.start ≤ a) × (a < d.start + length d.bytes)
 covered_by a d h =
     let both = and_parts (leb d.start a) (ltb a (d.start + length d.bytes)) h in
     (leb-true d.start a both.0, ltb-true a (d.start + length d.bytes) both.1)
 
-pub covers_at : (d : Datum) (flags : List Bool) (ws : List ℕ) (a : ℕ) → IsListed flags ws → get_or flags a false ≡ true
+pub covers_at : (d : LocatedBytes) (flags : List Bool) (ws : List ℕ) (a : ℕ) → IsListed flags ws
+    → get_or flags a false ≡ true
     → 0 < length d.bytes → d.start - 1 ≤ a → a < d.start + length d.bytes → covers_word d ws ≡ true
 covers_at d flags ws a m t some low high =
     let g = any_in (λ w. eqb a w) ws (sym (m a) ∙ t) in
@@ -27,7 +28,7 @@ covers_at d flags ws a m t some low high =
       | inr l ↦ or_left (covers w d) (covers (w + 1) d) (covers-from w d (omega (arith, l, e)) (omega (arith, high, e)))
     ])
 
-pub covers_none : (d : Datum) (flags : List Bool) (ws : List ℕ) → IsListed flags ws
+pub covers_none : (d : LocatedBytes) (flags : List Bool) (ws : List ℕ) → IsListed flags ws
     → ((a : ℕ) → d.start - 1 ≤ a → a < d.start + length d.bytes → get_or flags a false ≡ false)
     → covers_word d ws ≡ false
 covers_none d flags ws m none =
@@ -41,7 +42,7 @@ covers_none d flags ws m none =
           let i = covered_by (w + 1) d c in true≢false (sym flagged ∙ none w (omega (arith, i.0)) (omega (arith, i.1)))
     ])
 
-pub covers_empty : (d : Datum) (ws : List ℕ) → length d.bytes ≡ 0 → covers_word d ws ≡ false
+pub covers_empty : (d : LocatedBytes) (ws : List ℕ) → length d.bytes ≡ 0 → covers_word d ws ≡ false
 covers_empty d ws e =
     false_from_ne_true (covers_word d ws) (λ t.
     let g = any_in (λ w. covers w d || covers (w + 1) d) ws t in
@@ -58,7 +59,7 @@ abbrev pub IsSeen : (flags : List Bool) (first end : ℕ) → Bool → Type 0
 IsSeen flags first end true = (a : ℕ) × (first ≤ a) × (a < end) × (get_or flags a false ≡ true)
 IsSeen flags first end false = (a : ℕ) → first ≤ a → a < end → get_or flags a false ≡ false
 
-pub seen_words : (d : Datum) (flags : List Bool) (ws : List ℕ) (first end : ℕ) (seen : Bool) → IsListed flags ws
+pub seen_words : (d : LocatedBytes) (flags : List Bool) (ws : List ℕ) (first end : ℕ) (seen : Bool) → IsListed flags ws
     → 0 < length d.bytes → first ≡ d.start - 1 → end ≡ d.start + length d.bytes
     → IsSeen flags first end seen → seen ≡ covers_word d ws
 seen_words d flags ws first end true m some f e h =

@@ -7,9 +7,10 @@ use Rattle.std.proofs.lemmas.Bool.{cond-true, cond-false, ne_eqb, true≢false, 
 use Rattle.std.specs.List.{AllByRecursion, list_any}
 use Rattle.omf_module.specs.Module.{Module}
 use Rattle.omf_place.specs.Layout.{Layout}
-use Rattle.omf_image.specs.Located.{Datum, covers}
+use Rattle.omf_image.specs.Located.{LocatedBytes, covers}
 use Rattle.omf_image.specs.Words.{add_words}
-use Rattle.omf_image.specs.Records.{program_byte, bytes_of, Entry, entries, entry_start, entry_end, written, patches}
+use Rattle.omf_image.specs.Records.{program_byte, bytes_of, DataEntry, entries, entry_start, entry_end, written}
+use Rattle.omf_image.specs.Records.{patches}
 use Rattle.omf_image.specs.Records.{relocations}
 use Rattle.omf_image.specs.inside.Leading.{relocated_words}
 use Rattle.omf_image.specs.inside.WellPlaced.{WellPlaced, AllWellPlaced, AllInside, IsImage}
@@ -41,7 +42,7 @@ apart_pair (w ∷ ws) apart r s h k l =
     ]
 
 -- a word that a datum does not cover, and one inside it
-not_next : (d : Datum) (a : ℕ) → covers a d ≡ false → d.start ≤ a → a < d.start + length d.bytes → ⊥
+not_next : (d : LocatedBytes) (a : ℕ) → covers a d ≡ false → d.start ≤ a → a < d.start + length d.bytes → ⊥
 not_next d a h k l = true≢false (sym (covers-from a d k l) ∙ h)
 
 step_apart : (rs : List ℕ) (p : Piece) → Apart rs → AllApart p.words → AllWordsInside (length p.datum.bytes) p.words
@@ -99,7 +100,7 @@ most_begun : (n : ℕ) (xs : List ℕ) → n ≤ fold max n xs
 most_begun n [] = omega arith
 most_begun n (x ∷ xs) = omega (arith, most_begun (max n x) xs)
 
-most_each : (n : ℕ) (layout : Layout) (es : List Entry)
+most_each : (n : ℕ) (layout : Layout) (es : List DataEntry)
     → AllByRecursion (λ e. entry_end layout e ≤ fold max n (map (entry_end layout) es)) es
 most_each n layout [] = tt
 most_each n layout (e ∷ es) = (
@@ -107,7 +108,7 @@ most_each n layout (e ∷ es) = (
   most_each (max n (entry_end layout e)) layout es,
 )
 
-most_within : (n size : ℕ) (layout : Layout) (es : List Entry) → n ≤ size
+most_within : (n size : ℕ) (layout : Layout) (es : List DataEntry) → n ≤ size
     → AllByRecursion (λ e. entry_start layout e + length (bytes_of e.data_record) ≤ size) es
     → fold max n (map (entry_end layout) es) ≤ size
 most_within n size layout [] h room = h
@@ -117,7 +118,7 @@ most_within n size layout (e ∷ es) h room =
     most_within (max n (entry_end layout e)) size layout es (omega (arith, h, here)) room.1
 
 -- each relocated word lies below an address where no data reaches
-all_below : (end : ℕ) (layout : Layout) (es : List Entry) → AllByRecursion (λ e. entry_end layout e ≤ end) es
+all_below : (end : ℕ) (layout : Layout) (es : List DataEntry) → AllByRecursion (λ e. entry_end layout e ≤ end) es
     → EachApart (map (piece layout) es) → AllWordsInside end (all_addresses (map (piece layout) es))
 all_below end layout [] room each r h = absurd h
 all_below end layout (e ∷ es) room each r h =

@@ -8,7 +8,7 @@ use Rattle.omf_image.specs.declared.patch.Patch.TheVariants.{Byte, Word, Relocat
 use Rattle.omf_image.specs.Words.{word_at, put_word, add_byte, add_word}
 use Rattle.omf_image.specs.Patch.{patched, patched_all}
 use Rattle.omf_image.specs.inside.Patches.{relocated_places, patch_end}
-use Rattle.omf_image.specs.Located.{Datum, covers}
+use Rattle.omf_image.specs.Located.{LocatedBytes, covers}
 use Rattle.omf_image.specs.inside.Whole.{byte_of}
 use Rattle.omf_image.specs.inside.Pages.{IsLaid}
 use Rattle.omf_image.specs.inside.Marks.{IsMarked}
@@ -17,7 +17,7 @@ use Rattle.omf_image.proofs.Law.{length-patched, length-patched_all}
 use Rattle.omf_image.proofs.Carry.{add_sub, covers-from}
 use Rattle.omf_image.proofs.Laying.{covers_not}
 
-abbrev pub data_at : ℕ → List ℕ → Datum
+abbrev pub data_at : ℕ → List ℕ → LocatedBytes
 data_at start bs = record { start = start; bytes = bs }
 
 -- a byte of the data in the image

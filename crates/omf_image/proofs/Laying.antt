@@ -8,23 +8,23 @@ use Rattle.std.proofs.lemmas.List.{get_or-set_same, get_or-set_other}
 use Rattle.std.proofs.lemmas.List.Elements.{All-get_or}
 use Rattle.std.proofs.lemmas.Bool.{cases_eq, cases_lt, cond-true, cond-false}
 use Rattle.std.proofs.lemmas.Bool.Decides.{nat_tests}
-use Rattle.omf_image.specs.Located.{Datum, covers, in_page}
+use Rattle.omf_image.specs.Located.{LocatedBytes, covers, in_page}
 use Rattle.omf_image.specs.inside.Whole.{byte_of}
 use Rattle.omf_image.specs.inside.Pages.{page_bytes, joined, IsPage, IsPaged, IsLaid, MakesPages}
 use Rattle.omf_image.proofs.Carry.{covers-from}
 use Rattle.omf_image.proofs.Paging.{full, paged-set, page_bytes-present, length-joined, get_or-joined, get_or-lists}
 use Rattle.omf_image.proofs.Paging.{page_inside}
 
-abbrev pub front : ℕ → List ℕ → ℕ → Datum
+abbrev pub front : ℕ → List ℕ → ℕ → LocatedBytes
 front start bs i = record { start = start; bytes = take i bs }
 
-abbrev pub piece : ℕ → List ℕ → (from to : ℕ) → Datum
+abbrev pub piece : ℕ → List ℕ → (from to : ℕ) → LocatedBytes
 piece start bs i j = record { start = start + i; bytes = take (j - i) (drop i bs) }
 
 length-piece : (start i j : ℕ) (bs : List ℕ) → j ≤ length bs → length (take (j - i) (drop i bs)) ≡ j - i
 length-piece start i j bs h = simp (length-take, length-drop) (omega arith)
 
-pub covers_not : (a : ℕ) (d : Datum) → (a < d.start) ⊎ (d.start + length d.bytes ≤ a) → covers a d ≡ false
+pub covers_not : (a : ℕ) (d : LocatedBytes) → (a < d.start) ⊎ (d.start + length d.bytes ≤ a) → covers a d ≡ false
 covers_not a d h = elim h [ inl l ↦ grind (arith, nat_tests) | inr l ↦ grind (arith, nat_tests) ]
 
 -- data laid up to a place, and then the next piece of it

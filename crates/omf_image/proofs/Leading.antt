@@ -15,10 +15,10 @@ use Rattle.omf_image.specs.declared.faults.FixFault.{FixFault}
 use Rattle.omf_image.specs.declared.faults.FixFault.TheVariants.{At, TooManyRelocations, Memory}
 use Rattle.omf_image.specs.declared.faults.FixKind.TheVariants.{CoversRelocated}
 use Rattle.omf_image.specs.inside.Patches.{relocated_places}
-use Rattle.omf_image.specs.Located.{Datum, covers, in_page, covers_word}
+use Rattle.omf_image.specs.Located.{LocatedBytes, covers, in_page, covers_word}
 use Rattle.omf_image.specs.inside.Whole.{byte_of}
 use Rattle.omf_image.specs.inside.Leading.{last_or}
-use Rattle.omf_image.specs.Records.{Entry, entry_start, bytes_of, datum, patches, record_relocations}
+use Rattle.omf_image.specs.Records.{DataEntry, entry_start, bytes_of, datum, patches, record_relocations}
 use Rattle.omf_image.specs.inside.WellPlaced.{WellPlaced}
 use Rattle.omf_image.specs.Faults.{fixups_fault, record_fault, records_fault}
 use Rattle.omf_image.specs.inside.Whole.{data_fault}
@@ -59,20 +59,20 @@ begun_told (w ∷ ws) flags a h =
     ∙ or_assoc (get_or flags a false) (eqb a w) (list_any (λ w. eqb a w) ws)
 
 -- the byte of the program at an address, with the first datum that is left laid over the image
-pub laid_on : (d : Datum) (ds : List Datum) (a old new : ℕ) → new ≡ cond (covers a d) (byte_of a d) old
+pub laid_on : (d : LocatedBytes) (ds : List LocatedBytes) (a old new : ℕ) → new ≡ cond (covers a d) (byte_of a d) old
     → last_or new (map (byte_of a) (filter (covers a) ds)) ≡ last_or old (map (byte_of a) (filter (covers a) (d ∷ ds)))
 laid_on d ds a old new e = elim (cases_Bool (covers a d)) [
   | inl t ↦
       ap (λ (n : ℕ). last_or n (map (byte_of a) (filter (covers a) ds)))
       (e ∙ cond-true (covers a d) (byte_of a d) old t)
       ∙ sym
-      (ap (λ (l : List Datum). last_or old (map (byte_of a) l))
+      (ap (λ (l : List LocatedBytes). last_or old (map (byte_of a) l))
       (cond-true (covers a d) (d ∷ filter (covers a) ds) (filter (covers a) ds) t))
   | inr t ↦
       ap (λ (n : ℕ). last_or n (map (byte_of a) (filter (covers a) ds)))
       (e ∙ cond-false (covers a d) (byte_of a d) old t)
       ∙ sym
-      (ap (λ (l : List Datum). last_or old (map (byte_of a) l))
+      (ap (λ (l : List LocatedBytes). last_or old (map (byte_of a) l))
       (cond-false (covers a d) (d ∷ filter (covers a) ds) (filter (covers a) ds) t))
 ]
 
@@ -80,14 +80,14 @@ pub in_page_sized : (k start : ℕ) (xs ys : List ℕ) → length xs ≡ length 
     → in_page k (record { start = start; bytes = xs }) ≡ in_page k (record { start = start; bytes = ys })
 in_page_sized k start xs ys e = ap (λ (n : ℕ). ltb 0 n && (ltb start (4096 * (k + 1)) && ltb (4096 * k) (start + n))) e
 
-pub record_clean : (layout : Layout) (e : Entry) (words : List ℕ) → covers_word (datum 0 layout e) words ≡ false
+pub record_clean : (layout : Layout) (e : DataEntry) (words : List ℕ) → covers_word (datum 0 layout e) words ≡ false
     → fixups_fault layout e [] e.data_record.fixups ≡ None → record_fault layout words e ≡ None
 record_clean layout e words h k =
     cond-false (covers_word (datum 0 layout e) words) (Some (At CoversRelocated e.input e.data_record.place))
     (fixups_fault layout e [] e.data_record.fixups) h ∙ k
 
 -- a data record was added to the state base
-pub leads_on : (layout : Layout) (modules : List Module) (base now : State) (e : Entry) (rest : List Entry)
+pub leads_on : (layout : Layout) (modules : List Module) (base now : State) (e : DataEntry) (rest : List DataEntry)
     → WellPlaced e.data_record → IsWhole layout base
     → entry_start layout e + length (bytes_of e.data_record) ≤ layout.size → (l : Leads layout modules base (e ∷ rest))
     → covers_word (datum 0 layout e) l.so_far ≡ false → fixups_fault layout e [] e.data_record.fixups ≡ None
@@ -138,20 +138,20 @@ leads_on layout modules base now e rest well whole inside l clean none h =
     }
 
 -- the first record that is left has a fault
-pub leads_to_fault : (layout : Layout) (modules : List Module) (base : State) (e : Entry) (rest : List Entry)
+pub leads_to_fault : (layout : Layout) (modules : List Module) (base : State) (e : DataEntry) (rest : List DataEntry)
     (f : FixFault) → (l : Leads layout modules base (e ∷ rest)) → record_fault layout l.so_far e ≡ Some f
     → data_fault layout modules ≡ Some f
 leads_to_fault layout modules base e rest f l h =
     sym l.fault
     ∙ ap (λ (o : Option FixFault). option_or o (records_fault layout (l.so_far ++ record_relocations layout e) rest)) h
 
-pub covers_fault : (layout : Layout) (e : Entry) (words : List ℕ) → covers_word (datum 0 layout e) words ≡ true
+pub covers_fault : (layout : Layout) (e : DataEntry) (words : List ℕ) → covers_word (datum 0 layout e) words ≡ true
     → record_fault layout words e ≡ Some (At CoversRelocated e.input e.data_record.place)
 covers_fault layout e words h =
     cond-true (covers_word (datum 0 layout e) words) (Some (At CoversRelocated e.input e.data_record.place))
     (fixups_fault layout e [] e.data_record.fixups) h
 
-pub fixups_are_fault : (layout : Layout) (e : Entry) (words : List ℕ) (f : FixFault)
+pub fixups_are_fault : (layout : Layout) (e : DataEntry) (words : List ℕ) (f : FixFault)
     → covers_word (datum 0 layout e) words ≡ false → fixups_fault layout e [] e.data_record.fixups ≡ Some f
     → record_fault layout words e ≡ Some f
 fixups_are_fault layout e words f h k =

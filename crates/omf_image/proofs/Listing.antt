@@ -5,14 +5,14 @@ use Rattle.std.proofs.lemmas.List.{get_or_default, length-append, length-map, ge
 use Rattle.std.proofs.lemmas.List.{get_or-append-add}
 use Rattle.std.proofs.lemmas.Option.{get_or_from_slice_get}
 use Rattle.omf_module.specs.Module.{DataRecord, Module}
-use Rattle.omf_image.specs.Records.{Entry}
+use Rattle.omf_image.specs.Records.{DataEntry}
 use Rattle.omf_image.specs.inside.Entries.{module_entries, entries_from}
 use Rattle.omf_module.specs.declared.Start.{Start}
 use Rattle.omf_place.specs.Layout.{Layout}
 use Rattle.omf_image.specs.declared.faults.FixKind.TheVariants.{TwoStarts}
 use Rattle.omf_image.specs.declared.faults.FixFault.TheVariants.{At}
 use Rattle.omf_image.specs.Overflow.{only_overflow, start_overflow}
-use Rattle.omf_image.specs.Registers.{StartEntry, starts, starts_fault, start_meaning, entry_at}
+use Rattle.omf_image.specs.Registers.{StartEntry, starts, starts_fault, start_meaning, entry_point}
 use Rattle.omf_image.specs.inside.Entries.{module_start, starts_from}
 use Rattle.omf_image.specs.inside.Starts.{FindsStart, GivesEntry}
 use Rattle.omf_image.proofs.Meaning.{drop_more}
@@ -24,7 +24,7 @@ pub all_right : {X : Type 0} (P : X → Type 0) (xs ys : List X) → All P (xs +
 all_right P xs ys h k d l =
     subst P (get_or-append-add xs ys k d) (h (length xs + k) d (omega (arith, length-append xs ys)))
 
-abbrev pub entry_of : ℕ → Module → DataRecord → Entry
+abbrev pub entry_of : ℕ → Module → DataRecord → DataEntry
 entry_of n m d = record { input = n; module' = m; data_record = d }
 
 pub all_at : {X Y : Type 0} (P : Y → Type 0) (f : X → Y) (xs : List X) (i : ℕ) (x : X) → All P (map f xs)
@@ -37,7 +37,7 @@ pub entry_next : (n : ℕ) (m : Module) (i : ℕ) (d : DataRecord) → i < lengt
     → drop i (module_entries n m) ≡ entry_of n m d ∷ drop (i + 1) (module_entries n m)
 entry_next n m i d l e =
     drop_more (module_entries n m) i (entry_of n m d) (simp length-map l)
-    ∙ ap (λ (x : Entry). x ∷ drop (i + 1) (module_entries n m))
+    ∙ ap (λ (x : DataEntry). x ∷ drop (i + 1) (module_entries n m))
     (get_or-map (entry_of n m) m.data_records i d (entry_of n m d) l
     ∙ ap (entry_of n m) (get_or_from_slice_get m.data_records i d d e))
 
@@ -70,12 +70,12 @@ some_item ms i l =
 pub one_start : (layout : Layout) (ms : List Module) (f : ℕ × Start) (m : Module) (entry : ℕ × ℕ) → m ≡ get_or ms f.0 m
     → FindsStart ms 0 (Some f) → FindsStart ms (f.0 + 1) None
     → GivesEntry (start_meaning layout (record { input = f.0; module' = m; start = f.1 })) (Ok entry)
-    → (starts_fault layout (starts ms) ≡ None) × (entry ≡ entry_at 0 layout (starts ms))
+    → (starts_fault layout (starts ms) ≡ None) × (entry ≡ entry_point 0 layout (starts ms))
 one_start layout ms f m entry is one none gives =
     let e : StartEntry = record { input = f.0; module' = m; start = f.1 } in
     let only : starts ms ≡ e ∷ [] = one.1 m is ∙ ap (λ (es : List StartEntry). e ∷ es) none in (
       ap (starts_fault layout) only ∙ ap (option_map (λ k. At k e.input e.start.place)) gives.0,
-      gives.1 ∙ sym (ap (entry_at 0 layout) only),
+      gives.1 ∙ sym (ap (entry_point 0 layout) only),
     )
 
 pub two_starts : (layout : Layout) (ms : List Module) (f g : ℕ × Start) → FindsStart ms 0 (Some f)

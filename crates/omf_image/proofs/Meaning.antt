@@ -18,7 +18,7 @@ use Rattle.omf_image.specs.declared.faults.FixKind.{FixKind}
 use Rattle.omf_image.specs.declared.faults.FixKind.TheVariants.{Mixed, OutOfFrame, ShortTooFar, OverlapRelocated}
 use Rattle.omf_image.specs.declared.patch.Patch.{Patch}
 use Rattle.omf_image.specs.declared.reference.Resolved.{Resolved}
-use Rattle.omf_image.specs.Records.{Entry, entry_start, meaning, patches_on, fixup_patches, hits, stored_of}
+use Rattle.omf_image.specs.Records.{DataEntry, entry_start, meaning, patches_on, fixup_patches, hits, stored_of}
 use Rattle.omf_image.specs.inside.Lookups.{patches_of}
 use Rattle.omf_image.specs.inside.WellPlaced.{LiesInContent}
 use Rattle.omf_image.specs.Faults.{first_test, resolved_fault, fixup_fault, fixups_fault}
@@ -50,7 +50,7 @@ first_four false false false true h k = refl
 first_four false false false false h k = cc
 
 -- at what the code found
-pub fault_on : (layout : Layout) (e : Entry) (x : ResolvedFixup) (r : Resolved) (start : ℕ) (is : List ℕ)
+pub fault_on : (layout : Layout) (e : DataEntry) (x : ResolvedFixup) (r : Resolved) (start : ℕ) (is : List ℕ)
     (earlier : List Patch) → meaning layout e x ≡ Ok r → start ≡ entry_start layout e
     → is ≡ hits x.offset (stored_of e.data_record)
     → fixup_fault layout e earlier x ≡ first_test r x.self_relative x.location start is earlier
@@ -62,7 +62,7 @@ fault_on layout e x r start is earlier m s h =
     ∙ ap (λ (n : ℕ). first_test r x.self_relative x.location n found earlier) (sym s)
     ∙ ap (λ (l : List ℕ). first_test r x.self_relative x.location start l earlier) (sym h)
 
-pub patches_found : (layout : Layout) (e : Entry) (x : ResolvedFixup) (r : Resolved) (start : ℕ) (is : List ℕ)
+pub patches_found : (layout : Layout) (e : DataEntry) (x : ResolvedFixup) (r : Resolved) (start : ℕ) (is : List ℕ)
     → meaning layout e x ≡ Ok r → start ≡ entry_start layout e → is ≡ hits x.offset (stored_of e.data_record)
     → fixup_patches 0 layout e x ≡ patches_on 0 r x.self_relative x.location start is
 patches_found layout e x r start is m s h =
@@ -72,7 +72,8 @@ patches_found layout e x r start is m s h =
     ∙ ap (patches_on 0 r x.self_relative x.location start) (sym h)
 
 -- a fix-up's fault that is handed on
-pub gives_fault : (layout : Layout) (e : Entry) (earlier : List Patch) (x : ResolvedFixup) (r : Result (Unit {0}) Stop)
+pub gives_fault : (layout : Layout) (e : DataEntry) (earlier : List Patch) (x : ResolvedFixup)
+    (r : Result (Unit {0}) Stop)
     (k : FixKind) (holds : Type 0) → IsErrAnd r (λ s. s ≡ stop.Kind k) → fixup_fault layout e earlier x ≡ Some k
     → FixupGives layout e earlier x r holds
 gives_fault layout e earlier x r k holds h f =
@@ -85,7 +86,7 @@ pub lacks_fault : (lacks : Missing) (m : Result Resolved FixKind) (test : Resolv
 lacks_fault Public m test e = ap (λ (f : Result Resolved FixKind). resolved_fault f test) (sym e)
 lacks_fault Members m test e = ap (λ (f : Result Resolved FixKind). resolved_fault f test) (sym e)
 
-pub fixup_lacks : (layout : Layout) (e : Entry) (x : ResolvedFixup) (r : Result Resolved FixKind) (lacks : Missing)
+pub fixup_lacks : (layout : Layout) (e : DataEntry) (x : ResolvedFixup) (r : Result Resolved FixKind) (lacks : Missing)
     → IsErrAnd r (λ k. k ≡ missing_fault lacks) → found (Err lacks) ≡ meaning layout e x
     → MatchResult r (λ q. meaning layout e x ≡ Ok q)
     (λ kind. (earlier : List Patch) → fixup_fault layout e earlier x ≡ Some kind)
@@ -135,7 +136,7 @@ patches_more f earlier xs i d h =
 pub drop_more : {X : Type 0} (xs : List X) (i : ℕ) (d : X) → i < length xs → drop i xs ≡ get_or xs i d ∷ drop (i + 1) xs
 drop_more xs i d h = rw (add-one, drop-cons xs i d)
 
-pub fixups_more : (layout : Layout) (e : Entry) (earlier : List Patch) (xs : List ResolvedFixup) (i : ℕ)
+pub fixups_more : (layout : Layout) (e : DataEntry) (earlier : List Patch) (xs : List ResolvedFixup) (i : ℕ)
     (d : ResolvedFixup) (fault : Option FixFault) → i < length xs
     → fixup_fault layout e (earlier ++ flat_map (fixup_patches 0 layout e) (take i xs)) (get_or xs i d) ≡ None
     → fixups_fault layout e (earlier ++ flat_map (fixup_patches 0 layout e) (take i xs)) (drop i xs) ≡ fault
@@ -151,7 +152,8 @@ fixups_more layout e earlier xs i d fault h none at =
     ∙ ap (fixups_fault layout e so_far) (sym (drop_more xs i d h))
     ∙ at
 
-pub fixups_stop : {X : Type 0} (K : X → Type 0) (holds : Type 0) (layout : Layout) (e : Entry) (xs : List ResolvedFixup)
+pub fixups_stop : {X : Type 0} (K : X → Type 0) (holds : Type 0) (layout : Layout) (e : DataEntry)
+    (xs : List ResolvedFixup)
     (i : ℕ) (d : ResolvedFixup) (s : Stop) (earlier : List Patch) (fault : Option FixFault) → i < length xs
     → FixupGives layout e earlier (get_or xs i d) (Err s) holds → fixups_fault layout e earlier (drop i xs) ≡ fault
     → Answers {X = X} (Err (stopped s e.input (get_or xs i d).place)) fault K
@@ -169,7 +171,7 @@ or_first : (o : Option FixKind) (at : ℕ × ℕ) (a b : Option FixFault)
 or_first None at a b = refl
 or_first (Some k) at a b = refl
 
-pub fixups_parts : (layout : Layout) (e : Entry) (earlier : List Patch) (xs ys : List ResolvedFixup)
+pub fixups_parts : (layout : Layout) (e : DataEntry) (earlier : List Patch) (xs ys : List ResolvedFixup)
     → fixups_fault layout e earlier (xs ++ ys)
     ≡ option_or (fixups_fault layout e earlier xs)
     (fixups_fault layout e (earlier ++ flat_map (fixup_patches 0 layout e) xs) ys)
@@ -183,7 +185,7 @@ fixups_parts layout e earlier (x ∷ xs) ys =
     ∙ ap (λ (ps : List Patch). option_or (or_else o (e.input, x.place) own) (fixups_fault layout e ps ys))
     (append_assoc earlier (f x) (flat_map f xs))
 
-pub fixups_left : (layout : Layout) (e : Entry) (xs : List ResolvedFixup) (n : ℕ)
+pub fixups_left : (layout : Layout) (e : DataEntry) (xs : List ResolvedFixup) (n : ℕ)
     → fixups_fault layout e [] (take n xs) ≡ None
     → fixups_fault layout e (flat_map (fixup_patches 0 layout e) (take n xs)) (drop n xs) ≡ fixups_fault layout e [] xs
 fixups_left layout e xs n none =
@@ -191,7 +193,7 @@ fixups_left layout e xs n none =
     ap (λ (o : Option FixFault). option_or o rest) (sym none) ∙ sym (fixups_parts layout e [] (take n xs) (drop n xs))
     ∙ ap (fixups_fault layout e []) (take-append-drop n xs)
 
-pub fixups_first : (layout : Layout) (e : Entry) (xs : List ResolvedFixup) (n : ℕ) (f : FixFault)
+pub fixups_first : (layout : Layout) (e : DataEntry) (xs : List ResolvedFixup) (n : ℕ) (f : FixFault)
     → fixups_fault layout e [] (take n xs) ≡ Some f → fixups_fault layout e [] xs ≡ Some f
 fixups_first layout e xs n f some =
     let rest = fixups_fault layout e (flat_map (fixup_patches 0 layout e) (take n xs)) (drop n xs) in

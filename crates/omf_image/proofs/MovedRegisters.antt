@@ -15,7 +15,7 @@ use Rattle.omf_image.specs.declared.faults.FixFault.TheVariants.{At}
 use Rattle.omf_image.specs.Value.{modulo, from_frame}
 use Rattle.omf_image.specs.declared.start.Registers.{Registers}
 use Rattle.omf_image.specs.Registers.{StartEntry, starts, start_meaning, start_kind, starts_fault, stack, entry_of}
-use Rattle.omf_image.specs.Registers.{stack_of, entry_at, registers, moved}
+use Rattle.omf_image.specs.Registers.{stack_of, entry_point, registers, moved}
 use Rattle.omf_image.proofs.Values.{frame_step, offset_stays}
 
 start_alone : (P : ℕ) → P % 65536 ≡ (0 % 65536 + P) % 65536
@@ -47,7 +47,7 @@ none_mapped f None h = refl
 none_mapped f (Some k) h = cc
 
 starts_move : (P : ℕ) (layout : Layout) (es : List StartEntry) → starts_fault layout es ≡ None
-    → entry_at P layout es ≡ moved_entry P (entry_at 0 layout es)
+    → entry_point P layout es ≡ moved_entry P (entry_point 0 layout es)
 starts_move P layout [] h = ap (λ (x : ℕ). (x, 0)) (start_alone P)
 starts_move P layout (e ∷ []) h =
     entry_moves P (start_meaning layout e)
@@ -64,4 +64,4 @@ unfolding registers
 registers_move P layout modules h =
     let made : ℕ × ℕ → ℕ × ℕ → Registers = λ e s. record { cs = e.0; ip = e.1; ss = s.0; sp = s.1 } in
     ap (λ (e : ℕ × ℕ). made e (stack_of P (stack layout modules))) (starts_move P layout (starts modules) h)
-    ∙ ap (made (moved_entry P (entry_at 0 layout (starts modules)))) (stack_moves P (stack layout modules))
+    ∙ ap (made (moved_entry P (entry_point 0 layout (starts modules)))) (stack_moves P (stack layout modules))

@@ -21,7 +21,7 @@ use Rattle.omf_place.specs.declared.layout.Position.TheVariants as position
 use Rattle.omf_place.specs.Bounded.{LiesInside, ArePlacesOf, IsBounded}
 use Rattle.omf_place.specs.Layout.{Layout, places_of, segment_position}
 use Rattle.omf_image.specs.Value.{real_address}
-use Rattle.omf_image.specs.Records.{Entry, bytes_of}
+use Rattle.omf_image.specs.Records.{DataEntry, bytes_of}
 use Rattle.omf_image.specs.inside.Entries.{module_entries, entries_from}
 use Rattle.omf_image.specs.Registers.{StartEntry}
 use Rattle.omf_image.specs.inside.Entries.{module_start, starts_from}
@@ -105,7 +105,7 @@ module _ (ms : List Module) (layout : Layout) (bounded : IsBounded ms layout) wh
         (All-nil (IsStartReady layout))
 
   -- what holds of each module's part holds of all
-  entries_all : (P : Entry → Type 0) (n : ℕ) (xs : List Module)
+  entries_all : (P : DataEntry → Type 0) (n : ℕ) (xs : List Module)
       → ((k : ℕ) (m : Module) → slice_get xs k ≡ Some m → All P (module_entries (n + k) m)) → All P (entries_from n xs)
   entries_all P n [] h = All-nil P
   entries_all P n (x ∷ xs) h =

@@ -18,11 +18,11 @@ use Rattle.omf_image.specs.declared.patch.Patch.{Patch}
 use Rattle.omf_image.specs.declared.patch.Patch.TheVariants.{Byte, Word, Relocated}
 use Rattle.omf_image.specs.Patch.{patched_all, clear, all_clear}
 use Rattle.omf_image.specs.inside.Patches.{relocated_places}
-use Rattle.omf_image.specs.Located.{Datum, covers, covers_word, located}
+use Rattle.omf_image.specs.Located.{LocatedBytes, covers, covers_word, located}
 use Rattle.omf_image.specs.declared.reference.Resolved.{Resolved}
 use Rattle.omf_image.specs.Value.{patches_at}
 use Rattle.omf_record.specs.Numbers.{location_width}
-use Rattle.omf_image.specs.Records.{hits, bytes_of, stored_of, Entry, entries, entry_start, meaning, patches_on}
+use Rattle.omf_image.specs.Records.{hits, bytes_of, stored_of, DataEntry, entries, entry_start, meaning, patches_on}
 use Rattle.omf_image.specs.Records.{fixup_patches, patches, datum, program_byte, record_relocations}
 use Rattle.omf_image.specs.inside.Lookups.{patches_of}
 use Rattle.omf_image.specs.inside.Leading.{relocated_words}
@@ -82,7 +82,7 @@ stay_list P r x start (i ∷ is) h =
     ∙ sym (map-append (at_paragraph P) (f 0 i) (flat_map (f 0) is))
 
 -- what a fix-up without a fault gives
-record Sound (P : ℕ) (layout : Layout) (e : Entry) (earlier : List Patch) (x : ResolvedFixup)
+record Sound (P : ℕ) (layout : Layout) (e : DataEntry) (earlier : List Patch) (x : ResolvedFixup)
     (m : Result Resolved FixKind) : Type 0 where
   stays : patches_of P m x (entry_start layout e) (hits x.offset (stored_of e.data_record))
       ≡ map (at_paragraph P) (patches_of 0 m x (entry_start layout e) (hits x.offset (stored_of e.data_record)))
@@ -106,7 +106,8 @@ hits_room d x lies i h =
     let g = (lies i (location_width x.location - 1) at.0 at.1 (omega arith)).0 in
     omega (arith, g)
 
-sound : (P : ℕ) (layout : Layout) (e : Entry) (earlier : List Patch) (x : ResolvedFixup) (m : Result Resolved FixKind)
+sound : (P : ℕ) (layout : Layout) (e : DataEntry) (earlier : List Patch) (x : ResolvedFixup)
+    (m : Result Resolved FixKind)
     → LiesInContent e.data_record x
     → resolved_fault m
     (λ r.
@@ -132,7 +133,8 @@ sound P layout e earlier x (Ok r) lies h =
     }
 
 -- ---- one data record
-record SoundRecord (P : ℕ) (layout : Layout) (e : Entry) (earlier : List Patch) (xs : List ResolvedFixup) : Type 0 where
+record SoundRecord (P : ℕ) (layout : Layout) (e : DataEntry) (earlier : List Patch) (xs : List ResolvedFixup) : Type
+    0 where
   stays : flat_map (fixup_patches P layout e) xs ≡ map (at_paragraph P) (flat_map (fixup_patches 0 layout e) xs)
   apart : AllClear (earlier ++ flat_map (fixup_patches 0 layout e) xs)
   inside : Within 0 (length (stored_of e.data_record)) (flat_map (fixup_patches 0 layout e) xs)
@@ -140,7 +142,7 @@ record SoundRecord (P : ℕ) (layout : Layout) (e : Entry) (earlier : List Patch
 append_nil_clear : (ps : List Patch) → AllClear ps → AllClear (ps ++ [])
 append_nil_clear ps h = subst AllClear (sym (append-nil ps)) h
 
-sound_fixups : (P : ℕ) (layout : Layout) (e : Entry) (earlier : List Patch) (xs : List ResolvedFixup)
+sound_fixups : (P : ℕ) (layout : Layout) (e : DataEntry) (earlier : List Patch) (xs : List ResolvedFixup)
     → AllByRecursion (LiesInContent e.data_record) xs → fixups_fault layout e earlier xs ≡ None → AllClear earlier
     → SoundRecord P layout e earlier xs
 sound_fixups P layout e earlier [] lies h before =
@@ -168,7 +170,7 @@ inside_from_within lo n [] h = tt
 inside_from_within lo n (p ∷ ps) h = (h.1, inside_from_within lo n ps h.2)
 
 -- the data record at paragraph 0, with its relocated words
-abbrev pub piece : Layout → Entry → Piece
+abbrev pub piece : Layout → DataEntry → Piece
 piece layout e = record { datum = datum 0 layout e; words = relocated_places (patches 0 layout e) }
 
 -- relocated words are apart and inside
@@ -202,12 +204,12 @@ words_inside n (Relocated i v ∷ ps) h r k = elim k [ inl e ↦ omega (arith, h
 pub length-pairs : (d : DataRecord) → length (stored_of d) ≡ length (bytes_of d)
 length-pairs d = simp length-map
 
-pub record SoundEntry (P : ℕ) (layout : Layout) (e : Entry) : Type 0 where
+pub record SoundEntry (P : ℕ) (layout : Layout) (e : DataEntry) : Type 0 where
   pub moves : datum P layout e ≡ datum_at P (piece layout e)
   pub apart : AllApart (relocated_places (patches 0 layout e))
   pub inside : AllWordsInside (length (datum 0 layout e).bytes) (relocated_places (patches 0 layout e))
 
-pub sound_entry : (P : ℕ) (layout : Layout) (e : Entry) → WellPlaced e.data_record
+pub sound_entry : (P : ℕ) (layout : Layout) (e : DataEntry) → WellPlaced e.data_record
     → fixups_fault layout e [] e.data_record.fixups ≡ None → SoundEntry P layout e
 sound_entry P layout e well h =
     let d = e.data_record in
@@ -228,14 +230,14 @@ sound_entry P layout e well h =
     }
 
 -- ---- all data records
-pub record SoundProgram (P : ℕ) (layout : Layout) (words : List ℕ) (es : List Entry) : Type 0 where
+pub record SoundProgram (P : ℕ) (layout : Layout) (words : List ℕ) (es : List DataEntry) : Type 0 where
   pub moves : map (datum P layout) es ≡ map (datum_at P) (map (piece layout) es)
   pub apart : EachApart (map (piece layout) es)
   pub free : Uncovered words (map (piece layout) es)
   pub listed : all_addresses (map (piece layout) es) ≡ flat_map (record_relocations layout) es
   pub unmoved : map (datum 0 layout) es ≡ map datum_at_0 (map (piece layout) es)
 
-uncovered : (layout : Layout) (e : Entry) (words : List ℕ) → covers_word (datum 0 layout e) words ≡ false → (r : ℕ)
+uncovered : (layout : Layout) (e : DataEntry) (words : List ℕ) → covers_word (datum 0 layout e) words ≡ false → (r : ℕ)
     → In r words → (covers r (datum 0 layout e) ≡ false) × (covers (r + 1) (datum 0 layout e) ≡ false)
 uncovered layout e [] h r k = absurd k
 uncovered layout e (w ∷ words) h r k =
@@ -252,7 +254,7 @@ uncovered layout e (w ∷ words) h r k =
       | inr k' ↦ uncovered layout e words both.1 r k'
     ]
 
-pub sound_records : (P : ℕ) (layout : Layout) (words : List ℕ) (es : List Entry)
+pub sound_records : (P : ℕ) (layout : Layout) (words : List ℕ) (es : List DataEntry)
     → AllByRecursion (λ e. WellPlaced e.data_record) es → records_fault layout words es ≡ None
     → SoundProgram P layout words es
 sound_records P layout words [] well h = record { moves = refl; apart = tt; free = tt; listed = refl; unmoved = refl }
@@ -265,12 +267,12 @@ sound_records P layout words (e ∷ es) well h =
     let rest = sound_records P layout (words ++ record_relocations layout e) es well.1 both.1 in
     record {
       moves =
-          ap (λ (d : Datum). d ∷ map (datum P layout) es) here.moves
-          ∙ ap (λ (ds : List Datum). datum_at P (piece layout e) ∷ ds) rest.moves;
+          ap (λ (d : LocatedBytes). d ∷ map (datum P layout) es) here.moves
+          ∙ ap (λ (ds : List LocatedBytes). datum_at P (piece layout e) ∷ ds) rest.moves;
       apart = (here.apart, here.inside, rest.apart);
       free = (uncovered layout e words two.0, rest.free);
       listed = ap (λ (l : List ℕ). record_relocations layout e ++ l) rest.listed;
-      unmoved = ap (λ (ds : List Datum). datum 0 layout e ∷ ds) rest.unmoved;
+      unmoved = ap (λ (ds : List LocatedBytes). datum 0 layout e ∷ ds) rest.unmoved;
     }
 
 pub program_moves : (P : ℕ) (layout : Layout) (modules : List Module) (image rs : List ℕ) →
@@ -284,7 +286,7 @@ program_moves P layout modules image rs well none n holds apart inside there bac
     let s = sound_records P layout [] es (recursion_from_All (λ e. WellPlaced e.data_record) es well) none in
     let ps : List Piece = map (piece layout) es in
     image_moves P layout.size ps image rs s.apart s.free n
-    (λ b k. holds b k ∙ ap (λ (ds : List Datum). located ds b) s.unmoved) apart inside
+    (λ b k. holds b k ∙ ap (λ (ds : List LocatedBytes). located ds b) s.unmoved) apart inside
     (λ r k. subst (λ (l : List ℕ). In r l) (sym s.listed) (there r k))
     (λ r k. back r (subst (λ (l : List ℕ). In r l) s.listed k)) a h
-    ∙ ap (λ (ds : List Datum). located ds a) (sym s.moves)
+    ∙ ap (λ (ds : List LocatedBytes). located ds a) (sym s.moves)

@@ -25,7 +25,7 @@ use Rattle.omf_image.specs.Patch.{all_clear}
 use Rattle.omf_image.specs.Reference.{frame'}
 use Rattle.omf_image.specs.Value.{real_address, real_frame}
 use Rattle.omf_image.specs.Located.{covers_word}
-use Rattle.omf_image.specs.Records.{hits, stored_of, Entry, entry_start, meaning, patches_on, fixup_patches}
+use Rattle.omf_image.specs.Records.{hits, stored_of, DataEntry, entry_start, meaning, patches_on, fixup_patches}
 use Rattle.omf_image.specs.Records.{record_relocations, datum}
 
 -- a relocatable thing moves with the program
@@ -98,27 +98,26 @@ resolved_fault (Ok reference) fault = fault reference
 resolved_fault (Err kind) fault = Some kind
 
 -- the fault of a fix-up after earlier patches of its data record
-abbrev pub fixup_fault : Layout → Entry → (earlier : List Patch) → ResolvedFixup → Option FixKind
+abbrev pub fixup_fault : Layout → DataEntry → (earlier : List Patch) → ResolvedFixup → Option FixKind
 fixup_fault layout entry earlier fixup =
     resolved_fault (meaning layout entry fixup) (λ reference. first_test reference fixup.self_relative fixup.location
     (entry_start layout entry) (hits fixup.offset (stored_of entry.data_record)) earlier)
 
 -- the first fault of the fix-ups of a data record, after earlier patches of it
-abbrev pub fixups_fault : Layout → Entry → (earlier : List Patch) → List ResolvedFixup → Option FixFault
+abbrev pub fixups_fault : Layout → DataEntry → (earlier : List Patch) → List ResolvedFixup → Option FixFault
 fixups_fault layout entry earlier [] = None
 fixups_fault layout entry earlier (fixup ∷ fixups) =
     option_or (option_map (λ kind. At kind entry.input fixup.place) (fixup_fault layout entry earlier fixup))
     (fixups_fault layout entry (earlier ++ fixup_patches 0 layout entry fixup) fixups)
 
 -- the first fault of a data record, after earlier relocated words
-abbrev pub record_fault : Layout → (words : List ℕ) → Entry → Option FixFault
+abbrev pub record_fault : Layout → (words : List ℕ) → DataEntry → Option FixFault
 record_fault layout words entry =
-    cond (covers_word (datum 0 layout entry) words)
-    (Some (At CoversRelocated entry.input entry.data_record.place))
+    cond (covers_word (datum 0 layout entry) words) (Some (At CoversRelocated entry.input entry.data_record.place))
     (fixups_fault layout entry [] entry.data_record.fixups)
 
 -- the first fault of the data records, after earlier relocated words
-abbrev pub records_fault : Layout → (words : List ℕ) → List Entry → Option FixFault
+abbrev pub records_fault : Layout → (words : List ℕ) → List DataEntry → Option FixFault
 records_fault layout words [] = None
 records_fault layout words (entry ∷ later) =
     option_or (record_fault layout words entry) (records_fault layout (words ++ record_relocations layout entry) later)

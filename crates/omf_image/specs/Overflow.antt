@@ -13,7 +13,7 @@ use Rattle.omf_place.specs.Layout.{Layout}
 use Rattle.omf_image.specs.declared.reference.Resolved.{Resolved}
 use Rattle.omf_image.specs.Words.{word_at}
 use Rattle.omf_image.specs.Value.{from_frame}
-use Rattle.omf_image.specs.Records.{Entry, bytes_of, entries, hits, meaning, stored_of}
+use Rattle.omf_image.specs.Records.{DataEntry, bytes_of, entries, hits, meaning, stored_of}
 use Rattle.omf_image.specs.Faults.{both_move, is_mixed, target_in_frame}
 use Rattle.omf_image.specs.Registers.{StartEntry, start_meaning, starts}
 
@@ -45,7 +45,7 @@ is_shared offset data_record = nat_lt 1 (length (filter (touches offset) data_re
 
 -- A fix-up is of such an offset, its target has a distance, and a word stands for it that other fix-ups share, or where
 -- its sum is too great.
-abbrev pub overflows : Layout → Entry → ResolvedFixup → Bool
+abbrev pub overflows : Layout → DataEntry → ResolvedFixup → Bool
 overflows layout entry fixup =
     is_loader_offset fixup.self_relative fixup.location
     && option_map_or (λ r. is_measured r
@@ -53,7 +53,7 @@ overflows layout entry fixup =
     (words_at fixup.offset entry.data_record)) (result_ok (meaning layout entry fixup)) false
 
 -- the first such fix-up of a data record: its input, and the place of its record there
-abbrev pub entry_overflow : Layout → Entry → Option (ℕ × ℕ)
+abbrev pub entry_overflow : Layout → DataEntry → Option (ℕ × ℕ)
 entry_overflow layout entry =
     option_map (λ f. (entry.input, f.place)) (find (overflows layout entry) entry.data_record.fixups)
 

@@ -14,7 +14,7 @@ use Rattle.omf_image.specs.declared.reference.Resolved.{Resolved}
 use Rattle.omf_image.specs.Patch.{patched_all, relocated_place}
 use Rattle.omf_image.specs.Reference.{resolved}
 use Rattle.omf_image.specs.Value.{real_address, patches_at}
-use Rattle.omf_image.specs.Located.{Datum, located}
+use Rattle.omf_image.specs.Located.{LocatedBytes, located}
 
 -- the expanded bytes of a data record
 abbrev pub bytes_of : DataRecord → List ℕ
@@ -29,23 +29,23 @@ abbrev pub hits : (offset : ℕ) → (stored : List ℕ) → List ℕ
 hits offset stored = filter (λ i. get_or stored i 0 == offset) (range_with_len 0 (length stored))
 
 -- a data record, with its module and the module's input
-pub record Entry : Type 0 where
+pub record DataEntry : Type 0 where
   pub input : ℕ
   pub module' : Module
   pub data_record : DataRecord
 
 -- all data records, in order of modules and records
-abbrev pub entries : List Module → List Entry
+abbrev pub entries : List Module → List DataEntry
 entries modules =
     flat_map (λ (m : ℕ × Module). map (λ d. record { input = m.0; module' = m.1; data_record = d }) m.1.data_records)
     (enumerate_from 0 modules)
 
 -- the address of its first byte
-abbrev pub entry_start : Layout → Entry → ℕ
+abbrev pub entry_start : Layout → DataEntry → ℕ
 entry_start layout e = real_address 0 (segment_position layout e.input e.data_record.segment) + e.data_record.offset
 
 -- what the frame and the target of a fix-up stand for
-abbrev pub meaning : Layout → Entry → ResolvedFixup → Result Resolved FixKind
+abbrev pub meaning : Layout → DataEntry → ResolvedFixup → Result Resolved FixKind
 meaning layout entry fixup =
     resolved layout entry.input entry.module' entry.data_record.segment fixup.frame fixup.target fixup.displacement
 
@@ -56,18 +56,18 @@ patches_on P reference self_relative location start positions =
     flat_map (λ i. patches_at P reference self_relative location i (start + i)) positions
 
 -- what a fix-up adds, at each of its hits
-abbrev pub fixup_patches : (P : ℕ) → Layout → Entry → ResolvedFixup → List Patch
+abbrev pub fixup_patches : (P : ℕ) → Layout → DataEntry → ResolvedFixup → List Patch
 fixup_patches P layout entry fixup =
     let positions = hits fixup.offset (stored_of entry.data_record) in
     option_map_or (λ r. patches_on P r fixup.self_relative fixup.location (entry_start layout entry) positions)
     (result_ok (meaning layout entry fixup)) []
 
 -- what all fix-ups of a data record add, in order
-abbrev pub patches : (P : ℕ) → Layout → Entry → List Patch
+abbrev pub patches : (P : ℕ) → Layout → DataEntry → List Patch
 patches P layout entry = flat_map (fixup_patches P layout entry) entry.data_record.fixups
 
 -- the data after each of its fix-ups in order
-abbrev pub datum : (P : ℕ) → Layout → Entry → Datum
+abbrev pub datum : (P : ℕ) → Layout → DataEntry → LocatedBytes
 datum P layout e =
     record { start = entry_start layout e; bytes = patched_all (patches P layout e) (bytes_of e.data_record) }
 
@@ -76,7 +76,7 @@ abbrev pub program_byte : (P : ℕ) → Layout → List Module → (address : �
 program_byte P layout modules = located (map (datum P layout) (entries modules))
 
 -- the addresses of the relocated words of a data record
-abbrev pub record_relocations : Layout → Entry → List ℕ
+abbrev pub record_relocations : Layout → DataEntry → List ℕ
 record_relocations layout entry =
     map (λ i. entry_start layout entry + i) (filter_map relocated_place (patches 0 layout entry))
 
@@ -87,7 +87,7 @@ relocations layout modules =
     filter (λ a. list_any (λ w. a == w) words) (range_with_len 0 layout.size)
 
 -- one more than the greatest address that a data record covers, or 0 where it has no byte
-abbrev pub entry_end : Layout → Entry → ℕ
+abbrev pub entry_end : Layout → DataEntry → ℕ
 entry_end layout entry =
     if length (bytes_of entry.data_record) == 0 then 0
     else entry_start layout entry + length (bytes_of entry.data_record)

@@ -53,10 +53,10 @@ target_of layout input module' (to.Group index) =
 target_of layout input module' (to.External index) = external_at layout input module' (index - 1)
 
 -- the frame that a method names; here is the segment of the data record
-abbrev pub frame_of : Layout → (input : ℕ) → Module → (here : ℕ) → TargetMethod → FrameMethod → Result Frame FixKind
-frame_of layout input module' here target (by.By method) = own_frame (target_of layout input module' method)
-frame_of layout input module' here target by.Location = own_frame (Ok (segment_position layout input here))
-frame_of layout input module' here target by.Target = own_frame (target_of layout input module' target)
+abbrev pub frame_by : Layout → (input : ℕ) → Module → (here : ℕ) → TargetMethod → FrameMethod → Result Frame FixKind
+frame_by layout input module' here target (by.By method) = own_frame (target_of layout input module' method)
+frame_by layout input module' here target by.Location = own_frame (Ok (segment_position layout input here))
+frame_by layout input module' here target by.Target = own_frame (target_of layout input module' target)
 
 -- where the target is absolute and the frame relocatable, the target's own frame is used in the frame's place
 abbrev pub used_frame : (target : Position) → (named : Frame) → Frame
@@ -69,7 +69,8 @@ abbrev pub frame' : Resolved → Frame
 frame' reference = used_frame reference.target reference.named_frame
 
 -- a reference with its frame and its target found
-abbrev pub resolved : Layout → ℕ → Module → ℕ → FrameMethod → TargetMethod → ℕ → Result Resolved FixKind
+abbrev pub resolved : Layout → (input : ℕ) → Module → (here : ℕ) → FrameMethod → TargetMethod → (displacement : ℕ)
+    → Result Resolved FixKind
 resolved layout input module' here frame target displacement =
     result_map_both (λ f. record { target = f.0; named_frame = f.1; displacement = displacement }) (λ kind. kind)
-    (both (target_of layout input module' target) (frame_of layout input module' here target frame))
+    (both (target_of layout input module' target) (frame_by layout input module' here target frame))

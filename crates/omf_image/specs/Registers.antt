@@ -63,9 +63,9 @@ entry_of P (Err kind) = (P % 65536, 0)
 entry_of P (Ok reference) = (real_frame P (frame' reference) % 65536, modulo 65536 (from_frame P reference))
 
 -- CS and IP at the first start, and without one the program's first byte
-abbrev pub entry_at : (P : ℕ) → Layout → List StartEntry → ℕ × ℕ
-entry_at P layout [] = (P % 65536, 0)
-entry_at P layout (entry ∷ later) = entry_of P (start_meaning layout entry)
+abbrev pub entry_point : (P : ℕ) → Layout → List StartEntry → ℕ × ℕ
+entry_point P layout [] = (P % 65536, 0)
+entry_point P layout (entry ∷ later) = entry_of P (start_meaning layout entry)
 
 -- the first stack segment in the order of placement; a combined segment has the kind of its first part
 abbrev pub stack : Layout → List Module → Option Combined
@@ -76,13 +76,12 @@ stack layout modules =
 -- SS and SP: its frame, and its end counted from there
 abbrev pub stack_of : (P : ℕ) → Option Combined → ℕ × ℕ
 stack_of P None = (P % 65536, 0)
-stack_of P (Some combined) =
-    ((combined.start / 16 + P) % 65536, (combined.end - 16 * (combined.start / 16)) % 65536)
+stack_of P (Some combined) = ((combined.start / 16 + P) % 65536, (combined.end - 16 * (combined.start / 16)) % 65536)
 
 -- the registers, loaded at paragraph P
 unfoldable pub registers : (P : ℕ) → Layout → List Module → Registers
 registers P layout modules =
-    let entry = entry_at P layout (starts modules) in
+    let entry = entry_point P layout (starts modules) in
     let stack' = stack_of P (stack layout modules) in
     record { cs = entry.0; ip = entry.1; ss = stack'.0; sp = stack'.1 }
 

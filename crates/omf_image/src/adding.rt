@@ -8,7 +8,7 @@ ghost use Rattle.omf_place.specs.Layout.{places_of, segment_position};
 ghost use Rattle.omf_image.specs.Value.{real_address};
 ghost use Rattle.omf_image.specs.declared.patch.Patch.{Patch};
 ghost use Rattle.omf_image.specs.Located.{covers_word};
-ghost use Rattle.omf_image.specs.Records.{Entry, fixup_patches};
+ghost use Rattle.omf_image.specs.Records.{DataEntry, fixup_patches};
 ghost use Rattle.omf_image.specs.Faults.{fixups_fault};
 ghost use Rattle.omf_image.specs.inside.Whole.{data_fault};
 ghost use Rattle.omf_image.specs.inside.Ready.{IsEntryReady, IsFixupReady};
@@ -126,7 +126,7 @@ pub fn add_record<'a, A: Allocator + Copy>(
     requires lengths { length data_record.bytes.now ≡ length data_record.places.now }
     requires whole { IsWhole layout.now (state work.old) }
     ensures whole { OnOk result (IsWhole layout.now (state work.new)) }
-    ensures gives { (modules : List PlainModule) → (rest : List Entry)
+    ensures gives { (modules : List PlainModule) → (rest : List DataEntry)
         → Leads layout.now modules (state work.old)
         (record { input = input; module' = «module».now; data_record = data_seen data_record.entry } ∷ rest)
         → Answers result (data_fault layout.now modules) (λ _. Leads layout.now modules (state work.new) rest) }

@@ -4,7 +4,7 @@ ghost use Rattle.std.specs.Prelude.{◌≡◌, ◌<◌, ◌≤◌, ◌^◌, ◌+
 ghost use Rattle.std.specs.Prelude.{replicate, OnOk, IfOk};
 ghost use Rattle.std.specs.List.{range_with_len};
 ghost use Rattle.omf_module.specs.Module.{Module as PlainModule};
-ghost use Rattle.omf_image.specs.Records.{Entry, entries};
+ghost use Rattle.omf_image.specs.Records.{DataEntry, entries};
 ghost use Rattle.omf_image.specs.inside.Entries.{module_entries};
 ghost use Rattle.omf_image.specs.inside.Whole.{data_fault};
 ghost use Rattle.omf_image.specs.inside.Pages.{IsBlank};
@@ -57,7 +57,7 @@ fn add_module<A: Allocator + Copy>(
     requires ready { All (IsEntryReady layout.now) (module_entries input «module».now) }
     requires whole { IsWhole layout.now (state work.old) }
     ensures whole { OnOk result (IsWhole layout.now (state work.new)) }
-    ensures gives { (modules : List PlainModule) → (rest : List Entry)
+    ensures gives { (modules : List PlainModule) → (rest : List DataEntry)
         → Leads layout.now modules (state work.old) (module_entries input «module».now ++ rest)
         → Answers result (data_fault layout.now modules) (λ _. Leads layout.now modules (state work.new) rest) }
 {

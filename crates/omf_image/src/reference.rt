@@ -4,7 +4,7 @@ ghost use Rattle.std.specs.Prelude.{◌≡◌, ◌<◌, length, Ok};
 ghost use Rattle.std.specs.Option.{ok_or};
 ghost use Rattle.omf_image.specs.declared.faults.FixKind.TheVariants.{Unresolved};
 ghost use Rattle.omf_module.specs.Seen.{external_seen};
-ghost use Rattle.omf_image.specs.Reference.{resolved, meant, target_of, frame_of, own_frame};
+ghost use Rattle.omf_image.specs.Reference.{resolved, meant, target_of, frame_by, own_frame};
 ghost use Rattle.omf_image.specs.inside.Lookups.{found};
 ghost use Rattle.omf_image.specs.inside.Ready.{IsTargetThere, IsFrameThere};
 
@@ -105,7 +105,7 @@ fn frame<A: Allocator + Copy>(
     requires input { input < length layout.now.modules }
     requires target { IsTargetThere layout.now input «module».now of }
     requires frame { IsFrameThere layout.now input «module».now here method }
-    ensures { found result ≡ frame_of layout.now input «module».now here of method }
+    ensures { found result ≡ frame_by layout.now input «module».now here of method }
 {
     match method {
         FrameMethod::By(method) => own_frame(target(layout, input, module, method)?),

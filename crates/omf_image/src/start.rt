@@ -3,7 +3,7 @@
 ghost use Rattle.std.specs.Prelude.{◌≡◌, ◌<◌, ◌≤◌, All, Some, None, false, length, slice_get};
 ghost use Rattle.std.specs.Option.{option_map_or};
 ghost use Rattle.omf_image.specs.inside.Ready.{IsStartReady};
-ghost use Rattle.omf_image.specs.Registers.{starts, start_meaning, starts_fault, entry_of, entry_at};
+ghost use Rattle.omf_image.specs.Registers.{starts, start_meaning, starts_fault, entry_of, entry_point};
 ghost use Rattle.omf_image.specs.inside.Starts.{is_stack};
 ghost use Rattle.omf_image.specs.Registers.{stack, stack_of, registers};
 ghost use Rattle.omf_image.specs.inside.Starts.{is_stack_segment};
@@ -130,7 +130,7 @@ fn entry<A: Allocator + Copy>(
     requires { All (IsStartReady layout.now) (starts modules.now) }
     ensures { Answers result (starts_fault layout.now (starts modules.now))
         (λ entry. (starts_fault layout.now (starts modules.now) ≡ None)
-        × (entry ≡ entry_at 0 layout.now (starts modules.now))) }
+        × (entry ≡ entry_point 0 layout.now (starts modules.now))) }
 {
     let Some((input, start)) = next_start(modules, 0) else {
         return Ok((0, 0));

@@ -43,17 +43,17 @@ name_at names index = unwrap_or (entry names index) []
 -- ---- 98H SEGDEF: Segment Definition Record
 
 -- how the parts of a segment combine
-abbrev pub kind_of : Combination → Kind
-kind_of combine.Private = kinds.Private
-kind_of combine.Stack = kinds.Stack
-kind_of combine.Common = kinds.Common
-kind_of _ = kinds.Public
+abbrev pub segment_kind : Combination → Kind
+segment_kind combine.Private = kinds.Private
+segment_kind combine.Stack = kinds.Stack
+segment_kind combine.Common = kinds.Common
+segment_kind _ = kinds.Public
 
 -- where a segment stands: an absolute one, and by the field A at a byte, a word, a paragraph, a page, a double word
 abbrev pub standing_of : Alignment → Combination → Standing
 standing_of (align.Absolute frame offset) combination = Absolute frame offset
 standing_of alignment combination =
-    Relocatable (slice_index (0 ∷ 1 ∷ 2 ∷ 16 ∷ 256 ∷ 4 ∷ []) (alignment_number alignment)) (kind_of combination)
+    Relocatable (slice_index (0 ∷ 1 ∷ 2 ∷ 16 ∷ 256 ∷ 4 ∷ []) (alignment_number alignment)) (segment_kind combination)
 
 -- the segment that a record defines, with the names before it
 abbrev pub segments_in : List (List ℕ) → Record → List Segment

@@ -77,7 +77,7 @@ fn name_piece(names: &[Piece], index: u16) -> Piece
 
 /// How the parts of a segment combine.
 fn kind_of(combination: Combination) -> Kind
-    ensures { result ≡ tables.kind_of combination }
+    ensures { result ≡ tables.segment_kind combination }
 {
     match combination {
         Combination::Private => Kind::Private,

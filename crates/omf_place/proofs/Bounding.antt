@@ -23,7 +23,7 @@ use Rattle.omf_place.specs.Parts.{Site, module_sites, sites, is_part}
 use Rattle.omf_place.specs.inside.Placing.{sites_from, is_relocatable}
 use Rattle.omf_place.specs.Placed.{IsPlaced, address_of}
 use Rattle.omf_place.specs.Scopes.{table}
-use Rattle.omf_place.specs.Tables.{segment_start, segment_end, leaders, combined_segment, placed, group_frame}
+use Rattle.omf_place.specs.Tables.{segment_start, segment_end, leaders, combined_segment, placed, frame_of_group}
 use Rattle.omf_place.specs.Tables.{placed_publics}
 use Rattle.omf_place.proofs.LinkProgram.{inputs-length}
 use Rattle.omf_place.proofs.LinkRows.{input_rows, row_at}
@@ -119,7 +119,7 @@ module _ (names : Names) (program : List Module) (A : List ℕ) (size : ℕ)
       subst (λ ps. ArePlacesOf size m ps) (sym here) (record {
         segments = length-map n.sites (placed ss A) ∙ at.3;
         groups =
-            length-map n.says.groups (λ (g : Group). group_frame program A g.name)
+            length-map n.says.groups (λ (g : Group). frame_of_group program A g.name)
             ∙ ap (λ (x : Module). length x.groups) at.2;
         each = λ k s f.
             let r = row_at n row k s (ap (λ (x : Module). slice_get x.segments k) at.2 ∙ f) in

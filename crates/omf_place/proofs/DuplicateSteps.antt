@@ -19,7 +19,7 @@ use Rattle.omf_place.specs.inside.HeldNames.{HoldsAll, IsOwner, Scopes, entry_vi
 use Rattle.omf_place.specs.inside.Named.{value_where}
 use Rattle.omf_place.specs.Names.{Table, agrees, means, spelled}
 use Rattle.omf_place.specs.inside.Steps.{empty}
-use Rattle.omf_place.specs.Scopes.{Entry, clashes, table}
+use Rattle.omf_place.specs.Scopes.{ScopedName, clashes, table}
 use Rattle.omf_place.specs.inside.HeldNames.{local_tables}
 use Rattle.omf_place.specs.inside.Steps.{owned_by, repeats, same_owner}
 use Rattle.omf_place.proofs.Finds.{find-here, find-more}
@@ -38,10 +38,10 @@ same_owner-sym (Some m) None = refl
 same_owner-sym (Some m) (Some n) = nat_eq_equiv.symm m n
 
 module _ {V : Type 0} (names : Names) where
-  abbrev pairs : List (Entry V) → List (List ℕ × V)
+  abbrev pairs : List (ScopedName V) → List (List ℕ × V)
   pairs es = map (λ d. (d.name, d.value)) es
 
-  any-means : (x : Entry V) (es : List (Entry V))
+  any-means : (x : ScopedName V) (es : List (ScopedName V))
       → list_any (λ e. clashes names e x) es ≡ is_some (means (table names x.owner es) x.name)
   any-means x [] = refl
   any-means x (e ∷ es) =
@@ -61,7 +61,7 @@ module _ {V : Type 0} (names : Names) where
         | false ↦ any-means x es
       ])
 
-  pairs-more : (q : Option ℕ) (es : List (Entry V)) (x : Entry V) →
+  pairs-more : (q : Option ℕ) (es : List (ScopedName V)) (x : ScopedName V) →
       pairs (owned_by q (es ++ x ∷ []))
       ≡ cond (same_owner q x.owner) (pairs (owned_by q es) ++ (x.name, x.value) ∷ []) (pairs (owned_by q es))
   pairs-more q [] x =
@@ -84,7 +84,7 @@ module _ {V : Type 0} (names : Names) where
   abbrev with_pairs : List (List ℕ × V) → Table V
   with_pairs ps = record { names = names; entries = ps }
 
-  table-more : (q : Option ℕ) (es : List (Entry V)) (x : Entry V) →
+  table-more : (q : Option ℕ) (es : List (ScopedName V)) (x : ScopedName V) →
       cond (same_owner q x.owner) (with_entry (table names q es) x.name x.value) (table names q es)
       ≡ table names q (es ++ x ∷ [])
   table-more q es x =
@@ -124,10 +124,10 @@ module _ (names : Names) (count : ℕ) (given : List (held.Entry Position)) (i :
     (holds : HoldsAll names count (map entry_view (take i given)) s)
     (apart : find (repeats names (map entry_view given)) (take i (enumerate_from 0 (map entry_view given)))
     ≡ None) where
-  abbrev all : List (Entry Position)
+  abbrev all : List (ScopedName Position)
   all = map entry_view given
 
-  abbrev next : Entry Position
+  abbrev next : ScopedName Position
   next = entry_view (get_or given i d)
 
   next_at : slice_get all i ≡ Some next
@@ -146,7 +146,7 @@ module _ (names : Names) (count : ℕ) (given : List (held.Entry Position)) (i :
 
   pub repeated : is_some (means (table_of s next.owner) next.name) ≡ true
       → duplicate_in names all ≡ Some (DuplicatePublic next.name)
-  repeated t = ap (λ (o : Option (ℕ × Entry Position)). option_map (λ p. DuplicatePublic p.1.name) o)
+  repeated t = ap (λ (o : Option (ℕ × ScopedName Position)). option_map (λ p. DuplicatePublic p.1.name) o)
       (find-here (repeats names all) (enumerate_from 0 all) i (i, next) (numbered-at all i next next_at) apart
       (test_is ∙ t))
 
@@ -176,7 +176,7 @@ pub no-duplicate : (names : Names) (given : List (held.Entry Position)) (i : ℕ
     duplicate_in names (map entry_view given) ≡ None
 no-duplicate names given i h apart =
     let all = map entry_view given in
-    ap (λ (o : Option (ℕ × Entry Position)). option_map (λ p. DuplicatePublic p.1.name) o)
+    ap (λ (o : Option (ℕ × ScopedName Position)). option_map (λ p. DuplicatePublic p.1.name) o)
     (ap (λ es. find (repeats names all) es)
     (sym (numbered-all all i (let e = length-map given entry_view in omega (arith, h, e)))) ∙ apart)
 
@@ -185,7 +185,7 @@ pub holds-all : {V : Type 0} (names : Names) (count : ℕ) (given : List (held.E
     length given ≤ i → HoldsAll names count (map entry_view (take i given)) s →
     s ≡ scopes_of names count (map entry_view given)
 holds-all {V} names count given i s h holds =
-    let es : List (Entry V) = map entry_view given in
+    let es : List (ScopedName V) = map entry_view given in
     let all : HoldsAll names count es s = rw (sym (take-all i given h)) holds in
     let locals : s.locals ≡ local_tables names count es =
     ext_get_or (empty {V = V} Exact) s.locals (local_tables names count es)

@@ -17,7 +17,7 @@ use Rattle.omf_place.specs.declared.groups.Grpdef as held
 use Rattle.omf_place.specs.declared.groups.Reach.{Reach}
 use Rattle.omf_place.specs.inside.Groups.{GroupReach, entry_in, entry_with, grpdef_view, join, reach_of_span, reached}
 use Rattle.omf_place.specs.Parts.{Site, sites}
-use Rattle.omf_place.specs.Tables.{Grpdef, group_frame, group_span, grpdefs, span}
+use Rattle.omf_place.specs.Tables.{Grpdef, frame_of_group, group_span, grpdefs, span}
 use Rattle.omf_place.specs.inside.Steps.{placed_group}
 use Rattle.omf_place.proofs.LinkGroups.{join_reaches, span-append}
 
@@ -169,6 +169,6 @@ module _ (program : List Module) (A : List ℕ) (q : List ℕ) where
   reach_is o e = ap (λ x. option_and_then (λ (y : GroupEntry). y.reach) x) e ∙ reach_from (grpdefs program)
 
 pub placed_is : (program : List Module) (A : List ℕ) (v : GroupReach) (x : Grpdef) (f : Option ℕ) →
-    v ≡ reached (sites program) A x → f ≡ group_frame program A v.name →
+    v ≡ reached (sites program) A x → f ≡ frame_of_group program A v.name →
     record { frame = f; input = v.input; group = v.group } ≡ placed_group program A x
 placed_is program A v x f e h = rw (h, e) refl

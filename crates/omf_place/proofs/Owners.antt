@@ -10,7 +10,7 @@ use Rattle.omf_place.specs.Parts.{inputs}
 use Rattle.omf_place.specs.declared.layout.Position.{Position}
 use Rattle.omf_place.specs.declared.scopes.Entry as held
 use Rattle.omf_place.specs.inside.HeldNames.{IsOwner, entry_view}
-use Rattle.omf_place.specs.Scopes.{Entry}
+use Rattle.omf_place.specs.Scopes.{ScopedName}
 use Rattle.omf_place.specs.Tables.{placed_public, placed_publics, publics_of}
 use Rattle.omf_place.specs.inside.Steps.{public_entry}
 use Rattle.omf_place.proofs.KeyPlaces.{All-make}
@@ -19,7 +19,7 @@ use Rattle.omf_place.proofs.LinkProgram.{indexed_from}
 use Rattle.omf_place.proofs.Walks.{All-map}
 
 module _ (count : ℕ) where
-  abbrev Owned : Entry Position → Type 0
+  abbrev Owned : ScopedName Position → Type 0
   Owned e = IsOwner count e.owner
 
   owner : (local : Bool) (input : ℕ) → input < count → IsOwner count (then_some local input)

@@ -9,7 +9,7 @@ use Rattle.omf_place.specs.declared.layout.Position.TheVariants as position
 use Rattle.omf_place.specs.Parts.{sites, placement_order, Site}
 use Rattle.std.proofs.Common.{◌+◌, ◌%◌, Bool, true, false, ◌&&◌, eqb, ltb, leb, slice_index}
 use Rattle.omf_place.specs.Placed.{IsPlaced, is_unit, unit_alignment, unit_length}
-use Rattle.omf_place.specs.Tables.{group_frame, placed_publics}
+use Rattle.omf_place.specs.Tables.{frame_of_group, placed_publics}
 use Rattle.omf_place.specs.Layout.{layout_at, local_public, public}
 use Rattle.omf_place.specs.Faults.{placement_fault, SegmentTooLong, ProgramTooLarge, GroupTooLong, DuplicatePublic}
 use Rattle.omf_module.specs.declared.Kind.{Kind}
@@ -47,7 +47,7 @@ two_placed = record {
   others = ((λ e. cc), ((λ e. cc), ((λ e. cc), tt)));
 }
 
-two_group : group_frame two (0 ∷ 18 ∷ 22 ∷ []) (codes "DGROUP") ≡ Some 1
+two_group : frame_of_group two (0 ∷ 18 ∷ 22 ∷ []) (codes "DGROUP") ≡ Some 1
 two_group = refl
 
 two_public : public (layout_at Exact two (0 ∷ 18 ∷ 22 ∷ []) 24) (codes "x")
@@ -109,7 +109,7 @@ grouped_long = refl
 grouped_fits : placement_fault Exact (grouped 1) (0 ∷ 65535 ∷ []) 65536 ≡ None
 grouped_fits = refl
 
-grouped_frame : group_frame (grouped 1) (0 ∷ 65535 ∷ []) (codes "CODE") ≡ Some 0
+grouped_frame : frame_of_group (grouped 1) (0 ∷ 65535 ∷ []) (codes "CODE") ≡ Some 0
 grouped_frame = refl
 
 -- fifteen private segments of 65,536 bytes, and one more

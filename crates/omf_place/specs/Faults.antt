@@ -8,7 +8,7 @@ use Rattle.omf_place.specs.Parts.{Site, sites}
 use Rattle.omf_place.specs.Placed.{IsPlaced}
 use Rattle.omf_place.specs.Tables.{segment_frame, segment_end, leaders, group_span, grpdefs, placed_publics}
 use Rattle.omf_place.specs.Layout.{Layout, layout_at}
-use Rattle.omf_place.specs.Scopes.{Entry, clashes}
+use Rattle.omf_place.specs.Scopes.{ScopedName, clashes}
 use Rattle.omf_place.specs.declared.layout.Position.{Position}
 use Rattle.omf_place.specs.declared.names.Names.{Names}
 
@@ -27,7 +27,7 @@ segment_fault ss addresses = option_map (λ a. SegmentTooLong a.segment.name)
     (find (λ a. is_too_long (segment_frame ss addresses a) (segment_end ss addresses a)) (leaders ss))
 
 -- fault 25: the first public whose name an earlier one has, or an earlier local one of its module where it is local
-abbrev pub duplicate_in : Names → List (Entry Position) → Option PlacementFault
+abbrev pub duplicate_in : Names → List (ScopedName Position) → Option PlacementFault
 duplicate_in names publics = option_map (λ p. DuplicatePublic p.1.name)
     (find (λ p. list_any (λ earlier. clashes names earlier p.1) (take p.0 publics)) (enumerate_from 0 publics))
 

@@ -6,7 +6,7 @@ use Rattle.omf_place.specs.Parts.{sites}
 use Rattle.omf_place.specs.Parts.{Input, inputs}
 use Rattle.omf_place.specs.Names.{Table, means}
 use Rattle.omf_place.specs.Scopes.{table}
-use Rattle.omf_place.specs.Tables.{placed, leaders, combined_segment, group_frame as frame_of_group, placed_groups}
+use Rattle.omf_place.specs.Tables.{placed, leaders, combined_segment, frame_of_group, placed_groups}
 use Rattle.omf_place.specs.Tables.{placed_publics}
 use Rattle.omf_place.specs.declared.layout.Combined.{Combined}
 use Rattle.omf_place.specs.declared.layout.GroupPlace.{GroupPlace}

@@ -14,7 +14,7 @@ use Rattle.omf_module.specs.Module.{Module, PublicSymbol}
 use Rattle.omf_place.specs.Parts.{Site, sites, first_of_segment, placement_order}
 use Rattle.omf_place.specs.Placed.{greatest, members, leads, address_of}
 use Rattle.omf_place.specs.Parts.{Input, inputs}
-use Rattle.omf_place.specs.Scopes.{Entry}
+use Rattle.omf_place.specs.Scopes.{ScopedName}
 use Rattle.omf_place.specs.declared.layout.Combined.{Combined}
 use Rattle.omf_place.specs.declared.layout.GroupPlace.{GroupPlace}
 use Rattle.omf_place.specs.declared.layout.Position.{Position}
@@ -85,8 +85,8 @@ module _ (program : List Module) (addresses : List ℕ) where
       (flat_map (λ g. g.sites) (filter (λ g. bytes_eq name g.name) (grpdefs program)))
 
   -- the paragraph of a group's start, where it has members
-  abbrev pub group_frame : List ℕ → Option ℕ
-  group_frame name = option_map (λ s. s.0 / 16) (group_span name)
+  abbrev pub frame_of_group : List ℕ → Option ℕ
+  frame_of_group name = option_map (λ s. s.0 / 16) (group_span name)
 
   -- whether a GRPDEF is the first of its name
   abbrev pub is_first_grpdef : Grpdef → Bool
@@ -95,14 +95,14 @@ module _ (program : List Module) (addresses : List ℕ) where
 
   -- the groups in order of first meeting, each by its first GRPDEF
   abbrev pub placed_groups : List GroupPlace
-  placed_groups = map (λ (g : Grpdef). record { frame = group_frame g.name; input = g.input; group = g.group })
+  placed_groups = map (λ (g : Grpdef). record { frame = frame_of_group g.name; input = g.input; group = g.group })
       (filter is_first_grpdef (grpdefs program))
 
   -- a public of a part has the frame of its group, where it has one: its index isn't 0; and else that of its segment
   abbrev pub public_frame : Module → Site → (group : ℕ) → Option ℕ
   public_frame m a group =
       if group == 0 then Some (segment_frame (sites program) addresses a)
-      else option_and_then (λ g. group_frame g.name) (slice_get m.groups (group - 1))
+      else option_and_then (λ g. frame_of_group g.name) (slice_get m.groups (group - 1))
 
   -- a public of a segment: it moves with the program where the segment is a part
   abbrev pub in_segment : Module → (group : ℕ) → (offset : ℕ) → Site → Standing → Position
@@ -117,11 +117,11 @@ module _ (program : List Module) (addresses : List ℕ) where
       option_map (λ a. in_segment n.says group offset a a.segment.standing) (slice_get n.sites (segment - 1))
 
   -- the publics of a module, where a local one is one of its module alone
-  abbrev pub publics_of : Input → List (Entry Position)
+  abbrev pub publics_of : Input → List (ScopedName Position)
   publics_of n = flat_map (λ (p : PublicSymbol). option_to_list (option_map (λ placed.
       record { owner = then_some p.local n.input; name = p.name; value = placed })
       (placed_public n p.offset p.base))) n.says.publics
 
   -- the publics, local ones too, in order of inputs and records
-  abbrev pub placed_publics : List (Entry Position)
+  abbrev pub placed_publics : List (ScopedName Position)
   placed_publics = flat_map publics_of (inputs program)

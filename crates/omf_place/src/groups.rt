@@ -7,7 +7,7 @@ ghost use Rattle.std.specs.Str.{bytes_eq};
 ghost use Rattle.std.specs.Option.{option_map};
 ghost use Rattle.omf_place.specs.Faults.{GroupTooLong, group_fault, is_long_group};
 ghost use Rattle.omf_place.specs.Parts.{Site, sites};
-ghost use Rattle.omf_place.specs.Tables.{group_frame, group_span, grpdefs as program_grpdefs, grpdefs_of};
+ghost use Rattle.omf_place.specs.Tables.{frame_of_group, group_span, grpdefs as program_grpdefs, grpdefs_of};
 ghost use Rattle.omf_place.specs.Tables.{is_first_grpdef, placed_groups as program_groups};
 ghost use Rattle.omf_place.specs.inside.Groups.{AreGroups, AreGrpdefs, entry_in, entry_with, grpdef_view, join};
 ghost use Rattle.omf_place.specs.inside.Groups.{reach_in, reach_of_span, reached, widened};
@@ -219,7 +219,7 @@ impl<'a, A: Allocator + Copy> Groups<'a, A> {
 
     /// The frame of a group, where it has members.
     pub(crate) fn frame(&self, name: &[u8]) -> Option<u16>
-        ensures { result ≡ of_program group_frame self.now.program.now name.now }
+        ensures { result ≡ of_program frame_of_group self.now.program.now name.now }
     {
         match self.reach(name) {
             None => None,
@@ -288,7 +288,7 @@ pub(crate) fn frames_of<A: Allocator + Copy>(
     groups: &Groups<'_, A>,
 ) -> Result<Vec<Option<u16>, A>, AllocError>
     ensures { IfOk result (λ v. v.items ≡
-        map (λ g. of_program group_frame groups.now.program.now g.name) input.now.says.now.groups) }
+        map (λ g. of_program frame_of_group groups.now.program.now g.name) input.now.says.now.groups) }
 {
     let mut frames = Vec::new(alloc);
     for index in 0..input.says.group_count() {

@@ -4,16 +4,16 @@ use Rattle.std.specs.List.{enumerate_from}
 use Rattle.std.specs.Option.{option_map, option_to_list}
 use Rattle.omf_module.specs.declared.Start.{Start}
 use Rattle.omf_module.specs.Module.{Module}
-use Rattle.omf_image.specs.Records.{Entry}
+use Rattle.omf_image.specs.Records.{DataEntry}
 use Rattle.omf_image.specs.Registers.{StartEntry}
 
 -- the data records of a module
-abbrev pub module_entries : (input : ℕ) → Module → List Entry
+abbrev pub module_entries : (input : ℕ) → Module → List DataEntry
 module_entries input module' =
     map (λ d. record { input = input; module' = module'; data_record = d }) module'.data_records
 
 -- those of modules whose inputs count up from a first one
-abbrev pub entries_from : (input : ℕ) → List Module → List Entry
+abbrev pub entries_from : (input : ℕ) → List Module → List DataEntry
 entries_from input modules = flat_map (λ m. module_entries m.0 m.1) (enumerate_from input modules)
 
 -- the start of a module, if it has one

@@ -5,7 +5,7 @@ use Rattle.omf_module.specs.Module.{Module}
 use Rattle.omf_place.specs.Layout.{Layout}
 use Rattle.omf_image.specs.Located.{covers, in_page}
 use Rattle.omf_image.specs.inside.Whole.{byte_of}
-use Rattle.omf_image.specs.Records.{Entry, entries, datum, program_byte, record_relocations}
+use Rattle.omf_image.specs.Records.{DataEntry, entries, datum, program_byte, record_relocations}
 use Rattle.omf_image.specs.inside.Whole.{page_covered}
 use Rattle.omf_image.specs.Faults.{records_fault}
 use Rattle.omf_image.specs.inside.Whole.{data_fault}
@@ -30,7 +30,7 @@ abbrev pub relocated_words : Layout → List Module → List ℕ
 relocated_words layout modules = flat_map (record_relocations layout) (entries modules)
 
 -- what the state holds and what the rest of the data records brings is the program
-pub record Leads (layout : Layout) (modules : List Module) (now : State) (rest : List Entry) : Type 0 where
+pub record Leads (layout : Layout) (modules : List Module) (now : State) (rest : List DataEntry) : Type 0 where
   pub image : (a : ℕ)
       → last_or (get_or now.image a 0) (map (byte_of a) (filter (covers a) (map (datum 0 layout) rest)))
       ≡ program_byte 0 layout modules a

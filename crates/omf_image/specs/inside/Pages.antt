@@ -1,7 +1,7 @@
 -- An image in pages of 4,096 bytes. A page that was not made is empty, and reads as zeros.
 use Rattle.std.specs.Prelude.{◌≡◌, ℕ, ◌*◌, ◌≤◌, ◌⊎◌, ◌==◌, ◌||◌, false, get_or, cond, not, Bool, List, map, flat_map}
 use Rattle.std.specs.Prelude.{take, replicate, length, All}
-use Rattle.omf_image.specs.Located.{Datum, covers, in_page}
+use Rattle.omf_image.specs.Located.{LocatedBytes, covers, in_page}
 use Rattle.omf_image.specs.inside.Whole.{byte_of}
 
 -- its bytes, and which pages were made
@@ -32,12 +32,12 @@ pub record IsPaged (size : ℕ) (pages : List (List ℕ)) : Type 0 where
   pub each : All IsPage pages
 
 -- new is old with data laid over it
-pub record IsLaid (datum : Datum) (old new : List ℕ) : Type 0 where
+pub record IsLaid (datum : LocatedBytes) (old new : List ℕ) : Type 0 where
   pub sized : length new ≡ length old
   pub each : (a : ℕ) → get_or new a 0 ≡ cond (covers a datum) (byte_of a datum) (get_or old a 0)
 
 -- the pages into which data fell are made, and no other
-abbrev pub MakesPages : Datum → (old new : List Bool) → Type 0
+abbrev pub MakesPages : LocatedBytes → (old new : List Bool) → Type 0
 MakesPages datum old new = (k : ℕ) → get_or new k false ≡ (in_page k datum || get_or old k false)
 
 -- zeros, and no page made

@@ -8,13 +8,13 @@ use Rattle.omf_image.specs.declared.faults.Stop.{Stop}
 use Rattle.omf_image.specs.declared.faults.Stop.TheVariants.{Kind, Memory}
 use Rattle.omf_image.specs.declared.patch.Patch.{Patch}
 use Rattle.omf_image.specs.declared.placed_data.PlacedData.{PlacedData}
-use Rattle.omf_image.specs.Records.{Entry, entry_start}
+use Rattle.omf_image.specs.Records.{DataEntry, entry_start}
 use Rattle.omf_image.specs.Faults.{fixup_fault}
 use Rattle.omf_image.specs.inside.Marks.{IsPlain}
 use Rattle.omf_image.specs.inside.Index.{IsIndex}
 
 -- the data record with its module, as the definitions have them
-abbrev pub entry_seen : {A : Type 0} → PlacedData A → Entry
+abbrev pub entry_seen : {A : Type 0} → PlacedData A → DataEntry
 entry_seen placed =
     record { input = placed.input; module' = placed.module.now; data_record = data_seen placed.data_record }
 
@@ -28,7 +28,7 @@ pub record IsPlacedData {A : Type 0} (placed : PlacedData A) : Type 0 where
   pub index : placed.plain ≡ false → IsIndex placed.data_record.places.now placed.index.now
 
 -- a fix-up's fault, or none and what then holds
-abbrev pub FixupGives : Layout → Entry → (earlier : List Patch) → ResolvedFixup → Result (Unit {0}) Stop
+abbrev pub FixupGives : Layout → DataEntry → (earlier : List Patch) → ResolvedFixup → Result (Unit {0}) Stop
     → (holds : Type 0)
     → Type 0
 FixupGives layout entry earlier fixup (Ok u) holds = (fixup_fault layout entry earlier fixup ≡ None) × holds

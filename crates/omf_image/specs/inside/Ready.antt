@@ -10,7 +10,7 @@ use Rattle.omf_module.specs.Module.{Module}
 use Rattle.omf_module.specs.Sound.{IsIndexOf}
 use Rattle.omf_place.specs.Layout.{Layout, places_of}
 use Rattle.omf_record.specs.Numbers.{location_width}
-use Rattle.omf_image.specs.Records.{Entry, entries, entry_start, bytes_of, stored_of}
+use Rattle.omf_image.specs.Records.{DataEntry, entries, entry_start, bytes_of, stored_of}
 use Rattle.omf_image.specs.inside.WellPlaced.{LiesInContent}
 use Rattle.omf_record.specs.Expansion.{StandWhole, AreCopies}
 use Rattle.omf_image.specs.Registers.{StartEntry, starts}
@@ -28,7 +28,7 @@ IsFrameThere layout input module' here by.Location = here < length (places_of la
 IsFrameThere layout input module' here by.Target = Unit {0}
 
 -- what a fix-up names is there, and its location lies in the contents of its data
-pub record IsFixupReady (layout : Layout) (entry : Entry) (fixup : ResolvedFixup) : Type 0 where
+pub record IsFixupReady (layout : Layout) (entry : DataEntry) (fixup : ResolvedFixup) : Type 0 where
   pub target : IsTargetThere layout entry.input entry.module' fixup.target
   pub frame : IsFrameThere layout entry.input entry.module' entry.data_record.segment fixup.frame
   pub lies : LiesInContent entry.data_record fixup
@@ -36,7 +36,7 @@ pub record IsFixupReady (layout : Layout) (entry : Entry) (fixup : ResolvedFixup
 
 -- a data record has a part, lies inside the program, its fix-ups lie in its contents, and its bytes of one stored place
 -- are one byte
-pub record IsEntryReady (layout : Layout) (entry : Entry) : Type 0 where
+pub record IsEntryReady (layout : Layout) (entry : DataEntry) : Type 0 where
   pub input : entry.input < length layout.modules
   pub segment : entry.data_record.segment < length (places_of layout entry.input).segments
   pub inside : entry_start layout entry + length (bytes_of entry.data_record) ≤ layout.size

@@ -5,12 +5,12 @@ use Rattle.std.specs.declared.option.Option.{Option}
 use Rattle.omf_module.specs.Module.{Module}
 use Rattle.omf_place.specs.Layout.{Layout}
 use Rattle.omf_image.specs.declared.faults.FixFault.{FixFault}
-use Rattle.omf_image.specs.Located.{Datum, in_page}
+use Rattle.omf_image.specs.Located.{LocatedBytes, in_page}
 use Rattle.omf_image.specs.Records.{datum, entries}
 use Rattle.omf_image.specs.Faults.{records_fault}
 
 -- the byte that data has at an address which it covers
-abbrev pub byte_of : (address : ℕ) → Datum → ℕ
+abbrev pub byte_of : (address : ℕ) → LocatedBytes → ℕ
 byte_of address datum = get_or datum.bytes (address - datum.start) 0
 
 -- data covers a byte of the page

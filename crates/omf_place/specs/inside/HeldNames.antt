@@ -4,7 +4,7 @@ use Rattle.omf_place.specs.Names.{Table}
 use Rattle.omf_place.specs.inside.Named.{folded}
 use Rattle.omf_place.specs.inside.Steps.{empty}
 use Rattle.std.specs.List.{range_with_len}
-use Rattle.omf_place.specs.Scopes.{Entry, table}
+use Rattle.omf_place.specs.Scopes.{ScopedName, table}
 use Rattle.omf_place.specs.declared.folded.FoldedName.{FoldedName}
 use Rattle.omf_place.specs.declared.folded.FoldedName.TheVariants.{Held, Asked}
 use Rattle.omf_place.specs.declared.named.ByName.{ByName}
@@ -14,7 +14,7 @@ use Rattle.omf_place.specs.declared.names.Names.TheVariants.{Exact, AsciiFolded}
 use Rattle.omf_place.specs.declared.scopes.Entry as held
 
 -- the names of each of some modules, by its index
-abbrev pub local_tables : {V : Type 0} → Names → (count : ℕ) → List (Entry V) → List (Table V)
+abbrev pub local_tables : {V : Type 0} → Names → (count : ℕ) → List (ScopedName V) → List (Table V)
 local_tables names count es = map (λ m. table names (Some m) es) (range_with_len 0 count)
 
 -- the name of a key
@@ -52,7 +52,7 @@ abbrev pub with_entry : {V : Type 0} → Table V → List ℕ → V → Table V
 with_entry t name value = record { names = t.names; entries = t.entries ++ (name, value) ∷ [] }
 
 -- an entry as a value
-abbrev pub entry_view : {V : Type 0} → held.Entry V → Entry V
+abbrev pub entry_view : {V : Type 0} → held.Entry V → ScopedName V
 entry_view e = record { owner = e.owner; name = e.name.now; value = e.value }
 
 -- the names known to all, and those of each module
@@ -61,7 +61,7 @@ pub record Scopes (V : Type 0) : Type 0 where
   pub locals : List (Table V)
 
 -- the names of some entries
-abbrev pub scopes_of : {V : Type 0} → Names → (count : ℕ) → List (Entry V) → Scopes V
+abbrev pub scopes_of : {V : Type 0} → Names → (count : ℕ) → List (ScopedName V) → Scopes V
 scopes_of names count es = record { shared = table names None es; locals = local_tables names count es }
 
 -- what is out of range isn't looked at
@@ -82,6 +82,6 @@ abbrev pub IsOwner : (count : ℕ) → Option ℕ → Type 0
 IsOwner count owner = IfSome owner (λ m. m < count)
 
 -- the tables of some entries, of modules by their number
-pub record HoldsAll {V : Type 0} (names : Names) (count : ℕ) (es : List (Entry V)) (s : Scopes V) : Type 0 where
+pub record HoldsAll {V : Type 0} (names : Names) (count : ℕ) (es : List (ScopedName V)) (s : Scopes V) : Type 0 where
   pub modules : length s.locals ≡ count
   pub tables : (owner : Option ℕ) → IsOwner count owner → table_of s owner ≡ table names owner es

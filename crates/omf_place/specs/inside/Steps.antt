@@ -7,8 +7,8 @@ use Rattle.std.specs.Option.{option_eq, option_or, option_to_list}
 use Rattle.omf_module.specs.Module.{Module, PublicSymbol}
 use Rattle.omf_place.specs.Parts.{Site}
 use Rattle.omf_place.specs.Names.{Table}
-use Rattle.omf_place.specs.Scopes.{Entry, clashes}
-use Rattle.omf_place.specs.Tables.{Grpdef, segment_frame, segment_end, group_frame, placed_publics}
+use Rattle.omf_place.specs.Scopes.{ScopedName, clashes}
+use Rattle.omf_place.specs.Tables.{Grpdef, segment_frame, segment_end, frame_of_group, placed_publics}
 use Rattle.omf_place.specs.Faults.{PlacementFault, ProgramTooLarge, is_too_long, group_fault, duplicate_in}
 use Rattle.omf_place.specs.declared.layout.GroupPlace.{GroupPlace}
 use Rattle.omf_place.specs.declared.layout.Position.{Position}
@@ -23,11 +23,11 @@ abbrev pub same_owner : Option ℕ → Option ℕ → Bool
 same_owner one other = option_eq nat_eq one other
 
 -- the entries of an owner
-abbrev pub owned_by : {V : Type 0} → Option ℕ → List (Entry V) → List (Entry V)
+abbrev pub owned_by : {V : Type 0} → Option ℕ → List (ScopedName V) → List (ScopedName V)
 owned_by owner es = filter (λ e. same_owner owner e.owner) es
 
 -- an entry, by its place, whose name an earlier one has
-abbrev pub repeats : {V : Type 0} → Names → List (Entry V) → ℕ × Entry V → Bool
+abbrev pub repeats : {V : Type 0} → Names → List (ScopedName V) → ℕ × ScopedName V → Bool
 repeats names es p = list_any (λ earlier. clashes names earlier p.1) (take p.0 es)
 
 -- the sites of a GRPDEF's components, by their indexes in the module
@@ -37,10 +37,10 @@ components row members = flat_map (λ k. option_to_list (slice_get row k)) membe
 -- a group, by its first GRPDEF
 abbrev pub placed_group : List Module → (addresses : List ℕ) → Grpdef → GroupPlace
 placed_group program addresses g =
-    record { frame = group_frame program addresses g.name; input = g.input; group = g.group }
+    record { frame = frame_of_group program addresses g.name; input = g.input; group = g.group }
 
 -- a local public is one of its module alone
-abbrev pub public_entry : (input : ℕ) → PublicSymbol → Position → Entry Position
+abbrev pub public_entry : (input : ℕ) → PublicSymbol → Position → ScopedName Position
 public_entry input p placed = record { owner = then_some p.local input; name = p.name; value = placed }
 
 -- fault 22: a combined segment is too long

@@ -3,7 +3,7 @@ use Rattle.std.proofs.lemmas.Result.{err_from_is_err_and}
 use Rattle.std.specs.Io.KnownBytes.{Appends}
 use Rattle.omf_frame.specs.Device.{AppendsFront}
 use Rattle.omf_module.specs.Tables.{module_of}
-use Rattle.mz.specs.File.{written}
+use Rattle.mz.specs.File.{file_bytes}
 use Rattle.omf_commands.specs.Linking.{IsLinked}
 use Rattle.omf_commands.proofs.LinkSteps.{holds_program, not_linked, not_read, unwritten}
 use Rattle.omf_commands.proofs.Outcome.{none_stands, refused}
@@ -59,7 +59,7 @@ returns-in-Ok-clause-outcome g c = λ sources told.
     subst (λ ms. IsLinked c.args.options.now.names ms report.layout report.program) are c.in_ok-report.ensures.linked in
     λ fault stands.
     none_stands g.S.Source.remaining g.S.Source.failures c.args.options.now.names [] lists _ _ sources
-    (written report.program) fault inputs told (report.layout, report.program, linked, c.in-Ok.ensures.format) stands
+    (file_bytes report.program) fault inputs told (report.layout, report.program, linked, c.in-Ok.ensures.format) stands
 
 pub returns-in-Ok-clause-headline : goal.returns-in-Ok-clause-headline
 returns-in-Ok-clause-headline g c =
@@ -69,11 +69,12 @@ returns-in-Ok-clause-headline g c =
     subst (λ ms. IsLinked c.args.options.now.names ms report.layout report.program) are c.in_ok-report.ensures.linked in
     let laws = c.loads_as_written.ensures in
     let holds =
-    holds_program c.args.options.now.names (map module_of lists) report.layout report.program (written report.program)
+    holds_program c.args.options.now.names (map module_of lists) report.layout report.program
+    (file_bytes report.program)
     laws.reads laws.memory laws.loads linked c.in-Ok.ensures.format in
     let appended : Appends (g.K.Sink.written c.args.sink.now) (g.K.Sink.written c.write_mz.new.sink)
-    (written report.program) = search rules in
-    (lists, inputs, (written report.program, appended, holds))
+    (file_bytes report.program) = search rules in
+    (lists, inputs, (file_bytes report.program, appended, holds))
 
 pub returns-in-Err-clause-links : goal.returns-in-Err-clause-links
 returns-in-Err-clause-links g c =
@@ -82,8 +83,16 @@ returns-in-Err-clause-links g c =
     let linked =
     subst (λ ms. IsLinked c.args.options.now.names ms report.layout report.program) are c.in_ok-report.ensures.linked in
     let front : AppendsFront (g.K.Sink.written c.args.sink.now) (g.K.Sink.written c.write_mz.new.sink)
-    (written report.program) = search rules in
-    (lists, inputs, (written report.program, (report.layout, report.program, linked, c.in-Err.ensures.format), front))
+    (file_bytes report.program) = search rules in (
+      lists,
+      inputs,
+      (
+        file_bytes
+            report.program,
+        (report.layout, report.program, linked, c.in-Err.ensures.format),
+        front,
+      ),
+    )
 
 pub returns-in-Err-clause-outcome : goal.returns-in-Err-clause-outcome
 returns-in-Err-clause-outcome g c = λ sources told.
@@ -93,4 +102,5 @@ returns-in-Err-clause-outcome g c = λ sources told.
     subst (λ ms. IsLinked c.args.options.now.names ms report.layout report.program) are c.in_ok-report.ensures.linked in
     λ fault stands.
     none_stands g.S.Source.remaining g.S.Source.failures c.args.options.now.names [] lists _ _ sources
-    (written report.program) fault inputs told (report.layout, report.program, linked, c.in-Err.ensures.format) stands
+    (file_bytes report.program) fault inputs told (report.layout, report.program, linked, c.in-Err.ensures.format)
+    stands

@@ -5,7 +5,7 @@ use Rattle.std.proofs.lemmas.List.Elements.{All-weaker}
 use Rattle.omf_module.specs.Seen.{data_seen}
 use Rattle.omf_image.specs.declared.patch.Patch.{Patch}
 use Rattle.omf_image.specs.Located.{covers_word}
-use Rattle.omf_image.specs.Records.{Entry, bytes_of, datum, patches, fixup_patches}
+use Rattle.omf_image.specs.Records.{DataEntry, bytes_of, datum, patches, fixup_patches}
 use Rattle.omf_image.specs.inside.WellPlaced.{LiesInContent, WellPlaced}
 use Rattle.omf_image.specs.Faults.{fixups_fault}
 use Rattle.omf_image.specs.inside.Whole.{data_fault}

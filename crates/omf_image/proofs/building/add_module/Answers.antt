@@ -1,6 +1,6 @@
 use Rattle.std.proofs.Common.{◌+◌, ◌++◌, List, subst, arith, drop}
 use Rattle.omf_module.specs.Seen.{data_seen}
-use Rattle.omf_image.specs.Records.{Entry}
+use Rattle.omf_image.specs.Records.{DataEntry}
 use Rattle.omf_image.specs.inside.Entries.{module_entries}
 use Rattle.omf_image.specs.inside.Ready.{IsEntryReady}
 use Rattle.omf_image.specs.inside.States.{state}
@@ -25,7 +25,7 @@ returns-in_err-add_record-clause-gives g c modules rest l =
     c.data_record-data_record.ensures.seen in
     refused_by _ _ _ _ _ _ c.from_residual.ensures.1 (λ f e. e)
     (c.in_err-add_record.ensures.gives modules (drop (c.loop-index.index + 1) (module_entries c.args.input m) ++ rest)
-    (subst (λ (es : List Entry). Leads c.args.layout.now modules (state c.loop-index.work) (es ++ rest)) next
+    (subst (λ (es : List DataEntry). Leads c.args.layout.now modules (state c.loop-index.work) (es ++ rest)) next
     (c.loop-index.invariant.gives modules rest l)))
 
 pub loop-index-preserved : goal.loop-index-preserved
@@ -40,6 +40,6 @@ loop-index-preserved g c =
       gives = λ modules rest l.
           c.in_ok-add_record.ensures.gives modules
           (drop (c.loop-index.index + 1) (module_entries c.args.input m) ++ rest)
-          (subst (λ (es : List Entry). Leads c.args.layout.now modules (state c.loop-index.work) (es ++ rest)) next
+          (subst (λ (es : List DataEntry). Leads c.args.layout.now modules (state c.loop-index.work) (es ++ rest)) next
           (c.loop-index.invariant.gives modules rest l));
     }

@@ -1,7 +1,7 @@
 use Rattle.std.proofs.Common.{◌+◌, List, subst, drop, All}
 use Rattle.std.proofs.lemmas.List.{drop_all}
 use Rattle.omf_module.specs.Module.{Module}
-use Rattle.omf_image.specs.Records.{Entry}
+use Rattle.omf_image.specs.Records.{DataEntry}
 use Rattle.omf_image.specs.inside.Entries.{module_entries, entries_from}
 use Rattle.omf_image.specs.inside.Ready.{IsEntryReady}
 use Rattle.omf_image.specs.inside.States.{state}
@@ -26,7 +26,7 @@ returns-in_err-add_module-clause-gives g c l =
     let next = module_next c.args.modules.now i m c.loop-input-test.true c.index-modules-input.is in
     refused_by _ _ _ _ _ _ c.from_residual.ensures.1 (λ f e. e)
     (c.in_err-add_module.ensures.gives c.args.modules.now (entries_from (i + 1) (drop (i + 1) c.args.modules.now))
-    (subst (λ (es : List Entry). Leads c.args.layout.now c.args.modules.now (state c.loop-input.work) es) next
+    (subst (λ (es : List DataEntry). Leads c.args.layout.now c.args.modules.now (state c.loop-input.work) es) next
     (c.loop-input.invariant.gives l)))
 
 pub loop-input-preserved : goal.loop-input-preserved
@@ -42,7 +42,7 @@ loop-input-preserved g c =
           (subst (All (IsEntryReady c.args.layout.now)) next c.loop-input.invariant.ready);
       gives = λ l.
           c.in_ok-add_module.ensures.gives c.args.modules.now (entries_from (i + 1) (drop (i + 1) c.args.modules.now))
-          (subst (λ (es : List Entry). Leads c.args.layout.now c.args.modules.now (state c.loop-input.work) es) next
+          (subst (λ (es : List DataEntry). Leads c.args.layout.now c.args.modules.now (state c.loop-input.work) es) next
           (c.loop-input.invariant.gives l));
     }
 

@@ -4,7 +4,7 @@ use Rattle.std.proofs.lemmas.Bool.{eqb-true, eqb-false}
 use Rattle.omf_module.specs.Module.{DataRecord, Module}
 use Rattle.omf_module.specs.Seen.{data_seen}
 use Rattle.omf_place.specs.Layout.{Layout}
-use Rattle.omf_image.specs.Records.{Entry, entry_start, entry_end, bytes_of}
+use Rattle.omf_image.specs.Records.{DataEntry, entry_start, entry_end, bytes_of}
 use Rattle.omf_image.specs.inside.Entries.{module_entries}
 use Rattle.omf_image.specs.inside.Ready.{IsEntryReady}
 use Rattle.omf_image.proofs.Meaning.{second_of_zip}
@@ -25,7 +25,7 @@ step : (layout : Layout) (n : ℕ) (m : Module) (i : ℕ) (d : DataRecord) (end 
     ≡ fold max (max end (entry_end layout (entry_of n m d)))
     (map (entry_end layout) (drop (i + 1) (module_entries n m)))
 step layout n m i d end l e =
-    ap (λ (es : List Entry). fold max end (map (entry_end layout) es)) (entry_next n m i d l e)
+    ap (λ (es : List DataEntry). fold max end (map (entry_end layout) es)) (entry_next n m i d l e)
 
 pub data_address-start-requires-clause-input : goal.data_address-start-requires-clause-input
 data_address-start-requires-clause-input g c =

@@ -1,7 +1,7 @@
 use Rattle.std.proofs.Common.{◌∙◌, ◌+◌, ℕ, List, map, fold, max, drop, All, sym, ap, subst}
 use Rattle.std.proofs.lemmas.List.{map-append}
 use Rattle.std.proofs.lemmas.List.Sums.{fold-append}
-use Rattle.omf_image.specs.Records.{Entry, entry_end}
+use Rattle.omf_image.specs.Records.{DataEntry, entry_end}
 use Rattle.omf_image.specs.inside.Entries.{module_entries, entries_from}
 use Rattle.omf_image.specs.inside.Ready.{IsEntryReady}
 use Rattle.omf_image.proofs.Listing.{all_left, all_right, module_next}
@@ -32,6 +32,6 @@ loop-input-preserved g c =
           ap (λ (n : ℕ). fold max n (map f rest)) c.end_with-end.ensures
           ∙ sym (fold-append max c.loop-input.end (map f now) (map f rest))
           ∙ ap (fold max c.loop-input.end) (sym (map-append f now rest))
-          ∙ sym (ap (λ (es : List Entry). fold max c.loop-input.end (map f es)) next)
+          ∙ sym (ap (λ (es : List DataEntry). fold max c.loop-input.end (map f es)) next)
           ∙ c.loop-input.invariant.end;
     }

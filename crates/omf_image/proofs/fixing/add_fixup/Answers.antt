@@ -1,6 +1,6 @@
 use Rattle.std.proofs.Common.{◌≡◌, ◌∙◌, ◌++◌, List, sym, ap, subst, arith, length}
 use Rattle.omf_image.specs.declared.patch.Patch.{Patch}
-use Rattle.omf_image.specs.Records.{hits, stored_of, Entry}
+use Rattle.omf_image.specs.Records.{hits, stored_of, DataEntry}
 use Rattle.omf_image.specs.inside.States.{state, Holds}
 use Rattle.omf_image.specs.inside.PlacedData.{entry_seen}
 use Rattle.omf_image.proofs.Meaning.{fault_on, gives_fault, patches_found, first_of_zip, hit_inside}

@@ -2,7 +2,7 @@ use Rattle.std.proofs.Common.{◌≡◌, ◌∙◌, ◌<◌, ◌≤◌, ◌+◌,
 use Rattle.omf_record.specs.Expansion.{StandTogether, StandWhole}
 use Rattle.omf_record.specs.Numbers.{location_width}
 use Rattle.omf_image.specs.declared.patch.Patch.{Patch}
-use Rattle.omf_image.specs.Records.{Entry, hits, patches_on, stored_of}
+use Rattle.omf_image.specs.Records.{DataEntry, hits, patches_on, stored_of}
 use Rattle.omf_image.specs.Faults.{first_test}
 use Rattle.omf_image.specs.inside.States.{state, Holds}
 use Rattle.omf_image.specs.inside.PlacedData.{entry_seen}

@@ -12,5 +12,6 @@ pub returns-in-None : goal.returns-in-None
 returns-in-None g c =
     let e : when (misses (state c.args.self.now).tables.names c.args.name) NameIndex ≡ None =
     grind (arith, common_steps) in
-    let rest = map (λ index. component_fault (entry (state c.args.self.now).tables.segments index)) c.args.components.now in
+    let rest =
+    map (λ index. component_fault (entry (state c.args.self.now).tables.segments index)) c.args.components.now in
     rw c.components_fault.ensures (sym (first_none _ rest e))
