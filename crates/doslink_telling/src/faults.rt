@@ -208,8 +208,8 @@ pub fn push_obstacle<A: Allocator + Copy>(
     push_located(lines, word, obstacle_label(obstacle), " at record ", place)
 }
 
-/// Appends the line of a fix-up of 32 bits whose sum has more than 16, by the place of its record in the module for which
-/// this is the word.
+/// Appends the line of a fix-up of 32 bits whose sum has more than 16, by the place of its record in the module for
+/// which this is the word.
 pub fn push_overflow<A: Allocator + Copy>(
     lines: &mut Vec<u8, A>,
     word: &[u8],

@@ -360,7 +360,8 @@ modules
  000001 R 000001 \"CODE\" \"\"
 ";
 
-/// Runs, and what each writes: the path of its program, the program, and its map at P.MAP. What isn't written stays `old`.
+/// Runs, and what each writes: the path of its program, the program, and its map at P.MAP.
+/// What isn't written stays `old`.
 const WRITTEN: [(&str, &str, &[u8], &str); 7] = [
     (
         "doslink -o P.EXE -m P.MAP A.OBJ F.OBJ",
