@@ -80,8 +80,8 @@ laid_in_page size ps a bs p h within one some laid =
     let i = a / 4096 in
     let qs = set ps i p in
     let old = page_bytes (get_or ps i []) in
-    let d : Datum = record { start = a; bytes = bs } in
-    let e : Datum = record { start = a % 4096; bytes = bs } in
+    let d : LocatedBytes = record { start = a; bytes = bs } in
+    let e : LocatedBytes = record { start = a % 4096; bytes = bs } in
     let room = h.room in
     let inside : i < length ps = omega arith in
     let here : length old ≡ 4096 = full (get_or ps i []) (All-get_or IsPage ps i [] inside h.each) in

@@ -217,7 +217,7 @@ sound_entry P layout e well h =
     let room : AllInside (length (bytes_of d)) (patches 0 layout e) =
     subst (λ (n : ℕ). AllInside n (patches 0 layout e)) (length-pairs d)
     (inside_from_within 0 (length (stored_of d)) (patches 0 layout e) s.inside) in
-    let made : List ℕ → Datum = λ bs. record { start = entry_start layout e; bytes = bs } in
+    let made : List ℕ → LocatedBytes = λ bs. record { start = entry_start layout e; bytes = bs } in
     record {
       moves =
           ap (λ (ps : List Patch). made (patched_all ps (bytes_of d))) s.stays

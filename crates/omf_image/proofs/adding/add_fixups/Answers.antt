@@ -12,7 +12,7 @@ use Rattle.omf_image.proofs.adding.add_fixups.Goals as goal
 pub returns-in-Err-clause-gives : goal.returns-in-Err-clause-gives
 returns-in-Err-clause-gives g c bytes base earlier h =
     let s = c.args.placed.now in
-    let e : Entry = entry_seen s in
+    let e : DataEntry = entry_seen s in
     let old = c.loop-fixup.invariant.gives bytes base earlier h in
     let xs = c.args.fixups.now in
     let i = c.loop-fixup.fixup-index in
@@ -24,7 +24,7 @@ returns-in-Err-clause-gives g c bytes base earlier h =
 pub loop-fixup-preserved : goal.loop-fixup-preserved
 loop-fixup-preserved g c =
     let s = c.args.placed.now in
-    let e : Entry = entry_seen s in
+    let e : DataEntry = entry_seen s in
     let xs = c.args.fixups.now in
     let i = c.loop-fixup.fixup-index in
     record {
@@ -44,7 +44,7 @@ loop-fixup-preserved g c =
 pub returns-clause-gives : goal.returns-clause-gives
 returns-clause-gives g c bytes base earlier h =
     let s = c.args.placed.now in
-    let e : Entry = entry_seen s in
+    let e : DataEntry = entry_seen s in
     let f = fixup_patches 0 s.layout.now e in
     let xs = c.args.fixups.now in
     let i = c.loop-fixup.fixup-index in

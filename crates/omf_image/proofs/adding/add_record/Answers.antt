@@ -22,7 +22,7 @@ use Rattle.omf_image.proofs.adding.add_record.Goals as goal
 pub covers_relocated-requires : goal.covers_relocated-requires
 covers_relocated-requires g c =
     let d = c.args.data_record in
-    let e : Entry = record { input = c.args.input; module' = c.args.module.now; data_record = data_seen d } in
+    let e : DataEntry = record { input = c.args.input; module' = c.args.module.now; data_record = data_seen d } in
     let z : bytes_of e.data_record ≡ d.bytes.now = second_of_zip d.places.now d.bytes.now (sym c.requires.lengths) in
     omega (
       arith,
@@ -37,7 +37,7 @@ covers_relocated-requires g c =
 pub lay-requires-clause-inside : goal.lay-requires-clause-inside
 lay-requires-clause-inside g c =
     let d = c.args.data_record in
-    let e : Entry = record { input = c.args.input; module' = c.args.module.now; data_record = data_seen d } in
+    let e : DataEntry = record { input = c.args.input; module' = c.args.module.now; data_record = data_seen d } in
     let z : bytes_of e.data_record ≡ d.bytes.now = second_of_zip d.places.now d.bytes.now (sym c.requires.lengths) in
     omega (arith, c.data_address-start.ensures, c.requires.ready.inside, ap length z, c.requires.whole.sized)
 
@@ -45,7 +45,7 @@ pub returns-then-covers_relocated-clause-gives : goal.returns-then-covers_reloca
 returns-then-covers_relocated-clause-gives g c modules rest l =
     let d = c.args.data_record in
     let layout = c.args.layout.now in
-    let e : Entry = record { input = c.args.input; module' = c.args.module.now; data_record = data_seen d } in
+    let e : DataEntry = record { input = c.args.input; module' = c.args.module.now; data_record = data_seen d } in
     let z : bytes_of e.data_record ≡ d.bytes.now = second_of_zip d.places.now d.bytes.now (sym c.requires.lengths) in
     let bytes : List ℕ = (datum 0 layout e).bytes in
     let n : length bytes ≡ length d.bytes.now =
@@ -59,7 +59,7 @@ returns-then-covers_relocated-clause-gives g c modules rest l =
 pub record_index-requires : goal.record_index-requires
 record_index-requires g c =
     let d = c.args.data_record in
-    let e : Entry = record { input = c.args.input; module' = c.args.module.now; data_record = data_seen d } in
+    let e : DataEntry = record { input = c.args.input; module' = c.args.module.now; data_record = data_seen d } in
     let z : bytes_of e.data_record ≡ d.bytes.now = second_of_zip d.places.now d.bytes.now (sym c.requires.lengths) in
     omega (arith, c.requires.lengths, c.requires.ready.inside, ap length z, c.requires.whole.small)
 
@@ -86,7 +86,7 @@ add_fixups-requires-clause-placed g c = record {
 pub lay_data-requires-clause-inside : goal.lay_data-requires-clause-inside
 lay_data-requires-clause-inside g c =
     let d = c.args.data_record in
-    let e : Entry = record { input = c.args.input; module' = c.args.module.now; data_record = data_seen d } in
+    let e : DataEntry = record { input = c.args.input; module' = c.args.module.now; data_record = data_seen d } in
     let z : bytes_of e.data_record ≡ d.bytes.now = second_of_zip d.places.now d.bytes.now (sym c.requires.lengths) in
     omega (arith, c.data_address-start.ensures, c.requires.ready.inside, ap length z, c.requires.whole.sized)
 
@@ -103,7 +103,7 @@ pub returns-in_err-laid-clause-gives : goal.returns-in_err-laid-clause-gives
 returns-in_err-laid-clause-gives g c modules rest l =
     let d = c.args.data_record in
     let layout = c.args.layout.now in
-    let e : Entry = record { input = c.args.input; module' = c.args.module.now; data_record = data_seen d } in
+    let e : DataEntry = record { input = c.args.input; module' = c.args.module.now; data_record = data_seen d } in
     let z : bytes_of e.data_record ≡ d.bytes.now = second_of_zip d.places.now d.bytes.now (sym c.requires.lengths) in
     let bytes : List ℕ = (datum 0 layout e).bytes in
     let n : length bytes ≡ length d.bytes.now =
@@ -122,7 +122,7 @@ pub returns-clause-gives : goal.returns-clause-gives
 returns-clause-gives g c modules rest l =
     let d = c.args.data_record in
     let layout = c.args.layout.now in
-    let e : Entry = record { input = c.args.input; module' = c.args.module.now; data_record = data_seen d } in
+    let e : DataEntry = record { input = c.args.input; module' = c.args.module.now; data_record = data_seen d } in
     let z : bytes_of e.data_record ≡ d.bytes.now = second_of_zip d.places.now d.bytes.now (sym c.requires.lengths) in
     let bytes : List ℕ = (datum 0 layout e).bytes in
     let n : length bytes ≡ length d.bytes.now =
@@ -175,7 +175,7 @@ pub returns-then-is_empty-clause-gives : goal.returns-then-is_empty-clause-gives
 returns-then-is_empty-clause-gives g c modules rest l =
     let d = c.args.data_record in
     let layout = c.args.layout.now in
-    let e : Entry = record { input = c.args.input; module' = c.args.module.now; data_record = data_seen d } in
+    let e : DataEntry = record { input = c.args.input; module' = c.args.module.now; data_record = data_seen d } in
     let z : bytes_of e.data_record ≡ d.bytes.now = second_of_zip d.places.now d.bytes.now (sym c.requires.lengths) in
     let bytes : List ℕ = (datum 0 layout e).bytes in
     let n : length bytes ≡ length d.bytes.now =

@@ -9,7 +9,7 @@ use Rattle.omf_image.proofs.fixing.add_fixup.Goals as goal
 pub fix-requires-clause-hits : goal.fix-requires-clause-hits
 fix-requires-clause-hits g c k h =
     let s = c.args.placed.now in
-    let e : Entry = entry_seen s in
+    let e : DataEntry = entry_seen s in
     let x = c.args.fixup.now in
     let z : stored_of e.data_record ≡ s.data_record.places.now =
     first_of_zip s.data_record.places.now s.data_record.bytes.now (sym c.requires.placed.lengths) in
@@ -20,7 +20,7 @@ fix-requires-clause-hits g c k h =
 pub returns-clause-gives : goal.returns-clause-gives
 returns-clause-gives g c bytes base earlier h =
     let s = c.args.placed.now in
-    let e : Entry = entry_seen s in
+    let e : DataEntry = entry_seen s in
     let x = c.args.fixup.now in
     let z : stored_of e.data_record ≡ s.data_record.places.now =
     first_of_zip s.data_record.places.now s.data_record.bytes.now (sym c.requires.placed.lengths) in
@@ -37,7 +37,7 @@ returns-clause-gives g c bytes base earlier h =
 pub returns-in_err-fix-clause-gives : goal.returns-in_err-fix-clause-gives
 returns-in_err-fix-clause-gives g c bytes base earlier h =
     let s = c.args.placed.now in
-    let e : Entry = entry_seen s in
+    let e : DataEntry = entry_seen s in
     let x = c.args.fixup.now in
     let z : stored_of e.data_record ≡ s.data_record.places.now =
     first_of_zip s.data_record.places.now s.data_record.bytes.now (sym c.requires.placed.lengths) in

@@ -13,7 +13,7 @@ use Rattle.omf_image.proofs.repeated.add_each_once.Goals as goal
 pub returns-in-Err-clause-gives : goal.returns-in-Err-clause-gives
 returns-in-Err-clause-gives g c earlier h =
     let s = c.args.placed.now in
-    let e : Entry = entry_seen s in
+    let e : DataEntry = entry_seen s in
     let old = c.loop-fixup.invariant.gives earlier h in
     let xs = c.args.fixups.now in
     let i = c.loop-fixup.fixup-index in
@@ -25,7 +25,7 @@ returns-in-Err-clause-gives g c earlier h =
 pub loop-fixup-preserved : goal.loop-fixup-preserved
 loop-fixup-preserved g c =
     let s = c.args.placed.now in
-    let e : Entry = entry_seen s in
+    let e : DataEntry = entry_seen s in
     let xs = c.args.fixups.now in
     let i = c.loop-fixup.fixup-index in
     record {
@@ -47,7 +47,7 @@ loop-fixup-preserved g c =
 pub returns-clause-gives : goal.returns-clause-gives
 returns-clause-gives g c earlier h =
     let s = c.args.placed.now in
-    let e : Entry = entry_seen s in
+    let e : DataEntry = entry_seen s in
     let f = fixup_patches 0 s.layout.now e in
     let xs = c.args.fixups.now in
     let i = c.loop-fixup.fixup-index in

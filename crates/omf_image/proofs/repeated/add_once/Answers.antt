@@ -15,7 +15,7 @@ use Rattle.omf_image.proofs.repeated.add_once.Goals as goal
 pub fix-requires-clause-hits : goal.fix-requires-clause-hits
 fix-requires-clause-hits g c =
     let s = c.args.placed.now in
-    let e : Entry = entry_seen s in
+    let e : DataEntry = entry_seen s in
     let x = c.args.fixup.now in
     let w = location_width x.location in
     let n = length c.args.stored.now.touched.items in
@@ -32,7 +32,7 @@ fix-requires-clause-hits g c =
 pub returns-clause-gives : goal.returns-clause-gives
 returns-clause-gives g c earlier h =
     let s = c.args.placed.now in
-    let e : Entry = entry_seen s in
+    let e : DataEntry = entry_seen s in
     let x = c.args.fixup.now in
     let r = c.in_ok-resolved.resolved in
     let w = location_width x.location in
@@ -62,7 +62,7 @@ returns-clause-gives g c earlier h =
 pub returns-in_err-fix-clause-gives : goal.returns-in_err-fix-clause-gives
 returns-in_err-fix-clause-gives g c earlier h =
     let s = c.args.placed.now in
-    let e : Entry = entry_seen s in
+    let e : DataEntry = entry_seen s in
     let x = c.args.fixup.now in
     let r = c.in_ok-resolved.resolved in
     let w = location_width x.location in

@@ -27,7 +27,7 @@ returns-in_err-add_each_once-clause-gives g c =
 pub returns-clause-gives : goal.returns-clause-gives
 returns-clause-gives g c =
     let s = c.args.placed.now in
-    let e : Entry = entry_seen s in
+    let e : DataEntry = entry_seen s in
     let xs = s.data_record.fixups.now in
     let n = c.count_once-count.result in
     let earlier : List Patch = flat_map (fixup_patches 0 s.layout.now e) (take n xs) in
