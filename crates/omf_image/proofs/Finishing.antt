@@ -12,12 +12,11 @@ use Rattle.omf_image.specs.declared.faults.FixFault.{FixFault}
 use Rattle.omf_image.specs.declared.faults.FixFault.TheVariants.{TooManyRelocations}
 use Rattle.omf_image.specs.Words.{add_words}
 use Rattle.omf_image.specs.Located.{covers, in_page}
-use Rattle.omf_image.specs.inside.Whole.{byte_of}
+use Rattle.omf_image.specs.inside.Whole.{byte_of, data_fault}
 use Rattle.omf_image.specs.inside.Leading.{last_or}
 use Rattle.omf_image.specs.Records.{datum, program_byte, entries, relocations, written, bytes_of, entry_start}
 use Rattle.omf_image.specs.inside.Leading.{relocated_words}
 use Rattle.omf_image.specs.inside.WellPlaced.{WellPlaced, AllWellPlaced, AllInside, LiesInContent}
-use Rattle.omf_image.specs.inside.Whole.{data_fault}
 use Rattle.std.specs.Option.{option_or}
 use Rattle.omf_image.specs.declared.start.Registers.{Registers}
 use Rattle.omf_image.specs.Registers.{starts, starts_fault, program_fault, registers, moved}

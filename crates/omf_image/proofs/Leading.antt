@@ -16,12 +16,11 @@ use Rattle.omf_image.specs.declared.faults.FixFault.TheVariants.{At, TooManyRelo
 use Rattle.omf_image.specs.declared.faults.FixKind.TheVariants.{CoversRelocated}
 use Rattle.omf_image.specs.inside.Patches.{relocated_places}
 use Rattle.omf_image.specs.Located.{LocatedBytes, covers, in_page, covers_word}
-use Rattle.omf_image.specs.inside.Whole.{byte_of}
+use Rattle.omf_image.specs.inside.Whole.{byte_of, data_fault}
 use Rattle.omf_image.specs.inside.Leading.{last_or}
 use Rattle.omf_image.specs.Records.{DataEntry, entry_start, bytes_of, datum, patches, record_relocations}
 use Rattle.omf_image.specs.inside.WellPlaced.{WellPlaced}
 use Rattle.omf_image.specs.Faults.{fixups_fault, record_fault, records_fault}
-use Rattle.omf_image.specs.inside.Whole.{data_fault}
 use Rattle.std.specs.Option.{option_or}
 use Rattle.omf_image.specs.inside.States.{State, begun, Holds}
 use Rattle.omf_image.specs.declared.patch.Patch.{Patch}
