@@ -1,4 +1,4 @@
-use Rattle.std.proofs.Common.{◌≡◌, ◌∙◌, ℕ, List, Bool, [], ap, sym, subst, arith, length, get_or, false}
+use Rattle.std.proofs.Common.{◌∙◌, ℕ, List, Bool, [], ap, sym, subst, arith, length, get_or, false}
 use Rattle.std.proofs.lemmas.List.{length-replicate}
 use Rattle.omf_image.specs.inside.States.{state, Holds}
 use Rattle.omf_image.proofs.Copying.{get_or-blank}

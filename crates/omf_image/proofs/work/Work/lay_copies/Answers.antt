@@ -1,5 +1,5 @@
-use Rattle.std.proofs.Common.{◌≡◌, ◌∙◌, ℕ, ◌+◌, ◌*◌, ◌/◌, ◌<◌, ◌≤◌, ◌||◌, List, Bool, All, ap, arith, length, map, get_or}
-use Rattle.std.proofs.Common.{true, false, subst, sym}
+use Rattle.std.proofs.Common.{◌≡◌, ◌∙◌, ℕ, ◌+◌, ◌*◌, ◌/◌, ◌<◌, ◌≤◌, ◌||◌, List, Bool, All, ap, arith, length, map}
+use Rattle.std.proofs.Common.{get_or, true, false, subst, sym}
 use Rattle.std.proofs.lemmas.Bool.{and_from, lt-ltb}
 use Rattle.std.proofs.lemmas.List.{with_items_is, length-map}
 use Rattle.std.proofs.lemmas.List.Elements.{All-weaker}
@@ -62,12 +62,12 @@ returns-clause-room g c =
     with_items_is old.words c.copy_flags.new.flags (omega (arith, c.copy_flags.auto.flags, c.deref_mut.ensures.len)) in
     let sized : length laid ≡ length places =
     ap length (c.deref-4.ensures.value ∙ c.in_ok-bytes.ensures) ∙ length-map places (λ (p : ℕ). get_or s.image p 0) in
+    let marks : List Bool → List Bool = λ flags. map (λ p. get_or flags p false) places in
     let touched =
-    ap length (c.in_ok-copy_marks.ensures ∙ ap (λ (f : List Bool). map (λ p. get_or f p false) places) c.deref.ensures.value)
+    ap length (c.in_ok-copy_marks.ensures ∙ ap marks c.deref.ensures.value)
     ∙ length-map places (λ (p : ℕ). get_or s.touched p false) in
     let relocated =
-    ap length
-    (c.in_ok-copy_marks-2.ensures ∙ ap (λ (f : List Bool). map (λ p. get_or f p false) places) c.deref-2.ensures.value)
+    ap length (c.in_ok-copy_marks-2.ensures ∙ ap marks c.deref-2.ensures.value)
     ∙ length-map places (λ (p : ℕ). get_or s.relocated p false) in
     let image = c.in_ok-lay.ensures.bytes.sized in
     record {
