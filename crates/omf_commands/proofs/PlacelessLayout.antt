@@ -1,5 +1,5 @@
 -- A layout doesn't tell where the records of its modules stand.
-use Rattle.std.proofs.Common.{◌≡◌, ℕ, ◌+◌, List, [], ◌∷◌, ◌++◌, map, length, Option, None, Some, slice_get, refl, sym}
+use Rattle.std.proofs.Common.{◌≡◌, ℕ, ◌+◌, List, [], ◌∷◌, ◌++◌, map, length, Some, slice_get, refl, sym}
 use Rattle.std.proofs.Common.{ap, ap₂, subst, ◌∙◌, ◌-◌, ◌==◌, if◌then◌else◌, option_map, option_and_then}
 use Rattle.std.proofs.Math.Path.{fun_ext}
 use Rattle.std.proofs.lemmas.List.{length-map}
