@@ -8,6 +8,7 @@ import unicodedata
 import cited
 
 GUIDE, READING, WORKED = "STATEMENT.md", "statement/README.md", "statement/worked.md"
+WORKED_CRATES = "record_tests", "omf_place", "image_tests", "mz_tests"  # in the order of the chapters
 CLAUSES = "Its clauses:"
 CITED = "They cite "
 WHOLE = "Definition by definition: "
@@ -191,7 +192,7 @@ class CratePage:
 
 
 def worked_groups(repository, crate, path):
-    """What a file of worked programs declares, from one comment to the next, with what each group rests on."""
+    """What a file of worked examples declares, from one comment to the next, with what each group rests on."""
     specs, groups = cited.Specs(repository, crate, "Worked", path.read_text(encoding="utf-8")), []
     for name in specs.declared:
         if specs.says[name] or not groups:
@@ -204,18 +205,17 @@ def worked_groups(repository, crate, path):
 
 
 def worked_page(statement):
-    """The page of the programs that proofs/Worked.antt of the crates have the checker evaluate."""
-    lines = ["# Worked programs", ""]
+    """The page of the examples that proofs/Worked.antt of some crates have the checker evaluate."""
+    lines = ["# Worked examples", ""]
     lines += wrapped(
-        "Small programs with the numbers that the definitions give for them. The checker evaluates each line with "
-        "`≡` that `refl` proves, and refuses another number. [README.md](README.md) says how to read them; "
-        "`tools/definitions --write` makes this page.")
-    for crate in statement.crates:
+        "Bodies, programs, fix-ups and a file, with the numbers that the definitions give for them. The checker evaluates "
+        "each line with `≡` that `refl` proves, and refuses another number. [README.md](README.md) says how to read "
+        "them; `tools/definitions --write` makes this page.")
+    for crate in WORKED_CRATES:
         path = statement.repository.root / "crates" / crate / "proofs/Worked.antt"
-        if path.exists():
-            lines += ["", f"## `{crate}`: proofs/Worked.antt"]
-            for at, (title, text, rests) in enumerate(worked_groups(statement.repository, crate, path), 1):
-                lines += ["", f"### {at}. {title}", "", "```agda", text, "```", *statement.rests(rests, "worked")]
+        lines += ["", f"## `{crate}`: proofs/Worked.antt"]
+        for at, (title, text, rests) in enumerate(worked_groups(statement.repository, crate, path), 1):
+            lines += ["", f"### {at}. {title}", "", "```agda", text, "```", *statement.rests(rests, "worked")]
     return "\n".join(lines) + "\n"
 
 
