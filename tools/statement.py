@@ -213,7 +213,7 @@ def worked_page(statement):
         "them; `tools/definitions --write` makes this page.")
     for crate in WORKED_CRATES:
         path = statement.repository.root / "crates" / crate / "proofs/Worked.antt"
-        lines += ["", f"## `{crate}`: proofs/Worked.antt"]
+        lines += ["", f'## <a id="{crate}"></a>`{crate}`: proofs/Worked.antt']
         for at, (title, text, rests) in enumerate(worked_groups(statement.repository, crate, path), 1):
             lines += ["", f"### {at}. {title}", "", "```agda", text, "```", *statement.rests(rests, "worked")]
     return "\n".join(lines) + "\n"
