@@ -1,7 +1,7 @@
 -- Worked fix-ups: what each adds at two load paragraphs, and a program's bytes there.
-use Rattle.std.proofs.Common.{◌≡◌, ℕ, Bool, true, false, List, [], ◌∷◌, None, Some, map, codes, refl}
+use Rattle.std.proofs.Common.{◌≡◌, true, false, [], ◌∷◌, None, Some, map, codes, refl}
 use Rattle.std.specs.List.{range_with_len}
-use Rattle.omf_record.specs.declared.fixups.Location.TheVariants.{LowByte, Offset, Base, Pointer}
+use Rattle.omf_record.specs.declared.fixups.Location.TheVariants.{Offset, Base, Pointer}
 use Rattle.omf_record.specs.declared.fixups.FrameMethod.TheVariants.{Target}
 use Rattle.omf_record.specs.declared.fixups.TargetMethod.TheVariants as target
 use Rattle.omf_module.specs.declared.Kind.TheVariants.{Public}
@@ -10,7 +10,7 @@ use Rattle.omf_module.specs.Module.{Module}
 use Rattle.omf_place.specs.declared.layout.Position.TheVariants.{Relocatable, Absolute}
 use Rattle.omf_place.specs.declared.names.Names.TheVariants.{Exact}
 use Rattle.omf_place.specs.Layout.{Layout, layout_at}
-use Rattle.omf_image.specs.declared.patch.Patch.TheVariants.{Byte, Word, Relocated}
+use Rattle.omf_image.specs.declared.patch.Patch.TheVariants.{Word, Relocated}
 use Rattle.omf_image.specs.declared.reference.Base.TheVariants as frame
 use Rattle.omf_image.specs.declared.reference.Resolved.{Resolved}
 use Rattle.omf_image.specs.Words.{add_word, put_word}

@@ -1,5 +1,5 @@
 -- Worked bodies: bytes, and the record whose body they are.
-use Rattle.std.proofs.Common.{◌≡◌, ℕ, List, [], ◌∷◌, false, None, Some, inl, refl, lit≤, lit<}
+use Rattle.std.proofs.Common.{[], ◌∷◌, false, None, inl, refl, lit≤, lit<}
 use Rattle.omf_record.specs.declared.fixups.FrameMethod.TheVariants as frame
 use Rattle.omf_record.specs.declared.fixups.TargetMethod.TheVariants as target
 use Rattle.omf_record.specs.declared.fixups.Datum.TheVariants as datum
@@ -23,7 +23,7 @@ names_body = record {
     front = 0x04 ∷ 0x43 ∷ 0x4F ∷ 0x44 ∷ 0x45 ∷ [];
     rest = [];
     parts = refl;
-    first = (lit≤ tt, (lit< tt, lit< tt, lit< tt, lit< tt, tt), refl);
+    first = (lit≤ tt, (lit< tt, (lit< tt, (lit< tt, (lit< tt, tt)))), refl);
     second = refl;
   };
 }
