@@ -8,7 +8,6 @@ import unicodedata
 import cited
 
 GUIDE, READING, WORKED = "STATEMENT.md", "statement/README.md", "statement/worked.md"
-WORKED_CRATES = "record_tests", "omf_place", "image_tests", "mz_tests"  # in the order of the chapters
 CLAUSES = "Its clauses:"
 CITED = "They cite "
 WHOLE = "Definition by definition: "
@@ -211,11 +210,13 @@ def worked_page(statement):
         "Bodies, programs, fix-ups and a file, with the numbers that the definitions give for them. The checker evaluates "
         "each line with `≡` that `refl` proves, and refuses another number. [README.md](README.md) says how to read "
         "them; `tools/definitions --write` makes this page.")
-    for crate in WORKED_CRATES:
+    with_tests = (it for crate in statement.crates for it in (crate, crate.removeprefix("omf_") + "_tests"))
+    for crate in with_tests:
         path = statement.repository.root / "crates" / crate / "proofs/Worked.antt"
-        lines += ["", f'## <a id="{crate}"></a>`{crate}`: proofs/Worked.antt']
-        for at, (title, text, rests) in enumerate(worked_groups(statement.repository, crate, path), 1):
-            lines += ["", f"### {at}. {title}", "", "```agda", text, "```", *statement.rests(rests, "worked")]
+        if path.exists():
+            lines += ["", f'## <a id="{crate}"></a>`{crate}`: proofs/Worked.antt']
+            for at, (title, text, rests) in enumerate(worked_groups(statement.repository, crate, path), 1):
+                lines += ["", f"### {at}. {title}", "", "```agda", text, "```", *statement.rests(rests, "worked")]
     return "\n".join(lines) + "\n"
 
 
