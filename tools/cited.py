@@ -669,14 +669,11 @@ class Repository:
         return set().union(*map(self.found_in, self.cited_by(one))) - {one}
 
     def count(self, found):
-        """How many lines definitions and types have together, without comments and without lines that hold no word, such
-        as one that only closes a bracket."""
+        """How many lines definitions and types have together, without comments."""
         types = {it for it in found if isinstance(it, Type)}
         files = {}
         for crate, file, name in set(found) - types:
             files.setdefault((crate, file), []).append(name)
-        texts = [without_comments(self.code[it.crate].shown(it.name), CODE_COMMENT).split("\n") for it in types]
-        for file, names in files.items():
-            specs = self.specs[file]
-            texts.append([specs.lines[at] for at in specs.numbers(names)])
-        return sum(bool(re.search(r"\w", line)) for lines in texts for line in lines)
+        texts = [without_comments(self.code[it.crate].shown(it.name), CODE_COMMENT) for it in types]
+        return sum(len(self.specs[file].numbers(names)) for file, names in files.items()) + sum(
+            bool(line.strip()) for text in texts for line in text.split("\n"))
