@@ -13,6 +13,7 @@ pub mod Fitting
 pub mod Ready
 pub mod Sound
 pub mod Counting
+pub mod Added
 pub mod Extending
 pub mod Once
 pub mod Apart

@@ -10,10 +10,10 @@ use Rattle.std.proofs.lemmas.Bool.Decides.{nat_tests}
 use Rattle.std.specs.Option.{option_or}
 use Rattle.omf_record.specs.Record.{Record, Public, External as ExternalName, Theadr, Coment, Modend, Extdef, Pubdef}
 use Rattle.omf_record.specs.Record.{Linnum, Lnames, Segdef, Grpdef, Fixupp, Ledata, Lidata}
-use Rattle.omf_record.specs.Language.{each}
-use Rattle.omf_record.specs.Body.{Body, BaseText, LengthText, AbsoluteText}
+use Rattle.omf_record.specs.Language.{each, Word}
+use Rattle.omf_record.specs.Body.{Body, BaseText, AbsoluteText}
 use Rattle.omf_record.specs.inside.Fields.{PublicText}
-use Rattle.omf_record.specs.Numbers.{location_width, segment_len}
+use Rattle.omf_record.specs.Numbers.{location_width, segment_len, length_code}
 use Rattle.omf_record.specs.Expansion.{expansion, contents, AreCopies}
 use Rattle.omf_record.specs.inside.Fields.{stored_from}
 use Rattle.omf_record.specs.declared.segments.SegmentDefinition.{SegmentDefinition}
@@ -274,7 +274,7 @@ names_keep s listed body b h = record {
 abbrev with_segment : State → Segment → State
 with_segment s x = record s { tables = record s.tables { segments = s.tables.segments ++ x ∷ [] } }
 
-length_fits : (l : SegmentLength) (text : List ℕ) → LengthText l text → segment_len l ≤ 65536
+length_fits : (l : SegmentLength) (text : List ℕ) → Word (length_code l).1 text → segment_len l ≤ 65536
 length_fits (lengths.Word n) text h = omega (arith, h.0)
 length_fits lengths.Whole text h = omega arith
 

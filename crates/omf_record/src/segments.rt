@@ -2,7 +2,7 @@
 
 ghost use Rattle.std.specs.Prelude.{◌≡◌, ◌≢◌, ◌<◌, ◌≤◌, ◌↔◌, ◌/◌, ◌%◌, ℕ, List, IsTrue, Option};
 ghost use Rattle.omf_record.specs.Canonical as canon;
-ghost use Rattle.omf_record.specs.Numbers.{segment_len, alignment_number, combination_number, big};
+ghost use Rattle.omf_record.specs.Numbers.{segment_len, alignment_number, combination_number, length_code};
 ghost use Rattle.omf_record.specs.declared.segments.SegmentDefinition.{SegmentDefinition};
 ghost use Rattle.omf_record.specs.inside.Segments as segs;
 ghost use Rattle.omf_record.specs.inside.Shapes as shapes;
@@ -136,7 +136,7 @@ pub fn combination_number(combination: Combination) -> u8
 
 /// The bit B: 1 where the segment has 65,536 bytes.
 fn big(length: SegmentLength) -> u8
-    ensures bit { result ≡ big length }
+    ensures bit { result ≡ (length_code length).0 }
     ensures small { result < 2 }
 {
     match length {

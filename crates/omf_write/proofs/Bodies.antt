@@ -3,10 +3,11 @@ use Rattle.std.proofs.Common.{◌≡◌, ℕ, suc, ◌+◌, ◌/◌, ◌%◌, �
 use Rattle.std.proofs.Common.{length, get_or, None, refl, sym, ap, subst, arith, ltb, length-append, lit<, lit≤}
 use Rattle.std.proofs.lemmas.Bool.{ltb-true}
 use Rattle.std.specs.List.{AllByRecursion, flat_map}
-use Rattle.omf_record.specs.Language.{IsBytes, ◌⋆◌ as Joined, each, Index, Name, One}
+use Rattle.omf_record.specs.Language.{IsBytes, ◌⋆◌ as Joined, each, Index, Name, One, Word}
 use Rattle.omf_record.specs.declared.segments.SegmentDefinition.{SegmentDefinition}
 use Rattle.omf_record.specs.Record.{Lnames, Modend, Segdef, Theadr}
-use Rattle.omf_record.specs.Body.{Body, AbsoluteText, Acbp, LengthText}
+use Rattle.omf_record.specs.Numbers.{length_code}
+use Rattle.omf_record.specs.Body.{Body, AbsoluteText, Acbp}
 use Rattle.omf_record.specs.inside.Fields.{SegmentText}
 use Rattle.omf_record.specs.Canonical as canon
 use Rattle.omf_record.specs.Canonical.{FitsFrame, canonical}
@@ -70,12 +71,12 @@ end_fits = record { body = (0, lit< tt, refl, refl); short = lit≤ tt }
 -- a segment that isn't absolute
 pub segment_by : (s : SegmentDefinition) → One (Acbp s) (canon.acbp s ∷ []) → AbsoluteText s.alignment [] →
     canon.absolute_text s.alignment ≡ [] →
-    LengthText s.length (canon.word (canon.length_word s.length)) → s.name ≤ 32767 → s.class ≤ 32767 →
+    Word (length_code s.length).1 (canon.word (length_code s.length).1) → s.name ≤ 32767 → s.class ≤ 32767 →
     s.overlay ≤ 32767 → FitsFrame (Segdef s)
 unfolding Body canonical
 segment_by s head absolute none len name class overlay =
     let tail = canon.index s.name ++ (canon.index s.class ++ canon.index s.overlay) in
-    let w = canon.word (canon.length_word s.length) in
+    let w = canon.word (length_code s.length).1 in
     let is : canon.segment s ≡ (canon.acbp s ∷ []) ++ ([] ++ (w ++ tail)) = rw none refl in
     let text : SegmentText s ((canon.acbp s ∷ []) ++ ([] ++ (w ++ tail))) =
     joined _ _ head

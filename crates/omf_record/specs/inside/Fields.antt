@@ -3,9 +3,9 @@ use Rattle.std.specs.Prelude.{◌≡◌, ℕ, List, Option, is_none}
 use Rattle.std.specs.List.{enumerate_from}
 use Rattle.omf_record.specs.Types.{FrameMethod, TargetMethod, Datum, Reference, SegmentDefinition, Line}
 use Rattle.omf_record.specs.Language.{◌⋆◌, optional, One, Byte, Word, Index, Name}
-use Rattle.omf_record.specs.Numbers.{bit, frame_code, target_code}
+use Rattle.omf_record.specs.Numbers.{bit, frame_code, target_code, length_code}
 use Rattle.omf_record.specs.Record.{External, Public}
-use Rattle.omf_record.specs.Body.{bits, AbsoluteText, LengthText, Acbp, DatumBits, DatumText}
+use Rattle.omf_record.specs.Body.{bits, AbsoluteText, Acbp, DatumBits, DatumText}
 
 -- F0, F1, F2, F4, F5
 abbrev pub frame_number : FrameMethod → ℕ
@@ -50,7 +50,7 @@ FixData r b = FrameBits r.frame b × TargetBits r.target b × (bits 2 2 b ≡ ab
 -- the fields of SEGDEF: the byte A, C, B, P, the frame and offset of an absolute one, the length, three names
 abbrev pub SegmentText : SegmentDefinition → List ℕ → Type 0
 SegmentText s =
-    One (Acbp s) ⋆ AbsoluteText s.alignment ⋆ LengthText s.length ⋆ Index s.name ⋆ Index s.class ⋆ Index s.overlay
+    One (Acbp s) ⋆ AbsoluteText s.alignment ⋆ Word (length_code s.length).1 ⋆ Index s.name ⋆ Index s.class ⋆ Index s.overlay
 
 -- a name and its type index
 abbrev pub ExternalText : External → List ℕ → Type 0

@@ -3,9 +3,9 @@ use Rattle.std.proofs.Common.{◌≡◌, ℕ, ◌/◌, ◌%◌, ◌<◌, cond, e
 use Rattle.std.proofs.Common.{subst, ◌∙◌, append-nil, arith}
 use Rattle.std.proofs.lemmas.Bool.{eqb-true, eqb-false}
 use Rattle.omf_record.specs.Language.{◌⋆◌ as Joined, Word, Index}
-use Rattle.omf_record.specs.Body.{bits, AbsoluteText, LengthText, Acbp}
+use Rattle.omf_record.specs.Body.{bits, AbsoluteText, Acbp}
 use Rattle.omf_record.specs.inside.Fields.{SegmentText}
-use Rattle.omf_record.specs.Numbers.{alignment_number, combination_number, big}
+use Rattle.omf_record.specs.Numbers.{alignment_number, combination_number, length_code}
 use Rattle.omf_record.specs.Canonical as canon
 use Rattle.omf_record.specs.inside.Format.{join, Format, Lawful, Completes, IsMade, free}
 use Rattle.omf_record.specs.inside.FormatLaws.{both, both_lawful, both_blank, behind, when, when_lawful, when_blank}
@@ -87,7 +87,7 @@ length_parts (len.Word n) = (None, Some n)
 length_parts len.Whole = (Some (0, 0), None)
 
 length_to : (b : ℕ) (x : Option (ℕ × ℕ) × Option ℕ) (text : List ℕ) → (Length b).Text x text
-    → (bits 1 1 b ≡ big (length_of x)) × LengthText (length_of x) text
+    → (bits 1 1 b ≡ (length_code (length_of x)).0) × Word (length_code (length_of x)).1 text
 length_to b (Some z, Some n) text j = absurd (omega (arith, j.first.0, j.second.0))
 length_to b (None, Some n) text j = (
   j.second.0,
@@ -101,7 +101,7 @@ length_to b (Some (x, y), None) text j =
     (j.first.0, (omega arith, j.parts ∙ ap (λ (t : List ℕ). j.front ++ t) j.second.1 ∙ append-nil j.front ∙ front))
 length_to b (None, None) text j = absurd (let n1 = j.first.0 in let n0 = j.second.0 in omega (arith, n1, n0))
 
-length_from : (l : SegmentLength) (b : ℕ) (text : List ℕ) → bits 1 1 b ≡ big l → LengthText l text
+length_from : (l : SegmentLength) (b : ℕ) (text : List ℕ) → bits 1 1 b ≡ (length_code l).0 → Word (length_code l).1 text
     → (Length b).Text (length_parts l) text
 length_from (len.Word n) b text e l = join [] text refl ((λ k. omega (arith, k, e)), refl) (e, l)
 length_from len.Whole b text e l = join (0 ∷ 0 ∷ []) [] l.1 (
@@ -113,7 +113,7 @@ length_from len.Whole b text e l = join (0 ∷ 0 ∷ []) [] l.1 (
 )
 
 length_back : (l : SegmentLength) → (length_of (length_parts l) ≡ l)
-    × ((Length 0).canonical (length_parts l) ≡ canon.word (canon.length_word l)) × (big l < 2)
+    × ((Length 0).canonical (length_parts l) ≡ canon.word (length_code l).1) × ((length_code l).0 < 2)
 length_back l = grind arith
 
 -- ---- segments
@@ -147,7 +147,7 @@ segment_tail s = (absolute_of s.alignment, (length_parts s.length, (s.name, (s.c
 
 abbrev Text : SegmentDefinition → List ℕ → Type 0
 Text s = Joined (AbsoluteText s.alignment)
-    (Joined (LengthText s.length) (Joined (Index s.name) (Joined (Index s.class) (Index s.overlay))))
+    (Joined (Word (length_code s.length).1) (Joined (Index s.name) (Joined (Index s.class) (Index s.overlay))))
 
 acbp_bits : (s : SegmentDefinition) → (canon.acbp s < 256) × Acbp s (canon.acbp s)
 acbp_bits s =
