@@ -24,7 +24,7 @@ use Rattle.omf_module.specs.Module.{Group, Segment}
 use Rattle.omf_module.specs.Tables.{data_in, data_of, externals_in, groups_in}
 use Rattle.omf_module.specs.Tables.{name_at, names, publics_in, segments_in}
 use Rattle.omf_module.specs.Tables.{subrecords}
-use Rattle.omf_module.specs.inside.Said.{externals, names_in, segments, start}
+use Rattle.omf_module.specs.inside.Said.{externals, names_in, start}
 use Rattle.omf_module.specs.inside.Said.{subrecords_in}
 use Rattle.omf_module.proofs.Lists.{along_from_append}
 use Rattle.omf_write.specs.Records.{record_bytes, records_bytes}
