@@ -31,14 +31,11 @@ abbrev pub duplicate_in : Names → List (ScopedName Position) → Option Placem
 duplicate_in names publics = option_map (λ p. DuplicatePublic p.1.name)
     (find (λ p. list_any (λ earlier. clashes names earlier p.1) (take p.0 publics)) (enumerate_from 0 publics))
 
-module _ (program : List Module) (addresses : List ℕ) where
-  -- a group, by its name, ends more than 65,536 above its frame
-  abbrev pub is_long_group : List ℕ → Bool
-  is_long_group name = option_map_or (λ s. is_too_long (s.0 / 16) s.1) (group_span program addresses name) false
-
-  -- fault 24: the first group that is too long: the GRPDEFs stand in order, so the first that names it is its first
-  abbrev pub group_fault : Option PlacementFault
-  group_fault = option_map (λ g. GroupTooLong g.name) (find (λ g. is_long_group g.name) (grpdefs program))
+-- fault 24: the first group that ends more than 65,536 above its frame: the GRPDEFs stand in order, so the first that
+-- names it is its first
+abbrev pub group_fault : List Module → (addresses : List ℕ) → Option PlacementFault
+group_fault program addresses = option_map (λ g. GroupTooLong g.name) (find (λ g.
+    option_map_or (λ s. is_too_long (s.0 / 16) s.1) (group_span program addresses g.name) false) (grpdefs program))
 
 -- the first in order of number; fault 23 is that of the size
 abbrev pub placement_fault : Names → List Module → (addresses : List ℕ) → (size : ℕ) → Option PlacementFault

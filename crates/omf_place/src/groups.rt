@@ -5,7 +5,7 @@ ghost use Rattle.std.specs.Prelude.{nat_lt};
 ghost use Rattle.std.specs.List.{AllByRecursion};
 ghost use Rattle.std.specs.Str.{bytes_eq};
 ghost use Rattle.std.specs.Option.{option_map};
-ghost use Rattle.omf_place.specs.Faults.{GroupTooLong, group_fault, is_long_group};
+ghost use Rattle.omf_place.specs.Faults.{GroupTooLong, group_fault};
 ghost use Rattle.omf_place.specs.Parts.{Site, sites};
 ghost use Rattle.omf_place.specs.Tables.{frame_of_group, group_span, grpdefs as program_grpdefs, grpdefs_of};
 ghost use Rattle.omf_place.specs.Tables.{is_first_grpdef, placed_groups as program_groups};
