@@ -1,19 +1,20 @@
 -- What the walk over the units asks and leaves.
 use Rattle.std.specs.Prelude.{◌≡◌, ◌≢◌, ℕ, ◌+◌, ◌<◌, ◌≤◌, List, Bool, true, false, filter, slice_index, slice_set, ◌*◌}
-use Rattle.std.specs.Prelude.{if◌then◌else◌}
+use Rattle.std.specs.Prelude.{if◌then◌else◌, not, ◌&&◌}
 use Rattle.omf_module.specs.declared.Standing.{Standing}
 use Rattle.omf_module.specs.declared.Standing.TheVariants.{Absolute, Relocatable}
 use Rattle.std.specs.List.{AllByRecursion}
 use Rattle.omf_place.specs.declared.starts.Measure.{Measure}
 use Rattle.omf_place.specs.Parts.{Site, placement_order}
 use Rattle.omf_place.specs.inside.Ranks.{rank}
-use Rattle.omf_place.specs.Placed.{IsNextStart, is_unit, is_common, is_stack, unit_alignment, unit_length, alignment_of}
+use Rattle.omf_place.specs.Placed.{IsNextStart, is_unit, unit_alignment, unit_length, alignment_of}
+use Rattle.omf_place.specs.inside.Placing.{is_common, is_stack}
 
 -- the alignment and the length with which a site is placed, where these are the greatest of its combined segment
 abbrev pub measured : Site → (leads : Bool) → (greatest_alignment greatest_length : ℕ) → Measure
 measured a leads alignment length = record {
-  alignment = if is_common a then alignment else if is_stack a
-      then (if leads then alignment_of a.segment.standing else 1) else alignment_of a.segment.standing;
+  alignment = if is_common a then alignment
+      else if is_stack a && not leads then 1 else alignment_of a.segment.standing;
   length = if is_common a then length else a.segment.length;
 }
 
