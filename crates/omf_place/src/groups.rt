@@ -12,7 +12,7 @@ ghost use Rattle.omf_place.specs.Tables.{is_first_grpdef, placed_groups as progr
 ghost use Rattle.omf_place.specs.inside.Groups.{AreGroups, AreGrpdefs, entry_in, entry_with, grpdef_view, join};
 ghost use Rattle.omf_place.specs.inside.Groups.{reach_in, reach_of_span, reached, widened};
 ghost use Rattle.omf_place.specs.inside.Named.{named_slices, value_of};
-ghost use Rattle.omf_place.specs.inside.OfProgram.{IsPlacedProgram, of_program};
+ghost use Rattle.omf_place.specs.inside.OfProgram.{is_long_group, IsPlacedProgram, of_program};
 ghost use Rattle.omf_place.specs.inside.Program.{HasComponents, IsPlacedInput, input_view};
 
 use crate::inputs::{Input, PlacedProgram};

@@ -1,5 +1,5 @@
 -- Sites and parts, one question at a time.
-use Rattle.std.specs.Prelude.{◌≡◌, ℕ, Bool, not, ◌&&◌, List, [], ◌∷◌, filter, flat_map}
+use Rattle.std.specs.Prelude.{◌≡◌, ℕ, Bool, not, ◌&&◌, List, [], ◌∷◌, filter, flat_map, Ok, Err}
 use Rattle.std.specs.List.{list_any}
 use Rattle.std.specs.Ordering.{nat_cmp, ordering_then}
 use Rattle.std.specs.declared.cmp.Ordering.{Ordering}
@@ -7,7 +7,10 @@ use Rattle.omf_module.specs.declared.Kind.TheVariants.{Public, Stack, Common}
 use Rattle.omf_module.specs.declared.Standing.{Standing}
 use Rattle.omf_module.specs.Faults.{is_absolute}
 use Rattle.omf_module.specs.Module.{Module}
+use Rattle.omf_place.specs.declared.names.Names.{Names}
 use Rattle.omf_place.specs.declared.order.Rank.{Rank}
+use Rattle.omf_place.specs.Faults.{IsPlacedAs, PlacementFault}
+use Rattle.omf_place.specs.Layout.{Layout}
 use Rattle.omf_place.specs.Parts.{Site, inputs_from, is_part, is_kind}
 use Rattle.omf_place.specs.Placed.{IsPlaced}
 
@@ -39,6 +42,14 @@ is_stack a = is_kind Stack a.segment.standing
 abbrev pub rank_cmp : Rank → Rank → Ordering
 rank_cmp r s = ordering_then (nat_cmp r.class s.class)
     (ordering_then (nat_cmp r.segment s.segment) (nat_cmp r.own s.own))
+
+-- a layout of a program
+abbrev pub IsOnlyLayout : Names → List Module → Layout → Type 0
+IsOnlyLayout names program layout = IsPlacedAs names program (Ok layout)
+
+-- the first fault of a program
+abbrev pub IsFirstFault : Names → List Module → PlacementFault → Type 0
+IsFirstFault names program fault = IsPlacedAs names program (Err fault)
 
 -- no other addresses and size stand in the relation
 abbrev pub IsOnlyPlacement : List Site → List ℕ → ℕ → Type 0
