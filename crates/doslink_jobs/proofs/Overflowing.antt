@@ -1,6 +1,7 @@
 -- Fix-ups and a start that were of 32 bits, and their sums.
 use Rattle.std.proofs.Common.{◌≡◌, ◌≢◌, ◌⊎◌, ℕ, ◌∷◌, [], ◌++◌, Bool, true, false, All, Any, List, map, zip}
-use Rattle.std.proofs.Common.{Some, None, IfSome, cond, is_some, inl, inr, refl, sym, subst, ap, ap₂, ◌∙◌, true≢false}
+use Rattle.std.proofs.Common.{Some, None, Ok, Err, IfSome, cond, is_some, inl, inr, refl, sym, subst, ap, ap₂, ◌∙◌}
+use Rattle.std.proofs.Common.{true≢false}
 use Rattle.std.specs.declared.option.Option.{Option}
 use Rattle.std.specs.List.{list_any}
 use Rattle.std.specs.Option.{option_or}
@@ -9,7 +10,9 @@ use Rattle.omf_lower.specs.Wide.{has_wide_fixups, has_wide_start}
 use Rattle.omf_module.specs.Bytes.{ModuleBytes}
 use Rattle.omf_module.specs.Module.{Module}
 use Rattle.omf_module.specs.Tables.{module_of}
-use Rattle.omf_place.specs.Faults.{IsFirstFault, IsOnlyLayout, PlacementFault, placement_fault}
+use Rattle.omf_place.specs.Faults.{PlacementFault}
+use Rattle.omf_place.specs.inside.Placing.{IsFirstFault, IsOnlyLayout}
+use Rattle.omf_place.proofs.Ended.{one_answer, one_layout}
 use Rattle.omf_place.specs.Layout.{Layout}
 use Rattle.omf_place.specs.Said.{said}
 use Rattle.omf_place.specs.declared.faults.PlaceFault.{PlaceFault}
@@ -135,15 +138,14 @@ pub none-over : (found : Layout → List Module → Option (ℕ × ℕ)) → One
     → IsOnlyLayout names read layout → is_some (found layout read) ≡ false → HaveOverflow found names other → ⊥
 none-over found one names inputs other read layout same are is none (modules, placed, begin, only, over) =
     let all : modules ≡ read = read-same one other modules read begin (subst (λ i. AreRead i read) same are) in
-    let there : placed ≡ layout = is.1 placed (subst (λ ms. IsOnlyLayout names ms placed) all only).0 in
+    let there : placed ≡ layout =
+    one_layout names read placed layout (subst (λ ms. IsOnlyLayout names ms placed) all only) is in
     true≢false (sym over ∙ ap₂ (λ l ms. is_some (found l ms)) there all ∙ none)
 
 first-none : (names : Names) (modules : List Module) (fault : PlacementFault) (layout : Layout)
     → IsFirstFault names modules fault → IsOnlyLayout names modules layout → ⊥
-first-none names modules fault layout (addresses, size, placed, only, stands) ((others, at, none, is), one) =
-    let same = only others layout.size at in
-    let clash : None ≡ Some fault =
-    sym none ∙ ap₂ (placement_fault names modules) same.0 same.1 ∙ stands in cc
+first-none names modules fault layout first is =
+    let clash : Err fault ≡ Ok layout = one_answer names modules (Err fault) (Ok layout) first is in cc
 
 none-placed : {A : Type 0} (names : Names) (modules : List Module) (fault : PlaceFault A) (layout : Layout)
     → fault ≢ held.Memory → IfSome (said fault) (IsFirstFault names modules) → IsOnlyLayout names modules layout → ⊥

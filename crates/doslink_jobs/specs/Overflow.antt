@@ -1,10 +1,10 @@
 -- Fix-ups of 32 bits that became ones of 16, a start that did, and their sums.
-use Rattle.std.specs.Prelude.{◌≡◌, ◌≢◌, ℕ, true, Any, is_some, List, zip}
+use Rattle.std.specs.Prelude.{◌≡◌, ◌≢◌, ℕ, true, Any, is_some, List, Ok, zip}
 use Rattle.std.specs.declared.option.Option.{Option}
 use Rattle.std.specs.List.{list_any}
 use Rattle.omf_lower.specs.Wide.{has_wide_fixups, has_wide_start}
 use Rattle.omf_module.specs.Module.{Module}
-use Rattle.omf_place.specs.Faults.{IsOnlyLayout}
+use Rattle.omf_place.specs.Faults.{IsPlacedAs}
 use Rattle.omf_place.specs.Layout.{Layout}
 use Rattle.omf_place.specs.declared.names.Names.{Names}
 use Rattle.doslink_jobs.specs.Orders.{AreRead}
@@ -20,5 +20,5 @@ NarrowStart modules = list_any has_wide_start modules ≡ true
 -- in the program of the modules that inputs begin with this finds a sum that has more than 16 bits
 abbrev pub HaveOverflow : (found : Layout → List Module → Option (ℕ × ℕ)) → Names → (inputs : List (List ℕ)) → Type 0
 HaveOverflow found names inputs =
-    (modules : List Module) × (layout : Layout) × AreRead inputs modules × IsOnlyLayout names modules layout
+    (modules : List Module) × (layout : Layout) × AreRead inputs modules × IsPlacedAs names modules (Ok layout)
     × (is_some (found layout modules) ≡ true)

@@ -7,12 +7,14 @@ use Rattle.std.specs.Option.{option_or}
 use Rattle.omf_module.specs.Module.{Module}
 use Rattle.omf_module.specs.Tables.{module_of}
 use Rattle.omf_place.specs.Bounded.{IsBounded}
-use Rattle.omf_place.specs.Faults.{IsOnlyLayout, ProgramTooLarge, segment_fault}
+use Rattle.omf_place.specs.Faults.{ProgramTooLarge, segment_fault}
+use Rattle.omf_place.specs.inside.Placing.{IsOnlyLayout}
 use Rattle.omf_place.specs.inside.Steps.{later_fault, size_fault}
 use Rattle.omf_place.specs.Layout.{Layout}
 use Rattle.omf_place.specs.Parts.{sites}
 use Rattle.omf_place.specs.declared.names.Names.{Names}
 use Rattle.omf_place.proofs.Bounding.{bounded}
+use Rattle.omf_place.proofs.Ended.{layout_stands}
 use Rattle.omf_faults.specs.declared.fault.LinkFault.{LinkFault}
 use Rattle.omf_commands.specs.declared.linking.Report.{Report}
 use Rattle.omf_commands.specs.Linking.{Links}
@@ -31,7 +33,8 @@ size_fits size none = elim (cases_lt 1048560 size) [
 
 bounded_layout : (names : Names) (program : List Module) (layout : Layout) → IsOnlyLayout names program layout
     → IsBounded program layout
-bounded_layout names program layout ((addresses, placed, none, is), only) =
+bounded_layout names program layout only =
+    let (addresses, placed, none, is) = layout_stands names program layout only in
     let first =
     or_none (segment_fault (sites program) addresses)
     (option_or (size_fault layout.size) (later_fault names program addresses)) none in

@@ -1,9 +1,10 @@
 -- Modules have a file or a fault, and not both.
-use Rattle.std.proofs.Common.{◌≡◌, ℕ, List, None, Some, sym, ap, subst, ◌∙◌, true≢false}
+use Rattle.std.proofs.Common.{◌≡◌, ℕ, List, None, Some, Ok, Err, sym, ap, subst, ◌∙◌, true≢false}
 use Rattle.std.specs.declared.option.Option.{Option}
 use Rattle.std.specs.Prelude.{is_some}
 use Rattle.omf_module.specs.Module.{Module}
-use Rattle.omf_place.specs.Faults.{PlacementFault, IsOnlyLayout, IsFirstFault, placement_fault}
+use Rattle.omf_place.specs.Faults.{PlacementFault}
+use Rattle.omf_place.specs.inside.Placing.{IsOnlyLayout, IsFirstFault}
 use Rattle.omf_place.specs.Layout.{Layout}
 use Rattle.omf_place.specs.declared.names.Names.{Names}
 use Rattle.omf_image.specs.Registers.{program_fault}
@@ -12,6 +13,7 @@ use Rattle.omf_faults.specs.declared.fault.InputFault.TheVariants as input
 use Rattle.omf_faults.specs.declared.fault.ProgramFault.TheVariants as program
 use Rattle.omf_faults.specs.declared.fault.LinkFault.{LinkFault}
 use Rattle.omf_faults.specs.declared.fault.LinkFault.TheVariants as link
+use Rattle.omf_place.proofs.Ended.{one_answer, one_layout}
 use Rattle.omf_commands.specs.Linking.{IsBuildFault, IsFileOf, IsModulesFault}
 
 none_is : {X : Type 0} (o : Option X) (x : X) → o ≡ None → o ≡ Some x → ⊥
@@ -19,18 +21,14 @@ none_is o x none some = true≢false (sym (ap is_some some) ∙ ap is_some none)
 
 pub placed_sound : (names : Names) (modules : List Module) (layout : Layout) (f : PlacementFault)
     → IsOnlyLayout names modules layout → IsFirstFault names modules f → ⊥
-placed_sound names modules layout f only (addresses, size, placed, unique, stands) =
-    let (others, also, none, is) = only.0 in
-    let same = unique others layout.size also in
-    let sound : placement_fault names modules addresses size ≡ None =
-    subst (λ n. placement_fault names modules addresses n ≡ None) same.1
-    (subst (λ l. placement_fault names modules l layout.size ≡ None) same.0 none) in
-    none_is _ f sound stands
+placed_sound names modules layout f only first =
+    let clash : Ok layout ≡ Err f = one_answer names modules (Ok layout) (Err f) only first in cc
 
 built_sound : (names : Names) (modules : List Module) (layout : Layout) (f : FixFault)
     → IsOnlyLayout names modules layout → program_fault layout modules ≡ None → IsBuildFault names modules f → ⊥
 built_sound names modules layout f only sound (other, also, stands) =
-    none_is _ f sound (subst (λ l. program_fault l modules ≡ Some f) (only.1 other also.0) stands)
+    none_is _ f sound
+    (subst (λ l. program_fault l modules ≡ Some f) (one_layout names modules other layout also only) stands)
 
 pub exclusive : {A : Type 0} (names : Names) (modules : List Module) (file : List ℕ) (fault : LinkFault A)
     → IsFileOf names modules file → IsModulesFault names modules fault → ⊥

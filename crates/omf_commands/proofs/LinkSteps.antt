@@ -7,7 +7,7 @@ use Rattle.std.specs.Io.KnownBytes.{Keeps}
 use Rattle.omf_module.specs.Module.{Module}
 use Rattle.omf_module.specs.Tables.{module_of}
 use Rattle.omf_record.specs.Records.{Placed}
-use Rattle.omf_place.specs.Faults.{IsOnlyLayout, IsFirstFault}
+use Rattle.omf_place.specs.inside.Placing.{IsOnlyLayout, IsFirstFault}
 use Rattle.omf_place.specs.Layout.{Layout}
 use Rattle.omf_place.specs.declared.names.Names.{Names}
 use Rattle.omf_place.specs.Said.{said}

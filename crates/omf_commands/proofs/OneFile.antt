@@ -5,6 +5,7 @@ use Rattle.std.specs.List.{AllByRecursion}
 use Rattle.std.proofs.lemmas.List.{ext_get_or, set-get_or}
 use Rattle.std.proofs.lemmas.List.Elements.{recursion_from_All}
 use Rattle.omf_module.specs.Module.{Module}
+use Rattle.omf_place.proofs.Ended.{one_layout}
 use Rattle.omf_place.specs.Layout.{Layout}
 use Rattle.omf_place.specs.declared.names.Names.{Names}
 use Rattle.omf_image.specs.Program.{Program, IsProgram}
@@ -73,6 +74,6 @@ same_written names modules layout p q a b m n =
 pub same_file : (names : Names) (modules : List Module) (file other : List ℕ) → IsFileOf names modules file
     → IsFileOf names modules other → file ≡ other
 same_file names modules file other (layout, p, a, m) (layout', q, b, n) =
-    let same : layout' ≡ layout = a.is_layout.1 layout' b.is_layout.0 in
+    let same : layout' ≡ layout = one_layout names modules layout' layout b.is_layout a.is_layout in
     let b' = subst (λ l. IsLinked names modules l q) same b in
     m.1 ∙ (same_written names modules layout p q a b' m.0 n.0 ∙ sym n.1)

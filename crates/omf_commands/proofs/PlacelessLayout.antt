@@ -1,6 +1,8 @@
 -- A layout doesn't tell where the records of its modules stand.
 use Rattle.std.proofs.Common.{◌≡◌, ℕ, ◌+◌, List, [], ◌∷◌, ◌++◌, map, length, Some, slice_get, refl, sym}
-use Rattle.std.proofs.Common.{ap, ap₂, subst, ◌∙◌, ◌-◌, ◌==◌, if◌then◌else◌, option_map, option_and_then}
+use Rattle.std.proofs.Common.{ap, ap₂, subst, ◌∙◌, ◌-◌, ◌==◌, if◌then◌else◌, option_map, option_and_then, Ok, Err}
+use Rattle.std.specs.declared.option.Option.{Option}
+use Rattle.std.specs.Option.{option_map_or}
 use Rattle.std.proofs.Math.Path.{fun_ext}
 use Rattle.std.proofs.lemmas.List.{length-map}
 use Rattle.std.proofs.lemmas.List.Folds.{flat_map-map}
@@ -20,7 +22,8 @@ use Rattle.omf_place.specs.Tables.{is_first_grpdef, placed_groups}
 use Rattle.omf_place.specs.inside.Steps.{placed_group}
 use Rattle.omf_place.specs.Layout.{Layout, layout_at}
 use Rattle.omf_place.specs.declared.names.Names.{Names}
-use Rattle.omf_place.specs.Faults.{IsLayout, IsOnlyLayout, placement_fault}
+use Rattle.omf_place.specs.Faults.{PlacementFault, placement_fault}
+use Rattle.omf_place.specs.inside.Placing.{IsOnlyLayout}
 use Rattle.omf_place.specs.declared.layout.Position.TheVariants as stands
 use Rattle.omf_commands.proofs.Placeless.{placeless, Alike, kept}
 
@@ -101,15 +104,15 @@ fault_same names modules addresses size = simp (sites_same, inputs_same, publics
 
 pub only_layout_of : (names : Names) (modules others : List Module) (layout : Layout) → Alike modules others
     → IsOnlyLayout names modules layout → IsOnlyLayout names others layout
-only_layout_of names modules others layout same only =
-    (layout_of modules others layout same only.0, λ other h. only.1 other (layout_of others modules other (sym same) h))
-  where
-    layout_of : (ms ns : List Module) (l : Layout) → Alike ms ns → IsLayout names ms l → IsLayout names ns l
-    layout_of ms ns l same (addresses, placed, sound, is) = (
+only_layout_of names modules others layout same (addresses, size, placed, only, is) =
+    let here : sites modules ≡ sites others = kept sites (sites_same 0 0) modules others same in
+    let fault = kept (λ program. placement_fault names program addresses size)
+    (λ program. fault_same names program addresses size) modules others same in
+    let laid = kept (λ program. layout_at names program addresses size)
+    (λ program. layout_same names program addresses size) modules others same in (
       addresses,
-      subst (λ ss. IsPlaced ss addresses l.size) (kept sites (sites_same 0 0) ms ns same) placed,
-      sym (kept (λ program. placement_fault names program addresses l.size)
-          (λ program. fault_same names program addresses l.size) ms ns same) ∙ sound,
-      is ∙ kept (λ program. layout_at names program addresses l.size)
-          (λ program. layout_same names program addresses l.size) ms ns same,
+      size,
+      subst (λ ss. IsPlaced ss addresses size) here placed,
+      λ there end h. only there end (subst (λ ss. IsPlaced ss there end) (sym here) h),
+      is ∙ ap₂ (λ (o : Option PlacementFault) (l : Layout). option_map_or Err o (Ok l)) fault laid,
     )

@@ -1,11 +1,12 @@
 -- Modules have one fault, and faults that are one tell the same.
-use Rattle.std.proofs.Common.{◌≡◌, ℕ, List, None, Some, refl, sym, ap, subst, ◌∙◌}
+use Rattle.std.proofs.Common.{◌≡◌, ℕ, List, None, Some, Err, refl, sym, ap, subst, ◌∙◌}
 use Rattle.std.specs.declared.option.Option.{Option}
 use Rattle.std.specs.Prelude.{MatchOption, codes}
 use Rattle.std.proofs.lemmas.Option.{same_Some}
 use Rattle.omf_module.specs.Module.{Module}
 use Rattle.omf_place.specs.Faults.{PlacementFault, SegmentTooLong, ProgramTooLarge, GroupTooLong, DuplicatePublic}
-use Rattle.omf_place.specs.Faults.{IsFirstFault, placement_fault}
+use Rattle.omf_place.specs.inside.Placing.{IsFirstFault}
+use Rattle.omf_place.proofs.Ended.{one_answer, one_layout}
 use Rattle.omf_place.specs.declared.names.Names.{Names}
 use Rattle.omf_image.specs.declared.faults.FixFault.{FixFault}
 use Rattle.omf_image.specs.declared.faults.FixFault.TheVariants as build
@@ -65,17 +66,14 @@ same_told link.Memory other same = ap telling same
 
 one_placing : (names : Names) (modules : List Module) (f g : PlacementFault) → IsFirstFault names modules f
     → IsFirstFault names modules g → f ≡ g
-one_placing names modules f g (addresses, size, placed, unique, stands) (others, end, also, _, other) =
-    let same = unique others end also in
-    let here : placement_fault names modules addresses size ≡ Some g =
-    subst (λ n. placement_fault names modules addresses n ≡ Some g) same.1
-    (subst (λ l. placement_fault names modules l end ≡ Some g) same.0 other) in
-    same_Some f g (sym stands ∙ here)
+one_placing names modules f g is also =
+    let same : Err f ≡ Err g = one_answer names modules (Err f) (Err g) is also in cc
 
 one_building : (names : Names) (modules : List Module) (f g : FixFault) → IsBuildFault names modules f
     → IsBuildFault names modules g → f ≡ g
 one_building names modules f g (layout, only, stands) (other, also, there) =
-    same_Some f g (sym stands ∙ subst (λ l. program_fault l modules ≡ Some g) (only.1 other also.0) there)
+    same_Some f g
+    (sym stands ∙ subst (λ l. program_fault l modules ≡ Some g) (one_layout names modules other layout also only) there)
 
 -- this is said of modules by a fault of them together
 abbrev Says : Names → List Module → Option PlacementFault → Type 0

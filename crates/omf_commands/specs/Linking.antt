@@ -9,7 +9,7 @@ use Rattle.omf_module.specs.Module.{Module}
 use Rattle.omf_module.specs.Tables.{module_of}
 use Rattle.omf_record.specs.Records.{Placed}
 use Rattle.omf_place.specs.Faults as placing
-use Rattle.omf_place.specs.Faults.{PlacementFault, IsOnlyLayout, IsFirstFault}
+use Rattle.omf_place.specs.Faults.{PlacementFault, IsPlacedAs}
 use Rattle.omf_place.specs.Layout.{Layout}
 use Rattle.omf_place.specs.declared.names.Names.{Names}
 use Rattle.omf_image.specs.Building.{IsProgramOf}
@@ -33,7 +33,7 @@ use Rattle.omf_commands.specs.Inputs.{AreInputs, StopsAtRecord, StopsForMemory}
 
 -- the program of modules, whose only layout this is: no fault stands
 pub record IsLinked (names : Names) (modules : List Module) (layout : Layout) (made : Program) : Type 0 where
-  pub is_layout : IsOnlyLayout names modules layout
+  pub is_layout : IsPlacedAs names modules (Ok layout)
   pub sound : program_fault layout modules ≡ None
   pub program : IsProgramOf layout modules made
 
@@ -54,12 +54,12 @@ program_said program.TooManyRelocations = None
 -- of data, fix-ups, the start, or the number of relocated words
 abbrev pub IsBuildFault : Names → List Module → FixFault → Type 0
 IsBuildFault names modules fault =
-    (layout : Layout) × IsOnlyLayout names modules layout × (program_fault layout modules ≡ Some fault)
+    (layout : Layout) × IsPlacedAs names modules (Ok layout) × (program_fault layout modules ≡ Some fault)
 
 -- the first fault of placing modules and of building their program; no other fault is one
 abbrev pub IsModulesFault : {A : Type 0} → Names → List Module → LinkFault A → Type 0
-IsModulesFault names modules (link.Program fault) =
-    MatchOption (program_said fault) (IsBuildFault names modules build.TooManyRelocations) (IsFirstFault names modules)
+IsModulesFault names modules (link.Program fault) = MatchOption (program_said fault)
+    (IsBuildFault names modules build.TooManyRelocations) (λ first. IsPlacedAs names modules (Err first))
 IsModulesFault names modules (link.Record input place (Fix kind)) =
     IsBuildFault names modules (build.At kind input place)
 IsModulesFault names modules _ = ⊥
@@ -78,7 +78,7 @@ pub record HoldsProgram (paragraph : ℕ) (layout : Layout) (modules : List Modu
 -- file, read and loaded there, gives.
 abbrev pub HoldsAtEachParagraph : Names → List Module → (file : List ℕ) → Type 0
 HoldsAtEachParagraph names modules file =
-    (layout : Layout) × IsOnlyLayout names modules layout
+    (layout : Layout) × IsPlacedAs names modules (Ok layout)
     × ((paragraph : ℕ) → HoldsProgram paragraph layout modules (loaded paragraph (file_of file))
     × (16 * paragraph + layout.size ≤ 1048576
     → (mz : MzFile) × (loaded : Loaded) × (reading file ≡ Ok mz) × (loading paragraph mz ≡ Ok loaded)

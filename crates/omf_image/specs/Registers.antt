@@ -10,7 +10,7 @@ use Rattle.omf_module.specs.Before.{first}
 use Rattle.omf_module.specs.Module.{Module}
 use Rattle.omf_place.specs.declared.layout.Combined.{Combined}
 use Rattle.omf_place.specs.Layout.{Layout}
-use Rattle.omf_place.specs.Parts.{kind_in, are_joined}
+use Rattle.omf_place.specs.Parts.{is_kind}
 use Rattle.omf_image.specs.declared.faults.FixKind.{FixKind}
 use Rattle.omf_image.specs.declared.faults.FixKind.TheVariants.{Mixed, OutOfFrame, TwoStarts}
 use Rattle.omf_image.specs.declared.faults.FixFault.{FixFault}
@@ -70,7 +70,7 @@ entry_point P layout (entry ∷ later) = entry_of P (start_meaning layout entry)
 -- the first stack segment in the order of placement; a combined segment has the kind of its first part
 abbrev pub stack : Layout → List Module → Option Combined
 stack layout modules =
-    find (λ c. option_map_or (λ s. are_joined (kind_in s.standing) (Some Stack))
+    find (λ c. option_map_or (λ s. is_kind Stack s.standing)
     (option_and_then (λ m. slice_get m.segments c.segment) (slice_get modules c.input)) false) layout.combined
 
 -- SS and SP: its frame, and its end counted from there

@@ -11,45 +11,45 @@ use Rattle.omf_module.specs.declared.Standing.TheVariants.{Absolute, Relocatable
 use Rattle.omf_module.specs.declared.lookups.Segment as held_segment
 use Rattle.omf_module.specs.Module.{Segment}
 use Rattle.omf_module.specs.Seen.{segment_seen}
-use Rattle.omf_place.specs.inside.Placing.{joins}
+use Rattle.omf_place.specs.Parts.{is_kind}
 use denote.Enum.Bare.{sameb}
 use Rattle.omf_order.specs.contracts.openings.Joining.{the_type}
 use Rattle.omf_order.specs.declared.openings.Joining.{Joining}
 use Rattle.omf_order.specs.declared.openings.Joining.TheVariants as joining_as
 use Rattle.omf_order.specs.declared.parts.Part as part
-use Rattle.omf_order.specs.Segments.{combine, same_class}
-use Rattle.omf_order.specs.Parts.{Part, first_place, is_private, kind_of, opens, part_of}
+use Rattle.omf_order.specs.Segments.{combine, kind_of, same_class}
+use Rattle.omf_order.specs.Parts.{Part, first_place, is_private, opens, part_of}
 use Rattle.omf_order.specs.inside.Held.{joining, part_view, part_with, same_joining, same_key, segments_view}
 use Rattle.omf_order.proofs.Lists.{filter_one}
 use Rattle.omf_order.proofs.Found.{found}
 use Rattle.omf_order.proofs.Selecting.{map_place, same_places}
 
-kinds_join : (j k : Kind) (a b : ℕ) → is_private j ≡ false
-    → same_joining (joining j) (joining k) ≡ joins (Relocatable a j) (Relocatable b k)
-kinds_join Private k a b e = cc
-kinds_join Public Private a b e = refl
-kinds_join Public Public a b e = refl
-kinds_join Public Stack a b e = refl
-kinds_join Public Common a b e = refl
-kinds_join Stack Private a b e = refl
-kinds_join Stack Public a b e = refl
-kinds_join Stack Stack a b e = refl
-kinds_join Stack Common a b e = refl
-kinds_join Common Private a b e = refl
-kinds_join Common Public a b e = refl
-kinds_join Common Stack a b e = refl
-kinds_join Common Common a b e = refl
+kinds_join : (j k : Kind) (b : ℕ) → is_private j ≡ false
+    → same_joining (joining j) (joining k) ≡ is_kind j (Relocatable b k)
+kinds_join Private k b e = cc
+kinds_join Public Private b e = refl
+kinds_join Public Public b e = refl
+kinds_join Public Stack b e = refl
+kinds_join Public Common b e = refl
+kinds_join Stack Private b e = refl
+kinds_join Stack Public b e = refl
+kinds_join Stack Stack b e = refl
+kinds_join Stack Common b e = refl
+kinds_join Common Private b e = refl
+kinds_join Common Public b e = refl
+kinds_join Common Stack b e = refl
+kinds_join Common Common b e = refl
 
 standings_join : (s t : Standing) → is_private (kind_of s) ≡ false
-    → same_joining (joining (kind_of s)) (joining (kind_of t)) ≡ joins s t
+    → same_joining (joining (kind_of s)) (joining (kind_of t)) ≡ is_kind (kind_of s) t
 standings_join (Absolute f o) t e = cc
-standings_join (Relocatable a j) (Relocatable b k) e = kinds_join j k a b e
+standings_join (Relocatable a j) (Relocatable b k) e = kinds_join j k b e
 standings_join (Relocatable a Private) (Absolute f o) e = cc
 standings_join (Relocatable a Public) (Absolute f o) e = refl
 standings_join (Relocatable a Stack) (Absolute f o) e = refl
 standings_join (Relocatable a Common) (Absolute f o) e = refl
 
-none_join : (s t : Standing) → is_private (kind_of s) ≡ true → joins s t ≡ false
+none_join : (s t : Standing) → is_private (kind_of s) ≡ true → is_kind (kind_of s) t ≡ false
 none_join (Absolute f o) t e = refl
 none_join (Relocatable a Private) (Absolute f o) e = refl
 none_join (Relocatable a Public) (Absolute f o) e = cc

@@ -6,7 +6,7 @@ use Rattle.omf_module.specs.declared.Kind.TheVariants.{Private, Public, Stack, C
 use Rattle.omf_module.specs.declared.Standing.{Standing}
 use Rattle.omf_module.specs.declared.Standing.TheVariants.{Absolute, Relocatable}
 use Rattle.omf_module.specs.Module.{Segment}
-use Rattle.omf_order.specs.Segments.{same_class, combine}
+use Rattle.omf_order.specs.Segments.{same_class, combine, kind_of}
 
 -- A segment of the order module: its name and class, its alignment in bytes, and its kind; whether its combined segment
 -- is in DGROUP, and whether a segment of its class is.
@@ -17,11 +17,6 @@ pub record Part : Type 0 where
   pub kind : Kind
   pub in_group : Bool
   pub class_in_group : Bool
-
--- the kind of a segment; an absolute one combines with none
-abbrev pub kind_of : Standing → Kind
-kind_of (Absolute frame offset) = Private
-kind_of (Relocatable alignment kind) = kind
 
 -- a segment that never combines
 abbrev pub is_private : Kind → Bool

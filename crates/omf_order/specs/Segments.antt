@@ -2,9 +2,13 @@
 use Rattle.std.specs.Prelude.{ℕ, Bool, not, ◌&&◌, List, [], filter, if◌then◌else◌, slice_get, codes}
 use Rattle.std.specs.List.{filter_map, flat_map}
 use Rattle.std.specs.Str.{bytes_eq}
+use Rattle.omf_module.specs.declared.Kind.{Kind}
+use Rattle.omf_module.specs.declared.Kind.TheVariants.{Private}
+use Rattle.omf_module.specs.declared.Standing.{Standing}
+use Rattle.omf_module.specs.declared.Standing.TheVariants.{Absolute, Relocatable}
 use Rattle.omf_module.specs.Faults.{is_absolute}
 use Rattle.omf_module.specs.Module.{Module, Segment, Group}
-use Rattle.omf_place.specs.Parts.{kind_in, are_joined}
+use Rattle.omf_place.specs.Parts.{is_kind}
 
 -- those of a module that aren't absolute
 abbrev pub placed_in : Module → List Segment
@@ -35,6 +39,11 @@ grouped program = flat_map grouped_in program
 abbrev pub same_class : Segment → Segment → Bool
 same_class a b = bytes_eq a.class b.class
 
+-- the kind of a segment; an absolute one combines with none
+abbrev pub kind_of : Standing → Kind
+kind_of (Absolute frame offset) = Private
+kind_of (Relocatable alignment kind) = kind
+
 -- two segments are parts of one combined segment: name, class and kind agree, and the kind isn't private
 abbrev pub combine : Segment → Segment → Bool
-combine a b = are_joined (kind_in a.standing) (kind_in b.standing) && (bytes_eq a.name b.name && same_class a b)
+combine a b = is_kind (kind_of a.standing) b.standing && (bytes_eq a.name b.name && same_class a b)

@@ -23,10 +23,10 @@ use Rattle.omf_place.specs.Parts.{Site, module_sites, sites, is_part}
 use Rattle.omf_place.specs.inside.Placing.{sites_from, is_relocatable}
 use Rattle.omf_place.specs.Placed.{IsPlaced, address_of}
 use Rattle.omf_place.specs.Scopes.{table}
-use Rattle.omf_place.specs.Tables.{segment_start, segment_end, leaders, combined_segment, placed, frame_of_group}
+use Rattle.omf_place.specs.Tables.{segment_start, segment_end, leaders, combined_segment, frame_of_group}
 use Rattle.omf_place.specs.Tables.{placed_publics}
 use Rattle.omf_place.proofs.LinkProgram.{inputs-length}
-use Rattle.omf_place.proofs.LinkRows.{input_rows, row_at}
+use Rattle.omf_place.proofs.LinkRows.{input_rows, placed, row_at}
 use Rattle.omf_place.specs.inside.Program.{RowIs}
 use Rattle.omf_place.proofs.SiteLists.{length-module_sites, numbered_sites}
 use Rattle.omf_place.proofs.Walks.{All-get, numbered_found}

@@ -1,5 +1,5 @@
 -- Units of sound segments are bounded.
-use Rattle.std.proofs.Common.{◌≡◌, ℕ, ◌<◌, ◌≤◌, max, true, false, cond, List, [], ◌∷◌, fold, Some, slice_get, arith}
+use Rattle.std.proofs.Common.{◌≡◌, ℕ, ◌<◌, ◌≤◌, max, true, false, cond, not, ◌&&◌, List, [], ◌∷◌, fold, Some, slice_get, arith}
 use Rattle.std.proofs.Common.{lit≤, lit<}
 use Rattle.std.specs.List.{AllByRecursion}
 use Rattle.omf_module.specs.declared.Standing.{Standing}
@@ -7,8 +7,8 @@ use Rattle.omf_module.specs.declared.Standing.TheVariants.{Absolute, Relocatable
 use Rattle.omf_module.specs.Sound.{SegmentFits, IsStanding}
 use Rattle.omf_place.specs.Parts.{Site, combines, placement_order, is_part}
 use Rattle.omf_place.specs.inside.Ranks.{rank, before}
-use Rattle.omf_place.specs.inside.Placing.{parts}
-use Rattle.omf_place.specs.Placed.{greatest, members, leads, is_common, is_stack, alignment_of}
+use Rattle.omf_place.specs.inside.Placing.{is_common, is_stack, parts}
+use Rattle.omf_place.specs.Placed.{greatest, members, leads, alignment_of}
 use Rattle.omf_place.specs.inside.Numbered.{IsNumberedFrom}
 use Rattle.omf_place.specs.inside.Walk.{IsUnitBounded}
 use Rattle.omf_place.proofs.Walks.{All-get, All-filter, All-map, All-sorted, numbered_found}
@@ -60,15 +60,13 @@ unit-bounded ss sound a at =
     (All-map (λ b. SegmentFits b.segment) (λ b. b.segment.length ≤ 65536) ss (λ b h. h.length) sound)) in
     let own1 : a.segment.length ≤ 65536 = own.length in
     record {
-      positive = elim (is_common a) as (λ c. 0 < cond c big (cond (is_stack a) (cond (leads ss a) al 1) al)) [
+      positive = elim (is_common a) as (λ c. 0 < cond c big (cond (is_stack a && not (leads ss a)) 1 al)) [
         | true ↦ omega arith
-        | false ↦ elim (is_stack a) as (λ c. 0 < cond c (cond (leads ss a) al 1) al)
-            [ true ↦ elim (leads ss a) as (λ c. 0 < cond c al 1) [ true ↦ al1 | false ↦ lit< tt ] | false ↦ al1 ]
+        | false ↦ elim (is_stack a && not (leads ss a)) as (λ c. 0 < cond c 1 al) [ true ↦ lit< tt | false ↦ al1 ]
       ];
-      alignment = elim (is_common a) as (λ c. cond c big (cond (is_stack a) (cond (leads ss a) al 1) al) ≤ 256) [
+      alignment = elim (is_common a) as (λ c. cond c big (cond (is_stack a && not (leads ss a)) 1 al) ≤ 256) [
         | true ↦ big2
-        | false ↦ elim (is_stack a) as (λ c. cond c (cond (leads ss a) al 1) al ≤ 256)
-            [ true ↦ elim (leads ss a) as (λ c. cond c al 1 ≤ 256) [ true ↦ al2 | false ↦ lit≤ tt ] | false ↦ al2 ]
+        | false ↦ elim (is_stack a && not (leads ss a)) as (λ c. cond c 1 al ≤ 256) [ true ↦ lit≤ tt | false ↦ al2 ]
       ];
       length = elim (is_common a) as (λ c. cond c long a.segment.length ≤ 65536) [ true ↦ long1 | false ↦ own1 ];
     }

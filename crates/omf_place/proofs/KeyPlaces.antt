@@ -13,7 +13,7 @@ use Rattle.omf_place.specs.declared.order.Joining.{Joining}
 use Rattle.omf_place.specs.declared.order.Joining.TheVariants as joining
 use Rattle.omf_place.specs.Parts.{Site, combines, same_class, is_part}
 use Rattle.omf_place.specs.inside.Ranks.{rank}
-use Rattle.omf_place.specs.inside.Placing.{joins, joins_kind}
+use Rattle.omf_place.specs.inside.Placing.{joins}
 use Rattle.std.specs.Borrow.{Bor}
 use denote.Enum.Bare.{sameb}
 use Rattle.omf_place.specs.contracts.order.Joining.{the_type}
@@ -68,24 +68,25 @@ abbrev both : Option Joining → Option Joining → Bool
 both (Some j) (Some k) = same_joining j k
 both x y = false
 
-joins_kinds : (j k : Kind) → joins_kind j k ≡ both (joining_of_kind j) (joining_of_kind k)
-joins_kinds Private k = refl
-joins_kinds Public Private = refl
-joins_kinds Public Public = refl
-joins_kinds Public Stack = refl
-joins_kinds Public Common = refl
-joins_kinds Stack Private = refl
-joins_kinds Stack Public = refl
-joins_kinds Stack Stack = refl
-joins_kinds Stack Common = refl
-joins_kinds Common Private = refl
-joins_kinds Common Public = refl
-joins_kinds Common Stack = refl
-joins_kinds Common Common = refl
+joins_kinds : (a b : ℕ) (j k : Kind) → joins (Relocatable a j) (Relocatable b k)
+    ≡ both (joining_of_kind j) (joining_of_kind k)
+joins_kinds a b Private k = refl
+joins_kinds a b Public Private = refl
+joins_kinds a b Public Public = refl
+joins_kinds a b Public Stack = refl
+joins_kinds a b Public Common = refl
+joins_kinds a b Stack Private = refl
+joins_kinds a b Stack Public = refl
+joins_kinds a b Stack Stack = refl
+joins_kinds a b Stack Common = refl
+joins_kinds a b Common Private = refl
+joins_kinds a b Common Public = refl
+joins_kinds a b Common Stack = refl
+joins_kinds a b Common Common = refl
 
 joins_by : (s t : Standing) → joins s t ≡ both (joining_of s) (joining_of t)
 joins_by (Absolute f o) t = refl
-joins_by (Relocatable a j) (Relocatable b k) = joins_kinds j k
+joins_by (Relocatable a j) (Relocatable b k) = joins_kinds a b j k
 joins_by (Relocatable a Private) (Absolute f o) = refl
 joins_by (Relocatable a Public) (Absolute f o) = refl
 joins_by (Relocatable a Stack) (Absolute f o) = refl

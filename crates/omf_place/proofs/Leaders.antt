@@ -12,29 +12,25 @@ use Rattle.omf_module.specs.declared.Kind.{Kind}
 use Rattle.omf_module.specs.declared.Kind.TheVariants.{Private, Public, Stack, Common}
 use Rattle.omf_module.specs.declared.Standing.{Standing}
 use Rattle.omf_module.specs.declared.Standing.TheVariants.{Absolute, Relocatable}
-use Rattle.omf_place.specs.Parts.{Site, are_joined, combines, same_class}
+use Rattle.omf_place.specs.Parts.{Site, combines, is_kind, same_class}
 use Rattle.omf_place.specs.inside.Ranks.{rank}
-use Rattle.omf_place.specs.inside.Placing.{joins, joins_kind}
+use Rattle.omf_place.specs.inside.Placing.{joins}
 
-joins_kind-same : (j k : Kind) → joins_kind j k ≡ true → j ≡ k
-joins_kind-same Public Public e = refl
-joins_kind-same Stack Stack e = refl
-joins_kind-same Common Common e = refl
-joins_kind-same j k e = cc
+-- two parts are of one kind
+pub record AreAlike (s t : Standing) : Type 0 where
+  pub public : is_kind Public s ≡ is_kind Public t
+  pub stack : is_kind Stack s ≡ is_kind Stack t
+  pub common : is_kind Common s ≡ is_kind Common t
 
--- a part never combines with an absolute segment
-pub alone : (k : Kind) → are_joined (Some k) None ≡ true → ⊥
-alone Private e = false≢true e
-alone Public e = false≢true e
-alone Stack e = false≢true e
-alone Common e = false≢true e
+-- parts whose kinds combine are of one kind
+pub joins-alike : (s t : Standing) → joins s t ≡ true → AreAlike s t
+joins-alike (Relocatable a Public) (Relocatable b Public) e = record { public = refl; stack = refl; common = refl }
+joins-alike (Relocatable a Stack) (Relocatable b Stack) e = record { public = refl; stack = refl; common = refl }
+joins-alike (Relocatable a Common) (Relocatable b Common) e = record { public = refl; stack = refl; common = refl }
+joins-alike s t e = cc
 
 joins-trans : (s t u : Standing) → joins s t ≡ true → joins t u ≡ true → joins s u ≡ true
-joins-trans (Relocatable a i) (Relocatable b j) (Relocatable c k) e f =
-    subst (λ z. joins_kind i z ≡ true) (joins_kind-same j k f) e
-joins-trans (Relocatable a i) (Relocatable b j) (Absolute frame offset) e f = absurd (alone j f)
-joins-trans (Relocatable a i) (Absolute frame offset) u e f = absurd (alone i e)
-joins-trans (Absolute frame offset) t u e f = absurd (false≢true e)
+joins-trans s t u e f = let h = joins-alike s t e in rw (h.public, h.stack, h.common) f
 
 pub and_both : (p q : Bool) → (p && q) ≡ true → (p ≡ true) × (q ≡ true)
 and_both true q e = (refl, e)

@@ -10,7 +10,12 @@ use Rattle.omf_place.specs.inside.Program.{RowIs}
 use Rattle.omf_place.specs.inside.Rows.{placed_row}
 use Rattle.omf_place.specs.inside.Spans.{span_of}
 use Rattle.omf_place.specs.inside.Stands.{placed_by, stand_by, stand_of}
-use Rattle.omf_place.specs.Tables.{placed, placed_at}
+use Rattle.omf_place.specs.Tables.{placed_at}
+use Rattle.omf_place.specs.declared.layout.Position.{Position}
+
+-- where a segment stands
+abbrev pub placed : List Site → (addresses : List ℕ) → Site → Position
+placed ss addresses a = placed_at ss addresses a a.segment.standing
 
 placed_same : (ss : List Site) (A : List ℕ) (a : Site) (st : Standing)
     → placed_by st (stand_by st (span_of ss A a)) ≡ placed_at ss A a st

@@ -13,13 +13,14 @@ use Rattle.omf_place.specs.declared.sites.Site as stored
 use Rattle.omf_place.specs.inside.Sites.{site, sites_view}
 use Rattle.omf_place.specs.Parts.{Site}
 use Rattle.omf_place.specs.inside.Ranks.{rank}
-use Rattle.omf_place.specs.Placed.{greatest, members, leads, alignment_of, is_common}
+use Rattle.omf_place.specs.Placed.{greatest, members, leads, alignment_of}
 use Rattle.omf_place.specs.inside.Keys.{segment_place}
 use Rattle.omf_place.specs.inside.Numbered.{IsNumberedFrom}
 use Rattle.omf_place.specs.inside.Greatest.{HoldsGreatest, greatest_at}
 use Rattle.omf_place.specs.inside.Walk.{measured, unit_measure, settled, settled_at, settled_by}
 use Rattle.omf_place.proofs.CombinedParts.{places_within, place_within, greatest_combined}
 use Rattle.omf_place.proofs.GreatestAt.{All-at}
+use Rattle.omf_place.specs.inside.Placing.{is_common}
 use Rattle.omf_place.proofs.Leaders.{position_at}
 use Rattle.omf_place.proofs.PartRanks.{get_map_site}
 use Rattle.omf_place.proofs.Walks.{All-map, numbered_found}

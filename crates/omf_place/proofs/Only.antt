@@ -4,20 +4,20 @@ use Rattle.std.proofs.Common.{inl, inr, List, [], ◌∷◌, length, filter, Som
 use Rattle.std.proofs.Common.{arith, subst}
 use Rattle.std.specs.List.{AllByRecursion}
 use Rattle.std.proofs.Math.Nat.{mul-le-mul_left}
-use Rattle.std.proofs.lemmas.Bool.{cases_lt, eqb-true}
+use Rattle.std.proofs.lemmas.Bool.{cases_lt, eqb-true, false≢true}
 use Rattle.std.proofs.lemmas.List.{ext_get_or}
 use Rattle.omf_module.specs.declared.Standing.{Standing}
 use Rattle.omf_module.specs.declared.Standing.TheVariants.{Absolute, Relocatable}
 use Rattle.omf_place.specs.Parts.{Site, inserted, sorted, placement_order, is_part, combines}
 use Rattle.omf_place.specs.inside.Ranks.{rank, before}
-use Rattle.omf_place.specs.inside.Placing.{parts, is_relocatable, joins}
-use Rattle.omf_place.specs.Placed.{IsNextStart, FollowFrom, StandsAside, IsPlaced, address_of, is_unit, is_common}
+use Rattle.omf_place.specs.inside.Placing.{is_common, is_relocatable, joins, parts}
+use Rattle.omf_place.specs.Placed.{IsNextStart, FollowFrom, StandsAside, IsPlaced, address_of, is_unit}
 use Rattle.omf_place.specs.Placed.{leads, unit_alignment, unit_length}
 use Rattle.omf_place.specs.inside.Placing.{IsOnlyPlacement}
 use Rattle.omf_place.specs.inside.Numbered.{IsNumberedFrom}
 use Rattle.omf_place.specs.inside.Walk.{IsUnitBounded, units}
 use Rattle.omf_place.proofs.Walks.{All-get, All-filter, All-map}
-use Rattle.omf_place.proofs.Leaders.{alone, leader, at_own, one_place, position_at, and_both, or_either, or_right}
+use Rattle.omf_place.proofs.Leaders.{joins-alike, leader, at_own, one_place, position_at, and_both, or_either, or_right}
 
 next-le : (e n x y : ℕ) → 0 < n → IsNextStart e n x → IsNextStart e n y → x < y → ⊥
 next-le e n x y pos f g h =
@@ -83,9 +83,10 @@ of_unit ss P all a at part unit =
 
 -- what combines with a part is one
 part_joined : (s t : Standing) → joins s t ≡ true → is_relocatable t ≡ true
-part_joined (Relocatable a j) (Relocatable b k) e = refl
-part_joined (Relocatable a j) (Absolute b k) e = absurd (alone j e)
-part_joined (Absolute a j) t e = cc
+part_joined s (Relocatable b k) e = refl
+part_joined s (Absolute frame offset) e = let h = joins-alike s (Absolute frame offset) e in absurd
+    (let f : joins s (Absolute frame offset) ≡ false = rw (h.public, h.stack, h.common) refl in
+    false≢true (sym f ∙ e))
 
 pub part_combined : (ss : List Site) (a b : Site) → slice_get ss a.position ≡ Some a → slice_get ss b.position ≡ Some b
     → is_part a ≡ true → combines a b ≡ true → is_part b ≡ true

@@ -8,8 +8,8 @@ use Rattle.std.specs.Option.{option_map}
 use Rattle.omf_module.specs.declared.Standing.TheVariants.{Absolute, Relocatable}
 use Rattle.omf_place.specs.Parts.{Site, placement_order, is_part}
 use Rattle.omf_place.specs.inside.Ranks.{rank, before}
-use Rattle.omf_place.specs.inside.Placing.{parts, is_relocatable}
-use Rattle.omf_place.specs.Placed.{IsNextStart, FollowFrom, StandsAside, IsPlaced, address_of, is_unit, is_common}
+use Rattle.omf_place.specs.inside.Placing.{is_common, is_relocatable, parts}
+use Rattle.omf_place.specs.Placed.{IsNextStart, FollowFrom, StandsAside, IsPlaced, address_of, is_unit}
 use Rattle.omf_place.specs.Placed.{leads, unit_alignment, unit_length}
 use Rattle.omf_place.specs.inside.Numbered.{IsNumberedFrom}
 use Rattle.omf_place.specs.inside.Walk.{units, settled, settled_at}

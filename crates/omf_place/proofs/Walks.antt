@@ -12,8 +12,8 @@ use Rattle.omf_place.specs.declared.order.Rank.{Rank}
 use Rattle.omf_place.specs.inside.Sites.{site, sites_view}
 use Rattle.omf_place.specs.Parts.{Site, inserted, sorted, placement_order, is_part}
 use Rattle.omf_place.specs.inside.Ranks.{rank, before}
-use Rattle.omf_place.specs.inside.Placing.{parts}
-use Rattle.omf_place.specs.Placed.{FollowFrom, IsNextStart, leads, is_common, is_unit, unit_alignment, unit_length}
+use Rattle.omf_place.specs.inside.Placing.{is_common, parts}
+use Rattle.omf_place.specs.Placed.{FollowFrom, IsNextStart, leads, is_unit, unit_alignment, unit_length}
 use Rattle.omf_place.specs.Placed.{address_of}
 use Rattle.omf_place.specs.inside.Numbered.{IsNumberedFrom}
 use Rattle.omf_place.specs.declared.starts.Measure.{Measure}

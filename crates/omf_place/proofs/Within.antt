@@ -5,22 +5,20 @@ use Rattle.std.proofs.lemmas.Bool.{eqb-true, cases_lt, false≢true}
 use Rattle.std.proofs.lemmas.Option.{slice_get-get_or}
 use Rattle.std.proofs.lemmas.List.{get_or_past}
 use Rattle.std.specs.List.{AllByRecursion}
-use Rattle.omf_module.specs.declared.Kind.{Kind}
-use Rattle.omf_module.specs.declared.Kind.TheVariants.{Public, Stack, Common}
 use Rattle.omf_module.specs.declared.Standing.{Standing}
 use Rattle.omf_module.specs.declared.Standing.TheVariants.{Absolute, Relocatable}
 use Rattle.omf_module.specs.Sound.{SegmentFits, IsStanding}
-use Rattle.omf_place.specs.Parts.{Site, combines, kind_in, are_joined, is_part}
+use Rattle.omf_place.specs.Parts.{Site, combines, is_part}
 use Rattle.omf_place.specs.inside.Ranks.{rank}
-use Rattle.omf_place.specs.inside.Placing.{joins, joins_kind, is_relocatable, is_kind_common}
-use Rattle.omf_place.specs.Placed.{IsPlaced, FollowFrom, StandsAside, greatest, members, leads, is_unit, is_common}
+use Rattle.omf_place.specs.inside.Placing.{joins, is_common, is_relocatable}
+use Rattle.omf_place.specs.Placed.{IsPlaced, FollowFrom, StandsAside, greatest, members, leads, is_unit}
 use Rattle.omf_place.specs.Placed.{unit_length, address_of}
 use Rattle.omf_place.specs.inside.Numbered.{IsNumberedFrom}
 use Rattle.omf_place.specs.Tables.{segment_start, segment_end}
 use Rattle.omf_place.specs.inside.Walk.{units}
 use Rattle.omf_place.proofs.Bounds.{most-each, most-within}
 use Rattle.omf_place.proofs.CombinedParts.{combines-symm}
-use Rattle.omf_place.proofs.Leaders.{alone, leader, or_either, or_right, and_both, combines-itself, at_own, position_at}
+use Rattle.omf_place.proofs.Leaders.{joins-alike, leader, or_either, or_right, and_both, combines-itself, at_own, position_at}
 use Rattle.omf_place.proofs.Only.{All-unfilter, of_unit, part_combined}
 use Rattle.omf_place.proofs.SiteLists.{one_place}
 use Rattle.omf_place.proofs.Walks.{All-get, All-map, numbered_found}
@@ -48,18 +46,6 @@ follow-within ss A e (u ∷ us) s f = (
   follow-above ss A (address_of A u + unit_length ss u) us s f.1,
   follow-within ss A (address_of A u + unit_length ss u) us s f.1,
 )
-
-common_kinds : (j k : Kind) → joins_kind j k ≡ true → is_kind_common j ≡ is_kind_common k
-common_kinds Public Public e = refl
-common_kinds Stack Stack e = refl
-common_kinds Common Common e = refl
-common_kinds j k e = cc
-
-common_joined : (s t : Standing) → joins s t ≡ true
-    → are_joined (kind_in s) (Some Common) ≡ are_joined (kind_in t) (Some Common)
-common_joined (Relocatable a j) (Relocatable b k) e = common_kinds j k e
-common_joined (Relocatable a j) (Absolute frame offset) e = absurd (alone j e)
-common_joined (Absolute frame offset) t e = absurd (false≢true e)
 
 module _ (ss : List Site) (A : List ℕ) (size : ℕ) (numbered : IsNumberedFrom 0 ss) (placed : IsPlaced ss A size) where
   greatest-each : (f : Site → ℕ) (a b : Site) → slice_get ss b.position ≡ Some b → combines a b ≡ true
@@ -89,7 +75,7 @@ module _ (ss : List Site) (A : List ℕ) (size : ℕ) (numbered : IsNumberedFrom
         | inl p ↦ ap is_common (one_place ss a b ha hb (eqb-true _ _ p))
         | inr q ↦
             let h = and_both (joins a.segment.standing b.segment.standing) _ q in
-            common_joined a.segment.standing b.segment.standing h.0
+            (joins-alike a.segment.standing b.segment.standing h.0).common
       ]
 
   aside : (a : Site) → slice_get ss a.position ≡ Some a → is_part a ≡ true → is_unit ss a ≡ false

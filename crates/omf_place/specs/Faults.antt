@@ -1,6 +1,6 @@
 -- The first fault of placement.
 use Rattle.std.specs.Prelude.{◌≡◌, ℕ, ◌+◌, ◌*◌, ◌/◌, Bool, nat_lt, List, find, take, Option, Some, None, false}
-use Rattle.std.specs.Prelude.{if◌then◌else◌}
+use Rattle.std.specs.Prelude.{if◌then◌else◌, Result, Ok, Err}
 use Rattle.std.specs.List.{enumerate_from, list_any}
 use Rattle.std.specs.Option.{option_map, option_map_or, option_or}
 use Rattle.omf_module.specs.Module.{Module}
@@ -31,14 +31,11 @@ abbrev pub duplicate_in : Names → List (ScopedName Position) → Option Placem
 duplicate_in names publics = option_map (λ p. DuplicatePublic p.1.name)
     (find (λ p. list_any (λ earlier. clashes names earlier p.1) (take p.0 publics)) (enumerate_from 0 publics))
 
-module _ (program : List Module) (addresses : List ℕ) where
-  -- a group, by its name, ends more than 65,536 above its frame
-  abbrev pub is_long_group : List ℕ → Bool
-  is_long_group name = option_map_or (λ s. is_too_long (s.0 / 16) s.1) (group_span program addresses name) false
-
-  -- fault 24: the first group that is too long: the GRPDEFs stand in order, so the first that names it is its first
-  abbrev pub group_fault : Option PlacementFault
-  group_fault = option_map (λ g. GroupTooLong g.name) (find (λ g. is_long_group g.name) (grpdefs program))
+-- fault 24: the first group that ends more than 65,536 above its frame: the GRPDEFs stand in order, so the first that
+-- names it is its first
+abbrev pub group_fault : List Module → (addresses : List ℕ) → Option PlacementFault
+group_fault program addresses = option_map (λ g. GroupTooLong g.name) (find (λ g.
+    option_map_or (λ s. is_too_long (s.0 / 16) s.1) (group_span program addresses g.name) false) (grpdefs program))
 
 -- the first in order of number; fault 23 is that of the size
 abbrev pub placement_fault : Names → List Module → (addresses : List ℕ) → (size : ℕ) → Option PlacementFault
@@ -47,21 +44,10 @@ placement_fault names program addresses size =
     (option_or (if nat_lt 1048560 size then Some ProgramTooLarge else None)
     (option_or (group_fault program addresses) (duplicate_in names (placed_publics program addresses))))
 
--- under a choice of which names of publics agree a layout is that of a program where its parts start by the rules and
--- no fault stands
-abbrev pub IsLayout : Names → List Module → Layout → Type 0
-IsLayout names program layout = (addresses : List ℕ) × IsPlaced (sites program) addresses layout.size
-    × (placement_fault names program addresses layout.size ≡ None) ×
-    (layout ≡ layout_at names program addresses layout.size)
-
--- and no other is
-abbrev pub IsOnlyLayout : Names → List Module → Layout → Type 0
-IsOnlyLayout names program layout =
-    IsLayout names program layout × ((other : Layout) → IsLayout names program other → other ≡ layout)
-
--- the first fault of a program, whose parts start at these addresses alone
-abbrev pub IsFirstFault : Names → List Module → PlacementFault → Type 0
-IsFirstFault names program fault =
-    (addresses : List ℕ) × (size : ℕ) × IsPlaced (sites program) addresses size ×
-    ((others : List ℕ) (end : ℕ) → IsPlaced (sites program) others end → (others ≡ addresses) × (end ≡ size))
-    × (placement_fault names program addresses size ≡ Some fault)
+-- What a program is placed as, under a choice of which names of publics agree. Its parts start at these addresses by the
+-- rules, and at no others; then it is the first fault, and the layout at these addresses where no fault stands.
+abbrev pub IsPlacedAs : Names → List Module → Result Layout PlacementFault → Type 0
+IsPlacedAs names program given = (addresses : List ℕ) × (size : ℕ) × IsPlaced (sites program) addresses size
+    × ((others : List ℕ) (end : ℕ) → IsPlaced (sites program) others end → (others ≡ addresses) × (end ≡ size))
+    × (given ≡ option_map_or Err (placement_fault names program addresses size)
+    (Ok (layout_at names program addresses size)))

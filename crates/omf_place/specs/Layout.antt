@@ -6,7 +6,7 @@ use Rattle.omf_place.specs.Parts.{sites}
 use Rattle.omf_place.specs.Parts.{Input, inputs}
 use Rattle.omf_place.specs.Names.{Table, means}
 use Rattle.omf_place.specs.Scopes.{table}
-use Rattle.omf_place.specs.Tables.{placed, leaders, combined_segment, frame_of_group, placed_groups}
+use Rattle.omf_place.specs.Tables.{placed_at, leaders, combined_segment, frame_of_group, placed_groups}
 use Rattle.omf_place.specs.Tables.{placed_publics}
 use Rattle.omf_place.specs.declared.layout.Combined.{Combined}
 use Rattle.omf_place.specs.declared.layout.GroupPlace.{GroupPlace}
@@ -37,7 +37,7 @@ pub record Layout : Type 0 where
 -- the places of a module of a program, by the addresses of the program's segments
 abbrev pub module_places : List Module → (addresses : List ℕ) → Input → ModulePlaces
 module_places program addresses n = record {
-  segments = map (placed (sites program) addresses) n.sites;
+  segments = map (λ a. placed_at (sites program) addresses a a.segment.standing) n.sites;
   groups = map (λ g. frame_of_group program addresses g.name) n.says.groups;
 }
 

@@ -1,12 +1,11 @@
 -- Where the parts start (TIS OMF 1.1, SEGDEF, the alignment): a relation between the segments and their addresses.
-use Rattle.std.specs.Prelude.{◌≡◌, ℕ, ◌+◌, ◌*◌, ◌%◌, ◌<◌, ◌≤◌, max, Bool, false, ◌==◌, ◌||◌, not, List, [], ◌∷◌}
-use Rattle.std.specs.Prelude.{Some}
+use Rattle.std.specs.Prelude.{◌≡◌, ℕ, ◌+◌, ◌*◌, ◌%◌, ◌<◌, ◌≤◌, max, Bool, false, ◌==◌, ◌&&◌, ◌||◌, not, List, [], ◌∷◌}
 use Rattle.std.specs.Prelude.{length, filter, fold, slice_index, if◌then◌else◌}
 use Rattle.omf_module.specs.declared.Kind.TheVariants.{Stack, Common}
 use Rattle.omf_module.specs.declared.Standing.{Standing}
 use Rattle.omf_module.specs.declared.Standing.TheVariants.{Absolute, Relocatable}
 use Rattle.std.specs.List.{AllByRecursion}
-use Rattle.omf_place.specs.Parts.{Site, kind_in, are_joined, combines, first_of_segment, placement_order}
+use Rattle.omf_place.specs.Parts.{Site, is_kind, combines, first_of_segment, placement_order}
 
 -- the greatest of what is asked of each; 0 of none
 abbrev pub greatest : {X : Type 0} → (X → ℕ) → List X → ℕ
@@ -16,14 +15,6 @@ greatest f xs = fold (λ most x. max most (f x)) 0 xs
 abbrev pub alignment_of : Standing → ℕ
 alignment_of (Absolute frame offset) = 1
 alignment_of (Relocatable alignment kind) = alignment
-
--- a part of a common segment
-abbrev pub is_common : Site → Bool
-is_common a = are_joined (kind_in a.segment.standing) (Some Common)
-
--- a part of a stack segment
-abbrev pub is_stack : Site → Bool
-is_stack a = are_joined (kind_in a.segment.standing) (Some Stack)
 
 -- the parts of the combined segment of a
 abbrev pub members : List Site → Site → List Site
@@ -35,18 +26,18 @@ leads ss a = first_of_segment ss a == a.position
 
 -- Each part is placed by itself, and the parts of a common segment are placed as one.
 abbrev pub is_unit : List Site → Site → Bool
-is_unit ss a = not (is_common a) || leads ss a
+is_unit ss a = not (is_kind Common a.segment.standing) || leads ss a
 
 -- the greatest alignment of a common segment; a part of a stack that isn't its first follows without a gap
 abbrev pub unit_alignment : List Site → Site → ℕ
 unit_alignment ss a =
-    if is_common a then greatest (λ b. alignment_of b.segment.standing) (members ss a)
-    else if is_stack a then (if leads ss a then alignment_of a.segment.standing else 1)
-    else alignment_of a.segment.standing
+    if is_kind Common a.segment.standing then greatest (λ b. alignment_of b.segment.standing) (members ss a)
+    else if is_kind Stack a.segment.standing && not (leads ss a) then 1 else alignment_of a.segment.standing
 
 -- a common segment is as long as its longest part
 abbrev pub unit_length : List Site → Site → ℕ
-unit_length ss a = if is_common a then greatest (λ b. b.segment.length) (members ss a) else a.segment.length
+unit_length ss a =
+    if is_kind Common a.segment.standing then greatest (λ b. b.segment.length) (members ss a) else a.segment.length
 
 -- a multiple of the alignment, not below the end before it, and less than one alignment above that end
 abbrev pub IsNextStart : (end alignment start : ℕ) → Type 0

@@ -42,14 +42,10 @@ module _ (ss : List Site) (addresses : List ℕ) where
   abbrev pub combined_segment : Site → Combined
   combined_segment a = record { start = segment_start a; end = segment_end a; input = a.input; segment = a.number }
 
-  -- where a segment stands
+  -- where a segment stands, by its own definition
   abbrev pub placed_at : Site → Standing → Position
   placed_at a (Absolute frame offset) = position.Absolute (16 * frame + offset) frame
   placed_at a (Relocatable alignment kind) = position.Relocatable (address_of addresses a) (Some (segment_frame a))
-
-  -- where a segment stands, by its own definition
-  abbrev pub placed : Site → Position
-  placed a = placed_at a a.segment.standing
 
 -- a GRPDEF, with the sites of its components
 pub record Grpdef : Type 0 where

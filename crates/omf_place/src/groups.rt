@@ -5,14 +5,14 @@ ghost use Rattle.std.specs.Prelude.{nat_lt};
 ghost use Rattle.std.specs.List.{AllByRecursion};
 ghost use Rattle.std.specs.Str.{bytes_eq};
 ghost use Rattle.std.specs.Option.{option_map};
-ghost use Rattle.omf_place.specs.Faults.{GroupTooLong, group_fault, is_long_group};
+ghost use Rattle.omf_place.specs.Faults.{GroupTooLong, group_fault};
 ghost use Rattle.omf_place.specs.Parts.{Site, sites};
 ghost use Rattle.omf_place.specs.Tables.{frame_of_group, group_span, grpdefs as program_grpdefs, grpdefs_of};
 ghost use Rattle.omf_place.specs.Tables.{is_first_grpdef, placed_groups as program_groups};
 ghost use Rattle.omf_place.specs.inside.Groups.{AreGroups, AreGrpdefs, entry_in, entry_with, grpdef_view, join};
 ghost use Rattle.omf_place.specs.inside.Groups.{reach_in, reach_of_span, reached, widened};
 ghost use Rattle.omf_place.specs.inside.Named.{named_slices, value_of};
-ghost use Rattle.omf_place.specs.inside.OfProgram.{IsPlacedProgram, of_program};
+ghost use Rattle.omf_place.specs.inside.OfProgram.{is_long_group, IsPlacedProgram, of_program};
 ghost use Rattle.omf_place.specs.inside.Program.{HasComponents, IsPlacedInput, input_view};
 
 use crate::inputs::{Input, PlacedProgram};

@@ -1,11 +1,11 @@
 //! Placement of modules.
 
-ghost use Rattle.std.specs.Prelude.{◌≡◌, ◌≤◌, ◌<◌, None, Some, IfErr, IfOk, IfSome, map, OnOk};
+ghost use Rattle.std.specs.Prelude.{◌≡◌, ◌≤◌, ◌<◌, None, Some, Ok, Err, IfErr, IfOk, IfSome, map, OnOk};
 ghost use Rattle.std.specs.List.{AllByRecursion};
 ghost use Rattle.std.specs.Option.{option_or};
 ghost use Rattle.omf_module.specs.Sound.{SegmentFits};
 ghost use Rattle.omf_place.specs.Bounded.{IsBounded};
-ghost use Rattle.omf_place.specs.Faults.{IsFirstFault, IsOnlyLayout, segment_fault};
+ghost use Rattle.omf_place.specs.Faults.{IsPlacedAs, segment_fault};
 ghost use Rattle.omf_place.specs.inside.Steps.{later_fault, size_fault};
 ghost use Rattle.omf_place.specs.Layout.{layout_at};
 ghost use Rattle.omf_place.specs.inside.Numbered.{IsNumberedFrom};
@@ -135,9 +135,9 @@ pub fn place<A: Allocator + Copy>(
     modules: &[Module<A>],
     names: Names,
 ) -> Result<Layout<A>, PlaceFault<A>>
-    ensures layout { IfOk result (λ l. IsOnlyLayout names modules.now l) }
+    ensures layout { IfOk result (λ l. IsPlacedAs names modules.now (Ok l)) }
     ensures bounded { IfOk result (λ l. IsBounded modules.now l) }
-    ensures fault { IfErr result (λ e. IfSome (said e) (IsFirstFault names modules.now)) }
+    ensures fault { IfErr result (λ e. IfSome (said e) (λ f. IsPlacedAs names modules.now (Err f))) }
 {
     let sites = collect_sites(alloc, modules)?;
     let started = start_parts(alloc, &sites)?;

@@ -2,12 +2,13 @@
 
 ghost use Rattle.std.specs.Prelude.{◌≡◌, ◌+◌, ◌*◌, ◌<◌, ◌≤◌, ◌^◌, ◌||◌, not, IfOk, length, map};
 ghost use Rattle.std.specs.List.{AllByRecursion};
+ghost use Rattle.omf_module.specs.declared.Kind.TheVariants.{Stack, Common};
 ghost use Rattle.omf_module.specs.Sound.{SegmentFits};
 ghost use Rattle.omf_place.specs.inside.Keys.{segment_place};
 ghost use Rattle.omf_place.specs.inside.Numbered.{IsNumberedFrom};
-ghost use Rattle.omf_place.specs.Parts.{placement_order};
+ghost use Rattle.omf_place.specs.Parts.{is_kind, placement_order};
 ghost use Rattle.omf_place.specs.inside.Ranks.{rank};
-ghost use Rattle.omf_place.specs.Placed.{IsPlaced, IsNextStart, FollowFrom, is_common, is_stack};
+ghost use Rattle.omf_place.specs.Placed.{IsPlaced, IsNextStart, FollowFrom};
 ghost use Rattle.omf_place.specs.inside.Placing.{IsOnlyPlacement};
 ghost use Rattle.omf_place.specs.inside.Sites.{site, sites_view};
 ghost use Rattle.omf_place.specs.inside.Small.{IsSmall};
@@ -46,7 +47,7 @@ fn next_start(end: u128, alignment: u128) -> u128
 impl Site<'_> {
     /// Whether it is a part of a common segment.
     fn is_common(&self) -> bool
-        ensures { result ≡ is_common (site self.now) }
+        ensures { result ≡ is_kind Common self.now.segment.standing }
     {
         matches!(
             self.segment.standing,
@@ -59,7 +60,7 @@ impl Site<'_> {
 
     /// Whether it is a part of a stack segment.
     fn is_stack(&self) -> bool
-        ensures { result ≡ is_stack (site self.now) }
+        ensures { result ≡ is_kind Stack self.now.segment.standing }
     {
         matches!(
             self.segment.standing,
@@ -142,8 +143,8 @@ fn place_unit(
     requires alignment { as_is.alignment ≤ 256 }
     requires length { as_is.length ≤ 65536 }
     requires room { end + 65792 < 2 ^ 128 }
-    ensures { Places (not (is_common
-        (site segment.now)) || leads) as_is end addresses.old addresses.new result segment.now.position }
+    ensures { Places (not (is_kind Common segment.now.segment.standing) || leads) as_is end
+        addresses.old addresses.new result segment.now.position }
 {
     if segment.is_common() && !leads {
         return end;

@@ -9,7 +9,7 @@ use Rattle.omf_module.specs.declared.Start.{Start}
 use Rattle.omf_module.specs.Module.{Module}
 use Rattle.omf_place.specs.declared.layout.Combined.{Combined}
 use Rattle.omf_place.specs.Layout.{Layout}
-use Rattle.omf_place.specs.Parts.{kind_in, are_joined}
+use Rattle.omf_place.specs.Parts.{is_kind}
 use Rattle.omf_image.specs.declared.faults.FixFault.{FixFault}
 use Rattle.omf_image.specs.declared.faults.FixFault.TheVariants.{TooManyRelocations}
 use Rattle.omf_image.specs.declared.faults.FixKind.{FixKind}
@@ -27,9 +27,9 @@ GivesEntry found (Err kind) = start_kind found ≡ Some kind
 abbrev pub count_fault : Layout → List Module → Option FixFault
 count_fault layout modules = cond (nat_lt 65535 (length (relocations layout modules))) (Some TooManyRelocations) None
 
--- a relocatable segment of the kind stack
+-- a part of a stack
 abbrev pub is_stack : Standing → Bool
-is_stack standing = are_joined (kind_in standing) (Some Stack)
+is_stack standing = is_kind Stack standing
 
 -- a combined segment is a stack if its first part is
 abbrev pub is_stack_segment : List Module → Combined → Bool

@@ -17,8 +17,8 @@ use Rattle.omf_order.specs.declared.parts.Part as part
 use Rattle.omf_order.specs.declared.planning.Mark as mark
 use Rattle.omf_order.specs.declared.planning.Plan as plan
 use Rattle.omf_order.specs.Keys.{Selector}
-use Rattle.omf_order.specs.Parts.{Part, alignment_of, is_private, kind_of}
-use Rattle.omf_order.specs.Segments.{same_class}
+use Rattle.omf_order.specs.Parts.{Part, alignment_of, is_private}
+use Rattle.omf_order.specs.Segments.{kind_of, same_class}
 use Rattle.omf_order.specs.Plan.{Mark, Plan}
 
 -- segments

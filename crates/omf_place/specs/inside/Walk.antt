@@ -1,20 +1,21 @@
 -- What the walk over the units asks and leaves.
 use Rattle.std.specs.Prelude.{◌≡◌, ◌≢◌, ℕ, ◌+◌, ◌<◌, ◌≤◌, List, Bool, true, false, filter, slice_index, slice_set, ◌*◌}
-use Rattle.std.specs.Prelude.{if◌then◌else◌}
+use Rattle.std.specs.Prelude.{if◌then◌else◌, not, ◌&&◌}
+use Rattle.omf_module.specs.declared.Kind.TheVariants.{Stack, Common}
 use Rattle.omf_module.specs.declared.Standing.{Standing}
 use Rattle.omf_module.specs.declared.Standing.TheVariants.{Absolute, Relocatable}
 use Rattle.std.specs.List.{AllByRecursion}
 use Rattle.omf_place.specs.declared.starts.Measure.{Measure}
-use Rattle.omf_place.specs.Parts.{Site, placement_order}
+use Rattle.omf_place.specs.Parts.{Site, is_kind, placement_order}
 use Rattle.omf_place.specs.inside.Ranks.{rank}
-use Rattle.omf_place.specs.Placed.{IsNextStart, is_unit, is_common, is_stack, unit_alignment, unit_length, alignment_of}
+use Rattle.omf_place.specs.Placed.{IsNextStart, is_unit, unit_alignment, unit_length, alignment_of}
 
 -- the alignment and the length with which a site is placed, where these are the greatest of its combined segment
 abbrev pub measured : Site → (leads : Bool) → (greatest_alignment greatest_length : ℕ) → Measure
 measured a leads alignment length = record {
-  alignment = if is_common a then alignment else if is_stack a
-      then (if leads then alignment_of a.segment.standing else 1) else alignment_of a.segment.standing;
-  length = if is_common a then length else a.segment.length;
+  alignment = if is_kind Common a.segment.standing then alignment
+      else if is_kind Stack a.segment.standing && not leads then 1 else alignment_of a.segment.standing;
+  length = if is_kind Common a.segment.standing then length else a.segment.length;
 }
 
 -- how a site is placed
@@ -50,7 +51,7 @@ PlacesUnit ss end old new last u = Places (is_unit ss u) (unit_measure ss u) end
 -- the address of a segment, from its own as a unit and that of its combined segment's first part
 abbrev pub settled_by : Site → (own first : ℕ) → Standing → ℕ
 settled_by a own first (Absolute frame offset) = 16 * frame + offset
-settled_by a own first (Relocatable alignment kind) = if is_common a then first else own
+settled_by a own first (Relocatable alignment kind) = if is_kind Common a.segment.standing then first else own
 
 -- the address of each site, from those of the units
 abbrev pub settled_at : List Site → List ℕ → Site → Standing → ℕ

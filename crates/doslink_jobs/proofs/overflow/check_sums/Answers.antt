@@ -1,7 +1,7 @@
 use Rattle.std.proofs.Common.{◌≡◌, IfSome, None, cond, ap, subst, sym, inl, inr, ◌∙◌}
 use Rattle.std.specs.Option.{option_or}
 use Rattle.doslink_link.specs.Linking.{bytes_of}
-use Rattle.omf_place.specs.Faults.{IsFirstFault, IsOnlyLayout}
+use Rattle.omf_place.specs.inside.Placing.{IsFirstFault, IsOnlyLayout}
 use Rattle.omf_place.specs.Said.{said}
 use Rattle.omf_image.specs.Overflow.{first_overflow, start_overflow}
 use Rattle.doslink_jobs.specs.inside.Inputs.{input_list}

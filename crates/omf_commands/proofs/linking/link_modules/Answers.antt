@@ -1,5 +1,5 @@
 use Rattle.std.proofs.Common.{Ok, Err, refl, subst, IfSome}
-use Rattle.omf_place.specs.Faults.{IsOnlyLayout, IsFirstFault}
+use Rattle.omf_place.specs.inside.Placing.{IsOnlyLayout, IsFirstFault}
 use Rattle.omf_place.specs.Said.{said}
 use Rattle.omf_image.specs.Building.{Builds}
 use Rattle.omf_commands.proofs.LinkSteps.{build_refused, place_refused}

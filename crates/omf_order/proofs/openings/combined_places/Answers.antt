@@ -1,7 +1,7 @@
 use Rattle.std.proofs.Common.{◌≡◌, ℕ, List, IfOk, ◌∙◌, ap, subst, ◌&&◌}
 use Rattle.std.specs.Str.{bytes_eq}
 use Rattle.omf_module.specs.Seen.{segment_seen}
-use Rattle.omf_order.specs.Parts.{kind_of}
+use Rattle.omf_order.specs.Segments.{kind_of}
 use Rattle.omf_order.specs.inside.Held.{combining, joining, same_key}
 use Rattle.omf_order.proofs.FirstMet.{places_of, same_joinings}
 use Rattle.omf_order.proofs.openings.combined_places.Goals as goal

@@ -3,11 +3,11 @@ use Rattle.std.specs.List.{AllByRecursion}
 use Rattle.std.specs.Option.{option_or}
 use Rattle.omf_module.specs.Sound.{SegmentFits}
 use Rattle.omf_place.specs.Bounded.{IsBounded}
-use Rattle.omf_place.specs.Faults.{IsFirstFault, IsOnlyLayout, PlacementFault, segment_fault}
+use Rattle.omf_place.specs.Faults.{PlacementFault, segment_fault}
 use Rattle.omf_place.specs.inside.Steps.{later_fault, size_fault}
 use Rattle.omf_place.specs.Layout.{layout_at}
 use Rattle.omf_place.specs.Placed.{IsPlaced}
-use Rattle.omf_place.specs.inside.Placing.{IsOnlyPlacement}
+use Rattle.omf_place.specs.inside.Placing.{IsFirstFault, IsOnlyLayout, IsOnlyPlacement}
 use Rattle.omf_place.specs.Parts.{placement_order, sites}
 use Rattle.omf_place.specs.inside.Ranks.{rank}
 use Rattle.omf_place.specs.Said.{said}

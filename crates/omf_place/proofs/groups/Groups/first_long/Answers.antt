@@ -1,10 +1,11 @@
 use Rattle.std.proofs.Common.{◌∙◌, ap, sym, map, [], Option, Some, None, arith, find}
 use Rattle.std.specs.Option.{option_map}
-use Rattle.omf_place.specs.Faults.{GroupTooLong, is_long_group}
+use Rattle.omf_place.specs.Faults.{GroupTooLong}
 use Rattle.omf_place.specs.declared.groups.Grpdef as held
 use Rattle.omf_place.specs.Parts.{sites}
 use Rattle.omf_place.specs.Tables.{Grpdef, grpdefs}
 use Rattle.omf_place.specs.inside.Groups.{GroupReach, grpdef_view}
+use Rattle.omf_place.specs.inside.OfProgram.{is_long_group}
 use Rattle.omf_place.specs.inside.Program.{addresses_of}
 use Rattle.omf_place.proofs.Finds.{find-here, find-more}
 use Rattle.omf_place.proofs.GroupSteps.{as-many, at, found, viewed}

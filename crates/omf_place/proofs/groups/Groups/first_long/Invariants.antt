@@ -1,7 +1,6 @@
 use Rattle.std.proofs.Common.{◌≡◌, take, find, None}
-use Rattle.omf_place.specs.Faults.{is_long_group}
 use Rattle.omf_place.specs.Tables.{Grpdef, grpdefs}
-use Rattle.omf_place.specs.inside.OfProgram.{of_program}
+use Rattle.omf_place.specs.inside.OfProgram.{is_long_group, of_program}
 use Rattle.omf_place.proofs.groups.Groups.first_long.Given as goal
 
 abbrev pub invariant-loop-grpdef : goal.invariant-loop-grpdef
