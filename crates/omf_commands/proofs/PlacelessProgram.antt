@@ -20,16 +20,15 @@ use Rattle.omf_image.specs.declared.faults.FixFault.TheVariants.{At, TooManyRelo
 use Rattle.omf_image.specs.declared.faults.FixKind.{FixKind}
 use Rattle.omf_image.specs.declared.faults.FixKind.TheVariants.{CoversRelocated}
 use Rattle.omf_image.specs.Faults.{fixup_fault, fixups_fault, record_fault, records_fault}
-use Rattle.omf_image.specs.inside.Whole.{data_fault}
+use Rattle.omf_image.specs.inside.Whole.{covers_word, data_fault}
 use Rattle.omf_image.specs.inside.Stops.{or_else}
 use Rattle.std.specs.Option.{option_or}
-use Rattle.omf_image.specs.Located.{covers_word}
-use Rattle.omf_image.specs.Records.{hits, stored_of, entry_start, meaning, DataEntry, entries, fixup_patches, datum}
+use Rattle.omf_image.specs.Records.{hits, stored_of, entry_start, meaning, entries, fixup_patches, datum}
 use Rattle.omf_image.specs.Records.{record_relocations, relocations, program_byte, written}
 use Rattle.omf_image.specs.inside.Whole.{page_covered}
 use Rattle.omf_image.specs.inside.Lookups.{patches_of}
-use Rattle.omf_image.specs.inside.Entries.{entries_from, module_entries}
-use Rattle.omf_image.specs.Registers.{StartEntry, starts, starts_fault, program_fault, entry_point, registers}
+use Rattle.omf_image.specs.inside.Entries.{StartEntry, DataEntry, entries_from, module_entries}
+use Rattle.omf_image.specs.Registers.{starts, starts_fault, program_fault, entry_point, registers}
 use Rattle.omf_image.specs.inside.Starts.{is_stack}
 use Rattle.omf_image.specs.inside.Entries.{module_start, starts_from}
 use Rattle.omf_image.specs.inside.Starts.{count_fault, is_stack_segment}
@@ -39,7 +38,7 @@ use Rattle.omf_commands.proofs.Placeless.{placeless, placeless_fixup, placeless_
 
 abbrev placeless_entry : DataEntry → DataEntry
 placeless_entry e =
-    record { input = e.input; module' = placeless e.module'; data_record = placeless_data e.data_record }
+    record { input = e.input; module' = placeless e.module'; item = placeless_data e.item }
 
 entries_same : (input : ℕ) (modules : List Module)
     → entries_from input (map placeless modules) ≡ map placeless_entry (entries_from input modules)
@@ -54,7 +53,7 @@ entries_same input (m ∷ ms) =
 patches_same : (P : ℕ) (layout : Layout) (e : DataEntry) (x : ResolvedFixup)
     → fixup_patches P layout (placeless_entry e) (placeless_fixup x) ≡ fixup_patches P layout e x
 patches_same P layout e x =
-    patches_for (meaning layout e x) (entry_start layout e) (hits x.offset (stored_of e.data_record))
+    patches_for (meaning layout e x) (entry_start layout e) (hits x.offset (stored_of e.item))
   where
     patches_for : (f : Result Resolved FixKind) (start : ℕ) (is : List ℕ)
         → patches_of P f (placeless_fixup x) start is ≡ patches_of P f x start is
@@ -131,9 +130,9 @@ record_same : (layout : Layout) (words : List ℕ) (e : DataEntry)
     → record_fault layout words (placeless_entry e) ≡ option_map placeless_fault (record_fault layout words e)
 record_same layout words e =
     ap₂ (λ d rest. cond (covers_word d words) (Some (At CoversRelocated e.input 0)) rest) (datum_same 0 layout e)
-    (fixups_same layout e [] e.data_record.fixups)
-    ∙ fault_if (covers_word (datum 0 layout e) words) CoversRelocated e.input e.data_record.place
-    (fixups_fault layout e [] e.data_record.fixups)
+    (fixups_same layout e [] e.item.fixups)
+    ∙ fault_if (covers_word (datum 0 layout e) words) CoversRelocated e.input e.item.place
+    (fixups_fault layout e [] e.item.fixups)
 
 records_same : (layout : Layout) (words : List ℕ) (es : List DataEntry)
     → records_fault layout words (map placeless_entry es) ≡ option_map placeless_fault (records_fault layout words es)
@@ -150,7 +149,7 @@ records_same layout words (e ∷ es) =
 -- ---- the start
 
 abbrev placeless_start_entry : StartEntry → StartEntry
-placeless_start_entry e = record { input = e.input; module' = placeless e.module'; start = placeless_start e.start }
+placeless_start_entry e = record { input = e.input; module' = placeless e.module'; item = placeless_start e.item }
 
 starts_same : (input : ℕ) (modules : List Module)
     → starts_from input (map placeless modules) ≡ map placeless_start_entry (starts_from input modules)
@@ -168,7 +167,7 @@ starts_same input (m ∷ ms) =
 starts_fault_same : (layout : Layout) (es : List StartEntry)
     → starts_fault layout (map placeless_start_entry es) ≡ option_map placeless_fault (starts_fault layout es)
 starts_fault_same layout [] = refl
-starts_fault_same layout (e ∷ []) = fault_at _ e.input e.start.place
+starts_fault_same layout (e ∷ []) = fault_at _ e.input e.item.place
 starts_fault_same layout (e ∷ (f ∷ es)) = refl
 
 count_same : (layout : Layout) (modules : List Module)

@@ -7,8 +7,8 @@ use Rattle.omf_record.specs.Expansion.{StandTogether, StandWhole}
 use Rattle.omf_image.specs.declared.patch.Patch.{Patch}
 use Rattle.omf_image.specs.declared.patch.Patch.TheVariants.{Byte, Word, Relocated}
 use Rattle.omf_image.specs.Words.{word_at, add_byte, add_word}
-use Rattle.omf_image.specs.Patch.{patched, patched_all}
-use Rattle.omf_image.specs.inside.Patches.{patch_end}
+use Rattle.omf_image.specs.Patch.{patched}
+use Rattle.omf_image.specs.inside.Patches.{patched_all, patch_end}
 use Rattle.omf_image.specs.inside.States.{at_start}
 use Rattle.omf_image.specs.Records.{hits}
 use Rattle.omf_image.specs.inside.Stored.{Copied}

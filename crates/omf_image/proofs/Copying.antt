@@ -8,8 +8,7 @@ use Rattle.std.proofs.lemmas.List.{get_or-set_same, get_or-set_other, length-map
 use Rattle.omf_record.specs.Expansion.{places, bytes, AreCopies}
 use Rattle.omf_image.specs.declared.patch.Patch.{Patch}
 use Rattle.omf_image.specs.declared.patch.Patch.TheVariants.{Byte, Word, Relocated}
-use Rattle.omf_image.specs.Patch.{patched_all}
-use Rattle.omf_image.specs.inside.Patches.{relocated_places}
+use Rattle.omf_image.specs.inside.Patches.{patched_all, relocated_places}
 use Rattle.omf_image.specs.inside.Marks.{IsMarked}
 use Rattle.omf_image.specs.inside.Pages.{IsLaid, MakesPages}
 use Rattle.omf_image.specs.inside.States.{State, begun, IsRoom, Holds}

@@ -3,7 +3,8 @@ use Rattle.std.proofs.Common.{◌≡◌, ℕ, ◌+◌, ◌-◌, ◌<◌, ◌≤�
 use Rattle.std.proofs.Common.{refl, ◌∙◌, sym, arith, inl, inr, eq-eqb}
 use Rattle.std.proofs.lemmas.Bool.{and_parts, or_cases, or_left, or_right, leb-true, ltb-true, cases_lt, true≢false}
 use Rattle.std.proofs.lemmas.Bool.{eqb-true, false_from_ne_true}
-use Rattle.omf_image.specs.Located.{LocatedBytes, covers, covers_word}
+use Rattle.omf_image.specs.Located.{LocatedBytes, covers}
+use Rattle.omf_image.specs.inside.Whole.{covers_word}
 use Rattle.omf_image.specs.inside.Leading.{IsListed}
 use Rattle.omf_image.proofs.Carry.{covers-from}
 use Rattle.omf_image.proofs.Members.{any_from, any_in}

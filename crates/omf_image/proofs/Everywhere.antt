@@ -9,7 +9,8 @@ use Rattle.omf_module.specs.Module.{Module}
 use Rattle.omf_place.specs.Layout.{Layout}
 use Rattle.omf_image.specs.Located.{LocatedBytes, covers}
 use Rattle.omf_image.specs.Words.{add_words}
-use Rattle.omf_image.specs.Records.{program_byte, bytes_of, DataEntry, entries, entry_start, entry_end, written}
+use Rattle.omf_image.specs.Records.{program_byte, bytes_of, entries, entry_start, entry_end, written}
+use Rattle.omf_image.specs.inside.Entries.{DataEntry}
 use Rattle.omf_image.specs.Records.{patches}
 use Rattle.omf_image.specs.Records.{relocations}
 use Rattle.omf_image.specs.inside.Leading.{relocated_words}
@@ -109,12 +110,12 @@ most_each n layout (e ∷ es) = (
 )
 
 most_within : (n size : ℕ) (layout : Layout) (es : List DataEntry) → n ≤ size
-    → AllByRecursion (λ e. entry_start layout e + length (bytes_of e.data_record) ≤ size) es
+    → AllByRecursion (λ e. entry_start layout e + length (bytes_of e.item) ≤ size) es
     → fold max n (map (entry_end layout) es) ≤ size
 most_within n size layout [] h room = h
 most_within n size layout (e ∷ es) h room =
     let here : entry_end layout e ≤ size =
-    end_within (entry_start layout e) (length (bytes_of e.data_record)) size room.0 in
+    end_within (entry_start layout e) (length (bytes_of e.item)) size room.0 in
     most_within (max n (entry_end layout e)) size layout es (omega (arith, h, here)) room.1
 
 -- each relocated word lies below an address where no data reaches
@@ -125,9 +126,9 @@ all_below end layout (e ∷ es) room each r h =
     elim (In-cases r (addresses (piece layout e)) (all_addresses (map (piece layout) es)) h) [
       | inl k ↦
           let g = In-map (entry_start layout e) r (relocated_places (patches 0 layout e)) k in
-          let n = length-patched_all (patches 0 layout e) (bytes_of e.data_record) in
+          let n = length-patched_all (patches 0 layout e) (bytes_of e.item) in
           let ends =
-          end_some (entry_start layout e) (length (bytes_of e.data_record)) (omega (arith, each.1 g.0 g.1, n)) in
+          end_some (entry_start layout e) (length (bytes_of e.item)) (omega (arith, each.1 g.0 g.1, n)) in
           omega (arith, g.2, each.1 g.0 g.1, n, room.0, ends)
       | inr k ↦ all_below end layout es room.1 each.2 r k
     ]
@@ -153,13 +154,13 @@ pub sound_relocations : (layout : Layout) (modules : List Module) → AllWellPla
     → data_fault layout modules ≡ None → SoundRelocations layout modules
 sound_relocations layout modules well inside none =
     let es = entries modules in
-    let s = sound_records 0 layout [] es (recursion_from_All (λ e. WellPlaced e.data_record) es well) none in
+    let s = sound_records 0 layout [] es (recursion_from_All (λ e. WellPlaced e.item) es well) none in
     let words = relocated_words layout modules in
     let p : ℕ → Bool = λ a. list_any (λ w. eqb a w) words in
     let room = all_below (written layout modules) layout es (most_each 0 layout es) s.apart in
     let within =
     most_within 0 layout.size layout es (omega arith)
-    (recursion_from_All (λ e. entry_start layout e + length (bytes_of e.data_record) ≤ layout.size) es inside) in
+    (recursion_from_All (λ e. entry_start layout e + length (bytes_of e.item) ≤ layout.size) es inside) in
     let inner : (r : ℕ) → In r words → In r (all_addresses (map (piece layout) es)) =
     λ r k. subst (λ (l : List ℕ). In r l) (sym s.listed) k in
     let there : (r : ℕ) → In r (relocations layout modules) → In r words =

@@ -84,14 +84,14 @@ spaced_pairs (r ∷ rs) h (suc i) (suc j) d l m = spaced_pairs rs h.1 i j d (ome
 
 well : (layout : Layout) (modules : List Module) → IsReady layout modules → AllWellPlaced modules
 well layout modules h =
-    All-weaker (IsEntryReady layout) (λ e. WellPlaced e.data_record)
+    All-weaker (IsEntryReady layout) (λ e. WellPlaced e.item)
     (λ e r.
-    All-weaker (IsFixupReady layout e) (LiesInContent e.data_record) (λ x f. f.lies) e.data_record.fixups r.fixups)
+    All-weaker (IsFixupReady layout e) (LiesInContent e.item) (λ x f. f.lies) e.item.fixups r.fixups)
     (entries modules) h.records
 
 inside : (layout : Layout) (modules : List Module) → IsReady layout modules → AllInside layout modules
 inside layout modules h =
-    All-weaker (IsEntryReady layout) (λ e. entry_start layout e + length (bytes_of e.data_record) ≤ layout.size)
+    All-weaker (IsEntryReady layout) (λ e. entry_start layout e + length (bytes_of e.item) ≤ layout.size)
     (λ e r. r.inside) (entries modules) h.records
 
 -- the program that the code makes of the last state

@@ -10,13 +10,14 @@ use Rattle.omf_record.specs.declared.fixups.Location.{Location}
 use Rattle.omf_record.specs.declared.fixups.Location.TheVariants.{LowByte, Offset, Base, Pointer, LoaderOffset}
 use Rattle.omf_image.specs.declared.patch.Patch.{Patch}
 use Rattle.omf_image.specs.declared.patch.Patch.TheVariants.{Word}
-use Rattle.omf_image.specs.Patch.{clear, all_clear}
-use Rattle.omf_image.specs.inside.Patches.{patch_start, patch_end, is_relocated}
+use Rattle.omf_image.specs.Patch.{clear}
+use Rattle.omf_image.specs.inside.Patches.{all_clear, patch_start, patch_end, is_relocated}
 use Rattle.omf_image.specs.declared.reference.Base.{Base as Frame}
 use Rattle.omf_image.specs.declared.reference.Base.TheVariants.{Relocatable as Moving, Absolute as Fixed}
 use Rattle.omf_image.specs.declared.reference.Resolved.{Resolved}
 use Rattle.omf_image.specs.Reference.{frame'}
-use Rattle.omf_image.specs.Value.{modulo, from_frame, base_patch, patches_at}
+use Rattle.omf_image.specs.Value.{modulo, base_patch, patches_at}
+use Rattle.omf_image.specs.inside.Distances.{from_frame}
 use Rattle.omf_record.specs.Expansion.{StandTogether}
 use Rattle.omf_record.specs.Numbers.{location_width}
 use Rattle.omf_image.specs.Records.{hits, stored_of}

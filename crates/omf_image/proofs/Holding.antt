@@ -6,8 +6,8 @@ use Rattle.std.proofs.lemmas.Bool.{cases_eq, cases_lt, cond-true, cond-false}
 use Rattle.omf_image.specs.declared.patch.Patch.{Patch}
 use Rattle.omf_image.specs.declared.patch.Patch.TheVariants.{Byte, Word, Relocated}
 use Rattle.omf_image.specs.Words.{word_at, put_word, add_byte, add_word}
-use Rattle.omf_image.specs.Patch.{patched, patched_all}
-use Rattle.omf_image.specs.inside.Patches.{relocated_places, patch_end}
+use Rattle.omf_image.specs.Patch.{patched}
+use Rattle.omf_image.specs.inside.Patches.{patched_all, relocated_places, patch_end}
 use Rattle.omf_image.specs.Located.{LocatedBytes, covers}
 use Rattle.omf_image.specs.inside.Whole.{byte_of}
 use Rattle.omf_image.specs.inside.Pages.{IsLaid}

@@ -7,8 +7,8 @@ use Rattle.std.specs.List.{list_all}
 use Rattle.omf_image.specs.Words.{add_byte, add_word, add_words}
 use Rattle.omf_image.specs.declared.patch.Patch.{Patch}
 use Rattle.omf_image.specs.declared.patch.Patch.TheVariants.{Byte, Word, Relocated}
-use Rattle.omf_image.specs.Patch.{patched, patched_all, clear}
-use Rattle.omf_image.specs.inside.Patches.{relocated_places, patch_start, patch_end}
+use Rattle.omf_image.specs.Patch.{patched, clear}
+use Rattle.omf_image.specs.inside.Patches.{patched_all, relocated_places, patch_start, patch_end}
 use Rattle.omf_image.proofs.Words.{length-add_word, add_word-add_word, add_byte-add_word, add_word-comm}
 
 -- a patch as it stands where the program is loaded at paragraph P

@@ -15,10 +15,11 @@ use Rattle.omf_image.specs.declared.faults.FixFault.{FixFault}
 use Rattle.omf_image.specs.declared.faults.FixFault.TheVariants.{At, TooManyRelocations, Memory}
 use Rattle.omf_image.specs.declared.faults.FixKind.TheVariants.{CoversRelocated}
 use Rattle.omf_image.specs.inside.Patches.{relocated_places}
-use Rattle.omf_image.specs.Located.{LocatedBytes, covers, in_page, covers_word}
-use Rattle.omf_image.specs.inside.Whole.{byte_of, data_fault}
+use Rattle.omf_image.specs.Located.{LocatedBytes, covers, in_page}
+use Rattle.omf_image.specs.inside.Whole.{covers_word, byte_of, data_fault}
 use Rattle.omf_image.specs.inside.Leading.{last_or}
-use Rattle.omf_image.specs.Records.{DataEntry, entry_start, bytes_of, datum, patches, record_relocations}
+use Rattle.omf_image.specs.Records.{entry_start, bytes_of, datum, patches, record_relocations}
+use Rattle.omf_image.specs.inside.Entries.{DataEntry}
 use Rattle.omf_image.specs.inside.WellPlaced.{WellPlaced}
 use Rattle.omf_image.specs.Faults.{fixups_fault, record_fault, records_fault}
 use Rattle.std.specs.Option.{option_or}
@@ -80,23 +81,23 @@ pub in_page_sized : (k start : ℕ) (xs ys : List ℕ) → length xs ≡ length 
 in_page_sized k start xs ys e = ap (λ (n : ℕ). ltb 0 n && (ltb start (4096 * (k + 1)) && ltb (4096 * k) (start + n))) e
 
 pub record_clean : (layout : Layout) (e : DataEntry) (words : List ℕ) → covers_word (datum 0 layout e) words ≡ false
-    → fixups_fault layout e [] e.data_record.fixups ≡ None → record_fault layout words e ≡ None
+    → fixups_fault layout e [] e.item.fixups ≡ None → record_fault layout words e ≡ None
 record_clean layout e words h k =
-    cond-false (covers_word (datum 0 layout e) words) (Some (At CoversRelocated e.input e.data_record.place))
-    (fixups_fault layout e [] e.data_record.fixups) h ∙ k
+    cond-false (covers_word (datum 0 layout e) words) (Some (At CoversRelocated e.input e.item.place))
+    (fixups_fault layout e [] e.item.fixups) h ∙ k
 
 -- a data record was added to the state base
 pub leads_on : (layout : Layout) (modules : List Module) (base now : State) (e : DataEntry) (rest : List DataEntry)
-    → WellPlaced e.data_record → IsWhole layout base
-    → entry_start layout e + length (bytes_of e.data_record) ≤ layout.size → (l : Leads layout modules base (e ∷ rest))
-    → covers_word (datum 0 layout e) l.so_far ≡ false → fixups_fault layout e [] e.data_record.fixups ≡ None
-    → Holds (entry_start layout e) (bytes_of e.data_record) base now (patches 0 layout e)
+    → WellPlaced e.item → IsWhole layout base
+    → entry_start layout e + length (bytes_of e.item) ≤ layout.size → (l : Leads layout modules base (e ∷ rest))
+    → covers_word (datum 0 layout e) l.so_far ≡ false → fixups_fault layout e [] e.item.fixups ≡ None
+    → Holds (entry_start layout e) (bytes_of e.item) base now (patches 0 layout e)
     → Leads layout modules now rest
 leads_on layout modules base now e rest well whole inside l clean none h =
     let d = datum 0 layout e in
     let ps = patches 0 layout e in
     let start = entry_start layout e in
-    let n : length d.bytes ≡ length (bytes_of e.data_record) = length-patched_all ps (bytes_of e.data_record) in
+    let n : length d.bytes ≡ length (bytes_of e.item) = length-patched_all ps (bytes_of e.item) in
     let sound = sound_entry 0 layout e well none in
     let mine = record_relocations layout e in
     let room : (w : ℕ) → In w mine → w < length base.words = λ w k.
@@ -116,7 +117,7 @@ leads_on layout modules base now e rest well whole inside l clean none h =
           ap (λ (b : Bool). list_any (in_page k) (map (datum 0 layout) rest) || b)
           (h.made k
           ∙ ap (λ (b : Bool). b || get_or base.made k false)
-          (in_page_sized k start (bytes_of e.data_record) d.bytes (sym n)))
+          (in_page_sized k start (bytes_of e.item) d.bytes (sym n)))
           ∙ or_swap (list_any (in_page k) (map (datum 0 layout) rest)) (in_page k d) (get_or base.made k false)
           ∙ l.pages k;
       words = λ a.
@@ -145,17 +146,17 @@ leads_to_fault layout modules base e rest f l h =
     ∙ ap (λ (o : Option FixFault). option_or o (records_fault layout (l.so_far ++ record_relocations layout e) rest)) h
 
 pub covers_fault : (layout : Layout) (e : DataEntry) (words : List ℕ) → covers_word (datum 0 layout e) words ≡ true
-    → record_fault layout words e ≡ Some (At CoversRelocated e.input e.data_record.place)
+    → record_fault layout words e ≡ Some (At CoversRelocated e.input e.item.place)
 covers_fault layout e words h =
-    cond-true (covers_word (datum 0 layout e) words) (Some (At CoversRelocated e.input e.data_record.place))
-    (fixups_fault layout e [] e.data_record.fixups) h
+    cond-true (covers_word (datum 0 layout e) words) (Some (At CoversRelocated e.input e.item.place))
+    (fixups_fault layout e [] e.item.fixups) h
 
 pub fixups_are_fault : (layout : Layout) (e : DataEntry) (words : List ℕ) (f : FixFault)
-    → covers_word (datum 0 layout e) words ≡ false → fixups_fault layout e [] e.data_record.fixups ≡ Some f
+    → covers_word (datum 0 layout e) words ≡ false → fixups_fault layout e [] e.item.fixups ≡ Some f
     → record_fault layout words e ≡ Some f
 fixups_are_fault layout e words f h k =
-    cond-false (covers_word (datum 0 layout e) words) (Some (At CoversRelocated e.input e.data_record.place))
-    (fixups_fault layout e [] e.data_record.fixups) h ∙ k
+    cond-false (covers_word (datum 0 layout e) words) (Some (At CoversRelocated e.input e.item.place))
+    (fixups_fault layout e [] e.item.fixups) h ∙ k
 
 -- ---- answers
 pub answers_on : {X : Type 0} (r : Result X FixFault) (F G : Option FixFault) (P Q : Type 0)

@@ -5,14 +5,13 @@ use Rattle.std.proofs.lemmas.List.{get_or_default, length-append, length-map, ge
 use Rattle.std.proofs.lemmas.List.{get_or-append-add}
 use Rattle.std.proofs.lemmas.Option.{get_or_from_slice_get}
 use Rattle.omf_module.specs.Module.{DataRecord, Module}
-use Rattle.omf_image.specs.Records.{DataEntry}
-use Rattle.omf_image.specs.inside.Entries.{module_entries, entries_from}
+use Rattle.omf_image.specs.inside.Entries.{StartEntry, DataEntry, module_entries, entries_from}
 use Rattle.omf_module.specs.declared.Start.{Start}
 use Rattle.omf_place.specs.Layout.{Layout}
 use Rattle.omf_image.specs.declared.faults.FixKind.TheVariants.{TwoStarts}
 use Rattle.omf_image.specs.declared.faults.FixFault.TheVariants.{At}
 use Rattle.omf_image.specs.Overflow.{only_overflow, start_overflow}
-use Rattle.omf_image.specs.Registers.{StartEntry, starts, starts_fault, start_meaning, entry_point}
+use Rattle.omf_image.specs.Registers.{starts, starts_fault, start_meaning, entry_point}
 use Rattle.omf_image.specs.inside.Entries.{module_start, starts_from}
 use Rattle.omf_image.specs.inside.Starts.{FindsStart, GivesEntry}
 use Rattle.omf_image.proofs.Meaning.{drop_more}
@@ -25,7 +24,7 @@ all_right P xs ys h k d l =
     subst P (get_or-append-add xs ys k d) (h (length xs + k) d (omega (arith, length-append xs ys)))
 
 abbrev pub entry_of : ℕ → Module → DataRecord → DataEntry
-entry_of n m d = record { input = n; module' = m; data_record = d }
+entry_of n m d = record { input = n; module' = m; item = d }
 
 pub all_at : {X Y : Type 0} (P : Y → Type 0) (f : X → Y) (xs : List X) (i : ℕ) (x : X) → All P (map f xs)
     → i < length xs → slice_get xs i ≡ Some x → P (f x)
@@ -69,12 +68,12 @@ some_item ms i l =
 -- the only one
 pub one_start : (layout : Layout) (ms : List Module) (f : ℕ × Start) (m : Module) (entry : ℕ × ℕ) → m ≡ get_or ms f.0 m
     → FindsStart ms 0 (Some f) → FindsStart ms (f.0 + 1) None
-    → GivesEntry (start_meaning layout (record { input = f.0; module' = m; start = f.1 })) (Ok entry)
+    → GivesEntry (start_meaning layout (record { input = f.0; module' = m; item = f.1 })) (Ok entry)
     → (starts_fault layout (starts ms) ≡ None) × (entry ≡ entry_point 0 layout (starts ms))
 one_start layout ms f m entry is one none gives =
-    let e : StartEntry = record { input = f.0; module' = m; start = f.1 } in
+    let e : StartEntry = record { input = f.0; module' = m; item = f.1 } in
     let only : starts ms ≡ e ∷ [] = one.1 m is ∙ ap (λ (es : List StartEntry). e ∷ es) none in (
-      ap (starts_fault layout) only ∙ ap (option_map (λ k. At k e.input e.start.place)) gives.0,
+      ap (starts_fault layout) only ∙ ap (option_map (λ k. At k e.input e.item.place)) gives.0,
       gives.1 ∙ sym (ap (entry_point 0 layout) only),
     )
 
@@ -83,7 +82,7 @@ pub two_starts : (layout : Layout) (ms : List Module) (f g : ℕ × Start) → F
 two_starts layout ms f g one two =
     let m = some_item ms f.0 one.0 in
     let n = some_item ms g.0 two.0 in
-    let e : StartEntry = record { input = f.0; module' = m.0; start = f.1 } in
+    let e : StartEntry = record { input = f.0; module' = m.0; item = f.1 } in
     ap (starts_fault layout) (one.1 m.0 m.1 ∙ ap (λ (es : List StartEntry). e ∷ es) (two.1 n.0 n.1))
 
 -- of two starts neither is looked at
@@ -92,5 +91,5 @@ pub neither_overflows : (layout : Layout) (ms : List Module) (f g : ℕ × Start
 neither_overflows layout ms f g one two =
     let m = some_item ms f.0 one.0 in
     let n = some_item ms g.0 two.0 in
-    let e : StartEntry = record { input = f.0; module' = m.0; start = f.1 } in
+    let e : StartEntry = record { input = f.0; module' = m.0; item = f.1 } in
     ap (only_overflow layout) (one.1 m.0 m.1 ∙ ap (λ (es : List StartEntry). e ∷ es) (two.1 n.0 n.1))

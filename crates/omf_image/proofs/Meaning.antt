@@ -18,7 +18,8 @@ use Rattle.omf_image.specs.declared.faults.FixKind.{FixKind}
 use Rattle.omf_image.specs.declared.faults.FixKind.TheVariants.{Mixed, OutOfFrame, ShortTooFar, OverlapRelocated}
 use Rattle.omf_image.specs.declared.patch.Patch.{Patch}
 use Rattle.omf_image.specs.declared.reference.Resolved.{Resolved}
-use Rattle.omf_image.specs.Records.{DataEntry, entry_start, meaning, patches_on, fixup_patches, hits, stored_of}
+use Rattle.omf_image.specs.Records.{entry_start, meaning, patches_on, fixup_patches, hits, stored_of}
+use Rattle.omf_image.specs.inside.Entries.{DataEntry}
 use Rattle.omf_image.specs.inside.Lookups.{patches_of}
 use Rattle.omf_image.specs.inside.WellPlaced.{LiesInContent}
 use Rattle.omf_image.specs.Faults.{first_test, resolved_fault, fixup_fault, fixups_fault}
@@ -52,21 +53,21 @@ first_four false false false false h k = cc
 -- at what the code found
 pub fault_on : (layout : Layout) (e : DataEntry) (x : ResolvedFixup) (r : Resolved) (start : ℕ) (is : List ℕ)
     (earlier : List Patch) → meaning layout e x ≡ Ok r → start ≡ entry_start layout e
-    → is ≡ hits x.offset (stored_of e.data_record)
+    → is ≡ hits x.offset (stored_of e.item)
     → fixup_fault layout e earlier x ≡ first_test r x.self_relative x.location start is earlier
 fault_on layout e x r start is earlier m s h =
     let at = entry_start layout e in
-    let found = hits x.offset (stored_of e.data_record) in
+    let found = hits x.offset (stored_of e.item) in
     ap (λ (f : Result Resolved FixKind).
     resolved_fault f (λ q. first_test q x.self_relative x.location at found earlier)) m
     ∙ ap (λ (n : ℕ). first_test r x.self_relative x.location n found earlier) (sym s)
     ∙ ap (λ (l : List ℕ). first_test r x.self_relative x.location start l earlier) (sym h)
 
 pub patches_found : (layout : Layout) (e : DataEntry) (x : ResolvedFixup) (r : Resolved) (start : ℕ) (is : List ℕ)
-    → meaning layout e x ≡ Ok r → start ≡ entry_start layout e → is ≡ hits x.offset (stored_of e.data_record)
+    → meaning layout e x ≡ Ok r → start ≡ entry_start layout e → is ≡ hits x.offset (stored_of e.item)
     → fixup_patches 0 layout e x ≡ patches_on 0 r x.self_relative x.location start is
 patches_found layout e x r start is m s h =
-    let found = hits x.offset (stored_of e.data_record) in
+    let found = hits x.offset (stored_of e.item) in
     ap (λ (f : Result Resolved FixKind). patches_of 0 f x (entry_start layout e) found) m
     ∙ ap (λ (n : ℕ). patches_on 0 r x.self_relative x.location n found) (sym s)
     ∙ ap (patches_on 0 r x.self_relative x.location start) (sym h)

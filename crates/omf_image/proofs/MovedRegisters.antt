@@ -12,9 +12,12 @@ use Rattle.omf_image.specs.declared.reference.Resolved.{Resolved}
 use Rattle.omf_image.specs.declared.faults.FixKind.{FixKind}
 use Rattle.omf_image.specs.declared.faults.FixFault.{FixFault}
 use Rattle.omf_image.specs.declared.faults.FixFault.TheVariants.{At}
-use Rattle.omf_image.specs.Value.{modulo, from_frame}
+use Rattle.omf_image.specs.Value.{modulo}
+use Rattle.omf_image.specs.inside.Distances.{from_frame}
 use Rattle.omf_image.specs.declared.start.Registers.{Registers}
-use Rattle.omf_image.specs.Registers.{StartEntry, starts, start_meaning, start_kind, starts_fault, stack, entry_of}
+use Rattle.omf_image.specs.Registers.{starts, start_meaning, start_kind, starts_fault, stack}
+use Rattle.omf_image.specs.inside.Starts.{entry_of}
+use Rattle.omf_image.specs.inside.Entries.{StartEntry}
 use Rattle.omf_image.specs.Registers.{stack_of, entry_point, registers, moved}
 use Rattle.omf_image.proofs.Values.{frame_step, offset_stays}
 
@@ -51,7 +54,7 @@ starts_move : (P : ℕ) (layout : Layout) (es : List StartEntry) → starts_faul
 starts_move P layout [] h = ap (λ (x : ℕ). (x, 0)) (start_alone P)
 starts_move P layout (e ∷ []) h =
     entry_moves P (start_meaning layout e)
-    (none_mapped (λ k. At k e.input e.start.place) (start_kind (start_meaning layout e)) h)
+    (none_mapped (λ k. At k e.input e.item.place) (start_kind (start_meaning layout e)) h)
 starts_move P layout (e ∷ (f ∷ es)) h = cc
 
 stack_moves : (P : ℕ) (o : Option Combined) → stack_of P o ≡ moved_entry P (stack_of 0 o)

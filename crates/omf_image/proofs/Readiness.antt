@@ -21,9 +21,8 @@ use Rattle.omf_place.specs.declared.layout.Position.TheVariants as position
 use Rattle.omf_place.specs.Bounded.{LiesInside, ArePlacesOf, IsBounded}
 use Rattle.omf_place.specs.Layout.{Layout, places_of, segment_position}
 use Rattle.omf_image.specs.Value.{real_address}
-use Rattle.omf_image.specs.Records.{DataEntry, bytes_of}
-use Rattle.omf_image.specs.inside.Entries.{module_entries, entries_from}
-use Rattle.omf_image.specs.Registers.{StartEntry}
+use Rattle.omf_image.specs.Records.{bytes_of}
+use Rattle.omf_image.specs.inside.Entries.{StartEntry, DataEntry, module_entries, entries_from}
 use Rattle.omf_image.specs.inside.Entries.{module_start, starts_from}
 use Rattle.omf_image.specs.inside.Ready.{IsTargetThere, IsFrameThere, IsFixupReady, IsEntryReady, IsStartReady, IsReady}
 use Rattle.omf_image.proofs.Listing.{entry_of}
@@ -96,7 +95,7 @@ module _ (ms : List Module) (layout : Layout) (bounded : IsBounded ms layout) wh
     start_ready : (o : Option Start) → IfSome o (StartFits m.segments m.groups m.externals)
         → All (IsStartReady layout) (module_start o k m)
     start_ready None h = All-nil (IsStartReady layout)
-    start_ready (Some s) h = All-cons (IsStartReady layout) (record { input = k; module' = m; start = s }) []
+    start_ready (Some s) h = All-cons (IsStartReady layout) (record { input = k; module' = m; item = s }) []
         (record {
           input = input_there;
           target = target_there s.target h.target;

@@ -16,13 +16,14 @@ use Rattle.omf_place.specs.Layout.{Layout}
 use Rattle.omf_image.specs.Words.{add_words}
 use Rattle.omf_image.specs.declared.patch.Patch.{Patch}
 use Rattle.omf_image.specs.declared.patch.Patch.TheVariants.{Byte, Word, Relocated}
-use Rattle.omf_image.specs.Patch.{patched_all, clear, all_clear}
-use Rattle.omf_image.specs.inside.Patches.{relocated_places}
-use Rattle.omf_image.specs.Located.{LocatedBytes, covers, covers_word, located}
+use Rattle.omf_image.specs.Patch.{clear}
+use Rattle.omf_image.specs.inside.Patches.{all_clear, patched_all, relocated_places}
+use Rattle.omf_image.specs.Located.{LocatedBytes, covers, located}
 use Rattle.omf_image.specs.declared.reference.Resolved.{Resolved}
 use Rattle.omf_image.specs.Value.{patches_at}
 use Rattle.omf_record.specs.Numbers.{location_width}
-use Rattle.omf_image.specs.Records.{hits, bytes_of, stored_of, DataEntry, entries, entry_start, meaning, patches_on}
+use Rattle.omf_image.specs.Records.{hits, bytes_of, stored_of, entries, entry_start, meaning, patches_on}
+use Rattle.omf_image.specs.inside.Entries.{DataEntry}
 use Rattle.omf_image.specs.Records.{fixup_patches, patches, datum, program_byte, record_relocations}
 use Rattle.omf_image.specs.inside.Lookups.{patches_of}
 use Rattle.omf_image.specs.inside.Leading.{relocated_words}
@@ -32,7 +33,7 @@ use Rattle.omf_image.specs.declared.faults.FixKind.TheVariants.{Mixed, OutOfFram
 use Rattle.omf_image.specs.declared.faults.FixFault.{FixFault}
 use Rattle.omf_image.specs.Faults.{is_mixed, out_of_frame, too_far, first_test, resolved_fault, fixup_fault}
 use Rattle.omf_image.specs.Faults.{fixups_fault, record_fault, records_fault}
-use Rattle.omf_image.specs.inside.Whole.{data_fault}
+use Rattle.omf_image.specs.inside.Whole.{covers_word, data_fault}
 use Rattle.omf_image.specs.inside.Stops.{or_else}
 use Rattle.std.specs.Option.{option_or}
 use Rattle.omf_image.proofs.Law.{at_paragraph, AllClear, AllInside, sides, law, length-patched_all}
@@ -84,12 +85,12 @@ stay_list P r x start (i ∷ is) h =
 -- what a fix-up without a fault gives
 record Sound (P : ℕ) (layout : Layout) (e : DataEntry) (earlier : List Patch) (x : ResolvedFixup)
     (m : Result Resolved FixKind) : Type 0 where
-  stays : patches_of P m x (entry_start layout e) (hits x.offset (stored_of e.data_record))
-      ≡ map (at_paragraph P) (patches_of 0 m x (entry_start layout e) (hits x.offset (stored_of e.data_record)))
-  itself : AllClear (patches_of 0 m x (entry_start layout e) (hits x.offset (stored_of e.data_record)))
-  inside : Within 0 (length (stored_of e.data_record))
-      (patches_of 0 m x (entry_start layout e) (hits x.offset (stored_of e.data_record)))
-  others : all_clear earlier (patches_of 0 m x (entry_start layout e) (hits x.offset (stored_of e.data_record))) ≡ true
+  stays : patches_of P m x (entry_start layout e) (hits x.offset (stored_of e.item))
+      ≡ map (at_paragraph P) (patches_of 0 m x (entry_start layout e) (hits x.offset (stored_of e.item)))
+  itself : AllClear (patches_of 0 m x (entry_start layout e) (hits x.offset (stored_of e.item)))
+  inside : Within 0 (length (stored_of e.item))
+      (patches_of 0 m x (entry_start layout e) (hits x.offset (stored_of e.item)))
+  others : all_clear earlier (patches_of 0 m x (entry_start layout e) (hits x.offset (stored_of e.item))) ≡ true
 
 pub width_some : (l : Location) → 0 < location_width l
 width_some LowByte = lit< tt
@@ -108,14 +109,14 @@ hits_room d x lies i h =
 
 sound : (P : ℕ) (layout : Layout) (e : DataEntry) (earlier : List Patch) (x : ResolvedFixup)
     (m : Result Resolved FixKind)
-    → LiesInContent e.data_record x
+    → LiesInContent e.item x
     → resolved_fault m
     (λ r.
-    first_test r x.self_relative x.location (entry_start layout e) (hits x.offset (stored_of e.data_record)) earlier)
+    first_test r x.self_relative x.location (entry_start layout e) (hits x.offset (stored_of e.item)) earlier)
     ≡ None → Sound P layout e earlier x m
 sound P layout e earlier x (Err k) lies h = cc
 sound P layout e earlier x (Ok r) lies h =
-    let is = hits x.offset (stored_of e.data_record) in
+    let is = hits x.offset (stored_of e.item) in
     let start = entry_start layout e in
     let mine : List Patch = patches_on 0 r x.self_relative x.location start is in
     let none =
@@ -124,11 +125,11 @@ sound P layout e earlier x (Ok r) lies h =
     record {
       stays = stay_list P r x start is none.0;
       itself =
-          hits_clear r x.self_relative x.location start (length (stored_of e.data_record)) is
-          (hits_spaced e.data_record x lies) (hits_room e.data_record x lies);
+          hits_clear r x.self_relative x.location start (length (stored_of e.item)) is
+          (hits_spaced e.item x lies) (hits_room e.item x lies);
       inside =
-          hits_within r x.self_relative x.location start 0 (length (stored_of e.data_record)) is
-          (λ i k. (omega arith, hits_room e.data_record x lies i k));
+          hits_within r x.self_relative x.location start 0 (length (stored_of e.item)) is
+          (λ i k. (omega arith, hits_room e.item x lies i k));
       others = not-false (all_clear earlier mine) none.1;
     }
 
@@ -137,13 +138,13 @@ record SoundRecord (P : ℕ) (layout : Layout) (e : DataEntry) (earlier : List P
     0 where
   stays : flat_map (fixup_patches P layout e) xs ≡ map (at_paragraph P) (flat_map (fixup_patches 0 layout e) xs)
   apart : AllClear (earlier ++ flat_map (fixup_patches 0 layout e) xs)
-  inside : Within 0 (length (stored_of e.data_record)) (flat_map (fixup_patches 0 layout e) xs)
+  inside : Within 0 (length (stored_of e.item)) (flat_map (fixup_patches 0 layout e) xs)
 
 append_nil_clear : (ps : List Patch) → AllClear ps → AllClear (ps ++ [])
 append_nil_clear ps h = subst AllClear (sym (append-nil ps)) h
 
 sound_fixups : (P : ℕ) (layout : Layout) (e : DataEntry) (earlier : List Patch) (xs : List ResolvedFixup)
-    → AllByRecursion (LiesInContent e.data_record) xs → fixups_fault layout e earlier xs ≡ None → AllClear earlier
+    → AllByRecursion (LiesInContent e.item) xs → fixups_fault layout e earlier xs ≡ None → AllClear earlier
     → SoundRecord P layout e earlier xs
 sound_fixups P layout e earlier [] lies h before =
     record { stays = refl; apart = append_nil_clear earlier before; inside = tt }
@@ -162,7 +163,7 @@ sound_fixups P layout e earlier (x ∷ xs) lies h before =
           ∙ ap (λ (l : List Patch). map (at_paragraph P) mine ++ l) others.stays
           ∙ sym (map-append (at_paragraph P) mine rest);
       apart = subst AllClear (append_assoc earlier mine rest) others.apart;
-      inside = within_append 0 (length (stored_of e.data_record)) mine rest own.inside others.inside;
+      inside = within_append 0 (length (stored_of e.item)) mine rest own.inside others.inside;
     }
 
 inside_from_within : (lo n : ℕ) (ps : List Patch) → Within lo n ps → AllInside n ps
@@ -209,10 +210,10 @@ pub record SoundEntry (P : ℕ) (layout : Layout) (e : DataEntry) : Type 0 where
   pub apart : AllApart (relocated_places (patches 0 layout e))
   pub inside : AllWordsInside (length (datum 0 layout e).bytes) (relocated_places (patches 0 layout e))
 
-pub sound_entry : (P : ℕ) (layout : Layout) (e : DataEntry) → WellPlaced e.data_record
-    → fixups_fault layout e [] e.data_record.fixups ≡ None → SoundEntry P layout e
+pub sound_entry : (P : ℕ) (layout : Layout) (e : DataEntry) → WellPlaced e.item
+    → fixups_fault layout e [] e.item.fixups ≡ None → SoundEntry P layout e
 sound_entry P layout e well h =
-    let d = e.data_record in
+    let d = e.item in
     let s = sound_fixups P layout e [] d.fixups (recursion_from_All (LiesInContent d) d.fixups well) h tt in
     let room : AllInside (length (bytes_of d)) (patches 0 layout e) =
     subst (λ (n : ℕ). AllInside n (patches 0 layout e)) (length-pairs d)
@@ -255,14 +256,14 @@ uncovered layout e (w ∷ words) h r k =
     ]
 
 pub sound_records : (P : ℕ) (layout : Layout) (words : List ℕ) (es : List DataEntry)
-    → AllByRecursion (λ e. WellPlaced e.data_record) es → records_fault layout words es ≡ None
+    → AllByRecursion (λ e. WellPlaced e.item) es → records_fault layout words es ≡ None
     → SoundProgram P layout words es
 sound_records P layout words [] well h = record { moves = refl; apart = tt; free = tt; listed = refl; unmoved = refl }
 sound_records P layout words (e ∷ es) well h =
     let both =
     none_first (record_fault layout words e) (records_fault layout (words ++ record_relocations layout e) es) h in
     let two =
-    none_cond (covers_word (datum 0 layout e) words) _ (fixups_fault layout e [] e.data_record.fixups) both.0 in
+    none_cond (covers_word (datum 0 layout e) words) _ (fixups_fault layout e [] e.item.fixups) both.0 in
     let here = sound_entry P layout e well.0 two.1 in
     let rest = sound_records P layout (words ++ record_relocations layout e) es well.1 both.1 in
     record {
@@ -283,7 +284,7 @@ pub program_moves : (P : ℕ) (layout : Layout) (modules : List Module) (image r
     (a : ℕ) → a < layout.size → get_or (add_words P rs image) a 0 ≡ program_byte P layout modules a
 program_moves P layout modules image rs well none n holds apart inside there back a h =
     let es = entries modules in
-    let s = sound_records P layout [] es (recursion_from_All (λ e. WellPlaced e.data_record) es well) none in
+    let s = sound_records P layout [] es (recursion_from_All (λ e. WellPlaced e.item) es well) none in
     let ps : List Piece = map (piece layout) es in
     image_moves P layout.size ps image rs s.apart s.free n
     (λ b k. holds b k ∙ ap (λ (ds : List LocatedBytes). located ds b) s.unmoved) apart inside

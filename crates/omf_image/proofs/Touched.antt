@@ -8,8 +8,8 @@ use Rattle.std.proofs.lemmas.Bool.{and_from}
 use Rattle.std.proofs.lemmas.Bool.Decides.{nat_tests}
 use Rattle.omf_image.specs.declared.patch.Patch.{Patch}
 use Rattle.omf_image.specs.declared.patch.Patch.TheVariants.{Byte, Word, Relocated}
-use Rattle.omf_image.specs.Patch.{clear, all_clear}
-use Rattle.omf_image.specs.inside.Patches.{patch_start, patch_end, is_relocated}
+use Rattle.omf_image.specs.Patch.{clear}
+use Rattle.omf_image.specs.inside.Patches.{all_clear, patch_start, patch_end, is_relocated}
 use Rattle.omf_image.specs.inside.Marks.{touches, IsMarked}
 
 all_of : (f g : Patch → Bool) → ((q : Patch) → f q ≡ not (g q)) → (qs : List Patch)

@@ -19,11 +19,11 @@ use Rattle.omf_image.specs.declared.faults.FixKind.TheVariants.{Mixed, OutOfFram
 use Rattle.omf_image.specs.declared.patch.Patch.{Patch}
 use Rattle.omf_image.specs.declared.patch.Patch.TheVariants.{Byte, Word, Relocated}
 use Rattle.omf_image.specs.declared.reference.Resolved.{Resolved}
-use Rattle.omf_image.specs.Patch.{patched_all, all_clear}
-use Rattle.omf_image.specs.inside.Patches.{patch_start, patch_end, is_relocated}
+use Rattle.omf_image.specs.inside.Patches.{all_clear, patched_all, patch_start, patch_end, is_relocated}
 use Rattle.omf_image.specs.inside.Marks.{touches, touches_relocated}
 use Rattle.omf_image.specs.Reference.{frame'}
-use Rattle.omf_image.specs.Value.{modulo, from_frame, base_patch, patches_at}
+use Rattle.omf_image.specs.Value.{modulo, base_patch, patches_at}
+use Rattle.omf_image.specs.inside.Distances.{from_frame}
 use Rattle.omf_image.specs.Faults.{first_test, is_mixed, out_of_frame}
 use Rattle.omf_image.specs.inside.States.{State, at_start, Holds}
 use Rattle.omf_image.specs.Records.{hits, patches_on}

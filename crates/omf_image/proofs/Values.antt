@@ -11,7 +11,8 @@ use Rattle.omf_image.specs.declared.reference.Base.{Base as Frame}
 use Rattle.omf_image.specs.declared.reference.Base.TheVariants.{Relocatable as Moving, Absolute as Fixed}
 use Rattle.omf_image.specs.declared.reference.Resolved.{Resolved}
 use Rattle.omf_image.specs.Reference.{frame'}
-use Rattle.omf_image.specs.Value.{modulo, from_frame, from_address, base_patch, patches_at}
+use Rattle.omf_image.specs.Value.{modulo, base_patch, patches_at}
+use Rattle.omf_image.specs.inside.Distances.{from_frame, from_address}
 use Rattle.omf_image.specs.Faults.{is_mixed}
 use Rattle.omf_image.proofs.Law.{at_paragraph}
 

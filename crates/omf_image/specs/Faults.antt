@@ -1,14 +1,15 @@
 -- The faults of data and fix-ups, the first in order.
-use Rattle.std.specs.Prelude.{ℕ, ◌+◌, ◌*◌, ℤ, pos, ◌-ℤ◌, ◌+ℤ◌, int_le, Bool, true, false, not, ◌&&◌, ◌||◌, cond}
+use Rattle.std.specs.Prelude.{ℕ, ◌+◌, ◌*◌, pos, ◌+ℤ◌, int_le, Bool, true, false, not, ◌&&◌, ◌||◌, cond}
 use Rattle.std.specs.Prelude.{nat_le, nat_lt, List, [], ◌∷◌, ◌++◌, Option, Some, None, Result, Ok, Err}
 use Rattle.std.specs.Int.{cast_signed, w16}
 use Rattle.std.specs.Bool.{then_some}
-use Rattle.std.specs.List.{list_all}
+use Rattle.std.specs.List.{list_all, list_any}
 use Rattle.std.specs.Option.{option_map, option_or}
 use Rattle.omf_record.specs.declared.fixups.Location.{Location}
 use Rattle.omf_record.specs.declared.fixups.Location.TheVariants.{LowByte, Base}
 use Rattle.omf_module.specs.declared.ResolvedFixup.{ResolvedFixup}
 use Rattle.omf_module.specs.Before.{first}
+use Rattle.omf_module.specs.Module.{DataRecord}
 use Rattle.omf_image.specs.declared.reference.Base.{Base as Frame}
 use Rattle.omf_image.specs.declared.reference.Base.TheVariants.{Relocatable as Moving, Absolute as Fixed}
 use Rattle.omf_place.specs.Layout.{Layout}
@@ -21,11 +22,11 @@ use Rattle.omf_image.specs.declared.patch.Patch.{Patch}
 use Rattle.omf_place.specs.declared.layout.Position.{Position}
 use Rattle.omf_place.specs.declared.layout.Position.TheVariants.{Relocatable, Absolute}
 use Rattle.omf_image.specs.declared.reference.Resolved.{Resolved}
-use Rattle.omf_image.specs.Patch.{all_clear}
+use Rattle.omf_image.specs.Patch.{clear}
 use Rattle.omf_image.specs.Reference.{frame'}
 use Rattle.omf_image.specs.Value.{real_address, real_frame}
-use Rattle.omf_image.specs.Located.{covers_word}
-use Rattle.omf_image.specs.Records.{hits, stored_of, DataEntry, entry_start, meaning, patches_on, fixup_patches}
+use Rattle.omf_image.specs.Located.{covers}
+use Rattle.omf_image.specs.Records.{hits, stored_of, OfModule, entry_start, meaning, patches_on, fixup_patches}
 use Rattle.omf_image.specs.Records.{record_relocations, datum}
 
 -- a relocatable thing moves with the program
@@ -67,19 +68,12 @@ out_of_frame true location reference positions start =
 out_of_frame false Base reference positions start = false
 out_of_frame false _ reference positions start = not (target_in_frame reference)
 
--- the distance from the end of a byte at an address, with a signed displacement
-abbrev pub short_distance : Resolved → (address : ℕ) → ℤ
-short_distance reference address =
-    (pos (real_address 0 reference.target) -ℤ pos (address + 1)) +ℤ cast_signed w16 reference.displacement
-
--- from -128 to 127
-abbrev pub fits_short : ℤ → Bool
-fits_short distance = int_le (pos 0) (distance +ℤ pos 128) && int_le (distance +ℤ pos 128) (pos 255)
-
--- a self-relative distance that is to be put into a byte and doesn't fit a signed one
+-- A self-relative distance that is to be put into a byte and doesn't fit a signed one: the target, with a signed
+-- displacement, lies more than 128 bytes before the location's end, or more than 127 behind it.
 abbrev pub too_far : (self_relative : Bool) → Location → Resolved → (positions : List ℕ) → (start : ℕ) → Bool
 too_far true LowByte reference positions start =
-    not (list_all (λ i. fits_short (short_distance reference (start + i))) positions)
+    let to = pos (real_address 0 reference.target) +ℤ cast_signed w16 reference.displacement in
+    not (list_all (λ i. int_le (pos (start + i + 1)) (to +ℤ pos 128) && int_le to (pos (start + i + 128))) positions)
 too_far _ _ reference positions start = false
 
 -- The first test that is true of a fix-up whose frame and target are known: of its range, at the positions of its
@@ -89,8 +83,8 @@ first_test reference self_relative location start positions earlier =
     first (then_some (is_mixed self_relative location reference) Mixed
     ∷ then_some (out_of_frame self_relative location reference positions start) OutOfFrame
     ∷ then_some (too_far self_relative location reference positions start) ShortTooFar
-    ∷ then_some (not (all_clear earlier (patches_on 0 reference self_relative location start positions)))
-    OverlapRelocated ∷ [])
+    ∷ then_some (not (list_all (λ p. list_all (clear p)
+    (patches_on 0 reference self_relative location start positions)) earlier)) OverlapRelocated ∷ [])
 
 -- the fault of a reference: that nothing was found for it, or that of what was found
 abbrev pub resolved_fault : Result Resolved FixKind → (Resolved → Option FixKind) → Option FixKind
@@ -98,26 +92,27 @@ resolved_fault (Ok reference) fault = fault reference
 resolved_fault (Err kind) fault = Some kind
 
 -- the fault of a fix-up after earlier patches of its data record
-abbrev pub fixup_fault : Layout → DataEntry → (earlier : List Patch) → ResolvedFixup → Option FixKind
+abbrev pub fixup_fault : Layout → OfModule DataRecord → (earlier : List Patch) → ResolvedFixup → Option FixKind
 fixup_fault layout entry earlier fixup =
     resolved_fault (meaning layout entry fixup) (λ reference. first_test reference fixup.self_relative fixup.location
-    (entry_start layout entry) (hits fixup.offset (stored_of entry.data_record)) earlier)
+    (entry_start layout entry) (hits fixup.offset (stored_of entry.item)) earlier)
 
 -- the first fault of the fix-ups of a data record, after earlier patches of it
-abbrev pub fixups_fault : Layout → DataEntry → (earlier : List Patch) → List ResolvedFixup → Option FixFault
+abbrev pub fixups_fault : Layout → OfModule DataRecord → (earlier : List Patch) → List ResolvedFixup → Option FixFault
 fixups_fault layout entry earlier [] = None
 fixups_fault layout entry earlier (fixup ∷ fixups) =
     option_or (option_map (λ kind. At kind entry.input fixup.place) (fixup_fault layout entry earlier fixup))
     (fixups_fault layout entry (earlier ++ fixup_patches 0 layout entry fixup) fixups)
 
--- the first fault of a data record, after earlier relocated words
-abbrev pub record_fault : Layout → (words : List ℕ) → DataEntry → Option FixFault
+-- the first fault of a data record, after earlier relocated words: that it covers a byte of one, or that of a fix-up
+abbrev pub record_fault : Layout → (words : List ℕ) → OfModule DataRecord → Option FixFault
 record_fault layout words entry =
-    cond (covers_word (datum 0 layout entry) words) (Some (At CoversRelocated entry.input entry.data_record.place))
-    (fixups_fault layout entry [] entry.data_record.fixups)
+    let data' = datum 0 layout entry in
+    cond (list_any (λ w. covers w data' || covers (w + 1) data') words)
+    (Some (At CoversRelocated entry.input entry.item.place)) (fixups_fault layout entry [] entry.item.fixups)
 
 -- the first fault of the data records, after earlier relocated words
-abbrev pub records_fault : Layout → (words : List ℕ) → List DataEntry → Option FixFault
+abbrev pub records_fault : Layout → (words : List ℕ) → List (OfModule DataRecord) → Option FixFault
 records_fault layout words [] = None
 records_fault layout words (entry ∷ later) =
     option_or (record_fault layout words entry) (records_fault layout (words ++ record_relocations layout entry) later)

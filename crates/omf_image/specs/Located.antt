@@ -1,7 +1,6 @@
 -- Data at their addresses, and the byte that they give to each address (TIS OMF 1.1, LEDATA and LIDATA).
-use Rattle.std.specs.Prelude.{ℕ, ◌+◌, ◌-◌, ◌*◌, Bool, ◌&&◌, ◌||◌, nat_le, nat_lt, List, map, filter, fold, length}
+use Rattle.std.specs.Prelude.{ℕ, ◌+◌, ◌-◌, ◌*◌, Bool, ◌&&◌, nat_le, nat_lt, List, map, filter, fold, length}
 use Rattle.std.specs.Prelude.{get_or}
-use Rattle.std.specs.List.{list_any}
 
 -- bytes at an address
 pub record LocatedBytes : Type 0 where
@@ -16,10 +15,6 @@ covers address datum = nat_le datum.start address && nat_lt address (datum.start
 abbrev pub located : List LocatedBytes → (address : ℕ) → ℕ
 located data' address =
     fold (λ earlier byte. byte) 0 (map (λ d. get_or d.bytes (address - d.start) 0) (filter (covers address) data'))
-
--- it covers a byte of one of the words
-abbrev pub covers_word : LocatedBytes → (words : List ℕ) → Bool
-covers_word datum words = list_any (λ w. covers w datum || covers (w + 1) datum) words
 
 -- it covers a byte of the page of 4,096 bytes with this number
 abbrev pub in_page : (page : ℕ) → LocatedBytes → Bool

@@ -1,6 +1,6 @@
 -- Loader-resolved offsets, location 5, that need more than the 16 bits of their word, and a start that does.
-use Rattle.std.specs.Prelude.{ℕ, ◌+◌, pos, ◌+ℤ◌, int_le, nat_lt, Bool, true, false, not, ◌&&◌, ◌||◌, if◌then◌else◌}
-use Rattle.std.specs.Prelude.{List, [], ◌∷◌, map, filter, find, length, slice_get, Option, Some, None}
+use Rattle.std.specs.Prelude.{ℕ, ◌+◌, ◌*◌, pos, ◌+ℤ◌, int_le, nat_lt, Bool, true, false, not, ◌&&◌, ◌||◌}
+use Rattle.std.specs.Prelude.{if◌then◌else◌, List, [], ◌∷◌, map, filter, find, length, slice_get, Option, Some, None}
 use Rattle.std.specs.List.{filter_map, list_any}
 use Rattle.std.specs.Option.{option_map, option_map_or}
 use Rattle.std.specs.Result.{result_ok}
@@ -8,14 +8,16 @@ use Rattle.omf_record.specs.declared.fixups.Location.{Location}
 use Rattle.omf_record.specs.declared.fixups.Location.TheVariants.{LoaderOffset}
 use Rattle.omf_record.specs.Numbers.{location_width}
 use Rattle.omf_module.specs.declared.ResolvedFixup.{ResolvedFixup}
+use Rattle.omf_module.specs.declared.Start.{Start}
 use Rattle.omf_module.specs.Module.{DataRecord, Module}
 use Rattle.omf_place.specs.Layout.{Layout}
 use Rattle.omf_image.specs.declared.reference.Resolved.{Resolved}
 use Rattle.omf_image.specs.Words.{word_at}
-use Rattle.omf_image.specs.Value.{from_frame}
-use Rattle.omf_image.specs.Records.{DataEntry, bytes_of, entries, hits, meaning, stored_of}
+use Rattle.omf_image.specs.Reference.{frame'}
+use Rattle.omf_image.specs.Value.{distance, real_frame}
+use Rattle.omf_image.specs.Records.{OfModule, bytes_of, entries, hits, meaning, stored_of}
 use Rattle.omf_image.specs.Faults.{both_move, is_mixed, target_in_frame}
-use Rattle.omf_image.specs.Registers.{StartEntry, start_meaning, starts}
+use Rattle.omf_image.specs.Registers.{start_meaning, starts}
 
 -- a loader-resolved offset in its frame
 abbrev pub is_loader_offset : (self_relative : Bool) → Location → Bool
@@ -28,7 +30,7 @@ is_measured reference = not (is_mixed false LoaderOffset reference) && target_in
 
 -- the sum of a word and that distance, with the displacement, is 65,536 or more
 abbrev pub is_above : Resolved → (word : ℕ) → Bool
-is_above reference word = int_le (pos 65536) (pos word +ℤ from_frame 0 reference)
+is_above reference word = int_le (pos 65536) (pos word +ℤ distance 0 reference (16 * real_frame 0 (frame' reference)))
 
 -- the words that stand, before any fix-up, where bytes of a data record were stored at the place offset
 abbrev pub words_at : (offset : ℕ) → DataRecord → List ℕ
@@ -45,17 +47,17 @@ is_shared offset data_record = nat_lt 1 (length (filter (touches offset) data_re
 
 -- A fix-up is of such an offset, its target has a distance, and a word stands for it that other fix-ups share, or where
 -- its sum is too great.
-abbrev pub overflows : Layout → DataEntry → ResolvedFixup → Bool
+abbrev pub overflows : Layout → OfModule DataRecord → ResolvedFixup → Bool
 overflows layout entry fixup =
     is_loader_offset fixup.self_relative fixup.location
     && option_map_or (λ r. is_measured r
-    && list_any (λ w. is_shared fixup.offset entry.data_record || is_above r w)
-    (words_at fixup.offset entry.data_record)) (result_ok (meaning layout entry fixup)) false
+    && list_any (λ w. is_shared fixup.offset entry.item || is_above r w)
+    (words_at fixup.offset entry.item)) (result_ok (meaning layout entry fixup)) false
 
 -- the first such fix-up of a data record: its input, and the place of its record there
-abbrev pub entry_overflow : Layout → DataEntry → Option (ℕ × ℕ)
+abbrev pub entry_overflow : Layout → OfModule DataRecord → Option (ℕ × ℕ)
 entry_overflow layout entry =
-    option_map (λ f. (entry.input, f.place)) (find (overflows layout entry) entry.data_record.fixups)
+    option_map (λ f. (entry.input, f.place)) (find (overflows layout entry) entry.item.fixups)
 
 -- the first of a program
 abbrev pub first_overflow : Layout → List Module → Option (ℕ × ℕ)
@@ -63,14 +65,14 @@ first_overflow layout modules = slice_get (filter_map (entry_overflow layout) (e
 
 -- A start has no fault (TIS OMF 1.1, MODEND), and its displacement and the target's distance from its frame are 65,536
 -- or more together.
-abbrev pub start_overflows : Layout → StartEntry → Bool
+abbrev pub start_overflows : Layout → OfModule Start → Bool
 start_overflows layout entry =
     option_map_or (λ r. both_move r && target_in_frame r && is_above r 0) (result_ok (start_meaning layout entry)) false
 
 -- the only one of some starts, if it is such a one: its input, and the place of its record there
-abbrev pub only_overflow : Layout → List StartEntry → Option (ℕ × ℕ)
+abbrev pub only_overflow : Layout → List (OfModule Start) → Option (ℕ × ℕ)
 only_overflow layout (entry ∷ []) =
-    if start_overflows layout entry then Some (entry.input, entry.start.place) else None
+    if start_overflows layout entry then Some (entry.input, entry.item.place) else None
 only_overflow layout _ = None
 
 -- that of a program

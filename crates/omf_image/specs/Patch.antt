@@ -1,7 +1,6 @@
 -- What fix-ups add to the bytes of a data record. A patch is a byte or a word to be added at a place;
 -- a Relocated word is a relocatable frame.
-use Rattle.std.specs.Prelude.{ℕ, ◌+◌, Bool, not, ◌||◌, nat_le, List, fold, Option, Some, None, is_some}
-use Rattle.std.specs.List.{list_all}
+use Rattle.std.specs.Prelude.{ℕ, ◌+◌, Bool, not, ◌||◌, nat_le, List, Option, Some, None, is_some}
 use Rattle.omf_image.specs.declared.patch.Patch.{Patch}
 use Rattle.omf_image.specs.declared.patch.Patch.TheVariants.{Byte, Word, Relocated}
 use Rattle.omf_image.specs.Words.{add_byte, add_word}
@@ -11,10 +10,6 @@ abbrev pub patched : Patch → (data' : List ℕ) → List ℕ
 patched (Byte place value) data' = add_byte value place data'
 patched (Word place value) data' = add_word value place data'
 patched (Relocated place value) data' = add_word value place data'
-
--- with patches added one after the other
-abbrev pub patched_all : List Patch → (data' : List ℕ) → List ℕ
-patched_all patches data' = fold (λ sum patch. patched patch sum) data' patches
 
 -- the place of a relocated word
 abbrev pub relocated_place : Patch → Option ℕ
@@ -32,7 +27,3 @@ abbrev pub clear : Patch → Patch → Bool
 clear first second =
     not (is_some (relocated_place first) || is_some (relocated_place second))
     || (nat_le (patch_ends first).1 (patch_ends second).0 || nat_le (patch_ends second).1 (patch_ends first).0)
-
--- each of the first is clear of each of the second
-abbrev pub all_clear : List Patch → List Patch → Bool
-all_clear firsts seconds = list_all (λ p. list_all (clear p) seconds) firsts

@@ -39,18 +39,15 @@ meant layout input external =
     if external.local then means (get_or layout.locals input (record { names = Exact; entries = [] })) external.name
     else means layout.publics external.name
 
--- where an external of a module stands, by its index, if it means a public
-abbrev pub external_at : Layout → (input : ℕ) → Module → (external : ℕ) → Result Position FixKind
-external_at layout input module' external =
-    let symbol = get_or module'.externals external (record { name = []; local = false }) in
-    ok_or (meant layout input symbol) Unresolved
-
--- where a target stands, in the module of an input; a group at 16 times its frame, which it has if it has members
+-- Where a target stands, in the module of an input: a group at 16 times its frame, which it has if it has members, an
+-- external where the public that it means stands.
 abbrev pub target_of : Layout → (input : ℕ) → Module → TargetMethod → Result Position FixKind
 target_of layout input module' (to.Segment index) = Ok (segment_position layout input (index - 1))
 target_of layout input module' (to.Group index) =
     ok_or (option_map (λ f. Relocatable (16 * f) (Some f)) (group_frame layout input (index - 1))) EmptyGroup
-target_of layout input module' (to.External index) = external_at layout input module' (index - 1)
+target_of layout input module' (to.External index) =
+    let symbol = get_or module'.externals (index - 1) (record { name = []; local = false }) in
+    ok_or (meant layout input symbol) Unresolved
 
 -- the frame that a method names; here is the segment of the data record
 abbrev pub frame_by : Layout → (input : ℕ) → Module → (here : ℕ) → TargetMethod → FrameMethod → Result Frame FixKind

@@ -1,9 +1,9 @@
 -- The registers at the start (TIS OMF 1.1, MODEND, and SEGDEF of a stack), and the faults of the start.
 use Rattle.std.specs.Prelude.{ℕ, ◌+◌, ◌-◌, ◌*◌, ◌/◌, ◌%◌, false, not, nat_lt, cond, List, [], ◌∷◌}
-use Rattle.std.specs.Prelude.{find, flat_map, length, slice_get, Option, Some, None, Result, Ok, Err}
+use Rattle.std.specs.Prelude.{find, length, slice_get, Option, Some, None, Result, Ok, Err}
 use Rattle.std.specs.Bool.{then_some}
-use Rattle.std.specs.List.{enumerate_from}
 use Rattle.std.specs.Option.{option_map, option_map_or, option_and_then, option_or, option_to_list}
+use Rattle.std.specs.Result.{result_ok}
 use Rattle.omf_module.specs.declared.Kind.TheVariants.{Stack}
 use Rattle.omf_module.specs.declared.Start.{Start}
 use Rattle.omf_module.specs.Before.{first}
@@ -18,26 +18,18 @@ use Rattle.omf_image.specs.declared.faults.FixFault.TheVariants.{At, TooManyRelo
 use Rattle.omf_image.specs.declared.reference.Resolved.{Resolved}
 use Rattle.omf_image.specs.declared.start.Registers.{Registers}
 use Rattle.omf_image.specs.Reference.{frame', resolved}
-use Rattle.omf_image.specs.Value.{modulo, real_frame, from_frame}
-use Rattle.omf_image.specs.Records.{entries, relocations}
+use Rattle.omf_image.specs.Value.{modulo, real_frame, distance}
+use Rattle.omf_image.specs.Records.{OfModule, of_modules, entries, relocations}
 use Rattle.omf_image.specs.Faults.{both_move, target_in_frame, resolved_fault, records_fault}
 
--- a start with its module and the module's input
-pub record StartEntry : Type 0 where
-  pub input : ℕ
-  pub module' : Module
-  pub start : Start
-
 -- all starts, in order of modules
-abbrev pub starts : List Module → List StartEntry
-starts modules =
-    let one : ℕ → Module → Start → StartEntry = λ n m s. record { input = n; module' = m; start = s } in
-    flat_map (λ m. option_to_list (option_map (one m.0 m.1) m.1.start)) (enumerate_from 0 modules)
+abbrev pub starts : List Module → List (OfModule Start)
+starts modules = of_modules (λ m. option_to_list m.start) modules
 
 -- a start's frame is never that of a location, so no segment is looked up for it
-abbrev pub start_meaning : Layout → StartEntry → Result Resolved FixKind
+abbrev pub start_meaning : Layout → OfModule Start → Result Resolved FixKind
 start_meaning layout entry =
-    resolved layout entry.input entry.module' 0 entry.start.frame entry.start.target entry.start.displacement
+    resolved layout entry.input entry.module' 0 entry.item.frame entry.item.target entry.item.displacement
 
 -- the fault of a start: frame and target have to move with the program, and the target to lie in the frame
 abbrev pub start_kind : Result Resolved FixKind → Option FixKind
@@ -45,11 +37,11 @@ start_kind found = resolved_fault found (λ reference.
     first (then_some (not (both_move reference)) Mixed ∷ then_some (not (target_in_frame reference)) OutOfFrame ∷ []))
 
 -- a second start, else the fault of the only one
-abbrev pub starts_fault : Layout → List StartEntry → Option FixFault
+abbrev pub starts_fault : Layout → List (OfModule Start) → Option FixFault
 starts_fault layout [] = None
 starts_fault layout (entry ∷ []) =
-    option_map (λ kind. At kind entry.input entry.start.place) (start_kind (start_meaning layout entry))
-starts_fault layout (entry ∷ (second ∷ later)) = Some (At TwoStarts second.input second.start.place)
+    option_map (λ kind. At kind entry.input entry.item.place) (start_kind (start_meaning layout entry))
+starts_fault layout (entry ∷ (second ∷ later)) = Some (At TwoStarts second.input second.item.place)
 
 -- the first fault, in order: data and fix-ups, the start, more relocated words than the format holds
 unfoldable pub program_fault : Layout → List Module → Option FixFault
@@ -57,15 +49,11 @@ program_fault layout modules =
     option_or (records_fault layout [] (entries modules)) (option_or (starts_fault layout (starts modules))
     (cond (nat_lt 65535 (length (relocations layout modules))) (Some TooManyRelocations) None))
 
--- CS and IP at a start
-abbrev pub entry_of : (P : ℕ) → Result Resolved FixKind → ℕ × ℕ
-entry_of P (Err kind) = (P % 65536, 0)
-entry_of P (Ok reference) = (real_frame P (frame' reference) % 65536, modulo 65536 (from_frame P reference))
-
--- CS and IP at the first start, and without one the program's first byte
-abbrev pub entry_point : (P : ℕ) → Layout → List StartEntry → ℕ × ℕ
-entry_point P layout [] = (P % 65536, 0)
-entry_point P layout (entry ∷ later) = entry_of P (start_meaning layout entry)
+-- CS and IP: the frame and the distance from it that the first start means, and without one the program's first byte
+abbrev pub entry_point : (P : ℕ) → Layout → List (OfModule Start) → ℕ × ℕ
+entry_point P layout starts' =
+    option_map_or (λ r. (real_frame P (frame' r) % 65536, modulo 65536 (distance P r (16 * real_frame P (frame' r)))))
+    (option_and_then (λ s. result_ok (start_meaning layout s)) (slice_get starts' 0)) (P % 65536, 0)
 
 -- the first stack segment in the order of placement; a combined segment has the kind of its first part
 abbrev pub stack : Layout → List Module → Option Combined

@@ -26,13 +26,9 @@ abbrev pub real_frame : (P : ℕ) → Frame → ℕ
 real_frame P (Moving number) = number + P
 real_frame P (Fixed number) = number
 
--- the target's distance from the start of the frame
-abbrev pub from_frame : (P : ℕ) → Resolved → ℤ
-from_frame P r = pos (real_address P r.target + r.displacement) -ℤ pos (16 * real_frame P (frame' r))
-
--- the target's distance from an address of the program
-abbrev pub from_address : (P : ℕ) → Resolved → (address : ℕ) → ℤ
-from_address P r address = pos (real_address P r.target + r.displacement) -ℤ pos (16 * P + address)
+-- the target's distance, with the displacement, from a real address
+abbrev pub distance : (P : ℕ) → Resolved → (from : ℕ) → ℤ
+distance P r from = pos (real_address P r.target + r.displacement) -ℤ pos from
 
 -- the frame, put at a place; a relocatable one is a relocated word
 abbrev pub base_patch : (P place : ℕ) → Frame → Patch
@@ -40,13 +36,12 @@ base_patch P place (Moving number) = Relocated place (real_frame P (Moving numbe
 base_patch P place (Fixed number) = Word place (real_frame P (Fixed number) % 65536)
 
 -- What is added where the location begins at a place of the data, at an address of the program. A self-relative
--- distance counts from the location's end.
+-- distance counts from the location's end, another one from the start of the frame.
 abbrev pub patches_at : (P : ℕ) → Resolved → (self_relative : Bool) → Location → (place address : ℕ) → List Patch
-patches_at P reference false LowByte place address = Byte place (modulo 256 (from_frame P reference)) ∷ []
-patches_at P reference false Base place address = base_patch P place (frame' reference) ∷ []
-patches_at P reference false Pointer place address =
-    Word place (modulo 65536 (from_frame P reference)) ∷ base_patch P (place + 2) (frame' reference) ∷ []
-patches_at P reference false _ place address = Word place (modulo 65536 (from_frame P reference)) ∷ []
-patches_at P reference true LowByte place address =
-    Byte place (modulo 256 (from_address P reference (address + 1))) ∷ []
-patches_at P reference true _ place address = Word place (modulo 65536 (from_address P reference (address + 2))) ∷ []
+patches_at P r false LowByte place address = Byte place (modulo 256 (distance P r (16 * real_frame P (frame' r)))) ∷ []
+patches_at P r false Base place address = base_patch P place (frame' r) ∷ []
+patches_at P r false Pointer place address =
+    Word place (modulo 65536 (distance P r (16 * real_frame P (frame' r)))) ∷ base_patch P (place + 2) (frame' r) ∷ []
+patches_at P r false _ place address = Word place (modulo 65536 (distance P r (16 * real_frame P (frame' r)))) ∷ []
+patches_at P r true LowByte place address = Byte place (modulo 256 (distance P r (16 * P + (address + 1)))) ∷ []
+patches_at P r true _ place address = Word place (modulo 65536 (distance P r (16 * P + (address + 2)))) ∷ []

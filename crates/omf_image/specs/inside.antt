@@ -1,6 +1,7 @@
 -- How the code sees what it works on: no public contract cites any of it.
 pub mod Whole
 pub mod Patches
+pub mod Distances
 pub mod Entries
 pub mod Lookups
 pub mod WellPlaced

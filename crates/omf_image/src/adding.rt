@@ -7,10 +7,10 @@ ghost use Rattle.omf_module.specs.Seen.{data_seen};
 ghost use Rattle.omf_place.specs.Layout.{places_of, segment_position};
 ghost use Rattle.omf_image.specs.Value.{real_address};
 ghost use Rattle.omf_image.specs.declared.patch.Patch.{Patch};
-ghost use Rattle.omf_image.specs.Located.{covers_word};
-ghost use Rattle.omf_image.specs.Records.{DataEntry, fixup_patches};
+ghost use Rattle.omf_image.specs.Records.{fixup_patches};
+ghost use Rattle.omf_image.specs.inside.Entries.{DataEntry};
 ghost use Rattle.omf_image.specs.Faults.{fixups_fault};
-ghost use Rattle.omf_image.specs.inside.Whole.{data_fault};
+ghost use Rattle.omf_image.specs.inside.Whole.{covers_word, data_fault};
 ghost use Rattle.omf_image.specs.inside.Ready.{IsEntryReady, IsFixupReady};
 ghost use Rattle.omf_image.specs.inside.States.{State, state, IsRoom, Holds};
 ghost use Rattle.omf_image.specs.inside.PlacedData.{IsPlacedData, entry_seen};
@@ -122,13 +122,13 @@ pub fn add_record<'a, A: Allocator + Copy>(
     data_record: DataRecord<'a>,
 ) -> Result<(), FixFault>
     requires ready { IsEntryReady layout.now
-        (record { input = input; module' = «module».now; data_record = data_seen data_record }) }
+        (record { input = input; module' = «module».now; item = data_seen data_record }) }
     requires lengths { length data_record.bytes.now ≡ length data_record.places.now }
     requires whole { IsWhole layout.now (state work.old) }
     ensures whole { OnOk result (IsWhole layout.now (state work.new)) }
     ensures gives { (modules : List PlainModule) → (rest : List DataEntry)
         → Leads layout.now modules (state work.old)
-        (record { input = input; module' = «module».now; data_record = data_seen data_record.entry } ∷ rest)
+        (record { input = input; module' = «module».now; item = data_seen data_record.entry } ∷ rest)
         → Answers result (data_fault layout.now modules) (λ _. Leads layout.now modules (state work.new) rest) }
 {
     let start = data_address(layout, input, data_record.segment, data_record.offset);

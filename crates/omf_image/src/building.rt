@@ -4,8 +4,8 @@ ghost use Rattle.std.specs.Prelude.{◌≡◌, ◌<◌, ◌≤◌, ◌^◌, ◌+
 ghost use Rattle.std.specs.Prelude.{replicate, OnOk, IfOk};
 ghost use Rattle.std.specs.List.{range_with_len};
 ghost use Rattle.omf_module.specs.Module.{Module as PlainModule};
-ghost use Rattle.omf_image.specs.Records.{DataEntry, entries};
-ghost use Rattle.omf_image.specs.inside.Entries.{module_entries};
+ghost use Rattle.omf_image.specs.Records.{entries};
+ghost use Rattle.omf_image.specs.inside.Entries.{DataEntry, module_entries};
 ghost use Rattle.omf_image.specs.inside.Whole.{data_fault};
 ghost use Rattle.omf_image.specs.inside.Pages.{IsBlank};
 ghost use Rattle.omf_place.specs.Bounded.{IsBounded};

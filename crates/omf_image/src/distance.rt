@@ -2,13 +2,14 @@
 
 ghost use Rattle.std.specs.Prelude.{◌≡◌, ◌+◌, ◌<◌, ◌≤◌, ◌^◌};
 ghost use Rattle.omf_image.specs.Reference.{frame'};
-ghost use Rattle.omf_image.specs.Value.{modulo, real_address, real_frame, from_frame, from_address, base_patch};
+ghost use Rattle.omf_image.specs.Value.{modulo, real_address, real_frame, base_patch};
 ghost use Rattle.omf_image.specs.Value.{patches_at};
-ghost use Rattle.omf_image.specs.Faults.{is_mixed, in_frame, target_in_frame, fits_short, short_distance};
+ghost use Rattle.omf_image.specs.Faults.{is_mixed, in_frame, target_in_frame};
 ghost use Rattle.omf_image.specs.Overflow.{is_above, is_measured};
 ghost use Rattle.omf_record.specs.Numbers.{location_width};
 ghost use Rattle.omf_image.specs.inside.Patches.{patch_end};
 ghost use Rattle.omf_image.specs.inside.Lookups.{listed, EndsBy};
+ghost use Rattle.omf_image.specs.inside.Distances.{from_frame, from_address, fits_short};
 
 use crate::patch::Patch;
 use crate::reference::{Base, Resolved};
@@ -110,7 +111,7 @@ impl Resolved {
     /// Whether the distance from the end of a byte fits a signed byte.
     pub fn fits_short(&self, address: u64) -> bool
         requires { address < 2 ^ 40 }
-        ensures { result ≡ fits_short (short_distance self.now address) }
+        ensures { result ≡ fits_short self.now address }
     {
         let signed = if self.displacement < 0x8000 {
             u64::from(self.displacement) + 65536

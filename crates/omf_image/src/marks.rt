@@ -3,8 +3,7 @@
 ghost use Rattle.std.specs.Prelude.{◌≡◌, ◌<◌, ◌≤◌, ◌+◌, ◌++◌, ◌∷◌, [], ◌&&◌, ◌||◌, ℕ, List, nat_le, nat_lt, false};
 ghost use Rattle.std.specs.Prelude.{length, slice_index_or};
 ghost use Rattle.omf_image.specs.declared.patch.Patch.{Patch as PlainPatch};
-ghost use Rattle.omf_image.specs.Patch.{all_clear};
-ghost use Rattle.omf_image.specs.inside.Patches.{patch_start, patch_end, is_relocated};
+ghost use Rattle.omf_image.specs.inside.Patches.{all_clear, patch_start, patch_end, is_relocated};
 ghost use Rattle.omf_image.specs.inside.Marks.{IsMarked};
 
 use crate::patch::Patch;

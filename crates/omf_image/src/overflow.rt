@@ -90,9 +90,9 @@ fn overflows<A: Allocator + Copy>(
     requires input { input < length layout.now.modules }
     requires segment { data_record.now.segment < length (places_of layout.now input).segments }
     requires fixup { IsFixupReady layout.now
-        (record { input = input; module' = «module».now; data_record = data_seen data_record.now }) fixup.now }
+        (record { input = input; module' = «module».now; item = data_seen data_record.now }) fixup.now }
     ensures { result ≡ spec.overflows layout.now
-        (record { input = input; module' = «module».now; data_record = data_seen data_record.now }) fixup.now }
+        (record { input = input; module' = «module».now; item = data_seen data_record.now }) fixup.now }
 {
     if fixup.self_relative || !matches!(fixup.location, Location::LoaderOffset) {
         return false;
@@ -122,9 +122,9 @@ fn overflow_of<A: Allocator + Copy>(
 ) -> Option<(usize, u64)>
     requires lengths { length data_record.now.bytes.now ≡ length data_record.now.places.now }
     requires ready { IsEntryReady layout.now
-        (record { input = input; module' = «module».now; data_record = data_seen data_record.now }) }
+        (record { input = input; module' = «module».now; item = data_seen data_record.now }) }
     ensures { result ≡ spec.entry_overflow layout.now
-        (record { input = input; module' = «module».now; data_record = data_seen data_record.now }) }
+        (record { input = input; module' = «module».now; item = data_seen data_record.now }) }
 {
     for fixup in data_record.fixups {
         if overflows(layout, input, module, data_record, fixup) {
@@ -190,9 +190,9 @@ fn start_overflows<A: Allocator + Copy>(
     module: &Module<A>,
     start: Start,
 ) -> bool
-    requires { IsStartReady layout.now (record { input = input; module' = «module».now; start = start }) }
+    requires { IsStartReady layout.now (record { input = input; module' = «module».now; item = start }) }
     ensures { result
-        ≡ spec.start_overflows layout.now (record { input = input; module' = «module».now; start = start }) }
+        ≡ spec.start_overflows layout.now (record { input = input; module' = «module».now; item = start }) }
 {
     match resolve(
         layout,

@@ -5,8 +5,8 @@ ghost use Rattle.std.specs.List.{list_all};
 ghost use Rattle.omf_image.specs.declared.faults.FixKind.TheVariants.{Mixed, OutOfFrame, ShortTooFar};
 ghost use Rattle.std.specs.Bool.{then_some};
 ghost use Rattle.omf_module.specs.Before.{first};
-ghost use Rattle.omf_image.specs.Faults.{is_mixed, out_of_frame, too_far, in_frame, fits_short};
-ghost use Rattle.omf_image.specs.Faults.{short_distance};
+ghost use Rattle.omf_image.specs.Faults.{is_mixed, out_of_frame, too_far, in_frame};
+ghost use Rattle.omf_image.specs.inside.Distances.{fits_short};
 
 use crate::faults::FixKind;
 use crate::reference::Resolved;
@@ -22,7 +22,7 @@ fn are_framed(resolved: &Resolved, start: u32, hits: &[u32]) -> bool
 
 /// Whether the distance fits a signed byte at each hit.
 fn are_near(resolved: &Resolved, start: u32, hits: &[u32]) -> bool
-    ensures { result ≡ list_all (λ i. fits_short (short_distance resolved.now (start + i))) hits.now }
+    ensures { result ≡ list_all (λ i. fits_short resolved.now (start + i)) hits.now }
 {
     hits.iter().all(|at| resolved.fits_short(u64::from(start) + u64::from(*at)))
 }

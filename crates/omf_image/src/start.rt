@@ -3,8 +3,8 @@
 ghost use Rattle.std.specs.Prelude.{◌≡◌, ◌<◌, ◌≤◌, All, Some, None, false, length, slice_get};
 ghost use Rattle.std.specs.Option.{option_map_or};
 ghost use Rattle.omf_image.specs.inside.Ready.{IsStartReady};
-ghost use Rattle.omf_image.specs.Registers.{starts, start_meaning, starts_fault, entry_of, entry_point};
-ghost use Rattle.omf_image.specs.inside.Starts.{is_stack};
+ghost use Rattle.omf_image.specs.Registers.{starts, start_meaning, starts_fault, entry_point};
+ghost use Rattle.omf_image.specs.inside.Starts.{entry_of, is_stack};
 ghost use Rattle.omf_image.specs.Registers.{stack, stack_of, registers};
 ghost use Rattle.omf_image.specs.inside.Starts.{is_stack_segment};
 ghost use Rattle.omf_image.specs.Building.{Answers};
@@ -38,9 +38,9 @@ fn entry_of<A: Allocator + Copy>(
     module: &Module<A>,
     start: Start,
 ) -> Result<(u16, u16), FixKind>
-    requires { IsStartReady layout.now (record { input = input; module' = «module».now; start = start }) }
+    requires { IsStartReady layout.now (record { input = input; module' = «module».now; item = start }) }
     ensures { GivesEntry
-        (start_meaning layout.now (record { input = input; module' = «module».now; start = start })) result }
+        (start_meaning layout.now (record { input = input; module' = «module».now; item = start })) result }
 {
     let resolved = resolve(
         layout,

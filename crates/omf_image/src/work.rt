@@ -4,8 +4,8 @@ ghost use Rattle.std.specs.Prelude.{◌≡◌, ◌<◌, ◌≤◌, ◌+◌, ◌/
 ghost use Rattle.std.specs.Prelude.{slice_index, slice_index_or, OnOk};
 ghost use Rattle.omf_record.specs.Numbers.{location_width};
 ghost use Rattle.omf_image.specs.declared.patch.Patch.{Patch as PlainPatch};
-ghost use Rattle.omf_image.specs.Patch.{patched, all_clear};
-ghost use Rattle.omf_image.specs.inside.Patches.{patch_start, patch_end, relocated_places};
+ghost use Rattle.omf_image.specs.Patch.{patched};
+ghost use Rattle.omf_image.specs.inside.Patches.{all_clear, patch_start, patch_end, relocated_places};
 ghost use Rattle.omf_image.specs.Records.{patches_on};
 ghost use Rattle.omf_image.specs.inside.Marks.{IsMarked};
 ghost use Rattle.omf_image.specs.inside.Lookups.{listed, EndsBy};

@@ -5,7 +5,8 @@ use Rattle.omf_module.specs.Module.{Module}
 use Rattle.omf_place.specs.Layout.{Layout}
 use Rattle.omf_image.specs.Located.{covers, in_page}
 use Rattle.omf_image.specs.inside.Whole.{byte_of, page_covered, data_fault}
-use Rattle.omf_image.specs.Records.{DataEntry, entries, datum, program_byte, record_relocations}
+use Rattle.omf_image.specs.Records.{entries, datum, program_byte, record_relocations}
+use Rattle.omf_image.specs.inside.Entries.{DataEntry}
 use Rattle.omf_image.specs.Faults.{records_fault}
 use Rattle.omf_image.specs.inside.States.{State}
 

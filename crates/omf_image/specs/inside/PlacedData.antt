@@ -8,7 +8,8 @@ use Rattle.omf_image.specs.declared.faults.Stop.{Stop}
 use Rattle.omf_image.specs.declared.faults.Stop.TheVariants.{Kind, Memory}
 use Rattle.omf_image.specs.declared.patch.Patch.{Patch}
 use Rattle.omf_image.specs.declared.placed_data.PlacedData.{PlacedData}
-use Rattle.omf_image.specs.Records.{DataEntry, entry_start}
+use Rattle.omf_image.specs.Records.{entry_start}
+use Rattle.omf_image.specs.inside.Entries.{DataEntry}
 use Rattle.omf_image.specs.Faults.{fixup_fault}
 use Rattle.omf_image.specs.inside.Marks.{IsPlain}
 use Rattle.omf_image.specs.inside.Index.{IsIndex}
@@ -16,7 +17,7 @@ use Rattle.omf_image.specs.inside.Index.{IsIndex}
 -- the data record with its module, as the definitions have them
 abbrev pub entry_seen : {A : Type 0} → PlacedData A → DataEntry
 entry_seen placed =
-    record { input = placed.input; module' = placed.module.now; data_record = data_seen placed.data_record }
+    record { input = placed.input; module' = placed.module.now; item = data_seen placed.data_record }
 
 -- what is told of the data record holds
 pub record IsPlacedData {A : Type 0} (placed : PlacedData A) : Type 0 where

@@ -1,8 +1,9 @@
 -- What the look-up of a start answers.
-use Rattle.std.specs.Prelude.{◌≡◌, ℕ, ◌+◌, ◌<◌, List, [], ◌∷◌, drop, length, get_or, Option, Some, None, Result, Ok}
+use Rattle.std.specs.Prelude.{◌≡◌, ℕ, ◌+◌, ◌%◌, ◌<◌, List, [], ◌∷◌, drop, length, get_or, Option, Some, None}
 use Rattle.std.specs.Prelude.{false}
-use Rattle.std.specs.Prelude.{Err, Bool, cond, nat_lt, slice_get}
+use Rattle.std.specs.Prelude.{Result, Ok, Err, Bool, cond, nat_lt, slice_get}
 use Rattle.std.specs.Option.{option_map_or, option_and_then}
+use Rattle.std.specs.Result.{result_ok}
 use Rattle.omf_module.specs.declared.Kind.TheVariants.{Stack}
 use Rattle.omf_module.specs.declared.Standing.{Standing}
 use Rattle.omf_module.specs.declared.Start.{Start}
@@ -14,9 +15,18 @@ use Rattle.omf_image.specs.declared.faults.FixFault.{FixFault}
 use Rattle.omf_image.specs.declared.faults.FixFault.TheVariants.{TooManyRelocations}
 use Rattle.omf_image.specs.declared.faults.FixKind.{FixKind}
 use Rattle.omf_image.specs.declared.reference.Resolved.{Resolved}
+use Rattle.omf_image.specs.Reference.{frame'}
+use Rattle.omf_image.specs.Value.{modulo, real_frame}
 use Rattle.omf_image.specs.Records.{relocations}
-use Rattle.omf_image.specs.Registers.{start_kind, entry_of}
+use Rattle.omf_image.specs.Registers.{start_kind}
 use Rattle.omf_image.specs.inside.Entries.{starts_from}
+use Rattle.omf_image.specs.inside.Distances.{from_frame}
+
+-- CS and IP at a start that was found, else the program's first byte
+abbrev pub entry_of : (P : ℕ) → Result Resolved FixKind → ℕ × ℕ
+entry_of P found =
+    option_map_or (λ r. (real_frame P (frame' r) % 65536, modulo 65536 (from_frame P r))) (result_ok found)
+    (P % 65536, 0)
 
 -- CS and IP, or the start's fault
 abbrev pub GivesEntry : Result Resolved FixKind → Result (ℕ × ℕ) FixKind → Type 0
@@ -41,5 +51,5 @@ is_stack_segment modules combined =
 abbrev pub FindsStart : List Module → (from : ℕ) → Option (ℕ × Start) → Type 0
 FindsStart modules from None = starts_from from (drop from modules) ≡ []
 FindsStart modules from (Some f) = (f.0 < length modules) × ((m : Module) → m ≡ get_or modules f.0 m
-    → starts_from from (drop from modules) ≡ record { input = f.0; module' = m; start = f.1 }
+    → starts_from from (drop from modules) ≡ record { input = f.0; module' = m; item = f.1 }
     ∷ starts_from (f.0 + 1) (drop (f.0 + 1) modules))

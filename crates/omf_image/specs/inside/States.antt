@@ -3,8 +3,7 @@ use Rattle.std.specs.Prelude.{◌≡◌, ℕ, ◌+◌, ◌/◌, ◌<◌, ◌≤�
 use Rattle.omf_image.specs.declared.patch.Patch.{Patch}
 use Rattle.omf_image.specs.declared.patch.Patch.TheVariants.{Byte, Word, Relocated}
 use Rattle.omf_image.specs.declared.work.Work.{Work}
-use Rattle.omf_image.specs.Patch.{patched_all}
-use Rattle.omf_image.specs.inside.Patches.{relocated_places}
+use Rattle.omf_image.specs.inside.Patches.{patched_all, relocated_places}
 use Rattle.omf_image.specs.inside.Pages.{IsLaid, MakesPages}
 use Rattle.omf_image.specs.inside.Marks.{IsMarked}
 

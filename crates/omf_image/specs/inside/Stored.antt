@@ -2,8 +2,7 @@
 use Rattle.std.specs.Prelude.{◌≡◌, ℕ, ◌<◌, ◌==◌, ◌&&◌, Bool, true, false, List, [], ◌∷◌, length, get_or}
 use Rattle.std.specs.List.{list_any}
 use Rattle.omf_image.specs.declared.patch.Patch.{Patch}
-use Rattle.omf_image.specs.Patch.{patched_all}
-use Rattle.omf_image.specs.inside.Patches.{patch_start, is_relocated}
+use Rattle.omf_image.specs.inside.Patches.{patched_all, patch_start, is_relocated}
 use Rattle.omf_image.specs.inside.Marks.{touches, touches_relocated}
 use Rattle.omf_image.specs.inside.States.{State, Holds}
 

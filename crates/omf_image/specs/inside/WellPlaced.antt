@@ -20,12 +20,12 @@ WellPlaced data_record = All (LiesInContent data_record) data_record.fixups
 
 -- what modules promise of their fix-ups
 abbrev pub AllWellPlaced : List Module → Type 0
-AllWellPlaced modules = All (λ e. WellPlaced e.data_record) (entries modules)
+AllWellPlaced modules = All (λ e. WellPlaced e.item) (entries modules)
 
 -- what the layout promises of the data: each lies inside the program
 abbrev pub AllInside : Layout → List Module → Type 0
 AllInside layout modules =
-    All (λ e. entry_start layout e + length (bytes_of e.data_record) ≤ layout.size) (entries modules)
+    All (λ e. entry_start layout e + length (bytes_of e.item) ≤ layout.size) (entries modules)
 
 -- an image of the program at paragraph 0
 pub record IsImage (layout : Layout) (modules : List Module) (image : List ℕ) : Type 0 where

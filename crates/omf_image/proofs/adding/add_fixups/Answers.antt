@@ -2,7 +2,8 @@ use Rattle.std.proofs.Common.{◌∙◌, ◌++◌, List, sym, subst, take, flat_
 use Rattle.std.proofs.lemmas.List.{take_all, at_drop_all}
 use Rattle.omf_module.specs.declared.ResolvedFixup.{ResolvedFixup}
 use Rattle.omf_image.specs.declared.patch.Patch.{Patch}
-use Rattle.omf_image.specs.Records.{DataEntry, fixup_patches}
+use Rattle.omf_image.specs.Records.{fixup_patches}
+use Rattle.omf_image.specs.inside.Entries.{DataEntry}
 use Rattle.omf_image.specs.Faults.{fixups_fault}
 use Rattle.omf_image.specs.inside.States.{state, Holds}
 use Rattle.omf_image.specs.inside.PlacedData.{entry_seen}

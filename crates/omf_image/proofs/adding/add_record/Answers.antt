@@ -4,11 +4,11 @@ use Rattle.std.proofs.lemmas.List.{take_all, length-drop}
 use Rattle.std.proofs.lemmas.List.Elements.{All-weaker}
 use Rattle.omf_module.specs.Seen.{data_seen}
 use Rattle.omf_image.specs.declared.patch.Patch.{Patch}
-use Rattle.omf_image.specs.Located.{covers_word}
-use Rattle.omf_image.specs.Records.{DataEntry, bytes_of, datum, patches, fixup_patches}
+use Rattle.omf_image.specs.Records.{bytes_of, datum, patches, fixup_patches}
+use Rattle.omf_image.specs.inside.Entries.{DataEntry}
 use Rattle.omf_image.specs.inside.WellPlaced.{LiesInContent, WellPlaced}
 use Rattle.omf_image.specs.Faults.{fixups_fault}
-use Rattle.omf_image.specs.inside.Whole.{data_fault}
+use Rattle.omf_image.specs.inside.Whole.{covers_word, data_fault}
 use Rattle.omf_image.specs.inside.Ready.{IsFixupReady}
 use Rattle.omf_image.specs.Building.{Answers}
 use Rattle.omf_image.specs.inside.States.{state, Holds}
@@ -22,8 +22,8 @@ use Rattle.omf_image.proofs.adding.add_record.Goals as goal
 pub covers_relocated-requires : goal.covers_relocated-requires
 covers_relocated-requires g c =
     let d = c.args.data_record in
-    let e : DataEntry = record { input = c.args.input; module' = c.args.module.now; data_record = data_seen d } in
-    let z : bytes_of e.data_record ≡ d.bytes.now = second_of_zip d.places.now d.bytes.now (sym c.requires.lengths) in
+    let e : DataEntry = record { input = c.args.input; module' = c.args.module.now; item = data_seen d } in
+    let z : bytes_of e.item ≡ d.bytes.now = second_of_zip d.places.now d.bytes.now (sym c.requires.lengths) in
     omega (
       arith,
       c.data_address-start.ensures,
@@ -37,19 +37,19 @@ covers_relocated-requires g c =
 pub lay-requires-clause-inside : goal.lay-requires-clause-inside
 lay-requires-clause-inside g c =
     let d = c.args.data_record in
-    let e : DataEntry = record { input = c.args.input; module' = c.args.module.now; data_record = data_seen d } in
-    let z : bytes_of e.data_record ≡ d.bytes.now = second_of_zip d.places.now d.bytes.now (sym c.requires.lengths) in
+    let e : DataEntry = record { input = c.args.input; module' = c.args.module.now; item = data_seen d } in
+    let z : bytes_of e.item ≡ d.bytes.now = second_of_zip d.places.now d.bytes.now (sym c.requires.lengths) in
     omega (arith, c.data_address-start.ensures, c.requires.ready.inside, ap length z, c.requires.whole.sized)
 
 pub returns-then-covers_relocated-clause-gives : goal.returns-then-covers_relocated-clause-gives
 returns-then-covers_relocated-clause-gives g c modules rest l =
     let d = c.args.data_record in
     let layout = c.args.layout.now in
-    let e : DataEntry = record { input = c.args.input; module' = c.args.module.now; data_record = data_seen d } in
-    let z : bytes_of e.data_record ≡ d.bytes.now = second_of_zip d.places.now d.bytes.now (sym c.requires.lengths) in
+    let e : DataEntry = record { input = c.args.input; module' = c.args.module.now; item = data_seen d } in
+    let z : bytes_of e.item ≡ d.bytes.now = second_of_zip d.places.now d.bytes.now (sym c.requires.lengths) in
     let bytes : List ℕ = (datum 0 layout e).bytes in
     let n : length bytes ≡ length d.bytes.now =
-    length-patched_all (patches 0 layout e) (bytes_of e.data_record) ∙ ap length z in
+    length-patched_all (patches 0 layout e) (bytes_of e.item) ∙ ap length z in
     let told = c.covers_relocated.ensures bytes l.so_far n (listed_same _ _ l.so_far c.deref.ensures.value l.listed) in
     leads_to_fault layout modules _ e rest _ l
     (covers_fault layout e l.so_far
@@ -59,8 +59,8 @@ returns-then-covers_relocated-clause-gives g c modules rest l =
 pub record_index-requires : goal.record_index-requires
 record_index-requires g c =
     let d = c.args.data_record in
-    let e : DataEntry = record { input = c.args.input; module' = c.args.module.now; data_record = data_seen d } in
-    let z : bytes_of e.data_record ≡ d.bytes.now = second_of_zip d.places.now d.bytes.now (sym c.requires.lengths) in
+    let e : DataEntry = record { input = c.args.input; module' = c.args.module.now; item = data_seen d } in
+    let z : bytes_of e.item ≡ d.bytes.now = second_of_zip d.places.now d.bytes.now (sym c.requires.lengths) in
     omega (arith, c.requires.lengths, c.requires.ready.inside, ap length z, c.requires.whole.small)
 
 pub lay_data-requires-clause-placed : goal.lay_data-requires-clause-placed
@@ -86,8 +86,8 @@ add_fixups-requires-clause-placed g c = record {
 pub lay_data-requires-clause-inside : goal.lay_data-requires-clause-inside
 lay_data-requires-clause-inside g c =
     let d = c.args.data_record in
-    let e : DataEntry = record { input = c.args.input; module' = c.args.module.now; data_record = data_seen d } in
-    let z : bytes_of e.data_record ≡ d.bytes.now = second_of_zip d.places.now d.bytes.now (sym c.requires.lengths) in
+    let e : DataEntry = record { input = c.args.input; module' = c.args.module.now; item = data_seen d } in
+    let z : bytes_of e.item ≡ d.bytes.now = second_of_zip d.places.now d.bytes.now (sym c.requires.lengths) in
     omega (arith, c.data_address-start.ensures, c.requires.ready.inside, ap length z, c.requires.whole.sized)
 
 pub returns-clause-whole : goal.returns-clause-whole
@@ -103,11 +103,11 @@ pub returns-in_err-laid-clause-gives : goal.returns-in_err-laid-clause-gives
 returns-in_err-laid-clause-gives g c modules rest l =
     let d = c.args.data_record in
     let layout = c.args.layout.now in
-    let e : DataEntry = record { input = c.args.input; module' = c.args.module.now; data_record = data_seen d } in
-    let z : bytes_of e.data_record ≡ d.bytes.now = second_of_zip d.places.now d.bytes.now (sym c.requires.lengths) in
+    let e : DataEntry = record { input = c.args.input; module' = c.args.module.now; item = data_seen d } in
+    let z : bytes_of e.item ≡ d.bytes.now = second_of_zip d.places.now d.bytes.now (sym c.requires.lengths) in
     let bytes : List ℕ = (datum 0 layout e).bytes in
     let n : length bytes ≡ length d.bytes.now =
-    length-patched_all (patches 0 layout e) (bytes_of e.data_record) ∙ ap length z in
+    length-patched_all (patches 0 layout e) (bytes_of e.item) ∙ ap length z in
     let told = c.covers_relocated.ensures bytes l.so_far n (listed_same _ _ l.so_far c.deref.ensures.value l.listed) in
     let clean : covers_word (datum 0 layout e) l.so_far ≡ false =
     ap (λ (s : ℕ). covers_word (record { start = s; bytes = bytes }) l.so_far) (sym c.data_address-start.ensures)
@@ -122,17 +122,17 @@ pub returns-clause-gives : goal.returns-clause-gives
 returns-clause-gives g c modules rest l =
     let d = c.args.data_record in
     let layout = c.args.layout.now in
-    let e : DataEntry = record { input = c.args.input; module' = c.args.module.now; data_record = data_seen d } in
-    let z : bytes_of e.data_record ≡ d.bytes.now = second_of_zip d.places.now d.bytes.now (sym c.requires.lengths) in
+    let e : DataEntry = record { input = c.args.input; module' = c.args.module.now; item = data_seen d } in
+    let z : bytes_of e.item ≡ d.bytes.now = second_of_zip d.places.now d.bytes.now (sym c.requires.lengths) in
     let bytes : List ℕ = (datum 0 layout e).bytes in
     let n : length bytes ≡ length d.bytes.now =
-    length-patched_all (patches 0 layout e) (bytes_of e.data_record) ∙ ap length z in
+    length-patched_all (patches 0 layout e) (bytes_of e.item) ∙ ap length z in
     let told = c.covers_relocated.ensures bytes l.so_far n (listed_same _ _ l.so_far c.deref.ensures.value l.listed) in
     let clean : covers_word (datum 0 layout e) l.so_far ≡ false =
     ap (λ (s : ℕ). covers_word (record { start = s; bytes = bytes }) l.so_far) (sym c.data_address-start.ensures)
     ∙ sym told ∙ c.if-covers_relocated.false in
-    let well : WellPlaced e.data_record =
-    All-weaker (IsFixupReady layout e) (LiesInContent e.data_record) (λ x h. h.lies) d.fixups.now
+    let well : WellPlaced e.item =
+    All-weaker (IsFixupReady layout e) (LiesInContent e.item) (λ x h. h.lies) d.fixups.now
     c.requires.ready.fixups in
     let f = fixup_patches 0 layout e in
     let xs = d.fixups.now in
@@ -175,17 +175,17 @@ pub returns-then-is_empty-clause-gives : goal.returns-then-is_empty-clause-gives
 returns-then-is_empty-clause-gives g c modules rest l =
     let d = c.args.data_record in
     let layout = c.args.layout.now in
-    let e : DataEntry = record { input = c.args.input; module' = c.args.module.now; data_record = data_seen d } in
-    let z : bytes_of e.data_record ≡ d.bytes.now = second_of_zip d.places.now d.bytes.now (sym c.requires.lengths) in
+    let e : DataEntry = record { input = c.args.input; module' = c.args.module.now; item = data_seen d } in
+    let z : bytes_of e.item ≡ d.bytes.now = second_of_zip d.places.now d.bytes.now (sym c.requires.lengths) in
     let bytes : List ℕ = (datum 0 layout e).bytes in
     let n : length bytes ≡ length d.bytes.now =
-    length-patched_all (patches 0 layout e) (bytes_of e.data_record) ∙ ap length z in
+    length-patched_all (patches 0 layout e) (bytes_of e.item) ∙ ap length z in
     let told = c.covers_relocated.ensures bytes l.so_far n (listed_same _ _ l.so_far c.deref.ensures.value l.listed) in
     let clean : covers_word (datum 0 layout e) l.so_far ≡ false =
     ap (λ (s : ℕ). covers_word (record { start = s; bytes = bytes }) l.so_far) (sym c.data_address-start.ensures)
     ∙ sym told ∙ c.if-covers_relocated.false in
-    let well : WellPlaced e.data_record =
-    All-weaker (IsFixupReady layout e) (LiesInContent e.data_record) (λ x h. h.lies) d.fixups.now
+    let well : WellPlaced e.item =
+    All-weaker (IsFixupReady layout e) (LiesInContent e.item) (λ x h. h.lies) d.fixups.now
     c.requires.ready.fixups in
     let none : d.fixups.now ≡ [] = no_fixups d.fixups.now (search rules) in
     leads_on layout modules (state c.args.work.now) _ e rest well c.requires.whole c.requires.ready.inside l clean

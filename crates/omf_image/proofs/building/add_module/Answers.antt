@@ -1,7 +1,6 @@
 use Rattle.std.proofs.Common.{◌+◌, ◌++◌, List, subst, arith, drop}
 use Rattle.omf_module.specs.Seen.{data_seen}
-use Rattle.omf_image.specs.Records.{DataEntry}
-use Rattle.omf_image.specs.inside.Entries.{module_entries}
+use Rattle.omf_image.specs.inside.Entries.{DataEntry, module_entries}
 use Rattle.omf_image.specs.inside.Ready.{IsEntryReady}
 use Rattle.omf_image.specs.inside.States.{state}
 use Rattle.omf_image.specs.inside.Leading.{Leads}

@@ -1,7 +1,6 @@
 use Rattle.std.proofs.Common.{◌++◌, List, drop}
 use Rattle.omf_module.specs.Module.{Module}
-use Rattle.omf_image.specs.Records.{DataEntry}
-use Rattle.omf_image.specs.inside.Entries.{module_entries}
+use Rattle.omf_image.specs.inside.Entries.{DataEntry, module_entries}
 use Rattle.omf_image.specs.inside.States.{state}
 use Rattle.omf_image.specs.inside.Leading.{IsWhole, Leads}
 use Rattle.omf_image.proofs.building.add_module.Given as goal

@@ -1,8 +1,7 @@
 use Rattle.std.proofs.Common.{◌+◌, List, subst, drop, All}
 use Rattle.std.proofs.lemmas.List.{drop_all}
 use Rattle.omf_module.specs.Module.{Module}
-use Rattle.omf_image.specs.Records.{DataEntry}
-use Rattle.omf_image.specs.inside.Entries.{module_entries, entries_from}
+use Rattle.omf_image.specs.inside.Entries.{DataEntry, module_entries, entries_from}
 use Rattle.omf_image.specs.inside.Ready.{IsEntryReady}
 use Rattle.omf_image.specs.inside.States.{state}
 use Rattle.omf_image.specs.inside.Leading.{Leads}

@@ -4,8 +4,8 @@ use Rattle.std.proofs.lemmas.Bool.{eqb-true, eqb-false}
 use Rattle.omf_module.specs.Module.{DataRecord, Module}
 use Rattle.omf_module.specs.Seen.{data_seen}
 use Rattle.omf_place.specs.Layout.{Layout}
-use Rattle.omf_image.specs.Records.{DataEntry, entry_start, entry_end, bytes_of}
-use Rattle.omf_image.specs.inside.Entries.{module_entries}
+use Rattle.omf_image.specs.Records.{entry_start, entry_end, bytes_of}
+use Rattle.omf_image.specs.inside.Entries.{DataEntry, module_entries}
 use Rattle.omf_image.specs.inside.Ready.{IsEntryReady}
 use Rattle.omf_image.proofs.Meaning.{second_of_zip}
 use Rattle.omf_image.proofs.Listing.{entry_of, all_at, entry_next}
@@ -85,7 +85,7 @@ loop-index-preserved g c =
     let e : DataEntry = entry_of c.args.input m (data_seen d) in
     let i = c.loop-index.index in
     let rest = map (entry_end layout) (drop (i + 1) (module_entries c.args.input m)) in
-    let bytes : length (bytes_of e.data_record) ≡ length d.bytes.now =
+    let bytes : length (bytes_of e.item) ≡ length d.bytes.now =
     ap length (second_of_zip d.places.now d.bytes.now (sym c.data_record-data_record.ensures.lengths)) in
     let next =
     step layout c.args.input m i (data_seen d) c.loop-index.end
@@ -93,15 +93,15 @@ loop-index-preserved g c =
     c.data_record-data_record.ensures.seen in
     elim c.if-not-is_empty.branch [
       | then-not-is_empty w ↦
-          let some : entry_end layout e ≡ entry_start layout e + length (bytes_of e.data_record) =
-          end_some (entry_start layout e) (length (bytes_of e.data_record))
+          let some : entry_end layout e ≡ entry_start layout e + length (bytes_of e.item) =
+          end_some (entry_start layout e) (length (bytes_of e.item))
           (omega (arith, bytes, eqb-false (length d.bytes.now) 0 (sym c.is_empty.ensures ∙ w.if-not-is_empty.true))) in
           let end : w.max-end.result ≡ max c.loop-index.end (entry_end layout e) =
           omega (arith, w.max-end.ensures, w.data_address-start.ensures, some, bytes) in
           ap (λ (n : ℕ). fold max n rest) (w.end-is ∙ end) ∙ sym next ∙ c.loop-index.invariant
       | else-not-is_empty w ↦
           let none : entry_end layout e ≡ 0 =
-          end_none (entry_start layout e) (length (bytes_of e.data_record))
+          end_none (entry_start layout e) (length (bytes_of e.item))
           (bytes ∙ eqb-true (length d.bytes.now) 0 (sym c.is_empty.ensures ∙ w.if-not-is_empty.false)) in
           let end : c.loop-index.end ≡ max c.loop-index.end (entry_end layout e) = omega (arith, none) in
           ap (λ (n : ℕ). fold max n rest) (w.end-is ∙ end) ∙ sym next ∙ c.loop-index.invariant

@@ -1,8 +1,8 @@
 use Rattle.std.proofs.Common.{◌∙◌, ◌+◌, ℕ, List, map, fold, max, drop, All, sym, ap, subst}
 use Rattle.std.proofs.lemmas.List.{map-append}
 use Rattle.std.proofs.lemmas.List.Sums.{fold-append}
-use Rattle.omf_image.specs.Records.{DataEntry, entry_end}
-use Rattle.omf_image.specs.inside.Entries.{module_entries, entries_from}
+use Rattle.omf_image.specs.Records.{entry_end}
+use Rattle.omf_image.specs.inside.Entries.{DataEntry, module_entries, entries_from}
 use Rattle.omf_image.specs.inside.Ready.{IsEntryReady}
 use Rattle.omf_image.proofs.Listing.{all_left, all_right, module_next}
 use Rattle.omf_image.proofs.extent.written.Goals as goal

@@ -1,6 +1,7 @@
 use Rattle.std.proofs.Common.{◌≡◌, ◌∙◌, ◌++◌, List, sym, ap, subst, arith, length}
 use Rattle.omf_image.specs.declared.patch.Patch.{Patch}
-use Rattle.omf_image.specs.Records.{hits, stored_of, DataEntry}
+use Rattle.omf_image.specs.Records.{hits, stored_of}
+use Rattle.omf_image.specs.inside.Entries.{DataEntry}
 use Rattle.omf_image.specs.inside.States.{state, Holds}
 use Rattle.omf_image.specs.inside.PlacedData.{entry_seen}
 use Rattle.omf_image.proofs.Meaning.{fault_on, gives_fault, patches_found, first_of_zip, hit_inside}
@@ -11,10 +12,10 @@ fix-requires-clause-hits g c k h =
     let s = c.args.placed.now in
     let e : DataEntry = entry_seen s in
     let x = c.args.fixup.now in
-    let z : stored_of e.data_record ≡ s.data_record.places.now =
+    let z : stored_of e.item ≡ s.data_record.places.now =
     first_of_zip s.data_record.places.now s.data_record.bytes.now (sym c.requires.placed.lengths) in
     let is = c.deref.ensures.value ∙ c.in_ok-find_hits.ensures ∙ ap (hits x.offset) (sym z) in
-    let room = hit_inside e.data_record x c.deref.result.now k c.requires.fixup.lies is h in
+    let room = hit_inside e.item x c.deref.result.now k c.requires.fixup.lies is h in
     omega (arith, room, ap length z, c.requires.placed.lengths, c.requires.sized)
 
 pub returns-clause-gives : goal.returns-clause-gives
@@ -22,7 +23,7 @@ returns-clause-gives g c bytes base earlier h =
     let s = c.args.placed.now in
     let e : DataEntry = entry_seen s in
     let x = c.args.fixup.now in
-    let z : stored_of e.data_record ≡ s.data_record.places.now =
+    let z : stored_of e.item ≡ s.data_record.places.now =
     first_of_zip s.data_record.places.now s.data_record.bytes.now (sym c.requires.placed.lengths) in
     let is = c.deref.ensures.value ∙ c.in_ok-find_hits.ensures ∙ ap (hits x.offset) (sym z) in
     let gives = c.in_ok-fix.ensures.gives bytes base earlier h in (
@@ -39,7 +40,7 @@ returns-in_err-fix-clause-gives g c bytes base earlier h =
     let s = c.args.placed.now in
     let e : DataEntry = entry_seen s in
     let x = c.args.fixup.now in
-    let z : stored_of e.data_record ≡ s.data_record.places.now =
+    let z : stored_of e.item ≡ s.data_record.places.now =
     first_of_zip s.data_record.places.now s.data_record.bytes.now (sym c.requires.placed.lengths) in
     let is = c.deref.ensures.value ∙ c.in_ok-find_hits.ensures ∙ ap (hits x.offset) (sym z) in
     gives_fault s.layout.now e earlier x _ _ _ c.from_residual-in_err-fix.ensures.1 (

@@ -2,7 +2,8 @@ use Rattle.std.proofs.Common.{◌≡◌, ◌∙◌, ◌<◌, ◌≤◌, ◌+◌,
 use Rattle.omf_record.specs.Expansion.{StandTogether, StandWhole}
 use Rattle.omf_record.specs.Numbers.{location_width}
 use Rattle.omf_image.specs.declared.patch.Patch.{Patch}
-use Rattle.omf_image.specs.Records.{DataEntry, hits, patches_on, stored_of}
+use Rattle.omf_image.specs.Records.{hits, patches_on, stored_of}
+use Rattle.omf_image.specs.inside.Entries.{DataEntry}
 use Rattle.omf_image.specs.Faults.{first_test}
 use Rattle.omf_image.specs.inside.States.{state, Holds}
 use Rattle.omf_image.specs.inside.PlacedData.{entry_seen}
@@ -20,7 +21,7 @@ fix-requires-clause-hits g c =
     let w = location_width x.location in
     let n = length c.args.stored.now.touched.items in
     let places = s.data_record.places.now in
-    let z : stored_of e.data_record ≡ places =
+    let z : stored_of e.item ≡ places =
     first_of_zip places s.data_record.bytes.now (sym c.requires.placed.lengths) in
     let at = c.deref.ensures.value ∙ c.in_ok-find_once.ensures places (c.requires.placed.index c.requires.repeated) in
     let together = subst (StandTogether x.offset w) z c.requires.fixup.lies in
@@ -39,8 +40,8 @@ returns-clause-gives g c earlier h =
     let places = s.data_record.places.now in
     let bytes = s.data_record.bytes.now in
     let is = hits x.offset places in
-    let z : stored_of e.data_record ≡ places = first_of_zip places bytes (sym c.requires.placed.lengths) in
-    let found : is ≡ hits x.offset (stored_of e.data_record) = ap (hits x.offset) (sym z) in
+    let z : stored_of e.item ≡ places = first_of_zip places bytes (sym c.requires.placed.lengths) in
+    let found : is ≡ hits x.offset (stored_of e.item) = ap (hits x.offset) (sym z) in
     let at = c.deref.ensures.value ∙ c.in_ok-find_once.ensures places (c.requires.placed.index c.requires.repeated) in
     let together = subst (StandTogether x.offset w) z c.requires.fixup.lies in
     let whole = subst (StandWhole x.offset w) z c.requires.fixup.whole in
@@ -69,8 +70,8 @@ returns-in_err-fix-clause-gives g c earlier h =
     let places = s.data_record.places.now in
     let bytes = s.data_record.bytes.now in
     let is = hits x.offset places in
-    let z : stored_of e.data_record ≡ places = first_of_zip places bytes (sym c.requires.placed.lengths) in
-    let found : is ≡ hits x.offset (stored_of e.data_record) = ap (hits x.offset) (sym z) in
+    let z : stored_of e.item ≡ places = first_of_zip places bytes (sym c.requires.placed.lengths) in
+    let found : is ≡ hits x.offset (stored_of e.item) = ap (hits x.offset) (sym z) in
     let at = c.deref.ensures.value ∙ c.in_ok-find_once.ensures places (c.requires.placed.index c.requires.repeated) in
     let together = subst (StandTogether x.offset w) z c.requires.fixup.lies in
     let whole = subst (StandWhole x.offset w) z c.requires.fixup.whole in

@@ -1,7 +1,8 @@
 use Rattle.std.proofs.Common.{List, [], take, flat_map}
 use Rattle.std.proofs.lemmas.List.Elements.{All-take}
 use Rattle.omf_image.specs.declared.patch.Patch.{Patch}
-use Rattle.omf_image.specs.Records.{DataEntry, fixup_patches}
+use Rattle.omf_image.specs.Records.{fixup_patches}
+use Rattle.omf_image.specs.inside.Entries.{DataEntry}
 use Rattle.omf_image.specs.inside.PlacedData.{entry_seen}
 use Rattle.omf_image.specs.inside.Ready.{IsFixupReady}
 use Rattle.omf_image.proofs.Meaning.{fixups_left, fixups_first}

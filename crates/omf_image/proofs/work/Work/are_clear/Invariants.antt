@@ -1,6 +1,6 @@
 use Rattle.std.proofs.Common.{◌≡◌, ◌+◌, List, take, flat_map, true}
 use Rattle.omf_image.specs.declared.patch.Patch.{Patch}
-use Rattle.omf_image.specs.Patch.{all_clear}
+use Rattle.omf_image.specs.inside.Patches.{all_clear}
 use Rattle.omf_image.specs.inside.Marks.{IsMarked}
 use Rattle.omf_image.specs.Value.{patches_at}
 use Rattle.omf_image.proofs.work.Work.are_clear.Given as goal

@@ -1,5 +1,5 @@
 use Rattle.std.proofs.Common.{◌∙◌, ◌&&◌, ◌∷◌, [], Bool, sym, ap}
-use Rattle.omf_image.specs.Patch.{all_clear}
+use Rattle.omf_image.specs.inside.Patches.{all_clear}
 use Rattle.omf_image.specs.inside.Lookups.{listed}
 use Rattle.omf_image.proofs.Touched.{pointer_clear}
 use Rattle.omf_image.proofs.Holding.{marked_same}
