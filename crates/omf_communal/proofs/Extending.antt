@@ -46,6 +46,7 @@ use Rattle.omf_module.proofs.InOrder.{start_in_order}
 use Rattle.omf_module.proofs.Lists.{along_from_append, along_push, flat_map_push}
 use Rattle.omf_module.proofs.Growing.{last_option, start_of-is}
 use Rattle.omf_write.specs.Records.{record_bytes, records_bytes}
+use Rattle.omf_write.specs.Segments.{length_of}
 use Rattle.omf_write.proofs.Clean.{All-append, Clean, are_bodies, are_frames, both_false, clean_by, clean_first}
 use Rattle.omf_write.proofs.Clean.{found_at, groups-push, names-push, not_below, place_all, segments-push}
 use Rattle.omf_communal.specs.declared.places.Before.{Before}
@@ -56,7 +57,7 @@ use Rattle.omf_communal.specs.Extended.{near_groups}
 use Rattle.omf_communal.specs.Extended.{near_segments, start_said}
 use Rattle.omf_communal.specs.Locals.{before_in, end_place, inserted, local_module, with_variables}
 use Rattle.omf_communal.specs.Plan.{Place, Plan, plan}
-use Rattle.omf_communal.specs.Records.{dgroup, far_names, far_record, length_of, near_definition, near_name, near_names}
+use Rattle.omf_communal.specs.Records.{dgroup, far_names, far_record, near_definition, near_name, near_names}
 use Rattle.omf_communal.specs.Records.{near_records, place_record, placed_records}
 use Rattle.omf_communal.specs.Records.{variable_records}
 use Rattle.omf_communal.specs.Whole.{IsNamed}
