@@ -28,6 +28,7 @@ use Rattle.omf_module.specs.inside.Said.{externals, names_in, start}
 use Rattle.omf_module.specs.inside.Said.{subrecords_in}
 use Rattle.omf_module.proofs.Lists.{along_from_append}
 use Rattle.omf_write.specs.Records.{record_bytes, records_bytes}
+use Rattle.omf_write.specs.Segments.{length_of}
 use Rattle.omf_write.proofs.Clean.{All-append, Clean}
 use Rattle.omf_write.proofs.Clean.{found_at, names-push, place_all}
 use Rattle.omf_communal.specs.declared.places.Before.{Before}
@@ -35,7 +36,7 @@ use Rattle.omf_communal.specs.Extended.{far_segment, local_public}
 use Rattle.omf_communal.specs.Extended.{near_groups}
 use Rattle.omf_communal.specs.Extended.{near_segments}
 use Rattle.omf_communal.specs.Plan.{Place, Plan}
-use Rattle.omf_communal.specs.Records.{dgroup, far_record, length_of, near_definition, near_name}
+use Rattle.omf_communal.specs.Records.{dgroup, far_record, near_definition, near_name}
 use Rattle.omf_communal.specs.Records.{near_records, place_record, placed_records}
 use Rattle.omf_communal.specs.Records.{variable_records}
 

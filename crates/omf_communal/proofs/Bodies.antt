@@ -19,9 +19,10 @@ use Rattle.omf_record.specs.Canonical.{FitsFrame, canonical}
 use Rattle.omf_write.specs.inside.Fits.{IsName}
 use Rattle.omf_write.proofs.Bodies.{each_text, header_fits, index_len, index_text, joined, name_text, names_fit}
 use Rattle.omf_write.proofs.Bodies.{segment_by}
+use Rattle.omf_write.specs.Segments.{length_of}
 use Rattle.omf_communal.specs.declared.places.Before.{Before}
 use Rattle.omf_communal.specs.inside.Planned.{IsBase}
-use Rattle.omf_communal.specs.Records.{dgroup, far_definition, far_names, length_of, near_definition, near_name}
+use Rattle.omf_communal.specs.Records.{dgroup, far_definition, far_names, near_definition, near_name}
 use Rattle.omf_communal.specs.Records.{near_names}
 
 -- ---- names
@@ -84,7 +85,7 @@ by_length definition whole word n h =
       | false ↦ λ e. word n (below n h e)
     ]) refl
 
-abbrev pub near_with : Before → SegmentLength → SegmentDefinition
+abbrev near_with : Before → SegmentLength → SegmentDefinition
 near_with before l = record {
   alignment = align.Word;
   combination = combine.Public2;
@@ -94,7 +95,7 @@ near_with before l = record {
   overlay = 0;
 }
 
-abbrev pub far_with : Before → SegmentLength → SegmentDefinition
+abbrev far_with : Before → SegmentLength → SegmentDefinition
 far_with before l = record {
   alignment = align.Paragraph;
   combination = combine.Private;

@@ -1,14 +1,13 @@
 -- The records of variables (TIS OMF 1.1, the section of each), and the bytes of the module that has those of a program.
 use Rattle.std.specs.Prelude.{ℕ, ◌+◌, ◌==◌, Bool, false, List, [], ◌∷◌, ◌++◌, map, if◌then◌else◌, Option, None}
 use Rattle.std.specs.Prelude.{Some, codes}
-use Rattle.omf_record.specs.declared.segments.SegmentLength.{SegmentLength}
 use Rattle.omf_record.specs.declared.segments.SegmentDefinition.{SegmentDefinition}
 use Rattle.omf_record.specs.declared.externals.PublicBase.TheVariants.{InSegment}
 use Rattle.omf_record.specs.declared.segments.Alignment.TheVariants as align
 use Rattle.omf_record.specs.declared.segments.Combination.TheVariants as combine
-use Rattle.omf_record.specs.declared.segments.SegmentLength.TheVariants as len
 use Rattle.omf_record.specs.Record.{Record, Theadr, Lnames, Segdef, Grpdef, Pubdef, Modend}
 use Rattle.omf_write.specs.Records.{records_bytes}
+use Rattle.omf_write.specs.Segments.{segment_of_length}
 use Rattle.omf_communal.specs.declared.places.Before.{Before}
 use Rattle.omf_communal.specs.Plan.{Place, Plan, nothing_before}
 
@@ -20,31 +19,15 @@ dgroup = codes "DGROUP"
 abbrev pub near_name : (in_bss : Bool) → List ℕ
 near_name in_bss = if in_bss then codes "_BSS" else codes "c_common"
 
--- how a SEGDEF says a length of at most 65,536 bytes
-abbrev pub length_of : ℕ → SegmentLength
-length_of length = if length == 65536 then len.Whole else len.Word length
-
 -- the near segment: public, at an even address, with the second name of the variables and the third as its class
 abbrev pub near_definition : Before → (length : ℕ) → SegmentDefinition
-near_definition before length = record {
-  alignment = align.Word;
-  combination = combine.Public2;
-  length = length_of length;
-  name = before.names + 2;
-  class = before.names + 3;
-  overlay = 0;
-}
+near_definition before length =
+    segment_of_length align.Word combine.Public2 length (before.names + 2) (before.names + 3)
 
 -- a far segment: private, at a paragraph, with the fourth name, also as its class
 abbrev pub far_definition : Before → (length : ℕ) → SegmentDefinition
-far_definition before length = record {
-  alignment = align.Paragraph;
-  combination = combine.Private;
-  length = length_of length;
-  name = before.names + 4;
-  class = before.names + 4;
-  overlay = 0;
-}
+far_definition before length =
+    segment_of_length align.Paragraph combine.Private length (before.names + 4) (before.names + 4)
 
 -- the near segment, if there is one, and the group DGROUP of it
 abbrev pub near_records : Before → Option ℕ → List Record

@@ -10,22 +10,9 @@ ghost use Rattle.omf_communal.specs.inside.Planned.{parts_said, places_said, pla
 
 use crate::places::{Part, Place, Room};
 use crate::planning::{Plan, whole_room};
-use omf_record::{
-    Alignment, Combination, Public, PublicBase, Record, SegmentDefinition, SegmentLength,
-};
-use omf_write::{put_end, put_header, put_names, put_record};
+use omf_record::{Alignment, Combination, Public, PublicBase, Record};
+use omf_write::{put_end, put_header, put_names, put_record, segment_of_length};
 use std::alloc::{AllocError, Allocator};
-
-/// How a SEGDEF says the length of a segment.
-fn length_of(part: &Part) -> SegmentLength
-    ensures { result ≡ records.length_of part.now.length }
-{
-    if part.length == 65_536 {
-        SegmentLength::Whole
-    } else {
-        SegmentLength::Word(part.length as u16)
-    }
-}
 
 /// Appends the SEGDEF of the near segment, and the GRPDEF of DGROUP with it.
 #[tactic(auto, unfolding(omf_record::specs::View::view))]
@@ -38,14 +25,13 @@ fn put_near<A: Allocator + Copy>(
     ensures { OnOk result (out.new.items ≡
         out.old.items ++ records_bytes (records.near_records (room_said room) (Some part.now.length))) }
 {
-    let segment = SegmentDefinition {
-        alignment: Alignment::Word,
-        combination: Combination::Public2,
-        length: length_of(part),
-        name: room.names + 2,
-        class: room.names + 3,
-        overlay: 0,
-    };
+    let segment = segment_of_length(
+        Alignment::Word,
+        Combination::Public2,
+        part.length,
+        room.names + 2,
+        room.names + 3,
+    );
     put_record(alloc, 0x98, &Record::Segdef { segment }, out)?;
     let mut segments = Vec::new(alloc);
     segments.push(room.segments + 1)?;
@@ -64,14 +50,13 @@ fn put_far<A: Allocator + Copy>(
     ensures { OnOk result (out.new.items ≡
         out.old.items ++ record_bytes (records.far_record (room_said room) part.now.length)) }
 {
-    let segment = SegmentDefinition {
-        alignment: Alignment::Paragraph,
-        combination: Combination::Private,
-        length: length_of(part),
-        name: room.names + 4,
-        class: room.names + 4,
-        overlay: 0,
-    };
+    let segment = segment_of_length(
+        Alignment::Paragraph,
+        Combination::Private,
+        part.length,
+        room.names + 4,
+        room.names + 4,
+    );
     put_record(alloc, 0x98, &Record::Segdef { segment }, out)
 }
 

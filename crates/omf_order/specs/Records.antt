@@ -10,9 +10,9 @@ use Rattle.omf_record.specs.declared.segments.SegmentDefinition.{SegmentDefiniti
 use Rattle.omf_record.specs.declared.externals.PublicBase.TheVariants.{InSegment}
 use Rattle.omf_record.specs.declared.segments.Alignment.TheVariants as align
 use Rattle.omf_record.specs.declared.segments.Combination.TheVariants as combine
-use Rattle.omf_record.specs.declared.segments.SegmentLength.TheVariants as len
 use Rattle.omf_record.specs.Record.{Record, Theadr, Lnames, Segdef, Grpdef, Pubdef, Modend, Public}
 pub use Rattle.omf_write.specs.Records.{record_bytes, records_bytes}
+use Rattle.omf_write.specs.Segments.{segment_of_length}
 use Rattle.omf_order.specs.Segments.{dgroup}
 use Rattle.omf_order.specs.Parts.{Part}
 use Rattle.omf_order.specs.Plan.{Plan}
@@ -35,14 +35,8 @@ combination_of kind.Common = combine.Common
 
 -- the SEGDEF of the part at a place: of length 0, its name and class behind those of the parts before it and DGROUP
 abbrev pub definition : (place : ℕ) → Part → SegmentDefinition
-definition place p = record {
-  alignment = alignment_of p.alignment;
-  combination = combination_of p.kind;
-  length = len.Word 0;
-  name = 2 * place + 2;
-  class = 2 * place + 3;
-  overlay = 0;
-}
+definition place p =
+    segment_of_length (alignment_of p.alignment) (combination_of p.kind) 0 (2 * place + 2) (2 * place + 3)
 
 -- its record
 abbrev pub segment_record : (place : ℕ) → Part → Record

@@ -41,6 +41,38 @@ fn place_of<K: Eq + Hash + Copy, A: Allocator + Copy>(
     met.get(&key).copied().unwrap_or(keys.len())
 }
 
+/// Where each of some keys is first met.
+fn places_met<K: Eq + Hash + Copy, A: Allocator + Copy>(
+    alloc: A,
+    keys: &[K],
+) -> Result<FirstPlaces<K, A>, AllocError>
+    ensures { IfOk result (λ met. (q : K) →
+        unwrap_or (get K.eq met q) (length keys.now) ≡ position_or_len (K.eq q) keys.now) }
+{
+    let mut met: FirstPlaces<K, A> = IndexMap::new(alloc);
+    for (place, key) in keys.iter().enumerate() {
+        meet(&mut met, *key, place)?;
+    }
+    Ok(met)
+}
+
+/// For each key that is asked for, the place at which it was met, or the number of all where it wasn't.
+fn places_of<K: Eq + Hash + Copy, A: Allocator + Copy>(
+    alloc: A,
+    met: &FirstPlaces<K, A>,
+    asked: &[K],
+    keys: &[K],
+) -> Result<Vec<usize, A>, AllocError>
+    ensures { IfOk result (λ v. v.items ≡ map (λ k. unwrap_or (get K.eq met.now k) (length keys.now)) asked.now) }
+{
+    let mut places = Vec::new(alloc);
+    for key in asked {
+        let place = place_of(met, *key, keys);
+        places.push(place)?;
+    }
+    Ok(places)
+}
+
 /// For each key that is asked for, the place of the first of the others that is equal to it, or their number.
 pub(crate) fn first_places<K: Eq + Hash + Copy, A: Allocator + Copy>(
     alloc: A,
@@ -49,14 +81,6 @@ pub(crate) fn first_places<K: Eq + Hash + Copy, A: Allocator + Copy>(
 ) -> Result<Vec<usize, A>, AllocError>
     ensures { IfOk result (λ v. v.items ≡ map (λ k. position_or_len (K.eq k) keys.now) asked.now) }
 {
-    let mut met: FirstPlaces<K, A> = IndexMap::new(alloc);
-    for (place, key) in keys.iter().enumerate() {
-        meet(&mut met, *key, place)?;
-    }
-    let mut places = Vec::new(alloc);
-    for key in asked {
-        let place = place_of(&met, *key, keys);
-        places.push(place)?;
-    }
-    Ok(places)
+    let met = places_met(alloc, keys)?;
+    places_of(alloc, &met, asked, keys)
 }

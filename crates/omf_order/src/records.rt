@@ -13,10 +13,8 @@ ghost use Rattle.omf_order.specs.inside.Held.{mark_view, names_view, part_view, 
 use crate::parts::Part;
 use crate::planning::{Mark, Plan};
 use omf_module::Kind;
-use omf_record::{
-    Alignment, Combination, Public, PublicBase, Record, SegmentDefinition, SegmentLength,
-};
-use omf_write::{put_end, put_header, put_names, put_record};
+use omf_record::{Alignment, Combination, Public, PublicBase, Record, SegmentDefinition};
+use omf_write::{put_end, put_header, put_names, put_record, segment_of_length};
 use std::alloc::{AllocError, Allocator};
 
 /// How a SEGDEF says an alignment.
@@ -49,14 +47,13 @@ fn definition(place: usize, part: &Part<'_>) -> SegmentDefinition
     requires { place < 16383 }
     ensures { result ≡ records.definition place (part_view part.now) }
 {
-    SegmentDefinition {
-        alignment: alignment_of(part.alignment),
-        combination: combination_of(part.kind),
-        length: SegmentLength::Word(0),
-        name: 2 * place as u16 + 2,
-        class: 2 * place as u16 + 3,
-        overlay: 0,
-    }
+    segment_of_length(
+        alignment_of(part.alignment),
+        combination_of(part.kind),
+        0,
+        2 * place as u16 + 2,
+        2 * place as u16 + 3,
+    )
 }
 
 /// Appends LNAMES with one name.

@@ -2,5 +2,7 @@
 #![tactic(auto)]
 
 mod records;
+mod segments;
 
 pub use records::{put_end, put_header, put_names, put_record};
+pub use segments::segment_of_length;

@@ -1,4 +1,4 @@
-use Rattle.std.proofs.Common.{◌∙◌, ◌||◌, ap, sym, arith}
+use Rattle.std.proofs.Common.{◌∙◌, ◌||◌, ap, refl, sym, arith}
 use Rattle.omf_order.specs.Marks.{is_external, is_public}
 use Rattle.omf_order.proofs.Lists.{any_turn, refuted, unrefuted}
 use Rattle.omf_order.proofs.marks.is_wanted.Goals as goal
@@ -32,3 +32,6 @@ returns g c =
     c.loop-each.invariant.externals
     ∙ unrefuted (is_external c.args.names c.args.name.now) (is_public c.args.names c.args.name.now) c.args.modules.now
     c.loop-each.each-index (omega arith) c.loop-each.invariant.publics
+
+pub loop-each-init : goal.loop-each-init
+loop-each-init g c = record { publics = refl; externals = refl }

@@ -4,7 +4,7 @@ use Rattle.std.specs.List.{enumerate_from}
 use Rattle.omf_module.specs.Module.{Segment}
 use Rattle.omf_module.specs.Seen.{segment_seen}
 use Rattle.omf_order.specs.Parts.{opens, part_of}
-use Rattle.omf_order.specs.inside.Held.{segments_view}
+use Rattle.omf_order.specs.inside.Held.{parts_view, segments_view}
 use Rattle.omf_order.proofs.FirstMet.{first-step, length-enumerate}
 use Rattle.omf_order.proofs.parts.parts_by.Goals as goal
 
@@ -46,3 +46,6 @@ returns g c =
     ∙ ap (λ es. map (λ (p : ℕ × Segment). part_of G p.1) (filter (opens P) es))
     (take_all c.loop-place.place (enumerate_from 0 P)
     (omega (arith, length-enumerate 0 P, length-map c.args.placed.now segment_seen)))
+
+pub loop-place-init : goal.loop-place-init
+loop-place-init g c = ap parts_view c.new-parts.ensures.items

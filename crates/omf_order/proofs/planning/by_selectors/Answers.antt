@@ -16,3 +16,6 @@ returns g c =
     (c.deref.ensures.value ∙ c.loop-part.invariant
     ∙ ap (keyed part_view key) (take_all c.loop-part.part-index ps (omega arith)))
     ∙ arranged_view part_view key n ps) c.arranged.ensures
+
+pub loop-part-init : goal.loop-part-init
+loop-part-init g c = c.new-keyed.ensures.items

@@ -1,4 +1,6 @@
-use Rattle.std.proofs.Common.{◌∙◌, ◌++◌, ap, sym, append_assoc}
+use Rattle.std.proofs.Common.{◌∙◌, ◌++◌, ap, arith, sym, append-nil, append_assoc}
+use Rattle.std.proofs.lemmas.List.{take_all}
+use Rattle.std.specs.List.{flat_map}
 use Rattle.omf_module.specs.Seen.{group_seen}
 use Rattle.omf_module.specs.Sound.{GroupFits}
 use Rattle.omf_place.proofs.SiteLists.{All-at_get}
@@ -25,3 +27,13 @@ loop-index-preserved g c =
     (sym
     (flat_map_one (members m.segments) m.groups c.loop-index.index (group_seen c.group-group.result)
     c.group-group.ensures))
+
+pub loop-index-init : goal.loop-index-init
+loop-index-init g c = sym (append-nil (segments_view c.args.grouped.now.items))
+
+pub returns : goal.returns
+returns g c =
+    let m = c.args.from.now in
+    c.loop-index.invariant
+    ∙ ap (λ gs. segments_view c.args.grouped.now.items ++ flat_map (members m.segments) gs)
+    (take_all c.loop-index.index m.groups (omega arith))
