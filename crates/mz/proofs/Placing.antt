@@ -2,14 +2,14 @@
 use Rattle.std.proofs.Common.{◌≡◌, ℕ, ◌+◌, ◌*◌, ◌<◌, ◌≤◌, List, map, ap, ◌∙◌, sym, subst, Result, Ok, Err}
 use Rattle.std.specs.Prelude.{nat_le}
 use Rattle.std.proofs.lemmas.Bool.{le-leb, lt-leb, cond-true, cond-false}
+use Rattle.omf_image.specs.declared.start.Registers.{Registers}
 use Rattle.omf_image.specs.Registers.{moved}
 use Rattle.omf_image.specs.Words.{add_words}
-use Rattle.mz.specs.declared.format.Header.{Header}
 use Rattle.mz.specs.declared.fault.LoadFault.{LoadFault}
 use Rattle.mz.specs.declared.fault.LoadFault.TheVariants.{DoesNotFit, Memory}
 use Rattle.mz.specs.Header.{entry_address}
 use Rattle.mz.specs.File.{MzFile}
-use Rattle.mz.specs.Loading.{Loaded, loaded, header_registers, needed_len, loading, Loads}
+use Rattle.mz.specs.Loading.{Loaded, loaded, needed_len, loading, Loads}
 use Rattle.mz.specs.Laws.{memory_len}
 
 pub does_not_fit : (P : ℕ) (f : MzFile) → memory_len < 16 * P + needed_len f → loading P f ≡ Err DoesNotFit
@@ -27,13 +27,13 @@ no_memory r P f e h x y =
     subst (λ (s : Result Loaded LoadFault). Loads s (loading P f)) (sym (x ∙ ap Err y))
     (subst (λ (s : Result Loaded LoadFault). Loads (Err Memory) s) (sym (does_fit P f h)) tt)
 
-made : (P : ℕ) → Header → List ℕ → Loaded
-made P h bytes = record { bytes = bytes; registers = moved P (header_registers h) }
+made : (P : ℕ) → Registers → List ℕ → Loaded
+made P r bytes = record { bytes = bytes; registers = moved P r }
 
-pub loads_as : (P : ℕ) (f : MzFile) (h : Header) (bytes : List ℕ) → 16 * P + needed_len f ≤ memory_len → h ≡ f.header
-    → bytes ≡ add_words P (map entry_address f.entries) f.image
-    → loading P f ≡ Ok (record { bytes = bytes; registers = moved P (header_registers h) })
+pub loads_as : (P : ℕ) (f : MzFile) (r : Registers) (bytes : List ℕ) → 16 * P + needed_len f ≤ memory_len
+    → r ≡ f.header.registers → bytes ≡ add_words P (map entry_address f.entries) f.image
+    → loading P f ≡ Ok (record { bytes = bytes; registers = moved P r })
 unfolding loaded made
-loads_as P f h bytes fits x y =
-    does_fit P f fits ∙ ap (λ (b : List ℕ). Ok (made P f.header b)) (sym y)
-    ∙ ap (λ (k : Header). Ok (made P k bytes)) (sym x)
+loads_as P f r bytes fits x y =
+    does_fit P f fits ∙ ap (λ (b : List ℕ). Ok (made P f.header.registers b)) (sym y)
+    ∙ ap (λ (k : Registers). Ok (made P k bytes)) (sym x)

@@ -93,11 +93,11 @@ record WordsFit (h : Header) : Type 0 where
   header_paragraphs : h.header_paragraphs < 65536
   least_extra_paragraphs : h.least_extra_paragraphs < 65536
   greatest_extra_paragraphs : h.greatest_extra_paragraphs < 65536
-  ss : h.ss < 65536
-  sp : h.sp < 65536
+  ss : h.registers.ss < 65536
+  sp : h.registers.sp < 65536
   checksum : h.checksum < 65536
-  ip : h.ip < 65536
-  cs : h.cs < 65536
+  ip : h.registers.ip < 65536
+  cs : h.registers.cs < 65536
   relocation_table : h.relocation_table < 65536
   overlay : h.overlay < 65536
 
@@ -113,11 +113,8 @@ made x0 x1 x2 x3 x4 x5 x6 x7 x8 x9 x10 x11 x12 = record {
   header_paragraphs = x3;
   least_extra_paragraphs = x4;
   greatest_extra_paragraphs = x5;
-  ss = x6;
-  sp = x7;
+  registers = record { cs = x10; ip = x9; ss = x6; sp = x7 };
   checksum = x8;
-  ip = x9;
-  cs = x10;
   relocation_table = x11;
   overlay = x12;
 }
@@ -128,72 +125,88 @@ unfolding header_at
 header_back h tail fit =
     ap (λ (x : ℕ).
     made x (read_back h.pages) (read_back h.relocation_count) (read_back h.header_paragraphs)
-    (read_back h.least_extra_paragraphs) (read_back h.greatest_extra_paragraphs) (read_back h.ss) (read_back h.sp)
-    (read_back h.checksum) (read_back h.ip) (read_back h.cs) (read_back h.relocation_table) (read_back h.overlay))
+    (read_back h.least_extra_paragraphs) (read_back h.greatest_extra_paragraphs) (read_back h.registers.ss)
+    (read_back h.registers.sp)
+    (read_back h.checksum) (read_back h.registers.ip) (read_back h.registers.cs) (read_back h.relocation_table)
+    (read_back h.overlay))
     (word_back h.last_page_bytes fit.last_page_bytes)
     ∙ ap
     (λ (x : ℕ).
     made h.last_page_bytes x (read_back h.relocation_count) (read_back h.header_paragraphs)
-    (read_back h.least_extra_paragraphs) (read_back h.greatest_extra_paragraphs) (read_back h.ss) (read_back h.sp)
-    (read_back h.checksum) (read_back h.ip) (read_back h.cs) (read_back h.relocation_table) (read_back h.overlay))
+    (read_back h.least_extra_paragraphs) (read_back h.greatest_extra_paragraphs) (read_back h.registers.ss)
+    (read_back h.registers.sp)
+    (read_back h.checksum) (read_back h.registers.ip) (read_back h.registers.cs) (read_back h.relocation_table)
+    (read_back h.overlay))
     (word_back h.pages fit.pages)
     ∙ ap
     (λ (x : ℕ).
     made h.last_page_bytes h.pages x (read_back h.header_paragraphs) (read_back h.least_extra_paragraphs)
-    (read_back h.greatest_extra_paragraphs) (read_back h.ss) (read_back h.sp) (read_back h.checksum) (read_back h.ip)
-    (read_back h.cs) (read_back h.relocation_table) (read_back h.overlay))
+    (read_back h.greatest_extra_paragraphs) (read_back h.registers.ss) (read_back h.registers.sp) (read_back h.checksum)
+    (read_back h.registers.ip)
+    (read_back h.registers.cs) (read_back h.relocation_table) (read_back h.overlay))
     (word_back h.relocation_count fit.relocation_count)
     ∙ ap
     (λ (x : ℕ).
     made h.last_page_bytes h.pages h.relocation_count x (read_back h.least_extra_paragraphs)
-    (read_back h.greatest_extra_paragraphs) (read_back h.ss) (read_back h.sp) (read_back h.checksum) (read_back h.ip)
-    (read_back h.cs) (read_back h.relocation_table) (read_back h.overlay))
+    (read_back h.greatest_extra_paragraphs) (read_back h.registers.ss) (read_back h.registers.sp) (read_back h.checksum)
+    (read_back h.registers.ip)
+    (read_back h.registers.cs) (read_back h.relocation_table) (read_back h.overlay))
     (word_back h.header_paragraphs fit.header_paragraphs)
     ∙ ap
     (λ (x : ℕ).
     made h.last_page_bytes h.pages h.relocation_count h.header_paragraphs x (read_back h.greatest_extra_paragraphs)
-    (read_back h.ss) (read_back h.sp) (read_back h.checksum) (read_back h.ip) (read_back h.cs)
+    (read_back h.registers.ss) (read_back h.registers.sp) (read_back h.checksum) (read_back h.registers.ip)
+    (read_back h.registers.cs)
     (read_back h.relocation_table) (read_back h.overlay))
     (word_back h.least_extra_paragraphs fit.least_extra_paragraphs)
     ∙ ap
     (λ (x : ℕ).
-    made h.last_page_bytes h.pages h.relocation_count h.header_paragraphs h.least_extra_paragraphs x (read_back h.ss)
-    (read_back h.sp) (read_back h.checksum) (read_back h.ip) (read_back h.cs) (read_back h.relocation_table)
+    made h.last_page_bytes h.pages h.relocation_count h.header_paragraphs h.least_extra_paragraphs x
+    (read_back h.registers.ss)
+    (read_back h.registers.sp) (read_back h.checksum) (read_back h.registers.ip) (read_back h.registers.cs)
+    (read_back h.relocation_table)
     (read_back h.overlay)) (word_back h.greatest_extra_paragraphs fit.greatest_extra_paragraphs)
     ∙ ap
     (λ (x : ℕ).
     made h.last_page_bytes h.pages h.relocation_count h.header_paragraphs h.least_extra_paragraphs
-    h.greatest_extra_paragraphs x (read_back h.sp) (read_back h.checksum) (read_back h.ip) (read_back h.cs)
-    (read_back h.relocation_table) (read_back h.overlay)) (word_back h.ss fit.ss)
+    h.greatest_extra_paragraphs x (read_back h.registers.sp) (read_back h.checksum) (read_back h.registers.ip)
+    (read_back h.registers.cs)
+    (read_back h.relocation_table) (read_back h.overlay)) (word_back h.registers.ss fit.ss)
     ∙ ap
     (λ (x : ℕ).
     made h.last_page_bytes h.pages h.relocation_count h.header_paragraphs h.least_extra_paragraphs
-    h.greatest_extra_paragraphs h.ss x (read_back h.checksum) (read_back h.ip) (read_back h.cs)
-    (read_back h.relocation_table) (read_back h.overlay)) (word_back h.sp fit.sp)
+    h.greatest_extra_paragraphs h.registers.ss x (read_back h.checksum) (read_back h.registers.ip)
+    (read_back h.registers.cs)
+    (read_back h.relocation_table) (read_back h.overlay)) (word_back h.registers.sp fit.sp)
     ∙ ap
     (λ (x : ℕ).
     made h.last_page_bytes h.pages h.relocation_count h.header_paragraphs h.least_extra_paragraphs
-    h.greatest_extra_paragraphs h.ss h.sp x (read_back h.ip) (read_back h.cs) (read_back h.relocation_table)
+    h.greatest_extra_paragraphs h.registers.ss h.registers.sp x (read_back h.registers.ip) (read_back h.registers.cs)
+    (read_back h.relocation_table)
     (read_back h.overlay)) (word_back h.checksum fit.checksum)
     ∙ ap
     (λ (x : ℕ).
     made h.last_page_bytes h.pages h.relocation_count h.header_paragraphs h.least_extra_paragraphs
-    h.greatest_extra_paragraphs h.ss h.sp h.checksum x (read_back h.cs) (read_back h.relocation_table)
-    (read_back h.overlay)) (word_back h.ip fit.ip)
+    h.greatest_extra_paragraphs h.registers.ss h.registers.sp h.checksum x (read_back h.registers.cs)
+    (read_back h.relocation_table)
+    (read_back h.overlay)) (word_back h.registers.ip fit.ip)
     ∙ ap
     (λ (x : ℕ).
     made h.last_page_bytes h.pages h.relocation_count h.header_paragraphs h.least_extra_paragraphs
-    h.greatest_extra_paragraphs h.ss h.sp h.checksum h.ip x (read_back h.relocation_table) (read_back h.overlay))
-    (word_back h.cs fit.cs)
+    h.greatest_extra_paragraphs h.registers.ss h.registers.sp h.checksum h.registers.ip x (read_back h.relocation_table)
+    (read_back h.overlay))
+    (word_back h.registers.cs fit.cs)
     ∙ ap
     (λ (x : ℕ).
     made h.last_page_bytes h.pages h.relocation_count h.header_paragraphs h.least_extra_paragraphs
-    h.greatest_extra_paragraphs h.ss h.sp h.checksum h.ip h.cs x (read_back h.overlay))
+    h.greatest_extra_paragraphs h.registers.ss h.registers.sp h.checksum h.registers.ip h.registers.cs x
+    (read_back h.overlay))
     (word_back h.relocation_table fit.relocation_table)
     ∙ ap
     (λ (x : ℕ).
     made h.last_page_bytes h.pages h.relocation_count h.header_paragraphs h.least_extra_paragraphs
-    h.greatest_extra_paragraphs h.ss h.sp h.checksum h.ip h.cs h.relocation_table x) (word_back h.overlay fit.overlay)
+    h.greatest_extra_paragraphs h.registers.ss h.registers.sp h.checksum h.registers.ip h.registers.cs
+    h.relocation_table x) (word_back h.overlay fit.overlay)
 
 all_inside : (n : ℕ) (rs : List ℕ) → AllByRecursion (λ r. r + 2 ≤ n) rs
     → list_all (is_inside n) (map entry_of rs) ≡ true

@@ -40,11 +40,8 @@ header_of program = record {
   header_paragraphs = paragraphs (length program.relocations);
   least_extra_paragraphs = extra_paragraphs program;
   greatest_extra_paragraphs = 65535;
-  ss = program.registers.ss;
-  sp = program.registers.sp;
+  registers = program.registers;
   checksum = 0;
-  ip = program.registers.ip;
-  cs = program.registers.cs;
   relocation_table = 28;
   overlay = 0;
 }

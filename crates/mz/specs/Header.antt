@@ -23,11 +23,8 @@ header_at bytes = record {
   header_paragraphs = word_at bytes 8;
   least_extra_paragraphs = word_at bytes 10;
   greatest_extra_paragraphs = word_at bytes 12;
-  ss = word_at bytes 14;
-  sp = word_at bytes 16;
+  registers = record { cs = word_at bytes 22; ip = word_at bytes 20; ss = word_at bytes 14; sp = word_at bytes 16 };
   checksum = word_at bytes 18;
-  ip = word_at bytes 20;
-  cs = word_at bytes 22;
   relocation_table = word_at bytes 24;
   overlay = word_at bytes 26;
 }

@@ -4,7 +4,6 @@ use Rattle.std.specs.declared.result.Result.{Result}
 use Rattle.omf_image.specs.Words.{add_words}
 use Rattle.omf_image.specs.declared.start.Registers.{Registers}
 use Rattle.omf_image.specs.Registers.{moved}
-use Rattle.mz.specs.declared.format.Header.{Header}
 use Rattle.mz.specs.declared.fault.LoadFault.{LoadFault}
 use Rattle.mz.specs.declared.fault.LoadFault.TheVariants.{DoesNotFit, Memory}
 use Rattle.mz.specs.Header.{entry_address}
@@ -15,16 +14,12 @@ pub record Loaded : Type 0 where
   pub bytes : List ℕ
   pub registers : Registers
 
--- the registers that a header holds
-abbrev pub header_registers : Header → Registers
-header_registers header = record { cs = header.cs; ip = header.ip; ss = header.ss; sp = header.sp }
-
 -- P is added to the word of each entry, in the order of the table, and to CS and SS, modulo 65,536.
 -- An entry's word stands at address 16 * (P + segment) + offset, and its place in the image is 16 P below that.
 unfoldable pub loaded : (paragraph : ℕ) → MzFile → Loaded
 loaded paragraph file = record {
   bytes = add_words paragraph (map entry_address file.entries) file.image;
-  registers = moved paragraph (header_registers file.header);
+  registers = moved paragraph file.header.registers;
 }
 
 -- how many bytes the program needs from the first of its image on: the image, and the extra paragraphs that the header

@@ -7,6 +7,7 @@ ghost use Rattle.mz.specs.Header.{told_len, is_accepted, is_inside};
 ghost use Rattle.mz.specs.inside.Format.{has_table_inside};
 
 use byteorder::{ByteOrder, LittleEndian};
+use omf_image::Registers;
 
 /// How many bytes the words of the header have.
 pub(crate) const HEADER_LEN: usize = 28;
@@ -38,16 +39,10 @@ pub struct Header {
     pub least_extra_paragraphs: u16,
     /// The paragraphs that the program wants at most behind its image (`e_maxalloc`).
     pub greatest_extra_paragraphs: u16,
-    /// The stack segment's frame, counted from the image's start (`e_ss`).
-    pub ss: u16,
-    /// The stack pointer at the start (`e_sp`).
-    pub sp: u16,
+    /// The registers at the program's start, their frames counted from the image's (`e_cs`, `e_ip`, `e_ss`, `e_sp`).
+    pub registers: Registers,
     /// A checksum, which nothing looks at (`e_csum`).
     pub checksum: u16,
-    /// The offset of the program's start in its code segment (`e_ip`).
-    pub ip: u16,
-    /// The code segment's frame, counted from the image's start (`e_cs`).
-    pub cs: u16,
     /// The place of the relocation table in the file (`e_lfarlc`).
     pub relocation_table: u16,
     /// The overlay's number, 0 for the main program (`e_ovno`).
@@ -76,11 +71,13 @@ impl Header {
             header_paragraphs: word(bytes, 0x08),
             least_extra_paragraphs: word(bytes, 0x0A),
             greatest_extra_paragraphs: word(bytes, 0x0C),
-            ss: word(bytes, 0x0E),
-            sp: word(bytes, 0x10),
+            registers: Registers {
+                cs: word(bytes, 0x16),
+                ip: word(bytes, 0x14),
+                ss: word(bytes, 0x0E),
+                sp: word(bytes, 0x10),
+            },
             checksum: word(bytes, 0x12),
-            ip: word(bytes, 0x14),
-            cs: word(bytes, 0x16),
             relocation_table: word(bytes, 0x18),
             overlay: word(bytes, 0x1A),
         }
@@ -98,11 +95,11 @@ impl Header {
             self.header_paragraphs,
             self.least_extra_paragraphs,
             self.greatest_extra_paragraphs,
-            self.ss,
-            self.sp,
+            self.registers.ss,
+            self.registers.sp,
             self.checksum,
-            self.ip,
-            self.cs,
+            self.registers.ip,
+            self.registers.cs,
             self.relocation_table,
             self.overlay,
         ];

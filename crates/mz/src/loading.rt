@@ -93,14 +93,13 @@ pub fn load<A: Allocator + Copy, B: Allocator + Copy>(
     }
     let mut bytes = Vec::from_slice(alloc, file.image())?;
     relocate(&mut bytes, file.entries(), paragraph);
-    let header = file.header();
+    let registers = file.header().registers;
     Ok(Loaded {
         bytes,
         registers: Registers {
-            cs: header.cs.wrapping_add(paragraph),
-            ip: header.ip,
-            ss: header.ss.wrapping_add(paragraph),
-            sp: header.sp,
+            cs: registers.cs.wrapping_add(paragraph),
+            ss: registers.ss.wrapping_add(paragraph),
+            ..registers
         },
     })
 }

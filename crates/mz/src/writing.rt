@@ -27,7 +27,6 @@ fn header_of<A: Allocator + Copy>(program: &Program<A>) -> Header
     let size = program.size() as usize;
     let written = program.written() as usize;
     let len = PARAGRAPH_LEN * paragraphs + written;
-    let registers = program.registers();
     Header {
         last_page_bytes: (len % PAGE_LEN) as u16,
         pages: len.div_ceil(PAGE_LEN) as u16,
@@ -35,11 +34,8 @@ fn header_of<A: Allocator + Copy>(program: &Program<A>) -> Header
         header_paragraphs: paragraphs as u16,
         least_extra_paragraphs: (size.div_ceil(PARAGRAPH_LEN) - written / PARAGRAPH_LEN) as u16,
         greatest_extra_paragraphs: u16::MAX,
-        ss: registers.ss,
-        sp: registers.sp,
+        registers: program.registers(),
         checksum: 0,
-        ip: registers.ip,
-        cs: registers.cs,
         relocation_table: HEADER_LEN as u16,
         overlay: 0,
     }

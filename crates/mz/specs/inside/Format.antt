@@ -9,7 +9,8 @@ abbrev pub header_words : Header → List ℕ
 header_words header =
     magic ∷ header.last_page_bytes ∷ header.pages ∷ header.relocation_count ∷ header.header_paragraphs
     ∷ header.least_extra_paragraphs ∷ header.greatest_extra_paragraphs
-    ∷ header.ss ∷ header.sp ∷ header.checksum ∷ header.ip ∷ header.cs ∷ header.relocation_table ∷ header.overlay ∷ []
+    ∷ header.registers.ss ∷ header.registers.sp ∷ header.checksum ∷ header.registers.ip ∷ header.registers.cs
+    ∷ header.relocation_table ∷ header.overlay ∷ []
 
 -- the 28 bytes of a header
 abbrev pub header_bytes : Header → List ℕ

@@ -2,6 +2,7 @@ use Rattle.std.proofs.Common.{arith, ◌≡◌, ◌∙◌, ◌≤◌, ◌+◌, �
 use Rattle.std.proofs.lemmas.List.{with_items_is}
 use Rattle.std.proofs.lemmas.Result.{err_from_is_err_and}
 use Rattle.mz.specs.declared.format.Entry.{Entry}
+use Rattle.mz.specs.declared.format.Header.{Header}
 use Rattle.omf_image.specs.Words.{add_words}
 use Rattle.mz.specs.Header.{entry_address}
 use Rattle.mz.specs.Loading.{needed_len}
@@ -28,5 +29,5 @@ returns g c =
     c.relocate.ensures
     ∙ ap (λ (l : List Entry). add_words P (map entry_address l) c.deref_mut.result.now) c.entries.ensures.same
     ∙ ap (add_words P (map entry_address f.entries)) old in
-    loads_as P f c.header-header.result _ fits c.header-header.ensures
+    loads_as P f c.header.result.registers _ fits (ap (λ (h : Header). h.registers) c.header.ensures)
     (with_items_is c.in_ok-bytes.bytes c.relocate.new.bytes (omega (arith, c.relocate.auto.bytes)) ∙ bytes)
