@@ -32,6 +32,15 @@ impl<'a> Page<'a> {
         })
     }
 
+    /// One without bytes.
+    pub fn blank(alloc: Global, path: &'a str, room: usize) -> Page<'a> {
+        Page {
+            path,
+            room: Cell::new(room),
+            bytes: RefCell::new(Vec::new(alloc)),
+        }
+    }
+
     /// The bytes.
     pub fn bytes(&self, alloc: Global) -> Result<Vec<u8>, AllocError> {
         match self.bytes.try_borrow() {

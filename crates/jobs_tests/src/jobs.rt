@@ -1,10 +1,12 @@
 //! Jobs over a world in memory.
+
 use desk::{Count, Desk, Page, Pen};
 use omf_files::BufferedSink;
 use omf_frame::WriteSink;
 use omf_jobs::{out_of_memory, run_job, run_words};
-use omf_words::parse_words;
+use omf_words::{Job, parse_words};
 use refusing::Refusing;
+use rows::{bytes_of, push_bytes, same};
 use std::alloc::{AllocError, Global};
 use std::test::*;
 
@@ -16,8 +18,20 @@ const FIRST: [u8; 57] = [
     0x07, 0x00, 0xC1, 0x00, 0x01, 0x01, 0x00, 0x00, 0xAC,
 ];
 
-/// It with the bits of MODEND that aren't looked at, which `rewrite` clears.
-const LOOSE_END: [u8; 10] = [0x8A, 0x07, 0x00, 0xFF, 0x00, 0x01, 0x01, 0x00, 0x00, 0x00];
+/// It with bits of MODEND that aren't looked at, which `rewrite` clears, and a closing byte of 0.
+const LOOSE: [u8; 57] = [
+    0x80, 0x03, 0x00, 0x01, 0x41, 0x3B, 0x96, 0x07, 0x00, 0x00, 0x04, 0x43, 0x4F, 0x44, 0x45, 0x44,
+    0x98, 0x07, 0x00, 0x28, 0x05, 0x00, 0x02, 0x01, 0x01, 0x30, 0xA0, 0x09, 0x00, 0x01, 0x00, 0x00,
+    0xB8, 0x00, 0x00, 0x8E, 0xD8, 0x38, 0x9C, 0x06, 0x00, 0xC8, 0x01, 0x04, 0x01, 0x01, 0x8F, 0x8A,
+    0x07, 0x00, 0xFF, 0x00, 0x01, 0x01, 0x00, 0x00, 0x00,
+];
+
+/// The file of its program.
+const PROGRAM: [u8; 37] = [
+    0x4D, 0x5A, 0x25, 0x00, 0x01, 0x00, 0x01, 0x00, 0x02, 0x00, 0x01, 0x00, 0xFF, 0xFF, 0x00, 0x00,
+    0x00, 0x00, 0x00, 0x00, 0x00, 0x00, 0x00, 0x00, 0x1C, 0x00, 0x00, 0x00, 0x01, 0x00, 0x00, 0x00,
+    0xB8, 0x00, 0x00, 0x8E, 0xD8,
+];
 
 /// A module with one byte of data in the same segment.
 const SECOND: [u8; 39] = [
@@ -36,8 +50,222 @@ const BOTH_CASES: [u8; 47] = [
 /// A record whose closing byte is wrong.
 const WRONG: [u8; 6] = [0x80, 0x03, 0x00, 0x01, 0x41, 0x3C];
 
-/// The listing of the records of the second module.
-const SHOWN: &str = "\
+/// Files that can be read, each a path and its bytes.
+type Files<'a> = &'a [(&'a str, &'a [u8])];
+
+const FILES: [(&str, &[u8]); 7] = [
+    ("A", &FIRST),
+    ("B", &SECOND),
+    ("C", &FIRST),
+    ("D", &BOTH_CASES),
+    ("L", &LOOSE),
+    ("P", &PROGRAM),
+    ("X", &WRONG),
+];
+
+/// How many bytes the standard output, OUT and MAP take before they fail.
+#[derive(Clone, Copy)]
+struct Limits {
+    output: usize,
+    out: usize,
+    map: usize,
+}
+
+const NO_LIMITS: Limits = Limits {
+    output: 20_000,
+    out: 20_000,
+    map: 20_000,
+};
+
+const OUTPUT_FILLS: Limits = Limits {
+    output: 2,
+    out: 20_000,
+    map: 20_000,
+};
+
+const OUT_FILLS: Limits = Limits {
+    output: 20_000,
+    out: 10,
+    map: 20_000,
+};
+
+const MAP_FILLS: Limits = Limits {
+    output: 20_000,
+    out: 20_000,
+    map: 10,
+};
+
+/// The pages of a world, and how many of its files are open.
+#[derive(Drop)]
+struct Pages<'a> {
+    output: Page<'a>,
+    errors: Page<'a>,
+    /// The paths that were opened.
+    opened: Page<'a>,
+    out: Page<'a>,
+    map: Page<'a>,
+    count: Count,
+}
+
+/// Pages that are blank, but for OUT and MAP, which have `old`.
+fn blank_pages<'a>(alloc: Global, limits: Limits) -> Result<Pages<'a>, AllocError> {
+    let out = Page::new(alloc, "OUT", b"old", limits.out)?;
+    let map = Page::new(alloc, "MAP", b"old", limits.map)?;
+    Ok(Pages {
+        output: Page::blank(alloc, "", limits.output),
+        errors: Page::blank(alloc, "", 20_000),
+        opened: Page::blank(alloc, "", 20_000),
+        out,
+        map,
+        count: Count::new(),
+    })
+}
+
+/// A world of these files and pages.
+fn desk_of<'f, 'p>(files: Files<'f>, pages: &'p Pages<'p>) -> Desk<'f, 'p> {
+    Desk {
+        files,
+        folders: &[],
+        out: &pages.out,
+        map: &pages.map,
+        opened: &pages.opened,
+        count: &pages.count,
+    }
+}
+
+/// The status of a job, with the memory of an allocator that refuses a growth.
+fn job_status<'p>(
+    memory: &Refusing<Global>,
+    desk: Desk<'_, 'p>,
+    job: &Job<'_>,
+    pages: &'p Pages<'p>,
+) -> u8 {
+    let mut errors = WriteSink::new(Pen::new(&pages.errors));
+    match BufferedSink::new(memory, Pen::new(&pages.output)) {
+        Ok(mut output) => run_job(memory, desk, job, &mut output, &mut errors),
+        Err(_) => out_of_memory(&mut errors),
+    }
+}
+
+/// The status of what words ask for, where no growth is refused.
+fn words_status<'p>(alloc: Global, desk: Desk<'_, 'p>, words: &[&str], pages: &'p Pages<'p>) -> u8 {
+    let mut errors = WriteSink::new(Pen::new(&pages.errors));
+    match BufferedSink::new(alloc, Pen::new(&pages.output)) {
+        Ok(mut output) => run_words(alloc, desk, words, &mut output, &mut errors),
+        Err(_) => out_of_memory(&mut errors),
+    }
+}
+
+/// The status of what words ask for.
+fn status_of<'p>(
+    alloc: Global,
+    memory: &Refusing<Global>,
+    desk: Desk<'_, 'p>,
+    words: &[&str],
+    pages: &'p Pages<'p>,
+) -> u8 {
+    if memory.has_refused() {
+        return words_status(alloc, desk, words, pages);
+    }
+    match parse_words(alloc, words) {
+        Ok(job) => job_status(memory, desk, &job, pages),
+        Err(_) => words_status(alloc, desk, words, pages),
+    }
+}
+
+/// Appends a mark and what was written, in hexadecimal digits where that is OUT.
+fn push_written(text: &mut String, mark: &str, written: &[u8]) -> Result<(), Fail> {
+    text.push_str(mark)?;
+    if mark == "OUT" {
+        push_bytes(text, written)?;
+        return Ok(text.push('\n')?);
+    }
+    Ok(text.push_str(str::from_utf8(written)?)?)
+}
+
+/// Appends a mark and what a page has, where that isn't what it had before.
+fn push_page(
+    alloc: Global,
+    text: &mut String,
+    mark: &str,
+    before: &[u8],
+    page: &Page<'_>,
+) -> Result<(), Fail> {
+    let bytes = page.bytes(alloc)?;
+    if bytes.as_slice() == before {
+        return Ok(());
+    }
+    push_written(text, mark, &bytes)
+}
+
+/// Appends what was done: the paths that were opened, the status, how many files were open at most, and what was
+/// written: the standard output, OUT and MAP, where it isn't `old`, and behind `! ` the lines of errors.
+fn push_done(alloc: Global, text: &mut String, status: u8, pages: &Pages<'_>) -> Result<(), Fail> {
+    push_page(alloc, text, "", b"", &pages.opened)?;
+    let most = pages.count.most();
+    write!(text, "status {status} open {most}\n")?;
+    push_page(alloc, text, "", b"", &pages.output)?;
+    push_page(alloc, text, "OUT", b"old", &pages.out)?;
+    push_page(alloc, text, "MAP ", b"old", &pages.map)?;
+    push_page(alloc, text, "! ", b"", &pages.errors)
+}
+
+/// What words do in a world of these files and pages.
+fn done<'p>(
+    alloc: Global,
+    memory: &Refusing<Global>,
+    files: Files<'_>,
+    words: &[&str],
+    pages: &'p Pages<'p>,
+) -> Result<String, Fail> {
+    let status = status_of(alloc, memory, desk_of(files, pages), words, pages);
+    let mut text = String::new(alloc);
+    push_done(alloc, &mut text, status, pages)?;
+    Ok(text)
+}
+
+/// The words of a line.
+fn words_of<'a>(alloc: Global, line: &'a str) -> Result<Vec<&'a str>, AllocError> {
+    let mut words = Vec::new(alloc);
+    for word in line.split(' ') {
+        words.push(word)?;
+    }
+    Ok(words)
+}
+
+/// What the words of a line do.
+fn told(
+    alloc: Global,
+    memory: &Refusing<Global>,
+    files: Files<'_>,
+    limits: Limits,
+    line: &str,
+) -> Result<String, Fail> {
+    let words = words_of(alloc, line)?;
+    let pages = blank_pages(alloc, limits)?;
+    done(alloc, memory, files, &words, &pages)
+}
+
+/// The words of a row of a table do what is wanted of them.
+fn row_runs(alloc: Global, files: Files<'_>, limits: Limits, row: &str) -> Result<(), Fail> {
+    let (words, wanted) = row.split_once("\n= ").unwrap_or((row, ""));
+    let memory = Refusing::nth(alloc, 0);
+    let told = told(alloc, &memory, files, limits, words)?;
+    same(told.strip_suffix("\n").unwrap_or("no line end"), wanted)
+}
+
+/// Those of each row do.
+fn run(alloc: Global, files: Files<'_>, limits: Limits, table: &str) -> Result<(), Fail> {
+    for row in table.split("\n\n") {
+        row_runs(alloc, files, limits, row)?;
+    }
+    Ok(())
+}
+
+/// Words, and what they do.
+const WORK: &str = "\
+show B
+= B status 0 open 1
 00000000 80 THEADR      2
   name \"B\"
 00000006 96 LNAMES      6
@@ -49,11 +277,40 @@ const SHOWN: &str = "\
   data segment 1 offset 0000 bytes 1
 00000022 8A MODEND      1
   main 0 start 0
-";
 
-/// The map of both modules.
-const MAP: &str = "\
-segments
+check A
+= A status 0 open 1
+ok
+
+rewrite L OUT
+= L status 0 open 1
+OUT 80 03 00 01 41 3B 96 07 00*2 04 43 4F 44 45 44 98 07 00 28 05 00 02 01*2 30 A0 09 00 01 00*2 B8 00*2 8E D8 38 \
+9C 06 00 C8 01 04 01*2 8F 8A 07 00 C1 00 01*2 00*2 AC
+
+link -o OUT A B
+= A B status 0 open 1
+OUT 4D 5A 26 00 01 00 01 00 02 00 01 00 FF*2 00*10 1C 00*3 01 00*3 B8 00*2 8E D8 90
+
+link -o OUT D
+= D status 0 open 1
+OUT 4D 5A 20 00 01 00*3 02 00 01 00 FF*2 00*10 1C 00*7";
+
+#[test]
+fn each_subcommand_does_its_work(rt: HostRuntime) -> Result<(), Fail> {
+    run(rt.alloc(), &FILES, NO_LIMITS, WORK)
+}
+
+/// The second module, with 5,000 bytes behind its end.
+const LONG_SECOND: &str = "\
+80 03 00 01 42 3A 96 07 00*2 04 43 4F 44 45 44 98 07 00 28 01 00 02 01*2 34 A0 05 00 01 00*2 90 CA 8A 02 00*2 74 \
+00*5000";
+
+/// Links of the first module and that one.
+const LINKS: &str = "\
+link -o OUT -m MAP A B
+= A B status 0 open 1
+OUT 4D 5A 26 00 01 00 01 00 02 00 01 00 FF*2 00*10 1C 00*3 01 00*3 B8 00*2 8E D8 90
+MAP segments
 000000 000006 public   \"CODE\" \"\"
 groups
 publics
@@ -61,371 +318,181 @@ entry 0000:0000
 stack 0000:0000
 size 000006
 relocations 1
-";
 
-/// How a run goes: how many bytes the standard output, OUT and MAP take before they fail, and which growth is refused.
-#[derive(Clone, Copy)]
-struct Limits {
-    output: usize,
-    out: usize,
-    map: usize,
-    refused: Option<u64>,
-}
+link -o OUT B A
+= B A status 0 open 1
+OUT 4D 5A 26 00 01 00 01 00 02 00 01 00 FF*2 00*6 01 00*3 1C 00*3 02 00*3 90 B8 00*2 8E D8
 
-const NO_LIMITS: Limits = Limits {
-    output: 20_000,
-    out: 20_000,
-    map: 20_000,
-    refused: None,
-};
-
-/// What was done: the status, both streams, the paths that were opened, OUT and MAP, which were `old`, the greatest
-/// number of files that were open, and whether a growth was refused.
-#[derive(Drop)]
-struct Done {
-    status: u8,
-    output: Vec<u8>,
-    errors: Vec<u8>,
-    opened: Vec<u8>,
-    out: Vec<u8>,
-    map: Vec<u8>,
-    most_open: usize,
-    has_refused: bool,
-}
-
-/// The status of what the words ask for in this world, with the memory of an allocator that refuses the growth of a
-/// number, if there is one.
-fn status_of(
-    alloc: Global,
-    memory: &Refusing<Global>,
-    desk: Desk<'_, '_>,
-    words: &[&str],
-    output: &Page<'_>,
-    errors: &Page<'_>,
-) -> Result<u8, AllocError> {
-    let mut errors = WriteSink::new(Pen::new(errors));
-    match parse_words(alloc, words) {
-        Ok(job) if !memory.has_refused() => match BufferedSink::new(memory, Pen::new(output)) {
-            Ok(mut output) => Ok(run_job(memory, desk, &job, &mut output, &mut errors)),
-            Err(_) => Ok(out_of_memory(&mut errors)),
-        },
-        _ => {
-            let mut output = BufferedSink::new(alloc, Pen::new(output))?;
-            Ok(run_words(alloc, desk, words, &mut output, &mut errors))
-        }
-    }
-}
-
-/// What the words do in a world with these files.
-fn run_in<'f>(
-    alloc: Global,
-    files: &'f [(&'f str, &'f [u8])],
-    limits: Limits,
-    words: &[&str],
-) -> Result<Done, AllocError> {
-    let out = Page::new(alloc, "OUT", b"old", limits.out)?;
-    let map = Page::new(alloc, "MAP", b"old", limits.map)?;
-    let output = Page::new(alloc, "", b"", limits.output)?;
-    let errors = Page::new(alloc, "", b"", 20_000)?;
-    let opened = Page::new(alloc, "", b"", 20_000)?;
-    let count = Count::new();
-    let desk = Desk {
-        files,
-        folders: &[],
-        out: &out,
-        map: &map,
-        opened: &opened,
-        count: &count,
-    };
-    let memory = Refusing::nth(alloc, limits.refused.unwrap_or(0));
-    let status = status_of(alloc, &memory, desk, words, &output, &errors)?;
-    Ok(Done {
-        status,
-        output: output.bytes(alloc)?,
-        errors: errors.bytes(alloc)?,
-        opened: opened.bytes(alloc)?,
-        out: out.bytes(alloc)?,
-        map: map.bytes(alloc)?,
-        most_open: count.most(),
-        has_refused: memory.has_refused(),
-    })
-}
-
-#[test]
-fn each_subcommand_does_its_work(rt: HostRuntime) -> Result<(), Fail> {
-    let alloc = rt.alloc();
-    let mut loose = Vec::from_slice(alloc, &FIRST[..47])?;
-    loose.extend_from_slice(&LOOSE_END)?;
-    let files: [(&str, &[u8]); 4] = [
-        ("A", &FIRST),
-        ("B", &SECOND),
-        ("L", &loose),
-        ("D", &BOTH_CASES),
-    ];
-    for (words, output, opened) in [
-        (["show", "B"].as_slice(), SHOWN, "B "),
-        (["check", "A"].as_slice(), "ok\n", "A "),
-        (["rewrite", "L", "OUT"].as_slice(), "", "L "),
-        (["link", "-o", "OUT", "A", "B"].as_slice(), "", "A B "),
-        (["link", "-o", "OUT", "D"].as_slice(), "", "D "),
-    ] {
-        let done = run_in(alloc, &files, NO_LIMITS, words)?;
-        assert_eq!(rt; done.status, 0u8);
-        assert_eq!(rt; done.output.as_slice(), output.as_bytes());
-        assert_eq!(rt; done.errors.as_slice(), b"".as_slice());
-        assert_eq!(rt; done.opened.as_slice(), opened.as_bytes());
-        assert_eq!(rt; done.map.as_slice(), b"old".as_slice());
-    }
-    let done = run_in(alloc, &files, NO_LIMITS, &["rewrite", "L", "OUT"])?;
-    assert_eq!(rt; done.out.as_slice(), FIRST.as_slice());
-    Ok(())
-}
+link -o OUT B A B
+= B A B status 0 open 1
+OUT 4D 5A 27 00 01 00 01 00 02 00 01 00 FF*2 00*6 01 00*3 1C 00*3 02 00*3 90 B8 00*2 8E D8 90";
 
 #[test]
 fn inputs_are_linked_in_their_order_one_at_a_time(rt: HostRuntime) -> Result<(), Fail> {
-    let alloc = rt.alloc();
-    let mut long = Vec::from_slice(alloc, &SECOND)?;
-    for _ in 0..5_000 {
-        long.push(0)?;
-    }
-    let files: [(&str, &[u8]); 2] = [("A", &FIRST), ("B", &long)];
-    let rows: [(&[&str], &str, &[u8], &str); 3] = [
-        (
-            &["link", "-o", "OUT", "-m", "MAP", "A", "B"],
-            "A B ",
-            &[0xB8, 0x00, 0x00, 0x8E, 0xD8, 0x90],
-            MAP,
-        ),
-        (
-            &["link", "-o", "OUT", "B", "A"],
-            "B A ",
-            &[0x90, 0xB8, 0x00, 0x00, 0x8E, 0xD8],
-            "old",
-        ),
-        (
-            &["link", "-o", "OUT", "B", "A", "B"],
-            "B A B ",
-            &[0x90, 0xB8, 0x00, 0x00, 0x8E, 0xD8, 0x90],
-            "old",
-        ),
-    ];
-    for (words, opened, image, map) in rows {
-        let done = run_in(alloc, &files, NO_LIMITS, words)?;
-        assert_eq!(rt; done.status, 0u8);
-        assert_eq!(rt; done.opened.as_slice(), opened.as_bytes());
-        assert_eq!(rt; done.most_open, 1usize);
-        assert!(rt; done.out.as_slice().ends_with(image));
-        assert_eq!(rt; done.out.len(), image.len() + 32);
-        assert_eq!(rt; done.map.as_slice(), map.as_bytes());
-    }
-    Ok(())
+    let second = bytes_of(rt.alloc(), LONG_SECOND)?;
+    run(
+        rt.alloc(),
+        &[("A", &FIRST), ("B", &second)],
+        NO_LIMITS,
+        LINKS,
+    )
 }
 
 #[test]
 fn a_program_is_loaded_at_its_paragraph(rt: HostRuntime) -> Result<(), Fail> {
-    let alloc = rt.alloc();
-    let linked = run_in(
-        alloc,
-        &[("A", &FIRST)],
+    run(
+        rt.alloc(),
+        &FILES,
         NO_LIMITS,
-        &["link", "-o", "OUT", "A"],
-    )?;
-    let files = [("P", linked.out.as_slice())];
-    let done = run_in(alloc, &files, NO_LIMITS, &["load", "P", "1234"])?;
-    assert_eq!(rt; done.status, 0u8);
-    let listing = b"CS:IP 1234:0000 SS:SP 1234:0000\n12340 B834128ED8\n";
-    assert_eq!(rt; done.output.as_slice(), listing.as_slice());
-    Ok(())
+        "\
+link -o OUT A
+= A status 0 open 1
+OUT 4D 5A 25 00 01 00 01 00 02 00 01 00 FF*2 00*10 1C 00*3 01 00*3 B8 00*2 8E D8
+
+load P 1234
+= P status 0 open 1
+CS:IP 1234:0000 SS:SP 1234:0000
+12340 B834128ED8",
+    )
 }
+
+/// Words that end in a fault.
+const FAULTS: &str = "\
+show X
+= X status 1 open 1
+! omf: X: 4 Closing at record 0
+
+check X
+= X status 1 open 1
+! omf: X: 4 Closing at record 0
+
+rewrite X OUT
+= X status 1 open 1
+! omf: X: 4 Closing at record 0
+
+load A 1234
+= A status 1 open 1
+! omf: A: 35 Magic
+
+link -o OUT B X A
+= B X status 1 open 1
+! omf: X: 4 Closing at record 0
+
+link -o OUT A B C
+= A B C status 1 open 1
+! omf: C: 33 TwoStarts at record 47
+
+link -o OUT A NO B
+= A NO status 3 open 1
+! omf: NO: 1 Device at record 0
+
+link --ignore-case -o OUT D
+= D status 1 open 1
+! omf: link: 25 DuplicatePublic \"X\"
+
+show NO
+= NO status 3 open 0
+! omf: NO: 1 Device at record 0
+
+load NO 1234
+= NO status 3 open 0
+! omf: NO: 40 Device
+
+link -o NONE A
+= A status 3 open 1
+! omf: NONE: 40 Device";
+
+/// The standard output takes two bytes.
+const FULL_OUTPUT: &str = "\
+show A
+= A status 3 open 1
+00! omf: output: 40 Device
+
+check A
+= A status 3 open 1
+ok! omf: output: 40 Device";
+
+/// OUT takes ten bytes, and the map isn't begun.
+const FULL_OUT: &str = "\
+rewrite A OUT
+= A status 3 open 1
+OUT 80 03 00 01 41 3B 96 07 00*2
+! omf: OUT: 40 Device
+
+link -o OUT -m MAP A
+= A status 3 open 1
+OUT 4D 5A 25 00 01 00 01 00 02 00
+! omf: OUT: 40 Device";
+
+/// MAP takes ten bytes. It comes after the program, which stands whole.
+const FULL_MAP: &str = "\
+link -o OUT -m MAP A
+= A status 3 open 1
+OUT 4D 5A 25 00 01 00 01 00 02 00 01 00 FF*2 00*10 1C 00*3 01 00*3 B8 00*2 8E D8
+MAP segments
+0! omf: MAP: 40 Device";
 
 #[test]
 fn a_fault_is_one_line_on_standard_error(rt: HostRuntime) -> Result<(), Fail> {
-    let alloc = rt.alloc();
-    let files: [(&str, &[u8]); 5] = [
-        ("A", &FIRST),
-        ("B", &SECOND),
-        ("C", &FIRST),
-        ("D", &BOTH_CASES),
-        ("X", &WRONG),
-    ];
-    let out = Limits {
-        out: 10,
-        ..NO_LIMITS
-    };
-    let map = Limits {
-        map: 10,
-        ..NO_LIMITS
-    };
-    let output = Limits {
-        output: 2,
-        ..NO_LIMITS
-    };
-    let rows: [(&[&str], Limits, u8, &str, &str); 16] = [
-        (
-            &["show", "X"],
-            NO_LIMITS,
-            1,
-            "omf: X: 4 Closing at record 0\n",
-            "X ",
-        ),
-        (
-            &["check", "X"],
-            NO_LIMITS,
-            1,
-            "omf: X: 4 Closing at record 0\n",
-            "X ",
-        ),
-        (
-            &["rewrite", "X", "OUT"],
-            NO_LIMITS,
-            1,
-            "omf: X: 4 Closing at record 0\n",
-            "X ",
-        ),
-        (
-            &["load", "A", "1234"],
-            NO_LIMITS,
-            1,
-            "omf: A: 35 Magic\n",
-            "A ",
-        ),
-        (
-            &["link", "-o", "OUT", "B", "X", "A"],
-            NO_LIMITS,
-            1,
-            "omf: X: 4 Closing at record 0\n",
-            "B X ",
-        ),
-        (
-            &["link", "-o", "OUT", "A", "B", "C"],
-            NO_LIMITS,
-            1,
-            "omf: C: 33 TwoStarts at record 47\n",
-            "A B C ",
-        ),
-        (
-            &["link", "-o", "OUT", "A", "NO", "B"],
-            NO_LIMITS,
-            3,
-            "omf: NO: 1 Device at record 0\n",
-            "A NO ",
-        ),
-        (
-            &["link", "--ignore-case", "-o", "OUT", "D"],
-            NO_LIMITS,
-            1,
-            "omf: link: 25 DuplicatePublic \"X\"\n",
-            "D ",
-        ),
-        (
-            &["show", "NO"],
-            NO_LIMITS,
-            3,
-            "omf: NO: 1 Device at record 0\n",
-            "NO ",
-        ),
-        (
-            &["load", "NO", "1234"],
-            NO_LIMITS,
-            3,
-            "omf: NO: 40 Device\n",
-            "NO ",
-        ),
-        (&["show", "A"], output, 3, "omf: output: 40 Device\n", "A "),
-        (&["check", "A"], output, 3, "omf: output: 40 Device\n", "A "),
-        (
-            &["rewrite", "A", "OUT"],
-            out,
-            3,
-            "omf: OUT: 40 Device\n",
-            "A ",
-        ),
-        (
-            &["link", "-o", "OUT", "-m", "MAP", "A"],
-            out,
-            3,
-            "omf: OUT: 40 Device\n",
-            "A ",
-        ),
-        (
-            &["link", "-o", "OUT", "-m", "MAP", "A"],
-            map,
-            3,
-            "omf: MAP: 40 Device\n",
-            "A ",
-        ),
-        (
-            &["link", "-o", "NONE", "A"],
-            NO_LIMITS,
-            3,
-            "omf: NONE: 40 Device\n",
-            "A ",
-        ),
-    ];
-    for (words, limits, status, line, opened) in rows {
-        let done = run_in(alloc, &files, limits, words)?;
-        assert_eq!(rt; done.errors.as_slice(), line.as_bytes());
-        assert_eq!(rt; done.status, status);
-        assert_eq!(rt; done.opened.as_slice(), opened.as_bytes());
-        assert!(rt; done.output.len() <= 2);
-        if limits.out > 10 && limits.map > 10 {
-            assert_eq!(rt; done.out.as_slice(), b"old".as_slice());
-        }
-        // the map comes after the program, which stands whole
-        assert_eq!(rt; done.out.len() == 37, limits.map == 10);
-        assert_eq!(rt; done.map.as_slice() == b"old".as_slice(), limits.map > 10);
+    run(rt.alloc(), &FILES, NO_LIMITS, FAULTS)?;
+    run(rt.alloc(), &FILES, OUTPUT_FILLS, FULL_OUTPUT)?;
+    run(rt.alloc(), &FILES, OUT_FILLS, FULL_OUT)?;
+    run(rt.alloc(), &FILES, MAP_FILLS, FULL_MAP)
+}
+
+/// Words that are no job.
+const WRONG_WORDS: &str = "\
+load A 12
+= status 2 open 0
+! omf: wrong words";
+
+/// Help stands on the standard output, and nothing is written or opened but that.
+fn helps(told: &str) -> Result<(), Fail> {
+    match told.strip_prefix("status 0 open 0\n") {
+        Some(help) if !help.is_empty() && !help.contains("! ") => Ok(()),
+        _ => Err(Fail::new(format_args!("{told}"))),
     }
-    Ok(())
 }
 
 #[test]
 fn wrong_words_and_help(rt: HostRuntime) -> Result<(), Fail> {
-    let alloc = rt.alloc();
-    let wrong = run_in(alloc, &[], NO_LIMITS, &["load", "A", "12"])?;
-    assert_eq!(rt; wrong.status, 2u8);
-    assert_eq!(rt; wrong.errors.as_slice(), b"omf: wrong words\n".as_slice());
-    assert_eq!(rt; wrong.output.len() + wrong.opened.len(), 0usize);
-    let helped = run_in(alloc, &[], NO_LIMITS, &["help"])?;
-    assert_eq!(rt; helped.status, 0u8);
-    assert_eq!(rt; helped.errors.len() + helped.opened.len(), 0usize);
-    assert!(rt; helped.output.len() > 0);
-    Ok(())
+    run(rt.alloc(), &[], NO_LIMITS, WRONG_WORDS)?;
+    let memory = Refusing::nth(rt.alloc(), 0);
+    helps(&told(rt.alloc(), &memory, &[], NO_LIMITS, "help")?)
 }
 
-/// Each growth refused in turn ends in want of memory, or the run makes do with less and its output is right.
+/// Whether this was want of memory.
+fn is_want(told: &str) -> bool {
+    told.contains("status 3 ") && told.ends_with("\n! omf: memory\n")
+}
+
+/// Whether there is a growth with this number. Refused, it ends in want of memory, or the run makes do with less and
+/// does the same.
+fn has_growth(alloc: Global, words: &str, number: u64, whole: &str) -> Result<bool, Fail> {
+    let memory = Refusing::nth(alloc, number);
+    let told = told(alloc, &memory, &FILES, NO_LIMITS, words)?;
+    let has_refused = memory.has_refused();
+    if !(has_refused && is_want(&told)) {
+        same(&told, whole)?;
+    }
+    Ok(has_refused)
+}
+
+/// Each growth refused in turn.
+fn refuse_each(alloc: Global, words: &str) -> Result<(), Fail> {
+    let whole = told(alloc, &Refusing::nth(alloc, 0), &FILES, NO_LIMITS, words)?;
+    for number in 1..1_000u64 {
+        if !has_growth(alloc, words, number, &whole)? {
+            return Ok(());
+        }
+    }
+    Err(Fail::from("too many growths"))
+}
+
 #[test]
 fn each_growth_refused(rt: HostRuntime) -> Result<(), Fail> {
-    let alloc = rt.alloc();
-    let files: [(&str, &[u8]); 2] = [("A", &FIRST), ("B", &SECOND)];
-    let rows: [&[&str]; 4] = [
-        &["show", "A"],
-        &["check", "A"],
-        &["rewrite", "A", "OUT"],
-        &["link", "-o", "OUT", "-m", "MAP", "A", "B"],
-    ];
-    for words in rows {
-        let whole = run_in(alloc, &files, NO_LIMITS, words)?;
-        let mut ends = 0usize;
-        for number in 1..1_000u64 {
-            let limits = Limits {
-                refused: Some(number),
-                ..NO_LIMITS
-            };
-            let done = run_in(alloc, &files, limits, words)?;
-            if !done.has_refused {
-                ends = 1;
-                break;
-            }
-            if done.status == 0 {
-                assert_eq!(rt; done.output.as_slice(), whole.output.as_slice());
-                assert_eq!(rt; done.out.as_slice(), whole.out.as_slice());
-                assert_eq!(rt; done.map.as_slice(), whole.map.as_slice());
-            } else {
-                assert_eq!(rt; done.status, 3u8);
-                assert_eq!(rt; done.errors.as_slice(), b"omf: memory\n".as_slice());
-            }
-        }
-        assert_eq!(rt; ends, 1usize);
-    }
-    Ok(())
+    refuse_each(rt.alloc(), "show A")?;
+    refuse_each(rt.alloc(), "check A")?;
+    refuse_each(rt.alloc(), "rewrite A OUT")?;
+    refuse_each(rt.alloc(), "link -o OUT -m MAP A B")
 }
