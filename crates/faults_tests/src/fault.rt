@@ -1,4 +1,5 @@
-use omf_faults::{FileFault, InputFault, LinkFault, ProgramFault, fault_line, status};
+use mz::FileFault;
+use omf_faults::{InputFault, LinkFault, ProgramFault, fault_line, status};
 use omf_frame::{FramingFault, MemSink};
 use omf_image::FixKind;
 use omf_module::CheckFault;

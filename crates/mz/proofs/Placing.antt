@@ -5,8 +5,10 @@ use Rattle.std.proofs.lemmas.Bool.{le-leb, lt-leb, cond-true, cond-false}
 use Rattle.omf_image.specs.declared.start.Registers.{Registers}
 use Rattle.omf_image.specs.Registers.{moved}
 use Rattle.omf_image.specs.Words.{add_words}
-use Rattle.mz.specs.declared.fault.LoadFault.{LoadFault}
-use Rattle.mz.specs.declared.fault.LoadFault.TheVariants.{DoesNotFit, Memory}
+use Rattle.mz.specs.declared.fault.FileFault.{FileFault}
+use Rattle.mz.specs.declared.fault.FileFault.TheVariants.{DoesNotFit}
+use Rattle.mz.specs.declared.fault.MzFault.{MzFault}
+use Rattle.mz.specs.declared.fault.MzFault.TheVariants.{Memory}
 use Rattle.mz.specs.Header.{entry_address}
 use Rattle.mz.specs.File.{MzFile}
 use Rattle.mz.specs.Loading.{Loaded, loaded, needed_len, loading, Loads}
@@ -21,11 +23,11 @@ pub does_fit : (P : ℕ) (f : MzFile) → 16 * P + needed_len f ≤ memory_len �
 unfolding loading
 does_fit P f h = cond-true (nat_le (16 * P + needed_len f) memory_len) _ _ (le-leb (16 * P + needed_len f) memory_len h)
 
-pub no_memory : (r : Result Loaded LoadFault) (P : ℕ) (f : MzFile) (e : LoadFault) → 16 * P + needed_len f ≤ memory_len
+pub no_memory : (r : Result Loaded MzFault) (P : ℕ) (f : MzFile) (e : MzFault) → 16 * P + needed_len f ≤ memory_len
     → r ≡ Err e → e ≡ Memory → Loads r (loading P f)
 no_memory r P f e h x y =
-    subst (λ (s : Result Loaded LoadFault). Loads s (loading P f)) (sym (x ∙ ap Err y))
-    (subst (λ (s : Result Loaded LoadFault). Loads (Err Memory) s) (sym (does_fit P f h)) tt)
+    subst (λ (s : Result Loaded MzFault). Loads s (loading P f)) (sym (x ∙ ap Err y))
+    (subst (λ (s : Result Loaded FileFault). Loads (Err Memory) s) (sym (does_fit P f h)) tt)
 
 made : (P : ℕ) → Registers → List ℕ → Loaded
 made P r bytes = record { bytes = bytes; registers = moved P r }

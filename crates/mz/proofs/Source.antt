@@ -1,5 +1,6 @@
 -- Where a source stands after the steps of reading.
-use Rattle.std.proofs.Common.{◌≡◌, ℕ, ◌+◌, ◌-◌, ◌<◌, ◌≤◌, ◌⊎◌, true, List, [], ◌++◌, length, take, None, Some, IfSome}
+use Rattle.std.proofs.Common.{◌≡◌, ℕ, ◌+◌, ◌-◌, ◌<◌, ◌≤◌, ◌⊎◌, Bool, true, false, true≢false, List, [], ◌++◌, length}
+use Rattle.std.proofs.Common.{take, None, Some, IfSome}
 use Rattle.std.proofs.Common.{refl, ap, subst, ◌∙◌, sym, arith, inl, inr, Result, Ok, Err, append_assoc, length-append}
 use Rattle.std.proofs.lemmas.Bool.{cases_lt}
 use Rattle.std.proofs.lemmas.List.{take_at}
@@ -7,8 +8,11 @@ use Rattle.std.specs.declared.option.Option.{Option}
 use Rattle.std.specs.Io.KnownBytes.{Consumes}
 use Rattle.omf_frame.specs.Device.{TakesAtMost}
 use Rattle.mz.specs.declared.format.Header.{Header as HeaderWords}
+use Rattle.mz.specs.declared.fault.FileFault.{FileFault}
+use Rattle.mz.specs.declared.fault.FileFault.TheVariants.{Magic, Header, Truncated, RelocationOutside, DoesNotFit}
+use Rattle.mz.specs.declared.fault.FileFault.TheVariants.{Device}
 use Rattle.mz.specs.declared.fault.MzFault.{MzFault}
-use Rattle.mz.specs.declared.fault.MzFault.TheVariants.{Magic, Header, Truncated, RelocationOutside, Device, Memory}
+use Rattle.mz.specs.declared.fault.MzFault.TheVariants.{File, Memory}
 use Rattle.mz.specs.Header.{header_at, told_len, is_accepted}
 use Rattle.mz.specs.File.{MzFile}
 use Rattle.mz.specs.Reading.{TakesUpTo, reading, Gives, failures_in, reach, Takes}
@@ -93,41 +97,69 @@ first_stops (Some b) mid e stops t told =
     takes_stop (Some b) mid e stops (bounded b mid 28 (reach (reading b) b) t (reach_least b)) told
 
 -- the header has a fault
-pub header_exact : (old mid : Option (List ℕ)) (before xs : List ℕ) (e : MzFault) → before ≡ []
+pub header_exact : (old mid : Option (List ℕ)) (before xs : List ℕ) (e : FileFault) → before ≡ []
     → ReadsOn 28 old mid before xs → header_in xs ≡ Err e → IfSome old (λ b. reading b ≡ Err e)
 header_exact None mid before xs e p r given = tt
 header_exact (Some b) mid before xs e p r given =
     let f = first_read b mid before xs p r in
     ap reading f.split ∙ header_fault xs f.rest e f.enough given
 
--- a source that tells nothing
-takes_untold : (new : Option (List ℕ)) (answer : Result MzFile MzFault) → Takes None new answer
-takes_untold new (Ok file) = tt
-takes_untold new (Err Magic) = ([], tt, omega arith)
-takes_untold new (Err Header) = ([], tt, omega arith)
-takes_untold new (Err Truncated) = tt
-takes_untold new (Err RelocationOutside) = tt
-takes_untold new (Err Device) = tt
-takes_untold new (Err Memory) = tt
+-- whether an answer is the fault of loading
+abbrev is_unfit : Result MzFile MzFault → Bool
+is_unfit (Err (File DoesNotFit)) = true
+is_unfit _ = false
 
-header_takes_of : (b : List ℕ) (mid : Option (List ℕ)) (xs : List ℕ) (e : MzFault) → First b mid xs
-    → header_in xs ≡ Err e → Takes (Some b) mid (Err e)
+-- a source that tells nothing
+takes_untold : (new : Option (List ℕ)) (answer : Result MzFile MzFault) → is_unfit answer ≡ false
+    → Takes None new answer
+takes_untold new (Ok file) other = tt
+takes_untold new (Err (File Magic)) other = ([], tt, omega arith)
+takes_untold new (Err (File Header)) other = ([], tt, omega arith)
+takes_untold new (Err (File Truncated)) other = tt
+takes_untold new (Err (File RelocationOutside)) other = tt
+takes_untold new (Err (File DoesNotFit)) other = true≢false other
+takes_untold new (Err (File Device)) other = tt
+takes_untold new (Err Memory) other = tt
+
+header_fits : (xs : List ℕ) (e : FileFault) → header_in xs ≡ Err e → is_unfit (Err (File e)) ≡ false
+header_fits xs e given = elim (header_errors xs e given) [
+  | inl magic ↦ ap (λ x. is_unfit (Err (File x))) magic
+  | inr other ↦ elim other [
+    | inl header ↦ ap (λ x. is_unfit (Err (File x))) header
+    | inr short ↦ ap (λ x. is_unfit (Err (File x))) short.0
+  ]
+]
+
+file_fits : (h : HeaderWords) (ys : List ℕ) (answer : Result MzFile MzFault) → Gives answer (file_in h ys)
+    → is_unfit answer ≡ false
+file_fits h ys (Ok file) gives = refl
+file_fits h ys (Err (File Magic)) gives = refl
+file_fits h ys (Err (File Header)) gives = refl
+file_fits h ys (Err (File Truncated)) gives = refl
+file_fits h ys (Err (File RelocationOutside)) gives = refl
+file_fits h ys (Err (File DoesNotFit)) gives =
+    let e : DoesNotFit ≡ RelocationOutside = file_in_errors h ys DoesNotFit gives in absurd (cc)
+file_fits h ys (Err (File Device)) gives = refl
+file_fits h ys (Err Memory) gives = refl
+
+header_takes_of : (b : List ℕ) (mid : Option (List ℕ)) (xs : List ℕ) (e : FileFault) → First b mid xs
+    → header_in xs ≡ Err e → Takes (Some b) mid (Err (File e))
 header_takes_of b mid xs e f given =
     let most : TakesUpTo (Some b) (Some f.rest) 28 = (xs, f.split, f.within) in
-    subst (λ (m : Option (List ℕ)). Takes (Some b) m (Err e)) (sym f.place)
+    subst (λ (m : Option (List ℕ)). Takes (Some b) m (Err (File e))) (sym f.place)
     (elim (header_errors xs e given) [
-      | inl magic ↦ subst (λ x. Takes (Some b) (Some f.rest) (Err x)) (sym magic) most
+      | inl magic ↦ subst (λ x. Takes (Some b) (Some f.rest) (Err (File x))) (sym magic) most
       | inr other ↦ elim other [
-        | inl header ↦ subst (λ x. Takes (Some b) (Some f.rest) (Err x)) (sym header) most
+        | inl header ↦ subst (λ x. Takes (Some b) (Some f.rest) (Err (File x))) (sym header) most
         | inr short ↦
             let none : f.rest ≡ [] = elim f.enough [ inl long ↦ absurd (omega (arith, short.1)) | inr k ↦ k ] in
-            subst (λ x. Takes (Some b) (Some f.rest) (Err x)) (sym short.0) (sym (nothing_more b f.rest none))
+            subst (λ x. Takes (Some b) (Some f.rest) (Err (File x))) (sym short.0) (sym (nothing_more b f.rest none))
       ]
     ])
 
-pub header_takes : (old mid : Option (List ℕ)) (before xs : List ℕ) (e : MzFault) → before ≡ []
-    → ReadsOn 28 old mid before xs → header_in xs ≡ Err e → Takes old mid (Err e)
-header_takes None mid before xs e p r given = takes_untold mid (Err e)
+pub header_takes : (old mid : Option (List ℕ)) (before xs : List ℕ) (e : FileFault) → before ≡ []
+    → ReadsOn 28 old mid before xs → header_in xs ≡ Err e → Takes old mid (Err (File e))
+header_takes None mid before xs e p r given = takes_untold mid (Err (File e)) (header_fits xs e given)
 header_takes (Some b) mid before xs e p r given = header_takes_of b mid xs e (first_read b mid before xs p r) given
 
 -- what an accepted header in the first bytes says of the file
@@ -193,12 +225,12 @@ cut_exact (Some b) mid new before xs ys h p r given q short =
 
 pub cut_takes : (old mid new : Option (List ℕ)) (before xs ys : List ℕ) (h : HeaderWords) → before ≡ []
     → ReadsOn 28 old mid before xs → header_in xs ≡ Ok h
-    → ReadsOn (told_len h) mid new xs ys → length ys < told_len h → Takes old new (Err Truncated)
+    → ReadsOn (told_len h) mid new xs ys → length ys < told_len h → Takes old new (Err (File Truncated))
 cut_takes None mid new before xs ys h p r given q short = tt
 cut_takes (Some b) mid new before xs ys h p r given q short =
     let f = first_read b mid before xs p r in
     let t = both b mid new xs ys (told_len h) f q in
-    subst (λ m. Takes (Some b) m (Err Truncated)) (sym t.place) (sym (nothing_more b t.last (t.ends short)))
+    subst (λ m. Takes (Some b) m (Err (File Truncated))) (sym t.place) (sym (nothing_more b t.last (t.ends short)))
 
 reads_whole : (b last ys : List ℕ) (h : HeaderWords) → b ≡ ys ++ last → Stage b h → length ys ≡ told_len h
     → reading b ≡ file_in h ys
@@ -228,14 +260,17 @@ takes_whole : (b last ys : List ℕ) (h : HeaderWords) (answer : Result MzFile M
     → length ys ≡ told_len h → Gives answer (file_in h ys)
     → failures_in answer ≡ 0 → Takes (Some b) (Some last) answer
 takes_whole b last ys h (Ok file) split s full gives works = front_taken b last ys h split s.header full
-takes_whole b last ys h (Err Magic) split s full gives works =
+takes_whole b last ys h (Err (File Magic)) split s full gives works =
     let e : Magic ≡ RelocationOutside = file_in_errors h ys Magic gives in absurd (cc)
-takes_whole b last ys h (Err Header) split s full gives works =
+takes_whole b last ys h (Err (File Header)) split s full gives works =
     let e : Header ≡ RelocationOutside = file_in_errors h ys Header gives in absurd (cc)
-takes_whole b last ys h (Err Truncated) split s full gives works =
+takes_whole b last ys h (Err (File Truncated)) split s full gives works =
     let e : Truncated ≡ RelocationOutside = file_in_errors h ys Truncated gives in absurd (cc)
-takes_whole b last ys h (Err RelocationOutside) split s full gives works = front_taken b last ys h split s.header full
-takes_whole b last ys h (Err Device) split s full gives works = absurd (omega arith)
+takes_whole b last ys h (Err (File RelocationOutside)) split s full gives works =
+    front_taken b last ys h split s.header full
+takes_whole b last ys h (Err (File DoesNotFit)) split s full gives works =
+    let e : DoesNotFit ≡ RelocationOutside = file_in_errors h ys DoesNotFit gives in absurd (cc)
+takes_whole b last ys h (Err (File Device)) split s full gives works = absurd (omega arith)
 takes_whole b last ys h (Err Memory) split s full gives works =
     bounded b (Some last) (told_len h) (reach (reading b) b) (ys, split, omega arith) (reaches b h s)
 
@@ -243,27 +278,27 @@ pub whole_takes : (old mid new : Option (List ℕ)) (before xs ys : List ℕ) (h
     (answer : Result MzFile MzFault) → before ≡ [] → ReadsOn 28 old mid before xs → header_in xs ≡ Ok h
     → ReadsOn (told_len h) mid new xs ys → told_len h ≤ length ys → Gives answer (file_in h ys) → failures_in answer ≡ 0
     → Takes old new answer
-whole_takes None mid new before xs ys h answer p r given q full gives works = takes_untold new answer
+whole_takes None mid new before xs ys h answer p r given q full gives works =
+    takes_untold new answer (file_fits h ys answer gives)
 whole_takes (Some b) mid new before xs ys h answer p r given q full gives works =
     let f = first_read b mid before xs p r in
     let t = both b mid new xs ys (told_len h) f q in
     subst (λ m. Takes (Some b) m answer) (sym t.place)
     (takes_whole b t.last ys h answer t.split (stage b mid xs h f given) (omega (arith, t.within)) gives works)
 
-gives_of : (answer expected : Result MzFile MzFault) → expected ≡ answer → Gives answer expected
-gives_of (Ok file) expected e = e
-gives_of (Err Magic) expected e = e
-gives_of (Err Header) expected e = e
-gives_of (Err Truncated) expected e = e
-gives_of (Err RelocationOutside) expected e = e
-gives_of (Err Device) expected e = tt
-gives_of (Err Memory) expected e = tt
+gives_of : (e : FileFault) (expected : Result MzFile FileFault) → expected ≡ Err e → Gives (Err (File e)) expected
+gives_of Magic expected h = h
+gives_of Header expected h = h
+gives_of Truncated expected h = h
+gives_of RelocationOutside expected h = h
+gives_of DoesNotFit expected h = h
+gives_of Device expected h = tt
 
 -- a fault that stands is given
-pub gives_fault : (old : Option (List ℕ)) (answer : Result MzFile MzFault) (e : MzFault) → answer ≡ Err e
+pub gives_fault : (old : Option (List ℕ)) (answer : Result MzFile MzFault) (e : FileFault) → answer ≡ Err (File e)
     → IfSome old (λ b. reading b ≡ Err e) → IfSome old (λ b. Gives answer (reading b))
 gives_fault None answer e p h = tt
-gives_fault (Some b) answer e p h = gives_of answer (reading b) (h ∙ sym p)
+gives_fault (Some b) answer e p h = subst (λ a. Gives a (reading b)) (sym p) (gives_of e (reading b) h)
 
 -- a header that was read is accepted
 pub accepts : (xs : List ℕ) (h : HeaderWords) → Ok h ≡ header_in xs → is_accepted h ≡ true

@@ -11,8 +11,8 @@ use Rattle.std.proofs.lemmas.List.{get_or_append_left, take_at}
 use Rattle.omf_image.specs.Words.{word_at}
 use Rattle.mz.specs.declared.format.Header.{Header as HeaderWords}
 use Rattle.mz.specs.declared.format.Entry.{Entry}
-use Rattle.mz.specs.declared.fault.MzFault.{MzFault}
-use Rattle.mz.specs.declared.fault.MzFault.TheVariants.{Magic, Header, Truncated, RelocationOutside}
+use Rattle.mz.specs.declared.fault.FileFault.{FileFault}
+use Rattle.mz.specs.declared.fault.FileFault.TheVariants.{Magic, Header, Truncated, RelocationOutside}
 use Rattle.mz.specs.Header.{magic, header_at, header_len, told_len, is_accepted, is_inside}
 use Rattle.mz.specs.File.{MzFile}
 use Rattle.mz.specs.Reading.{entries_at, file_of, reading, reach}
@@ -99,7 +99,7 @@ header_same xs rest enough = elim enough [
 ]
 
 -- what reading answers where the header has no fault
-abbrev pub behind_header : List ℕ → Result MzFile MzFault
+abbrev pub behind_header : List ℕ → Result MzFile FileFault
 behind_header b =
     cond (stands Truncated b) (Err Truncated)
     (cond (stands RelocationOutside b) (Err RelocationOutside) (Ok (file_of b)))
@@ -128,7 +128,7 @@ reads_short b f k h =
     (or_left (nat_lt (length b) 28) (nat_lt (length b) (told_len (header_at b))) (lt-ltb (length b) 28 h))
 
 -- a fault in the first bytes is the file's
-pub header_fault : (xs rest : List ℕ) (e : MzFault) → Enough xs rest → header_in xs ≡ Err e
+pub header_fault : (xs rest : List ℕ) (e : FileFault) → Enough xs rest → header_in xs ≡ Err e
     → reading (xs ++ rest) ≡ Err e
 header_fault xs rest e enough given =
     let b = xs ++ rest in
@@ -251,7 +251,7 @@ file_agrees ys rest h e accepted full =
     ap made e ∙ ap (λ (es : List Entry). with es (take (told_len h) b)) table
     ∙ ap (with (entries_at n t ys)) (take_at ys rest (told_len h) full)
 
-cond_not : (X : Bool) (a b : Result MzFile MzFault) → cond (not X) a b ≡ cond X b a
+cond_not : (X : Bool) (a b : Result MzFile FileFault) → cond (not X) a b ≡ cond X b a
 cond_not true a b = refl
 cond_not false a b = refl
 
@@ -276,7 +276,7 @@ whole_behind ys rest h e accepted full =
     let longer : told_len (header_at b) ≤ length b = omega (arith, length-append ys rest) in
     let long : 28 ≤ length b =
     omega (arith, length-append ys rest, header_within h accepted, words_within h accepted) in
-    let answer : MzFile → Result MzFile MzFault =
+    let answer : MzFile → Result MzFile FileFault =
     λ f. cond (not (list_all (is_inside (length f.image)) f.entries)) (Err RelocationOutside) (Ok f) in
     cond-false (stands Truncated b) _ _ (not_cut b long longer)
     ∙ ap answer (file_agrees ys rest h e accepted full)
@@ -288,7 +288,7 @@ whole_behind ys rest h e accepted full =
 pub reach_behind : (b : List ℕ)
     → (told_len (header_at b) ≤ reach (behind_header b) b) ⊎ (length b ≤ reach (behind_header b) b)
 reach_behind b =
-    let P : Result MzFile MzFault → Type 0 = λ r. (told_len (header_at b) ≤ reach r b) ⊎ (length b ≤ reach r b) in
+    let P : Result MzFile FileFault → Type 0 = λ r. (told_len (header_at b) ≤ reach r b) ⊎ (length b ≤ reach r b) in
     let rest = cond (stands RelocationOutside b) (Err RelocationOutside) (Ok (file_of b)) in
     elim (cases_Bool (stands Truncated b)) [
       | inl t ↦ subst P (sym (reads_truncated b t)) (inr (le_refl (length b)))
@@ -310,7 +310,7 @@ told_long b f h =
 -- the words of the header are reached, or all bytes are
 pub reach_least : (b : List ℕ) → (28 ≤ reach (reading b) b) ⊎ (length b ≤ reach (reading b) b)
 reach_least b =
-    let P : Result MzFile MzFault → Type 0 = λ r. (28 ≤ reach r b) ⊎ (length b ≤ reach r b) in
+    let P : Result MzFile FileFault → Type 0 = λ r. (28 ≤ reach r b) ⊎ (length b ≤ reach r b) in
     elim (cases_Bool (stands Magic b)) [
       | inl t ↦ subst P (sym (reads_magic b t)) (inl (le_refl 28))
       | inr f ↦ elim (cases_Bool (stands Header b)) [
@@ -325,7 +325,7 @@ reach_least b =
     ]
 
 -- the faults of a header
-pub header_errors : (xs : List ℕ) (e : MzFault) → header_in xs ≡ Err e
+pub header_errors : (xs : List ℕ) (e : FileFault) → header_in xs ≡ Err e
     → (e ≡ Magic) ⊎ ((e ≡ Header) ⊎ ((e ≡ Truncated) × (length xs < 28)))
 header_errors xs e given =
     let other =
@@ -359,7 +359,7 @@ header_errors xs e given =
     ]
 
 -- the one fault of the bytes behind an accepted header
-pub file_in_errors : (h : HeaderWords) (ys : List ℕ) (e : MzFault) → file_in h ys ≡ Err e → e ≡ RelocationOutside
+pub file_in_errors : (h : HeaderWords) (ys : List ℕ) (e : FileFault) → file_in h ys ≡ Err e → e ≡ RelocationOutside
 file_in_errors h ys e given =
     let entries = entries_at h.relocation_count h.relocation_table ys in
     let image = drop (header_len h) ys in

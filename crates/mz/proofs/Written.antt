@@ -14,8 +14,8 @@ use Rattle.omf_image.specs.Words.{word_at, put_word, add_word, add_words}
 use Rattle.omf_image.specs.Program.{Program, IsProgram}
 use Rattle.mz.specs.declared.format.Header.{Header}
 use Rattle.mz.specs.declared.format.Entry.{Entry}
-use Rattle.mz.specs.declared.fault.MzFault.{MzFault}
-use Rattle.mz.specs.declared.fault.MzFault.TheVariants.{RelocationOutside}
+use Rattle.mz.specs.declared.fault.FileFault.{FileFault}
+use Rattle.mz.specs.declared.fault.FileFault.TheVariants.{RelocationOutside, DoesNotFit}
 use Rattle.mz.specs.Header.{magic, header_at, header_len, told_len, is_accepted, entry_address, is_inside}
 use Rattle.mz.specs.inside.Format.{has_table_inside}
 use Rattle.mz.specs.inside.Format.{header_bytes, entry_bytes}
@@ -23,8 +23,6 @@ use Rattle.mz.specs.File.{paragraphs, file_image, file_len, header_of, entry_of,
 use Rattle.mz.specs.File.{MzFile}
 use Rattle.mz.specs.Reading.{entries_at, file_of, reading}
 use Rattle.mz.specs.inside.Steps.{file_in}
-use Rattle.mz.specs.declared.fault.LoadFault.{LoadFault}
-use Rattle.mz.specs.declared.fault.LoadFault.TheVariants.{DoesNotFit}
 use Rattle.mz.specs.Loading.{Loaded, loaded, needed_len, loading}
 use Rattle.mz.specs.Laws.{memory_len}
 use Rattle.mz.specs.Laws.{Fits, memory, moved, as_file}
@@ -354,7 +352,7 @@ module _ (p : Program) (w : IsProgram p) where
   file_is : file_in (header_of p) (file_bytes p) ≡ Ok (as_file p)
   file_is =
       let h = header_of p in
-      let answer : List Entry → List ℕ → Result MzFile MzFault =
+      let answer : List Entry → List ℕ → Result MzFile FileFault =
       λ es bs.
       cond (list_all (is_inside (length bs)) es) (Ok (record { header = h; entries = es; image = bs }))
       (Err RelocationOutside) in
@@ -389,7 +387,7 @@ module _ (p : Program) (w : IsProgram p) where
 
   pub loads_back : (P : ℕ) → Fits P p → loading P (as_file p) ≡ Ok (moved P p)
   loads_back P fits =
-      let answer : Loaded → Result Loaded LoadFault = λ l. Ok l in
+      let answer : Loaded → Result Loaded FileFault = λ l. Ok l in
       does_fit P (as_file p) (omega (arith, needed_is, fits)) ∙ ap answer (loaded_back P)
 
   pub refuses : (P : ℕ) → memory_len < 16 * P + length p.image → loading P (as_file p) ≡ Err DoesNotFit

@@ -4,7 +4,7 @@ use Rattle.omf_image.specs.Program.{Program, IsProgram}
 use Rattle.omf_image.specs.Registers.{moved as registers_moved}
 use Rattle.omf_image.specs.Words.{add_words}
 use Rattle.mz.specs.Header.{told_len, header_at}
-use Rattle.mz.specs.declared.fault.LoadFault.TheVariants.{DoesNotFit}
+use Rattle.mz.specs.declared.fault.FileFault.TheVariants.{DoesNotFit}
 use Rattle.mz.specs.File.{MzFile, Mz, file_image, header_of, entry_of}
 use Rattle.mz.specs.Loading.{Loaded, loaded, loading}
 use Rattle.mz.specs.Reading.{file_of, reading}

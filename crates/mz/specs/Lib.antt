@@ -1,3 +1,4 @@
+pub mod Labels
 pub mod Header
 pub mod File
 pub mod Reading

@@ -4,8 +4,10 @@ use Rattle.std.specs.declared.result.Result.{Result}
 use Rattle.omf_image.specs.Words.{add_words}
 use Rattle.omf_image.specs.declared.start.Registers.{Registers}
 use Rattle.omf_image.specs.Registers.{moved}
-use Rattle.mz.specs.declared.fault.LoadFault.{LoadFault}
-use Rattle.mz.specs.declared.fault.LoadFault.TheVariants.{DoesNotFit, Memory}
+use Rattle.mz.specs.declared.fault.FileFault.{FileFault}
+use Rattle.mz.specs.declared.fault.FileFault.TheVariants.{DoesNotFit}
+use Rattle.mz.specs.declared.fault.MzFault.{MzFault}
+use Rattle.mz.specs.declared.fault.MzFault.TheVariants.{File, Memory}
 use Rattle.mz.specs.Header.{entry_address}
 use Rattle.mz.specs.File.{MzFile}
 
@@ -28,13 +30,14 @@ abbrev pub needed_len : MzFile → ℕ
 needed_len file = max (length file.image) (16 * (length file.image / 16 + file.header.least_extra_paragraphs))
 
 -- what loading a file at paragraph P answers: it has to end where the memory does that a real-mode address reaches
-unfoldable pub loading : (paragraph : ℕ) → MzFile → Result Loaded LoadFault
+unfoldable pub loading : (paragraph : ℕ) → MzFile → Result Loaded FileFault
 loading paragraph file =
     if nat_le (16 * paragraph + needed_len file) 1048576 then Ok (loaded paragraph file) else Err DoesNotFit
 
 -- the answer is that one, unless there was no memory for a program that fits
-abbrev pub Loads : Result Loaded LoadFault → Result Loaded LoadFault → Type 0
+abbrev pub Loads : Result Loaded MzFault → Result Loaded FileFault → Type 0
 Loads (Ok answer) expected = expected ≡ Ok answer
-Loads (Err DoesNotFit) expected = expected ≡ Err DoesNotFit
+Loads (Err (File DoesNotFit)) expected = expected ≡ Err DoesNotFit
+Loads (Err (File _)) expected = ⊥
 Loads (Err Memory) (Ok answer) = Unit {0}
 Loads (Err Memory) (Err fault) = ⊥

@@ -8,8 +8,11 @@ use Rattle.std.specs.Io.KnownBytes.{Consumes}
 use Rattle.omf_frame.specs.Device.{TakesAtMost}
 use Rattle.omf_image.specs.Words.{word_at}
 use Rattle.mz.specs.declared.format.Entry.{Entry}
+use Rattle.mz.specs.declared.fault.FileFault.{FileFault}
+use Rattle.mz.specs.declared.fault.FileFault.TheVariants.{Magic, Header, Truncated, RelocationOutside, DoesNotFit}
+use Rattle.mz.specs.declared.fault.FileFault.TheVariants.{Device}
 use Rattle.mz.specs.declared.fault.MzFault.{MzFault}
-use Rattle.mz.specs.declared.fault.MzFault.TheVariants.{Magic, Header, Truncated, RelocationOutside, Device, Memory}
+use Rattle.mz.specs.declared.fault.MzFault.TheVariants.{File, Memory}
 use Rattle.mz.specs.Header.{magic, header_at, header_len, told_len, is_accepted, entry_at, is_inside}
 use Rattle.mz.specs.File.{MzFile}
 
@@ -26,7 +29,7 @@ file_of bytes =
     record { header = h; entries = entries; image = drop (header_len h) (take (told_len h) bytes) }
 
 -- the first fault that stands in a file, or what it holds
-unfoldable pub reading : List ℕ → Result MzFile MzFault
+unfoldable pub reading : List ℕ → Result MzFile FileFault
 reading bytes =
     if nat_le 2 (length bytes) && not (word_at bytes 0 == magic) then Err Magic
     else if nat_le 28 (length bytes) && not (is_accepted (header_at bytes)) then Err Header
@@ -35,34 +38,26 @@ reading bytes =
     else Ok (file_of bytes)
 
 -- the answer is that one, unless the source failed or there was no memory
-abbrev pub Gives : Result MzFile MzFault → Result MzFile MzFault → Type 0
+abbrev pub Gives : Result MzFile MzFault → Result MzFile FileFault → Type 0
 Gives (Ok file) expected = expected ≡ Ok file
-Gives (Err Magic) expected = expected ≡ Err Magic
-Gives (Err Header) expected = expected ≡ Err Header
-Gives (Err Truncated) expected = expected ≡ Err Truncated
-Gives (Err RelocationOutside) expected = expected ≡ Err RelocationOutside
-Gives (Err Device) expected = Unit {0}
+Gives (Err (File Device)) expected = Unit {0}
+Gives (Err (File fault)) expected = expected ≡ Err fault
 Gives (Err Memory) expected = Unit {0}
 
 -- how many calls of the device failed
 abbrev pub failures_in : {T : Type 0} → Result T MzFault → ℕ
-failures_in (Ok x) = 0
-failures_in (Err Magic) = 0
-failures_in (Err Header) = 0
-failures_in (Err Truncated) = 0
-failures_in (Err RelocationOutside) = 0
-failures_in (Err Device) = 1
-failures_in (Err Memory) = 0
+failures_in (Err (File Device)) = 1
+failures_in _ = 0
 
 -- how many bytes reading may take before it answers
-abbrev pub reach : Result MzFile MzFault → List ℕ → ℕ
+abbrev pub reach : Result MzFile FileFault → List ℕ → ℕ
 reach (Ok file) bytes = told_len (header_at bytes)
 reach (Err Magic) bytes = 28
 reach (Err Header) bytes = 28
 reach (Err Truncated) bytes = length bytes
 reach (Err RelocationOutside) bytes = told_len (header_at bytes)
+reach (Err DoesNotFit) bytes = 0
 reach (Err Device) bytes = 0
-reach (Err Memory) bytes = 0
 
 -- a front of at most so many bytes was taken
 abbrev pub TakesUpTo : Option (List ℕ) → Option (List ℕ) → ℕ → Type 0
@@ -73,9 +68,11 @@ TakesUpTo old new count = (front : List ℕ) × Consumes old new front × (lengt
 -- only a source that failed may tell nothing afterwards.
 abbrev pub Takes : Option (List ℕ) → Option (List ℕ) → Result MzFile MzFault → Type 0
 Takes old new (Ok file) = IfSome old (λ bytes. Consumes old new (take (told_len (header_at bytes)) bytes))
-Takes old new (Err Magic) = TakesUpTo old new 28
-Takes old new (Err Header) = TakesUpTo old new 28
-Takes old new (Err Truncated) = IfSome old (Consumes old new)
-Takes old new (Err RelocationOutside) = IfSome old (λ bytes. Consumes old new (take (told_len (header_at bytes)) bytes))
-Takes old new (Err Device) = IfSome old (λ bytes. TakesAtMost old new (reach (reading bytes) bytes))
+Takes old new (Err (File Magic)) = TakesUpTo old new 28
+Takes old new (Err (File Header)) = TakesUpTo old new 28
+Takes old new (Err (File Truncated)) = IfSome old (Consumes old new)
+Takes old new (Err (File RelocationOutside)) =
+    IfSome old (λ bytes. Consumes old new (take (told_len (header_at bytes)) bytes))
+Takes old new (Err (File DoesNotFit)) = ⊥
+Takes old new (Err (File Device)) = IfSome old (λ bytes. TakesAtMost old new (reach (reading bytes) bytes))
 Takes old new (Err Memory) = IfSome old (λ bytes. TakesUpTo old new (reach (reading bytes) bytes))

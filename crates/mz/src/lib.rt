@@ -8,7 +8,7 @@ mod loading;
 mod reading;
 mod writing;
 
-pub use fault::{LoadFault, MzFault};
+pub use fault::{FileFault, MzFault};
 pub use format::{Entry, Header};
 pub use laws::loads_as_written;
 pub use loading::{Loaded, load};

@@ -5,7 +5,7 @@ ghost use Rattle.omf_image.specs.Words.{add_word, add_words};
 ghost use Rattle.mz.specs.Header.{entry_address, is_inside};
 ghost use Rattle.mz.specs.Loading.{needed_len, loading, Loads};
 
-use crate::fault::LoadFault;
+use crate::fault::{FileFault, MzFault};
 use crate::format::{Entry, PARAGRAPH_LEN, word};
 use crate::reading::MzFile;
 use omf_image::Registers;
@@ -84,12 +84,12 @@ pub fn load<A: Allocator + Copy, B: Allocator + Copy>(
     alloc: A,
     file: &MzFile<B>,
     paragraph: u16,
-) -> Result<Loaded<A>, LoadFault>
+) -> Result<Loaded<A>, MzFault>
     ensures { Loads result (loading paragraph file.now) }
 {
     let start = PARAGRAPH_LEN * usize::from(paragraph);
     if needed_len(file) > MEMORY_LEN - start {
-        return Err(LoadFault::DoesNotFit);
+        return Err(MzFault::File(FileFault::DoesNotFit));
     }
     let mut bytes = Vec::from_slice(alloc, file.image())?;
     relocate(&mut bytes, file.entries(), paragraph);

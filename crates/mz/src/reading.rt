@@ -9,7 +9,7 @@ ghost use Rattle.mz.specs.Header.{header_len, told_len, is_accepted, is_inside};
 ghost use Rattle.mz.specs.Reading.{entries_at, reading, Gives, failures_in, Takes};
 ghost use Rattle.mz.specs.inside.Steps.{ReadsOn, Stops, header_in, file_in};
 
-use crate::fault::MzFault;
+use crate::fault::{FileFault, MzFault};
 use crate::format::{ENTRY_LEN, Entry, HEADER_LEN, Header, MAGIC, word};
 use omf_frame::{IoFault, Source};
 use std::alloc::{AllocError, Allocator, Global};
@@ -92,7 +92,7 @@ fn read_up_to<A: Allocator + Copy, S: Source>(
     while bytes.len() < len {
         let room = (len - bytes.len()).min(PIECE_LEN);
         let Ok(count) = source.read_some(&mut piece[..room]) else {
-            return Err(MzFault::Device);
+            return Err(MzFault::File(FileFault::Device));
         };
         if count == 0 {
             break;
@@ -103,18 +103,18 @@ fn read_up_to<A: Allocator + Copy, S: Source>(
 }
 
 /// The header in the first bytes of a file: 28, or all that there are.
-fn read_header(bytes: &[u8]) -> Result<Header, MzFault>
+fn read_header(bytes: &[u8]) -> Result<Header, FileFault>
     ensures { result ≡ header_in bytes.now }
 {
     if bytes.len() >= 2 && word(bytes, 0) != MAGIC {
-        return Err(MzFault::Magic);
+        return Err(FileFault::Magic);
     }
     if bytes.len() < HEADER_LEN {
-        return Err(MzFault::Truncated);
+        return Err(FileFault::Truncated);
     }
     let header = Header::read(bytes);
     if !header.is_accepted() {
-        return Err(MzFault::Header);
+        return Err(FileFault::Header);
     }
     Ok(header)
 }
@@ -158,7 +158,7 @@ fn file_of<A: Allocator + Copy>(
     let entries = read_entries(alloc, header, &bytes)?;
     let image_len = bytes.len() - header.header_len();
     if !are_inside(&entries, image_len) {
-        return Err(MzFault::RelocationOutside);
+        return Err(MzFault::File(FileFault::RelocationOutside));
     }
     Ok(MzFile {
         header,
@@ -191,7 +191,7 @@ pub fn read_mz<A: Allocator + Copy, S: Source>(
     let len = header.told_len();
     read_up_to(source, &mut bytes, len)?;
     if bytes.len() < len {
-        return Err(MzFault::Truncated);
+        return Err(MzFault::File(FileFault::Truncated));
     }
     file_of(alloc, header, bytes)
 }

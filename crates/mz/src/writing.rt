@@ -3,9 +3,10 @@ ghost use Rattle.std.specs.Prelude.{◌≡◌, ◌-◌, ◌*◌, ◌^◌, ◌<�
 ghost use Rattle.omf_frame.specs.Device.{Writes};
 ghost use Rattle.omf_image.specs.Program.{IsProgram};
 ghost use Rattle.mz.specs.File.{table_bytes, Mz, file_bytes, file_image, header_of, paragraphs, padding};
-ghost use Rattle.mz.specs.declared.fault.MzFault.TheVariants.{Device};
+ghost use Rattle.mz.specs.declared.fault.FileFault.TheVariants.{Device};
+ghost use Rattle.mz.specs.declared.fault.MzFault.TheVariants.{File};
 
-use crate::fault::MzFault;
+use crate::fault::{FileFault, MzFault};
 use crate::format::{ENTRY_LEN, Entry, HEADER_LEN, Header, PAGE_LEN, PARAGRAPH_LEN};
 use omf_frame::{IoFault, Sink, put_all};
 use omf_image::Program;
@@ -120,12 +121,12 @@ pub fn write_mz<A: Allocator + Copy, K: Sink>(
     // What is written is a file of the format.
     ensures format { Mz program.now (file_bytes program.now) }
     // The only fault is `Device`.
-    ensures device { IsOkUnless result Device }
+    ensures device { IsOkUnless result (File Device) }
     // All of the file was written and the sink never failed; or a front of it was, and the sink failed once.
     ensures written { Writes K.written K.failures sink.old sink.new (file_bytes program.now) result }
 {
     match put_file(program, sink) {
         Ok(()) => Ok(()),
-        Err(IoFault) => Err(MzFault::Device),
+        Err(IoFault) => Err(MzFault::File(FileFault::Device)),
     }
 }

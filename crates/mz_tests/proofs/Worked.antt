@@ -2,7 +2,7 @@
 use Rattle.std.proofs.Common.{◌≡◌, ℕ, List, [], ◌∷◌, refl}
 use Rattle.std.specs.Prelude.{Ok, Err}
 use Rattle.omf_image.specs.Words.{add_word, put_word}
-use Rattle.mz.specs.declared.fault.LoadFault.TheVariants.{DoesNotFit}
+use Rattle.mz.specs.declared.fault.FileFault.TheVariants.{DoesNotFit}
 use Rattle.mz.specs.Header.{header_at}
 use Rattle.mz.specs.Reading.{file_of, reading}
 use Rattle.mz.specs.Loading.{loaded, loading}

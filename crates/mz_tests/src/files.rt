@@ -1,5 +1,5 @@
 //! Files as bytes: what is read of them and what is loaded.
-use mz::{LoadFault, Loaded, MzFault, MzFile, load, read_mz};
+use mz::{FileFault, Loaded, MzFault, MzFile, load, read_mz};
 use omf_frame::{MemSource, Source};
 use std::alloc::{AllocError, Global};
 use std::process::Abort;
@@ -45,14 +45,21 @@ fn changed(at: usize, bytes: &[u8]) -> [u8; 37] {
 }
 
 /// The file has this fault, in pieces of 1, 2 and 3 bytes, and so many bytes are left.
-fn has_fault<R: Abort>(rt: &R, alloc: Global, file: &[u8], fault: MzFault, left: usize) {
+fn has_fault<R: Abort>(rt: &R, alloc: Global, file: &[u8], fault: FileFault, left: usize) {
     for piece in 1..4 {
-        has_answer(rt, alloc, file, piece, None, (Some(fault), left));
+        has_answer(
+            rt,
+            alloc,
+            file,
+            piece,
+            None,
+            (Some(MzFault::File(fault)), left),
+        );
     }
 }
 
 /// The small file, with the bytes of each row from its place on, has this fault, and so many bytes are left.
-fn have_faults<R: Abort>(rt: &R, alloc: Global, rows: &[(usize, [u8; 4], MzFault, usize)]) {
+fn have_faults<R: Abort>(rt: &R, alloc: Global, rows: &[(usize, [u8; 4], FileFault, usize)]) {
     for (at, bytes, fault, left) in rows {
         has_fault(rt, alloc, &changed(*at, bytes), *fault, *left);
     }
@@ -125,26 +132,41 @@ fn the_first_fault_is_named(rt: HostRuntime) {
         &rt,
         rt.alloc(),
         &[
-            (0, [0x5A, 0x4D, 0x25, 0x00], MzFault::Magic, 9),
-            (0, [0x5A, 0x5A, 0x00, 0x02], MzFault::Magic, 9),
-            (0, [0x4D, 0x00, 0x25, 0x00], MzFault::Magic, 9),
+            (0, [0x5A, 0x4D, 0x25, 0x00], FileFault::Magic, 9),
+            (0, [0x5A, 0x5A, 0x00, 0x02], FileFault::Magic, 9),
+            (0, [0x4D, 0x00, 0x25, 0x00], FileFault::Magic, 9),
             // 512 bytes on the last page, no page, more pages than there are bytes
-            (2, [0x00, 0x02, 0x01, 0x00], MzFault::Header, 9),
-            (2, [0x25, 0x00, 0x00, 0x00], MzFault::Header, 9),
-            (2, [0x25, 0x00, 0x02, 0x00], MzFault::Truncated, 0),
-            (2, [0x00, 0x00, 0xFF, 0xFF], MzFault::Truncated, 0),
+            (2, [0x00, 0x02, 0x01, 0x00], FileFault::Header, 9),
+            (2, [0x25, 0x00, 0x00, 0x00], FileFault::Header, 9),
+            (2, [0x25, 0x00, 0x02, 0x00], FileFault::Truncated, 0),
+            (2, [0x00, 0x00, 0xFF, 0xFF], FileFault::Truncated, 0),
             // a table of two entries or of 65,535, a header of 16 bytes, one of 48
-            (6, [0x02, 0x00, 0x02, 0x00], MzFault::Header, 9),
-            (6, [0xFF, 0xFF, 0x02, 0x00], MzFault::Header, 9),
-            (6, [0x00, 0x00, 0x01, 0x00], MzFault::Header, 9),
-            (6, [0x01, 0x00, 0x03, 0x00], MzFault::Header, 9),
+            (6, [0x02, 0x00, 0x02, 0x00], FileFault::Header, 9),
+            (6, [0xFF, 0xFF, 0x02, 0x00], FileFault::Header, 9),
+            (6, [0x00, 0x00, 0x01, 0x00], FileFault::Header, 9),
+            (6, [0x01, 0x00, 0x03, 0x00], FileFault::Header, 9),
             // a table among the words of the header, and one behind the header
-            (24, [0x1B, 0x00, 0x00, 0x00], MzFault::Header, 9),
-            (24, [0x1D, 0x00, 0x00, 0x00], MzFault::Header, 9),
+            (24, [0x1B, 0x00, 0x00, 0x00], FileFault::Header, 9),
+            (24, [0x1D, 0x00, 0x00, 0x00], FileFault::Header, 9),
             // the last byte of a word lies outside, or the segment does
-            (28, [0x04, 0x00, 0x00, 0x00], MzFault::RelocationOutside, 0),
-            (28, [0x00, 0x00, 0x01, 0x00], MzFault::RelocationOutside, 0),
-            (28, [0xFF, 0xFF, 0xFF, 0xFF], MzFault::RelocationOutside, 0),
+            (
+                28,
+                [0x04, 0x00, 0x00, 0x00],
+                FileFault::RelocationOutside,
+                0,
+            ),
+            (
+                28,
+                [0x00, 0x00, 0x01, 0x00],
+                FileFault::RelocationOutside,
+                0,
+            ),
+            (
+                28,
+                [0xFF, 0xFF, 0xFF, 0xFF],
+                FileFault::RelocationOutside,
+                0,
+            ),
         ],
     );
 }
@@ -153,7 +175,7 @@ fn the_first_fault_is_named(rt: HostRuntime) {
 fn is_needed<R: Abort>(rt: &R, alloc: Global, at: usize, own: u8) {
     for value in 0..=255u8 {
         if value != own {
-            has_fault(rt, alloc, &changed(at, &[value]), MzFault::Magic, 9);
+            has_fault(rt, alloc, &changed(at, &[value]), FileFault::Magic, 9);
         }
     }
 }
@@ -194,7 +216,7 @@ const TWICE: [u8; 72] = [
 ];
 
 /// Whether the file can't be loaded at a paragraph.
-fn load_fault(alloc: Global, bytes: &[u8], paragraph: u16) -> Result<Option<LoadFault>, MzFault> {
+fn load_fault(alloc: Global, bytes: &[u8], paragraph: u16) -> Result<Option<MzFault>, MzFault> {
     let file = read_mz(alloc, &mut MemSource::over(bytes, 512, None))?;
     Ok(load(alloc, &file, paragraph).err())
 }
@@ -205,7 +227,7 @@ fn fits_until<R: Abort>(rt: &R, alloc: Global, bytes: &[u8], paragraph: u16) {
     let next = load_fault(alloc, bytes, paragraph.saturating_add(1));
     assert_eq!(rt;
         (here, next),
-        (Ok(None), Ok(Some(LoadFault::DoesNotFit))),
+        (Ok(None), Ok(Some(MzFault::File(FileFault::DoesNotFit)))),
         "{paragraph}"
     );
 }
@@ -267,14 +289,14 @@ fn a_word_over_the_end_of_a_segment(rt: HostRuntime) -> Result<(), Fail> {
 Registers { cs: 1, ip: 0, ss: 1, sp: 0 }",
     );
     let wrapping = large(rt.alloc(), [0xFF, 0xFF, 0x00, 0x00])?;
-    has_fault(&rt, rt.alloc(), &wrapping, MzFault::RelocationOutside, 0);
+    has_fault(&rt, rt.alloc(), &wrapping, FileFault::RelocationOutside, 0);
     Ok(())
 }
 
 #[test]
 fn cut_off_and_longer_files(rt: HostRuntime) {
     for len in 0..37 {
-        has_fault(&rt, rt.alloc(), &SMALL[..len], MzFault::Truncated, 0);
+        has_fault(&rt, rt.alloc(), &SMALL[..len], FileFault::Truncated, 0);
     }
     let mut longer = [5; 42];
     longer[..37].copy_from_slice(&SMALL);
@@ -290,7 +312,7 @@ fn a_failing_read(rt: HostRuntime) {
             &SMALL,
             1,
             Some(call as u64),
-            (Some(MzFault::Device), 38 - call),
+            (Some(MzFault::File(FileFault::Device)), 38 - call),
         );
     }
     has_answer(&rt, rt.alloc(), &SMALL, 1, Some(38), (None, 0));

@@ -8,7 +8,7 @@ use Rattle.omf_module.specs.declared.fault.FaultKind.{FaultKind}
 use Rattle.omf_module.specs.declared.fault.FaultKind.TheVariants as kind
 use Rattle.omf_module.specs.declared.fault.ModuleFault.{ModuleFault}
 use Rattle.omf_place.specs.declared.names.Names.{Names}
-use Rattle.omf_faults.specs.declared.fault.FileFault.{FileFault}
+use Rattle.mz.specs.declared.fault.FileFault.{FileFault}
 use Rattle.omf_faults.specs.declared.fault.ProgramFault.{ProgramFault}
 use Rattle.omf_faults.specs.declared.fault.LinkFault.{LinkFault}
 use Rattle.omf_faults.specs.declared.fault.LinkFault.TheVariants as link

@@ -6,14 +6,13 @@ use Rattle.std.specs.declared.result.Result.{Result}
 use Rattle.std.specs.List.{concat, flat_map, range_with_len}
 use Rattle.std.specs.Io.KnownBytes.{Appends, Keeps}
 use Rattle.omf_frame.specs.Device.{AppendsFront}
+use Rattle.mz.specs.declared.fault.FileFault.{FileFault}
+use Rattle.mz.specs.declared.fault.FileFault.TheVariants.{DoesNotFit}
 use Rattle.mz.specs.declared.fault.MzFault.{MzFault}
-use Rattle.mz.specs.declared.fault.MzFault.TheVariants as reading_fault
-use Rattle.mz.specs.declared.fault.LoadFault.TheVariants as loading_fault
+use Rattle.mz.specs.declared.fault.MzFault.TheVariants as mz_fault
 use Rattle.mz.specs.File.{MzFile}
 use Rattle.mz.specs.Reading.{reading, Gives, Takes}
 use Rattle.mz.specs.Loading.{Loaded, loading}
-use Rattle.omf_faults.specs.declared.fault.FileFault.{FileFault}
-use Rattle.omf_faults.specs.declared.fault.FileFault.TheVariants as file
 use Rattle.omf_faults.specs.declared.fault.LinkFault.{LinkFault}
 use Rattle.omf_faults.specs.declared.fault.LinkFault.TheVariants as link
 use Rattle.omf_text.specs.Printing.{hexadecimal}
@@ -55,13 +54,9 @@ IsLoaded paragraph old new loaded = (mz : MzFile) × IsFile old new mz × (loadi
 
 -- why a file isn't loaded
 abbrev pub IsFileFault : (paragraph : ℕ) (old new : Option (List ℕ)) → FileFault → Type 0
-IsFileFault paragraph old new file.Magic = IsNoFile old new reading_fault.Magic
-IsFileFault paragraph old new file.Header = IsNoFile old new reading_fault.Header
-IsFileFault paragraph old new file.Truncated = IsNoFile old new reading_fault.Truncated
-IsFileFault paragraph old new file.RelocationOutside = IsNoFile old new reading_fault.RelocationOutside
-IsFileFault paragraph old new file.DoesNotFit =
-    (mz : MzFile) × IsFile old new mz × (loading paragraph mz ≡ Err loading_fault.DoesNotFit)
-IsFileFault paragraph old new file.Device = IsNoFile old new reading_fault.Device
+IsFileFault paragraph old new DoesNotFit =
+    (mz : MzFile) × IsFile old new mz × (loading paragraph mz ≡ Err DoesNotFit)
+IsFileFault paragraph old new fault = IsNoFile old new (mz_fault.File fault)
 
 -- Loading the file that a source gives at a paragraph: what is told of the source and of the sink before and after, and
 -- the answer. Nothing is written after a refusal but the sink's own.
@@ -72,7 +67,7 @@ LoadsFile paragraph old new wold wnew (Ok done) =
 LoadsFile paragraph old new wold wnew (Err link.Output) =
     (loaded : Loaded) × IsLoaded paragraph old new loaded × AppendsFront wold wnew (listing paragraph loaded)
 LoadsFile paragraph old new wold wnew (Err link.Memory) =
-    (IsNoFile old new reading_fault.Memory ⊎ ((loaded : Loaded) × IsLoaded paragraph old new loaded)) × Keeps wold wnew
+    (IsNoFile old new mz_fault.Memory ⊎ ((loaded : Loaded) × IsLoaded paragraph old new loaded)) × Keeps wold wnew
 LoadsFile paragraph old new wold wnew (Err (link.File fault)) = IsFileFault paragraph old new fault × Keeps wold wnew
 LoadsFile paragraph old new wold wnew (Err (link.Device input place)) = ⊥
 LoadsFile paragraph old new wold wnew (Err (link.Record input place fault)) = ⊥

@@ -11,8 +11,8 @@ use Rattle.omf_record.specs.declared.fault.NoRecord.TheVariants.{Framing}
 use Rattle.omf_frame.specs.Reading.{TakesWhole, TakesNoneOrWhole, TakesPart}
 use Rattle.omf_faults.specs.declared.fault.InputFault.{InputFault}
 use Rattle.omf_faults.specs.declared.fault.InputFault.TheVariants as fault
-use Rattle.omf_faults.specs.declared.fault.FileFault.{FileFault}
-use Rattle.omf_faults.specs.declared.fault.FileFault.TheVariants as file
+use Rattle.mz.specs.declared.fault.FileFault.{FileFault}
+use Rattle.mz.specs.declared.fault.FileFault.TheVariants as file
 use Rattle.omf_faults.specs.declared.fault.LinkFault.{LinkFault}
 use Rattle.omf_faults.specs.declared.fault.LinkFault.TheVariants as link
 use Rattle.omf_commands.specs.declared.records.Form.TheVariants.{Rewriting}
@@ -21,11 +21,7 @@ use Rattle.omf_commands.specs.Records.{output, rewritten, says_of, FaultAt, IsRe
 -- how many calls of the source failed, where the fault is of a program's file
 abbrev pub file_failures : FileFault → ℕ
 file_failures file.Device = 1
-file_failures file.Magic = 0
-file_failures file.Header = 0
-file_failures file.Truncated = 0
-file_failures file.RelocationOutside = 0
-file_failures file.DoesNotFit = 0
+file_failures _ = 0
 
 -- how many calls of the source failed, by the answer
 abbrev pub source_failures : {T A : Type 0} → Result T (LinkFault A) → ℕ

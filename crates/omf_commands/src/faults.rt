@@ -2,11 +2,10 @@
 //! takes; `fault_at` takes what is wrong at a place.
 ghost use Rattle.std.specs.Prelude.{◌≡◌};
 ghost use Rattle.omf_commands.specs.Faults.{fault_at, module_fault};
-ghost use Rattle.omf_commands.specs.inside.Faults.{fix_fault, frame_fault, load_fault, mz_fault, place_fault};
-ghost use Rattle.omf_commands.specs.inside.Faults.{record_fault};
+ghost use Rattle.omf_commands.specs.inside.Faults.{fix_fault, frame_fault, mz_fault, place_fault, record_fault};
 
-use mz::{LoadFault, MzFault};
-use omf_faults::{FileFault, InputFault, LinkFault, ProgramFault};
+use mz::MzFault;
+use omf_faults::{InputFault, LinkFault, ProgramFault};
 use omf_frame::FrameFault;
 use omf_image::FixFault;
 use omf_module::{FaultKind, ModuleFault};
@@ -100,26 +99,12 @@ pub(crate) fn fix_fault<A: Allocator + Copy>(fault: FixFault) -> LinkFault<A>
     }
 }
 
-/// A fault of reading a program's file, which is the only input.
+/// A fault of reading or loading a program's file, which is the only input.
 pub(crate) fn mz_fault<A: Allocator + Copy>(fault: MzFault) -> LinkFault<A>
     ensures { result ≡ mz_fault fault }
 {
     match fault {
-        MzFault::Magic => LinkFault::File(FileFault::Magic),
-        MzFault::Header => LinkFault::File(FileFault::Header),
-        MzFault::Truncated => LinkFault::File(FileFault::Truncated),
-        MzFault::RelocationOutside => LinkFault::File(FileFault::RelocationOutside),
-        MzFault::Device => LinkFault::File(FileFault::Device),
+        MzFault::File(fault) => LinkFault::File(fault),
         MzFault::Memory => LinkFault::Memory,
-    }
-}
-
-/// A fault of loading a program's file, which is the only input.
-pub(crate) fn load_fault<A: Allocator + Copy>(fault: LoadFault) -> LinkFault<A>
-    ensures { result ≡ load_fault fault }
-{
-    match fault {
-        LoadFault::DoesNotFit => LinkFault::File(FileFault::DoesNotFit),
-        LoadFault::Memory => LinkFault::Memory,
     }
 }

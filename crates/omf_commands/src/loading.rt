@@ -4,7 +4,7 @@ ghost use Rattle.omf_frame.specs.Device.{Writes};
 ghost use Rattle.omf_commands.specs.Loading.{LoadsFile, bytes_line, bytes_lines, listing, registers_line};
 ghost use Rattle.omf_commands.specs.Reading.{sink_failures, source_failures};
 
-use crate::faults::{load_fault, mz_fault};
+use crate::faults::mz_fault;
 use mz::{Loaded, load, read_mz};
 use omf_faults::LinkFault;
 use omf_frame::{IoFault, Sink, Source, put_all};
@@ -106,7 +106,7 @@ pub fn load_file<S: Source, K: Sink, A: Allocator + Copy>(
     };
     let loaded = match load(alloc, &file, paragraph) {
         Ok(loaded) => loaded,
-        Err(fault) => return Err(load_fault(fault)),
+        Err(fault) => return Err(mz_fault(fault)),
     };
     match put_loaded(sink, paragraph, &loaded) {
         Ok(()) => Ok(()),

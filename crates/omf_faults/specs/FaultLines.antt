@@ -8,13 +8,12 @@ use Rattle.omf_record.specs.Labels.{no_record_label}
 use Rattle.omf_record.specs.declared.fault.NoRecord.TheVariants as absent
 use Rattle.omf_module.specs.Labels.{check_label}
 use Rattle.omf_image.specs.Labels.{fix_label}
+use Rattle.mz.specs.Labels.{file_label}
 use Rattle.omf_text.specs.Printing.{printed_name}
 use Rattle.omf_faults.specs.declared.fault.InputFault.{InputFault}
 use Rattle.omf_faults.specs.declared.fault.InputFault.TheVariants as fault
 use Rattle.omf_faults.specs.declared.fault.ProgramFault.{ProgramFault}
 use Rattle.omf_faults.specs.declared.fault.ProgramFault.TheVariants as program
-use Rattle.omf_faults.specs.declared.fault.FileFault.{FileFault}
-use Rattle.omf_faults.specs.declared.fault.FileFault.TheVariants as file
 use Rattle.omf_faults.specs.declared.fault.LinkFault.{LinkFault}
 use Rattle.omf_faults.specs.declared.fault.LinkFault.TheVariants as link
 
@@ -44,15 +43,6 @@ name_at_fault program.ProgramTooLarge = None
 name_at_fault (program.GroupTooLong name) = Some name.items
 name_at_fault (program.DuplicatePublic name) = Some name.items
 name_at_fault program.TooManyRelocations = None
-
--- the number and the name of a fault of a program's file
-abbrev pub file_label : FileFault → ℕ × List ℕ
-file_label file.Magic = (35, codes "Magic")
-file_label file.Header = (36, codes "Header")
-file_label file.Truncated = (37, codes "Truncated")
-file_label file.RelocationOutside = (38, codes "RelocationOutside")
-file_label file.DoesNotFit = (39, codes "DoesNotFit")
-file_label file.Device = (40, codes "Device")
 
 -- a fault's number; want of memory has none
 abbrev pub number : {A : Type 0} → LinkFault A → Option ℕ

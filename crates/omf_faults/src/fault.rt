@@ -4,6 +4,7 @@ ghost use Rattle.omf_faults.specs.declared.fault.LinkFault.TheVariants.{Memory};
 ghost use Rattle.omf_faults.specs.FaultLines as spec;
 ghost use Rattle.omf_faults.specs.FaultLines.{text_of};
 
+use mz::FileFault;
 use omf_image::FixKind;
 use omf_module::CheckFault;
 use omf_record::NoRecord;
@@ -43,29 +44,6 @@ pub enum ProgramFault<A: Allocator + Copy = Global> {
     /// 34: there are more than 65,535 relocated words.
     #[error("too many relocated words")]
     TooManyRelocations,
-}
-
-/// What is wrong with a program's file, or with loading it.
-#[derive(Clone, Copy, Debug, PartialEq, Eq, Error)]
-pub enum FileFault {
-    /// 35: the file doesn't begin with the bytes `4D 5A`.
-    #[error("it doesn't begin with MZ")]
-    Magic,
-    /// 36: the words of its header contradict one another.
-    #[error("its header isn't accepted")]
-    Header,
-    /// 37: it is shorter than its header tells.
-    #[error("it is cut off")]
-    Truncated,
-    /// 38: an entry of its relocation table lies outside the image.
-    #[error("a relocation lies outside the image")]
-    RelocationOutside,
-    /// 39: the image would end above the memory of 1,048,576 bytes.
-    #[error("it doesn't fit at the paragraph")]
-    DoesNotFit,
-    /// 40: reading it failed.
-    #[error("it failed")]
-    Device,
 }
 
 /// Why a command stopped.
@@ -155,23 +133,6 @@ impl<A: Allocator + Copy> ProgramFault<A> {
             ProgramFault::GroupTooLong(name) => Some(name),
             ProgramFault::DuplicatePublic(name) => Some(name),
             ProgramFault::ProgramTooLarge | ProgramFault::TooManyRelocations => None,
-        }
-    }
-}
-
-impl FileFault {
-    /// The number and the name that the fault is printed with.
-    pub fn label(self) -> (u8, &'static str)
-        ensures number { result.0 ≡ (spec.file_label self).0 }
-        ensures name { result.1.now ≡ (spec.file_label self).1 }
-    {
-        match self {
-            FileFault::Magic => (35, "Magic"),
-            FileFault::Header => (36, "Header"),
-            FileFault::Truncated => (37, "Truncated"),
-            FileFault::RelocationOutside => (38, "RelocationOutside"),
-            FileFault::DoesNotFit => (39, "DoesNotFit"),
-            FileFault::Device => (40, "Device"),
         }
     }
 }

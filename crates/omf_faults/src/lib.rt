@@ -5,5 +5,5 @@
 mod fault;
 mod lines;
 
-pub use fault::{FileFault, InputFault, LinkFault, ProgramFault, status};
+pub use fault::{InputFault, LinkFault, ProgramFault, status};
 pub use lines::fault_line;

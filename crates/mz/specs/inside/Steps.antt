@@ -8,8 +8,10 @@ use Rattle.std.specs.declared.result.Result.{Result}
 use Rattle.std.specs.Io.KnownBytes.{Consumes, IsAtEnd}
 use Rattle.omf_image.specs.Words.{word_at}
 use Rattle.mz.specs.declared.format.Header.{Header as HeaderWords}
+use Rattle.mz.specs.declared.fault.FileFault.{FileFault}
+use Rattle.mz.specs.declared.fault.FileFault.TheVariants.{Magic, Header, Truncated, RelocationOutside, Device}
 use Rattle.mz.specs.declared.fault.MzFault.{MzFault}
-use Rattle.mz.specs.declared.fault.MzFault.TheVariants.{Magic, Header, Truncated, RelocationOutside, Device, Memory}
+use Rattle.mz.specs.declared.fault.MzFault.TheVariants.{File, Memory}
 use Rattle.mz.specs.Header.{magic, header_at, header_len, told_len, is_accepted, is_inside}
 use Rattle.mz.specs.File.{MzFile}
 use Rattle.mz.specs.Reading.{entries_at, file_of}
@@ -24,10 +26,10 @@ pub record ReadsOn (len : ℕ) (old new : Option (List ℕ)) (before after : Lis
 
 -- the source failed, or there was no memory
 abbrev pub Stops : MzFault → Type 0
-Stops e = (e ≡ Device) ⊎ (e ≡ Memory)
+Stops e = (e ≡ File Device) ⊎ (e ≡ Memory)
 
 -- whether a fault stands in a file
-unfoldable pub stands : MzFault → List ℕ → Bool
+unfoldable pub stands : FileFault → List ℕ → Bool
 stands Magic bytes = nat_le 2 (length bytes) && not (word_at bytes 0 == magic)
 stands Header bytes = nat_le 28 (length bytes) && not (is_accepted (header_at bytes))
 stands Truncated bytes = nat_lt (length bytes) 28 || nat_lt (length bytes) (told_len (header_at bytes))
@@ -35,7 +37,7 @@ stands RelocationOutside bytes = not (list_all (is_inside (length (file_of bytes
 stands _ bytes = false
 
 -- the header in the first bytes of a file, 28 or all that there are
-abbrev pub header_in : List ℕ → Result HeaderWords MzFault
+abbrev pub header_in : List ℕ → Result HeaderWords FileFault
 header_in xs =
     if nat_le 2 (length xs) && not (word_at xs 0 == magic) then Err Magic
     else if nat_lt (length xs) 28 then Err Truncated
@@ -43,7 +45,7 @@ header_in xs =
     else Err Header
 
 -- what a file of this header holds, or that an entry lies outside
-abbrev pub file_in : HeaderWords → List ℕ → Result MzFile MzFault
+abbrev pub file_in : HeaderWords → List ℕ → Result MzFile FileFault
 file_in h xs =
     let entries = entries_at h.relocation_count h.relocation_table xs in
     let image = drop (header_len h) xs in

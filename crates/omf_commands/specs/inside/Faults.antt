@@ -10,12 +10,9 @@ use Rattle.omf_place.specs.declared.faults.PlaceFault.TheVariants as place
 use Rattle.omf_image.specs.declared.faults.FixFault.{FixFault}
 use Rattle.omf_image.specs.declared.faults.FixFault.TheVariants as build
 use Rattle.mz.specs.declared.fault.MzFault.{MzFault}
-use Rattle.mz.specs.declared.fault.MzFault.TheVariants as file_fault
-use Rattle.mz.specs.declared.fault.LoadFault.{LoadFault}
-use Rattle.mz.specs.declared.fault.LoadFault.TheVariants as loading
+use Rattle.mz.specs.declared.fault.MzFault.TheVariants as mz
 use Rattle.omf_faults.specs.declared.fault.InputFault.TheVariants as fault
 use Rattle.omf_faults.specs.declared.fault.ProgramFault.TheVariants as program
-use Rattle.omf_faults.specs.declared.fault.FileFault.TheVariants as file
 use Rattle.omf_faults.specs.declared.fault.LinkFault.{LinkFault}
 use Rattle.omf_faults.specs.declared.fault.LinkFault.TheVariants as link
 
@@ -46,16 +43,7 @@ fix_fault (build.At kind input place) = link.Record input place (fault.Fix kind)
 fix_fault build.TooManyRelocations = link.Program program.TooManyRelocations
 fix_fault build.Memory = link.Memory
 
--- a fault of reading a program's file, which is the only input
+-- a fault of reading or loading a program's file, which is the only input
 abbrev pub mz_fault : {A : Type 0} → MzFault → LinkFault A
-mz_fault file_fault.Magic = link.File file.Magic
-mz_fault file_fault.Header = link.File file.Header
-mz_fault file_fault.Truncated = link.File file.Truncated
-mz_fault file_fault.RelocationOutside = link.File file.RelocationOutside
-mz_fault file_fault.Device = link.File file.Device
-mz_fault file_fault.Memory = link.Memory
-
--- a fault of loading a program's file, which is the only input
-abbrev pub load_fault : {A : Type 0} → LoadFault → LinkFault A
-load_fault loading.DoesNotFit = link.File file.DoesNotFit
-load_fault loading.Memory = link.Memory
+mz_fault (mz.File fault') = link.File fault'
+mz_fault mz.Memory = link.Memory

@@ -3,7 +3,7 @@ use Rattle.std.specs.List.{list_all}
 use Rattle.std.proofs.lemmas.Bool.{cond-true}
 use Rattle.mz.specs.declared.format.Header.{Header}
 use Rattle.mz.specs.declared.format.Entry.{Entry}
-use Rattle.mz.specs.declared.fault.MzFault.{MzFault}
+use Rattle.mz.specs.declared.fault.FileFault.{FileFault}
 use Rattle.mz.specs.Header.{header_len, is_inside}
 use Rattle.mz.specs.File.{MzFile}
 use Rattle.mz.specs.Reading.{entries_at}
@@ -20,7 +20,7 @@ file_is : (h : Header) (bs : List ℕ) (es : List Entry) → es ≡ entries_at h
     → list_all (is_inside (length bs - header_len h)) es ≡ true
     → file_in h bs ≡ Ok (record { header = h; entries = es; image = drop (header_len h) bs })
 file_is h bs es e t =
-    let made : List Entry → Result MzFile MzFault =
+    let made : List Entry → Result MzFile FileFault =
     λ l. Ok (record { header = h; entries = l; image = drop (header_len h) bs }) in
     let inside : list_all (is_inside (length (drop (header_len h) bs)))
     (entries_at h.relocation_count h.relocation_table bs) ≡ true =
