@@ -25,7 +25,8 @@ telling fault = (number fault, input fault, fault_line fault)
 
 -- A fault stands in these inputs behind those that are modules of `before`: the reading fault of the first that has
 -- one, else the first fault of the modules of all.
-abbrev pub StandsBehind : {A : Type 0} → Names → List (List Placed) → List (List ℕ) → LinkFault A → Type 0
+abbrev pub StandsBehind : {A : Type 0} → Names → (before : List (List Placed)) → (inputs : List (List ℕ)) → LinkFault A
+    → Type 0
 StandsBehind names before [] fault = IsModulesFault names (map module_of before) fault
 StandsBehind names before (bytes ∷ inputs) fault =
     ((place : ℕ) × (kind : FaultKind) × ReadingFault bytes place kind × (fault ≡ fault_at (length before) place kind))

@@ -78,7 +78,8 @@ too_far _ _ reference positions start = false
 
 -- The first test that is true of a fix-up whose frame and target are known: of its range, at the positions of its
 -- location, and of what it adds there after earlier patches of its data record.
-abbrev pub first_test : Resolved → Bool → Location → (start : ℕ) → List ℕ → (earlier : List Patch) → Option FixKind
+abbrev pub first_test : Resolved → (self_relative : Bool) → Location → (start : ℕ) → (positions : List ℕ)
+    → (earlier : List Patch) → Option FixKind
 first_test reference self_relative location start positions earlier =
     first (then_some (is_mixed self_relative location reference) Mixed
     ∷ then_some (out_of_frame self_relative location reference positions start) OutOfFrame

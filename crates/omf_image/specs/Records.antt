@@ -55,7 +55,8 @@ meaning layout entry fixup =
 
 -- what a fix-up whose frame and target are known adds where its location stands at these positions of data that begins
 -- at the address start
-abbrev pub patches_on : (P : ℕ) → Resolved → Bool → Location → (start : ℕ) → (positions : List ℕ) → List Patch
+abbrev pub patches_on : (P : ℕ) → Resolved → (self_relative : Bool) → Location → (start : ℕ) → (positions : List ℕ)
+    → List Patch
 patches_on P reference self_relative location start positions =
     flat_map (λ i. patches_at P reference self_relative location i (start + i)) positions
 
