@@ -44,8 +44,8 @@ placement_fault names program addresses size =
     (option_or (if nat_lt 1048560 size then Some ProgramTooLarge else None)
     (option_or (group_fault program addresses) (duplicate_in names (placed_publics program addresses))))
 
--- What a program is placed as, under a choice of which names of publics agree. Its parts start at these addresses by the
--- rules, and at no others; then it is the first fault, and the layout at these addresses where no fault stands.
+-- What a program is placed as, under a choice of which names of publics agree. By the rules its parts start at these
+-- addresses and at no others; it is the first fault there, and where no fault stands the layout.
 abbrev pub IsPlacedAs : Names → List Module → Result Layout PlacementFault → Type 0
 IsPlacedAs names program given = (addresses : List ℕ) × (size : ℕ) × IsPlaced (sites program) addresses size
     × ((others : List ℕ) (end : ℕ) → IsPlaced (sites program) others end → (others ≡ addresses) × (end ≡ size))
