@@ -35,3 +35,6 @@ returns g c =
     (ap (map declared_said)
     (take_all c.loop-each.each-index c.deref-each-items.result.now (omega arith) ∙ c.deref-each-items.ensures.value)
     ∙ c.in_ok-declared.ensures)
+
+pub loop-each-init : goal.loop-each-init
+loop-each-init g c = ap (map declared_said) c.new-wanted.ensures.items
