@@ -6,7 +6,8 @@ ghost use Rattle.omf_communal.specs.inside.Views.{entry_said, extent_said};
 
 use crate::declarations::{Entry, Extent};
 use crate::fault::EntryFault;
-use crate::fields::{take_index, take_name, take_number};
+use crate::fields::{take_name, take_number};
+use omf_library::take_index;
 
 /// The length of a near variable.
 fn take_near(bytes: &[u8]) -> Result<(Extent, &[u8]), EntryFault>

@@ -1,11 +1,11 @@
 //! Fields at the front of an entry of COMDEF (TIS OMF 1.1, "Frequent Object Record Subfields" and "COMDEF").
 
 ghost use Rattle.std.specs.Prelude.{◌≡◌, ◌<◌, ◌≤◌, length, IfSome};
-ghost use Rattle.omf_library.specs.Fields.{name_front, index_front};
+ghost use Rattle.omf_library.specs.Fields.{name_front};
+ghost use Rattle.omf_library.specs.Said.{name_said, number_said};
 ghost use Rattle.omf_communal.specs.Fields.{number_front, two_front, three_front, four_front};
-ghost use Rattle.omf_communal.specs.inside.Views.{name_said, number_said};
 
-use omf_frame::{read_index, read_name};
+use omf_frame::read_name;
 
 /// The name at the front of the bytes. None where the bytes end inside it.
 pub(crate) fn take_name(bytes: &[u8]) -> Option<(&[u8], &[u8])>
@@ -15,15 +15,6 @@ pub(crate) fn take_name(bytes: &[u8]) -> Option<(&[u8], &[u8])>
 {
     let (name, len) = read_name(bytes)?;
     Some((name, &bytes[len..]))
-}
-
-/// The index at the front of the bytes. None where the bytes end inside it.
-pub(crate) fn take_index(bytes: &[u8]) -> Option<(u16, &[u8])>
-    ensures index { number_said result ≡ index_front bytes.now }
-    ensures no_longer { IfSome result (λ x. length x.1.now ≤ length bytes.now) }
-{
-    let (index, len) = read_index(bytes)?;
-    Some((index, &bytes[len..]))
 }
 
 /// The number of two bytes, the low one first.

@@ -1,25 +1,16 @@
 //! Names as keys that agree by a choice.
 
-ghost use Rattle.std.specs.Prelude.{◌≡◌, drop};
+ghost use Rattle.std.specs.Prelude.{◌≡◌};
 ghost use Rattle.std.proofs.Common.{ap};
 ghost use Rattle.std.specs.Cmp.{partial_equiv_from_equiv};
 ghost use Rattle.std.specs.Cmp.Lexicographic.{on_texts_equal, bytes_decides};
 ghost use Rattle.std.specs.Hash as fed;
 ghost use Rattle.std.specs.List.{flat_map, fold};
 ghost use Rattle.omf_place.specs.inside.Named.{folded};
-ghost use Rattle.omf_communal.specs.inside.Keys.{key_of, key_text, same_key};
+ghost use Rattle.omf_communal.specs.inside.Keys.{key_of, key_text, same_key, text_fed};
 
 use omf_place::Names;
 use std::hash::{Hash, Hasher};
-
-/// Feeds a hasher a name.
-fn feed<H: Hasher>(state: &mut H, name: &[u8])
-    ensures { state.new ≡ fold H.write state.old (flat_map fed.u8 name.now) }
-{
-    for byte in name {
-        state.write_u8(*byte);
-    }
-}
 
 /// Feeds a hasher a name in lower case.
 fn feed_folded<H: Hasher>(state: &mut H, name: &[u8])
@@ -68,14 +59,13 @@ impl<'a> Eq for Key<'a> {
 }
 
 impl<'a> Hash for Key<'a> {
-    ghost hash_input = { λ x. flat_map fed.u8 (drop 1 (key_text x)) };
+    ghost hash_input = { λ x. text_fed (key_text x) };
 
-    ghost respects_eq = { λ x y h.
-        ap (λ t. flat_map fed.u8 (drop 1 t)) ((bytes_decides (key_text x) (key_text y)).0 h) };
+    ghost respects_eq = { λ x y h. ap text_fed ((bytes_decides (key_text x) (key_text y)).0 h) };
 
     fn hash<H: Hasher>(&self, state: &mut H) {
         match self {
-            Key::Exact(name) => feed(state, name),
+            Key::Exact(name) => state.write(name),
             Key::AsciiFolded(name) => feed_folded(state, name),
         }
     }

@@ -1,6 +1,6 @@
 //! The communal variables that the modules of a program declare, and the names that they offer.
 
-ghost use Rattle.std.specs.Prelude.{◌≡◌, ◌++◌, ◌||◌, ℕ, List, IfOk, OnOk, map};
+ghost use Rattle.std.specs.Prelude.{◌≡◌, ◌++◌, ◌||◌, ℕ, Bool, List, IfOk, OnOk, filter, map, not};
 ghost use Rattle.std.specs.Borrow.{Bor};
 ghost use Rattle.std.specs.List.{enumerate_from, list_any};
 ghost use Rattle.indexmap.specs.IndexSet.{contains};
@@ -100,6 +100,27 @@ fn is_offered<'a, A: Allocator + Copy>(
     offered.contains(&Key::new(names, name))
 }
 
+/// Those of some declarations whose names aren't offered, in their order.
+fn unoffered<'a, A: Allocator + Copy>(
+    alloc: A,
+    names: Names,
+    offered: &NameSet<'a, A>,
+    declared: &[Declared<'a>],
+) -> Result<Vec<Declared<'a>, A>, AllocError>
+    // By whatever says of each name whether it is offered.
+    ensures { IfOk result (λ v. (offers : List ℕ → Bool) →
+        ((q : Bor (List ℕ)) → contains same_key offered.now (key_of names q) ≡ offers q.now) →
+        map declared_said v.items ≡ filter (λ d. not (offers d.name)) (map declared_said declared.now)) }
+{
+    let mut wanted = Vec::new(alloc);
+    for each in declared {
+        if !is_offered(offered, names, each.name) {
+            wanted.push(*each)?;
+        }
+    }
+    Ok(wanted)
+}
+
 /// What modules declare and none offers, in their order.
 pub(crate) fn wanted<'a, A: Allocator + Copy>(
     alloc: A,
@@ -110,11 +131,5 @@ pub(crate) fn wanted<'a, A: Allocator + Copy>(
 {
     let offered = offered_names(alloc, names, modules)?;
     let declared = all_declared(alloc, modules)?;
-    let mut wanted = Vec::new(alloc);
-    for each in &declared {
-        if !is_offered(&offered, names, each.name) {
-            wanted.push(*each)?;
-        }
-    }
-    Ok(wanted)
+    unoffered(alloc, names, &offered, &declared)
 }

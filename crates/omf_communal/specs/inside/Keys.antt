@@ -1,6 +1,8 @@
 -- Names as keys.
-use Rattle.std.specs.Prelude.{ℕ, Bool, List, ◌∷◌}
+use Rattle.std.specs.Prelude.{ℕ, zero, suc, Bool, List, [], ◌∷◌}
 use Rattle.std.specs.Borrow.{Bor}
+use Rattle.std.specs.Hash as fed
+use Rattle.std.specs.List.{flat_map}
 use Rattle.std.specs.Str.{bytes_eq}
 use Rattle.omf_place.specs.inside.Named.{folded}
 use Rattle.omf_place.specs.declared.names.Names.{Names}
@@ -12,6 +14,12 @@ use Rattle.omf_communal.specs.declared.key.Key.TheVariants.{Exact, AsciiFolded}
 abbrev pub key_text : Key → List ℕ
 key_text (Exact name) = 0 ∷ name.now
 key_text (AsciiFolded name) = 1 ∷ folded name.now
+
+-- what of it a hasher is fed, by its text: a name that counts byte for byte whole, a folded one in single bytes
+abbrev pub text_fed : List ℕ → List (List ℕ)
+text_fed [] = []
+text_fed (zero ∷ name) = name ∷ []
+text_fed (suc choice ∷ name) = flat_map fed.u8 name
 
 -- two keys are one
 abbrev pub same_key : Key → Key → Bool

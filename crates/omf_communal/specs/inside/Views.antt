@@ -1,22 +1,11 @@
 -- Answers of the program without where their bytes lie in memory.
-use Rattle.std.specs.Prelude.{ℕ, List, Some, None, Ok, Err}
-use Rattle.std.specs.declared.option.Option.{Option}
+use Rattle.std.specs.Prelude.{ℕ, List, Ok, Err}
 use Rattle.std.specs.declared.result.Result.{Result}
 use Rattle.std.specs.Borrow.{Bor}
 use Rattle.omf_communal.specs.declared.declarations.Entry as lent
 use Rattle.omf_communal.specs.declared.declarations.Extent.{Extent}
 use Rattle.omf_communal.specs.declared.fault.EntryFault.{EntryFault}
 use Rattle.omf_communal.specs.Entries.{Entry}
-
--- bytes, and the bytes behind a field
-abbrev pub name_said : Option (Bor (List ℕ) × Bor (List ℕ)) → Option (List ℕ × List ℕ)
-name_said None = None
-name_said (Some (x, rest)) = Some (x.now, rest.now)
-
--- a number, and the bytes behind its field
-abbrev pub number_said : Option (ℕ × Bor (List ℕ)) → Option (ℕ × List ℕ)
-number_said None = None
-number_said (Some (n, rest)) = Some (n, rest.now)
 
 -- an extent, and the bytes behind it
 abbrev pub extent_said : Result (Extent × Bor (List ℕ)) EntryFault → Result (Extent × List ℕ) EntryFault

@@ -1,4 +1,6 @@
-use Rattle.std.proofs.Common.{◌∙◌, sym}
+use Rattle.std.proofs.Common.{◌∙◌, ap, arith, refl, sym}
+use Rattle.std.proofs.lemmas.List.{take_all}
+use Rattle.std.specs.List.{list_any}
 use Rattle.omf_module.specs.Seen.{group_seen}
 use Rattle.omf_module.specs.Sound.{GroupFits}
 use Rattle.omf_place.proofs.SiteLists.{All-at_get}
@@ -22,3 +24,13 @@ pub loop-index-preserved : goal.loop-index-preserved
 loop-index-preserved g c =
     any_kept (is_in_group c.args.from.now.segments) c.args.from.now.groups c.loop-index.index _ c.group-group.ensures
     c.loop-index.invariant (sym c.is_in_group.ensures ∙ c.if-is_in_group.false)
+
+pub loop-index-init : goal.loop-index-init
+loop-index-init g c = refl
+
+pub returns : goal.returns
+returns g c =
+    let m = c.args.from.now in
+    sym
+    (ap (list_any (is_in_group m.segments)) (sym (take_all c.loop-index.index m.groups (omega arith)))
+    ∙ c.loop-index.invariant)

@@ -1,3 +1,8 @@
+use Rattle.std.proofs.Common.{◌∙◌, ◌||◌, ap, arith}
+use Rattle.std.proofs.lemmas.List.{take_all}
+use Rattle.std.specs.List.{list_any}
+use Rattle.omf_place.specs.Names.{agrees}
+use Rattle.omf_communal.specs.Modules.{bytes_of}
 use Rattle.indexmap.specs.IndexSet.{contains}
 use Rattle.omf_communal.specs.inside.Keys.{key_of, same_key}
 use Rattle.omf_communal.proofs.Listing.{offered-turn}
@@ -11,3 +16,10 @@ loop-name-preserved g c = λ q.
     (contains same_key c.insert.new.self (key_of c.args.names q))
     c.loop-name-test.true c.new.ensures (c.loop-name.invariant q)
     (c.in_ok-insert.ensures.updates.0 (key_of c.args.names q))
+
+pub returns : goal.returns
+returns g c = λ q.
+    c.loop-name.invariant q
+    ∙ ap (λ ns. contains same_key c.args.offered.now (key_of c.args.names q)
+    || list_any (agrees c.args.names q.now) (bytes_of ns))
+    (take_all c.loop-name.name-index c.args.more.now (omega arith))
