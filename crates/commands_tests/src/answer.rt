@@ -106,36 +106,6 @@ fn linked<A: Allocator + Copy>(
     link(alloc, sources, sink, options)
 }
 
-/// Links, and lets go of what is told of it.
-fn link_alone<A: Allocator + Copy>(
-    alloc: A,
-    options: &Options,
-    sources: &mut [MemSource<'_>],
-    sink: &mut MemSink<'_>,
-) -> Result<(), LinkFault<A>>
-    requires sources { All (λ s. s.failures < 2 ^ 64 - 1) sources.old }
-    requires sink { sink.old.failures < 2 ^ 64 - 1 }
-{
-    linked(alloc, options, sources, sink)?;
-    Ok(())
-}
-
-/// Links into a sink, and writes the map into another one.
-fn map_behind<A: Allocator + Copy>(
-    alloc: A,
-    options: &Options,
-    sources: &mut [MemSource<'_>],
-    file: &mut MemSink<'_>,
-    sink: &mut MemSink<'_>,
-) -> Result<(), LinkFault<A>>
-    requires sources { All (λ s. s.failures < 2 ^ 64 - 1) sources.old }
-    requires file { file.old.failures < 2 ^ 64 - 1 }
-    requires sink { sink.old.failures < 2 ^ 64 - 1 }
-{
-    let report = linked(alloc, options, sources, file)?;
-    write_map(&report, sink)
-}
-
 /// Links into memory, and writes the map.
 fn map<A: Allocator + Copy>(
     alloc: A,
@@ -148,7 +118,8 @@ fn map<A: Allocator + Copy>(
 {
     let mut room = vec![in alloc; 0u8; ROOM]?;
     let mut file = MemSink::over(&mut room, ROOM);
-    map_behind(alloc, options, sources, &mut file, sink)
+    let report = linked(alloc, options, sources, &mut file)?;
+    write_map(&report, sink)
 }
 
 /// Runs a command over one input.
@@ -179,7 +150,10 @@ fn run<A: Allocator + Copy>(
     requires sink { sink.old.failures < 2 ^ 64 - 1 }
 {
     match command {
-        Command::Link(options) => link_alone(alloc, &options, sources, sink),
+        Command::Link(options) => {
+            linked(alloc, &options, sources, sink)?;
+            Ok(())
+        }
         Command::Map(options) => map(alloc, &options, sources, sink),
         _ => match sources {
             [source] => run_over_one(alloc, command, source, sink),
@@ -218,27 +192,6 @@ fn run_fault(
     }
 }
 
-/// What one command answers, whose growth of a number is refused.
-fn run_devices(
-    alloc: Global,
-    command: Command,
-    sources: &mut [MemSource<'_>],
-    sink: &mut MemSink<'_>,
-    refused: u64,
-) -> Result<Answer, Fail>
-    requires sources { All (λ s. s.failures < 2 ^ 64 - 1) sources.old }
-    requires sink { sink.old.failures < 2 ^ 64 - 1 }
-{
-    let memory = Refusing::nth(alloc, refused);
-    let fault = run_fault(alloc, &memory, command, sources, sink)?;
-    Ok(Answer {
-        output: Vec::from_slice(alloc, sink.written())?,
-        fault,
-        calls: calls_of(alloc, sources)?,
-        is_refused: memory.has_refused(),
-    })
-}
-
 /// What one command answers.
 fn run_answer(
     alloc: Global,
@@ -249,7 +202,14 @@ fn run_answer(
     let mut sources = sources_of(alloc, inputs, devices)?;
     let mut room = vec![in alloc; 0u8; devices.room]?;
     let mut sink = MemSink::over(&mut room, devices.piece.max(1));
-    run_devices(alloc, command, &mut sources, &mut sink, devices.refused)
+    let memory = Refusing::nth(alloc, devices.refused);
+    let fault = run_fault(alloc, &memory, command, &mut sources, &mut sink)?;
+    Ok(Answer {
+        output: Vec::from_slice(alloc, sink.written())?,
+        fault,
+        calls: calls_of(alloc, &sources)?,
+        is_refused: memory.has_refused(),
+    })
 }
 
 /// What a command answers over inputs.

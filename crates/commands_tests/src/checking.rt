@@ -110,7 +110,7 @@ A2 01 00 00 01 00 02 00 01 00 00 00 01 41 FF FF 01 00 FF FF 01 00 FF FF 00 00 00
 
 #[test]
 fn records_are_checked_in_order(rt: HostRuntime) -> Result<(), Fail> {
-    answers(rt.alloc(), Command::Check, Telling::Text, MODULES)
+    answers(&rt, rt.alloc(), Command::Check, Telling::Text, MODULES)
 }
 
 /// Inputs as they stand.
@@ -211,5 +211,5 @@ raw
 
 #[test]
 fn whole_inputs_are_checked(rt: HostRuntime) -> Result<(), Fail> {
-    answers(rt.alloc(), Command::Check, Telling::Text, INPUTS)
+    answers(&rt, rt.alloc(), Command::Check, Telling::Text, INPUTS)
 }

@@ -2,14 +2,16 @@
 
 use crate::answer::{Answer, Command, Devices, answer_of};
 use crate::objects::{BOTH, FIRST, SMALL, SMALL_FILE};
-use crate::tables::are;
+use crate::tables::{are, is};
 use omf_commands::Options;
-use rows::{read_row, same};
+use rows::read_row;
 use std::alloc::Global;
+use std::process::Abort;
 use std::test::*;
 
 /// The command writes this and stops for this fault, if there is one.
-pub fn gives(
+pub fn gives<R: Abort>(
+    rt: &R,
     alloc: Global,
     command: Command,
     inputs: &[Vec<u8>],
@@ -18,8 +20,9 @@ pub fn gives(
     fault: &str,
 ) -> Result<(), Fail> {
     let answer = answer_of(alloc, command, inputs, devices)?;
-    same(&answer.fault, fault)?;
-    are(&answer.output, output)
+    is(rt, &answer.fault, fault);
+    are(rt, &answer.output, output);
+    Ok(())
 }
 
 /// Calls of an input up to this one, how much was written when one of them fails, and the place of the record.
@@ -41,44 +44,34 @@ fn failing_call(call: u64) -> Devices {
     }
 }
 
-/// Each of these calls of an input fails, behind which so much is written.
-fn each_fails(
+/// Each of these calls of an input fails, and no other is made.
+fn calls_fail<R: Abort>(
+    rt: &R,
     alloc: Global,
     command: Command,
-    inputs: &[Vec<u8>],
-    (first, last): (u64, u64),
-    written: &[u8],
-    fault: &str,
-) -> Result<(), Fail> {
-    for call in first..=last {
-        gives(alloc, command, inputs, failing_call(call), written, fault)?;
-    }
-    Ok(())
-}
-
-/// The calls of rows fail, and no other is made.
-fn all_fail(
-    alloc: Global,
-    command: Command,
-    inputs: &[Vec<u8>],
-    whole: &[u8],
+    input: &str,
     rows: &[Calls],
 ) -> Result<(), Fail> {
+    let inputs = read_row(alloc, input)?.inputs;
+    let whole = answer_of(alloc, command, &inputs, Devices::sound(1))?.output;
     let mut next = 1u64;
     for (last, written, place) in rows {
         let front = whole.get(..*written).unwrap_or(&[]);
         let fault = call_fault(alloc, command, *place)?;
-        each_fails(alloc, command, inputs, (next, *last), front, &fault)?;
+        for call in next..=*last {
+            gives(
+                rt,
+                alloc,
+                command,
+                &inputs,
+                failing_call(call),
+                front,
+                &fault,
+            )?;
+        }
         next = last.saturating_add(1);
     }
-    gives(alloc, command, inputs, failing_call(next), whole, "")
-}
-
-/// Each of these calls of an input fails, and no other is made.
-fn calls_fail(alloc: Global, command: Command, input: &str, rows: &[Calls]) -> Result<(), Fail> {
-    let row = read_row(alloc, input)?;
-    let whole = answer_of(alloc, command, &row.inputs, Devices::sound(1))?;
-    all_fail(alloc, command, &row.inputs, &whole.output, rows)
+    gives(rt, alloc, command, &inputs, failing_call(next), &whole, "")
 }
 
 /// The calls of the small module before which nothing is written.
@@ -114,11 +107,17 @@ const SHOWN: [Calls; 6] = [
 #[test]
 fn each_failing_call_is_told(rt: HostRuntime) -> Result<(), Fail> {
     let link = Command::Link(Options::new());
-    calls_fail(rt.alloc(), Command::Check, SMALL, &READ_WHOLE)?;
-    calls_fail(rt.alloc(), link, SMALL, &READ_WHOLE)?;
-    calls_fail(rt.alloc(), Command::Rewrite, SMALL, &REWRITTEN)?;
-    calls_fail(rt.alloc(), Command::Show, SMALL, &SHOWN)?;
-    calls_fail(rt.alloc(), Command::Load(0x1234), SMALL_FILE, &[(37, 0, 0)])
+    calls_fail(&rt, rt.alloc(), Command::Check, SMALL, &READ_WHOLE)?;
+    calls_fail(&rt, rt.alloc(), link, SMALL, &READ_WHOLE)?;
+    calls_fail(&rt, rt.alloc(), Command::Rewrite, SMALL, &REWRITTEN)?;
+    calls_fail(&rt, rt.alloc(), Command::Show, SMALL, &SHOWN)?;
+    calls_fail(
+        &rt,
+        rt.alloc(),
+        Command::Load(0x1234),
+        SMALL_FILE,
+        &[(37, 0, 0)],
+    )
 }
 
 /// The small module, and two others without a start.
@@ -132,29 +131,24 @@ raw 80 03 00 01 41 3B 96 07 00*2 04 43 4F 44 45 44 98 07 00 28 05 00 02 01*2 30 
 raw 80 03 00 01 41 3B 96 07 00*2 04 43 4F 44 45 44 98 07 00 28 05 00 02 01*2 30 A0 09 00 01 00*2 B8 00*2 8E D8 \
 38 9C 06 00 C8 01 04 01*2 8F 8A 02 00*2 74";
 
-/// The second input fails, and nothing is written.
-fn called_so(alloc: Global, answer: &Answer) -> Result<(), Fail> {
-    let calls = answer.calls.as_slice();
-    let told = format!(in alloc; "{calls:?} {}", answer.fault)?;
-    are(&answer.output, b"")?;
-    same(&told, "[57, 7, 0] 3 omf: B.OBJ: 1 Device at record 6\n")
-}
-
 /// The first input is read to its end, and the third isn't called.
 #[test]
 fn no_input_is_read_behind_one_that_fails(rt: HostRuntime) -> Result<(), Fail> {
-    let row = read_row(rt.alloc(), THREE)?;
+    let inputs = read_row(rt.alloc(), THREE)?.inputs;
     let devices = Devices {
         failing: (1, 7),
         ..Devices::sound(1)
     };
-    let command = Command::Link(Options::new());
-    let answer = answer_of(rt.alloc(), command, &row.inputs, devices)?;
-    called_so(rt.alloc(), &answer)
+    let answer = answer_of(rt.alloc(), Command::Link(Options::new()), &inputs, devices)?;
+    is(&rt, &answer.fault, "3 omf: B.OBJ: 1 Device at record 6\n");
+    are(&rt, &answer.output, b"");
+    assert_eq!(rt; answer.calls.as_slice(), [57u64, 7, 0].as_slice());
+    Ok(())
 }
 
 /// Each front of the output is all that a sink takes that has no more room.
-fn sinks_fill(
+fn sinks_fill<R: Abort>(
+    rt: &R,
     alloc: Global,
     command: Command,
     inputs: &[Vec<u8>],
@@ -171,105 +165,76 @@ fn sinks_fill(
         } else {
             ""
         };
-        gives(alloc, command, inputs, devices, &whole[..room], fault)?;
+        gives(rt, alloc, command, inputs, devices, &whole[..room], fault)?;
     }
     Ok(())
 }
 
 /// Sinks that take pieces of 1, 7 and 10 bytes fill.
-fn all_sinks_fill(alloc: Global, command: Command, inputs: &str) -> Result<(), Fail> {
-    let row = read_row(alloc, inputs)?;
-    let whole = answer_of(alloc, command, &row.inputs, Devices::sound(60))?;
-    for piece in [1usize, 7, 10] {
-        sinks_fill(alloc, command, &row.inputs, &whole.output, piece)?;
-    }
-    Ok(())
+fn all_sinks_fill<R: Abort>(
+    rt: &R,
+    alloc: Global,
+    command: Command,
+    inputs: &str,
+) -> Result<(), Fail> {
+    let inputs = read_row(alloc, inputs)?.inputs;
+    let whole = answer_of(alloc, command, &inputs, Devices::sound(60))?.output;
+    sinks_fill(rt, alloc, command, &inputs, &whole, 1)?;
+    sinks_fill(rt, alloc, command, &inputs, &whole, 7)?;
+    sinks_fill(rt, alloc, command, &inputs, &whole, 10)
 }
 
 #[test]
 fn each_full_sink_is_told(rt: HostRuntime) -> Result<(), Fail> {
     let (link, map) = (Command::Link(Options::new()), Command::Map(Options::new()));
-    all_sinks_fill(rt.alloc(), Command::Show, SMALL)?;
-    all_sinks_fill(rt.alloc(), Command::Rewrite, SMALL)?;
-    all_sinks_fill(rt.alloc(), Command::Check, SMALL)?;
-    all_sinks_fill(rt.alloc(), Command::Load(0x1234), SMALL_FILE)?;
-    all_sinks_fill(rt.alloc(), link, SMALL)?;
-    all_sinks_fill(rt.alloc(), map, BOTH)
+    all_sinks_fill(&rt, rt.alloc(), Command::Show, SMALL)?;
+    all_sinks_fill(&rt, rt.alloc(), Command::Rewrite, SMALL)?;
+    all_sinks_fill(&rt, rt.alloc(), Command::Check, SMALL)?;
+    all_sinks_fill(&rt, rt.alloc(), Command::Load(0x1234), SMALL_FILE)?;
+    all_sinks_fill(&rt, rt.alloc(), link, SMALL)?;
+    all_sinks_fill(&rt, rt.alloc(), map, BOTH)
 }
 
 /// What a refused growth does: `u` where the last input isn't called, `c` where it is, and `m` where an index map makes
 /// do with a smaller growth.
-fn mark_of(answer: &Answer, whole: &[u8], fronts: &[usize]) -> Result<u8, Fail> {
+fn mark_of<R: Abort>(rt: &R, answer: &Answer, whole: &[u8], fronts: &[usize]) -> u8 {
     if answer.fault.is_empty() {
-        are(&answer.output, whole)?;
-        return Ok(b'm');
+        are(rt, &answer.output, whole);
+        return b'm';
     }
-    same(&answer.fault, "3 omf: memory\n")?;
+    is(rt, &answer.fault, "3 omf: memory\n");
     let is_front = whole.starts_with(&answer.output) && fronts.contains(&answer.output.len());
-    if !(answer.is_refused && is_front) {
-        return Err(Fail::from("no growth was refused, or no front is written"));
-    }
+    assert!(rt; answer.is_refused && is_front);
     match answer.calls.last() {
-        Some(0) => Ok(b'u'),
-        _ => Ok(b'c'),
+        Some(0) => b'u',
+        _ => b'c',
     }
 }
 
-/// What the growth with this number does, if there is one.
-fn mark_at(
-    alloc: Global,
-    command: Command,
-    inputs: &[Vec<u8>],
-    refused: u64,
-    whole: &[u8],
-    fronts: &[usize],
-) -> Result<Option<u8>, Fail> {
-    let devices = Devices {
-        refused,
-        ..Devices::sound(60)
-    };
-    let answer = answer_of(alloc, command, inputs, devices)?;
-    let mark = mark_of(&answer, whole, fronts)?;
-    Ok(answer.is_refused.then_some(mark))
-}
-
-/// Appends what each growth does that is refused. There are fewer than 500.
-fn push_marks(
-    alloc: Global,
-    command: Command,
-    inputs: &[Vec<u8>],
-    marks: &mut Vec<u8>,
-    whole: &[u8],
-    fronts: &[usize],
-) -> Result<(), Fail> {
-    for refused in 1..500u64 {
-        match mark_at(alloc, command, inputs, refused, whole, fronts)? {
-            Some(mark) => marks.push(mark)?,
-            None => return Ok(()),
-        }
-    }
-    Err(Fail::from("too many growths"))
-}
-
-/// What each growth does that is refused. What is written is one of the fronts.
-fn refusals(
+/// What each growth does that is refused. There are fewer than 500, and what is written is one of the fronts.
+fn refusals<R: Abort>(
+    rt: &R,
     alloc: Global,
     command: Command,
     inputs: &str,
     fronts: &[usize],
 ) -> Result<Vec<u8>, Fail> {
-    let row = read_row(alloc, inputs)?;
-    let whole = answer_of(alloc, command, &row.inputs, Devices::sound(60))?;
+    let inputs = read_row(alloc, inputs)?.inputs;
+    let whole = answer_of(alloc, command, &inputs, Devices::sound(60))?.output;
     let mut marks = Vec::new(alloc);
-    push_marks(
-        alloc,
-        command,
-        &row.inputs,
-        &mut marks,
-        &whole.output,
-        fronts,
-    )?;
-    Ok(marks)
+    for refused in 1..500u64 {
+        let devices = Devices {
+            refused,
+            ..Devices::sound(60)
+        };
+        let answer = answer_of(alloc, command, &inputs, devices)?;
+        let mark = mark_of(rt, &answer, &whole, fronts);
+        if !answer.is_refused {
+            return Ok(marks);
+        }
+        marks.push(mark)?;
+    }
+    Err(Fail::from("too many growths"))
 }
 
 /// How often a mark stands among others.
@@ -284,11 +249,15 @@ fn count_of(marks: &[u8], mark: u8) -> usize {
 }
 
 /// Each refused growth of a command over one input is want of memory.
-fn all_want(alloc: Global, command: Command, input: &str, fronts: &[usize]) -> Result<(), Fail> {
-    let marks = refusals(alloc, command, input, fronts)?;
-    if marks.is_empty() || count_of(&marks, b'm') != 0 {
-        return Err(Fail::from("a growth isn't wanted"));
-    }
+fn all_want<R: Abort>(
+    rt: &R,
+    alloc: Global,
+    command: Command,
+    input: &str,
+    fronts: &[usize],
+) -> Result<(), Fail> {
+    let marks = refusals(rt, alloc, command, input, fronts)?;
+    assert!(rt; !marks.is_empty() && count_of(&marks, b'm') == 0);
     Ok(())
 }
 
@@ -305,33 +274,25 @@ const LINES: [usize; 10] = [0, 37, 118, 199, 279, 327, 375, 438, 533, 689];
 
 #[test]
 fn each_refused_growth_is_want_of_memory(rt: HostRuntime) -> Result<(), Fail> {
-    all_want(rt.alloc(), Command::Show, FIRST, &LINES)?;
-    all_want(rt.alloc(), Command::Rewrite, FIRST, &PLACES)?;
-    all_want(rt.alloc(), Command::Check, REPEATED, &[0])?;
-    all_want(rt.alloc(), Command::Load(0x1234), SMALL_FILE, &[0])
-}
-
-/// As many growths as stand before the second of two modules is called, and those behind it.
-fn marks_are(marks: &[u8], before: usize) -> Result<(), Fail> {
-    let (front, rest) = marks.split_at(before.min(marks.len()));
-    let counts = (
-        count_of(front, b'c'),
-        count_of(rest, b'u'),
-        count_of(marks, b'm'),
-    );
-    match counts {
-        (0, 0, 2) => Ok(()),
-        (called, uncalled, made_do) => Err(Fail::new(format_args!(
-            "{called} called, {uncalled} uncalled and {made_do} made do with"
-        ))),
-    }
+    all_want(&rt, rt.alloc(), Command::Show, FIRST, &LINES)?;
+    all_want(&rt, rt.alloc(), Command::Rewrite, FIRST, &PLACES)?;
+    all_want(&rt, rt.alloc(), Command::Check, REPEATED, &[0])?;
+    all_want(&rt, rt.alloc(), Command::Load(0x1234), SMALL_FILE, &[0])
 }
 
 /// The second of two modules isn't called before the first is read, the list of modules grows, and so does the buffer
 /// of the second. Two growths of index maps are made do without.
 #[test]
 fn each_refused_growth_of_a_link_is_told(rt: HostRuntime) -> Result<(), Fail> {
-    let first = refusals(rt.alloc(), Command::Check, FIRST, &[0])?;
-    let both = refusals(rt.alloc(), Command::Link(Options::new()), BOTH, &[0])?;
-    marks_are(&both, first.len().saturating_add(2))
+    let first = refusals(&rt, rt.alloc(), Command::Check, FIRST, &[0])?;
+    let both = refusals(&rt, rt.alloc(), Command::Link(Options::new()), BOTH, &[0])?;
+    let before = first.len().saturating_add(2);
+    let (front, rest) = both.split_at(before.min(both.len()));
+    let counts = [
+        count_of(front, b'c'),
+        count_of(rest, b'u'),
+        count_of(&both, b'm'),
+    ];
+    assert_eq!(rt; counts, [0usize, 0, 2]);
+    Ok(())
 }

@@ -1,8 +1,8 @@
 //! Modules that are linked.
 
-use crate::answer::{Command, Devices};
+use crate::answer::{Command, Devices, answer_of};
 use crate::objects::BOTH;
-use crate::tables::{Telling, answer_says, answers, is_answer};
+use crate::tables::{Telling, answers, is, is_answer, text_of};
 use omf_commands::Options;
 use rows::publics;
 use std::test::*;
@@ -35,15 +35,10 @@ raw 4D 5A 20 00 01 00*3 02 00*3 FF*2 00*10 1C 00*7";
 #[test]
 fn modules_give_files(rt: HostRuntime) -> Result<(), Fail> {
     let command = Command::Link(Options::new());
-    let devices = Devices::sound(60);
-    answer_says(
-        rt.alloc(),
-        (command, Telling::Bytes),
-        &[],
-        devices,
-        EMPTY_FILE,
-    )?;
-    answers(rt.alloc(), command, Telling::Bytes, FILES)
+    let answer = answer_of(rt.alloc(), command, &[], Devices::sound(60))?;
+    let text = text_of(rt.alloc(), Telling::Bytes, &answer)?;
+    is(&rt, text.trim_end(), EMPTY_FILE);
+    answers(&rt, rt.alloc(), command, Telling::Bytes, FILES)
 }
 
 /// Data and fix-ups of one segment.
@@ -124,7 +119,7 @@ A0 01 00 00 00 00
 #[test]
 fn fixups_are_added(rt: HostRuntime) -> Result<(), Fail> {
     let command = Command::Link(Options::new());
-    answers(rt.alloc(), command, Telling::Image, FIXUPS)
+    answers(&rt, rt.alloc(), command, Telling::Image, FIXUPS)
 }
 
 /// A module with a relocated word behind a segment that is nearly full.
@@ -151,12 +146,14 @@ A2 01 00 00 03 00 00 00 02 00 00
 fn files_are_loaded(rt: HostRuntime) -> Result<(), Fail> {
     let (link, load) = (Command::Link(Options::new()), Command::LinkAndLoad(1));
     answers(
+        &rt,
         rt.alloc(),
         Command::LinkAndLoad(0x1234),
         Telling::Text,
         LOADED,
     )?;
     is_answer(
+        &rt,
         rt.alloc(),
         link,
         Telling::Bytes,
@@ -164,6 +161,7 @@ fn files_are_loaded(rt: HostRuntime) -> Result<(), Fail> {
         "raw 4D 5A 21 00 81 00 01 00 02 00 01 00 FF*2 00*10 1C 00*3 0F 00 FF 0F 00*65535 FF 0F",
     )?;
     is_answer(
+        &rt,
         rt.alloc(),
         load,
         Telling::Text,
@@ -198,10 +196,10 @@ fn modules_are_linked_together(rt: HostRuntime) -> Result<(), Fail> {
     let command = Command::Link(Options::new());
     let (high, higher) = (Command::LinkAndLoad(0xFFFE), Command::LinkAndLoad(0xFFFF));
     let unfit = "1 omf: A.OBJ: 39 DoesNotFit";
-    is_answer(rt.alloc(), command, Telling::Bytes, BOTH, BOTH_FILE)?;
-    is_answer(rt.alloc(), high, Telling::Text, BOTH, BOTH_LOADED)?;
-    is_answer(rt.alloc(), higher, Telling::Text, BOTH, unfit)?;
-    answers(rt.alloc(), command, Telling::Image, COMMON)
+    is_answer(&rt, rt.alloc(), command, Telling::Bytes, BOTH, BOTH_FILE)?;
+    is_answer(&rt, rt.alloc(), high, Telling::Text, BOTH, BOTH_LOADED)?;
+    is_answer(&rt, rt.alloc(), higher, Telling::Text, BOTH, unfit)?;
+    answers(&rt, rt.alloc(), command, Telling::Image, COMMON)
 }
 
 /// Stacks, and what of a program its file holds.
@@ -253,7 +251,7 @@ A0 01 21 00
 #[test]
 fn stacks_sizes_and_pages(rt: HostRuntime) -> Result<(), Fail> {
     let command = Command::Link(Options::new());
-    answers(rt.alloc(), command, Telling::Bytes, SIZES)
+    answers(&rt, rt.alloc(), command, Telling::Bytes, SIZES)
 }
 
 /// What the file doesn't hold has to fit too.
@@ -264,8 +262,9 @@ fn a_stack_has_to_fit(rt: HostRuntime) -> Result<(), Fail> {
 98 74 00 01 02 01 01";
     let (last, too_high) = (Command::LinkAndLoad(0xFFEF), Command::LinkAndLoad(0xFFF0));
     let registers = "CS:IP FFEF:0000 SS:SP FFF0:0100";
-    is_answer(rt.alloc(), last, Telling::Text, stack, registers)?;
+    is_answer(&rt, rt.alloc(), last, Telling::Text, stack, registers)?;
     is_answer(
+        &rt,
         rt.alloc(),
         too_high,
         Telling::Text,
@@ -316,7 +315,7 @@ raw
 #[test]
 fn faults_of_an_input_are_named(rt: HostRuntime) -> Result<(), Fail> {
     let command = Command::Link(Options::new());
-    answers(rt.alloc(), command, Telling::Bytes, INPUT_FAULTS)
+    answers(&rt, rt.alloc(), command, Telling::Bytes, INPUT_FAULTS)
 }
 
 /// Modules that have no program.
@@ -417,7 +416,7 @@ A0 01 00 00 00 00 00 00
 #[test]
 fn faults_of_modules_are_named(rt: HostRuntime) -> Result<(), Fail> {
     let command = Command::Link(Options::new());
-    answers(rt.alloc(), command, Telling::Bytes, MODULE_FAULTS)
+    answers(&rt, rt.alloc(), command, Telling::Bytes, MODULE_FAULTS)
 }
 
 /// Sixteen segments, as large as may be.
@@ -444,21 +443,23 @@ fn the_greatest_programs_are_linked(rt: HostRuntime) -> Result<(), Fail> {
     let command = Command::Link(Options::new());
     let most = "393252 bytes 4D 5A 24 00 01 03 FF*2 02 40 01 00";
     is_answer(
+        &rt,
         rt.alloc(),
         command,
         Telling::Bytes,
         LARGEST,
         "raw 4D 5A 20 00 01 00*3 02 00 FF*4 00*10 1C 00*7",
     )?;
-    is_answer(rt.alloc(), command, Telling::Head, MOST_WORDS, most)
+    is_answer(&rt, rt.alloc(), command, Telling::Head, MOST_WORDS, most)
 }
 
 #[test]
 fn the_greatest_programs_are_loaded(rt: HostRuntime) -> Result<(), Fail> {
     let (low, high) = (Command::LinkAndLoad(1), Command::LinkAndLoad(2));
     let registers = "CS:IP 0001:0000 SS:SP 0001:0000";
-    is_answer(rt.alloc(), low, Telling::Text, LARGEST, registers)?;
+    is_answer(&rt, rt.alloc(), low, Telling::Text, LARGEST, registers)?;
     is_answer(
+        &rt,
         rt.alloc(),
         high,
         Telling::Text,
@@ -466,6 +467,7 @@ fn the_greatest_programs_are_loaded(rt: HostRuntime) -> Result<(), Fail> {
         "1 omf: A.OBJ: 39 DoesNotFit",
     )?;
     is_answer(
+        &rt,
         rt.alloc(),
         low,
         Telling::Text,
@@ -473,6 +475,7 @@ fn the_greatest_programs_are_loaded(rt: HostRuntime) -> Result<(), Fail> {
         "..\n20010 01200000",
     )?;
     is_answer(
+        &rt,
         rt.alloc(),
         high,
         Telling::Text,
@@ -503,7 +506,7 @@ A0 03 00 00 00 00 00 00
 #[test]
 fn programs_are_too_large(rt: HostRuntime) -> Result<(), Fail> {
     let command = Command::Link(Options::new());
-    answers(rt.alloc(), command, Telling::Bytes, TOO_LARGE)
+    answers(&rt, rt.alloc(), command, Telling::Bytes, TOO_LARGE)
 }
 
 /// Publics "a0" to "a1999", and then another name and one of theirs.
@@ -518,5 +521,5 @@ fn two_of_many_publics_have_one_name(rt: HostRuntime) -> Result<(), Fail> {
 = 1 omf: link: 25 DuplicatePublic \"a7\""
     )?;
     let command = Command::Link(Options::new());
-    answers(rt.alloc(), command, Telling::Bytes, &table)
+    answers(&rt, rt.alloc(), command, Telling::Bytes, &table)
 }

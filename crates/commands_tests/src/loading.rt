@@ -8,7 +8,14 @@ use std::test::*;
 #[test]
 fn a_file_is_listed(rt: HostRuntime) -> Result<(), Fail> {
     let command = Command::Load(0x1234);
-    is_answer(rt.alloc(), command, Telling::Text, SMALL_FILE, SMALL_LOADED)
+    is_answer(
+        &rt,
+        rt.alloc(),
+        command,
+        Telling::Text,
+        SMALL_FILE,
+        SMALL_LOADED,
+    )
 }
 
 /// A file with an image of 33 bytes, without relocations.
@@ -26,8 +33,9 @@ FFFF0 FF";
 #[test]
 fn sixteen_bytes_stand_in_a_line(rt: HostRuntime) -> Result<(), Fail> {
     let (fits, unfit) = (Command::Load(0xFFFD), Command::Load(0xFFFE));
-    is_answer(rt.alloc(), fits, Telling::Text, LONG_FILE, LONG_LOADED)?;
+    is_answer(&rt, rt.alloc(), fits, Telling::Text, LONG_FILE, LONG_LOADED)?;
     is_answer(
+        &rt,
         rt.alloc(),
         unfit,
         Telling::Text,
@@ -52,5 +60,5 @@ raw 4D 5A 25 00 01 00 01 00 02 00 01 00 FF*2 00*10 1C 00*3 04 00*3 B8 00*2 8E D8
 
 #[test]
 fn faults_of_a_file_are_told(rt: HostRuntime) -> Result<(), Fail> {
-    answers(rt.alloc(), Command::Load(0), Telling::Text, FAULTS)
+    answers(&rt, rt.alloc(), Command::Load(0), Telling::Text, FAULTS)
 }

@@ -2,10 +2,9 @@
 
 use crate::answer::Command;
 use crate::objects::BOTH;
-use crate::tables::{Telling, answers, is_answer};
+use crate::tables::{Telling, is_answer};
 use omf_commands::Options;
 use rows::publics;
-use std::alloc::Global;
 use std::test::*;
 
 /// The map of the two modules with a group over both.
@@ -25,7 +24,7 @@ relocations 1";
 #[test]
 fn a_link_has_a_map(rt: HostRuntime) -> Result<(), Fail> {
     let command = Command::Map(Options::new());
-    is_answer(rt.alloc(), command, Telling::Text, BOTH, BOTH_MAP)
+    is_answer(&rt, rt.alloc(), command, Telling::Text, BOTH, BOTH_MAP)
 }
 
 /// A reference to a segment that stands at a frame.
@@ -49,24 +48,36 @@ relocations 0";
 #[test]
 fn an_absolute_segment_is_listed(rt: HostRuntime) -> Result<(), Fail> {
     let command = Command::Map(Options::new());
-    is_answer(rt.alloc(), command, Telling::Text, ABSOLUTE, ABSOLUTE_MAP)
-}
-
-/// A module of 2,000 numbered publics, and its map.
-fn numbered_row(alloc: Global) -> Result<String, Fail> {
-    let mut row = String::new(alloc);
-    write!(row, "98 28 D0 07 02 01 01{}", publics(alloc, 2_000)?)?;
-    row.push_str("\n= segments\n000000 0007D0 public   \"CODE\" \"\"\ngroups\npublics\n")?;
-    for n in 0..2_000u16 {
-        write!(row, "{n:06X} R \"a{n}\"\n")?;
-    }
-    row.push_str("entry 0000:0000\nstack 0000:0000\nsize 0007D0\nrelocations 0")?;
-    Ok(row)
+    is_answer(
+        &rt,
+        rt.alloc(),
+        command,
+        Telling::Text,
+        ABSOLUTE,
+        ABSOLUTE_MAP,
+    )
 }
 
 #[test]
 fn many_publics_are_listed_in_order(rt: HostRuntime) -> Result<(), Fail> {
+    let mut module = String::new(rt.alloc());
+    write!(
+        module,
+        "98 28 D0 07 02 01 01{}",
+        publics(rt.alloc(), 2_000)?
+    )?;
+    let mut map = String::new(rt.alloc());
+    write!(
+        map,
+        "segments\n000000 0007D0 public   \"CODE\" \"\"\ngroups\npublics\n"
+    )?;
+    for n in 0..2_000u16 {
+        write!(map, "{n:06X} R \"a{n}\"\n")?;
+    }
+    write!(
+        map,
+        "entry 0000:0000\nstack 0000:0000\nsize 0007D0\nrelocations 0"
+    )?;
     let command = Command::Map(Options::new());
-    let row = numbered_row(rt.alloc())?;
-    answers(rt.alloc(), command, Telling::Text, &row)
+    is_answer(&rt, rt.alloc(), command, Telling::Text, &module, &map)
 }

@@ -128,7 +128,7 @@ A0 01 00 00 E8 00 00
 #[test]
 fn local_names_are_those_of_their_module(rt: HostRuntime) -> Result<(), Fail> {
     let command = Command::Link(Options::new());
-    answers(rt.alloc(), command, Telling::Image, CALLS)
+    answers(&rt, rt.alloc(), command, Telling::Image, CALLS)
 }
 
 /// A local public stands where a public stands.
@@ -173,7 +173,7 @@ A0 01 00 00 00 00
 #[test]
 fn local_names_have_bases(rt: HostRuntime) -> Result<(), Fail> {
     let command = Command::Link(Options::new());
-    answers(rt.alloc(), command, Telling::Image, BASES)
+    answers(&rt, rt.alloc(), command, Telling::Image, BASES)
 }
 
 /// A local name agrees with no public, and with no local name of another module.
@@ -233,7 +233,7 @@ B6 00 01 01 78 01 00 00
 #[test]
 fn local_names_clash_in_their_module(rt: HostRuntime) -> Result<(), Fail> {
     let command = Command::Link(Options::new());
-    answers(rt.alloc(), command, Telling::Image, CLASHES)
+    answers(&rt, rt.alloc(), command, Telling::Image, CLASHES)
 }
 
 /// Starts that are local names, of modules behind one that has a public and a local name so.
@@ -302,8 +302,8 @@ A0 01 00 00 00 00 00 00
 #[test]
 fn starts_and_threads_mean_local_names(rt: HostRuntime) -> Result<(), Fail> {
     let command = Command::Link(Options::new());
-    answers(rt.alloc(), command, Telling::Bytes, STARTS)?;
-    answers(rt.alloc(), command, Telling::Image, THREADS)
+    answers(&rt, rt.alloc(), command, Telling::Bytes, STARTS)?;
+    answers(&rt, rt.alloc(), command, Telling::Image, THREADS)
 }
 
 /// Maps where names agree that have the same bytes.
@@ -353,8 +353,8 @@ fn names_agree_as_chosen(rt: HostRuntime) -> Result<(), Fail> {
         Command::Map(Options::new()),
         Command::Map(Options::ignoring_case()),
     );
-    answers(rt.alloc(), exact, Telling::Text, EXACT)?;
-    answers(rt.alloc(), folded, Telling::Text, FOLDED)
+    answers(&rt, rt.alloc(), exact, Telling::Text, EXACT)?;
+    answers(&rt, rt.alloc(), folded, Telling::Text, FOLDED)
 }
 
 /// The call, and its file.
@@ -369,5 +369,5 @@ A0 01 00 00 E8 00 00
 #[test]
 fn a_call_that_ignores_case(rt: HostRuntime) -> Result<(), Fail> {
     let command = Command::Link(Options::ignoring_case());
-    answers(rt.alloc(), command, Telling::Bytes, CALL)
+    answers(&rt, rt.alloc(), command, Telling::Bytes, CALL)
 }

@@ -56,8 +56,22 @@ const HELLO_LINES: &str = "\
 
 #[test]
 fn records_are_shown(rt: HostRuntime) -> Result<(), Fail> {
-    is_answer(rt.alloc(), Command::Show, Telling::Text, SMALL, SMALL_LINES)?;
-    is_answer(rt.alloc(), Command::Show, Telling::Text, HELLO, HELLO_LINES)
+    is_answer(
+        &rt,
+        rt.alloc(),
+        Command::Show,
+        Telling::Text,
+        SMALL,
+        SMALL_LINES,
+    )?;
+    is_answer(
+        &rt,
+        rt.alloc(),
+        Command::Show,
+        Telling::Text,
+        HELLO,
+        HELLO_LINES,
+    )
 }
 
 /// The lines of records behind a segment definition.
@@ -108,7 +122,7 @@ A2 01 00 00 FF FF 01 00 FF FF 01 00 FF FF 00 00 01 41
 
 #[test]
 fn lines_of_records_are_shown(rt: HostRuntime) -> Result<(), Fail> {
-    answers(rt.alloc(), Command::Show, Telling::Text, LINES)
+    answers(&rt, rt.alloc(), Command::Show, Telling::Text, LINES)
 }
 
 /// Modules of the same records.
@@ -132,8 +146,15 @@ D8 38 9C 06 00 C8 01 04 01*2 8F 8A 07 00 C1 00 01*2 00*2 AC";
 
 #[test]
 fn modules_are_rewritten(rt: HostRuntime) -> Result<(), Fail> {
-    is_answer(rt.alloc(), Command::Rewrite, Telling::Bytes, HELLO, HELLO)?;
-    answers(rt.alloc(), Command::Rewrite, Telling::Bytes, REWRITTEN)
+    is_answer(
+        &rt,
+        rt.alloc(),
+        Command::Rewrite,
+        Telling::Bytes,
+        HELLO,
+        HELLO,
+    )?;
+    answers(&rt, rt.alloc(), Command::Rewrite, Telling::Bytes, REWRITTEN)
 }
 
 /// The records before the one at fault are rewritten.
@@ -162,7 +183,7 @@ D8 38 9C 06 00 C8 01 04 01*2 8F 8A 07 00 C1 00 01*2 00*2 AC
 
 #[test]
 fn faults_have_places(rt: HostRuntime) -> Result<(), Fail> {
-    answers(rt.alloc(), Command::Rewrite, Telling::Bytes, FAULTS)
+    answers(&rt, rt.alloc(), Command::Rewrite, Telling::Bytes, FAULTS)
 }
 
 /// A record, and the end of a module.
@@ -217,7 +238,7 @@ raw B6 06 00*2 01*2 78 10 BA 8A 02 00*2 74
 
 #[test]
 fn bodies_are_rewritten_or_refused(rt: HostRuntime) -> Result<(), Fail> {
-    answers(rt.alloc(), Command::Rewrite, Telling::Bytes, BODIES)
+    answers(&rt, rt.alloc(), Command::Rewrite, Telling::Bytes, BODIES)
 }
 
 /// Comments of the greatest length, of bytes 00 and then of FFH, and the end of a module.
@@ -226,6 +247,7 @@ const LONGEST: &str = "raw 88 FF*2 00*65534 7A 88 FF*65536 78 8A 02 00*2 74";
 #[test]
 fn the_longest_bodies_are_rewritten(rt: HostRuntime) -> Result<(), Fail> {
     is_answer(
+        &rt,
         rt.alloc(),
         Command::Rewrite,
         Telling::Bytes,
@@ -239,5 +261,6 @@ fn indexes_are_written_shortest(rt: HostRuntime) -> Result<(), Fail> {
     let mut bytes = Vec::new(rt.alloc());
     put_index(2, &mut bytes)?;
     put_index(128, &mut bytes)?;
-    are(&bytes, &[0x02, 0x80, 0x80])
+    are(&rt, &bytes, &[0x02, 0x80, 0x80]);
+    Ok(())
 }

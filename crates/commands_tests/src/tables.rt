@@ -1,8 +1,9 @@
 //! Tables of answers, as text.
 
 use crate::answer::{Answer, Command, Devices, LARGE_ROOM, answer_of};
-use rows::{push_bytes, read_row, same};
+use rows::{push_bytes, read_row};
 use std::alloc::Global;
+use std::process::Abort;
 use std::test::*;
 
 /// How what was written is told.
@@ -18,12 +19,14 @@ pub enum Telling {
     Head,
 }
 
-/// A failure, where the bytes aren't the same.
-pub fn are(bytes: &[u8], wanted: &[u8]) -> Result<(), Fail> {
-    if bytes == wanted {
-        return Ok(());
-    }
-    Err(Fail::new(format_args!("{bytes:?}, not {wanted:?}")))
+/// The texts are the same.
+pub fn is<R: Abort>(rt: &R, text: &str, wanted: &str) {
+    assert_eq!(rt; text, wanted);
+}
+
+/// The bytes are the same.
+pub fn are<R: Abort>(rt: &R, bytes: &[u8], wanted: &[u8]) {
+    assert_eq!(rt; bytes, wanted);
 }
 
 /// Appends the image and the relocations of a program's file.
@@ -59,7 +62,7 @@ fn push_output(text: &mut String, telling: Telling, output: &[u8]) -> Result<(),
 }
 
 /// What was written, and the line of the fault.
-fn text_of(alloc: Global, telling: Telling, answer: &Answer) -> Result<String, Fail> {
+pub fn text_of(alloc: Global, telling: Telling, answer: &Answer) -> Result<String, Fail> {
     let mut text = String::new(alloc);
     if !answer.output.is_empty() {
         push_output(&mut text, telling, &answer.output)?;
@@ -69,31 +72,20 @@ fn text_of(alloc: Global, telling: Telling, answer: &Answer) -> Result<String, F
 }
 
 /// The text is this and a line end; `..` stands for what is in front.
-fn says(text: &str, wanted: &str) -> Result<(), Fail> {
+fn says<R: Abort>(rt: &R, text: &str, wanted: &str) {
     let text = text.strip_suffix("\n").unwrap_or("no line end");
     match wanted.strip_prefix("..") {
         Some(end) => {
             let start = text.len().saturating_sub(end.len());
-            same(text.get(start..).unwrap_or(text), end)
+            is(rt, text.get(start..).unwrap_or(text), end);
         }
-        None => same(text, wanted),
+        None => is(rt, text, wanted),
     }
 }
 
-/// The answer over inputs is told so.
-pub fn answer_says(
-    alloc: Global,
-    (command, telling): (Command, Telling),
-    inputs: &[Vec<u8>],
-    devices: Devices,
-    wanted: &str,
-) -> Result<(), Fail> {
-    let answer = answer_of(alloc, command, inputs, devices)?;
-    says(&text_of(alloc, telling, &answer)?, wanted)
-}
-
 /// The answer over inputs is told so, whatever the pieces are in which they are read and it is written.
-pub fn is_answer(
+pub fn is_answer<R: Abort>(
+    rt: &R,
     alloc: Global,
     command: Command,
     telling: Telling,
@@ -106,16 +98,23 @@ pub fn is_answer(
             room: LARGE_ROOM,
             ..Devices::sound(piece)
         };
-        answer_says(alloc, (command, telling), &row.inputs, devices, wanted)?;
+        let answer = answer_of(alloc, command, &row.inputs, devices)?;
+        says(rt, &text_of(alloc, telling, &answer)?, wanted);
     }
     Ok(())
 }
 
 /// The answers are told as in a table.
-pub fn answers(alloc: Global, command: Command, telling: Telling, table: &str) -> Result<(), Fail> {
+pub fn answers<R: Abort>(
+    rt: &R,
+    alloc: Global,
+    command: Command,
+    telling: Telling,
+    table: &str,
+) -> Result<(), Fail> {
     for row in table.split("\n\n") {
         let (inputs, wanted) = row.split_once("\n= ").unwrap_or((row, ""));
-        is_answer(alloc, command, telling, inputs, wanted)?;
+        is_answer(rt, alloc, command, telling, inputs, wanted)?;
     }
     Ok(())
 }
