@@ -2,7 +2,7 @@
 
 ghost use Rattle.std.specs.Prelude.{◌≡◌, IfOk, map};
 ghost use Rattle.std.specs.List.{position_or_len};
-ghost use Rattle.omf_order.specs.Parts as part;
+ghost use Rattle.omf_order.specs.Segments as segments;
 ghost use Rattle.omf_order.specs.Segments.{same_class};
 ghost use Rattle.omf_order.specs.inside.Held as held;
 
@@ -41,7 +41,7 @@ fn joining_of(kind: Kind) -> Joining
 
 /// The kind of a segment: an absolute one combines with none, as a private one does.
 pub(crate) fn kind_of(segment: &Segment<'_>) -> Kind
-    ensures { result ≡ part.kind_of segment.now.standing }
+    ensures { result ≡ segments.kind_of segment.now.standing }
 {
     match segment.standing {
         Standing::Absolute { .. } => Kind::Private,

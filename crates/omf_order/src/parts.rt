@@ -2,6 +2,7 @@
 
 ghost use Rattle.std.specs.Prelude.{◌≡◌, ◌++◌, [], ◌∷◌, IfOk, OnOk, if◌then◌else◌, length, nat_lt};
 ghost use Rattle.omf_order.specs.Parts as part;
+ghost use Rattle.omf_order.specs.Segments as segments;
 ghost use Rattle.omf_order.specs.inside.Held as held;
 ghost use Rattle.omf_module.specs.Seen.{segment_seen};
 
@@ -42,7 +43,7 @@ fn part_alignment(segment: &Segment<'_>) -> u16
 
 /// Where what a segment opens is first met, by the places of its class and of its combined segment.
 fn first_of(segment: &Segment<'_>, class: usize, combined: usize) -> usize
-    ensures { result ≡ (if part.is_private (part.kind_of segment.now.standing) then class else combined) }
+    ensures { result ≡ (if part.is_private (segments.kind_of segment.now.standing) then class else combined) }
 {
     if is_private(kind_of(segment)) {
         class
