@@ -1,6 +1,7 @@
 //! What is written for a part of a body.
 
 ghost use Rattle.std.specs.Prelude.{◌≡◌, ◌++◌, ◌≤◌, OnOk, length};
+ghost use Rattle.std.specs.List.{flat_map};
 ghost use Rattle.omf_lower.specs.inside.Views.{written_text};
 
 use std::alloc::{AllocError, Allocator};
@@ -24,6 +25,16 @@ pub(crate) enum Written<'a> {
     Located(u8, u8, &'a [u8], &'a [u8]),
 }
 
+/// Appends bytes, each behind those before.
+fn push_parts<A: Allocator + Copy>(parts: &[&[u8]], out: &mut Vec<u8, A>) -> Result<(), AllocError>
+    ensures { OnOk result (out.new.items ≡ out.old.items ++ flat_map (λ part. part.now) parts.now) }
+{
+    for part in parts {
+        out.extend_from_slice(part)?;
+    }
+    Ok(())
+}
+
 /// Appends what is written.
 pub(crate) fn push_written<A: Allocator + Copy>(
     written: Written<'_>,
@@ -32,34 +43,16 @@ pub(crate) fn push_written<A: Allocator + Copy>(
     ensures { OnOk result (out.new.items ≡ out.old.items ++ written_text written.entry) }
 {
     match written {
-        Written::Nothing => {}
-        Written::Same(bytes) => out.extend_from_slice(bytes)?,
-        Written::Two(first, second) => {
-            out.extend_from_slice(first)?;
-            out.extend_from_slice(second)?;
-        }
-        Written::Three(first, second, third) => {
-            out.extend_from_slice(first)?;
-            out.extend_from_slice(second)?;
-            out.extend_from_slice(third)?;
-        }
-        Written::Named(length, name, rest) => {
-            out.push(length)?;
-            out.extend_from_slice(name)?;
-            out.extend_from_slice(rest)?;
-        }
+        Written::Nothing => Ok(()),
+        Written::Same(bytes) => out.extend_from_slice(bytes),
+        Written::Two(first, second) => push_parts(&[first, second], out),
+        Written::Three(first, second, third) => push_parts(&[first, second, third], out),
+        Written::Named(length, name, rest) => push_parts(&[&[length], name, rest], out),
         Written::Behind(byte, first, second, third, fourth) => {
-            out.push(byte)?;
-            out.extend_from_slice(first)?;
-            out.extend_from_slice(second)?;
-            out.extend_from_slice(third)?;
-            out.extend_from_slice(fourth)?;
+            push_parts(&[&[byte], first, second, third, fourth], out)
         }
         Written::Located(first, low, datum, displacement) => {
-            out.extend_from_slice(&[first, low])?;
-            out.extend_from_slice(datum)?;
-            out.extend_from_slice(displacement)?;
+            push_parts(&[&[first, low], datum, displacement], out)
         }
     }
-    Ok(())
 }
