@@ -1,0 +1,33 @@
+use Rattle.std.proofs.Common.{arith, ap, refl, sym, ◌∙◌}
+use Rattle.omf_frame.specs.Lending.{plain_frame}
+use Rattle.omf_library.specs.Names.{texts, wanted_in}
+use Rattle.omf_library.specs.Defaults.{is_among}
+use Rattle.omf_library.proofs.Asking.{left-found, left-more, left-none}
+use Rattle.omf_library.proofs.wanting.first_place.Goals as goal
+
+pub loop-frame-init : goal.loop-frame-init
+loop-frame-init g c = refl
+
+pub returns-then-branch : goal.returns-then-branch
+returns-then-branch g c =
+    let name = c.args.name.now in
+    let frame = c.frame-item.result in
+    left-found name c.args.frames.now c.loop-frame.frame-index (texts c.args.listed.now.items)
+    (texts c.loop-frame.listed.items) frame c.loop-frame.invariant c.loop-frame-test.true c.frame-item.is
+    (ap (λ l. is_among name (wanted_in (texts l) (plain_frame frame))) (sym c.deref.ensures.value)
+    ∙ sym c.in_ok-wants.ensures ∙ c.if-branch.true)
+
+pub returns : goal.returns
+returns g c =
+    left-none c.args.name.now c.args.frames.now c.loop-frame.frame-index (texts c.args.listed.now.items)
+    (texts c.loop-frame.listed.items) c.loop-frame.invariant (omega arith)
+
+pub loop-frame-preserved : goal.loop-frame-preserved
+loop-frame-preserved g c =
+    let name = c.args.name.now in
+    let frame = c.frame-item.result in
+    left-more name c.args.frames.now c.loop-frame.frame-index (texts c.args.listed.now.items)
+    (texts c.loop-frame.listed.items) _ frame c.loop-frame.invariant c.loop-frame-test.true c.frame-item.is
+    (ap (λ l. is_among name (wanted_in (texts l) (plain_frame frame))) (sym c.deref.ensures.value)
+    ∙ sym c.in_ok-wants.ensures ∙ c.if-branch.false)
+    c.in_ok-push_listed.ensures
