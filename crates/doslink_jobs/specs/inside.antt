@@ -1,6 +1,7 @@
 -- How the code sees what it works on: no public contract cites any of it.
 pub mod Adding
 pub mod Declaring
+pub mod Ending
 pub mod Flushed
 pub mod Inputs
 pub mod Listed

@@ -1,27 +1,30 @@
 //! The words of the command line, as a job that is done.
-ghost use Rattle.std.specs.Prelude.{◌≡◌, ◌≢◌, ◌==◌, ◌-◌, ◌^◌, ◌<◌, IfOk, codes, string_bytes};
+ghost use Rattle.std.specs.Prelude.{◌≡◌, ◌≢◌, ◌==◌, ◌-◌, ◌^◌, ◌<◌, IfErr, IfOk, MatchResult, codes, string_bytes};
 ghost use Rattle.std.specs.List.{slice_split};
 ghost use Rattle.std.specs.Option.{option_map};
 ghost use Rattle.omf_files.specs.Files.{sink_failures};
 ghost use Rattle.doslink_words.specs.Keywords.{is_keyword};
 ghost use Rattle.doslink_words.specs.Tokens.{texts};
-ghost use Rattle.doslink_jobs.specs.Jobs.{EndsWith, IsDone, Tells};
+ghost use Rattle.doslink_jobs.specs.Jobs.{IsDone, Tells};
 ghost use Rattle.doslink_jobs.specs.Runs as spec;
 ghost use Rattle.doslink_jobs.specs.Refusals.{IsRefusedJob};
 ghost use Rattle.doslink_jobs.specs.Runs.{EndsBy, Runs, RunsList, RunsResponse, RunsText, RunsWords};
+ghost use Rattle.doslink_jobs.specs.inside.Ending.{EndsRun};
+ghost use Rattle.doslink_jobs.specs.inside.Stops.{OnInput};
 
 use crate::directives::{
     Spoken, directive_line, directives_of, push_warnings, response_path, response_text,
 };
-use crate::running::{finish, run_job, run_lines};
+use crate::running::{do_job, finish};
 use crate::stop::Stop;
+use crate::taking::print;
 use doslink_files::last_part;
 use doslink_words::{
     DirectiveFault, Directives, SplitFault, WordsFault, parse_directives, parse_words, split_words,
 };
 use omf_files::{BufferedSink, World};
-use omf_frame::{Sink, put_all};
-use std::alloc::{AllocError, Global};
+use omf_frame::{IoFault, Sink, put_all};
+use std::alloc::{AllocError, Allocator, Global};
 use std::io::Write;
 
 /// The exit status of wrong words.
@@ -83,200 +86,180 @@ pub fn library_folders<'a>(alloc: Global, list: &'a str) -> Result<Vec<&'a str>,
     Ok(folders)
 }
 
-/// Does the job of directives, and hands out the exit status.
-fn run_parsed<W: World + Copy, O: Write + Drop, E: Sink>(
+/// Appends why words are wrong, and stops.
+fn stop_at_words<A: Allocator + Copy>(text: &str, lines: &mut Vec<u8, A>) -> Stop
+    ensures { OnInput result ⊥ }
+{
+    match lines.extend_from_slice(text.as_bytes()) {
+        Ok(()) => Stop::Words,
+        Err(_) => Stop::Memory,
+    }
+}
+
+/// Does the job of directives.
+fn run_parsed<W: World + Copy, O: Write + Drop>(
     alloc: Global,
     world: W,
     directives: &Directives<'_>,
     spoken: &Spoken<'_>,
     folders: &[&str],
     output: &mut BufferedSink<O>,
-    errors: &mut E,
-) -> u8
-    requires output { sink_failures output.old ≡ 0 }
-    requires errors { E.failures errors.old < 2 ^ 64 - 1 }
-    ensures { EndsWith (IsDone Global (W.bytes world) (texts folders.now) directives.now.job)
-        (IsRefusedJob Global (W.bytes world) (texts folders.now) directives.now.job)
-        (Tells E.written E.failures errors.old errors.new) result }
+    lines: &mut Vec<u8>,
+) -> Result<(), Stop>
+    requires { sink_failures output.old ≡ 0 }
+    ensures { MatchResult result
+        (λ done. IsDone Global (W.bytes world) (texts folders.now) directives.now.job)
+        (λ stop. OnInput stop (IsRefusedJob Global (W.bytes world) (texts folders.now) directives.now.job)) }
 {
-    let mut lines = Vec::new(alloc);
-    if !directives.job.quiet && push_warnings(alloc, directives, spoken, &mut lines).is_err() {
-        return out_of_memory(errors);
+    if !directives.job.quiet {
+        push_warnings(alloc, directives, spoken, lines)?;
     }
-    run_lines(
-        alloc,
-        world,
-        &directives.job,
-        folders,
-        lines,
-        output,
-        errors,
-    )
+    do_job(alloc, world, &directives.job, folders, output, lines)
 }
 
-/// Does what directives ask for, and hands out the exit status.
-fn run_spoken<W: World + Copy, O: Write + Drop, E: Sink>(
+/// Does what directives ask for.
+fn run_spoken<W: World + Copy, O: Write + Drop>(
     alloc: Global,
     world: W,
     spoken: &Spoken<'_>,
     folders: &[&str],
     output: &mut BufferedSink<O>,
-    errors: &mut E,
-) -> u8
-    requires output { sink_failures output.old ≡ 0 }
-    requires errors { E.failures errors.old < 2 ^ 64 - 1 }
-    ensures { EndsBy Global (W.bytes world) (texts folders.now)
-        (λ does helps. RunsText (W.bytes world) does helps (string_bytes spoken.now.text))
-        (Tells E.written E.failures errors.old errors.new) result }
+    lines: &mut Vec<u8>,
+) -> Result<(), Stop>
+    requires { sink_failures output.old ≡ 0 }
+    ensures { EndsRun Global (W.bytes world) (texts folders.now)
+        (λ does helps. RunsText (W.bytes world) does helps (string_bytes spoken.now.text)) result }
 {
     match parse_directives(alloc, spoken.text.as_str()) {
-        Ok(directives) => run_parsed(alloc, world, &directives, spoken, folders, output, errors),
-        Err(fault) => refuse_directives(alloc, &fault, spoken, errors),
+        Ok(directives) => run_parsed(alloc, world, &directives, spoken, folders, output, lines),
+        Err(fault) => Err(refuse_directives(alloc, &fault, spoken, lines)),
     }
 }
 
-/// Says why directives are wrong, and hands out the exit status.
-fn refuse_directives<E: Sink>(
+/// Says why directives are wrong, and stops.
+fn refuse_directives(
     alloc: Global,
     fault: &DirectiveFault<'_>,
     spoken: &Spoken<'_>,
-    errors: &mut E,
-) -> u8
-    requires { E.failures errors.old < 2 ^ 64 - 1 }
-    ensures { EndsWith ⊥ ⊥ (Tells E.written E.failures errors.old errors.new) result }
+    lines: &mut Vec<u8>,
+) -> Stop
+    ensures { OnInput result ⊥ }
 {
     if matches!(fault, DirectiveFault::Memory) {
-        return out_of_memory(errors);
+        return Stop::Memory;
     }
     match directive_line(alloc, fault, spoken) {
-        Ok(line) => wrong_words(line.as_str(), errors),
-        Err(AllocError) => out_of_memory(errors),
+        Ok(line) => stop_at_words(line.as_str(), lines),
+        Err(AllocError) => Stop::Memory,
     }
 }
 
-/// Does what directives ask for that words give, and hands out the exit status.
-fn run_directives<W: World + Copy, O: Write + Drop, E: Sink>(
+/// Does what directives ask for that words give.
+fn run_directives<W: World + Copy, O: Write + Drop>(
     alloc: Global,
     world: W,
     words: &[&str],
     folders: &[&str],
     output: &mut BufferedSink<O>,
-    errors: &mut E,
-) -> u8
-    requires output { sink_failures output.old ≡ 0 }
-    requires errors { E.failures errors.old < 2 ^ 64 - 1 }
-    ensures { EndsBy Global (W.bytes world) (texts folders.now)
-        (λ does helps. Runs (W.bytes world) does helps Language.Directives (texts words.now))
-        (Tells E.written E.failures errors.old errors.new) result }
+    lines: &mut Vec<u8>,
+) -> Result<(), Stop>
+    requires { sink_failures output.old ≡ 0 }
+    ensures { EndsRun Global (W.bytes world) (texts folders.now)
+        (λ does helps. Runs (W.bytes world) does helps Language.Directives (texts words.now)) result }
 {
-    let mut lines = Vec::new(alloc);
-    match directives_of(alloc, &world, words, &mut lines) {
-        Ok(spoken) => run_spoken(alloc, world, &spoken, folders, output, errors),
-        Err(stop) => finish(Err(stop), &lines, errors),
-    }
+    let spoken = directives_of(alloc, &world, words, lines)?;
+    run_spoken(alloc, world, &spoken, folders, output, lines)
 }
 
-/// Does what words ask for, and hands out the exit status.
-fn run_plain<W: World + Copy, O: Write + Drop, E: Sink>(
+/// Does what words ask for.
+fn run_plain<W: World + Copy, O: Write + Drop>(
     alloc: Global,
     world: W,
     words: &[&str],
     folders: &[&str],
     output: &mut BufferedSink<O>,
-    errors: &mut E,
-) -> u8
-    requires output { sink_failures output.old ≡ 0 }
-    requires errors { E.failures errors.old < 2 ^ 64 - 1 }
-    ensures { EndsBy Global (W.bytes world) (texts folders.now)
-        (λ does helps. RunsWords (W.bytes world) does helps (texts words.now))
-        (Tells E.written E.failures errors.old errors.new) result }
+    lines: &mut Vec<u8>,
+) -> Result<(), Stop>
+    requires { sink_failures output.old ≡ 0 }
+    ensures { EndsRun Global (W.bytes world) (texts folders.now)
+        (λ does helps. RunsWords (W.bytes world) does helps (texts words.now)) result }
 {
     match parse_words(alloc, words) {
-        Ok(job) => run_job(alloc, world, &job, folders, output, errors),
-        Err(fault) => answer_words(&fault, output, errors),
+        Ok(job) => do_job(alloc, world, &job, folders, output, lines),
+        Err(fault) => answer_words(&fault, output, lines),
     }
 }
 
-/// Says why the words are no job, and hands out the exit status.
-fn answer_words<O: Write + Drop, E: Sink>(
+/// Prints help, where the words ask for it; else says why they are no job, and stops.
+fn answer_words<O: Write + Drop>(
     fault: &WordsFault,
     output: &mut BufferedSink<O>,
-    errors: &mut E,
-) -> u8
-    requires output { sink_failures output.old ≡ 0 }
-    requires errors { E.failures errors.old < 2 ^ 64 - 1 }
-    ensures { EndsWith (fault.now ≢ WordsFault.Memory) ⊥
-        (Tells E.written E.failures errors.old errors.new) result }
+    lines: &mut Vec<u8>,
+) -> Result<(), Stop>
+    requires { sink_failures output.old ≡ 0 }
+    ensures { MatchResult result (λ done. fault.now ≢ WordsFault.Memory) (λ stop. OnInput stop ⊥) }
 {
     match fault {
-        WordsFault::Help(text) => print_help(text.as_str(), output, errors),
-        WordsFault::Wrong(text) => wrong_words(text.as_str(), errors),
-        WordsFault::Memory => out_of_memory(errors),
+        WordsFault::Help(text) => print_help(text.as_str(), output, lines),
+        WordsFault::Wrong(text) => Err(stop_at_words(text.as_str(), lines)),
+        WordsFault::Memory => Err(Stop::Memory),
     }
 }
 
-/// Writes help to standard output, and hands out the exit status.
-fn print_help<O: Write + Drop, E: Sink>(
+/// Writes help to standard output.
+fn print_help<O: Write + Drop>(
     text: &str,
     output: &mut BufferedSink<O>,
-    errors: &mut E,
-) -> u8
-    requires output { sink_failures output.old ≡ 0 }
-    requires errors { E.failures errors.old < 2 ^ 64 - 1 }
-    ensures { EndsWith (Unit {0}) ⊥ (Tells E.written E.failures errors.old errors.new) result }
+    lines: &mut Vec<u8>,
+) -> Result<(), Stop>
+    requires { sink_failures output.old ≡ 0 }
+    ensures { IfErr result (λ stop. OnInput stop ⊥) }
 {
-    let printed = match put_all(output, text.as_bytes()) {
-        Ok(()) => output.flush(),
-        Err(fault) => Err(fault),
-    };
-    match printed {
-        Ok(()) => 0,
-        Err(_) => finish(Err(Stop::Device), b"doslink: output: 40 Device\n", errors),
+    if let Err(IoFault) = print(output, text.as_bytes()) {
+        lines.extend_from_slice(b"doslink: output: 40 Device\n")?;
+        return Err(Stop::Device);
     }
+    Ok(())
 }
 
-/// Does what the words of a text ask for, and hands out the exit status.
-fn run_list<W: World + Copy, O: Write + Drop, E: Sink>(
+/// Does what the words of a text ask for.
+fn run_list<W: World + Copy, O: Write + Drop>(
     alloc: Global,
     world: W,
     text: &str,
     folders: &[&str],
     output: &mut BufferedSink<O>,
-    errors: &mut E,
-) -> u8
-    requires output { sink_failures output.old ≡ 0 }
-    requires errors { E.failures errors.old < 2 ^ 64 - 1 }
-    ensures { EndsBy Global (W.bytes world) (texts folders.now)
-        (λ does helps. RunsList (W.bytes world) does helps text.now)
-        (Tells E.written E.failures errors.old errors.new) result }
+    lines: &mut Vec<u8>,
+) -> Result<(), Stop>
+    requires { sink_failures output.old ≡ 0 }
+    ensures { EndsRun Global (W.bytes world) (texts folders.now)
+        (λ does helps. RunsList (W.bytes world) does helps text.now) result }
 {
     match split_words(alloc, text) {
-        Ok(words) => run_plain(alloc, world, &words, folders, output, errors),
-        Err(SplitFault::Memory) => out_of_memory(errors),
-        Err(SplitFault::UnclosedQuote) => wrong_words("doslink: a quote isn't closed\n", errors),
+        Ok(words) => run_plain(alloc, world, &words, folders, output, lines),
+        Err(SplitFault::Memory) => Err(Stop::Memory),
+        Err(SplitFault::UnclosedQuote) => Err(stop_at_words(
+            "doslink: a quote isn't closed\n",
+            lines,
+        )),
     }
 }
 
-/// Does what the words of a response file ask for, and hands out the exit status.
-fn run_response<W: World + Copy, O: Write + Drop, E: Sink>(
+/// Does what the words of a response file ask for.
+fn run_response<W: World + Copy, O: Write + Drop>(
     alloc: Global,
     world: W,
     path: &str,
     folders: &[&str],
     output: &mut BufferedSink<O>,
-    errors: &mut E,
-) -> u8
-    requires output { sink_failures output.old ≡ 0 }
-    requires errors { E.failures errors.old < 2 ^ 64 - 1 }
-    ensures { EndsBy Global (W.bytes world) (texts folders.now)
-        (λ does helps. RunsResponse (W.bytes world) does helps path.now)
-        (Tells E.written E.failures errors.old errors.new) result }
+    lines: &mut Vec<u8>,
+) -> Result<(), Stop>
+    requires { sink_failures output.old ≡ 0 }
+    ensures { EndsRun Global (W.bytes world) (texts folders.now)
+        (λ does helps. RunsResponse (W.bytes world) does helps path.now) result }
 {
-    let mut lines = Vec::new(alloc);
-    match response_text(alloc, &world, path, &mut lines) {
-        Ok(text) => run_list(alloc, world, text.as_str(), folders, output, errors),
-        Err(stop) => finish(Err(stop), &lines, errors),
-    }
+    let text = response_text(alloc, &world, path, lines)?;
+    run_list(alloc, world, text.as_str(), folders, output, lines)
 }
 
 /// The path of a response file that is the only word.
@@ -289,24 +272,42 @@ fn only_response<'a>(words: &[&'a str]) -> Option<&'a str>
     }
 }
 
-/// Does what words ask for, or those of the response file that is the only one, and hands out the exit status.
-fn run_command<W: World + Copy, O: Write + Drop, E: Sink>(
+/// Does what words ask for, or those of the response file that is the only one.
+fn run_command<W: World + Copy, O: Write + Drop>(
     alloc: Global,
     world: W,
     words: &[&str],
     folders: &[&str],
     output: &mut BufferedSink<O>,
-    errors: &mut E,
-) -> u8
-    requires output { sink_failures output.old ≡ 0 }
-    requires errors { E.failures errors.old < 2 ^ 64 - 1 }
-    ensures { EndsBy Global (W.bytes world) (texts folders.now)
-        (λ does helps. Runs (W.bytes world) does helps Language.Words (texts words.now))
-        (Tells E.written E.failures errors.old errors.new) result }
+    lines: &mut Vec<u8>,
+) -> Result<(), Stop>
+    requires { sink_failures output.old ≡ 0 }
+    ensures { EndsRun Global (W.bytes world) (texts folders.now)
+        (λ does helps. Runs (W.bytes world) does helps Language.Words (texts words.now)) result }
 {
     match only_response(words) {
-        Some(path) => run_response(alloc, world, path, folders, output, errors),
-        None => run_plain(alloc, world, words, folders, output, errors),
+        Some(path) => run_response(alloc, world, path, folders, output, lines),
+        None => run_plain(alloc, world, words, folders, output, lines),
+    }
+}
+
+/// The same of words in a language.
+fn run_language<W: World + Copy, O: Write + Drop>(
+    alloc: Global,
+    world: W,
+    language: Language,
+    words: &[&str],
+    folders: &[&str],
+    output: &mut BufferedSink<O>,
+    lines: &mut Vec<u8>,
+) -> Result<(), Stop>
+    requires { sink_failures output.old ≡ 0 }
+    ensures { EndsRun Global (W.bytes world) (texts folders.now)
+        (λ does helps. Runs (W.bytes world) does helps language (texts words.now)) result }
+{
+    match language {
+        Language::Directives => run_directives(alloc, world, words, folders, output, lines),
+        Language::Words => run_command(alloc, world, words, folders, output, lines),
     }
 }
 
@@ -328,10 +329,9 @@ pub fn run_words<W: World + Copy, O: Write + Drop, E: Sink>(
         (λ does helps. Runs (W.bytes world) does helps language (texts words.now))
         (Tells E.written E.failures errors.old errors.new) result }
 {
-    match language {
-        Language::Directives => run_directives(alloc, world, words, folders, output, errors),
-        Language::Words => run_command(alloc, world, words, folders, output, errors),
-    }
+    let mut lines = Vec::new(alloc);
+    let done = run_language(alloc, world, language, words, folders, output, &mut lines);
+    finish(done, &lines, errors)
 }
 
 /// Says that there was no memory, and hands out the exit status.

@@ -2,7 +2,7 @@ use Rattle.doslink_words.specs.Tokens.{texts}
 use Rattle.doslink_jobs.specs.Jobs.{IsDone}
 use Rattle.doslink_jobs.specs.Refusals.{IsRefusedJob}
 use Rattle.doslink_jobs.proofs.Doing.{ends}
-use Rattle.doslink_jobs.proofs.running.run_lines.Goals as goal
+use Rattle.doslink_jobs.proofs.running.run_job.Goals as goal
 
 pub returns : goal.returns
 returns g c =
