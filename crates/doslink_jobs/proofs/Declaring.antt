@@ -1,5 +1,5 @@
 -- What modules declare, as it is held.
-use Rattle.std.proofs.Common.{◌≡◌, ℕ, List, [], ◌∷◌, ◌++◌, map, Bor, Ok, sym, ap, ap₂, ◌∙◌}
+use Rattle.std.proofs.Common.{◌≡◌, ℕ, List, [], ◌∷◌, ◌++◌, map, Bor, Ok, sym, ap, ◌∙◌}
 use Rattle.std.proofs.lemmas.List.{map-append}
 use Rattle.omf_communal.specs.declared.declarations.Communal as lent
 use Rattle.omf_communal.specs.declared.declarations.Variable as variable
@@ -16,7 +16,7 @@ use Rattle.doslink_stock.specs.declared.searching.Handed.{Handed}
 use Rattle.doslink_stock.specs.Seen.{handed_held}
 use Rattle.doslink_jobs.specs.declared.communals.Declared.{Declared}
 use Rattle.doslink_jobs.specs.Communals.{declared_by, offering}
-use Rattle.doslink_jobs.specs.inside.Declaring.{declared_said}
+use Rattle.doslink_jobs.specs.inside.Declaring.{declared_said, offering_names}
 use Rattle.doslink_jobs.proofs.Lists.{map-map}
 
 -- one with these communal variables
@@ -37,20 +37,15 @@ pub declaring-one : {A : Type 0} (d : Declared A) (cs : List lent.Communal) → 
     → said_with (bytes_of d.offered.now) (map plain_communal cs) ≡ declared_said d
 declaring-one d cs same = ap (λ l. said_with (bytes_of d.offered.now) (map plain_communal l)) same
 
--- what modules and the module of variables say of names
-pub said-with-variables : (says all : List Said) (last : Said) (modules : List search.Module)
-    (vs : List variable.Variable) → map module_said says ≡ modules → all ≡ says ++ last ∷ []
-    → module_said last ≡ offering (map variable_said vs)
-    → map module_said all ≡ modules ++ offering (map variable_said vs) ∷ []
-said-with-variables says all last modules vs are pushed is =
-    ap (map module_said) pushed ∙ map-append module_said says (last ∷ []) ∙ ap₂ (λ l m. l ++ m ∷ []) are is
+-- what modules say of names, and behind them one more
+pub said-behind : (says all : List Said) (last : Said) (modules : List search.Module) → map module_said says ≡ modules
+    → all ≡ says ++ last ∷ [] → map module_said all ≡ modules ++ module_said last ∷ []
+said-behind says all last modules are pushed =
+    ap (map module_said) pushed ∙ map-append module_said says (last ∷ []) ∙ ap (λ l. l ++ module_said last ∷ []) are
 
--- a module that only offers these names
-abbrev pub offering_of : List (List ℕ) → search.Module
-offering_of names = record { wanted = []; offered = names }
-
--- the module of variables offers their names
-pub offers-names : (names : List (Bor (List ℕ))) (vs : List variable.Variable)
-    → bytes_of names ≡ map (λ v. (variable_said v).name) vs
-    → offering_of (bytes_of names) ≡ offering (map variable_said vs)
-offers-names names vs are = ap offering_of (are ∙ map-map variable_said (λ v. v.name) vs)
+-- the same where that one is of the names of communal variables
+pub says-all : (modules says : List search.Module) (names : List (List ℕ)) (vs : List variable.Variable)
+    → names ≡ map (λ v. (variable_said v).name) vs → says ≡ modules ++ offering_names names ∷ []
+    → says ≡ modules ++ offering (map variable_said vs) ∷ []
+says-all modules says names vs are is =
+    is ∙ ap (λ ns. modules ++ offering_names ns ∷ []) (are ∙ map-map variable_said (λ v. v.name) vs)

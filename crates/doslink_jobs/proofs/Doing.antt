@@ -1,8 +1,9 @@
 -- What was done, step by step.
 use Rattle.std.proofs.Common.{◌≡◌, ℕ, List, [], ◌∷◌, ◌++◌, length, arith, map, Result, Ok, Err}
-use Rattle.std.proofs.Common.{◌==◌, ◌≢◌, true≢false, false, MatchResult, sym, subst, ap, ◌∙◌}
+use Rattle.std.proofs.Common.{◌==◌, ◌≢◌, true≢false, false, MatchResult, Bool, refl, sym, subst, ap, ap₂, ◌∙◌}
 use Rattle.std.proofs.Common.{inl, inr}
 use Rattle.std.specs.declared.option.Option.{Option}
+use Rattle.omf_communal.specs.Deciding.{Variable}
 use Rattle.omf_place.specs.declared.names.Names.{Names}
 use Rattle.clap.specs.Words.{Text}
 use Rattle.doslink_words.specs.declared.job.Job.{Job}
@@ -11,14 +12,16 @@ use Rattle.doslink_jobs.specs.declared.stop.Stop.{Stop}
 use Rattle.doslink_jobs.specs.declared.stop.Stop.TheVariants.{Input, Words, Device, Memory}
 use Rattle.doslink_stock.specs.Files.{Held, members, objects}
 use Rattle.doslink_stock.specs.Search.{Takes}
-use Rattle.doslink_jobs.specs.Jobs.{AreDefaults, AreFilesOf, EndsWith, IsDone, IsLinkOf, IsLinked, names_of}
+use Rattle.doslink_jobs.specs.Communals.{AreVariablesOf}
+use Rattle.doslink_jobs.specs.Jobs.{AreDefaults, AreFilesOf, AreInputsOf, EndsWith, IsDone, IsLinkOf, IsLinked}
+use Rattle.doslink_jobs.specs.Jobs.{link_says, names_of}
 use Rattle.doslink_jobs.specs.Refusals.{IsRefusedJob, IsRefusedOf}
 use Rattle.doslink_jobs.specs.Runs.{AskForNone, EndsBy}
 use Rattle.doslink_jobs.specs.inside.Adding.{AddsDefaults, AreGiven}
-use Rattle.doslink_jobs.specs.inside.Inputs.{IsLinkedStock}
+use Rattle.doslink_jobs.specs.inside.Inputs.{IsLinkedStock, IsLinkedWith, IsRefusedWith}
 use Rattle.doslink_jobs.specs.inside.Stops.{OnInput, status_of, stop_status}
 use Rattle.omf_search.specs.Said.{Module, Wanted}
-use Rattle.doslink_telling.specs.Missing.{unmet}
+use Rattle.doslink_telling.specs.Missing.{unmet, wants_marks}
 
 -- a link of the objects and members of files is one of the files
 pub of-files : (A : Type 0) (job : Job) (files : List (List ℕ)) (os ms : List Held) → os ≡ objects files
@@ -52,6 +55,56 @@ link-of A job modules takes taken linked = record {
 pub link-refused : (A : Type 0) (job : Job) (modules : List Held) (takes : List Held → Type 0) → takes modules
     → IsRefusedOf A job (λ ms. ms ≡ modules) → IsRefusedOf A job takes
 link-refused A job modules takes taken (ms, same, refused) = (ms, subst takes (sym same) taken, refused)
+
+-- modules that say so of names are linked with their communal variables
+pub linked-with : (A : Type 0) (job : Job) (names : Names) (marks : Bool) (modules : List Held) (vs : List Variable)
+    (says : List Module) → names ≡ names_of job.ignore_case → says ≡ link_says modules vs
+    → AreVariablesOf names modules vs → unmet names says ≡ [] → marks ≡ wants_marks names says
+    → IsLinkedWith A job says marks modules vs → IsLinkOf A job (λ ms. ms ≡ modules)
+linked-with A job names marks modules vs says same all are met wants (linked, inputs, faultless) =
+    let those = names_of job.ignore_case in
+    let mine = link_says modules vs in
+    record {
+      modules = modules;
+      variables = vs;
+      linked = linked;
+      taken = refl;
+      are_variables = subst (λ n. AreVariablesOf n modules vs) same are;
+      met = ap₂ unmet (sym same) (sym all) ∙ met;
+      are_inputs = subst (λ m. AreInputsOf job mine m modules vs linked) (wants ∙ ap₂ wants_marks same all)
+          (subst (λ s. AreInputsOf job s marks modules vs linked) all inputs);
+      faultless = faultless;
+    }
+
+-- nothing is linked where a name is missing
+pub missing-with : (A : Type 0) (job : Job) (names : Names) (modules : List Held) (vs : List Variable)
+    (says : List Module) → names ≡ names_of job.ignore_case → says ≡ link_says modules vs
+    → AreVariablesOf names modules vs → unmet names says ≢ [] → IsRefusedOf A job (λ ms. ms ≡ modules)
+missing-with A job names modules vs says same all are missing = (
+  modules,
+  refl,
+  inr (
+    vs,
+    subst (λ n. AreVariablesOf n modules vs) same are,
+    inl (λ none. missing (ap₂ unmet same all ∙ none)),
+  ),
+)
+
+-- nor where they can't be linked with these variables
+pub refused-with : (A : Type 0) (job : Job) (names : Names) (marks : Bool) (modules : List Held) (vs : List Variable)
+    (says : List Module) → names ≡ names_of job.ignore_case → says ≡ link_says modules vs
+    → AreVariablesOf names modules vs → marks ≡ wants_marks names says
+    → IsRefusedWith A job says marks modules vs → IsRefusedOf A job (λ ms. ms ≡ modules)
+refused-with A job names marks modules vs says same all are wants refused = (
+  modules,
+  refl,
+  inr (
+    vs,
+    subst (λ n. AreVariablesOf n modules vs) same are,
+    inr (subst (λ m. IsRefusedWith A job (link_says modules vs) m modules vs) (wants ∙ ap₂ wants_marks same all)
+        (subst (λ s. IsRefusedWith A job s marks modules vs) all refused)),
+  ),
+)
 
 -- the files of a job
 pub files-of : (told : Text → Option (List ℕ)) (folders all : List Text) (job : Job) (given files : List (List ℕ))
@@ -124,18 +177,15 @@ ends Done Refused tells (Err Device) status text is did told = ((text, told), in
 ends Done Refused tells (Err Memory) status text is did told = ((text, told), inr (inr (inr is)))
 
 -- nothing is missing where no name is told
-pub none-unmet : {X : Type 0} (names : Names) (said : X → Wanted) (items slice : List X) (says modules : List Module)
-    → map said items ≡ unmet names says → slice ≡ items → length slice ≡ 0 → says ≡ modules → unmet names modules ≡ []
-none-unmet names said items [] says modules are is none same =
-    ap (unmet names) (sym same) ∙ sym are ∙ ap (map said) (sym is)
-none-unmet names said items (x ∷ xs) says modules are is none same = absurd (omega (arith, none))
+pub none-unmet : {X : Type 0} (names : Names) (said : X → Wanted) (items slice : List X) (says : List Module)
+    → map said items ≡ unmet names says → slice ≡ items → length slice ≡ 0 → unmet names says ≡ []
+none-unmet names said items [] says are is none = sym are ∙ ap (map said) (sym is)
+none-unmet names said items (x ∷ xs) says are is none = absurd (omega (arith, none))
 
 -- some name is missing where one is told
-pub some-unmet : {X : Type 0} (names : Names) (said : X → Wanted) (items slice : List X) (says modules : List Module)
-    → map said items ≡ unmet names says → slice ≡ items → (length slice == 0) ≡ false → says ≡ modules
-    → unmet names modules ≢ []
-some-unmet names said items [] says modules are is some same none = absurd (true≢false some)
-some-unmet names said [] (x ∷ xs) says modules are is some same none = absurd (omega (arith, ap length is))
-some-unmet names said (y ∷ ys) (x ∷ xs) says modules are is some same none =
-    let long : length (map said (y ∷ ys)) ≡ 0 = ap length (are ∙ ap (unmet names) same ∙ none) in
-    absurd (omega (arith, long))
+pub some-unmet : {X : Type 0} (names : Names) (said : X → Wanted) (items slice : List X) (says : List Module)
+    → map said items ≡ unmet names says → slice ≡ items → (length slice == 0) ≡ false → unmet names says ≢ []
+some-unmet names said items [] says are is some none = absurd (true≢false some)
+some-unmet names said [] (x ∷ xs) says are is some none = absurd (omega (arith, ap length is))
+some-unmet names said (y ∷ ys) (x ∷ xs) says are is some none =
+    let long : length (map said (y ∷ ys)) ≡ 0 = ap length (are ∙ none) in absurd (omega (arith, long))

@@ -7,6 +7,7 @@ pub mod Doing
 pub mod Failures
 pub mod FarData
 pub mod Lists
+pub mod Joining
 pub mod LocalModules
 pub mod Lowered
 pub mod Reading

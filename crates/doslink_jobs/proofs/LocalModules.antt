@@ -1,6 +1,6 @@
 -- The variables that are local to modules, one module after the other.
 use Rattle.std.proofs.Common.{◌≡◌, ℕ, Bool, List, [], ◌∷◌, ◌++◌, map, Ok}
-use Rattle.std.proofs.Common.{refl, sym, ap, ◌∙◌}
+use Rattle.std.proofs.Common.{inl, inr, refl, sym, ap, ◌∙◌}
 use Rattle.std.specs.List.{AllByRecursion}
 use Rattle.omf_communal.specs.Deciding.{Variable}
 use Rattle.omf_communal.specs.Locals.{local_module}
@@ -9,7 +9,8 @@ use Rattle.doslink_jobs.specs.declared.communals.Declared.{Declared}
 use Rattle.doslink_jobs.specs.declared.lowering.LoweredModule.{LoweredModule}
 use Rattle.doslink_jobs.specs.Communals.{TellsBss}
 use Rattle.doslink_jobs.specs.Locals.{EachHasLocals, HasLocals, IsPlaced}
-use Rattle.doslink_jobs.specs.inside.Declaring.{DeclareNone, declared_said}
+use Rattle.doslink_jobs.specs.Refusals.{HasNoLocals}
+use Rattle.doslink_jobs.specs.inside.Declaring.{AreNotLocal, DeclareNone, declared_said}
 use Rattle.doslink_jobs.specs.inside.Inputs.{lowered_bytes, own_bytes}
 
 -- one module more
@@ -37,6 +38,12 @@ pub is-placed : (all : List (List ℕ)) (in_bss : Bool) (vs : List Variable) (lo
     → TellsBss all in_bss → local_module in_bss vs lowered ≡ Ok linked → IsPlaced all vs lowered linked
 is-placed all in_bss [] lowered linked tells e = let is : lowered ≡ linked = cc in sym is
 is-placed all in_bss (v ∷ vs) lowered linked tells e = (in_bss, tells, e)
+
+-- variables that can't be agreed on are none of the module's
+pub none-agreed : (names : Names) (all : List (List ℕ)) (own lowered : List ℕ) → AreNotLocal names own lowered
+    → HasNoLocals names all own lowered
+none-agreed names all own lowered (inl fault) = inl fault
+none-agreed names all own lowered (inr (declared, are, clash)) = inr (declared, are, inl clash)
 
 All-push : {X : Type 0} (P : X → Type 0) (xs : List X) (x : X) → AllByRecursion P xs → P x
     → AllByRecursion P (xs ++ x ∷ [])

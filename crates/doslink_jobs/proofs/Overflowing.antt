@@ -25,7 +25,7 @@ use Rattle.doslink_jobs.specs.Orders.{AreRead, AreUnread}
 use Rattle.doslink_jobs.specs.declared.overflow.Narrowed.{Narrowed}
 use Rattle.doslink_jobs.specs.Overflow.{HaveOverflow, NarrowFixups, NarrowStart}
 use Rattle.doslink_jobs.specs.inside.Inputs.{lowered_bytes, own_bytes}
-use Rattle.doslink_jobs.specs.inside.Sums.{SomeOverflows}
+use Rattle.doslink_jobs.specs.inside.Sums.{SomeOverflows, TellsSums}
 
 -- ---- which modules have such fix-ups
 
@@ -165,3 +165,42 @@ pub none-laid : {A : Type 0} (found : Layout → List Module → Option (ℕ × 
 none-laid found one names inputs other read fault same are failed first (modules, placed, begin, only, over) =
     let all : modules ≡ read = read-same one other modules read begin (subst (λ i. AreRead i read) same are) in
     none-placed names read fault placed failed first (subst (λ ms. IsOnlyLayout names ms placed) all only)
+
+-- ---- which one is told
+
+-- none of inputs that begin with no module
+pub tells-unread : (narrowed : Narrowed) (names : Names) (inputs : List (List ℕ)) → AreUnread inputs
+    → TellsSums narrowed names inputs None
+tells-unread narrowed names inputs unread = record {
+  fixups = λ narrow. none-unread first_overflow names inputs inputs refl unread;
+  start = λ narrow. none-unread start_overflow names inputs inputs refl unread;
+}
+
+-- none of modules that have no layout
+pub tells-unplaced : {A : Type 0} → OneModule → (narrowed : Narrowed) (names : Names) (read : List Module)
+    (fault : PlaceFault A) (at : Option (ℕ × ℕ)) → at ≡ None → fault ≢ held.Memory
+    → IfSome (said fault) (IsFirstFault names read) → (inputs : List (List ℕ)) → AreRead inputs read
+    → TellsSums narrowed names inputs at
+tells-unplaced one narrowed names read fault at none failed first inputs are =
+    subst (TellsSums narrowed names inputs) (sym none) (record {
+      fixups = λ narrow. none-laid first_overflow one names inputs inputs read fault refl are failed first;
+      start = λ narrow. none-laid start_overflow one names inputs inputs read fault refl are failed first;
+    })
+
+-- the first of modules that have a layout
+pub tells-first : OneModule → (narrowed : Narrowed) (names : Names) (read : List Module) (layout : Layout)
+    (at : Option (ℕ × ℕ)) → IsOnlyLayout names read layout
+    → at ≡ option_or (first_overflow layout read) (cond narrowed.start (start_overflow layout read) None)
+    → (inputs : List (List ℕ)) → AreRead inputs read → TellsSums narrowed names inputs at
+tells-first one narrowed names read layout None only is inputs are =
+    let none = none-above (first_overflow layout read) (start_overflow layout read) narrowed.start is in
+    record {
+      fixups = λ narrow. none-over first_overflow one names inputs inputs read layout refl are only none.0;
+      start = λ narrow. none-over start_overflow one names inputs inputs read layout refl are only (none.1 narrow);
+    }
+tells-first one narrowed names read layout (Some x) only is inputs are =
+    elim (some-above (first_overflow layout read) (start_overflow layout read) narrowed.start x is) as
+    (λ e. SomeOverflows narrowed names inputs) [
+      | inl over ↦ inl (overflow-is first_overflow names inputs inputs read layout refl are only over)
+      | inr over ↦ inr (over.0, overflow-is start_overflow names inputs inputs read layout refl are only over.1)
+    ]

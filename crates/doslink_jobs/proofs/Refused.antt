@@ -18,7 +18,6 @@ use Rattle.omf_lower.specs.declared.fault.LoweringFault.TheVariants as lowering
 use Rattle.omf_lower.specs.Module as lower
 use Rattle.omf_library.specs.Records.{result_and_then}
 use Rattle.omf_place.specs.declared.names.Names.{Names}
-use Rattle.omf_search.specs.Said.{Module}
 use Rattle.doslink_stock.specs.declared.searching.Handed.{Handed}
 use Rattle.doslink_stock.specs.Seen.{handed_held, handed_taken}
 use Rattle.doslink_stock.specs.Files.{Held, members, objects}
@@ -26,9 +25,8 @@ use Rattle.doslink_stock.specs.Search.{Takes, TakesFor}
 use Rattle.doslink_words.specs.declared.job.Job.{Job}
 use Rattle.doslink_jobs.specs.declared.stop.Stop.{Stop}
 use Rattle.doslink_jobs.specs.declared.stop.Stop.TheVariants.{Input, Words, Device, Memory}
-use Rattle.doslink_jobs.specs.Jobs.{AreLoweredFor, names_of}
-use Rattle.doslink_jobs.specs.Locals.{HaveLocals}
-use Rattle.doslink_jobs.specs.Refusals.{HasNoLocals, IsRefused}
+use Rattle.doslink_jobs.specs.Jobs.{names_of}
+use Rattle.doslink_jobs.specs.Refusals.{IsRefused}
 use Rattle.doslink_jobs.specs.inside.Inputs.{IsRefusedStock}
 use Rattle.doslink_jobs.specs.inside.Stops.{OnInput}
 use Rattle.doslink_jobs.proofs.Lists.{map-map}
@@ -122,33 +120,6 @@ pub any-of-both : {X Y Z : Type 0} (Q : X → Type 0) (P : Y → Z → Type 0) (
 any-of-both Q P f g xs weaker (k, x, h, is, q) = any-pair P f g xs k x h (sym is) (weaker x q)
 
 -- ---- a link
-
--- modules lowered, as they were handed on
-pub lowered-of : {A : Type 0} (job : Job) (handed : List (Handed A)) (lowered : List (List ℕ))
-    (says other : List Module) → says ≡ other
-    → AreLoweredFor job says (map (λ h. (handed_held h).bytes) handed) lowered
-    → AreLoweredFor job other (map (λ m. m.bytes) (map handed_held handed)) lowered
-lowered-of job handed lowered says other same are =
-    subst (λ s. AreLoweredFor job s (map (λ m. m.bytes) (map handed_held handed)) lowered) same
-    (subst (λ ms. AreLoweredFor job says ms lowered) (map-map handed_held (λ m. m.bytes) handed) are)
-
--- the same with what is local to them
-pub locals-of : {A : Type 0} (names other : Names) (handed : List (Handed A)) (own lowered linked : List (List ℕ))
-    → names ≡ other → own ≡ map (λ h. (handed_held h).bytes) handed → HaveLocals names own lowered linked
-    → HaveLocals other (map (λ m. m.bytes) (map handed_held handed)) lowered linked
-locals-of names other handed own lowered linked same are have =
-    subst (λ n. HaveLocals n (map (λ m. m.bytes) (map handed_held handed)) lowered linked) same
-    (subst (λ o. HaveLocals names o lowered linked) (are ∙ map-map handed_held (λ m. m.bytes) handed) have)
-
--- a module that has no place for what is local to it
-pub no-locals-of : {A : Type 0} (names other : Names) (handed : List (Handed A)) (own lowered : List (List ℕ))
-    → names ≡ other → own ≡ map (λ h. (handed_held h).bytes) handed
-    → Any (λ m. HasNoLocals names lowered m.0 m.1) (zip own lowered)
-    → Any (λ m. HasNoLocals other lowered m.0 m.1) (zip (map (λ m. m.bytes) (map handed_held handed)) lowered)
-no-locals-of names other handed own lowered same are some =
-    subst (λ n. Any (λ m. HasNoLocals n lowered m.0 m.1) (zip (map (λ m. m.bytes) (map handed_held handed)) lowered))
-    same (subst (λ o. Any (λ m. HasNoLocals names lowered m.0 m.1) (zip o lowered))
-    (are ∙ map-map handed_held (λ m. m.bytes) handed) some)
 
 -- the modules that a link takes
 pub takes-of : {A : Type 0} (names other : Names) (os ms : List Held) (found handed : List (Handed A)) → other ≡ names

@@ -244,14 +244,12 @@ pub(crate) fn add_default_libraries<W: World, A: Allocator + Copy>(
 {
     let mut met = Vec::new(alloc);
     'rounds: for _ in 0..MOST_ROUNDS {
-        let found = named_libraries(alloc, files, names, &met, lines)?;
+        let mut found = named_libraries(alloc, files, names, &met, lines)?;
         if found.is_empty() {
             break;
         }
         add_found(alloc, world, folders, &found, files, lines)?;
-        for library in found {
-            met.push(library)?;
-        }
+        met.append(&mut found)?;
     }
     Ok(())
 }

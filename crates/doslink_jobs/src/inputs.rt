@@ -3,16 +3,18 @@ ghost use Rattle.std.specs.Prelude.{◌≡◌, IfOk, map, MatchResult};
 ghost use Rattle.std.specs.List.{list_any};
 ghost use Rattle.std.specs.Option.{option_map};
 ghost use Rattle.omf_communal.specs.Deciding.{variable_said};
+ghost use Rattle.omf_search.specs.Results.{module_said};
 ghost use Rattle.doslink_link.specs.Linking.{bytes_of};
 ghost use Rattle.doslink_stock.specs.Seen.{handed_held};
 ghost use Rattle.doslink_words.specs.Said as said;
-ghost use Rattle.doslink_jobs.specs.Jobs.{AreInputsOf, link_says, names_of};
+ghost use Rattle.doslink_jobs.specs.Jobs.{AreInputsOf, names_of};
 ghost use Rattle.doslink_jobs.specs.Orders.{IsOrderModule};
 ghost use Rattle.doslink_jobs.specs.Refusals.{HaveNoInputs, HaveNoOrder};
-ghost use Rattle.doslink_jobs.specs.inside.Inputs.{input_list, made_bytes, module_list};
+ghost use Rattle.doslink_jobs.specs.inside.Inputs.{AreJoined, AreNotJoined, input_list};
+ghost use Rattle.doslink_jobs.specs.inside.Inputs.{lowered_bytes, made_bytes, module_list};
 ghost use Rattle.doslink_jobs.specs.inside.Stops.{OnInput};
 
-use crate::communals::{communal_bytes, variable_names};
+use crate::communals::communal_bytes;
 use crate::locals::with_locals;
 use crate::lowering::{LoweredModule, lower_for, lowered_slices};
 use crate::ordering::{Asked, is_unasked, order_bytes, read_modules};
@@ -21,7 +23,6 @@ use crate::stop::Stop;
 use crate::taking::Taken;
 use crate::widths::warn_of_wide_segments;
 use doslink_stock::Handed;
-use doslink_telling::handed_saids;
 use doslink_words::Job;
 use omf_commands::Options;
 use omf_communal::Variable;
@@ -226,6 +227,38 @@ fn asks_dosseg<A: Allocator + Copy>(handed: &[Handed<'_, '_, A>]) -> bool
     handed.iter().any(|each| each.entry.says.dosseg)
 }
 
+/// Modules with the module of their communal variables behind them, and the order module in front of all.
+fn joined<'a, A: Allocator + Copy>(
+    alloc: A,
+    job: &Job<'_>,
+    modules: Vec<LoweredModule<'a, A>, A>,
+    taken: &Taken<'_, '_, 'a, A>,
+    variables: &[Variable<'a>],
+    marks: bool,
+    lines: &mut Vec<u8, A>,
+) -> Result<Inputs<'a, A>, Stop>
+    ensures { MatchResult result (λ inputs. AreJoined (names_of job.now.ignore_case) marks
+        (list_any (λ m. m.dosseg) (map handed_held taken.now.handed.now)) (said.order_of job.now.order)
+        (map lowered_bytes modules.entry.items) (map variable_said variables.now) (input_list inputs))
+        (λ stop. OnInput stop (AreNotJoined (names_of job.now.ignore_case)
+        (list_any (λ m. m.dosseg) (map handed_held taken.now.handed.now)) (said.order_of job.now.order)
+        (map lowered_bytes modules.entry.items) (map variable_said variables.now))) }
+{
+    let communal = communal_bytes(alloc, &modules, taken, variables, lines)?;
+    let asked = Asked {
+        order: &job.order,
+        dosseg: asks_dosseg(taken.handed),
+        marks,
+        names: options_of(job).names,
+    };
+    let order = order_of(alloc, &modules, &communal, &asked, taken, lines)?;
+    Ok(Inputs {
+        order,
+        modules,
+        communal,
+    })
+}
+
 /// The modules of a link as they are handed to it: those that it takes, lowered, with the variables that are local to
 /// each, the module of their communal variables behind them, and the order module in front of all. Segments of 32 bits
 /// are warned of, and a fix-up or start of 32 bits whose sum has more than 16 is told.
@@ -234,40 +267,21 @@ pub(crate) fn inputs_of<'a, A: Allocator + Copy>(
     job: &Job<'_>,
     taken: &Taken<'_, '_, 'a, A>,
     variables: &[Variable<'a>],
+    says: &[Said<'_, 'a>],
     marks: bool,
     lines: &mut Vec<u8, A>,
 ) -> Result<Inputs<'a, A>, Stop>
-    ensures { MatchResult result (λ inputs. AreInputsOf job.now
-        (link_says (map handed_held taken.now.handed.now) (map variable_said variables.now)) marks
+    ensures { MatchResult result (λ inputs. AreInputsOf job.now (map module_said says.now) marks
         (map handed_held taken.now.handed.now) (map variable_said variables.now) (input_list inputs))
-        (λ stop. OnInput stop (HaveNoInputs job.now
-        (link_says (map handed_held taken.now.handed.now) (map variable_said variables.now)) marks
+        (λ stop. OnInput stop (HaveNoInputs job.now (map module_said says.now) marks
         (map handed_held taken.now.handed.now) (map variable_said variables.now))) }
 {
     let names = options_of(job).names;
-    let offered = variable_names(alloc, variables)?;
-    let mut says = handed_saids(alloc, taken.handed)?;
-    says.push(Said {
-        wanted: &[],
-        offered: &offered,
-    })?;
-    let lowered = lower_for(alloc, job, taken, &says, lines)?;
+    let lowered = lower_for(alloc, job, taken, says, lines)?;
     let narrowed = find_narrowed(alloc, &lowered)?;
     let modules = with_locals(alloc, names, lowered, taken, lines)?;
-    let communal = communal_bytes(alloc, &modules, taken, variables, lines)?;
-    let asked = Asked {
-        order: &job.order,
-        dosseg: asks_dosseg(taken.handed),
-        marks,
-        names,
-    };
-    let order = order_of(alloc, &modules, &communal, &asked, taken, lines)?;
-    warn_of_wide_segments(alloc, job, &modules, taken, lines)?;
-    let inputs = Inputs {
-        order,
-        modules,
-        communal,
-    };
+    let inputs = joined(alloc, job, modules, taken, variables, marks, lines)?;
+    warn_of_wide_segments(alloc, job, &inputs.modules, taken, lines)?;
     check_sums(alloc, names, narrowed, &inputs, taken, lines)?;
     Ok(inputs)
 }

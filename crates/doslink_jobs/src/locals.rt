@@ -2,6 +2,7 @@
 ghost use Rattle.std.specs.Prelude.{◌≡◌, ℕ, false, Any, List, IfOk, IsErr, Ok, map, zip, MatchResult};
 ghost use Rattle.std.specs.Option.{option_map_or};
 ghost use Rattle.omf_communal.specs.declared.declarations.Scope.TheVariants as scope;
+ghost use Rattle.omf_communal.specs.Deciding.{variable_said};
 ghost use Rattle.omf_communal.specs.Reading.{communals_of, plain_communal};
 ghost use Rattle.omf_library.specs.Records.{module_records};
 ghost use Rattle.doslink_jobs.specs.Locals.{HasLocals, HaveLocals};
@@ -9,13 +10,13 @@ ghost use Rattle.doslink_jobs.specs.Communals.{TellsBss};
 ghost use Rattle.doslink_jobs.specs.Refusals.{HasNoLocals};
 ghost use Rattle.doslink_jobs.specs.inside.Inputs.{lowered_bytes, own_bytes};
 ghost use Rattle.doslink_jobs.specs.inside.Stops.{OnInput};
-ghost use Rattle.doslink_jobs.specs.inside.Declaring.{DeclareNone};
+ghost use Rattle.doslink_jobs.specs.inside.Declaring.{AreLocal, AreNotLocal, DeclareNone};
 
 use crate::communals::{Declared, agreed_variables, is_in_bss, stop_at_entry, stop_unplaced};
 use crate::lowering::LoweredModule;
 use crate::stop::Stop;
 use crate::taking::Taken;
-use omf_communal::{Communal, Scope, communals, local_module, local_names};
+use omf_communal::{Communal, Scope, Variable, communals, local_module, local_names};
 use omf_library::module_frames;
 use omf_place::Names;
 use std::alloc::{AllocError, Allocator};
@@ -58,6 +59,32 @@ fn declare_some<A: Allocator + Copy>(
     Ok(false)
 }
 
+/// The variables that a lowered module itself declares as local to it. Its first record at fault is told, and
+/// declarations that clash. The words are those of this module and others behind it.
+fn variables_in<'o, A: Allocator + Copy>(
+    alloc: A,
+    names: Names,
+    one: &'o LoweredModule<'_, A>,
+    words: &[Vec<u8, A>],
+    lines: &mut Vec<u8, A>,
+) -> Result<Vec<Variable<'o>, A>, Stop>
+    ensures { MatchResult result
+        (λ v. AreLocal names (own_bytes one.now) (lowered_bytes one.now) (map variable_said v.items))
+        (λ stop. OnInput stop (AreNotLocal names (own_bytes one.now) (lowered_bytes one.now))) }
+{
+    let word = match words.first() {
+        Some(word) => word.as_slice(),
+        None => b"",
+    };
+    let publics = local_names(alloc, one.bytes())?;
+    let mut declared = Vec::new(alloc);
+    declared.push(Declared {
+        communals: declared_in(alloc, one.own, word, lines)?,
+        offered: publics.as_slice(),
+    })?;
+    agreed_variables(alloc, names, &declared, words, lines)
+}
+
 /// The bytes that are linked of a lowered module, where those with the variables that are local to it are others. A
 /// variable that has no place is told. The words are those of this module and others behind it.
 fn linked_bytes<A: Allocator + Copy>(
@@ -74,17 +101,7 @@ fn linked_bytes<A: Allocator + Copy>(
         (λ stop. OnInput stop ((all : List (List ℕ)) → TellsBss all in_bss →
         HasNoLocals names all (own_bytes one.now) (lowered_bytes one.now))) }
 {
-    let word = match words.first() {
-        Some(word) => word.as_slice(),
-        None => b"",
-    };
-    let publics = local_names(alloc, one.bytes())?;
-    let mut declared = Vec::new(alloc);
-    declared.push(Declared {
-        communals: declared_in(alloc, one.own, word, lines)?,
-        offered: publics.as_slice(),
-    })?;
-    let variables = agreed_variables(alloc, names, &declared, words, lines)?;
+    let variables = variables_in(alloc, names, one, words, lines)?;
     match local_module(alloc, one.bytes(), &variables, in_bss) {
         Ok(bytes) => Ok(bytes),
         Err(fault) => Err(stop_unplaced(alloc, fault, &variables, words, lines)),

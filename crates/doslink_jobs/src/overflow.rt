@@ -1,14 +1,16 @@
 //! Fix-ups of 32 bits that became ones of 16, and a start that did: their sums have no more than 16 bits.
-ghost use Rattle.std.specs.Prelude.{◌≡◌, ◌≢◌, cond, false, IfOk, map, MatchResult, None};
+ghost use Rattle.std.specs.Prelude.{◌≡◌, ◌≢◌, ℕ, List, cond, false, IfOk, map, MatchResult, None};
 ghost use Rattle.std.specs.List.{list_any};
 ghost use Rattle.std.specs.Option.{option_or};
 ghost use Rattle.omf_image.specs.Overflow as image;
 ghost use Rattle.omf_lower.specs.Wide as wide;
 ghost use Rattle.omf_place.specs.Bounded.{IsBounded};
+ghost use Rattle.doslink_link.specs.Linking.{bytes_of};
+ghost use Rattle.doslink_jobs.specs.Orders.{AreRead};
 ghost use Rattle.doslink_jobs.specs.Overflow.{NarrowFixups};
 ghost use Rattle.doslink_jobs.specs.inside.Inputs.{input_list, lowered_bytes, own_bytes};
 ghost use Rattle.doslink_jobs.specs.inside.Stops.{OnInput};
-ghost use Rattle.doslink_jobs.specs.inside.Sums.{AllFit, SomeOverflows};
+ghost use Rattle.doslink_jobs.specs.inside.Sums.{AllFit, SomeOverflows, TellsSums};
 
 use crate::inputs::{Inputs, input_slices, input_words, module_at};
 use crate::lowering::LoweredModule;
@@ -23,7 +25,7 @@ use omf_place::{Layout, Names, PlaceFault, place};
 use std::alloc::{AllocError, Allocator};
 
 /// What of the modules of a link was of 32 bits.
-#[derive(Clone, Copy, Debug)]
+#[derive(Clone, Copy)]
 pub(crate) struct Narrowed {
     /// Whether a fix-up was.
     pub(crate) fixups: bool,
@@ -115,13 +117,47 @@ fn stop_at_sum<A: Allocator + Copy>(
     push_overflow(lines, word, place)
 }
 
-/// Goes on behind modules that have no layout, where they are at fault, which the link tells.
-fn pass_unplaced<A: Allocator + Copy>(fault: PlaceFault<A>) -> Result<(), Stop>
-    ensures { MatchResult result (λ done. fault ≢ PlaceFault.Memory) (λ stop. OnInput stop ⊥) }
+/// No sum is looked at where modules have no layout, since they are at fault, which the link tells.
+fn unplaced<A: Allocator + Copy>(fault: PlaceFault<A>) -> Result<Option<(usize, u64)>, Stop>
+    ensures { MatchResult result (λ at. (at ≡ None) × (fault ≢ PlaceFault.Memory)) (λ stop. OnInput stop ⊥) }
 {
     match fault {
         PlaceFault::Memory => Err(Stop::Memory),
-        _ => Ok(()),
+        _ => Ok(None),
+    }
+}
+
+/// The sum of modules that has more than 16 bits, if there is one: the input and the place of its record there.
+fn sum_above<A: Allocator + Copy>(
+    alloc: A,
+    names: Names,
+    narrowed: Narrowed,
+    modules: &[Module<A>],
+) -> Result<Option<(usize, u64)>, Stop>
+    ensures { MatchResult result (λ at. (inputs : List (List ℕ)) → AreRead inputs modules.now →
+        TellsSums narrowed names inputs at) (λ stop. OnInput stop ⊥) }
+{
+    one_module();
+    match place(alloc, modules, names) {
+        Ok(layout) => Ok(first_above(narrowed, modules, &layout)),
+        Err(fault) => unplaced(fault),
+    }
+}
+
+/// The same of the modules that these bytes begin with; none where one of them is at fault, which the link tells.
+fn input_above<A: Allocator + Copy>(
+    alloc: A,
+    names: Names,
+    narrowed: Narrowed,
+    inputs: &[&[u8]],
+    taken: &Taken<'_, '_, '_, A>,
+    lines: &mut Vec<u8, A>,
+) -> Result<Option<(usize, u64)>, Stop>
+    ensures { MatchResult result (TellsSums narrowed names (bytes_of inputs.now)) (λ stop. OnInput stop ⊥) }
+{
+    match read_modules(alloc, inputs, taken, lines)? {
+        Some(modules) => sum_above(alloc, names, narrowed, &modules),
+        None => Ok(None),
     }
 }
 
@@ -140,16 +176,8 @@ pub(crate) fn check_sums<A: Allocator + Copy>(
     if !narrowed.fixups && !narrowed.start {
         return Ok(());
     }
-    one_module();
     let slices = input_slices(alloc, inputs)?;
-    let Some(modules) = read_modules(alloc, &slices, taken, lines)? else {
-        return Ok(());
-    };
-    let layout = match place(alloc, &modules, names) {
-        Ok(layout) => layout,
-        Err(fault) => return pass_unplaced(fault),
-    };
-    match first_above(narrowed, &modules, &layout) {
+    match input_above(alloc, names, narrowed, &slices, taken, lines)? {
         Some(at) => Err(stop_after(stop_at_sum(alloc, inputs, taken, at, lines))),
         None => Ok(()),
     }

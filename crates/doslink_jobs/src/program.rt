@@ -140,6 +140,23 @@ fn map_to<W: Write + Drop, A: Allocator + Copy>(
     map_into(alloc, report, inputs, words, &mut sink)
 }
 
+/// Writes the map of what was linked, where one is asked for. Beside the answer stands whether it comes of the map.
+fn map_asked<W: Write + Drop, A: Allocator + Copy>(
+    alloc: A,
+    report: &Report<A>,
+    inputs: &[&[u8]],
+    words: &[&[u8]],
+    map: Option<W>,
+) -> (Result<(), LinkFault<A>>, bool)
+    requires { IsBounded report.now.modules.items report.now.layout }
+    ensures { IfErr result.0 (λ fault. faults.status fault ≡ 3) }
+{
+    match map {
+        Some(map) => (map_to(alloc, report, inputs, words, map), true),
+        None => (Ok(()), false),
+    }
+}
+
 /// Links the inputs into the program, and then writes the map where one is asked for. Beside the answer stands whether
 /// it comes of the map.
 pub(crate) fn link_and_map<W: Write + Drop, A: Allocator + Copy>(
@@ -155,10 +172,7 @@ pub(crate) fn link_and_map<W: Write + Drop, A: Allocator + Copy>(
         IsOnlyFault options.now.names (bytes_of inputs.now) fault) }
 {
     match link_to(alloc, options, inputs, out) {
-        Ok(report) => match map {
-            Some(map) => (map_to(alloc, &report, inputs, words, map), true),
-            None => (Ok(()), false),
-        },
+        Ok(report) => map_asked(alloc, &report, inputs, words, map),
         Err(fault) => (Err(fault), false),
     }
 }

@@ -1,6 +1,8 @@
 //! A job of `doslink`, done with files and the two streams.
 ghost use Rattle.std.specs.Prelude.{◌≡◌, ◌-◌, ◌^◌, ◌<◌, ◌++◌, IfErr, IfOk, IsErr, OnOk, map, MatchResult};
+ghost use Rattle.omf_communal.specs.Deciding.{variable_said};
 ghost use Rattle.omf_files.specs.Files.{sink_failures};
+ghost use Rattle.omf_search.specs.Results.{module_said};
 ghost use Rattle.doslink_files.specs.Files.{AreFound, AreTold, contents};
 ghost use Rattle.doslink_stock.specs.Files.{members};
 ghost use Rattle.doslink_stock.specs.Seen.{entry_held, handed_held};
@@ -8,25 +10,48 @@ ghost use Rattle.doslink_words.specs.Tokens.{texts};
 ghost use Rattle.doslink_jobs.specs.Jobs.{EndsWith, IsDone, IsLinkOf, IsLinked, Tells};
 ghost use Rattle.doslink_jobs.specs.inside.Adding.{AddsDefaults, AreGiven};
 ghost use Rattle.doslink_jobs.specs.Refusals.{IsRefused, IsRefusedJob, IsRefusedOf};
-ghost use Rattle.doslink_jobs.specs.inside.Inputs.{IsLinkedStock, IsRefusedStock};
+ghost use Rattle.doslink_jobs.specs.inside.Inputs.{IsLinkedStock, IsLinkedWith, IsRefusedStock, IsRefusedWith};
 ghost use Rattle.doslink_jobs.specs.inside.Stops as stops;
 ghost use Rattle.doslink_jobs.specs.inside.Stops.{OnInput, told_text};
 
-use crate::communals::variables_of;
+use crate::communals::{variable_names, variables_of};
 use crate::defaults::{add_default_libraries, slices_of};
 use crate::inputs::{inputs_of, options_of};
 use crate::linking::write_program;
 use crate::places::{Places, places_of};
 use crate::stop::{Stop, stop_at};
-use crate::taking::{Taken, check_names, tell_taken};
+use crate::taking::{Taken, check_names, link_saids, tell_taken};
 use doslink_files::{InputFile, find_libraries, read_files};
-use doslink_stock::{Stock, read_stock, search};
+use doslink_stock::{Handed, Stock, read_stock, search};
 use doslink_telling::{module_words, push_stock_fault};
 use doslink_words::Job;
+use omf_communal::Variable;
 use omf_files::{BufferedSink, World};
 use omf_frame::{Sink, put_all};
+use omf_search::Said;
 use std::alloc::{AllocError, Allocator};
 use std::io::Write;
+
+/// Links modules with their communal variables, where all say so of names and marks are wanted or not.
+fn link_checked<'a, W: World + Copy, A: Allocator + Copy>(
+    alloc: A,
+    world: W,
+    job: &Job<'_>,
+    places: &Places<A>,
+    taken: &Taken<'_, '_, 'a, A>,
+    variables: &[Variable<'a>],
+    says: &[Said<'_, 'a>],
+    marks: bool,
+    lines: &mut Vec<u8, A>,
+) -> Result<(), Stop>
+    ensures { MatchResult result (λ done. IsLinkedWith A job.now (map module_said says.now) marks
+        (map handed_held taken.now.handed.now) (map variable_said variables.now))
+        (λ stop. OnInput stop (IsRefusedWith A job.now (map module_said says.now) marks
+        (map handed_held taken.now.handed.now) (map variable_said variables.now))) }
+{
+    let inputs = inputs_of(alloc, job, taken, variables, says, marks, lines)?;
+    write_program(alloc, world, job, places, taken, &inputs, lines)
+}
 
 /// Links the modules that a link takes. Names that are missing stop it.
 fn link_taken<W: World + Copy, A: Allocator + Copy>(
@@ -44,13 +69,40 @@ fn link_taken<W: World + Copy, A: Allocator + Copy>(
 {
     let names = options_of(job).names;
     let variables = variables_of(alloc, names, taken, lines)?;
-    let marks = check_names(alloc, names, files, stock, taken.handed, &variables, lines)?;
-    let inputs = inputs_of(alloc, job, taken, &variables, marks, lines)?;
-    write_program(alloc, world, job, places, taken, &inputs, lines)
+    let communal = variable_names(alloc, &variables)?;
+    let says = link_saids(alloc, taken.handed, &communal)?;
+    let marks = check_names(alloc, names, files, stock, taken.handed, &says, lines)?;
+    link_checked(
+        alloc, world, job, places, taken, &variables, &says, marks, lines,
+    )
 }
 
-/// Links the modules that a link takes of these. They are told where the job asks for that; names that are missing stop
-/// it.
+/// Links the modules that a link takes, which are told where the job asks for that.
+fn link_handed<W: World + Copy, O: Write + Drop, A: Allocator + Copy>(
+    alloc: A,
+    world: W,
+    job: &Job<'_>,
+    files: &[InputFile<A>],
+    stock: &Stock<'_, A>,
+    places: &Places<A>,
+    handed: &[Handed<'_, '_, A>],
+    output: &mut BufferedSink<O, A>,
+    lines: &mut Vec<u8, A>,
+) -> Result<(), Stop>
+    requires { sink_failures output.old ≡ 0 }
+    ensures { MatchResult result (λ done. IsLinkOf A job.now (λ ms. ms ≡ map handed_held handed.now))
+        (λ stop. OnInput stop (IsRefusedOf A job.now (λ ms. ms ≡ map handed_held handed.now))) }
+{
+    let words = module_words(alloc, files, handed)?;
+    let taken = Taken {
+        handed,
+        words: &words,
+    };
+    tell_taken(alloc, job, output, &taken, lines)?;
+    link_taken(alloc, world, job, files, stock, places, &taken, lines)
+}
+
+/// Links the modules that a link takes of these.
 fn link_stock<W: World + Copy, O: Write + Drop, A: Allocator + Copy>(
     alloc: A,
     world: W,
@@ -68,16 +120,9 @@ fn link_stock<W: World + Copy, O: Write + Drop, A: Allocator + Copy>(
 {
     let places = places_of(alloc, job, files, lines)?;
     let found = search(alloc, stock, options_of(job).names)?;
-    let handed = found.as_slice();
-    let words = module_words(alloc, files, handed)?;
-    let taken = Taken {
-        handed,
-        words: &words,
-    };
-    if job.verbose {
-        tell_taken(alloc, output, &taken, lines)?;
-    }
-    link_taken(alloc, world, job, files, stock, &places, &taken, lines)
+    link_handed(
+        alloc, world, job, files, stock, &places, &found, output, lines,
+    )
 }
 
 /// Links what the files hold.
@@ -148,22 +193,9 @@ fn given_files<W: World, A: Allocator + Copy>(
         (λ stop. OnInput stop ⊥) }
 {
     let mut files = named_files(alloc, world, job, lines)?;
-    let libraries = named_libraries(alloc, world, job, lines)?;
-    append(&mut files, libraries)?;
+    let mut libraries = named_libraries(alloc, world, job, lines)?;
+    files.append(&mut libraries)?;
     Ok(files)
-}
-
-/// Puts files behind others.
-fn append<A: Allocator + Copy>(
-    files: &mut Vec<InputFile<A>, A>,
-    more: Vec<InputFile<A>, A>,
-) -> Result<(), AllocError>
-    ensures { OnOk result (files.new.items ≡ files.old.items ++ more.items) }
-{
-    for file in more {
-        files.push(file)?;
-    }
-    Ok(())
 }
 
 /// The folders of a job, and others behind them.

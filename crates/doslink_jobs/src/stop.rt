@@ -7,7 +7,7 @@ use doslink_telling::push_device_line;
 use std::alloc::{AllocError, AllocFailed, Allocator};
 
 /// Why a run stops before its program is written.
-#[derive(Clone, Copy, Debug, PartialEq, Eq)]
+#[derive(Clone, Copy)]
 pub(crate) enum Stop {
     /// An input is at fault, which was told.
     Input,

@@ -1,5 +1,6 @@
 -- Whether sums of what was of 32 bits have more than 16.
-use Rattle.std.specs.Prelude.{◌≡◌, ◌⊎◌, ℕ, true, List}
+use Rattle.std.specs.Prelude.{◌≡◌, ◌⊎◌, ℕ, true, List, MatchOption}
+use Rattle.std.specs.declared.option.Option.{Option}
 use Rattle.omf_image.specs.Overflow.{first_overflow, start_overflow}
 use Rattle.omf_place.specs.declared.names.Names.{Names}
 use Rattle.doslink_jobs.specs.declared.overflow.Narrowed.{Narrowed}
@@ -15,3 +16,8 @@ abbrev pub SomeOverflows : Narrowed → Names → (inputs : List (List ℕ)) →
 SomeOverflows narrowed names inputs =
     HaveOverflow first_overflow names inputs
     ⊎ ((narrowed.start ≡ true) × HaveOverflow start_overflow names inputs)
+
+-- this says of which one, if any
+abbrev pub TellsSums : Narrowed → Names → (inputs : List (List ℕ)) → Option (ℕ × ℕ) → Type 0
+TellsSums narrowed names inputs at =
+    MatchOption at (AllFit narrowed names inputs) (λ one. SomeOverflows narrowed names inputs)

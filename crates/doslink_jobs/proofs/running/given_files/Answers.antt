@@ -12,7 +12,7 @@ returns g c =
       contents libraries,
       c.in_ok-files.ensures,
       c.in_ok-libraries.ensures,
-      ap contents c.in_ok-append.ensures ∙ map-append (λ f. f.bytes.items) named libraries,
+      ap contents c.in_ok-append.ensures.items ∙ map-append (λ f. f.bytes.items) named libraries,
     )
 
 pub returns-in_err-files : goal.returns-in_err-files

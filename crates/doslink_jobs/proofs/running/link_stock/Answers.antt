@@ -1,4 +1,4 @@
-use Rattle.std.proofs.Common.{map, subst, sym}
+use Rattle.std.proofs.Common.{map}
 use Rattle.doslink_stock.specs.Search.{Takes}
 use Rattle.doslink_stock.specs.Seen.{entry_held, handed_held}
 use Rattle.doslink_jobs.specs.Jobs.{names_of}
@@ -16,9 +16,9 @@ returns g c =
     let names = names_of job.ignore_case in
     let os = map entry_held c.args.stock.now.objects.items in
     let ms = map entry_held c.args.stock.now.members.items in
-    let handed = c.as_slice-handed.result.now in
+    let handed = c.deref.result.now in
     let takes = takes-of names c.options_of.result.names os ms c.in_ok-found.found.items handed
-    c.options_of.ensures c.in_ok-found.ensures c.as_slice-handed.ensures.value in
-    steps-weaker c.link_taken.result
+    c.options_of.ensures c.in_ok-found.ensures c.deref.ensures.value in
+    steps-weaker c.link_handed.result
     (λ done. link-of g.row.A.Denot job (map handed_held handed) (Takes names os ms) takes)
-    (link-refused g.row.A.Denot job (map handed_held handed) (Takes names os ms) takes) c.link_taken.ensures
+    (link-refused g.row.A.Denot job (map handed_held handed) (Takes names os ms) takes) c.link_handed.ensures

@@ -1,11 +1,15 @@
-use Rattle.std.proofs.Common.{◌≡◌, ◌≢◌, [], map, ap, inl, inr, refl, subst, ◌∙◌}
+use Rattle.std.proofs.Common.{◌≡◌, map, ap, inl, refl, subst, sym, ◌∙◌}
+use Rattle.doslink_link.specs.Linking.{bytes_of}
 use Rattle.omf_communal.specs.Deciding.{variable_said}
+use Rattle.omf_search.specs.Results.{module_said}
+use Rattle.doslink_stock.specs.Files.{needs}
 use Rattle.doslink_stock.specs.Seen.{handed_held}
 use Rattle.doslink_telling.specs.Missing.{unmet, wants_marks}
 use Rattle.doslink_jobs.specs.Communals.{AreVariablesOf}
-use Rattle.doslink_jobs.specs.Jobs.{AreInputsOf, link_says, names_of}
-use Rattle.doslink_jobs.specs.Refusals.{HaveNoInputs, HaveNoVariables}
-use Rattle.doslink_jobs.specs.inside.Inputs.{input_list}
+use Rattle.doslink_jobs.specs.Jobs.{link_says}
+use Rattle.doslink_jobs.specs.Refusals.{HaveNoVariables}
+use Rattle.doslink_jobs.proofs.Declaring.{says-all}
+use Rattle.doslink_jobs.proofs.Doing.{linked-with, missing-with, refused-with}
 use Rattle.doslink_jobs.proofs.Refused.{refused-exit, steps-weaker}
 use Rattle.doslink_jobs.proofs.running.link_taken.Goals as goal
 
@@ -19,79 +23,38 @@ returns-in_err-variables g c =
 pub returns-in_err-marks : goal.returns-in_err-marks
 returns-in_err-marks g c =
     let modules = map handed_held c.args.taken.now.handed.now in
-    let vs = map variable_said c.in_ok-variables.variables.items in
-    let are = subst (λ n. AreVariablesOf n modules vs) c.options_of-names.ensures c.in_ok-variables.ensures in
+    let variables = c.in_ok-variables.variables.items in
+    let names : bytes_of c.deref-2.result.now ≡ map (λ v. (variable_said v).name) variables =
+    ap bytes_of c.deref-2.ensures.value ∙ c.in_ok-communal.ensures
+    ∙ ap (map (λ v. (variable_said v).name)) c.deref.ensures.value in
+    let all : map module_said c.deref-3.result.now ≡ link_says modules (map variable_said variables) =
+    ap (map module_said) c.deref-3.ensures.value
+    ∙ says-all (map needs modules) _ (bytes_of c.deref-2.result.now) variables names c.in_ok-says.ensures in
     refused-exit _ c.from_residual-in_err-marks.result _ c.from_residual-in_err-marks.ensures.1
-    (λ missing. (
-      modules,
-      refl,
-      inr (
-        vs,
-        are,
-        inl
-            (subst (λ n. unmet n (link_says modules vs) ≢ []) c.options_of-names.ensures
-            (subst (λ l. unmet c.options_of-names.result.names (link_says modules (map variable_said l)) ≢ [])
-            c.deref.ensures.value missing)),
-      ),
-    ))
+    (missing-with _ c.args.job.now c.options_of-names.result.names modules (map variable_said variables)
+    (map module_said c.deref-3.result.now) c.options_of-names.ensures all c.in_ok-variables.ensures)
     c.in_err-marks.ensures.refused
-
-pub returns-in_err-inputs : goal.returns-in_err-inputs
-returns-in_err-inputs g c =
-    let job = c.args.job.now in
-    let names = names_of job.ignore_case in
-    let modules = map handed_held c.args.taken.now.handed.now in
-    let vs = map variable_said c.in_ok-variables.variables.items in
-    let are = subst (λ n. AreVariablesOf n modules vs) c.options_of-names.ensures c.in_ok-variables.ensures in
-    let marks : c.in_ok-marks.marks ≡ wants_marks names (link_says modules vs) =
-    c.in_ok-marks.ensures.marks
-    ∙ ap (λ n. wants_marks n (link_says modules (map variable_said c.deref.result.now))) c.options_of-names.ensures
-    ∙ ap (λ l. wants_marks names (link_says modules (map variable_said l))) c.deref.ensures.value in
-    refused-exit _ c.from_residual-in_err-inputs.result _ c.from_residual-in_err-inputs.ensures.1
-    (λ none. (
-      modules,
-      refl,
-      inr (
-        vs,
-        are,
-        inr (inl
-            (subst (λ m. HaveNoInputs job (link_says modules vs) m modules vs) marks
-            (subst (λ l. HaveNoInputs job (link_says modules (map variable_said l)) c.in_ok-marks.marks modules
-            (map variable_said l)) c.deref-2.ensures.value none))),
-      ),
-    ))
-    c.in_err-inputs.ensures
 
 pub returns : goal.returns
 returns g c =
-    let job = c.args.job.now in
-    let names = names_of job.ignore_case in
     let modules = map handed_held c.args.taken.now.handed.now in
-    let vs = map variable_said c.in_ok-variables.variables.items in
-    let are = subst (λ n. AreVariablesOf n modules vs) c.options_of-names.ensures c.in_ok-variables.ensures in
-    let inputs = input_list c.in_ok-inputs.inputs in
-    let met =
-    subst (λ n. unmet n (link_says modules vs) ≡ []) c.options_of-names.ensures
-    (subst (λ l. unmet c.options_of-names.result.names (link_says modules (map variable_said l)) ≡ [])
-    c.deref.ensures.value c.in_ok-marks.ensures.met) in
-    let marks : c.in_ok-marks.marks ≡ wants_marks names (link_says modules vs) =
-    c.in_ok-marks.ensures.marks
-    ∙ ap (λ n. wants_marks n (link_says modules (map variable_said c.deref.result.now))) c.options_of-names.ensures
-    ∙ ap (λ l. wants_marks names (link_says modules (map variable_said l))) c.deref.ensures.value in
-    let of =
-    subst (λ m. AreInputsOf job (link_says modules vs) m modules vs inputs) marks
-    (subst (λ l. AreInputsOf job (link_says modules (map variable_said l)) c.in_ok-marks.marks modules
-    (map variable_said l) inputs) c.deref-2.ensures.value c.in_ok-inputs.ensures) in
-    steps-weaker c.write_program.result
-    (λ done faultless. record {
-      modules = modules;
-      variables = vs;
-      linked = inputs;
-      taken = refl;
-      are_variables = are;
-      met = met;
-      are_inputs = of;
-      faultless = faultless;
-    })
-    (λ fault. (modules, refl, inr (vs, are, inr (inr (inputs, of, fault)))))
-    c.write_program.ensures
+    let variables = c.deref-4.result.now in
+    let named = c.options_of-names.result.names in
+    let says = map module_said c.deref-5.result.now in
+    let names : bytes_of c.deref-2.result.now ≡ map (λ v. (variable_said v).name) variables =
+    ap bytes_of c.deref-2.ensures.value ∙ c.in_ok-communal.ensures
+    ∙ ap (map (λ v. (variable_said v).name)) (c.deref.ensures.value ∙ sym c.deref-4.ensures.value) in
+    let all : says ≡ link_says modules (map variable_said variables) =
+    ap (map module_said) c.deref-5.ensures.value
+    ∙ says-all (map needs modules) _ (bytes_of c.deref-2.result.now) variables names c.in_ok-says.ensures in
+    let are = subst (λ l. AreVariablesOf named modules (map variable_said l)) (sym c.deref-4.ensures.value)
+    c.in_ok-variables.ensures in
+    let met = ap (λ l. unmet named (map module_said l)) (c.deref-5.ensures.value ∙ sym c.deref-3.ensures.value)
+    ∙ c.in_ok-marks.ensures.met in
+    let wants = c.in_ok-marks.ensures.marks
+    ∙ ap (λ l. wants_marks named (map module_said l)) (c.deref-3.ensures.value ∙ sym c.deref-5.ensures.value) in
+    steps-weaker c.link_checked.result
+    (λ done. linked-with _ c.args.job.now named c.in_ok-marks.marks modules (map variable_said variables) says
+    c.options_of-names.ensures all are met wants)
+    (refused-with _ c.args.job.now named c.in_ok-marks.marks modules (map variable_said variables) says
+    c.options_of-names.ensures all are wants) c.link_checked.ensures
