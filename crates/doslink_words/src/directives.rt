@@ -1,8 +1,10 @@
 //! The directives of a response file.
-ghost use Rattle.std.specs.Prelude.{◌≡◌, IfOk};
+ghost use Rattle.std.specs.Prelude.{◌≡◌, Err, IfOk, Ok, codes, if◌then◌else◌};
 ghost use Rattle.std.specs.Str.Lines.{lines};
 ghost use Rattle.doslink_words.specs.Directives as spec;
-ghost use Rattle.doslink_words.specs.Said.{nothing, said_of};
+ghost use Rattle.doslink_words.specs.Said.{Said, nothing, said_of};
+ghost use Rattle.doslink_words.specs.declared.faults.DirectiveFaultKind.TheVariants.{NoCom, NotDos};
+ghost use Rattle.doslink_words.specs.declared.keywords.Directive.TheVariants as directive;
 ghost use Rattle.doslink_words.specs.Tokens.{texts};
 ghost use Rattle.doslink_words.specs.inside.Tokens.{piece_of, pieces};
 ghost use Rattle.doslink_words.specs.Directives.{Means};
@@ -17,18 +19,46 @@ use crate::options::{follow_options, warn};
 use crate::tokens::{Syntax, Token, after_space, tokens};
 use std::alloc::{AllocError, Global};
 
+// Whether `format dos` asks for the kind .EXE.
+fn check_kind(kind: Token) -> Result<(), DirectiveFaultKind>
+    ensures { result ≡ (if spec.is_word (piece_of kind.entry) (codes "exe") then Ok tt
+        else Err (if spec.is_word (piece_of kind.entry) (codes "com") then NoCom else NotDos)) }
+{
+    if kind.is_word("exe") {
+        Ok(())
+    } else if kind.is_word("com") {
+        Err(DirectiveFaultKind::NoCom)
+    } else {
+        Err(DirectiveFaultKind::NotDos)
+    }
+}
+
 // Whether `format` asks for a DOS program of the kind .EXE.
 fn check_format(operands: &[Token]) -> Result<(), DirectiveFaultKind>
     ensures { result ≡ spec.format_meaning (pieces operands.now) }
 {
     match operands {
         [system] if system.is_word("dos") => Ok(()),
-        [system, kind] if system.is_word("dos") && kind.is_word("exe") => Ok(()),
-        [system, kind] if system.is_word("dos") && kind.is_word("com") => Err(
-            DirectiveFaultKind::NoCom,
-        ),
+        [system, kind] if system.is_word("dos") => check_kind(*kind),
         _ => Err(DirectiveFaultKind::NotDos),
     }
+}
+
+// Follows `format`, which changes nothing.
+fn follow_format(operands: &[Token]) -> Result<(), LineFault>
+    ensures { (said : Said) → Follows result (spec.and_then (spec.format_meaning (pieces operands.now)) (λ _. Ok said))
+        said }
+{
+    Ok(check_format(operands)?)
+}
+
+// Follows `name`.
+fn follow_name<'a>(directives: &mut Directives<'a>, operands: &[Token<'a>]) -> Result<(), LineFault>
+    ensures { Follows result (spec.directive_meaning 0 directive.Name (pieces operands.now) (said_of directives.old))
+        (said_of directives.new) }
+{
+    directives.job.out = Some(one_name(operands)?);
+    Ok(())
 }
 
 // Follows `order`, whose list begins with a class.
@@ -66,11 +96,8 @@ fn follow_directive<'a>(
         Directive::File => put_names(&mut directives.job.files, operands),
         Directive::Library => put_names(&mut directives.job.libraries, operands),
         Directive::Folder => put_names(&mut directives.job.folders, operands),
-        Directive::Name => {
-            directives.job.out = Some(one_name(operands)?);
-            Ok(())
-        }
-        Directive::Format => Ok(check_format(operands)?),
+        Directive::Name => follow_name(directives, operands),
+        Directive::Format => follow_format(operands),
         Directive::Option => follow_options(directives, line, operands),
         Directive::Order => follow_order(alloc, directives, operands),
         Directive::Debug => Ok(()),

@@ -1,5 +1,5 @@
 //! The options of a directive `option`.
-ghost use Rattle.std.specs.Prelude.{◌≡◌};
+ghost use Rattle.std.specs.Prelude.{◌≡◌, Ok, Some};
 ghost use Rattle.std.specs.Option.{option_map, option_map_or};
 ghost use Rattle.doslink_words.specs.Directives as spec;
 ghost use Rattle.doslink_words.specs.Said.{At, Beside, map_of, said_of};
@@ -23,16 +23,27 @@ pub(crate) fn warn(
     Ok(directives.warnings.push(Warning { line, kind })?)
 }
 
+// The name of an option `NAME=VALUE`, and its value.
+fn valued_option<'a>(
+    name: Token<'a>,
+    value: Token<'a>,
+) -> Result<(&'a str, Option<&'a str>), DirectiveFaultKind>
+    ensures { Gives option_said result (spec.and_then (spec.name_of (piece_of value.entry))
+        (λ text. spec.and_then (spec.word_of (piece_of name.entry)) (λ word. Ok (word, Some text)))) }
+{
+    let value = value.name()?;
+    Ok((name.word()?, Some(value)))
+}
+
 // The name of an option `NAME[=VALUE]`, and its value.
 fn option_of<'a>(part: &[Token<'a>]) -> Result<(&'a str, Option<&'a str>), DirectiveFaultKind>
     ensures { Gives option_said result (spec.option_of (pieces part.now)) }
 {
-    let (name, value) = match part {
-        [name] => (name, None),
-        [name, mark, value] if mark.is_equals() => (name, Some(value.name()?)),
-        _ => return Err(DirectiveFaultKind::WrongOperands),
-    };
-    Ok((name.word()?, value))
+    match part {
+        [name] => Ok((name.word()?, None)),
+        [name, mark, value] if mark.is_equals() => valued_option(*name, *value),
+        _ => Err(DirectiveFaultKind::WrongOperands),
+    }
 }
 
 // The map that an option `map` asks for.

@@ -1,3 +1,4 @@
+use Rattle.std.proofs.Common.{rules}
 use Rattle.std.proofs.lemmas.Str.{IsCharBoundary-after_ascii}
 use Rattle.doslink_words.proofs.TokensLemmas.{first-quote, first-mark}
 use Rattle.doslink_words.proofs.tokens.next_token.Goals as goal
@@ -13,3 +14,6 @@ range_from-requires-in-Some c = λ _.
     IsCharBoundary-after_ascii c.args.text.now 0 c.utf8.text c.requires
     (first-mark c.args.syntax c.args.text.now c.as_bytes.result.now c.mark_of.result c.in-Some.mark
     c.as_bytes.ensures.value c.mark_of.ensures c.in-Some.is)
+
+pub returns-then-is_quote-clause-token : goal.returns-then-is_quote-clause-token
+returns-then-is_quote-clause-token c = search rules

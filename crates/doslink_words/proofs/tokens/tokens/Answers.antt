@@ -1,4 +1,4 @@
-use Rattle.std.proofs.Common.{◌≡◌, ◌∙◌, ◌∷◌, ◌++◌, [], ap, length, sym}
+use Rattle.std.proofs.Common.{◌≡◌, ◌∙◌, ◌∷◌, ◌++◌, [], ap, length, rules, sym}
 use Rattle.std.proofs.lemmas.List.{map-append}
 use Rattle.doslink_words.specs.inside.Tokens.{piece_of, pieces}
 use Rattle.doslink_words.proofs.TokensLemmas.{left-more, left-start, not_empty}
@@ -27,3 +27,9 @@ loop-front-preserved c =
           (sym c.in-Some.ensures.token) c.in-Some.ensures.shorter);
       utf8 = c.in-Some.ensures.utf8;
     }
+
+pub returns-in_default-clause-err : goal.returns-in_default-clause-err
+returns-in_default-clause-err c = search rules
+
+pub returns-then-is_empty-clause-ok : goal.returns-then-is_empty-clause-ok
+returns-then-is_empty-clause-ok c = search rules
