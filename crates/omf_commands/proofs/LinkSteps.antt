@@ -131,6 +131,16 @@ module _ {S : Type 0} (told : S → Option (List ℕ)) (failures : S → ℕ) wh
       (inr (lists, inputs, subst (λ ms. IsModulesFault {A = A} names ms (link.Program f)) is h), kept w)
   not_linked names olds news w lists modules (link.File f) inputs is h = absurd h
 
+  -- reading writes nothing
+  pub unread : (T : Type 0) {A : Type 0} (olds news : List S) (n : ℕ) (e : LinkFault A)
+      → IsInputFault told failures olds news e → n ≡ n + sink_failures {T = T} (Err e)
+  unread T olds news n link.Memory h = omega arith
+  unread T olds news n (link.Device input place) h = omega arith
+  unread T olds news n (link.Record input place f) h = omega arith
+  unread T olds news n link.Output h = absurd h
+  unread T olds news n (link.Program f) h = absurd h
+  unread T olds news n (link.File f) h = absurd h
+
 -- placing and building write nothing
 pub unwritten : (T : Type 0) {A : Type 0} (names : Names) (modules : List Module) (n : ℕ) (e : LinkFault A)
     → LinksModules {A = A} names modules (Err e) → n ≡ n + sink_failures {T = T} (Err e)

@@ -24,3 +24,9 @@ returns-in-Ok-put_all-clause-whole g c =
 pub returns-in-Ok-clause-whole : goal.returns-in-Ok-clause-whole
 returns-in-Ok-clause-whole g c =
     λ rs bytes rest whole told. ((c.in-Ok.ensures.whole rs bytes rest whole told).1, c.in-Err-put_all.ensures.0)
+
+pub returns-in-Ok-put_all-clause-source : goal.returns-in-Ok-put_all-clause-source
+returns-in-Ok-put_all-clause-source g c = c.in-Ok.ensures.device
+
+pub returns-in-Ok-clause-source : goal.returns-in-Ok-clause-source
+returns-in-Ok-clause-source g c = c.in-Ok.ensures.device

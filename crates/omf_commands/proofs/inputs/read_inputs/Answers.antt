@@ -1,7 +1,8 @@
-use Rattle.std.proofs.Common.{rules, ◌≡◌, ◌<◌, ◌+◌, ◌++◌, ◌∷◌, [], drop, length, sym, subst, inr}
+use Rattle.std.proofs.Common.{rules, ◌≡◌, ◌<◌, ◌≤◌, ◌+◌, ◌++◌, ◌∷◌, [], drop, length, sym, subst, inr}
 use Rattle.std.proofs.lemmas.List.Elements.{All-get_or}
 use Rattle.std.proofs.lemmas.Result.{err_from_is_err_and}
-use Rattle.omf_commands.proofs.InputSteps.{finished, front_read, modules_push, read_input, read_one, refused, same_at}
+use Rattle.omf_commands.proofs.InputSteps.{all_read, begun, finished, front_read, modules_push, read_input, read_one}
+use Rattle.omf_commands.proofs.InputSteps.{refused, same_at}
 use Rattle.omf_commands.proofs.inputs.read_inputs.Goals as goal
 
 pub read_module-requires : goal.read_module-requires
@@ -62,4 +63,18 @@ loop-input-preserved g c =
       read_one told failures lists c.loop-input.input c.args.sources.now c.loop-input.sources
           c.index-sources-input.result rs c.finish.new.self here so input,
       rw pushed (modules_push lists rs _ c.in-Ok.module are says),
+    )
+
+pub loop-input-init : goal.loop-input-init
+loop-input-init g c =
+    ([], begun g.S.Source.remaining g.S.Source.failures c.args.sources.now, c.new-modules.ensures.items)
+
+pub returns : goal.returns
+returns g c =
+    let (lists, so, are) = c.loop-input.invariant in
+    let past : length c.args.sources.now ≤ c.loop-input.input = search rules in (
+      lists,
+      all_read g.S.Source.remaining g.S.Source.failures lists c.loop-input.input c.args.sources.now c.loop-input.sources
+          past so,
+      are,
     )

@@ -127,3 +127,13 @@ loop-frame-preserved g c =
       omega (arith, c.in-Ok-Some.ensures.device, same_source),
       omega (arith, c.in_ok-put_record.ensures.count, same_sink),
     )
+
+pub returns-in-Ok-None-clause-source : goal.returns-in-Ok-None-clause-source
+returns-in-Ok-None-clause-source g c =
+    let (rs, before, through, at, held, same_source, same_sink) = c.loop-frame.invariant in
+    omega (arith, c.in-Ok-None.ensures.device, same_source)
+
+pub returns-then-frame-clause-source : goal.returns-then-frame-clause-source
+returns-then-frame-clause-source g c =
+    let (rs, before, through, at, held, same_source, same_sink) = c.loop-frame.invariant in
+    omega (arith, c.in-Ok-Some.ensures.device, same_source)

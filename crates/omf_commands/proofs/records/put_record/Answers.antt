@@ -1,4 +1,5 @@
-use Rattle.std.proofs.Common.{◌++◌, length, sym, subst}
+use Rattle.std.proofs.Common.{◌++◌, arith, length, sym, subst}
+use Rattle.std.specs.Io.KnownBytes.{Appends}
 use Rattle.omf_frame.specs.Device.{AppendsFront}
 use Rattle.omf_record.specs.View.{view}
 use Rattle.omf_text.specs.Details.{details}
@@ -30,4 +31,21 @@ returns-in-Listing-clause-handles g c =
           (λ kind.
           AppendsFront (g.K.Sink.written c.args.sink.now) (g.K.Sink.written c.put_listing.new.sink)
           (head_line f.place kind (length f.body.now) ++ details r)) (sym says.0) c.in-Err.ensures.0,
+    )
+
+pub returns-in-Ok-clause-count : goal.returns-in-Ok-clause-count
+returns-in-Ok-clause-count g c = omega (arith, c.in-Ok.ensures.1)
+
+pub returns-in-Ok-clause-handles : goal.returns-in-Ok-clause-handles
+returns-in-Ok-clause-handles g c =
+    let f = c.args.frame.now in
+    let r = view c.in_ok-record.record in
+    let says = c.in_ok-record.ensures.0 in
+    rw c.in-Listing.is (
+      r,
+      says,
+      subst
+          (λ kind.
+          Appends (g.K.Sink.written c.args.sink.now) (g.K.Sink.written c.put_listing.new.sink)
+          (head_line f.place kind (length f.body.now) ++ details r)) (sym says.0) c.in-Ok.ensures.0,
     )

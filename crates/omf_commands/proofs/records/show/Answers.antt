@@ -8,3 +8,6 @@ returns-clause-only g c =
     λ rs bytes rest ended are told.
     only_answer _ _ (output Listing) rs bytes rest _ _ _ _ c.go_through.result ended are told
     c.go_through.ensures.output
+
+pub returns-clause-output : goal.returns-clause-output
+returns-clause-output g c = c.go_through.ensures.output
