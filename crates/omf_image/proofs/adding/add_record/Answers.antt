@@ -1,7 +1,7 @@
 use Rattle.std.proofs.Common.{◌≡◌, ◌∙◌, ◌-◌, ◌∷◌, ◌++◌, [], ℕ, List, None, false, take, drop, flat_map, refl, sym, ap}
 use Rattle.std.proofs.Common.{subst, arith, rules, length}
 use Rattle.std.proofs.lemmas.List.{take_all, length-drop}
-use Rattle.std.proofs.lemmas.List.Elements.{All-weaker}
+use Rattle.std.proofs.lemmas.List.Elements.{All-drop, All-take, All-weaker}
 use Rattle.omf_module.specs.Seen.{data_seen}
 use Rattle.omf_image.specs.declared.patch.Patch.{Patch}
 use Rattle.omf_image.specs.Records.{bytes_of, datum, patches, fixup_patches}
@@ -195,3 +195,42 @@ returns-then-is_empty-clause-gives g c modules rest l =
     (λ (xs : List ResolvedFixup).
     Holds c.data_address-start.result d.bytes.now (state c.args.work.now) (state c.lay.new.self)
     (flat_map (fixup_patches 0 layout e) xs)) (sym none) c.in_ok-lay.ensures.holds))
+
+pub data_address-start-requires-clause-input : goal.data_address-start-requires-clause-input
+data_address-start-requires-clause-input g c = c.requires.ready.input
+
+pub data_address-start-requires-clause-segment : goal.data_address-start-requires-clause-segment
+data_address-start-requires-clause-segment g c = c.requires.ready.segment
+
+pub data_address-start-requires-clause-small : goal.data_address-start-requires-clause-small
+data_address-start-requires-clause-small g c = c.requires.whole.small
+
+pub data_address-start-requires-clause-inside : goal.data_address-start-requires-clause-inside
+data_address-start-requires-clause-inside g c = omega (arith, c.requires.ready.inside)
+
+pub lay-requires-clause-words : goal.lay-requires-clause-words
+lay-requires-clause-words g c = c.requires.whole.words
+
+pub lay_data-requires-clause-fixups : goal.lay_data-requires-clause-fixups
+lay_data-requires-clause-fixups g c = c.requires.ready.fixups
+
+pub lay_data-requires-clause-copies : goal.lay_data-requires-clause-copies
+lay_data-requires-clause-copies g c = c.requires.ready.copies
+
+pub lay_data-requires-clause-words : goal.lay_data-requires-clause-words
+lay_data-requires-clause-words g c = c.requires.whole.words
+
+pub add_fixups-requires-clause-fixups : goal.add_fixups-requires-clause-fixups
+add_fixups-requires-clause-fixups g c =
+    let d = c.args.data_record in
+    let e : DataEntry = record { input = c.args.input; module' = c.args.module.now; item = data_seen d } in
+    let xs = d.fixups.now in
+    let laid = c.in_ok-laid.laid in
+    All-take (IsFixupReady c.args.layout.now e) (length xs - laid) (drop laid xs)
+    (All-drop (IsFixupReady c.args.layout.now e) laid xs c.requires.ready.fixups)
+
+pub add_fixups-requires-clause-room : goal.add_fixups-requires-clause-room
+add_fixups-requires-clause-room g c = c.in_ok-laid.ensures.room
+
+pub add_fixups-requires-clause-sized : goal.add_fixups-requires-clause-sized
+add_fixups-requires-clause-sized g c = c.in_ok-laid.ensures.sized

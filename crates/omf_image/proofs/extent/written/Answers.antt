@@ -1,6 +1,7 @@
-use Rattle.std.proofs.Common.{◌∙◌, ◌+◌, ℕ, List, map, fold, max, drop, All, sym, ap, subst}
-use Rattle.std.proofs.lemmas.List.{map-append}
+use Rattle.std.proofs.Common.{◌∙◌, ◌+◌, ℕ, List, map, fold, max, drop, All, refl, sym, ap, subst}
+use Rattle.std.proofs.lemmas.List.{drop_all, map-append}
 use Rattle.std.proofs.lemmas.List.Sums.{fold-append}
+use Rattle.omf_module.specs.Module.{Module}
 use Rattle.omf_image.specs.Records.{entry_end}
 use Rattle.omf_image.specs.inside.Entries.{DataEntry, module_entries, entries_from}
 use Rattle.omf_image.specs.inside.Ready.{IsEntryReady}
@@ -35,3 +36,17 @@ loop-input-preserved g c =
           ∙ sym (ap (λ (es : List DataEntry). fold max c.loop-input.end (map f es)) next)
           ∙ c.loop-input.invariant.end;
     }
+
+pub loop-input-init : goal.loop-input-init
+loop-input-init g c = record { ready = c.requires.ready; end = refl }
+
+pub end_with-end-requires-clause-small : goal.end_with-end-requires-clause-small
+end_with-end-requires-clause-small g c = c.requires.small
+
+pub returns : goal.returns
+returns g c =
+    let end = c.loop-input.end in
+    let f = entry_end c.args.layout.now in
+    sym (ap (λ (ms : List Module). fold max end (map f (entries_from c.loop-input.input ms)))
+    (drop_all c.loop-input.input c.args.modules.now c.loop-input-test.false))
+    ∙ c.loop-input.invariant.end

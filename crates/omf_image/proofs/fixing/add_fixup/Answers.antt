@@ -53,3 +53,18 @@ returns-in_err-resolved-clause-gives g c bytes base earlier h =
     let s = c.args.placed.now in
     gives_fault s.layout.now (entry_seen s) earlier c.args.fixup.now _ _ _ c.from_residual.ensures.1
     (c.in_err-resolved.ensures earlier)
+
+pub find_hits-requires-clause-plain : goal.find_hits-requires-clause-plain
+find_hits-requires-clause-plain g c = c.requires.placed.plain
+
+pub find_hits-requires-clause-index : goal.find_hits-requires-clause-index
+find_hits-requires-clause-index g c = c.requires.placed.index
+
+pub fix-requires-clause-room : goal.fix-requires-clause-room
+fix-requires-clause-room g c = c.requires.room
+
+pub returns-clause-room : goal.returns-clause-room
+returns-clause-room g c = c.fix.ensures.room
+
+pub returns-clause-sized : goal.returns-clause-sized
+returns-clause-sized g c = c.fix.ensures.same ∙ c.requires.sized

@@ -1,4 +1,7 @@
-use Rattle.std.proofs.Common.{◌+◌, ◌∙◌, sym, subst, drop, All}
+use Rattle.std.proofs.Common.{◌+◌, ◌∙◌, List, refl, sym, ap, subst, drop, slice_get, All}
+use Rattle.std.proofs.lemmas.List.{drop_all}
+use Rattle.std.specs.List.{filter_map}
+use Rattle.omf_module.specs.Module.{Module}
 use Rattle.omf_image.specs.Overflow.{entry_overflow}
 use Rattle.omf_image.specs.inside.Entries.{module_entries, entries_from}
 use Rattle.omf_image.specs.inside.Ready.{IsEntryReady}
@@ -41,3 +44,14 @@ loop-input-preserved g c =
           (entries_from (i + 1) (drop (i + 1) ms)) _ next
           (sym c.overflow_in.ensures ∙ c.in_default.is) c.loop-input.invariant.first;
     }
+
+pub loop-input-init : goal.loop-input-init
+loop-input-init g c = record { ready = c.requires; first = refl }
+
+pub returns : goal.returns
+returns g c =
+    sym (ap
+    (λ (ms : List Module).
+    slice_get (filter_map (entry_overflow c.args.layout.now) (entries_from c.loop-input.input ms)) 0)
+    (drop_all c.loop-input.input c.args.modules.now c.loop-input-test.false))
+    ∙ c.loop-input.invariant.first

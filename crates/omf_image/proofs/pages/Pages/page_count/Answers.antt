@@ -1,6 +1,7 @@
-use Rattle.std.proofs.Common.{◌≡◌, ◌∙◌, sym, ap, arith, map, not, true, false, Bool, ℕ, List, count_by, get_or, Vec}
-use Rattle.std.proofs.lemmas.List.{take_all}
-use Rattle.std.proofs.lemmas.List.Sums.{count_by_more_yes, count_by_more_no}
+use Rattle.std.proofs.Common.{◌≡◌, ◌∙◌, sym, ap, arith, map, not, true, false, Bool, ℕ, List, count_by, get_or, take}
+use Rattle.std.proofs.Common.{Vec}
+use Rattle.std.proofs.lemmas.List.{length-take, take_all}
+use Rattle.std.proofs.lemmas.List.Sums.{count_by-le-length, count_by_more_yes, count_by_more_no}
 use Rattle.omf_image.specs.inside.Pages.{Paged, made_pages}
 use Rattle.omf_image.proofs.Paging.{made_at, length-made}
 use Rattle.omf_image.proofs.pages.Pages.page_count.Goals as goal
@@ -35,3 +36,11 @@ returns g c =
     ∙ ap (λ (v : List (Vec ℕ _)). count_by (λ (m : Bool). m) (made_pages (map (λ p. p.items) v)))
     c.deref-page-items.ensures.value
     ∙ ap (λ (i : Paged). count_by (λ (m : Bool). m) i.made) c.self.view_is
+
+pub overflow_add-count : goal.overflow_add-count
+overflow_add-count g c =
+    let ps = c.deref-page-items.result.now in
+    let i = c.loop-page.page-index in
+    let made : List Bool = made_pages (map (λ p. p.items) ps) in
+    let most = count_by-le-length (λ (m : Bool). m) (take i made) in
+    omega (arith, c.loop-page.invariant, most, length-take i made, c.loop-page-test.true)
