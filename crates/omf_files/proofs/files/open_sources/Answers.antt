@@ -1,5 +1,5 @@
-use Rattle.std.proofs.Common.{rules, All, ◌≡◌, ◌<◌, ◌++◌, ◌∷◌, ◌∙◌, [], length, map, ap, ap₂, sym, subst}
-use Rattle.std.proofs.lemmas.List.{map-append, take_more}
+use Rattle.std.proofs.Common.{rules, All, ◌≡◌, ◌<◌, ◌++◌, ◌∷◌, ◌∙◌, [], length, map, ap, ap₂, sym, subst, arith}
+use Rattle.std.proofs.lemmas.List.{map-append, take_all, take_more}
 use Rattle.std.proofs.lemmas.List.Elements.{All-push}
 use Rattle.omf_files.specs.declared.files.Stage.TheVariants.{Waiting}
 use Rattle.omf_files.proofs.files.open_sources.Goals as goal
@@ -21,3 +21,13 @@ loop-path-preserved g c =
           subst (All (λ s. s.failures ≡ 0)) (sym pushed)
           (All-push (λ s. s.failures ≡ 0) _ _ before.failures one.failures);
     }
+
+pub returns-clause-paths : goal.returns-clause-paths
+returns-clause-paths g c =
+    c.loop-path.invariant.paths ∙ take_all c.loop-path.path-index c.args.paths.now (omega arith)
+
+pub returns-clause-waiting : goal.returns-clause-waiting
+returns-clause-waiting g c = c.loop-path.invariant.waiting
+
+pub returns-clause-failures : goal.returns-clause-failures
+returns-clause-failures g c = c.loop-path.invariant.failures

@@ -1,0 +1,5 @@
+use Rattle.std.proofs.Common.{rules}
+use Rattle.omf_frame.proofs.mem_sink.MemSink.written.Goals as goal
+
+pub returns : goal.returns
+returns c = search rules
