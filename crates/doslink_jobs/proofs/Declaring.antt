@@ -1,6 +1,8 @@
 -- What modules declare, as it is held.
-use Rattle.std.proofs.Common.{◌≡◌, ℕ, List, [], ◌∷◌, ◌++◌, map, Bor, Ok, sym, ap, ◌∙◌}
-use Rattle.std.proofs.lemmas.List.{map-append}
+use Rattle.std.proofs.Common.{◌≡◌, ℕ, ◌+◌, ◌<◌, List, [], ◌∷◌, ◌++◌, length, map, Bor, Ok, subst, sym, ap, ◌∙◌}
+use Rattle.std.proofs.Common.{◌==◌, true, get_or, take, arith}
+use Rattle.std.proofs.ByRecursion.{All-push}
+use Rattle.std.proofs.lemmas.List.{map-append, map_more, nil_from_length}
 use Rattle.omf_communal.specs.declared.declarations.Communal as lent
 use Rattle.omf_communal.specs.declared.declarations.Variable as variable
 use Rattle.omf_communal.specs.Deciding.{variable_said}
@@ -15,8 +17,10 @@ use Rattle.omf_search.specs.Said as search
 use Rattle.doslink_stock.specs.declared.searching.Handed.{Handed}
 use Rattle.doslink_stock.specs.Seen.{handed_held}
 use Rattle.doslink_jobs.specs.declared.communals.Declared.{Declared}
+use Rattle.doslink_jobs.specs.declared.lowering.LoweredModule.{LoweredModule}
 use Rattle.doslink_jobs.specs.Communals.{declared_by, offering}
-use Rattle.doslink_jobs.specs.inside.Declaring.{declared_said, offering_names}
+use Rattle.doslink_jobs.specs.inside.Declaring.{DeclareNone, declared_said, offering_names}
+use Rattle.doslink_jobs.specs.inside.Inputs.{own_bytes}
 use Rattle.doslink_jobs.proofs.Lists.{map-map}
 
 -- one with these communal variables
@@ -49,3 +53,20 @@ pub says-all : (modules says : List search.Module) (names : List (List ℕ)) (vs
     → says ≡ modules ++ offering (map variable_said vs) ∷ []
 says-all modules says names vs are is =
     is ∙ ap (λ ns. modules ++ offering_names ns ∷ []) (are ∙ map-map variable_said (λ v. v.name) vs)
+
+none-declared : {X : Type 0} (xs : List X) → (length xs == 0) ≡ true → xs ≡ []
+none-declared xs none = nil_from_length xs (grind arith)
+
+-- one module more that declares none
+pub declare-more : {A : Type 0} (modules : List (LoweredModule A)) (i : ℕ) (one : LoweredModule A)
+    (declared : List lent.Communal) → i < length modules → one ≡ get_or modules i one
+    → communals_of scope.Module (module_records (own_bytes one) 0) ≡ Ok (map plain_communal declared)
+    → (length declared == 0) ≡ true → DeclareNone (map own_bytes (take i modules))
+    → DeclareNone (map own_bytes (take (i + 1) modules))
+declare-more modules i one declared h same is none before =
+    let here : communals_of scope.Module (module_records (own_bytes one) 0) ≡ Ok [] =
+    is ∙ ap (λ l. Ok (map plain_communal l)) (none-declared declared none) in
+    subst DeclareNone (sym (map_more own_bytes modules i one h))
+    (All-push (λ bytes. communals_of scope.Module (module_records bytes 0) ≡ Ok []) (map own_bytes (take i modules))
+    (own_bytes (get_or modules i one)) before
+    (subst (λ m. communals_of scope.Module (module_records (own_bytes m) 0) ≡ Ok []) same here))

@@ -1,7 +1,19 @@
 -- Lists that are made element by element.
-use Rattle.std.proofs.Common.{◌≡◌, List, [], ◌∷◌, map, refl, ap}
+use Rattle.std.proofs.Common.{◌≡◌, ℕ, ◌+◌, ◌<◌, Bool, false, ◌||◌, List, [], ◌∷◌, length, map, refl}
+use Rattle.std.proofs.Common.{get_or, take, sym, ap, ap₂, ◌∙◌}
+use Rattle.std.proofs.lemmas.List.{map_more}
+use Rattle.std.proofs.lemmas.List.Folds.{list_any-append}
+use Rattle.std.specs.List.{list_any}
 
 -- one list of a list, of another one of it
 pub map-map : {X Y Z : Type 0} (f : X → Y) (g : Y → Z) (xs : List X) → map (λ x. g (f x)) xs ≡ map g (map f xs)
 map-map f g [] = refl
 map-map f g (x ∷ xs) = ap (λ l. g (f x) ∷ l) (map-map f g xs)
+
+-- none of one element more passes a test
+pub none-more : {X Y : Type 0} (test : Y → Bool) (f : X → Y) (xs : List X) (i : ℕ) (x : X) → i < length xs
+    → x ≡ get_or xs i x → list_any test (map f (take i xs)) ≡ false → test (f x) ≡ false
+    → list_any test (map f (take (i + 1) xs)) ≡ false
+none-more test f xs i x h is before none =
+    ap (list_any test) (map_more f xs i x h) ∙ list_any-append test (map f (take i xs)) (f (get_or xs i x) ∷ [])
+    ∙ ap₂ (λ a b. a || (b || false)) before (ap (λ y. test (f y)) (sym is) ∙ none)

@@ -1,10 +1,12 @@
 -- Fix-ups and a start that were of 32 bits, and their sums.
 use Rattle.std.proofs.Common.{◌≡◌, ◌≢◌, ◌⊎◌, ℕ, ◌∷◌, [], ◌++◌, Bool, true, false, All, Any, List, map, zip}
 use Rattle.std.proofs.Common.{Some, None, Ok, Err, IfSome, cond, is_some, inl, inr, refl, sym, subst, ap, ap₂, ◌∙◌}
-use Rattle.std.proofs.Common.{true≢false}
+use Rattle.std.proofs.Common.{true≢false, ◌+◌, ◌<◌, length, get_or, take, Vec}
+use Rattle.std.proofs.lemmas.List.{map_more}
+use Rattle.std.proofs.lemmas.List.Elements.{All-push}
 use Rattle.std.specs.declared.option.Option.{Option}
 use Rattle.std.specs.List.{list_any}
-use Rattle.std.specs.Option.{option_or}
+use Rattle.std.specs.Option.{option_map_or, option_or}
 use Rattle.omf_image.specs.Overflow.{first_overflow, start_overflow}
 use Rattle.omf_lower.specs.Wide.{has_wide_fixups, has_wide_start}
 use Rattle.omf_module.specs.Bytes.{ModuleBytes}
@@ -53,6 +55,25 @@ not-narrow modules none some =
 -- a module that has none
 pub has-none : (m : List ℕ × List ℕ) → has_wide_fixups m.0 ≡ false → IsNarrow m → ⊥
 has-none m none narrow = true≢false (sym narrow.1 ∙ none)
+
+-- one module more that has none
+pub narrow-more : {A : Type 0} (modules : List (LoweredModule A)) (i : ℕ) (one : LoweredModule A) → i < length modules
+    → one ≡ get_or modules i one → (IsNarrow (both_bytes one) → ⊥)
+    → All (λ m. IsNarrow m → ⊥) (map both_bytes (take i modules))
+    → All (λ m. IsNarrow m → ⊥) (map both_bytes (take (i + 1) modules))
+narrow-more modules i one h same none before =
+    subst (All (λ m. IsNarrow m → ⊥)) (sym (map_more both_bytes modules i one h))
+    (All-push (λ m. IsNarrow m → ⊥) (map both_bytes (take i modules)) (both_bytes (get_or modules i one)) before
+    (subst (λ m. IsNarrow (both_bytes m) → ⊥) same none))
+
+as-it-stands : {A : Type 0} (lowered : Option (Vec ℕ A)) (own : List ℕ) → is_some lowered ≡ false
+    → own ≡ option_map_or (λ v. v.items) lowered own
+as-it-stands None own none = refl
+as-it-stands (Some v) own none = absurd (true≢false none)
+
+-- a module that is linked as it stands has none
+pub stands : {A : Type 0} (one : LoweredModule A) → is_some one.lowered ≡ false → IsNarrow (both_bytes one) → ⊥
+stands one none narrow = narrow.0 (as-it-stands one.lowered one.own.now none)
 
 -- no module has one, where no sum is too great
 pub fit-of : (N O : Type 0) (are_narrow : Bool) → (are_narrow ≡ false → N → ⊥) → (are_narrow ≡ true → O → ⊥) → N → O

@@ -103,13 +103,12 @@ pub(crate) fn input_slices<'m, A: Allocator + Copy>(
     Ok(slices)
 }
 
-/// The words for them.
-pub(crate) fn input_words<'w, A: Allocator + Copy>(
-    alloc: A,
+/// Appends the words for them.
+fn push_words<'w, A: Allocator + Copy>(
     inputs: &Inputs<'_, A>,
     words: &'w [Vec<u8, A>],
-) -> Result<Vec<&'w [u8], A>, AllocError> {
-    let mut all = Vec::new(alloc);
+    all: &mut Vec<&'w [u8], A>,
+) -> Result<(), AllocError> {
     if inputs.order.is_some() {
         all.push(ORDER_MODULE)?;
     }
@@ -119,6 +118,17 @@ pub(crate) fn input_words<'w, A: Allocator + Copy>(
     if inputs.communal.is_some() {
         all.push(COMMUNAL_MODULE)?;
     }
+    Ok(())
+}
+
+/// The words for them.
+pub(crate) fn input_words<'w, A: Allocator + Copy>(
+    alloc: A,
+    inputs: &Inputs<'_, A>,
+    words: &'w [Vec<u8, A>],
+) -> Result<Vec<&'w [u8], A>, AllocError> {
+    let mut all = Vec::new(alloc);
+    push_words(inputs, words, &mut all)?;
     Ok(all)
 }
 

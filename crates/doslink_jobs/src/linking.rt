@@ -25,6 +25,31 @@ use omf_lower::Obstacle;
 use omf_place::Names;
 use std::alloc::{AllocError, Allocator};
 
+/// Tells a fault of a link, once it speaks of the user's own bytes.
+fn tell_own_fault<A: Allocator + Copy>(
+    alloc: A,
+    fault: &LinkFault<A>,
+    names: Names,
+    taken: &Taken<'_, '_, '_, A>,
+    inputs: &Inputs<'_, A>,
+    word: &[u8],
+    lines: &mut Vec<u8, A>,
+) -> Result<(), AllocError> {
+    match fault {
+        LinkFault::Memory => Err(AllocError),
+        LinkFault::Program(ProgramFault::DuplicatePublic(name)) => {
+            push_duplicate(alloc, lines, name, names, taken.handed, taken.words)
+        }
+        fault => {
+            push_fault(alloc, lines, fault, word)?;
+            match type_at_fault(fault, inputs) {
+                Some(kind) => push_type(lines, kind),
+                None => Ok(()),
+            }
+        }
+    }
+}
+
 /// Tells why the link stopped, `word` being that for what is at fault.
 fn tell_fault<A: Allocator + Copy>(
     alloc: A,
@@ -38,19 +63,8 @@ fn tell_fault<A: Allocator + Copy>(
     if let Some(place) = lowered_amiss(&fault, inputs) {
         return push_obstacle(lines, word, place, Obstacle::Body);
     }
-    match &in_own_bytes(fault, inputs) {
-        LinkFault::Memory => Err(AllocError),
-        LinkFault::Program(ProgramFault::DuplicatePublic(name)) => {
-            push_duplicate(alloc, lines, name, names, taken.handed, taken.words)
-        }
-        fault => {
-            push_fault(alloc, lines, fault, word)?;
-            match type_at_fault(fault, inputs) {
-                Some(kind) => push_type(lines, kind),
-                None => Ok(()),
-            }
-        }
-    }
+    let fault = in_own_bytes(fault, inputs);
+    tell_own_fault(alloc, &fault, names, taken, inputs, word, lines)
 }
 
 /// The word for what is at fault: the input, or else the file that was written last.

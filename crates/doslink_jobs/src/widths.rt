@@ -22,6 +22,13 @@ fn is_wide_segment(own: &Frame<'_>, linked: &Frame<'_>) -> bool {
     }
 }
 
+/// Whether a record defines such a segment, by those that are linked in their place.
+fn some_wide(own: &[Frame<'_>], linked: &[Frame<'_>]) -> bool {
+    own.iter()
+        .zip(linked)
+        .any(|(own, linked)| is_wide_segment(own, linked))
+}
+
 /// Whether a module has such a segment. One that isn't lowered has none.
 fn has_wide_segment<A: Allocator + Copy>(
     alloc: A,
@@ -32,12 +39,7 @@ fn has_wide_segment<A: Allocator + Copy>(
     };
     let own = module_frames(alloc, module.own)?;
     let linked = module_frames(alloc, linked)?;
-    for (own, linked) in own.iter().zip(&linked) {
-        if is_wide_segment(own, linked) {
-            return Ok(true);
-        }
-    }
-    Ok(false)
+    Ok(some_wide(&own, &linked))
 }
 
 /// Warns of each module that has such a segment, unless the job is to be quiet.

@@ -1,7 +1,7 @@
 use Rattle.std.proofs.Common.{Any, IsErr, length, [], ◌∷◌, ◌++◌, inl, map, ap, sym, subst, ◌∙◌}
 use Rattle.std.proofs.lemmas.Iterator.Adapters.{YieldsList-from_vec}
-use Rattle.std.proofs.lemmas.Iterator.Consumers.{YieldsList-turn}
-use Rattle.std.proofs.lemmas.List.{map-append}
+use Rattle.std.proofs.lemmas.Iterator.Consumers.{YieldsList-end, YieldsList-turn}
+use Rattle.std.proofs.lemmas.List.{map-append, map-id}
 use Rattle.omf_communal.specs.declared.declarations.Scope.TheVariants as scope
 use Rattle.omf_communal.specs.Reading.{communals_of}
 use Rattle.omf_library.specs.Records.{module_records}
@@ -19,6 +19,11 @@ returns-then-not-branch g c =
     none-declared c.args.names (map lowered_bytes c.args.modules.items) c.args.modules.items
     (subst (λ ms. DeclareNone (map own_bytes ms)) c.deref.ensures.value
     (c.in_ok-declare_some.ensures c.if-not-branch.true))
+
+pub loop-one-init : goal.loop-one-init
+loop-one-init g c =
+    subst (λ l. EachHasLocals c.args.names (map lowered_bytes c.args.modules.items) [] [] (map lowered_bytes l))
+    (sym c.new-all.ensures.items) tt
 
 pub loop-one-preserved : goal.loop-one-preserved
 loop-one-preserved g c =
@@ -72,3 +77,14 @@ returns-in_err-bytes g c =
     (λ none. any-pair (HasNoLocals c.args.names (map lowered_bytes modules)) own_bytes lowered_bytes modules
     (length c.loop-one.yielded) c.in-Some.one t.0 t.1 (none (map lowered_bytes modules) tells))
     c.in_err-bytes.ensures
+
+pub returns : goal.returns
+returns g c =
+    let modules = c.args.modules.items in
+    let so_far = c.loop-one.yielded in
+    let b = c.into_iter-one-iterator.ensures.into_iter_gives in
+    let e = YieldsList-end (YieldsList-from_vec {s = c.into_iter-one-iterator.result} modules b.0
+    (b.1 ∙ c.args.modules.ok.0)) so_far c.loop-one.one-iterator c.loop-one.yielded_by c.next.result c.next.new.self
+    c.in-None.is c.next.ensures.steps in
+    subst (λ ms. EachHasLocals c.args.names (map lowered_bytes modules) (map own_bytes ms) (map lowered_bytes ms)
+    (map lowered_bytes c.loop-one.all.items)) (sym (map-id so_far) ∙ e.0) c.loop-one.invariant

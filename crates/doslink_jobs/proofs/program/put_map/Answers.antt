@@ -1,4 +1,4 @@
-use Rattle.std.proofs.Common.{ap, refl, subst, sym, ◌∙◌}
+use Rattle.std.proofs.Common.{◌^◌, ◌-◌, ◌<◌, arith, ap, refl, subst, sym, ◌∙◌}
 use Rattle.std.proofs.lemmas.Result.{err_from_is_err_and}
 use Rattle.std.specs.Io.KnownBytes.{Appends}
 use Rattle.omf_commands.specs.Mapping.{report_map}
@@ -12,6 +12,21 @@ use Rattle.doslink_jobs.proofs.program.put_map.Goals as goal
 pub table-requires : goal.table-requires
 table-requires g c =
     subst (λ ms. IsBounded ms c.args.report.now.layout) (sym c.deref.ensures.value) c.requires.bounded
+
+pub write_map-requires : goal.write_map-requires
+write_map-requires g c = c.requires.sink
+
+pub put_all-requires : goal.put_all-requires
+put_all-requires g c = subst (λ n. n < 2 ^ 64 - 1) (sym c.in_ok-write_map.ensures.writes.1) c.requires.sink
+
+pub returns-in_err-write_map-clause-once : goal.returns-in_err-write_map-clause-once
+returns-in_err-write_map-clause-once g c = omega (arith, c.in_err-write_map.ensures.writes.1)
+
+pub returns-in-Ok-clause-once : goal.returns-in-Ok-clause-once
+returns-in-Ok-clause-once g c = omega (arith, c.in_ok-write_map.ensures.writes.1, c.in-Ok.ensures.1)
+
+pub returns-clause-once : goal.returns-clause-once
+returns-clause-once g c = omega (arith, c.in_ok-write_map.ensures.writes.1, c.in-Err.ensures.1)
 
 pub returns-in_err-write_map-clause-written : goal.returns-in_err-write_map-clause-written
 returns-in_err-write_map-clause-written g c =
