@@ -5,6 +5,7 @@ use Rattle.std.proofs.lemmas.List.{length-take-le}
 use Rattle.std.proofs.lemmas.Bool.{cases_lt, lt-ltb, le-ltb}
 use Rattle.omf_frame.specs.Primitives.{IsBytes, Index, Name}
 use Rattle.omf_library.specs.Fields.{bytes_front, name_front, low_front, index_front}
+use Rattle.omf_library.specs.Entries.{behind_bytes, behind_length}
 
 -- the parts of equal lists
 head_same : (a b : ℕ) (xs ys : List ℕ) → a ∷ xs ≡ b ∷ ys → a ≡ b
@@ -125,3 +126,23 @@ index_front-none (b ∷ rest) fits none =
       | inr le ↦ ap (λ t. cond t (Some (b, rest)) (low_front b rest)) (le-ltb b 128 le)
           ∙ index_front-low b rest le (fits 0) (λ i. fits (suc i)) none
     ]
+
+-- ---- lengths of communal variables
+
+pub length_of_two : (bytes : List ℕ) → 1 ≤ length bytes → get_or bytes 0 0 ≡ 0x81
+    → behind_length bytes ≡ behind_bytes 2 (drop 1 bytes)
+unfolding behind_length
+length_of_two [] some e = absurd (omega arith)
+length_of_two (first ∷ rest) some e = rw e refl
+
+pub length_of_three : (bytes : List ℕ) → 1 ≤ length bytes → get_or bytes 0 0 ≡ 0x84
+    → behind_length bytes ≡ behind_bytes 3 (drop 1 bytes)
+unfolding behind_length
+length_of_three [] some e = absurd (omega arith)
+length_of_three (first ∷ rest) some e = rw e refl
+
+pub length_of_four : (bytes : List ℕ) → 1 ≤ length bytes → get_or bytes 0 0 ≡ 0x88
+    → behind_length bytes ≡ behind_bytes 4 (drop 1 bytes)
+unfolding behind_length
+length_of_four [] some e = absurd (omega arith)
+length_of_four (first ∷ rest) some e = rw e refl

@@ -17,10 +17,10 @@ use Rattle.omf_library.specs.Library.{page_size, member_at, library_members}
 use Rattle.omf_library.specs.Library as library
 use Rattle.omf_library.specs.declared.archive.Entry.{Entry as LentEntry}
 use Rattle.omf_library.specs.Archive.{PlainEntry, at_place, is_header, decimal, without_spaces, entry_of, modules_of}
-use Rattle.omf_library.specs.Archive.{table_behind, even_place, archive_members}
+use Rattle.omf_library.specs.Archive.{is_table, table_behind, even_place, archive_members}
 use Rattle.omf_library.specs.Archive as archive
 use Rattle.omf_library.specs.Files.{IsFault, IsPart}
-use Rattle.omf_library.specs.inside.Views.{IsMember, IsContent}
+use Rattle.omf_library.specs.inside.Views.{IsMember, IsContent, Pushed}
 
 -- ---- lists and what follows them
 
@@ -294,3 +294,11 @@ content_at file place e behind content =
           content.own ∙ ap (λ k. take k (drop (0 + 60) (drop place file))) (a ∙ sym b)
           ∙ ap (take ((place + 60 + n) - (place + 60))) d;
     }
+
+-- a table is no module
+pub pushed_none : (table : List ℕ) (place : ℕ) (e : PlainEntry) (bytes : List ℕ) (members : List Member)
+    → is_table e.name ≡ true → Pushed (modules_of table place e) bytes place members members
+pushed_none table place e bytes members is = record {
+  told = rw is (sym (append-nil (map plain_member members)));
+  own = λ file parts own. parts;
+}
