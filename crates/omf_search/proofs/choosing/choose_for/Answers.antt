@@ -1,5 +1,5 @@
 use Rattle.std.proofs.Common.{◌≡◌, ◌+◌, ◌-◌, ◌<◌, ◌≤◌, List, [], ◌∷◌, ◌++◌, None, ◌∙◌, ap, arith, cond, length, map}
-use Rattle.std.proofs.Common.{subst, sym, take}
+use Rattle.std.proofs.Common.{refl, subst, sym, take}
 use Rattle.std.proofs.lemmas.List.{append-nil, map-append}
 use Rattle.std.specs.List.{find}
 use Rattle.omf_search.specs.declared.choosing.Choice as held
@@ -12,6 +12,14 @@ use Rattle.omf_search.proofs.ChoiceSteps.{smaller_taken, untaken, wanted_at, wan
 use Rattle.omf_search.proofs.ChoiceSteps.{with_chosen-len, with_chosen-push}
 use Rattle.omf_search.proofs.Slack.{slack}
 use Rattle.omf_search.proofs.choosing.choose_for.Goals as goal
+
+pub loop-next-init : goal.loop-next-init
+loop-next-init g c =
+    rw (c.new-choices.ensures.items, append-nil) (record {
+      taken = c.requires;
+      settled = refl;
+      chosen = λ cs rest. rest;
+    })
 
 pub loop-next-preserved-in-None : goal.loop-next-preserved-in-None
 loop-next-preserved-in-None g c =

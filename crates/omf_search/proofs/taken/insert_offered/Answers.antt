@@ -1,5 +1,10 @@
+use Rattle.std.proofs.Common.{◌||◌, ◌∙◌, ap, arith}
+use Rattle.std.proofs.lemmas.List.{take_all}
+use Rattle.std.specs.List.{list_any}
 use Rattle.indexmap.specs.IndexSet.{contains}
+use Rattle.omf_place.specs.Names.{agrees}
 use Rattle.omf_search.specs.inside.Keys.{key_of, same_key}
+use Rattle.omf_search.specs.Results.{bytes_of}
 use Rattle.omf_search.proofs.TakenSteps.{offered-turn}
 use Rattle.omf_search.proofs.taken.insert_offered.Goals as goal
 
@@ -11,3 +16,12 @@ loop-name-preserved g c = λ q.
     (contains same_key c.insert.new.self (key_of c.args.names q))
     c.loop-name-test.true c.new.ensures (c.loop-name.invariant q)
     (c.in_ok-insert.ensures.updates.0 (key_of c.args.names q))
+
+pub returns : goal.returns
+returns g c =
+    λ q.
+    c.loop-name.invariant q
+    ∙ ap
+    (λ more. contains same_key c.args.offered.now (key_of c.args.names q)
+    || list_any (agrees c.args.names q.now) (bytes_of more))
+    (take_all c.loop-name.name-index c.args.more.now (omega arith))

@@ -1,0 +1,5 @@
+use Rattle.std.proofs.Common.{refl}
+use Rattle.omf_search.proofs.said.Said.of.Goals as goal
+
+pub returns : goal.returns
+returns g c = rw (c.as_slice.ensures.value, c.as_slice-2.ensures.value) refl
