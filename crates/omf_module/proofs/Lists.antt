@@ -1,7 +1,8 @@
 -- Lists that are read in order, one element further.
-use Rattle.std.proofs.Common.{◌≡◌, ℕ, zero, suc, ◌+◌, ◌<◌, List, [], ◌∷◌, ◌++◌, length, map, Option, None, Some, refl}
-use Rattle.std.proofs.Common.{sym, ap, ◌∙◌, append_assoc, arith, reverse, add-zero, get_or, take, drop}
-use Rattle.std.proofs.lemmas.List.{append-nil, reverse-append, map-append, map_more, drop_more, take-append-drop}
+use Rattle.std.proofs.Common.{◌≡◌, ℕ, zero, suc, ◌+◌, ◌<◌, ◌≤◌, List, [], ◌∷◌, ◌++◌, length, map, Option, None, Some}
+use Rattle.std.proofs.Common.{refl, sym, ap, ◌∙◌, append_assoc, arith, reverse, add-zero, get_or, take, drop}
+use Rattle.std.proofs.lemmas.List.{append-nil, reverse-append, map-append, map_push, map_more, drop_all, drop_more}
+use Rattle.std.proofs.lemmas.List.{take-append-drop}
 use Rattle.std.proofs.lemmas.Grind.{flat_map-append}
 use Rattle.std.specs.List.{flat_map, enumerate_from, slice_get}
 use Rattle.std.specs.Option.{option_map}
@@ -66,3 +67,38 @@ entry-map f (y ∷ xs) (suc (suc n)) x e = entry-map f xs (suc n) x e
 pub first_none : {A : Type 0} (o : Option A) (os : List (Option A)) → o ≡ None → first (o ∷ os) ≡ first os
 first_none None os e = refl
 first_none (Some x) os e = cc
+
+-- one element more behind a list, of those that are told of another list
+pub map_pushed : {X Y : Type 0} (f : X → Y) (ys : List Y) (xs : List X) (i : ℕ) (d : X) → i < length xs
+    → (ys ++ map f (take i xs)) ++ f (get_or xs i d) ∷ [] ≡ ys ++ map f (take (i + 1) xs)
+map_pushed f ys xs i d lt =
+    append_assoc ys (map f (take i xs)) (f (get_or xs i d) ∷ [])
+    ∙ ap (λ zs. ys ++ zs) (sym (map_more f xs i d lt))
+
+pub map_map_pushed : {X Y Z : Type 0} (f : Y → Z) (g : X → Y) (zs : List Z) (xs : List X) (i : ℕ) (d : X)
+    → i < length xs
+    → (zs ++ map f (map g (take i xs))) ++ f (g (get_or xs i d)) ∷ [] ≡ zs ++ map f (map g (take (i + 1) xs))
+map_map_pushed f g zs xs i d lt =
+    append_assoc zs (map f (map g (take i xs))) (f (g (get_or xs i d)) ∷ [])
+    ∙ ap (λ ws. zs ++ ws)
+    (sym (ap (map f) (map_more g xs i d lt) ∙ map_push f (map g (take i xs)) (g (get_or xs i d))))
+
+-- the first of what is told of the elements that are left
+module _ {X A : Type 0} (f : X → Option A) (xs : List X) (i : ℕ) (d : X) where
+  pub first_here : i < length xs → (y : A) → f (get_or xs i d) ≡ Some y
+      → first (map f (drop i xs)) ≡ first (map f xs) → Some y ≡ first (map f xs)
+  first_here lt y e so_far =
+      sym (ap (λ ys. first (map f ys)) (drop_more xs i d lt)
+      ∙ ap (λ o. first (o ∷ map f (drop (i + 1) xs))) e)
+      ∙ so_far
+
+  pub first_later : i < length xs → f (get_or xs i d) ≡ None
+      → first (map f (drop i xs)) ≡ first (map f xs) → first (map f (drop (i + 1) xs)) ≡ first (map f xs)
+  first_later lt e so_far =
+      sym (ap (λ ys. first (map f ys)) (drop_more xs i d lt)
+      ∙ ap (λ o. first (o ∷ map f (drop (i + 1) xs))) e)
+      ∙ so_far
+
+pub first_of_none : {X A : Type 0} (f : X → Option A) (xs : List X) (i : ℕ) → length xs ≤ i
+    → first (map f (drop i xs)) ≡ first (map f xs) → None ≡ first (map f xs)
+first_of_none f xs i le so_far = ap (λ ys. first (map f ys)) (sym (drop_all i xs le)) ∙ so_far

@@ -50,3 +50,12 @@ returns g t c =
     let ends = rw none at c.loop-block.invariant.ends in
     let gives = rw none at c.loop-block.invariant.gives in
     (omega (arith, ends), rw append-nil at gives)
+
+pub overflow_add-place : goal.overflow_add-place
+overflow_add-place g t c = omega (arith, c.loop-block.invariant.ends, c.requires)
+
+pub overflow_add-place-in-Content : goal.overflow_add-place-in-Content
+overflow_add-place-in-Content g t c = omega (arith, c.loop-block.invariant.ends, c.requires)
+
+pub overflow_add-place-in-Nested : goal.overflow_add-place-in-Nested
+overflow_add-place-in-Nested g t c = omega (arith, c.loop-block.invariant.ends, c.requires)

@@ -1,7 +1,11 @@
+use Rattle.std.proofs.Common.{refl}
 use Rattle.std.proofs.lemmas.Result.{err_from_is_err_and}
 use Rattle.omf_module.specs.inside.Building.{state}
 use Rattle.omf_module.proofs.Stepping.{goes_on, ends, is_done}
 use Rattle.omf_module.proofs.builder.Builder.add_subrecords.Goals as goal
+
+pub loop-subrecord-init : goal.loop-subrecord-init
+loop-subrecord-init g c = refl
 
 pub returns-in_err-add_subrecord : goal.returns-in_err-add_subrecord
 returns-in_err-add_subrecord g c =
