@@ -1,4 +1,5 @@
-use Rattle.std.proofs.Common.{◌∙◌, ◌++◌, ◌∷◌, [], ℕ, List, Bool, false, cond, filter, get_or, sym, ap}
+use Rattle.std.proofs.Common.{◌≡◌, ◌∙◌, ◌++◌, ◌∷◌, [], ℕ, List, Bool, false, cond, filter, get_or, length, sym, ap}
+use Rattle.std.proofs.Common.{arith}
 use Rattle.std.proofs.lemmas.List.{append-nil}
 use Rattle.std.specs.List.{range_with_len}
 use Rattle.omf_image.proofs.Ranges.{filter_more}
@@ -19,3 +20,12 @@ loop-address-preserved g c =
           ap (λ v. v.items) w.addresses-is ∙ c.loop-address.invariant
           ∙ sym (filter_more p i ∙ ap (λ (b : Bool). so_far ++ cond b (i ∷ []) []) w.if-flag.false ∙ append-nil so_far)
     ]
+
+pub loop-address-init : goal.loop-address-init
+loop-address-init g c = c.new-addresses.ensures.items
+
+pub returns : goal.returns
+returns g c =
+    let p : ℕ → Bool = λ a. get_or c.args.flags.now a false in
+    let all : c.loop-address.address ≡ length c.args.flags.now = omega arith in
+    c.loop-address.invariant ∙ ap (λ (n : ℕ). filter p (range_with_len 0 n)) all

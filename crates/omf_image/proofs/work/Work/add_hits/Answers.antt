@@ -1,5 +1,5 @@
-use Rattle.std.proofs.Common.{◌∙◌, ◌+◌, ◌++◌, ℕ, List, sym, ap, subst, take, flat_map}
-use Rattle.std.proofs.lemmas.List.{append_assoc, take_all}
+use Rattle.std.proofs.Common.{◌∙◌, ◌+◌, ◌++◌, ℕ, List, refl, sym, ap, subst, take, flat_map}
+use Rattle.std.proofs.lemmas.List.{append_assoc, append-nil, take_all}
 use Rattle.omf_image.specs.declared.patch.Patch.{Patch}
 use Rattle.omf_image.specs.Value.{patches_at}
 use Rattle.omf_image.specs.inside.States.{state, Holds}
@@ -31,3 +31,17 @@ returns-clause-holds g c bytes base ps h =
     subst (λ (l : List ℕ). Holds c.args.start bytes base (state c.loop-at.self) (ps ++ flat_map f l))
     (take_all c.loop-at.at-index c.args.hits.now c.loop-at-test.false)
     (c.loop-at.invariant.holds bytes base ps h)
+
+pub loop-at-init : goal.loop-at-init
+loop-at-init g c = record {
+  room = c.requires.room;
+  same = refl;
+  holds = λ bytes base ps h.
+      subst (λ (l : List Patch). Holds c.args.start bytes base (state c.args.self.now) l) (sym (append-nil ps)) h;
+}
+
+pub returns-clause-room : goal.returns-clause-room
+returns-clause-room g c = c.loop-at.invariant.room
+
+pub returns-clause-same : goal.returns-clause-same
+returns-clause-same g c = c.loop-at.invariant.same
