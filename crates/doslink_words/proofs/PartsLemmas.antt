@@ -1,11 +1,11 @@
 -- What holds of loops over the parts of a directive.
 use Rattle.std.proofs.Common.{◌≡◌, ℕ, ◌+◌, ◌<◌, ◌≤◌, Bool, true, false, cond, List, [], ◌∷◌, ◌++◌, length, drop, get_or}
-use Rattle.std.proofs.Common.{Option, None, Result, Ok, Err, sym, ap, ◌∙◌, ◌⊎◌, ◌-◌, arith, inl, inr, length-drop}
+use Rattle.std.proofs.Common.{Option, None, Result, Ok, Err, refl, sym, ap, ◌∙◌, ◌⊎◌, ◌-◌, arith, inl, inr, length-drop}
 use Rattle.std.proofs.Common.{not, subst, take}
 use Rattle.std.specs.List.{drop-map, position_or_len, take-map}
 use Rattle.std.specs.Borrow.{Bor}
 use Rattle.std.proofs.lemmas.Bool.{cases_lt, not-true}
-use Rattle.std.proofs.lemmas.List.{at_drop_all, at_drop_more, drop-drop, get_or-map, length-map, map_push, take_all}
+use Rattle.std.proofs.lemmas.List.{at_drop_all, at_drop_more, drop-drop, get_or-map, length-map, take_all}
 use Rattle.std.proofs.lemmas.List.Splits.{slice_split_first, slice_split_none}
 use Rattle.std.proofs.lemmas.List.Sums.{prefix_len-drop_no, prefix_len-drop_yes}
 use Rattle.std.proofs.lemmas.List.Sums.{prefix_len-le-length, prefix_len_passes}
@@ -17,22 +17,35 @@ use Rattle.doslink_words.specs.declared.faults.LineFault.{LineFault}
 use Rattle.doslink_words.specs.declared.faults.LineFault.TheVariants.{Memory, Wrong}
 use Rattle.doslink_words.specs.declared.faults.SplitFault.{SplitFault}
 use Rattle.doslink_words.specs.declared.faults.SplitFault.TheVariants as split_fault
-use Rattle.doslink_words.specs.declared.job.OrderItem.{OrderItem}
 use Rattle.doslink_words.specs.declared.tokens.Syntax.TheVariants.{Directives}
 use Rattle.doslink_words.specs.declared.tokens.Token.{Token}
 use Rattle.doslink_words.specs.Directives.{and_then, is_comma, one_name, option_meaning, option_of, parts, with_names}
 use Rattle.doslink_words.specs.Directives.{with_options, line_meaning, lines_meaning, on_line, order_item, says_nothing}
 use Rattle.doslink_words.specs.Directives.{tokens_meaning, with_items, FaultyLine, Means}
-use Rattle.doslink_words.specs.Said.{Said, SaidItem, item_of, items_of}
+use Rattle.doslink_words.specs.Said.{Said, SaidItem}
 use Rattle.doslink_words.specs.Tokens.{Piece, Comma, texts, tokens}
 use Rattle.doslink_words.specs.inside.Faults.{IsFaultAt}
 use Rattle.doslink_words.specs.inside.Follows.{Follows, split_line_fault}
+use Rattle.doslink_words.specs.inside.Parts.{listed, named, optioned}
 use Rattle.doslink_words.specs.inside.Tokens.{piece_of, pieces}
 use Rattle.std.specs.Option.{option_map_or}
 
 -- how many tokens stand before the first comma
 abbrev pub part_len : List Piece → ℕ
 part_len = position_or_len is_comma
+
+-- one behind the other
+and_then_again : {A B C : Type 0} (r : Result A DirectiveFaultKind) (f : A → Result B DirectiveFaultKind)
+    (next : B → Result C DirectiveFaultKind) → and_then r (λ a. and_then (f a) next) ≡ and_then (and_then r f) next
+and_then_again (Ok a) f next = refl
+and_then_again (Err kind) f next = refl
+
+-- what is at fault is so with all that would have followed
+then_fault : {A B : Type 0} (meant : Result A DirectiveFaultKind) (next : A → Result B DirectiveFaultKind) (after : A)
+    (last : B) (r : Result Unit LineFault) (f : LineFault) (whole : Result B DirectiveFaultKind)
+    → Follows (Err f) meant after → r ≡ Err f → whole ≡ and_then meant next → Follows r whole last
+then_fault meant next after last r Memory whole follows e same = rw e tt
+then_fault meant next after last r (Wrong kind) whole follows e same = rw e (same ∙ ap (λ m. and_then m next) follows)
 
 -- a part of operands: where it begins, and where it ends
 pub record IsPart (ops : List Token) (start end : ℕ) : Type 0 where
@@ -85,70 +98,64 @@ module _ (ops : List Token) (start end : ℕ) (here : IsPart ops start end) wher
 
   -- ---- names
 
-  pub names_fault : (had : List Text) (kind : DirectiveFaultKind) → one_name (part_of ops start end) ≡ Err kind
-      → with_names had (parts (from ops start)) ≡ Err kind
-  names_fault had kind is =
-      ap (with_names had) parts_any.1
-      ∙ ap (λ (r : Result Text DirectiveFaultKind). and_then r (λ name. with_names (had ++ (name ∷ [])) parts_any.0)) is
+  names_step : (had : List Text) (more : List (List Piece)) → parts (from ops start) ≡ part_of ops start end ∷ more
+      → with_names had (parts (from ops start)) ≡ and_then (named had (part_of ops start end)) (λ h. with_names h more)
+  names_step had more are =
+      ap (with_names had) are
+      ∙ and_then_again (one_name (part_of ops start end)) (λ name. Ok (had ++ (name ∷ []))) (λ h. with_names h more)
 
-  pub names_more : (had : List Text) (name : Text) → end < length ops → one_name (part_of ops start end) ≡ Ok name
-      → with_names had (parts (from ops start)) ≡ with_names (had ++ (name ∷ [])) (parts (from ops (end + 1)))
-  names_more had name more is =
-      ap (with_names had) (parts_more more)
-      ∙ ap
-      (λ (r : Result Text DirectiveFaultKind).
-      and_then r (λ name. with_names (had ++ (name ∷ [])) (parts (from ops (end + 1))))) is
+  pub names_fault : (had after last : List Text) (r : Result Unit LineFault) (f : LineFault)
+      (whole : Result (List Text) DirectiveFaultKind) → Follows (Err f) (named had (part_of ops start end)) after
+      → r ≡ Err f → whole ≡ with_names had (parts (from ops start)) → Follows r whole last
+  names_fault had after last r f whole follows e same =
+      then_fault (named had (part_of ops start end)) (λ h. with_names h parts_any.0) after last r f whole follows e
+      (same ∙ names_step had parts_any.0 parts_any.1)
 
-  pub names_end : (had : List Text) (name : Text) → end ≡ length ops → one_name (part_of ops start end) ≡ Ok name
-      → with_names had (parts (from ops start)) ≡ Ok (had ++ (name ∷ []))
-  names_end had name last is =
-      ap (with_names had) (parts_none last)
-      ∙ ap (λ (r : Result Text DirectiveFaultKind). and_then r (λ name. Ok (had ++ (name ∷ [])))) is
+  pub names_more : (had next : List Text) → end < length ops → named had (part_of ops start end) ≡ Ok next
+      → with_names had (parts (from ops start)) ≡ with_names next (parts (from ops (end + 1)))
+  names_more had next more is =
+      names_step had _ (parts_more more)
+      ∙ ap (λ (m : Result (List Text) DirectiveFaultKind). and_then m (λ h. with_names h (parts (from ops (end + 1)))))
+      is
+
+  pub names_end : (had next : List Text) → end ≡ length ops → named had (part_of ops start end) ≡ Ok next
+      → with_names had (parts (from ops start)) ≡ Ok next
+  names_end had next last is =
+      names_step had [] (parts_none last)
+      ∙ ap (λ (m : Result (List Text) DirectiveFaultKind). and_then m (λ h. with_names h [])) is
 
   -- ---- options
 
-  options_all : (line : ℕ) (said : Said) (more : List (List Piece)) (o : Text × Option Text)
-      → parts (from ops start) ≡ part_of ops start end ∷ more → option_of (part_of ops start end) ≡ Ok o
+  options_step : (line : ℕ) (said : Said) (more : List (List Piece))
+      → parts (from ops start) ≡ part_of ops start end ∷ more
       → with_options line (parts (from ops start)) said
-      ≡ and_then (option_meaning line o.0 o.1 said) (with_options line more)
-  options_all line said more o are is =
+      ≡ and_then (optioned line said (part_of ops start end)) (with_options line more)
+  options_step line said more are =
       ap (λ (ps : List (List Piece)). with_options line ps said) are
-      ∙ ap
-      (λ (r : Result (Text × Option Text) DirectiveFaultKind).
-      and_then r (λ o. and_then (option_meaning line o.0 o.1 said) (with_options line more))) is
+      ∙ and_then_again (option_of (part_of ops start end)) (λ o. option_meaning line o.0 o.1 said)
+      (with_options line more)
 
-  pub options_wrong : (line : ℕ) (said : Said) (kind : DirectiveFaultKind)
-      → option_of (part_of ops start end) ≡ Err kind → with_options line (parts (from ops start)) said ≡ Err kind
-  options_wrong line said kind is =
-      ap (λ (ps : List (List Piece)). with_options line ps said) parts_any.1
-      ∙ ap
-      (λ (r : Result (Text × Option Text) DirectiveFaultKind).
-      and_then r (λ o. and_then (option_meaning line o.0 o.1 said) (with_options line parts_any.0))) is
+  pub options_fault : (line : ℕ) (said after last : Said) (r : Result Unit LineFault) (f : LineFault)
+      (whole : Result Said DirectiveFaultKind) → Follows (Err f) (optioned line said (part_of ops start end)) after
+      → r ≡ Err f → whole ≡ with_options line (parts (from ops start)) said → Follows r whole last
+  options_fault line said after last r f whole follows e same =
+      then_fault (optioned line said (part_of ops start end)) (with_options line parts_any.0) after last r f whole
+      follows
+      e (same ∙ options_step line said parts_any.0 parts_any.1)
 
-  pub options_fault : (line : ℕ) (said after : Said) (o : Text × Option Text) (r : Result Unit LineFault)
-      (f : LineFault) (whole : Result Said DirectiveFaultKind) → option_of (part_of ops start end) ≡ Ok o
-      → Follows (Err f) (option_meaning line o.0 o.1 said) after → r ≡ Err f
-      → whole ≡ with_options line (parts (from ops start)) said → Follows r whole after
-  options_fault line said after o r Memory whole is follows e same = rw e tt
-  options_fault line said after o r (Wrong kind) whole is follows e same =
-      rw e
-      (same
-      ∙ (options_all line said parts_any.0 o parts_any.1 is
-      ∙ ap (λ (m : Result Said DirectiveFaultKind). and_then m (with_options line parts_any.0)) follows))
-
-  pub options_more : (line : ℕ) (said next : Said) (o : Text × Option Text) → end < length ops
-      → option_of (part_of ops start end) ≡ Ok o → option_meaning line o.0 o.1 said ≡ Ok next
+  pub options_more : (line : ℕ) (said next : Said) → end < length ops
+      → optioned line said (part_of ops start end) ≡ Ok next
       → with_options line (parts (from ops start)) said ≡ with_options line (parts (from ops (end + 1))) next
-  options_more line said next o more is means =
-      options_all line said _ o (parts_more more) is
-      ∙ ap (λ (m : Result Said DirectiveFaultKind). and_then m (with_options line (parts (from ops (end + 1))))) means
+  options_more line said next more is =
+      options_step line said _ (parts_more more)
+      ∙ ap (λ (m : Result Said DirectiveFaultKind). and_then m (with_options line (parts (from ops (end + 1))))) is
 
-  pub options_end : (line : ℕ) (said next : Said) (o : Text × Option Text) → end ≡ length ops
-      → option_of (part_of ops start end) ≡ Ok o → option_meaning line o.0 o.1 said ≡ Ok next
+  pub options_end : (line : ℕ) (said next : Said) → end ≡ length ops
+      → optioned line said (part_of ops start end) ≡ Ok next
       → with_options line (parts (from ops start)) said ≡ Ok next
-  options_end line said next o last is means =
-      options_all line said [] o (parts_none last) is
-      ∙ ap (λ (m : Result Said DirectiveFaultKind). and_then m (with_options line [])) means
+  options_end line said next last is =
+      options_step line said [] (parts_none last)
+      ∙ ap (λ (m : Result Said DirectiveFaultKind). and_then m (with_options line [])) is
 
 -- where a part ends: at a comma, behind a token that is none, and behind the last
 module _ (ops : List Token) (end : ℕ) where
@@ -173,23 +180,30 @@ module _ (ops : List Token) (end : ℕ) where
 
 -- ---- the items of an order
 
-pub items_more : (had new : List OrderItem) (before middle after : List Token) (k n : Token) (item : OrderItem)
-    → before ≡ k ∷ middle → middle ≡ n ∷ after
-    → order_item (piece_of k) (piece_of n) ≡ Ok (item_of item) → new ≡ had ++ (item ∷ [])
-    → with_items (items_of had) (pieces before) ≡ with_items (items_of new) (pieces after)
-items_more had new before middle after k n item one two is put =
-    ap (λ (ts : List Token). with_items (items_of had) (pieces ts)) (one ∙ ap (λ (ts : List Token). k ∷ ts) two)
-    ∙ (ap
-    (λ (r : Result SaidItem DirectiveFaultKind).
-    and_then r (λ item. with_items (items_of had ++ (item ∷ [])) (pieces after))) is
-    ∙ ap (λ (is : List SaidItem). with_items is (pieces after))
-    (sym (ap items_of put ∙ map_push item_of had item)))
+items_step : (had : List SaidItem) (before middle after : List Token) (k n : Token) → before ≡ k ∷ middle
+    → middle ≡ n ∷ after
+    → with_items had (pieces before)
+    ≡ and_then (listed had (piece_of k) (piece_of n)) (λ h. with_items h (pieces after))
+items_step had before middle after k n one two =
+    ap (λ (ts : List Token). with_items had (pieces ts)) (one ∙ ap (λ (ts : List Token). k ∷ ts) two)
+    ∙ and_then_again (order_item (piece_of k) (piece_of n)) (λ item. Ok (had ++ (item ∷ [])))
+    (λ h. with_items h (pieces after))
 
--- ---- faults
+pub items_more : (had next : List SaidItem) (before middle after : List Token) (k n : Token) → before ≡ k ∷ middle
+    → middle ≡ n ∷ after → listed had (piece_of k) (piece_of n) ≡ Ok next
+    → with_items had (pieces before) ≡ with_items next (pieces after)
+items_more had next before middle after k n one two is =
+    items_step had before middle after k n one two
+    ∙ ap (λ (m : Result (List SaidItem) DirectiveFaultKind). and_then m (λ h. with_items h (pieces after))) is
 
-pub follows_wrong : {A : Type 0} (r : Result Unit LineFault) (kind : DirectiveFaultKind)
-    (meant : Result A DirectiveFaultKind) (after : A) → r ≡ Err (Wrong kind) → meant ≡ Err kind → Follows r meant after
-follows_wrong r kind meant after is e = rw is e
+pub items_fault : (had new last : List SaidItem) (before middle after : List Token) (k n : Token)
+    (r : Result Unit LineFault) (f : LineFault) (whole : Result (List SaidItem) DirectiveFaultKind)
+    → before ≡ k ∷ middle
+    → middle ≡ n ∷ after → Follows (Err f) (listed had (piece_of k) (piece_of n)) new → r ≡ Err f
+    → whole ≡ with_items had (pieces before) → Follows r whole last
+items_fault had new last before middle after k n r f whole one two follows e same =
+    then_fault (listed had (piece_of k) (piece_of n)) (λ h. with_items h (pieces after)) new last r f whole follows e
+    (same ∙ items_step had before middle after k n one two)
 
 -- ---- lines
 

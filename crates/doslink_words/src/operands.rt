@@ -6,6 +6,7 @@ ghost use Rattle.doslink_words.specs.Tokens.{texts};
 ghost use Rattle.doslink_words.specs.inside.Tokens.{piece_of, pieces};
 ghost use Rattle.doslink_words.specs.Said.{item_of, items_of};
 ghost use Rattle.doslink_words.specs.inside.Follows.{Follows, Gives};
+ghost use Rattle.doslink_words.specs.inside.Parts.{listed, named};
 
 use crate::faults::{DirectiveFaultKind, LineFault};
 use crate::job::OrderItem;
@@ -38,6 +39,15 @@ pub(crate) fn part_end(operands: &[Token], start: usize) -> usize
     end
 }
 
+// Appends the name that is the only operand.
+fn put_name<'a>(names: &mut Vec<&'a str>, operands: &[Token<'a>]) -> Result<(), LineFault>
+    ensures { Follows result (named (texts names.old.items) (pieces operands.now)) (texts names.new.items) }
+{
+    let name = one_name(operands)?;
+    names.push(name)?;
+    Ok(())
+}
+
 /// Appends the names of operands `A[,B..]`.
 pub(crate) fn put_names<'a>(
     names: &mut Vec<&'a str>,
@@ -49,8 +59,7 @@ pub(crate) fn put_names<'a>(
     let mut start = 0;
     'parts: loop {
         let end = part_end(operands, start);
-        let name = one_name(&operands[start..end])?;
-        names.push(name)?;
+        put_name(names, &operands[start..end])?;
         let last = operands.len();
         if end == last {
             return Ok(());
@@ -73,6 +82,20 @@ fn order_item<'a>(keyword: Token<'a>, name: Token<'a>) -> Result<OrderItem<'a>, 
     }
 }
 
+// Appends the item of an order that a keyword and a name are.
+fn put_item<'a>(
+    items: &mut Vec<OrderItem<'a>>,
+    keyword: Token<'a>,
+    name: Token<'a>,
+) -> Result<(), LineFault>
+    ensures { Follows result (listed (items_of items.old.items) (piece_of keyword.entry) (piece_of name.entry))
+        (items_of items.new.items) }
+{
+    let item = order_item(keyword, name)?;
+    items.push(item)?;
+    Ok(())
+}
+
 /// Appends the items of an order, `clname CLASS` or `segment SEGMENT` each.
 pub(crate) fn put_items<'a>(
     items: &mut Vec<OrderItem<'a>>,
@@ -86,7 +109,7 @@ pub(crate) fn put_items<'a>(
         let Some(name) = tokens.next() else {
             return Err(LineFault::Wrong(DirectiveFaultKind::WrongOperands));
         };
-        items.push(order_item(*keyword, *name)?)?;
+        put_item(items, *keyword, *name)?;
     }
     Ok(())
 }

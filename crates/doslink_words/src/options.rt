@@ -5,6 +5,7 @@ ghost use Rattle.doslink_words.specs.Directives as spec;
 ghost use Rattle.doslink_words.specs.Said.{At, Beside, map_of, said_of};
 ghost use Rattle.doslink_words.specs.inside.Tokens.{piece_of, pieces};
 ghost use Rattle.doslink_words.specs.inside.Follows.{Follows, Gives, option_said};
+ghost use Rattle.doslink_words.specs.inside.Parts.{optioned};
 
 use crate::faults::{DirectiveFaultKind, LineFault};
 use crate::job::{Directives, MapFile, Order, Warning, WarningKind};
@@ -99,6 +100,18 @@ fn follow_option<'a>(
     }
 }
 
+// Follows an option `NAME[=VALUE]`.
+fn follow_part<'a>(
+    directives: &mut Directives<'a>,
+    line: usize,
+    part: &[Token<'a>],
+) -> Result<(), LineFault>
+    ensures { Follows result (optioned line (said_of directives.old) (pieces part.now)) (said_of directives.new) }
+{
+    let (name, value) = option_of(part)?;
+    follow_option(directives, line, name, value)
+}
+
 /// Follows the options `NAME[=VALUE][,NAME[=VALUE]..]`.
 pub(crate) fn follow_options<'a>(
     directives: &mut Directives<'a>,
@@ -111,8 +124,7 @@ pub(crate) fn follow_options<'a>(
     let mut start = 0;
     'parts: loop {
         let end = part_end(operands, start);
-        let (name, value) = option_of(&operands[start..end])?;
-        follow_option(directives, line, name, value)?;
+        follow_part(directives, line, &operands[start..end])?;
         let last = operands.len();
         if end == last {
             return Ok(());
