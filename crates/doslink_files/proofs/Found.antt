@@ -10,6 +10,7 @@ use Rattle.doslink_files.specs.declared.fault.FileFault.TheVariants as fault
 use Rattle.doslink_files.specs.declared.reading.InputFile.{InputFile}
 use Rattle.doslink_files.specs.Files.{AreTold, Each, IsOneUnread, IsPathIn, IsPathOf, IsTold, IsUnread, contents}
 use Rattle.doslink_files.specs.Files.{file_paths}
+use Rattle.doslink_files.specs.Paths as spec
 
 pub Each-push : (holds : List ℕ → List ℕ → Type 0) (names files : List (List ℕ)) (name bytes : List ℕ)
     → Each holds names files → holds name bytes → Each holds (names ++ name ∷ []) (files ++ bytes ∷ [])
@@ -91,3 +92,11 @@ path-in folders i d name path h is =
     let there : suc i < suc (length (map (λ (f : Bor (List ℕ)). f.now) folders)) =
     omega (arith, length-map folders (λ f. f.now)) in
     (folder, (suc i, there, get_or-map (λ f. f.now) folders i d folder h), is)
+
+-- the path of the library with the next of the extensions
+pub path-with : (extensions : List (Bor (List ℕ))) (i : ℕ) (d : Bor (List ℕ)) (folder name path : List ℕ)
+    → i < length extensions → map (λ e. e.now) extensions ≡ spec.extensions name
+    → path ≡ spec.in_folder folder (name ++ (get_or extensions i d).now) → IsPathIn folder name path
+path-with extensions i d folder name path h all is =
+    let extension = (get_or extensions i d).now in
+    (extension, subst (λ (es : List (List ℕ)). Contains es extension) all (named-at extensions i d h), is)
