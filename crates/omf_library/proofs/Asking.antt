@@ -50,13 +50,9 @@ some-wanted name records place is =
 -- ---- the records that are left
 
 -- what the records from one on want first, by the names listed before, is what all want first
-abbrev pub IsLeft : (name : List ℕ) → (frames : List LentFrame) → (i : ℕ) → (before listed : List (List ℕ)) → Type 0
-IsLeft name frames i before listed =
-    first_wanting name listed (map plain_frame (drop i frames)) ≡ first_wanting name before (map plain_frame frames)
-
--- the place of the first of all that wants it
-abbrev pub first_of : (name : List ℕ) → (frames : List LentFrame) → (before : List (List ℕ)) → Option ℕ
-first_of name frames before = option_map (λ (f : Frame). f.place) (first_wanting name before (map plain_frame frames))
+abbrev pub IsLeft : (name : List ℕ) → (frames : List LentFrame) → (i : ℕ) → (listed : List (List ℕ)) → Type 0
+IsLeft name frames i listed =
+    first_wanting name listed (map plain_frame (drop i frames)) ≡ first_wanting name [] (map plain_frame frames)
 
 left-next : (name : List ℕ) (frames : List LentFrame) (i : ℕ) (listed : List (List ℕ)) (f : LentFrame) (wants : Bool)
     → i < length frames → f ≡ get_or frames i f → is_among name (wanted_in listed (plain_frame f)) ≡ wants
@@ -73,32 +69,33 @@ left-next name frames i listed f wants within is e =
     (first_wanting name (listed ++ listed_in (plain_frame f)) (map plain_frame (drop (i + 1) frames)))) e
 
 -- the record wants it
-pub left-found : (name : List ℕ) (frames : List LentFrame) (i : ℕ) (before listed : List (List ℕ)) (f : LentFrame)
-    → IsLeft name frames i before listed → i < length frames → f ≡ get_or frames i f
+pub left-found : (name : List ℕ) (frames : List LentFrame) (i : ℕ) (listed : List (List ℕ)) (f : LentFrame)
+    → IsLeft name frames i listed → i < length frames → f ≡ get_or frames i f
     → is_among name (wanted_in listed (plain_frame f)) ≡ true
-    → Some f.place ≡ first_of name frames before
-left-found name frames i before listed f left within is e =
+    → Some f.place ≡ wanting_place name (map plain_frame frames)
+unfolding wanting_place
+left-found name frames i listed f left within is e =
     ap (option_map (λ (g : Frame). g.place)) (sym (left-next name frames i listed f true within is e) ∙ left)
 
 -- it doesn't
-pub left-more : (name : List ℕ) (frames : List LentFrame) (i : ℕ) (before listed more : List (List ℕ)) (f : LentFrame)
-    → IsLeft name frames i before listed → i < length frames → f ≡ get_or frames i f
+pub left-more : (name : List ℕ) (frames : List LentFrame) (i : ℕ) (listed more : List (List ℕ)) (f : LentFrame)
+    → IsLeft name frames i listed → i < length frames → f ≡ get_or frames i f
     → is_among name (wanted_in listed (plain_frame f)) ≡ false → more ≡ listed ++ listed_in (plain_frame f)
-    → IsLeft name frames (i + 1) before more
-left-more name frames i before listed more f left within is e added =
+    → IsLeft name frames (i + 1) more
+left-more name frames i listed more f left within is e added =
     ap (λ (l : List (List ℕ)). first_wanting name l (map plain_frame (drop (i + 1) frames))) added
     ∙ sym (left-next name frames i listed f false within is e) ∙ left
 
 -- no record is left
-pub left-none : (name : List ℕ) (frames : List LentFrame) (i : ℕ) (before listed : List (List ℕ))
-    → IsLeft name frames i before listed → length frames ≤ i → None ≡ first_of name frames before
-left-none name frames i before listed left past =
+pub left-none : (name : List ℕ) (frames : List LentFrame) (i : ℕ) (listed : List (List ℕ))
+    → IsLeft name frames i listed → length frames ≤ i → None ≡ wanting_place name (map plain_frame frames)
+unfolding wanting_place
+left-none name frames i listed left past =
     ap (option_map (λ (g : Frame). g.place))
     (sym (at_drop_all (λ (fs : List LentFrame). first_wanting name listed (map plain_frame fs)) frames i past) ∙ left)
 
--- of a module's records no name is listed before
-pub wanting-all : (name : List ℕ) (frames : List LentFrame) (listed : List (Bor (List ℕ))) (place : Option ℕ)
-    → listed ≡ [] → place ≡ first_of name frames (texts listed) → place ≡ wanting_place name (map plain_frame frames)
-unfolding wanting_place
-wanting-all name frames listed place none is =
-    is ∙ ap (λ (l : List (Bor (List ℕ))). first_of name frames (texts l)) none
+-- before the first record
+pub left-first : (name : List ℕ) (frames : List LentFrame) (listed : List (Bor (List ℕ))) → listed ≡ []
+    → IsLeft name frames 0 (texts listed)
+left-first name frames listed none =
+    ap (λ (l : List (Bor (List ℕ))). first_wanting name (texts l) (map plain_frame frames)) none

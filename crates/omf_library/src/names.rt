@@ -222,45 +222,6 @@ fn needed_of<'a, A: Allocator + Copy>(
     names_but(alloc, &defaulted, frames, names)
 }
 
-/// Takes as needed names those of the wanted ones that aren't names of weak and lazy externals alone, and keeps as
-/// wanted ones those that aren't names of weak externals alone.
-fn set_apart<'a, A: Allocator + Copy>(
-    alloc: A,
-    frames: &[Frame<'a>],
-    said: &mut ModuleNames<'a, A>,
-) -> Result<(), AllocError>
-    ensures wanted { OnOk result (texts said.new.wanted.items ≡ filter (λ name. not (spec.is_theirs_alone
-        (spec.weak_externals (map plain_frame frames.now)) (map plain_frame frames.now) name))
-        (texts said.old.wanted.items)) }
-    ensures needed { OnOk result (texts said.new.needed.items ≡ filter (λ name. not (spec.is_theirs_alone
-        (spec.weak_and_lazy (map plain_frame frames.now)) (map plain_frame frames.now) name))
-        (texts said.old.wanted.items)) }
-    ensures offered { OnOk result (said.new.offered.items ≡ said.old.offered.items) }
-    ensures libraries { OnOk result (said.new.libraries.items ≡ said.old.libraries.items) }
-    ensures dosseg { OnOk result (said.new.dosseg ≡ said.old.dosseg) }
-{
-    said.needed = needed_of(alloc, frames, &said.wanted)?;
-    said.wanted = wanted_of(alloc, frames, &said.wanted)?;
-    Ok(())
-}
-
-/// The names of a module, by its records.
-fn names_of<'a, A: Allocator + Copy>(
-    alloc: A,
-    frames: &[Frame<'a>],
-) -> Result<ModuleNames<'a, A>, AllocError>
-    ensures wanted { IfOk result (λ said. texts said.wanted.items ≡ wanted_names (map plain_frame frames.now)) }
-    ensures needed { IfOk result (λ said. texts said.needed.items ≡ needed_names (map plain_frame frames.now)) }
-    ensures offered { IfOk result (λ said. texts said.offered.items ≡ offered_names (map plain_frame frames.now)) }
-    ensures libraries { IfOk result (λ said.
-        texts said.libraries.items ≡ library_names (map plain_frame frames.now)) }
-    ensures dosseg { IfOk result (λ said. said.dosseg ≡ asks_dosseg (map plain_frame frames.now)) }
-{
-    let mut said = all_names(alloc, frames)?;
-    set_apart(alloc, frames, &mut said)?;
-    Ok(said)
-}
-
 /// The names of the module whose records begin the bytes, up to the first record that ends a module, or before the
 /// first that is at fault.
 pub fn module_names<'a, A: Allocator + Copy>(
@@ -274,5 +235,8 @@ pub fn module_names<'a, A: Allocator + Copy>(
     ensures dosseg { IfOk result (λ said. said.dosseg ≡ asks_dosseg (module_records bytes.now 0)) }
 {
     let frames = module_frames(alloc, bytes)?;
-    names_of(alloc, &frames)
+    let mut said = all_names(alloc, &frames)?;
+    said.needed = needed_of(alloc, &frames, &said.wanted)?;
+    said.wanted = wanted_of(alloc, &frames, &said.wanted)?;
+    Ok(said)
 }

@@ -2,7 +2,6 @@
 
 ghost use Rattle.std.specs.Prelude.{◌≡◌, IfOk, is_some, map};
 ghost use Rattle.std.specs.List.{list_any};
-ghost use Rattle.std.specs.Option.{option_map};
 ghost use Rattle.std.specs.Str.{bytes_eq};
 ghost use Rattle.omf_frame.specs.Lending.{plain_frame};
 ghost use Rattle.omf_library.specs.Names.{asked_names, texts, wanted_in};
@@ -39,26 +38,6 @@ fn wants<'a, A: Allocator + Copy>(
     Ok(is_among(name, &wanted))
 }
 
-/// The place of the first of these records that wants a name, by the names listed before them, to which those are added
-/// that they list themselves. None where none does.
-fn first_place<'a, A: Allocator + Copy>(
-    alloc: A,
-    frames: &[Frame<'a>],
-    listed: &mut Vec<&'a [u8], A>,
-    name: &[u8],
-) -> Result<Option<u64>, AllocError>
-    ensures { IfOk result (λ place. place ≡ option_map (λ f. f.place)
-        (spec.first_wanting name.now (texts listed.old.items) (map plain_frame frames.now))) }
-{
-    for frame in frames {
-        if wants(alloc, frame, listed, name)? {
-            return Ok(Some(frame.place));
-        }
-        push_listed(frame, listed)?;
-    }
-    Ok(None)
-}
-
 /// The place of the first of a module's records that wants a name. None where none does.
 pub fn wanting_place<A: Allocator + Copy>(
     alloc: A,
@@ -71,5 +50,11 @@ pub fn wanting_place<A: Allocator + Copy>(
         is_some place ≡ is_among name.now (asked_names (map plain_frame frames.now))) }
 {
     let mut listed = Vec::new(alloc);
-    first_place(alloc, frames, &mut listed, name)
+    for frame in frames {
+        if wants(alloc, frame, &listed, name)? {
+            return Ok(Some(frame.place));
+        }
+        push_listed(frame, &mut listed)?;
+    }
+    Ok(None)
 }

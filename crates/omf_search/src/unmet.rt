@@ -1,6 +1,6 @@
 //! The names that stay missing.
 
-ghost use Rattle.std.specs.Prelude.{◌≡◌, ◌++◌, [], ◌∷◌, List, IfOk, OnOk, cond, false, map, true};
+ghost use Rattle.std.specs.Prelude.{◌≡◌, ◌++◌, [], ◌∷◌, List, IfOk, OnOk, cond, map, true};
 ghost use Rattle.indexmap.specs.IndexSet.{contains};
 ghost use Rattle.omf_search.specs.inside.Met.{same_wanted};
 ghost use Rattle.omf_search.specs.inside.Taken.{IsTaken};
@@ -45,32 +45,6 @@ fn push_new<'a, A: Allocator + Copy>(
     Ok(())
 }
 
-/// Puts those of the wanted names that no module offers in an empty list, in order, each once for each module that
-/// wants it, and their keys in an empty set.
-fn push_missing<'a, A: Allocator + Copy>(
-    names: Names,
-    taken: &Taken<'a, A>,
-    met: &mut WantedSet<'a, A>,
-    missing: &mut Vec<Wanted<'a>, A>,
-) -> Result<(), AllocError>
-    requires met { (k : WantedKey) → contains same_wanted met.now k ≡ false }
-    requires missing { missing.now.items ≡ [] }
-    ensures { OnOk result ((ms : List Module) → IsTaken names ms taken.now →
-        map wanted_said missing.new.items ≡ missing_names names ms) }
-{
-    for wanted in &taken.wanted {
-        if taken.offers(names, wanted.name) {
-            continue;
-        }
-        let key = WantedKey {
-            wanted_by: wanted.wanted_by,
-            key: Key::new(names, wanted.name),
-        };
-        push_new(met, missing, key, *wanted)?;
-    }
-    Ok(())
-}
-
 /// Those of the wanted names that no module offers, in order, each once for each module that wants it.
 fn missing_of<'a, A: Allocator + Copy>(
     alloc: A,
@@ -82,7 +56,16 @@ fn missing_of<'a, A: Allocator + Copy>(
 {
     let mut met = IndexSet::new(alloc);
     let mut missing = Vec::new(alloc);
-    push_missing(names, taken, &mut met, &mut missing)?;
+    for wanted in &taken.wanted {
+        if taken.offers(names, wanted.name) {
+            continue;
+        }
+        let key = WantedKey {
+            wanted_by: wanted.wanted_by,
+            key: Key::new(names, wanted.name),
+        };
+        push_new(&mut met, &mut missing, key, *wanted)?;
+    }
     Ok(missing)
 }
 

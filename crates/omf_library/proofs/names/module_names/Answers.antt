@@ -1,35 +1,39 @@
-use Rattle.std.proofs.Common.{map, ap, ◌∙◌}
-use Rattle.std.proofs.lemmas.Result.{IfOk-weaker}
+use Rattle.std.proofs.Common.{filter, map, not, ap, ap₂, ◌∙◌}
 use Rattle.omf_frame.specs.Lending.{plain_frame}
-use Rattle.omf_library.specs.Names.{asks_dosseg, library_names, needed_names, offered_names, wanted_names}
+use Rattle.omf_library.specs.Defaults.{is_theirs_alone, weak_and_lazy, weak_externals}
+use Rattle.omf_library.specs.Names.{asks_dosseg, asked_names, library_names, needed_names, offered_names, texts}
+use Rattle.omf_library.specs.Names.{wanted_names}
 use Rattle.omf_library.proofs.names.module_names.Goals as goal
 
 pub returns-clause-wanted : goal.returns-clause-wanted
+unfolding wanted_names
 returns-clause-wanted g c =
-    IfOk-weaker c.names_of.result _ _
-    (λ said is. is ∙ ap wanted_names (ap (map plain_frame) c.deref.ensures.value ∙ c.in_ok-frames.ensures))
-    c.names_of.ensures.wanted
+    c.in_ok-said-3.ensures
+    ∙ ap₂ (λ fs names. filter (λ name. not (is_theirs_alone (weak_externals fs) fs name)) names)
+    (ap (map plain_frame) c.deref-4.ensures.value ∙ c.in_ok-frames.ensures)
+    (ap texts c.deref-5.ensures.value ∙ c.in_ok-said.ensures.wanted
+    ∙ ap asked_names (ap (map plain_frame) c.deref.ensures.value ∙ c.in_ok-frames.ensures))
 
 pub returns-clause-needed : goal.returns-clause-needed
+unfolding needed_names
 returns-clause-needed g c =
-    IfOk-weaker c.names_of.result _ _
-    (λ said is. is ∙ ap needed_names (ap (map plain_frame) c.deref.ensures.value ∙ c.in_ok-frames.ensures))
-    c.names_of.ensures.needed
+    c.in_ok-said-2.ensures
+    ∙ ap₂ (λ fs names. filter (λ name. not (is_theirs_alone (weak_and_lazy fs) fs name)) names)
+    (ap (map plain_frame) c.deref-2.ensures.value ∙ c.in_ok-frames.ensures)
+    (ap texts c.deref-3.ensures.value ∙ c.in_ok-said.ensures.wanted
+    ∙ ap asked_names (ap (map plain_frame) c.deref.ensures.value ∙ c.in_ok-frames.ensures))
 
 pub returns-clause-offered : goal.returns-clause-offered
 returns-clause-offered g c =
-    IfOk-weaker c.names_of.result _ _
-    (λ said is. is ∙ ap offered_names (ap (map plain_frame) c.deref.ensures.value ∙ c.in_ok-frames.ensures))
-    c.names_of.ensures.offered
+    c.in_ok-said.ensures.offered
+    ∙ ap offered_names (ap (map plain_frame) c.deref.ensures.value ∙ c.in_ok-frames.ensures)
 
 pub returns-clause-libraries : goal.returns-clause-libraries
 returns-clause-libraries g c =
-    IfOk-weaker c.names_of.result _ _
-    (λ said is. is ∙ ap library_names (ap (map plain_frame) c.deref.ensures.value ∙ c.in_ok-frames.ensures))
-    c.names_of.ensures.libraries
+    c.in_ok-said.ensures.libraries
+    ∙ ap library_names (ap (map plain_frame) c.deref.ensures.value ∙ c.in_ok-frames.ensures)
 
 pub returns-clause-dosseg : goal.returns-clause-dosseg
 returns-clause-dosseg g c =
-    IfOk-weaker c.names_of.result _ _
-    (λ said is. is ∙ ap asks_dosseg (ap (map plain_frame) c.deref.ensures.value ∙ c.in_ok-frames.ensures))
-    c.names_of.ensures.dosseg
+    c.in_ok-said.ensures.dosseg
+    ∙ ap asks_dosseg (ap (map plain_frame) c.deref.ensures.value ∙ c.in_ok-frames.ensures)

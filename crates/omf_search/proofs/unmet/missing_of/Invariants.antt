@@ -5,7 +5,7 @@ use Rattle.omf_search.specs.inside.Taken.{IsTaken}
 use Rattle.omf_search.specs.Results.{wanted_said}
 use Rattle.omf_search.specs.Said.{Module}
 use Rattle.omf_search.proofs.Distinct.{IsFound, unoffered}
-use Rattle.omf_search.proofs.unmet.push_missing.Given as goal
+use Rattle.omf_search.proofs.unmet.missing_of.Given as goal
 
 abbrev pub invariant-loop-wanted : goal.invariant-loop-wanted
 invariant-loop-wanted g l =
