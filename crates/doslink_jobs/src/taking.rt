@@ -60,6 +60,23 @@ fn print<O: Write + Drop, A: Allocator + Copy>(
     output.flush()
 }
 
+/// Tells a text on standard output, or that this failed.
+fn tell_text<O: Write + Drop, A: Allocator + Copy>(
+    alloc: A,
+    output: &mut BufferedSink<O, A>,
+    text: &[u8],
+    lines: &mut Vec<u8, A>,
+) -> Result<(), Stop>
+    requires { sink_failures output.old ≡ 0 }
+    ensures { IfErr result (λ stop. OnInput stop ⊥) }
+{
+    if let Err(IoFault) = print(output, text) {
+        push_fault(alloc, lines, &LinkFault::Output, STANDARD_OUTPUT)?;
+        return Err(Stop::Device);
+    }
+    Ok(())
+}
+
 /// Tells each module on standard output, where the job asks for that.
 pub(crate) fn tell_taken<O: Write + Drop, A: Allocator + Copy>(
     alloc: A,
@@ -75,11 +92,7 @@ pub(crate) fn tell_taken<O: Write + Drop, A: Allocator + Copy>(
         return Ok(());
     }
     let text = handed_text(alloc, taken.handed, taken.words)?;
-    if let Err(IoFault) = print(output, &text) {
-        push_fault(alloc, lines, &LinkFault::Output, STANDARD_OUTPUT)?;
-        return Err(Stop::Device);
-    }
-    Ok(())
+    tell_text(alloc, output, &text, lines)
 }
 
 /// What the module of communal variables says of names, where these are theirs: it offers them.
