@@ -4,6 +4,9 @@
 
 unpacked=$top/out/released
 
+# Where programs are unpacked if the repository's folder can't be written to: a folder that this user alone may change.
+set_aside=${TMPDIR:-/tmp}/omf-released-$(id -u)
+
 # The programs that crates.txt has: programs
 programs() {
     for each in omf doslink; do
@@ -73,15 +76,50 @@ is_seen() {
     [ -z "$found" ]
 }
 
+# Whether a folder may be written to, which is made where it isn't there: is_own FOLDER
+is_own() {
+    mkdir -p -m 700 "$1" 2>/dev/null && [ -O "$1" ] && [ -w "$1" ] && [ ! -L "$1" ]
+}
+
+# Has `unpacked` name a folder that can be written to: the one set aside, else a new one: take_other_folder PROGRAM
+take_other_folder() {
+    unpacked=$set_aside
+    is_own "$unpacked" || unpacked=$(mktemp -d) || return
+    echo "$1: $top can't be written to, so the program runs from $unpacked" >&2
+}
+
+# Writes what a packed file holds, by the first of these that is here: unpacked_bytes FILE
+unpacked_bytes() {
+    if command -v xz >/dev/null; then
+        xz -dc "$1"
+    elif command -v python3 >/dev/null; then
+        python3 -c 'import lzma, shutil, sys; shutil.copyfileobj(lzma.open(sys.argv[1]), sys.stdout.buffer)' "$1"
+    elif command -v busybox >/dev/null; then
+        busybox xz -dc "$1"
+    else
+        return 127
+    fi
+}
+
 # Unpacks the released program, and says why where that can't be: unpack PROGRAM
 unpack() {
-    mkdir -p "$unpacked" && xz -dc "$top/release/$1.xz" >"$unpacked/$1.new" 2>/dev/null &&
-        [ "$(sha256sum <"$unpacked/$1.new" | cut -d ' ' -f 1)" = "$(said_of "$1" sha256)" ] || {
-        rm -f "$unpacked/$1.new"
-        echo "$1: release/$1.xz is damaged: it doesn't have the sum that release/RELEASE says" >&2
+    local status
+    mkdir -p "$unpacked" 2>/dev/null && [ -w "$unpacked" ] || take_other_folder "$1" || {
+        echo "$1: there is no folder to unpack the program in" >&2
         return 1
     }
-    chmod 755 "$unpacked/$1.new" && mv -f "$unpacked/$1.new" "$unpacked/$1"
+    unpacked_bytes "$top/release/$1.xz" >"$unpacked/$1.new" 2>/dev/null
+    status=$?
+    if [ $status -eq 127 ]; then
+        echo "$1: nothing here unpacks release/$1.xz: install xz (Debian's package xz-utils), or python3" >&2
+    elif [ "$(sha256sum <"$unpacked/$1.new" | cut -d ' ' -f 1)" != "$(said_of "$1" sha256)" ]; then
+        echo "$1: release/$1.xz is damaged: it doesn't have the sum that release/RELEASE says" >&2
+    else
+        chmod 755 "$unpacked/$1.new" && mv -f "$unpacked/$1.new" "$unpacked/$1"
+        return
+    fi
+    rm -f "$unpacked/$1.new"
+    return 1
 }
 
 # A line for every fifty functions that are proved, with how many there are in the released program, of which rt counts
@@ -123,6 +161,7 @@ choose() {
     local built=$top/crates/$1/out/$1
     local made=("$built") begun now status
     [ -n "${OMF_BUILD-}" ] || made+=("$unpacked/$1")
+    [ -n "${OMF_BUILD-}" ] || [ -w "$top" ] || ! is_own "$set_aside" || made+=("$set_aside/$1")
     for program in "${made[@]}"; do
         is_seen "$program" && return
     done
@@ -140,8 +179,8 @@ make_or_find() {
     for program in "${made[@]}"; do
         [ -x "$program" ] && [ "$(cat "$program.sources" 2>/dev/null)" = "$2" ] && return
     done
-    program=$unpacked/$1
     if [ -z "${OMF_BUILD-}" ] && ! is_newer "$1" && [ "$(said_of "$1" sources)" = "$2" ] && unpack "$1"; then
+        program=$unpacked/$1
         echo "$1: this is the released program, which was built of these very sources and proved" >&2
         return
     fi
