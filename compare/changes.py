@@ -300,6 +300,8 @@ def seeds_until_found(kind, program, change):
     with tempfile.TemporaryDirectory(prefix="omf-changed-") as folder:
         copy = Path(folder) / "compare"
         shutil.copytree(HERE, copy)
+        (Path(folder) / "docs").mkdir()
+        shutil.copy(HERE.parent / "docs" / "faults.txt", Path(folder) / "docs")
         change.make(copy)
         done = subprocess.run(
             [sys.executable, copy / kind.name, "--program", program,

@@ -29,7 +29,7 @@ class Comparison(comparison.Comparison):
         """One job; raises a Difference."""
         chance = random.Random(seed)
         case = jobs.case(chance, seed)
-        answer = comparison.asked(model_answer, case)
+        answer = comparison.asked(model_answer, case, self.files_of(case))
         self.put(case)
         given = {}
         if chance.random() < 0.3:
@@ -37,6 +37,10 @@ class Comparison(comparison.Comparison):
             (self.folder / jobs.OUT).write_bytes(OLD)
         self.run(case, answer)
         self.compare_files(case, {**given, **answer.files})
+
+    def files_of(self, case):
+        """The files of a case as the system finds them by their paths."""
+        return case.files
 
     def put(self, case):
         """A folder with the files of a case."""
@@ -75,24 +79,24 @@ def can_be_made(path):
     return not path.startswith(jobs.NO_FOLDER)
 
 
-def model_answer(case):
-    """What the model answers to a case."""
+def model_answer(case, files):
+    """What the model answers to a case over its files."""
     if case.program == DIRECTIVES:
-        return linking.link_by_directives(case.words, case.files, case.folders, can_be_made)
+        return linking.link_by_directives(case.words, files, case.folders, can_be_made)
     if case.words == ["@" + jobs.RESPONSE]:
         return linking.link_by_response(
-            jobs.RESPONSE, case.files, lambda _: case.job, case.folders, can_be_made)
-    return linking.link(case.job, case.files, case.folders, can_be_made)
+            jobs.RESPONSE, files, lambda _: case.job, case.folders, can_be_made)
+    return linking.link(case.job, files, case.folders, can_be_made)
 
 
-def compare_seeds(program, folder, seeds, keeps=False):
+def compare_seeds(program, folder, seeds, keeps=False, kind=Comparison):
     """Compares some seeds; answers the counts and a line for each difference."""
-    return comparison.compare_seeds(program, folder, seeds, keeps, Comparison)
+    return comparison.compare_seeds(program, folder, seeds, keeps, kind)
 
 
-def until_difference(program, folder, seeds):
+def until_difference(program, folder, seeds, kind=Comparison):
     """Compares seeds up to the first difference; answers how many it took, or 0, and a line."""
-    return comparison.until_difference(program, folder, seeds, Comparison)
+    return comparison.until_difference(program, folder, seeds, kind)
 
 
 def lines_of_ends(counts):

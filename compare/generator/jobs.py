@@ -1,6 +1,7 @@
 """Jobs of `doslink`: files, libraries, what is asked for, and the words or directives for it."""
 
 from dataclasses import dataclass, field
+from itertools import groupby
 
 from generator.communals import (
     NO_NUMBERS, at_limit, module_of_communals, module_of_local_variables, module_of_no_number)
@@ -9,16 +10,21 @@ from generator.objects import (
     CLASSES, LAZY, MARKS, NAMES, SEGMENTS, TITLES, WEAK, ObjectMaker, any_plan, module_of_alias,
     module_of_default, module_of_external, module_of_far_data, module_of_links,
     module_of_long_aliases, module_of_long_externals, module_of_many_parts, module_of_no_alignment,
-    module_of_publics, module_of_shared_word, module_of_start, module_of_sum, segments_called)
+    module_of_publics, module_of_shared_word, module_of_stack, module_of_start, module_of_sum,
+    segments_called)
 from model import ordering
-from model.directives import Job
+from model.directives import Input, Job, Stack
 from model.placement import folded
 
 OUT, MAP, RESPONSE, NO_FOLDER = "out.exe", "out.map", "response", "missing/"
 FOLDER, OTHER_FOLDER, LAST_FOLDER = "parts", "more/", "last"
 MOST_PARTS, MANY_EVERY = 16_383, 500
-# lengths of far data, which fits in a frame or not once it is in whole paragraphs
-FAR_LENGTHS = [(0xFFF0, 16), (0xFFF0, 17), (0xFFF1, 5), (0xFFE1, 15), (0x8000, 0x8000)]
+# alignments and lengths of far data, which fits in a frame or not once it is in whole paragraphs
+FAR_DATA = [
+    [(3, 0xFFF0), (3, 16)], [(3, 0xFFF0), (3, 17)], [(3, 0xFFF1), (3, 5)], [(3, 0xFFE1), (3, 15)],
+    [(3, 0x8000), (3, 0x8000)], [(1, 0xFFE0), (3, 16)], [(1, 0xFFE0), (3, 17)],
+    [(3, 0xFFC0), (2, 16), (5, 16)], [(3, 0xFFC0), (5, 17), (1, 16)], [(4, 0xFE00), (3, 0x110)],
+    [(3, 0x110), (4, 0xFE00)], [(4, 0xFE00), (3, 0x111)]]
 # one seed in so many has such lengths, one a list of segments, and one BSS outside of DGROUP
 RARE_EVERY = 100
 # one job in so many has a line that is wrong, each in its turn, and one tells faults alone
@@ -44,6 +50,10 @@ SHARED_EVERY, SHARED = 50, [
     (0, 5), (2, 3), (3, 4), (2, 2)]
 # one a start by this type of MODEND with such a sum, alone or beside another one
 START_EVERY, STARTS = 50, [(0x8B, 1), (0x8A, 1), (0x8B, 2), (0x8B, 1)]
+# one job in so many has stacks of these lengths, and asks for one of about their sum
+STACKS_EVERY, STACKS = 40, [[], [0], [1], [33], [3, 5], [16, 0, 17], [0x8000, 0x7FFF, 1], [0x100]]
+# of a stack that is asked for
+STACK_LENGTHS = [1, 2, 0x10, 0x80, 0x100, 0x101, 0x400, 0x1000, 0x8000, 0xFFFF, 0x10000]
 # lengths of a body that externals by indexes, or of aliases, have by their names
 LONG_BODIES, LONG_EVERY = [65_534, 65_535], 150
 MEMBER_NAMES = [b"printf.o", b"exit.o", b"system.o", b"a_long_name_of_a_member.o", b"x"]
@@ -52,14 +62,16 @@ LINES_OF_NOTHING = [
     "", "# made by hand", "debug dwarf", "option quiet", "DEBUG line", "  ", "op quiet",
     "option quiet, nodefaultlibs"]
 LEFT_OUT = [
-    "option symfile", "sort global", "disable 1014", "option symfile=out.sym", "op STACK = 4096",
-    "option quiet,verbose", "option map, stack=1", "OPTION NoFarCalls"]
+    "option symfile", "sort global", "disable 1014", "option symfile=out.sym", "op CACHE",
+    "option quiet,verbose", "option map, showdead", "OPTION NoFarCalls"]
 WRONG_LINES = [
     "format dos com", "foo", "file", "order clname", "option", "name a b", "library a b", "= x",
     "order segment _DATA", "format windows", 'file "a', "option quiet=1", "file a,", "'name' a",
     "option quiet dosseg", "format dos exe com", "format", "format com", "option foo=1",
     "order clname CODE clname", "order clname CODE name A", "sort 'a", "option quiet,", '"a" b',
-    ", file a", "file a b", "libpath", "option map=,quiet", 'option "map"', "name"]
+    ", file a", "file a b", "libpath", "option map=,quiet", 'option "map"', "name",
+    "option stack", "option stack=0", "option stack=65537", "option stack=65k", "option stack=x",
+    "option stack=-1"]
 
 
 @dataclass
@@ -122,13 +134,21 @@ class JobMaker:
         members = [
             ObjectMaker(self.random, self.plan, [], [name]).make(b"REST") for name in self.names]
         self.files["rest.lib"] = library(self.random, members, SMALL_PAGES)
-        self.job.libraries.append("rest.lib")
+        self.give_library("rest.lib")
 
-    def make_far_data(self, lengths):
-        """Two modules of far data of these lengths."""
-        for number, length in enumerate(lengths):
-            self.files[f"{number}.obj"] = module_of_far_data(length)
-            self.job.files.append(f"{number}.obj")
+    def give(self, *paths):
+        """One more of FILES, or some."""
+        self.job.inputs += map(Input, paths)
+
+    def give_library(self, name):
+        """One more library by its name."""
+        self.job.inputs.append(Input(name, is_library=True))
+
+    def make_far_data(self, segments):
+        """Modules of far data of these alignments and lengths."""
+        for number, segment in enumerate(segments):
+            self.files[f"{number}.obj"] = module_of_far_data(*segment)
+            self.give(f"{number}.obj")
         self.folders, self.job.map = [], MAP
         return self.asked() if self.happens(0.2) else self.by_directives()
 
@@ -139,7 +159,7 @@ class JobMaker:
         for place, part in enumerate([variables[:half], variables[half:]]):
             self.files[f"{place}.obj"] = module_of_communals(
                 self.random, b"%d.C" % place, part)
-            self.job.files.append(f"{place}.obj")
+            self.give(f"{place}.obj")
         self.folders, self.job.map = [], MAP
         self.job.order = self.random.choice([None, None, ordering.DOSSEG])
         return self.asked()
@@ -149,7 +169,7 @@ class JobMaker:
         self.random.shuffle(modules)
         for number, content in enumerate(modules):
             self.files[f"{number}.obj"] = content
-            self.job.files.append(f"{number}.obj")
+            self.give(f"{number}.obj")
         self.folders = []
         return self.asked()
 
@@ -175,7 +195,7 @@ class JobMaker:
         self.random.shuffle(modules)
         for number, content in enumerate(modules):
             self.files[f"{number}.obj"] = content
-            self.job.files.append(f"{number}.obj")
+            self.give(f"{number}.obj")
         self.folders, self.job.map = [], MAP
         self.job.ignores_case = self.happens(0.7)
         return self.asked()
@@ -187,21 +207,23 @@ class JobMaker:
                 ("FIRST", module_of_links([b"f"], [b"g"], b"SECOND")),
                 ("SECOND", module_of_links([b"g"], [], b""))]:
             self.files[f"{name}.LIB"] = library(self.random, [content], SMALL_PAGES)
-        self.job.files, self.folders, self.job.map = ["0.obj"], [], MAP
+        self.give("0.obj")
+        self.folders, self.job.map = [], MAP
         return self.asked()
 
     def make_twice(self):
         """A public that two modules spell in two cases, which don't count."""
         for number, name in enumerate([b"x", b"X"]):
             self.files[f"{number}.obj"] = module_of_publics([name])
-            self.job.files.append(f"{number}.obj")
+            self.give(f"{number}.obj")
         self.folders, self.job.ignores_case = [], True
         return self.asked()
 
     def make_amiss(self):
         """A module with a record that is none of its type, which is lowered or not."""
         self.files["amiss.obj"] = module_of_no_alignment(self.random.choice([0x98, 0x99]))
-        self.job.files, self.folders = ["amiss.obj"], []
+        self.give("amiss.obj")
+        self.folders = []
         return self.asked()
 
     def make_sum(self, location, total):
@@ -209,14 +231,29 @@ class JobMaker:
         word = self.random.choice([0, 1, 0xFF, 0xFF00, 0xFFFB])
         self.files["sum.obj"] = module_of_sum(
             location, word, total - 4 - word, self.random.choice([False, True]))
-        self.job.files, self.folders = ["sum.obj", "sum.obj"], []
+        self.give("sum.obj", "sum.obj")
+        self.folders = []
         return self.asked()
 
     def make_shared(self, location, place):
         """A module with an offset of 32 bits and another fix-up, which share a word or not."""
         relative = location in (0, 1) and self.happens(0.3)
         self.files["shared.obj"] = module_of_shared_word(location, place, relative)
-        self.job.files, self.folders = ["shared.obj"], []
+        self.give("shared.obj")
+        self.folders = []
+        return self.asked()
+
+    def make_stacks(self, lengths):
+        """Modules with stacks of these lengths, of one name or of two, and a length that is asked for."""
+        names = self.random.choice([[b"STACK"], [b"STACK"], [b"STACK", b"OTHER"]])
+        for number, length in enumerate([None, *lengths]):
+            name = self.random.choice(names)
+            self.files[f"{number}.obj"] = module_of_stack(name, length, self.random)
+            self.give(f"{number}.obj")
+        asked = sum(lengths) + self.random.choice([-sum(lengths) // 2, -1, 0, 1, 17])
+        self.job.stack = Stack(min(max(asked, 1), 0x10000), cuts=False)
+        self.job.order = self.random.choice([None, None, ordering.DOSSEG])
+        self.folders, self.job.map = [], MAP
         return self.asked()
 
     def make_start(self, kind, count, total):
@@ -224,26 +261,28 @@ class JobMaker:
         sum in the first."""
         self.files["sum.obj"] = module_of_sum(self.random.choice([1, 9]), 0, 0, False)
         self.files["start.obj"] = module_of_start(kind, total - 4)
-        self.job.files = ["sum.obj"] + count * ["start.obj"]
+        self.give("sum.obj", *count * ["start.obj"])
         self.folders = []
         return self.asked()
 
     def make_no_number(self, front):
         """A communal variable whose length begins so, as no number does."""
         self.files["amiss.obj"] = module_of_no_number(front)
-        self.job.files, self.folders = ["amiss.obj"], []
+        self.give("amiss.obj")
+        self.folders = []
         return self.asked()
 
     def make_long_externals(self, make_module, length):
         """A record that is as long as one may be, or longer."""
         self.files["long.obj"] = make_module(length)
-        self.job.files, self.folders = ["long.obj"], []
+        self.give("long.obj")
+        self.folders = []
         return self.asked()
 
     def make_many_parts(self, count):
         """An order of so many parts."""
         self.files["many.obj"] = module_of_many_parts(count)
-        self.job.files = ["many.obj"]
+        self.give("many.obj")
         self.job.order = self.random.choice([ordering.DOSSEG, [ordering.Class(b"CODE")]])
         self.folders = []
         return self.asked()
@@ -321,7 +360,7 @@ class JobMaker:
             content = damaged(self.random, content)
         path = f"{number}.obj"
         self.files[path] = content if not self.happens(0.003) else None
-        self.job.files.append(path)
+        self.give(path)
 
     def members(self):
         """Modules that want each other, with the names that a librarian gives them."""
@@ -351,13 +390,17 @@ class JobMaker:
         if self.happens(0.3):
             path = self.file_of(name)
             self.files[path] = content
-            self.job.files.insert(self.random.randrange(len(self.job.files) + 1), path)
+            self.insert(Input(path))
             return
         self.put(name, content, self.job.folders)
-        self.job.libraries.append(name)
+        self.insert(Input(name, is_library=True))
         if self.happens(0.1):
             # given twice
-            self.job.libraries.append(self.random.choice(self.job.libraries))
+            self.insert(Input(name, is_library=True))
+
+    def insert(self, given):
+        """One more of what is linked, anywhere among it."""
+        self.job.inputs.insert(self.random.randrange(len(self.job.inputs) + 1), given)
 
     def file_of(self, name):
         """The file of a library's name, which has an ending where the name has none."""
@@ -397,6 +440,9 @@ class JobMaker:
             self.job.map = self.job.out
         if self.happens(0.5):
             self.job.order = self.random.choice([ordering.DOSSEG, self.some_classes()])
+            self.job.has_null_bytes = self.job.order != ordering.DOSSEG or self.happens(0.7)
+        if self.happens(0.15):
+            self.job.stack = Stack(self.random.choice(STACK_LENGTHS), cuts=False)
         if self.happens(0.1):
             # it is called like the first of FILES
             self.job.out = None
@@ -462,23 +508,40 @@ class JobMaker:
         options += [["--keep-debug"]] if job.keeps_debug else []
         options += [["-v"]] if job.is_verbose else []
         options += [] if job.order is None else [["--order", self.order_word()]]
+        options += [] if job.stack is None else [["--stack", self.number(job.stack.length)]]
         self.random.shuffle(options)
-        options += [["-L", folder] for folder in job.folders]
-        options += [["-l", name] for name in job.libraries]
-        return [*(word for option in options for word in option), *job.files]
+        given = [["-l", each.name] if each.is_library else [each.name] for each in job.inputs]
+        words = self.merged(self.merged(options, [["-L", folder] for folder in job.folders]), given)
+        return [word for each in words for word in each]
+
+    def merged(self, first, second):
+        """Two lists as one, in which each has its order."""
+        places = sorted(self.random.randrange(len(first) + 1) for _ in second)
+        found = list(first)
+        for place, each in zip(reversed(places), reversed(second)):
+            found.insert(place, each)
+        return found
+
+    def number(self, value):
+        """A number in one of its forms."""
+        return self.random.choice([str(value), f"0x{value:x}", f"0X{value:X}"])
 
     def order_word(self):
         if self.job.order == ordering.DOSSEG:
-            return self.random.choice(["dosseg", "dosseg", "DosSeg"])
+            words = ["dosseg", "dosseg", "DosSeg"] if self.job.has_null_bytes else [
+                "dosseg-nonulls", "DOSSEG-NoNulls"]
+            return self.random.choice(words)
         return ",".join(item.name.decode() for item in self.job.order)
 
     def by_directives(self):
         """Directives in any order but that of files and of libraries, in a file or as words."""
         job = self.job
-        job.is_verbose = job.keeps_debug = False
+        job.is_verbose = job.keeps_debug = job.has_null_bytes = False
         job.has_default_libraries = True
+        if job.stack is not None:
+            job.stack.cuts = True
         if self.happens(0.01):
-            job.files = []
+            job.inputs = [each for each in job.inputs if each.is_library]
         lines = list(map(self.in_any_case, self.lines()))
         if self.happens(0.8):
             self.files[RESPONSE] = self.text_of_lines(lines)
@@ -516,6 +579,7 @@ class JobMaker:
         lines += ["option map"] if job.map and self.happens(0.3) else []
         lines += ["option caseignore"] if job.ignores_case else []
         lines += ["option dosseg"] if job.order == ordering.DOSSEG else []
+        lines += [] if job.stack is None else [f"option stack={self.size(job.stack.length)}"]
         lines += [self.order_line()] if isinstance(job.order, list) else []
         lines += self.required_lines
         lines += self.random.sample(LINES_OF_NOTHING, self.random.randrange(3))
@@ -523,11 +587,20 @@ class JobMaker:
         lines += [self.random.choice(LEFT_OUT)] if self.happens(0.2) else []
         lines += [self.random.choice(WRONG_LINES)] if self.happens(0.1) else []
         self.random.shuffle(lines)
-        library = self.random.choice(["library", "library", "lib"])
-        for directive, names in [
-                ("libpath", job.folders), ("file", job.files), (library, job.libraries)]:
-            lines[self.random.randrange(len(lines) + 1):0] = self.lists(directive, names)
+        lines = self.merged(lines, self.lists("libpath", job.folders))
+        return self.merged(lines, self.given_lines())
+
+    def given_lines(self):
+        """The lines of what is linked, in its order."""
+        library, lines = self.random.choice(["library", "library", "lib"]), []
+        for is_library, some in groupby(self.job.inputs, key=lambda each: each.is_library):
+            lines += self.lists(library if is_library else "file", [each.name for each in some])
         return lines
+
+    def size(self, length):
+        """A number of bytes in one of its forms."""
+        kilobytes = [f"{length // 1024}k"] if length % 1024 == 0 else []
+        return self.random.choice([self.number(length), *kilobytes])
 
     def lists(self, directive, names):
         """A line for each name, or one of all."""
@@ -558,7 +631,7 @@ def case(random, number=1):
     if number % MANY_EVERY == 0:
         return maker.make_many_parts(MOST_PARTS + number // MANY_EVERY % 2)
     if number % RARE_EVERY == 1:
-        return maker.make_far_data(FAR_LENGTHS[number // RARE_EVERY % len(FAR_LENGTHS)])
+        return maker.make_far_data(FAR_DATA[number // RARE_EVERY % len(FAR_DATA)])
     if number % RARE_EVERY == 98:
         return maker.make_bss_outside()
     if number % RARE_EVERY == 99:
@@ -593,6 +666,8 @@ def case(random, number=1):
     if number % START_EVERY == 41:
         turn, which = divmod(number // START_EVERY, len(SUMS))
         return maker.make_start(*STARTS[turn % len(STARTS)], SUMS[which])
+    if number % STACKS_EVERY == 5:
+        return maker.make_stacks(STACKS[number // STACKS_EVERY % len(STACKS)])
     if number % AMISS_EVERY == 11:
         return maker.make_amiss()
     return maker.make()

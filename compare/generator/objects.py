@@ -25,7 +25,8 @@ SEGMENTS = [
     (b"STACK", b"STACK", 5, True, 4), (b"OTHER", b"STACK", 5, False, 1),
     (b"FAR_DATA", b"FAR_DATA", 0, False, 3), (b"FAR_BSS", b"FAR_BSS", 0, False, 1),
     (b"HEAP", b"HEAP", 2, False, 1), (b"SHARED", b"DATA", 6, True, 1), (b"", b"", 2, False, 1),
-    (b"_DATA", b"data", 2, True, 1), (b"MORE_DATA", b"FAR_DATA", 2, False, 3)]
+    (b"_DATA", b"data", 2, True, 1), (b"MORE_DATA", b"FAR_DATA", 2, False, 3),
+    (b"FAR_SHARED", b"FAR_DATA", 6, False, 2), (b"FAR_DATA", b"FAR_DATA", 2, False, 1)]
 # their names, and the classes that are kept out of a program
 DEBUG_SEGMENTS = [
     (b"$$SYMBOLS", b"DEBSYM"), (b"$$TYPES", b"DEBTYP"), (b".debug_info", b"DWARF"),
@@ -101,6 +102,8 @@ class ObjectMaker:
         self.threads = []
         # of each segment, whether it is absolute
         self.absolute = []
+        # those that start-up code clears
+        self.cleared = []
 
     def happens(self, likelihood):
         return self.random.random() < likelihood
@@ -161,6 +164,11 @@ class ObjectMaker:
             self.add_comment(DOSSEG, self.random.choice([b"", b"\0"]))
         if self.happens(0.1):
             self.add_comment(self.random.choice([0, 0x9D, 0xA0]), b"SLIBCE")
+        if self.happens(0.01):
+            # what no program for DOS has: imported names, and records of another form
+            class_byte, content = self.random.choice([
+                (0xA0, b"\1\0\1a\1b\0"), (0xA0, b"\2\0\1a\0"), (0xAA, b"80386"), (0xAA, b"")])
+            self.add_comment(class_byte, content)
 
     def add_comment(self, class_byte, content):
         self.add(records.Comment(self.random.choice([0, 0x40, 0x80]), class_byte, content))
@@ -173,6 +181,7 @@ class ObjectMaker:
             is_long = class_name == b"FAR_DATA" and self.happens(self.plan.has_long)
             lengths = LONG_LENGTHS if is_long else [0, 1, 5, 16, 17, 33]
             self.lengths.append(self.random.choice(lengths))
+            self.cleared += [len(self.lengths)] if class_name == b"BSS" else []
             self.absolute.append(self.happens(0.03))
             if not self.absolute[-1] and (
                     in_group and self.happens(0.95) or self.happens(0.03)):
@@ -194,6 +203,12 @@ class ObjectMaker:
         self.group = 1 + has_other if self.grouped and self.happens(0.95) else 0
         if self.group:
             self.add(records.GroupDefinition(2, self.grouped))
+        # a group of all memory, which a fix-up may name
+        self.flat = 0
+        if self.happens(0.02):
+            self.listed([b"FLAT"], 0x96)
+            self.add(records.GroupDefinition(len(self.names), []))
+            self.flat = 1 + has_other + (self.group != 0)
 
     def define_debug_segments(self):
         """Segments that debuggers read, by either type of record, behind the others."""
@@ -301,7 +316,8 @@ class ObjectMaker:
             self.add(records.LocalPublicNames(0, 1, None, [PublicName(name, 0, 0)]))
             if self.happens(0.5):
                 # no data wants it, so that the numbers of others stay
-                self.pieces.append(reclosed(self.random, 0xB4, self.counted(name) + b"\0"))
+                kind = self.random.choice([0xB4, 0xB4, 0xB5])
+                self.pieces.append(reclosed(self.random, kind, self.counted(name) + b"\0"))
                 self.externals = 0
 
     def add_lines(self):
@@ -390,7 +406,8 @@ class ObjectMaker:
     def add_data(self):
         """Bytes of some segments, with fix-ups to what is wanted and to other segments."""
         for number, length in enumerate(self.lengths, 1):
-            if length and not self.absolute[number - 1] and self.happens(0.7):
+            likelihood = 0.15 if number in self.cleared else 0.7
+            if length and not self.absolute[number - 1] and self.happens(likelihood):
                 content = bytes(self.random.randrange(256) for _ in range(min(length, 12)))
                 if self.happens(0.5):
                     content = content[:2] + bytes(len(content[2:4])) + content[4:]
@@ -430,6 +447,8 @@ class ObjectMaker:
         frame = Direct(Method.TARGET)
         if self.group and self.happens(0.3):
             frame = Direct(Method.GROUP, self.group)
+        if self.flat and self.happens(0.5):
+            frame = Direct(Method.GROUP, self.flat)
         location = self.random.choice([Location.OFFSET, Location.POINTER, Location.BASE])
         behind = self.random.randrange(3) if self.happens(0.2) else None
         return Fixup(True, location, 0, Reference(frame, self.random.choice(targets), behind))
@@ -472,14 +491,32 @@ def module_of_many_parts(count):
     return b"".join(map(spelling.record, made))
 
 
-def module_of_far_data(length):
-    """A module of far data with the number of its own frame."""
+def module_of_far_data(alignment, length):
+    """A module of far data of an alignment with the number of its own frame."""
     itself = Reference(Direct(Method.TARGET), Direct(Method.SEGMENT, 1), None)
     made = [
         records.Header(b"FAR"), records.NameList([b"", b"FAR_DATA", b"FAR"]),
-        records.SegmentDefinition(3, 0, length, 3, 2, 1), records.Data(1, 0, bytes(2)),
+        records.SegmentDefinition(alignment, 0, length, 3, 2, 1), records.Data(1, 0, bytes(2)),
         records.FixupRecord([Fixup(True, Location.BASE, 0, itself)]),
         records.ModuleEnd(False, None)]
+    return b"".join(map(records.Spelling().record, made))
+
+
+def module_of_stack(name, length, random):
+    """A module with a stack of this name and length, or with code and no stack."""
+    code = [
+        records.SegmentDefinition(1, 2, 5, 3, 4, 1), records.Data(1, 0, bytes(5)),
+        records.GroupDefinition(2, [])]
+    stack = [records.SegmentDefinition(
+        random.choice([1, 2, 3]), 5, length or 0, 5, 6, 1)]
+    if random.random() < 0.3:
+        stack.append(records.GroupDefinition(2, [1]))
+    if length and random.random() < 0.2:
+        stack.append(records.Data(1, length - 1, b"x"))
+    made = [
+        records.Header(b"STACKED"),
+        records.NameList([b"", b"DGROUP", b"_TEXT", b"CODE", name, b"STACK"]),
+        *(code if length is None else stack), records.ModuleEnd(False, None)]
     return b"".join(map(records.Spelling().record, made))
 
 

@@ -11,7 +11,7 @@ from model.faults import Fault
 from model.libraries import whole_frames
 from model.names import Ended, Entries
 from model.ordering import GROUP, UNINITIALISED
-from model.records import WHOLE_SEGMENT, Spelling
+from model.records import WHOLE_SEGMENT, Location, Method, Spelling
 
 COMMUNAL_VARIABLES = 0xB0
 # data types
@@ -27,6 +27,8 @@ FAR_NAME = b"FAR_BSS"
 WORD, PARAGRAPH = 2, 3
 PRIVATE, PUBLIC = 0, 2
 MOST_SEGMENTS = records.LARGEST_INDEX
+# locations that have an offset alone, and those that have a frame
+OFFSETS, BASES = (Location.OFFSET, Location.LOADER_OFFSET), (Location.BASE, Location.POINTER)
 # the faults
 BODY, DATA_TYPE, NEAR_AND_FAR, ELEMENT_SIZES = 53, 54, 55, 56
 NEAR_TOO_LONG, CUT_ELEMENT, TOO_MANY_SEGMENTS = 57, 58, 59
@@ -201,3 +203,22 @@ def communal_module(found, contents):
         return None
     near_name = NEAR_NAME if any(map(has_near_segment, contents)) else OWN_NEAR_NAME
     return b"".join(map(Spelling().record, made_records(found, near_name)))
+
+
+def target_names(one, locations):
+    """The names of the externals that fix-ups of a module at some locations refer to."""
+    return [
+        one.externals[fixup.reference.target.index - 1].name
+        for data in one.data for fixup in data.fixups
+        if fixup.location in locations and fixup.reference.target.method == Method.EXTERNAL]
+
+
+def reached_by_offset(one, found, key):
+    """The names of the externals of a module that are far variables and that it reaches by their
+    offsets alone: no fix-up has their frame."""
+    far = {key(each.name) for each in found if each.extent.is_far}
+    by_offset = set(map(key, target_names(one, OFFSETS)))
+    by_base = set(map(key, target_names(one, BASES)))
+    return [
+        each.name for each in one.externals
+        if not each.is_local and key(each.name) in far & by_offset - by_base]

@@ -13,25 +13,47 @@ from model import ordering
 SPACE = " \t\n\f\r"
 # a word, or between quotes
 WORD = re.compile(rf'[{SPACE}]*(?:"([^"]*)"|([^"{SPACE}][^{SPACE}]*))')
+# a number, and its unit
+NUMBER = re.compile(r"(?:0[xX]([0-9a-fA-F]+)|([0-9]+))([kKmM]?)")
+LONGEST_STACK = 65_536
 # a name between quotes of either kind, a word, or a comma or an equals sign
 TOKEN = re.compile(
     rf"""[{SPACE}]*(?:("[^"]*"|'[^']*')|([,=])|([^"'{SPACE},=][^{SPACE},=]*))""")
 
 
 @dataclass
+class Input:
+    """A file that is named, or a library, which is looked up in folders."""
+
+    name: str
+    is_library: bool = False
+
+
+@dataclass
+class Stack:
+    """How many bytes the stack is to have, and whether one that has more is cut."""
+
+    length: int
+    cuts: bool
+
+
+@dataclass
 class Job:
     """What is to be linked, how, and what is written; `order` is None where none is asked for."""
 
-    files: list = field(default_factory=list)
+    # in the order in which they are named
+    inputs: list = field(default_factory=list)
     out: Optional[str] = None
     map: Optional[str] = None
     folders: list = field(default_factory=list)
-    libraries: list = field(default_factory=list)
     ignores_case: bool = False
     order: object = None
     has_default_libraries: bool = True
     keeps_debug: bool = False
     packs_far_data: bool = False
+    # whether the order of DOSSEG has null bytes in front of _TEXT
+    has_null_bytes: bool = True
+    stack: Optional[Stack] = None
     is_verbose: bool = False
     is_quiet: bool = False
     # the map is asked for, by no name of its own
@@ -126,11 +148,11 @@ def names(tokens):
 
 
 def read_files(job, tokens, line):
-    job.files += names(tokens)
+    job.inputs += map(Input, names(tokens))
 
 
 def read_libraries(job, tokens, line):
-    job.libraries += names(tokens)
+    job.inputs += [Input(each, is_library=True) for each in names(tokens)]
 
 
 def read_folders(job, tokens, line):
@@ -165,6 +187,8 @@ def read_option(job, word, value, line):
     """An option; what is left out may have any value, and besides only a map has one."""
     if word in LEFT_OUT:
         job.warnings.append((line, LEFT_OUT[word]))
+    elif word == "stack":
+        job.stack = Stack(stack_length(value), cuts=True)
     elif word == "map":
         job.map, job.maps_to_out = value, value is None
     elif word not in SWITCHES:
@@ -173,6 +197,19 @@ def read_option(job, word, value, line):
         raise Refused
     else:
         setattr(job, *SWITCHES[word])
+
+
+def stack_length(text):
+    """A number of bytes: decimal, or hexadecimal behind 0x, with k or m for 1,024 or its square."""
+    found = NUMBER.fullmatch(text or "")
+    if found is None:
+        raise Refused
+    hexadecimal, decimal, unit = found.groups()
+    length = int(hexadecimal, 16) if hexadecimal else int(decimal)
+    length *= {"": 1, "k": 1024, "m": 1024 * 1024}[unit.lower()]
+    if not 1 <= length <= LONGEST_STACK:
+        raise Refused
+    return length
 
 
 def read_order(job, tokens, line):
@@ -215,7 +252,6 @@ SWITCHES = {
 }
 LEFT_OUT = {
     "symfile": "no file of symbols is written",
-    "stack": "the stack is as long as the modules make it",
     "verbose": NO_EFFECT, "statics": NO_EFFECT, "artificial": NO_EFFECT, "showdead": NO_EFFECT,
     "cache": NO_EFFECT, "nocache": NO_EFFECT, "farcalls": NO_EFFECT, "nofarcalls": NO_EFFECT,
     "maxerrors": NO_EFFECT,
@@ -279,7 +315,7 @@ def spoken(words, files):
 
 def read_directives(lines):
     """The job of directives, or the first line at fault."""
-    job = Job(packs_far_data=True)
+    job = Job(packs_far_data=True, has_null_bytes=False)
     for line in lines:
         try:
             read_directive(job, line.text, line.place())

@@ -1,40 +1,21 @@
 """The faults, and the lines that tell them."""
 
-NAMES = {
-    1: "Device", 2: "ZeroLength", 3: "Truncated", 4: "Closing", 5: "Type", 6: "Body",
-    7: "NotHeader", 8: "NoEnd",
-    10: "NameIndex", 11: "SegmentIndex", 12: "GroupIndex", 13: "ExternalIndex",
-    14: "ThreadNotSet", 15: "FixupBeforeData", 16: "FixupPlace", 17: "DataOutside",
-    18: "DataInAbsolute", 19: "SelfRelativeBase", 20: "FrameOfLocation", 21: "GroupOfAbsolute",
-    22: "SegmentTooLong", 23: "ProgramTooLarge", 24: "GroupTooLong", 25: "DuplicatePublic",
-    26: "CoversRelocated", 27: "Unresolved", 28: "EmptyGroup", 29: "Mixed", 30: "OutOfFrame",
-    31: "ShortTooFar", 32: "OverlapRelocated", 33: "TwoStarts", 34: "TooManyRelocations",
-    35: "Magic", 36: "Header", 37: "Truncated", 38: "RelocationOutside", 39: "DoesNotFit",
-    40: "Device", 41: "InputTooLong",
-}
-# those of libraries, which doslink reads
-LIBRARY_NAMES = {
-    42: "PageSize", 43: "ZeroLength", 44: "Truncated", 45: "Closing", 46: "Header", 47: "TooLong",
-}
-# those of records that can't be lowered
-LOWERING_NAMES = {
-    48: "DataType", 49: "Above16Bits", 50: "Location", 51: "Body", 52: "TooLong",
-}
-# those of communal variables
-COMMUNAL_NAMES = {
-    53: "Body", 54: "DataType", 55: "NearAndFar", 56: "ElementSizes", 57: "NearTooLong",
-    58: "CutElement", 59: "TooManySegments",
-}
-# that of an alias that goes round for ever
-ALIAS_NAMES = {60: "EndlessAlias"}
-# that of a fix-up of 32 bits that is linked as one of 16
-SUM_NAMES = {61: "SumAbove16Bits"}
+import re
+from pathlib import Path
+
+TABLE = Path(__file__).resolve().parent.parent.parent / "docs" / "faults.txt"
+LAST_OF_OMF = 41
+FOUND = {int(number): name for number, name in re.findall(r"^(\d+) (\w+): ", TABLE.read_text(encoding="utf-8"), re.M)}
+NAMES = {number: name for number, name in FOUND.items() if number <= LAST_OF_OMF}
 # all that doslink alone has
-DOSLINK_NAMES = {
-    **LIBRARY_NAMES, **LOWERING_NAMES, **COMMUNAL_NAMES, **ALIAS_NAMES, **SUM_NAMES}
+DOSLINK_NAMES = {number: name for number, name in FOUND.items() if number > LAST_OF_OMF}
+# those of libraries, whose places count the library's bytes
+OF_LIBRARIES = range(42, 48)
 # what else ends a job of doslink, without a number
 MISSING, TOO_MANY_PARTS, WORDS, READ_AND_WRITTEN, WRITTEN_TWICE = "M", "P", "W", "O", "T"
+OTHER_FORM, MODULE_WRITTEN = "F", "B"
 OTHER_ENDS = {
+    OTHER_FORM: "another form", MODULE_WRITTEN: "OUT is a module",
     MISSING: "names are missing", TOO_MANY_PARTS: "TooManySegments", WORDS: "wrong words",
     READ_AND_WRITTEN: "OUT is read", WRITTEN_TWICE: "MAP is OUT",
 }
@@ -79,6 +60,8 @@ class Fault(Exception):
         self.kind = None
         # the words for modules that define or declare a name
         self.words = []
+        # what else is said of it
+        self.why = None
 
     @property
     def status(self):
@@ -93,12 +76,13 @@ class Fault(Exception):
         if self.name is not None:
             line += f" {printed_name(self.name)}"
         if self.place is not None:
-            line += f" at {'place' if self.number in LIBRARY_NAMES else 'record'} {self.place}"
+            line += f" at {'place' if self.number in OF_LIBRARIES else 'record'} {self.place}"
         if self.byte is not None:
             line += f" byte {self.byte}"
         if self.kind is not None:
             line += f" ({self.kind:02X}{TYPE_NAMES.get(self.kind, '')})"
         line += f" in {' and '.join(self.words)}" if self.words else ""
+        line += f": {self.why}" if self.why else ""
         return line + "\n"
 
 

@@ -12,6 +12,8 @@ from model.faults import Fault
 
 LIBRARY, LIBRARY_END = 0xF0, 0xF1
 ARCHIVE = b"!<arch>\n"
+# one that has its members in other files
+THIN_ARCHIVE = b"!<thin>\n"
 MODULE_ENDS = (0x8A, 0x8B)
 HEADERS = (0x80, 0x82)
 COMMENT, LIBRARY_MODULE_NAME = 0x88, 0xA3
@@ -52,6 +54,16 @@ def kind_of_file(content):
     if content[:1] == bytes([LIBRARY]):
         return "library"
     return "archive" if content.startswith(ARCHIVE) else "object"
+
+
+def begins_as_input(content):
+    """Whether a file begins as a module does, with a header of one name, or as a library."""
+    length = int.from_bytes(content[1:3], "little")
+    if content[:1] in (b"\x80", b"\x82"):
+        return content[3:4] != b"" and length == content[3] + 2
+    if content[:1] == bytes([LIBRARY]):
+        return len(content) >= FRONT_OF_RECORD and length + FRONT_OF_RECORD in PAGE_SIZES
+    return content.startswith((ARCHIVE, THIN_ARCHIVE))
 
 
 def read_frame(content, place, owner=None):

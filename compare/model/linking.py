@@ -6,25 +6,31 @@ libraries that it names, and the default libraries. The first bytes of each tell
 
 import re
 from dataclasses import dataclass, replace
+from os.path import normpath
 from typing import Optional
 
 from model import (
-    communal, directives, faults, image, libraries, local, lowering, module, ordering, printing,
-    program_file, search)
+    communal, directives, faults, foreign, image, libraries, local, lowering, module, ordering, printing,
+    program_file, search, stack)
 from model.commands import Answer, Output
 from model.faults import Fault, escaped, printed_name
 from model.names import Names, wanting_places
-from model.weak import meanings, names_of
+from model.weak import meanings, names_of, plain_meanings
 
 PROGRAM = "doslink"
 # the words for modules that are made
-ORDER, COMMUNAL = "order", "communal"
+ORDER, COMMUNAL, STACK = "order", "communal", "stack"
+NO_START, NO_STACK = "no module has a start", "no module has a stack"
+NO_CODE = "no module has a byte of code"
+IS_REACHED = "is far and reached by its offset alone: declare it near (NASM: common NAME:near SIZE)"
 # what is put behind the name of a library that has no dot, in turn
 ENDINGS = ["", ".LIB", ".lib"]
-TYPE, BODY, DUPLICATE = 5, 6, 25
+TYPE, BODY, DUPLICATE, NO_PROGRAM = 5, 6, 25, 67
+# endings of programs of other forms
+OTHER_FORMS = ("com", "sys", "bin", "img")
 MARKS = [*ordering.BEGIN_MARKS, *ordering.END_MARKS]
 # the statuses where the job is at fault, and where what is asked for is wrong
-INPUT, WRONG_WORDS = 1, 2
+INPUT, WRONG_WORDS, NO_DEVICE = 1, 2, 3
 
 
 class Stop(Exception):
@@ -81,46 +87,74 @@ def in_folder(folder, name):
 class Linking:
     """A job while it is done: its files, the modules that it takes, and what is told."""
 
-    def __init__(self, job, files, folders, can_be_made, answer):
+    def __init__(self, job, files, folders, can_be_made, answer, also_read=()):
         self.job = job
+        # response files, and files of directives
+        self.also_read = also_read
         self.files = files
+        # where a path leads to
+        self.place = getattr(files, "place", normpath)
         self.folders = folders
         self.can_be_made = can_be_made
         self.answer = answer
         self.key = search.agreed(job.ignores_case)
-        # of each file its path and its bytes
+        # of each file its path and its bytes, and how many of them were searched
         self.inputs = []
+        self.searched = 0
+        # the members of libraries, and the modules that are taken
+        self.libraries = []
+        self.taken = []
+        # the default libraries that were named
+        self.met = set()
         self.warnings = []
 
     def run(self):
         """Does the job, or raises a Fault or a Stop."""
-        if not self.job.files + self.job.libraries:
+        if not self.job.inputs:
             raise Stop(WRONG_WORDS, faults.WORDS, ["no file is named to be linked"])
+        self.check_form()
         self.read_given()
-        if self.job.has_default_libraries:
-            self.add_default_libraries()
-        stock = self.stock()
+        self.search()
+        while self.job.has_default_libraries and self.add_default_libraries():
+            self.search()
+        if self.job.is_quiet:
+            self.warnings.clear()
         out, map_path = self.places()
-        taken = self.taken(stock)
-        self.tell(taken)
-        variables = communal.variables(taken, self.key)
-        self.check_names(taken, stock, variables)
-        program = self.linked(taken, variables)
+        self.tell()
+        variables = communal.variables(self.taken, self.key)
+        self.check_names(variables)
+        program = self.linked(variables)
         self.write(out, program_file.written_file(program))
         if map_path is not None:
             self.write(map_path, printing.map_of(program) + self.table_of(program))
+        self.warn_of_program(program, variables)
 
     def read_given(self):
-        """FILES, and behind them the libraries that are named; each has to be there."""
-        for path in self.job.files:
-            self.add(path)
-        for name in self.job.libraries:
-            self.add(self.found(name, self.job.folders) or name)
+        """Files and libraries in the order in which they are named.
+
+        Each has to be there; a file may be there by another ending. All that aren't are told.
+        """
+        lines = []
+        for each in self.job.inputs:
+            path = self.library(each.name) if each.is_library else self.file(each.name)
+            if path is None:
+                lines.append(f"{each.name}: 1 Device at record 0: no such file")
+            else:
+                self.add(path)
+        if lines:
+            raise Stop(NO_DEVICE, 1, told_at_most(lines, self.job.is_verbose))
+
+    def file(self, name):
+        """The path of a file: it may have one of two endings that its name hasn't."""
+        endings = ["", ".OBJ", ".obj"] if "." not in last_part(name) else [""]
+        paths = [name + ending for ending in endings]
+        return next((path for path in paths if self.files.get(path) is not None), None)
+
+    def library(self, name):
+        return self.found(name, self.job.folders)
 
     def add(self, path):
-        """One more file; fault 1 is one that isn't there."""
-        if self.files.get(path) is None:
-            raise Fault(1, path, 0)
+        """One more file."""
         self.inputs.append((path, self.files[path]))
 
     def found(self, name, folders):
@@ -131,25 +165,20 @@ class Linking:
         return next((path for path in paths if self.files.get(path) is not None), None)
 
     def add_default_libraries(self):
-        """Those that the modules taken name, until none of these names another.
+        """Those that the modules taken so far name and that weren't met before.
 
-        What is taken is found anew each time, from all libraries. One that isn't there is warned
-        of, and one that is among the files isn't there twice. An empty name is none.
+        They stand behind the others. One that isn't there is warned of, and one that is among the
+        files isn't there twice. An empty name is none. Answers whether there were any.
         """
-        met = []
-        while True:
-            names = []
-            for each in self.taken(self.stock()):
-                for name in filter(None, each.names.libraries):
-                    if name not in met + [known for known, _ in names]:
-                        names.append((name, each.word))
-            for name, word in names:
-                self.add_default_library(name, word)
-                met.append(name)
-            if not names:
-                break
-        if self.job.is_quiet:
-            self.warnings.clear()
+        names = {}
+        for each in self.taken:
+            for name in filter(None, each.names.libraries):
+                names.setdefault(name, each.word)
+        new = [(name, word) for name, word in names.items() if name not in self.met]
+        for name, word in new:
+            self.add_default_library(name, word)
+            self.met.add(name)
+        return bool(new)
 
     def add_default_library(self, name, word):
         try:
@@ -159,97 +188,132 @@ class Linking:
         if path is None:
             self.warnings.append(
                 f"{PROGRAM}: warning: library {printed_name(name)} of {word} was not found\n")
-        elif path not in [known for known, _ in self.inputs]:
+        elif self.place(path) not in [self.place(known) for known, _ in self.inputs]:
             self.add(path)
 
-    def stock(self):
-        """The objects, and the members of each library; the first library at fault is told."""
-        objects, found = [], []
-        for path, content in self.inputs:
+    def search(self):
+        """Takes the objects of new files, and members of all libraries for what is wanted then.
+
+        What was taken stays. The first of the new libraries that is at fault is told.
+        """
+        objects = []
+        for path, content in self.inputs[self.searched:]:
             if libraries.kind_of_file(content) == "object":
                 objects.append(object_module(path, content))
             else:
-                found.append(library_modules(path, content))
-        return objects, found
-
-    def taken(self, stock):
-        """The objects, and behind them the members that are taken."""
-        objects, found = stock
+                self.libraries.append(library_modules(path, content))
+        self.searched = len(self.inputs)
+        self.taken += objects
         choices = search.choose(
-            [each.names for each in objects],
-            [[member.names for member in members] for members in found], self.key)
-        return objects + [
-            replace(found[each.library][each.member], wanted=each.name) for each in choices]
+            [each.names for each in self.taken],
+            [[member.names for member in members] for members in self.libraries], self.key)
+        self.taken += [
+            replace(self.libraries[each.library][each.member], wanted=each.name)
+            for each in choices]
+
+    def check_form(self):
+        """A program of another form than an .EXE isn't written."""
+        out = self.job.out or ""
+        if last_part(out).rpartition(".")[2].lower() in OTHER_FORMS and "." in last_part(out):
+            raise Stop(WRONG_WORDS, faults.OTHER_FORM, [f"{out}: no such file is written, only .EXE"])
 
     def places(self):
         """The paths of the program and of the map, or None.
 
-        Neither may be a file that is read, nor both one.
+        Neither may be a file that is read, however it is spelled, nor one that begins as a module or
+        a library does, nor both one.
         """
         out = self.job.out
         if out is None:
-            given = [*self.job.files, *self.job.libraries, "OUT"]
-            out = with_ending(given[0], ".EXE")
+            first = min(self.job.inputs, key=lambda each: each.is_library)
+            out = with_ending(first.name, ".EXE")
         map_path = with_ending(out, ".MAP") if self.job.maps_to_out else self.job.map
-        for path in (out, map_path):
-            if path in [known for known, _ in self.inputs]:
-                raise Stop(WRONG_WORDS, faults.READ_AND_WRITTEN, [
-                    f"{path}: it is read and would be written"])
-        if map_path == out:
-            raise Stop(WRONG_WORDS, faults.WRITTEN_TWICE, [
-                f"{out}: it would be the program and its map"])
+        self.check_place(out)
+        if map_path is not None:
+            self.check_place(map_path)
+            if self.place(map_path) == self.place(out):
+                raise Stop(WRONG_WORDS, faults.WRITTEN_TWICE, [
+                    f"{map_path}: it would be the program and its map"])
         return out, map_path
 
-    def tell(self, taken):
+    def check_place(self, path):
+        """A file that is written is none that is read, and no module or library at all."""
+        read = [*self.also_read, *(each for each, _ in self.inputs)]
+        if self.place(path) in map(self.place, read):
+            raise Stop(WRONG_WORDS, faults.READ_AND_WRITTEN, [
+                f"{path}: it is read and would be written"])
+        if libraries.begins_as_input(self.files.get(path) or b""):
+            raise Stop(WRONG_WORDS, faults.MODULE_WRITTEN, [
+                f"{path}: it is a module or a library and would be written"])
+
+    def tell(self):
         """Tells each module, and the name for which it was taken."""
         if self.job.is_verbose:
-            for each in taken:
+            for each in self.taken:
                 name = "" if each.wanted is None else f" for {printed_name(each.wanted)}"
                 self.answer.output += f"{each.word}{name}\n".encode()
 
-    def check_names(self, taken, stock, variables):
-        """No name may be missing, but for those of variables or that the order's module defines."""
-        made = {self.key(each.name) for each in variables}
-        missing = [
-            (name, line) for name, line in self.missing(taken, stock) if self.key(name) not in made]
+    def check_names(self, variables):
+        """No name may be missing, but for those that the order's module defines.
+
+        A module that can't be read is told before: it may have lost the names that are missing.
+        """
+        missing = list(self.missing())
         marks = [self.key(mark) for mark in MARKS]
         lines = [line for name, line in missing if self.key(name) not in marks]
         self.wants_marks = any(self.key(name) in marks for name, _ in missing)
         if lines:
-            raise Stop(INPUT, faults.MISSING, lines)
+            self.check_modules(variables)
+            raise Stop(INPUT, faults.MISSING, told_at_most(lines, self.job.is_verbose))
 
-    def missing(self, taken, stock):
+    def missing(self):
         """Each name that is missing, and a line: who wants it, where, and where one like it is."""
-        members = [member for members in stock[1] for member in members]
+        members = [member for members in self.libraries for member in members]
         lacking = search.missing(
-            [replace(each.names, wanted=each.names.needed) for each in taken],
+            [replace(each.names, wanted=each.names.needed) for each in self.taken],
             [each.names for each in members], self.key)
         for each in lacking:
-            wanter = taken[each.wanted_by]
+            wanter = self.taken[each.wanted_by]
             place = next(wanting_places(wanter.content, each.name))
             line = f"{wanter.word}: {printed_name(each.name)} is missing"
             line += f": record {place} ({place:08X})"
             title = title_of(wanter.content)
             line += "" if title is None else f", wanted by {printed_name(title)}"
             if each.like is not None:
-                like_of = [*taken, *members][each.like_of].word
+                like_of = [*self.taken, *members][each.like_of].word
                 line += f"; {printed_name(each.like)} is in {like_of}"
             yield each.name, line
 
-    def linked(self, taken, variables):
+    def check_modules(self, variables):
+        """The first module that can't be lowered or read has its own fault."""
+        means = plain_meanings(self.taken, variables, self.key)
+        for each, own in zip(self.taken, means):
+            self.contents, self.handed = [each.content], [each]
+            try:
+                content = lowering.lowered(each.content, self.job.keeps_debug, False, 0, own)
+                self.contents = [content]
+                module.read(content, 0)
+            except Fault as fault:
+                raise self.with_words(fault) from None
+
+    def linked(self, variables):
         """The program of the modules as they are lowered, with what is local to each, between those
         that are made."""
+        taken = self.taken
         means = meanings(taken, variables, self.key)
         lowered = lowering.lowered_modules(
             [each.content for each in taken], [each.word for each in taken],
             self.job.keeps_debug, self.job.packs_far_data, means)
         lowered = local.with_locals(taken, lowered, self.key)
         behind = made_module(COMMUNAL, communal.communal_module(variables, lowered))
-        lowered += [each.content for each in behind]
-        before = made_module(ORDER, self.order_module(lowered, taken))
-        self.warn_of_wide_segments(lowered, taken)
+        self.check_bytes(lowered + [each.content for each in behind])
+        contents, added = self.with_stack(lowered + [each.content for each in behind])
+        behind += made_module(STACK, added)
+        contents += [] if added is None else [added]
+        before = made_module(ORDER, self.order_module(contents))
+        self.warn_of_wide_segments(contents)
         # the modules as they are linked, and as they were read
-        self.contents = [each.content for each in before] + lowered
+        self.contents = [each.content for each in before] + contents
         self.handed = before + taken + behind
         # of each fix-up, whether it had 32 bits
         wide = [lowering.were_wide(each.content, self.job.keeps_debug) for each in taken]
@@ -261,14 +325,58 @@ class Linking:
         except Fault as fault:
             raise self.with_words(fault) from None
 
-    def warn_of_wide_segments(self, lowered, taken):
+    def check_bytes(self, contents):
+        """Fault 67 is a program of modules of which no segment has a byte."""
+        try:
+            modules = [module.read(content, None) for content in contents]
+        except Fault:
+            return
+        if not any(segment.length for each in modules for segment in each.segments):
+            raise Fault(NO_PROGRAM)
+
+    def with_stack(self, contents):
+        """The bytes of modules with a stack as long as is asked for, and a module for it or None.
+
+        Where a module can't be read nothing is done, so that the link says so.
+        """
+        if self.job.stack is None:
+            return contents, None
+        before = self.order_module(contents)
+        before = [] if before is None else [before]
+        try:
+            modules = [module.read(each, None) for each in before + contents]
+        except Fault:
+            return contents, None
+        added, changed = stack.with_length(modules, before + contents, self.job.stack)
+        if changed != before + contents:
+            text = f"the stack is cut to {self.job.stack.length:,} bytes"
+            self.warnings.append(f"{PROGRAM}: warning: {text}\n")
+        return changed[len(before):], added
+
+    def warn_of_wide_segments(self, contents):
         """Segments of 32 bits are linked as ones of 16, which is told."""
         words = [
-            each.word for each, content in zip(taken, lowered)
+            each.word for each, content in zip(self.taken, contents)
             if lowering.has_wide_segments(each.content, content)]
         self.warnings += [] if self.job.is_quiet else [
             f"{PROGRAM}: warning: 32-bit segments of {word} are linked as 16-bit ones\n"
             for word in words]
+
+    def warn_of_program(self, program, variables):
+        """What a program lacks that can't be run, also where only faults are asked for, and what it
+        reaches in a frame that it doesn't load."""
+        segments = [segment for each in program.modules for segment in each.segments]
+        lacks = [
+            (NO_START, all(each.start is None for each in program.modules)),
+            (NO_STACK, all(segment.kind != "stack" for segment in segments)),
+            (NO_CODE, not any(data.stored for each in program.modules for data in each.data))]
+        self.warnings += [
+            f"{PROGRAM}: warning: {text}\n" for text, is_lacking in lacks if is_lacking]
+        reached = [
+            f"{PROGRAM}: warning: {printed_name(name)} of {handed.word} {IS_REACHED}\n"
+            for handed, each in zip(self.handed, program.modules)
+            for name in communal.reached_by_offset(each, variables, self.key)]
+        self.warnings += limited(reached, self.job.is_verbose)
 
     def with_words(self, fault):
         """A fault with the word for its module, and its record's place in the module's file.
@@ -284,6 +392,8 @@ class Linking:
                 fault.number, fault.byte = lowering.BODY, None
             if fault.number == TYPE:
                 fault.kind = owner.content[place]
+            if place == 0:
+                fault.why = foreign.kind_of(owner.content)
             fault.place = place
             fault.owner = owner.word
         if fault.number == DUPLICATE:
@@ -292,28 +402,32 @@ class Linking:
                 if self.key(name) == self.key(fault.name)]
         return fault
 
-    def order_module(self, lowered, taken):
+    def order_module(self, contents):
         """The order's module, or None; also where a module can't be read, so that the link says so.
 
         An order may have no more parts than names that an index reaches.
         """
-        if self.order(taken) == ordering.MEETING and not self.wants_marks:
+        if self.order() == ordering.MEETING and not self.wants_marks:
             return None
         try:
-            modules = [module.read(content, None) for content in lowered]
+            modules = [module.read(content, None) for content in contents]
         except Fault:
             return None
         try:
-            return ordering.order_module(modules, self.order(taken), self.key)
+            return ordering.order_module(
+                modules, self.order(), self.job.has_null_bytes, self.key)
         except ordering.TooManyParts:
             raise Stop(INPUT, faults.TOO_MANY_PARTS, [
                 "order: TooManySegments: there are more than 16,383 to order"]) from None
+        except Fault as fault:
+            fault.owner = [*self.taken, *2 * [Module(COMMUNAL, b"", Names())]][fault.owner].word
+            raise
 
-    def order(self, taken):
+    def order(self):
         """The order asked for, or that of a comment, or that of meeting."""
         if self.job.order is not None:
             return self.job.order
-        asks = any(each.names.dosseg for each in taken)
+        asks = any(each.names.dosseg for each in self.taken)
         return ordering.DOSSEG if asks else ordering.MEETING
 
     def table_of(self, program):
@@ -356,6 +470,23 @@ def always(path):
     return True
 
 
+# how many missing names are told, and how many warnings of a kind, unless all are asked for
+MOST_TOLD = 20
+
+
+def told_at_most(lines, tells_all):
+    """The first lines, and how many more there are."""
+    rest = len(lines) - MOST_TOLD
+    return lines if tells_all or rest <= 0 else [*lines[:MOST_TOLD], f"and {rest:,} more"]
+
+
+def limited(lines, tells_all):
+    """The same of whole lines."""
+    rest = len(lines) - MOST_TOLD
+    return lines if tells_all or rest <= 0 else [
+        *lines[:MOST_TOLD], f"{PROGRAM}: and {rest:,} more\n"]
+
+
 def told(lines):
     """Lines of the program, each behind its name."""
     return "".join(f"{PROGRAM}: {line}\n" for line in lines)
@@ -374,7 +505,8 @@ def link_by_directives(words, files, folders=(), can_be_made=always):
     except directives.Unread as unread:
         return unread_answer(unread)
     warnings = [f"warning: {place}: {text}" for place, text in job.warnings]
-    answer = link(job, files, folders, can_be_made)
+    spoken_files = [word[1:] for word in words if word.startswith("@")]
+    answer = link(job, files, folders, can_be_made, spoken_files)
     if not job.is_quiet:
         answer.error = told(warnings).encode() + answer.error
     return answer
@@ -388,7 +520,7 @@ def link_by_response(path, files, job_of, folders=(), can_be_made=always):
         return unread_answer(unread)
     except directives.Refused as refused:
         return Answer(WRONG_WORDS, error=told([refused.text]).encode(), fault=faults.WORDS)
-    return link(job_of(words), files, folders, can_be_made)
+    return link(job_of(words), files, folders, can_be_made, [path])
 
 
 def unread_answer(unread):
@@ -397,16 +529,17 @@ def unread_answer(unread):
         lines = told([f"{unread.path}: it is no UTF-8 text"])
         return Answer(WRONG_WORDS, error=lines.encode(), fault=faults.WORDS)
     fault = Fault(1, unread.path, 0)
+    fault.why = "no such file"
     return Answer(fault.status, error=fault.line(program=PROGRAM).encode(), fault=1)
 
 
-def link(job, files, folders=(), can_be_made=always):
+def link(job, files, folders=(), can_be_made=always, also_read=()):
     """The answer to a job; folders are those in which only default libraries are looked for.
 
     Nothing is written before all is linked; then OUT is, then the map.
     """
     answer = Answer()
-    linking = Linking(job, files, folders, can_be_made, answer)
+    linking = Linking(job, files, folders, can_be_made, answer, also_read)
     line = ""
     try:
         linking.run()

@@ -7,11 +7,12 @@ names, segments and groups that are counted from its own on.
 from dataclasses import dataclass
 from typing import Optional
 
-from model import records
+from model import module, records
 from model.communal import (
     FAR_NAME, MOST_SEGMENTS, NEAR_NAME, OWN_NEAR_NAME, PARAGRAPH, PRIVATE, PUBLIC,
     TOO_MANY_SEGMENTS, WORD, declarations, far_lengths, has_near_segment, merged, near_places,
     segment)
+from model.faults import Fault
 from model.libraries import whole_frames
 from model.names import Ended, Entries
 from model.ordering import GROUP, UNINITIALISED
@@ -108,8 +109,22 @@ def local_records(found, near_name, home):
     return made + publics
 
 
+def is_module(content):
+    """Whether a module is there, without a fault."""
+    try:
+        module.read(content, None)
+    except Fault:
+        return False
+    return True
+
+
 def with_own(each, content, near_name, key):
-    """The bytes of a module with the variables that it declares as local to it."""
+    """The bytes of a module with the variables that it declares as local to it.
+
+    One that is no module without them stays, so that the link tells what is wrong with it.
+    """
+    if not is_module(content):
+        return content
     declared = list(declarations(each.content, each.word, LOCAL_VARIABLES))
     home = home_of(content)
     found = merged(declared, {key(name) for name in home.publics}, key)

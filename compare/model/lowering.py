@@ -24,22 +24,27 @@ PUBLICS_32, LINES_32, END_32 = (0x91, 0xB7), 0x95, 0x8B
 LOCAL_COMMUNALS, LOCAL_EXTERNALS = 0xB8, 0xB4
 COMMUNAL_EXTERNALS, EXTERNALS = 0xBC, 0x8C
 # a header and a list of names by the types of others that say the same
-SAME = {0x82: 0x80, LOCAL_NAME_LIST: NAME_LIST}
+SAME = {0x82: 0x80, LOCAL_NAME_LIST: NAME_LIST, 0xB5: LOCAL_EXTERNALS}
 DEBUG_CLASSES = (b"DEBSYM", b"DEBTYP", b"DWARF")
 FAR_DATA = b"FAR_DATA"
 # the fields of the byte that begins a SEGDEF: alignment, combination, whether it is as long as its
 # offsets reach, and whether it has 32 bits
 ALIGNMENT, COMBINATION, BIG, USE_32 = 0xE0, 0x1C, 0x02, 0x01
-BYTE_ALIGNED, PUBLIC = 0x20, 0x08
+BYTE_ALIGNED, PUBLIC, STACK, COMMON = 0x20, 0x08, 0x14, 0x18
 # the bit of the byte that begins a MODEND by which it has a start
 HAS_START = 0x40
 # locations: an offset of 16 bits, and those of 32
 OFFSET, OFFSETS_32 = 1, (9, 13)
+# the class of comments of Easy OMF, and class and kind of those that import a name
+EASY_OMF, IMPORT = b"\xAA", b"\xA0\x01"
+# the method of a frame or a target that is a group, and the group of all memory from 0 on
+GROUP_METHOD, FLAT, GROUPS, ENDS = 1, b"FLAT", 0x9A, (0x8A, 0x8B)
 # a comment of a class that means nothing
 NOTHING = bytes([0x00, 0xDA])
-FRAME, PARAGRAPH = 65_536, 16
+FRAME, PARAGRAPH, PAGE = 65_536, 16, 256
 # the faults
 DATA_TYPE, ABOVE_16_BITS, LOCATION, BODY, TOO_LONG = 48, 49, 50, 51, 52
+IS_EASY_OMF, IS_IMPORTED, IS_FLAT = 63, 64, 65
 
 
 class Obstacle(Exception):
@@ -139,6 +144,46 @@ def reference(entries, width):
     return front, b"" if fix_data & 4 else entries.bytes(width)
 
 
+def names_of_groups(entries, width):
+    """The indexes of groups that the subrecords of a body name, as far as these are whole."""
+    try:
+        while entries.has_more():
+            first = entries.byte()
+            if first & 0x80:
+                entries.byte()
+                yield from groups_of_reference(entries, width)
+            else:
+                place, _ = entries.place, thread(entries, first)
+                is_group = first >> 2 & (7 if first & 0x40 else 3) == GROUP_METHOD
+                yield from [Entries(entries.body[place:]).index()] if is_group else []
+    except (Ended, Obstacle):
+        pass
+
+
+def groups_of_reference(entries, width):
+    """The indexes of groups that are the frame or the target of a reference, which is passed."""
+    place, found = entries.place, []
+    reference(entries, width)
+    fields = Entries(entries.body[place:])
+    fix_data = fields.byte()
+    if not fix_data & 0x80 and fix_data >> 4 & 7 in (0, 1, 2):
+        index = fields.index()
+        found += [index] if fix_data >> 4 & 7 == GROUP_METHOD else []
+    if not fix_data & 8 and fix_data & 3 == GROUP_METHOD:
+        found.append(fields.index())
+    return found
+
+
+def groups_of_start(body, width):
+    """The indexes of groups that a start names, as far as it is whole."""
+    entries = Entries(body)
+    entries.byte()
+    try:
+        return groups_of_reference(entries, width)
+    except (Ended, Obstacle):
+        return []
+
+
 def location_of(first):
     """The location of a fix-up with this first byte."""
     return first >> 2 & 15
@@ -199,6 +244,8 @@ class Lowering:
         self.keeps_debug = keeps_debug
         self.shares_far_data = shares_far_data
         self.names = []
+        # the name of each group
+        self.groups = []
         # of each segment, whether it is kept out of the program
         self.kept_out = []
         # of each fix-up that isn't, whether it has 32 bits
@@ -219,6 +266,10 @@ class Lowering:
             self.drops_fixups, self.data = False, Data()
         if kind in (NAME_LIST, LOCAL_NAME_LIST):
             self.add_names(Entries(body))
+        if kind == GROUPS:
+            self.add_group(Entries(body))
+        if kind in ENDS and body[:1] and body[0] & HAS_START:
+            self.refuse_flat(groups_of_start(body, width_of(kind)))
         try:
             return self.lower_other(kind, body)
         except Ended:
@@ -227,7 +278,11 @@ class Lowering:
     def lower_other(self, kind, body):
         entries = Entries(body)
         if kind == ALIAS:
+            while entries.has_more():
+                entries.name(), entries.name()
             return COMMENT, NOTHING
+        if kind == COMMENT:
+            self.look_at_comment(body)
         if kind == EXTERNALS and self.has_alias(Entries(body)):
             return EXTERNALS, self.each(entries, self.external)
         if kind == COMMUNAL_VARIABLES:
@@ -248,6 +303,13 @@ class Lowering:
         if kind == END_32:
             return kind - 1, self.end(entries)
         return SAME.get(kind, kind), body
+
+    def look_at_comment(self, body):
+        """Comments that ask for what no program for DOS has."""
+        if body[1:2] == EASY_OMF:
+            raise Obstacle(IS_EASY_OMF)
+        if body[1:3] == IMPORT:
+            raise Obstacle(IS_IMPORTED)
 
     def each(self, entries, lowered_entry):
         """All entries up to the end of a body."""
@@ -335,11 +397,26 @@ class Lowering:
         except Ended:
             pass
 
+    def add_group(self, entries):
+        try:
+            index = entries.index()
+        except Ended:
+            index = 0
+        self.groups.append(self.names[index - 1] if 1 <= index <= len(self.names) else b"")
+
+    def refuse_flat(self, indexes):
+        """No frame is that of the group FLAT, and nothing is found from there on."""
+        for index in indexes:
+            if 1 <= index <= len(self.groups) and self.groups[index - 1] == FLAT:
+                raise Obstacle(IS_FLAT)
+
     def lower_segment(self, kind, body):
         """A segment of a class for debuggers has nothing; one of far data is named by its class."""
         try:
             found = definition(kind, body)
         except Ended:
+            if kind == SEGMENTS[1]:
+                raise Obstacle(BODY) from None
             self.kept_out.append(False)
             return kind, body
         index = found.class_index
@@ -347,13 +424,24 @@ class Lowering:
         self.kept_out.append(not self.keeps_debug and class_name in DEBUG_CLASSES)
         if self.kept_out[-1]:
             return SEGMENTS[0], bytes([BYTE_ALIGNED, 0, 0]) + found.name + found.behind_name
-        if kind == SEGMENTS[1] and found.first & BIG:
-            raise Obstacle(ABOVE_16_BITS)
-        first, name = found.first, found.name
-        if self.shares_far_data and class_name == FAR_DATA:
+        first, name, length = found.first, found.name, found.length
+        if kind == SEGMENTS[1]:
+            first, length = self.narrowed_length(first, length)
+        if self.shares_far_data and class_name == FAR_DATA and is_private_or_public(first):
             first, name = first & ~COMBINATION | PUBLIC, found.class_field
-        front = bytes([first & ~USE_32]) + found.standing + narrowed(found.length)
+        front = bytes([first & ~USE_32]) + found.standing + length
         return SEGMENTS[0], front + name + found.behind_name
+
+    def narrowed_length(self, first, length):
+        """The first byte and the length of a segment of 32 bits in two bytes.
+
+        With the bit of a whole segment it is as long as offsets of 32 bits reach.
+        """
+        if first & BIG:
+            raise Obstacle(ABOVE_16_BITS)
+        if int.from_bytes(length, "little") == FRAME:
+            return first | BIG, b"\0\0"
+        return first, narrowed(length)
 
     def lower_data(self, kind, body):
         """Data, without repeat counts and an offset of 32 bits; none of what is kept out."""
@@ -394,6 +482,8 @@ class Lowering:
 
     def lower_fixups(self, kind, body):
         """Of what is kept out, threads alone, since later fix-ups may use them."""
+        if not self.drops_fixups:
+            self.refuse_flat(names_of_groups(Entries(body), width_of(kind)))
         wide = [] if self.drops_fixups else list(wide_fixups(body, width_of(kind)))
         self.were_wide += wide
         is_wide = kind % 2 == 1 or self.data.width == 4 or any(wide)
@@ -471,8 +561,13 @@ def has_wide_start(content):
         for frame in whole_frames(content))
 
 
+def is_private_or_public(first):
+    """Whether a segment with this first byte moves with the program and is neither a stack nor common."""
+    return first & ALIGNMENT != 0 and first & COMBINATION not in (STACK, COMMON)
+
+
 def fits_a_frame(contents):
-    """Whether far data fits in one frame, each segment of it in whole paragraphs.
+    """Whether private and public far data fits in one frame, whatever its alignments leave between.
 
     Of modules that can't be read nothing is said.
     """
@@ -480,10 +575,18 @@ def fits_a_frame(contents):
         modules = [module.read(content, None) for content in contents]
     except Fault:
         return False
-    lengths = [
-        segment.length for each in modules for segment in each.segments
-        if segment.class_name == FAR_DATA]
-    return sum(-(-length // PARAGRAPH) * PARAGRAPH for length in lengths) <= FRAME
+    far_data = [
+        segment for each in modules for segment in each.segments if segment.class_name == FAR_DATA]
+    return sum(room_of(each) for each in far_data if each.kind in ("private", "public")) <= FRAME
+
+
+def room_of(segment):
+    """The bytes that a part takes at most: in whole paragraphs, and what may go before it.
+
+    That is less than a paragraph where it may begin inside of one, and 15 of them before a page.
+    """
+    gap = {PARAGRAPH: 0, PAGE: PAGE - PARAGRAPH}.get(segment.alignment, PARAGRAPH)
+    return gap + -(-segment.length // PARAGRAPH) * PARAGRAPH
 
 
 def lowered_modules(contents, words, keeps_debug, packs_far_data, means=repeat(itself)):

@@ -14,6 +14,10 @@ PUBLIC_NAMES, PUBLIC_NAMES_32 = 0x90, 0x91
 NAME_LIST, LOCAL_NAME_LIST = 0x96, 0xCA
 COMMUNAL_DATA, COMMUNAL_DATA_32 = 0xC2, 0xC3
 ALIAS = 0xC6
+COMMUNAL_VARIABLES = 0xB0
+# how many numbers a far variable has, and a near one; what a number has behind its first byte
+NUMBERS_OF_VARIABLE = {0x61: 2, 0x62: 1}
+BYTES_OF_NUMBER = {0x81: 2, 0x84: 3, 0x88: 4}
 # the classes of comments
 DEFAULT_LIBRARY = (0x9F, 0x81)
 DOSSEG = 0x9E
@@ -24,6 +28,17 @@ ALLOCATION, EXPLICIT = 0x0F, 0
 
 class Ended(Exception):
     """A body ended inside an entry."""
+
+
+def skip_extent(entries):
+    """What kind of variable is declared, and its one number or two."""
+    kind = entries.byte()
+    if kind not in NUMBERS_OF_VARIABLE:
+        raise Ended
+    for _ in range(NUMBERS_OF_VARIABLE[kind]):
+        first = entries.byte()
+        if first > 0x80:
+            entries.bytes(BYTES_OF_NUMBER.get(first, len(entries.body) + 1))
 
 
 class Entries:
@@ -68,6 +83,12 @@ class Names:
 
     wanted: list = field(default_factory=list)
     offered: list = field(default_factory=list)
+    # of all externals, also of those that take no member
+    externals: list = field(default_factory=list)
+    # of communal variables
+    communals: list = field(default_factory=list)
+    # pairs of an alias and of the name that it stands for
+    aliases: list = field(default_factory=list)
     libraries: list = field(default_factory=list)
     dosseg: bool = False
     # of LNAMES and LLNAMES together, which others have an index of
@@ -115,11 +136,19 @@ class Names:
         self.offered += [] if flags & IS_LOCAL else name
 
     def add_aliases(self, entries):
-        """The alias is offered, and what it stands for is wanted."""
+        """The alias is offered; what it stands for is wanted where the alias is."""
         while entries.has_more():
             alias, substitute = entries.name(), entries.name()
             self.offered.append(alias)
-            self.wanted.append(substitute)
+            self.aliases.append((alias, substitute))
+
+    def add_communals(self, entries):
+        """The names, as far as what their variables are is whole."""
+        while entries.has_more():
+            name = entries.name()
+            entries.index()
+            skip_extent(entries)
+            self.communals.append(name)
 
     def add_comment(self, entries):
         entries.byte()
@@ -140,6 +169,7 @@ STEPS = {
     COMMUNAL_DATA: lambda names, entries: names.add_communal_data(entries, 2),
     COMMUNAL_DATA_32: lambda names, entries: names.add_communal_data(entries, 4),
     ALIAS: Names.add_aliases,
+    COMMUNAL_VARIABLES: Names.add_communals,
     COMMENT: Names.add_comment,
 }
 
@@ -162,12 +192,16 @@ def add(names, frame):
 
 
 def wanting_places(content, name):
-    """Where the records of a module begin that want a name, one after the other."""
+    """Where the records of a module begin that want a name, one after the other.
+
+    An alias may want the name that it stands for.
+    """
     names, place = Names(), 0
     for frame in whole_frames(content):
-        before = len(names.wanted)
+        before, aliases = len(names.wanted), len(names.aliases)
         if frame.kind in STEPS:
             add(names, frame)
-        if name in names.wanted[before:]:
+        found = names.wanted[before:] + [other for _, other in names.aliases[aliases:]]
+        if name in found:
             yield place
         place = frame.behind

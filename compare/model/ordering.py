@@ -6,7 +6,8 @@ placement alone put all others in the order wanted.
 
 from dataclasses import dataclass
 
-from model import placement, records
+from model import module, placement, records
+from model.faults import Fault
 from model.module import ALIGNMENTS
 from model.records import Spelling
 
@@ -19,6 +20,9 @@ BEGIN_NAME = b"_BSS"
 END_NAME = END_CLASS = b"_END"
 COMBINATIONS = {"private": 0, "public": 2, "stack": 5, "common": 6}
 BYTE_ALIGNED = 1
+# the segment before whose code LINK puts null bytes, so that no function is at 0
+TEXT, NULL_BYTES = b"_TEXT", bytes(16)
+DATA_IN_BSS = 62
 # each part has two names, and an index reaches 32,767
 MOST_PARTS = 16_383
 # an order is one of these, or a list of items
@@ -33,7 +37,7 @@ class TooManyParts(Exception):
 class Segment:
     """A segment of the module.
 
-    DGROUP may have what it combines with, and some segment of its class.
+    DGROUP may have what it combines with, and some segment of its class. Mostly it has no bytes.
     """
 
     name: bytes
@@ -42,6 +46,7 @@ class Segment:
     alignment: int
     in_group: bool
     class_in_group: bool
+    content: bytes = b""
 
 
 @dataclass
@@ -146,30 +151,59 @@ def behind_class(segments, class_name):
     return [each.class_name for each in segments].index(class_name) + 1
 
 
+def class_behind(segments, class_name):
+    """The class that comes next behind another one, or None."""
+    classes = list(dict.fromkeys(each.class_name for each in segments))
+    behind = classes[classes.index(class_name) + 1:]
+    return behind[0] if behind else None
+
+
 def ordering(modules, order, key):
     """The segments of the module, and its marks with the number of the segment of each.
 
-    Without an order and without a mark there are neither.
+    Without an order and without a mark there are neither. The mark of the end stands where class BSS
+    ends: that is the begin of the stack, where this comes next.
     """
     segments = opening(modules)
     begin_marks = wanted_marks(modules, BEGIN_MARKS, key)
     end_marks = wanted_marks(modules, END_MARKS, key)
     if order == MEETING and not begin_marks + end_marks:
         return [], []
-    lacks_end = end_marks != [] and first_in_group(segments, STACK) is None
-    if (begin_marks or lacks_end) and first_in_group(segments, UNINITIALISED) is None:
+    if begin_marks + end_marks and first_in_group(segments, UNINITIALISED) is None:
         segments.append(made(BEGIN_NAME, UNINITIALISED))
         for each in segments:
             each.class_in_group |= each.class_name == UNINITIALISED
     segments = list(in_order(segments, order))
-    if lacks_end:
+    begin, end = first_in_group(segments, UNINITIALISED), None
+    if end_marks and class_behind(segments, UNINITIALISED) == STACK:
+        end = first_in_group(segments, STACK)
+    if end_marks and end is None:
         end = behind_class(segments, UNINITIALISED)
         segments.insert(end, made(END_NAME, END_CLASS))
-    else:
-        end = first_in_group(segments, STACK)
-    begin = first_in_group(segments, UNINITIALISED)
+        begin = first_in_group(segments, UNINITIALISED)
     return segments, [
         *((mark, begin) for mark in begin_marks), *((mark, end) for mark in end_marks)]
+
+
+def check_data(modules, marks, own):
+    """Fault 62 is data between the marks, if both are wanted: who starts the program clears it.
+
+    `own` is the order's module as it is read, which stands in front of the others.
+    """
+    begins = [number for mark, number in marks if mark in BEGIN_MARKS]
+    ends = [number for mark, number in marks if mark in END_MARKS]
+    if not begins or not ends:
+        return
+    all_modules = [own, *modules]
+    combined = placement.in_order_of_classes(placement.combine(all_modules))
+    placement.put_all(combined)
+    parts = {(part.owner, part.index): part for each in combined for part in each.parts}
+    begin, end = parts[0, begins[0] + 1].start, parts[0, ends[0] + 1].start
+    for owner, each in enumerate(modules):
+        for data in each.data:
+            part = parts.get((owner + 1, data.segment))
+            if part is not None and data.stored and begin < part.end and part.start < end:
+                raise Fault(DATA_IN_BSS, owner, name=part.segment.name)
 
 
 def made_records(segments, marks):
@@ -181,19 +215,30 @@ def made_records(segments, marks):
         records.Header(TITLE),
         *(records.NameList([name]) for name in names),
         *(records.SegmentDefinition(
-            codes[each.alignment], COMBINATIONS[each.kind], 0, 2 * number, 2 * number + 1, 0)
+            codes[each.alignment], COMBINATIONS[each.kind], len(each.content), 2 * number,
+            2 * number + 1, 0)
             for number, each in enumerate(segments, 1)),
         *([records.GroupDefinition(1, [number + 1 for number in marked])] if marked else []),
         *(records.PublicNames(1, number + 1, None, [records.PublicName(mark, 0, 0)])
           for mark, number in marks),
+        *(records.Data(number, 0, each.content)
+          for number, each in enumerate(segments, 1) if each.content),
         records.ModuleEnd(False, None)]
 
 
-def order_module(modules, order, key):
-    """The bytes of the module, or None where there is nothing to fix or to define."""
+def order_module(modules, order, has_null_bytes, key):
+    """The bytes of the module, or None where there is nothing to fix or to define.
+
+    The order of DOSSEG has null bytes in front of the code of LINK's name or not.
+    """
     segments, marks = ordering(modules, order, key)
     if not segments:
         return None
     if len(segments) > MOST_PARTS:
         raise TooManyParts
-    return b"".join(map(Spelling().record, made_records(segments, marks)))
+    for each in segments:
+        if order == DOSSEG and has_null_bytes and (each.name, each.kind) == (TEXT, "public"):
+            each.content = NULL_BYTES
+    content = b"".join(map(Spelling().record, made_records(segments, marks)))
+    check_data(modules, marks, module.read(content, None))
+    return content

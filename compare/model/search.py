@@ -38,13 +38,56 @@ def agreed(ignores_case):
     return folded if ignores_case else lambda name: name
 
 
-def open_names(modules, key):
-    """The names that are wanted and not offered, in order, with the module that wants each."""
-    offered = {key(name) for module in modules for name in module.offered}
+class Wanting:
+    """What modules want, in order of meeting, while one after the other joins.
+
+    An alias is used where an external or a communal variable has its name, or where a used alias
+    stands for its name. What it stands for is wanted then, by the module that has it. Of aliases of
+    one name the first counts.
+    """
+
+    def __init__(self, key):
+        self.key = key
+        # each name, with the number of the module that wants it
+        self.found = []
+        # what aliases stand for, with the number of its module, by their names
+        self.aliases = {}
+        self.asked = set()
+
+    def join(self, number, module):
+        """First what its externals want, then what their names stand for, then what its aliases do, by its records."""
+        self.found += [(name, number) for name in module.wanted]
+        for name in [*module.externals, *module.communals]:
+            self.ask(name)
+        for alias, other in module.aliases:
+            if self.key(alias) not in self.aliases:
+                self.aliases[self.key(alias)] = (other, number)
+                if self.key(alias) in self.asked:
+                    self.found.append((other, number))
+                    self.ask(other)
+
+    def ask(self, name):
+        """The first time that a name is asked for, what it stands for is wanted, and is asked for in turn."""
+        while self.key(name) not in self.asked:
+            self.asked.add(self.key(name))
+            if self.key(name) in self.aliases:
+                name, number = self.aliases[self.key(name)]
+                self.found.append((name, number))
+
+
+def wanted_names(modules, key):
+    """The names that modules want, in order of meeting, with the number of the module."""
+    wanting = Wanting(key)
     for number, module in enumerate(modules):
-        for name in module.wanted:
-            if key(name) not in offered:
-                yield name, number
+        wanting.join(number, module)
+    return wanting.found
+
+
+def open_names(modules, key):
+    """Those that no module defines: none offers it, and none has a communal variable of it."""
+    defined = {
+        key(name) for module in modules for name in [*module.offered, *module.communals]}
+    return [each for each in wanted_names(modules, key) if key(each[0]) not in defined]
 
 
 def offering(libraries, name, key):
@@ -66,7 +109,8 @@ def next_choice(modules, libraries, key):
 
 
 def choose(modules, libraries, key):
-    """The members that are taken one after the other; each is then one of the modules."""
+    """The members that are taken behind some modules, one after the other; each is then one of them.
+    """
     modules, choices = list(modules), []
     while choice := next_choice(modules, libraries, key):
         choices.append(choice)

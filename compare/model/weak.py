@@ -15,9 +15,10 @@ from model.names import COMMENT, COMMUNAL_EXTERNALS, EXTERNAL_NAMES, Ended, Entr
 # the classes of the comments
 WEAK, LAZY = 0xA8, 0xA9
 LOCAL_EXTERNAL_NAMES, COMMUNAL_VARIABLES, LOCAL_COMMUNAL_VARIABLES = 0xB4, 0xB0, 0xB8
+OTHER_LOCAL_EXTERNAL_NAMES = 0xB5
 VARIABLES = (COMMUNAL_VARIABLES, LOCAL_COMMUNAL_VARIABLES)
-LOCAL = (LOCAL_EXTERNAL_NAMES, LOCAL_COMMUNAL_VARIABLES)
-EXTERNALS = (EXTERNAL_NAMES, COMMUNAL_EXTERNALS, LOCAL_EXTERNAL_NAMES, *VARIABLES)
+LOCAL = (LOCAL_EXTERNAL_NAMES, OTHER_LOCAL_EXTERNAL_NAMES, LOCAL_COMMUNAL_VARIABLES)
+EXTERNALS = (EXTERNAL_NAMES, COMMUNAL_EXTERNALS, LOCAL_EXTERNAL_NAMES, OTHER_LOCAL_EXTERNAL_NAMES, *VARIABLES)
 LISTS = (names.NAME_LIST, names.LOCAL_NAME_LIST)
 
 
@@ -79,13 +80,14 @@ def others(content, kinds):
     indexes = [index for index, _ in defaults(content, kinds)]
     found = [
         name for index, name in enumerate(externals(content), 1) if index not in indexes]
-    return {*found, *(each.substitute for each in aliases(content))}
+    return set(found)
 
 
 def names_of(content):
     """The names of a module: those that it wants, and of these those that it needs."""
     found = names.names_of(content)
     own, needed = others(content, [WEAK]), others(content, [WEAK, LAZY])
+    found.externals = found.wanted
     found.needed = [name for name in found.wanted if name in needed]
     found.wanted = [name for name in found.wanted if name in own]
     return found
@@ -97,8 +99,8 @@ def undefined(content, defined, key):
     return [one for one in found if key(one.name) not in defined]
 
 
-def meanings(modules, variables, key):
-    """For each module what says what a name means in it, or the fault of the first endless one.
+def means_in(modules, variables, key):
+    """For each module its names that stand for others, and those of all modules in front of them.
 
     These are the aliases of all modules, and behind them what is undefined in that one: no module
     offers the name or needs it, and no communal variable has it.
@@ -106,9 +108,27 @@ def meanings(modules, variables, key):
     defined = {key(each.name) for each in variables}
     for each in modules:
         defined.update(map(key, each.names.offered + each.names.needed))
-    shared, found = [one for each in modules for one in aliases(each.content)], []
+    shared = [one for each in modules for one in aliases(each.content)]
     for each in modules:
         own = undefined(each.content, defined, key)
-        endless([*aliases(each.content), *own], [*shared, *own], each.word, key)
-        found.append(partial(meaning, [*shared, *own], key=key))
+        yield [*aliases(each.content), *own], [*shared, *own]
+
+
+def meanings(modules, variables, key):
+    """For each module what says what a name means in it, or the fault of the first endless one."""
+    found = []
+    for each, (own, everywhere) in zip(modules, means_in(modules, variables, key)):
+        endless(own, everywhere, each.word, key)
+        found.append(partial(meaning, everywhere, key=key))
     return found
+
+
+def plain_meanings(modules, variables, key):
+    """The same where an endless name means itself."""
+    def means(name, everywhere):
+        found = meaning(everywhere, name, key)
+        return name if found is None else found
+
+    return [
+        partial(means, everywhere=everywhere)
+        for _, everywhere in means_in(modules, variables, key)]

@@ -1,0 +1,24 @@
+"""Runs `doslink` and its model on the same jobs, on a system whose names of files tell no cases apart."""
+
+import doslink_comparison
+from model.places import BlindFiles
+
+no_counts, lines_of_limits = doslink_comparison.no_counts, doslink_comparison.lines_of_limits
+lines_of_ends, summary = doslink_comparison.lines_of_ends, doslink_comparison.summary
+
+
+class Comparison(doslink_comparison.Comparison):
+    """Compares one job after the other, as on such a system."""
+
+    def files_of(self, case):
+        return BlindFiles(case.files)
+
+
+def compare_seeds(program, folder, seeds, keeps=False):
+    """Compares some seeds; answers the counts and a line for each difference."""
+    return doslink_comparison.compare_seeds(program, folder, seeds, keeps, Comparison)
+
+
+def until_difference(program, folder, seeds):
+    """Compares seeds up to the first difference; answers how many it took, or 0, and a line."""
+    return doslink_comparison.until_difference(program, folder, seeds, Comparison)
