@@ -11,6 +11,9 @@ use clap::builder::ValueRange;
 use clap::{Arg, ArgAction, Command};
 use std::alloc::{AllocError, Global};
 
+/// The version of both programs, which is that of the file VERSION.
+pub const VERSION: &str = "1.0";
+
 /// A flag `--ID`, with its line of help.
 pub fn flag<'a>(alloc: Global, id: &'a str, help: &'a str) -> Arg<'a>
     ensures rule { rule_of result ≡ spec.flag_rule id.entry.now }

@@ -3,7 +3,7 @@
 
 ghost use Rattle.std.specs.Prelude.{◌≤◌, IfOk, length};
 
-use omf_files::World;
+use omf_files::{FileId, Looked, PlaceKind, World};
 use std::alloc::{AllocError, Global};
 use std::cell::{Cell, RefCell};
 use std::io::{self, ErrorKind, Read, Write};
@@ -14,6 +14,9 @@ pub struct Page<'a> {
     path: &'a str,
     room: Cell<usize>,
     bytes: RefCell<Vec<u8>>,
+    // what is written beside it
+    draft: RefCell<Vec<u8>>,
+    stays: Cell<bool>,
 }
 
 impl<'a> Page<'a> {
@@ -29,6 +32,8 @@ impl<'a> Page<'a> {
             path,
             room: Cell::new(room),
             bytes: RefCell::new(bytes),
+            draft: RefCell::new(Vec::new(alloc)),
+            stays: Cell::new(false),
         })
     }
 
@@ -38,7 +43,14 @@ impl<'a> Page<'a> {
             path,
             room: Cell::new(room),
             bytes: RefCell::new(Vec::new(alloc)),
+            draft: RefCell::new(Vec::new(alloc)),
+            stays: Cell::new(false),
         }
+    }
+
+    /// Lets no other file take its place from here on.
+    pub fn stay(&self) {
+        self.stays.set(true);
     }
 
     /// The bytes.
@@ -49,8 +61,8 @@ impl<'a> Page<'a> {
         }
     }
 
-    /// Puts bytes at its end, as many as there is room for.
-    fn append(&self, bytes: &[u8]) -> io::Result<usize>
+    /// Puts bytes at its end, or at the end of what is written beside it, as many as there is room for.
+    fn append(&self, bytes: &[u8], beside: bool) -> io::Result<usize>
         ensures { IfOk result (λ n. n ≤ length bytes.now) }
     {
         let room = self.room.get();
@@ -59,7 +71,8 @@ impl<'a> Page<'a> {
             return Err(io::Error::from(ErrorKind::StorageFull));
         }
         self.room.set(room - n);
-        match self.bytes.try_borrow_mut() {
+        let page = if beside { &self.draft } else { &self.bytes };
+        match page.try_borrow_mut() {
             Ok(mut page) => {
                 page.extend_from_slice(&bytes[..n])?;
                 Ok(n)
@@ -73,10 +86,25 @@ impl<'a> Page<'a> {
         self.path.is_empty() || self.path == path
     }
 
-    /// Takes its bytes away.
-    fn empty(&self) {
-        if let Ok(mut page) = self.bytes.try_borrow_mut() {
-            page.clear();
+    /// Takes away what was written beside it.
+    fn clear(&self) {
+        if let Ok(mut draft) = self.draft.try_borrow_mut() {
+            draft.clear();
+        }
+    }
+
+    /// Puts what was written beside it in its place.
+    fn turn(&self) -> io::Result<()> {
+        if self.stays.get() {
+            return Err(io::Error::from(ErrorKind::ResourceBusy));
+        }
+        match (self.bytes.try_borrow_mut(), self.draft.try_borrow_mut()) {
+            (Ok(mut page), Ok(mut draft)) => {
+                page.clear();
+                page.append(&mut draft)?;
+                Ok(())
+            }
+            _ => Err(io::Error::from(ErrorKind::Other)),
         }
     }
 }
@@ -85,18 +113,22 @@ impl<'a> Page<'a> {
 #[derive(Drop)]
 pub struct Pen<'a> {
     page: &'a Page<'a>,
+    beside: bool,
 }
 
 impl<'a> Pen<'a> {
     /// One that writes at the end of the page.
     pub fn new(page: &'a Page<'a>) -> Pen<'a> {
-        Pen { page }
+        Pen {
+            page,
+            beside: false,
+        }
     }
 }
 
 impl Write for Pen<'_> {
     fn write(&mut self, buf: &[u8]) -> io::Result<usize> {
-        self.page.append(buf)
+        self.page.append(buf, self.beside)
     }
 
     fn flush(&mut self) -> io::Result<()> {
@@ -165,6 +197,12 @@ pub struct Desk<'f, 'p> {
     pub files: &'f [(&'f str, &'f [u8])],
     /// The folders.
     pub folders: &'f [&'f str],
+    /// Devices, which are no regular files and hold no byte.
+    pub devices: &'f [&'f str],
+    /// Files that can't be opened, though they are there.
+    pub locked: &'f [&'f str],
+    /// Other paths, each with that of the file that it leads to.
+    pub links: &'f [(&'f str, &'f str)],
     /// A file that can be written; one without a path is any.
     pub out: &'p Page<'p>,
     /// Another one.
@@ -173,6 +211,20 @@ pub struct Desk<'f, 'p> {
     pub opened: &'p Page<'p>,
     /// How many files are open.
     pub count: &'p Count,
+}
+
+/// Where a path stands among some.
+fn place_of(paths: &[&str], path: &str) -> Option<usize> {
+    paths.iter().position(|each| *each == path)
+}
+
+/// What stands at a path, where it is of this kind and the one at this place among those.
+fn looked(kind: PlaceKind, device: u64, place: usize) -> Looked {
+    let number = place as u64;
+    Looked {
+        kind,
+        id: FileId { device, number },
+    }
 }
 
 impl<'f, 'p> Desk<'f, 'p> {
@@ -186,6 +238,51 @@ impl<'f, 'p> Desk<'f, 'p> {
             count: self.count,
         }
     }
+
+    /// The path of the file to which a path leads.
+    fn target<'a>(&self, path: &'a str) -> &'a str
+    where
+        'f: 'a,
+    {
+        for (link, target) in self.links {
+            if *link == path {
+                return target;
+            }
+        }
+        path
+    }
+
+    /// The page at a path.
+    fn page(&self, path: &str) -> Option<&'p Page<'p>> {
+        let target = self.target(path);
+        if self.out.stands_at(target) {
+            Some(self.out)
+        } else if self.map.stands_at(target) {
+            Some(self.map)
+        } else {
+            None
+        }
+    }
+
+    /// What can be read at a path: the bytes of a file, or none of a folder.
+    fn contents(&self, path: &str) -> io::Result<Option<&'f [u8]>> {
+        let target = self.target(path);
+        if place_of(self.locked, target).is_some() {
+            return Err(io::Error::from(ErrorKind::PermissionDenied));
+        }
+        for (name, bytes) in self.files {
+            if *name == target {
+                return Ok(Some(*bytes));
+            }
+        }
+        if place_of(self.devices, target).is_some() {
+            return Ok(Some(&[]));
+        }
+        match place_of(self.folders, target) {
+            Some(_) => Ok(None),
+            None => Err(io::Error::from(ErrorKind::NotFound)),
+        }
+    }
 }
 
 impl<'f, 'p> World for Desk<'f, 'p> {
@@ -196,30 +293,40 @@ impl<'f, 'p> World for Desk<'f, 'p> {
     fn open(&self, path: &str) -> io::Result<Scroll<'f, 'p>> {
         for text in [path, " "] {
             // a full page lists no more
-            let _ = self.opened.append(text.as_bytes());
+            let _ = self.opened.append(text.as_bytes(), false);
         }
-        for (name, bytes) in self.files {
-            if *name == path {
-                return Ok(self.scroll(Some(*bytes)));
-            }
+        let rest = self.contents(path)?;
+        Ok(self.scroll(rest))
+    }
+
+    fn look(&self, path: &str) -> io::Result<Looked> {
+        let target = self.target(path);
+        if let Some(place) = self.files.iter().position(|(name, _)| *name == target) {
+            return Ok(looked(PlaceKind::Regular, 1, place));
         }
-        for name in self.folders {
-            if *name == path {
-                return Ok(self.scroll(None));
-            }
+        if let Some(place) = place_of(self.folders, target) {
+            return Ok(looked(PlaceKind::Folder, 2, place));
+        }
+        if let Some(place) = place_of(self.devices, target) {
+            return Ok(looked(PlaceKind::Other, 3, place));
+        }
+        if let Some(place) = place_of(self.locked, target) {
+            return Ok(looked(PlaceKind::Regular, 4, place));
         }
         Err(io::Error::from(ErrorKind::NotFound))
     }
 
     fn create(&self, path: &str) -> io::Result<Pen<'p>> {
-        let page = if self.out.stands_at(path) {
-            self.out
-        } else if self.map.stands_at(path) {
-            self.map
-        } else {
-            return Err(io::Error::from(ErrorKind::NotFound));
-        };
-        page.empty();
-        Ok(Pen { page })
+        match self.page(path) {
+            Some(page) => {
+                page.clear();
+                Ok(Pen { page, beside: true })
+            }
+            None => Err(io::Error::from(ErrorKind::NotFound)),
+        }
+    }
+
+    fn keep(&self, file: Pen<'p>, _path: &str) -> io::Result<()> {
+        file.page.turn()
     }
 }

@@ -75,26 +75,60 @@ fn has_text(rt: &HostRuntime, path: &str, text: &str) -> Result<(), Fail> {
     same(&fs::read_to_string(rt, path)?, text)
 }
 
-/// A file that was `old` stays so at a flush before the first byte, and is `ab` after a flush behind two.
-fn is_created(rt: &HostRuntime, path: &str) -> Result<(), Fail> {
-    let mut sink = BufferedSink::new(rt.alloc(), CreatedFile::new(rt, path))?;
+/// A folder for the files of a test.
+const FOLDER: &str = "omf-files.tmp";
+
+/// A path in it.
+const FILE: &str = "omf-files.tmp/file";
+
+/// Beside the file nothing else is left in its folder.
+fn stands_alone(rt: &HostRuntime) -> Result<(), Fail> {
+    for entry in fs::read_dir(rt, FOLDER)? {
+        same(entry?.file_name(), "file")?;
+    }
+    Ok(())
+}
+
+/// A file that was `old` stays so at a flush before the first byte, and at one behind two. It is `ab` when it is kept.
+fn is_replaced(rt: &HostRuntime) -> Result<(), Fail> {
+    let mut sink = BufferedSink::new(rt.alloc(), CreatedFile::new(rt, FILE))?;
     let is_flushed = sink.flush().is_ok();
-    has_text(rt, path, "old")?;
+    has_text(rt, FILE, "old")?;
     let is_put = put_all(&mut sink, b"ab").is_ok();
     let is_written = sink.flush().is_ok();
-    has_text(rt, path, "ab")?;
-    if is_flushed && is_put && is_written {
+    has_text(rt, FILE, "old")?;
+    let is_kept = sink.keep().is_ok();
+    has_text(rt, FILE, "ab")?;
+    stands_alone(rt)?;
+    if is_flushed && is_put && is_written && is_kept {
+        return Ok(());
+    }
+    Err(Fail::from("a call failed"))
+}
+
+/// It stays so where nothing is written, and what was written isn't kept.
+fn is_left(rt: &HostRuntime) -> Result<(), Fail> {
+    let untouched = BufferedSink::new(rt.alloc(), CreatedFile::new(rt, FILE))?;
+    let is_kept = untouched.keep().is_ok();
+    has_text(rt, FILE, "old")?;
+    let mut sink = BufferedSink::new(rt.alloc(), CreatedFile::new(rt, FILE))?;
+    let is_put = put_all(&mut sink, b"ab").is_ok() && sink.flush().is_ok();
+    drop(sink);
+    has_text(rt, FILE, "old")?;
+    stands_alone(rt)?;
+    if is_kept && is_put {
         return Ok(());
     }
     Err(Fail::from("a call failed"))
 }
 
 #[test]
-fn a_file_is_created_at_its_first_byte(rt: HostRuntime) -> Result<(), Fail> {
-    let path = "omf-created-file.tmp";
-    fs::write(&rt, path, "old")?;
-    is_created(&rt, path)?;
-    fs::remove_file(&rt, path)?;
+fn a_file_takes_its_place_when_it_is_kept(rt: HostRuntime) -> Result<(), Fail> {
+    fs::create_dir(&rt, FOLDER)?;
+    fs::write(&rt, FILE, "old")?;
+    is_left(&rt)?;
+    is_replaced(&rt)?;
+    fs::remove_dir_all(&rt, FOLDER)?;
     Ok(())
 }
 
@@ -154,6 +188,9 @@ fn reads_once<'a>(alloc: Global, opened: &'a Page<'a>, count: &'a Count) -> Resu
     let desk = Desk {
         files: &[("A", b"abc")],
         folders: &[],
+        devices: &[],
+        locked: &[],
+        links: &[],
         out: opened,
         map: opened,
         opened,

@@ -50,49 +50,74 @@ const BOTH_CASES: [u8; 47] = [
 /// A record whose closing byte is wrong.
 const WRONG: [u8; 6] = [0x80, 0x03, 0x00, 0x01, 0x41, 0x3C];
 
+/// A sound record, and one whose closing byte is wrong.
+const HALF: [u8; 12] = [
+    0x80, 0x03, 0x00, 0x01, 0x41, 0x3B, 0x80, 0x03, 0x00, 0x01, 0x41, 0x3C,
+];
+
 /// Files that can be read, each a path and its bytes.
 type Files<'a> = &'a [(&'a str, &'a [u8])];
 
-const FILES: [(&str, &[u8]); 7] = [
+const FILES: [(&str, &[u8]); 8] = [
     ("A", &FIRST),
     ("B", &SECOND),
     ("C", &FIRST),
     ("D", &BOTH_CASES),
+    ("H", &HALF),
     ("L", &LOOSE),
     ("P", &PROGRAM),
     ("X", &WRONG),
 ];
 
-/// How many bytes the standard output, OUT and MAP take before they fail.
+/// How many bytes the standard output, OUT and MAP take before they fail, and the one whose place no other file takes.
 #[derive(Clone, Copy)]
 struct Limits {
     output: usize,
     out: usize,
     map: usize,
+    stays: Option<&'static str>,
 }
 
 const NO_LIMITS: Limits = Limits {
     output: 20_000,
     out: 20_000,
     map: 20_000,
+    stays: None,
 };
 
 const OUTPUT_FILLS: Limits = Limits {
     output: 2,
     out: 20_000,
     map: 20_000,
+    stays: None,
 };
 
 const OUT_FILLS: Limits = Limits {
     output: 20_000,
     out: 10,
     map: 20_000,
+    stays: None,
 };
 
 const MAP_FILLS: Limits = Limits {
     output: 20_000,
     out: 20_000,
     map: 10,
+    stays: None,
+};
+
+const OUT_STAYS: Limits = Limits {
+    output: 20_000,
+    out: 20_000,
+    map: 20_000,
+    stays: Some("OUT"),
+};
+
+const MAP_STAYS: Limits = Limits {
+    output: 20_000,
+    out: 20_000,
+    map: 20_000,
+    stays: Some("MAP"),
 };
 
 /// The pages of a world, and how many of its files are open.
@@ -111,6 +136,11 @@ struct Pages<'a> {
 fn blank_pages<'a>(alloc: Global, limits: Limits) -> Result<Pages<'a>, AllocError> {
     let out = Page::new(alloc, "OUT", b"old", limits.out)?;
     let map = Page::new(alloc, "MAP", b"old", limits.map)?;
+    match limits.stays {
+        Some("OUT") => out.stay(),
+        Some(_) => map.stay(),
+        None => {}
+    }
     Ok(Pages {
         output: Page::blank(alloc, "", limits.output),
         errors: Page::blank(alloc, "", 20_000),
@@ -126,6 +156,9 @@ fn desk_of<'f, 'p>(files: Files<'f>, pages: &'p Pages<'p>) -> Desk<'f, 'p> {
     Desk {
         files,
         folders: &[],
+        devices: &[],
+        locked: &[],
+        links: &[],
         out: &pages.out,
         map: &pages.map,
         opened: &pages.opened,
@@ -370,6 +403,11 @@ rewrite X OUT
 = X status 1 open 1
 ! omf: X: 4 Closing at record 0
 
+rewrite H OUT
+= H status 1 open 1
+OUT 80 03 00 01 41 3B
+! omf: H: 4 Closing at record 6
+
 load A 1234
 = A status 1 open 1
 ! omf: A: 35 Magic
@@ -412,32 +450,38 @@ check A
 = A status 3 open 1
 ok! omf: output: 40 Device";
 
-/// OUT takes ten bytes, and the map isn't begun.
-const FULL_OUT: &str = "\
+/// OUT takes ten bytes, or no other file takes its place: the older one stays, and the map isn't begun.
+const NO_OUT: &str = "\
 rewrite A OUT
 = A status 3 open 1
-OUT 80 03 00 01 41 3B 96 07 00*2
 ! omf: OUT: 40 Device
 
 link -o OUT -m MAP A
 = A status 3 open 1
-OUT 4D 5A 25 00 01 00 01 00 02 00
 ! omf: OUT: 40 Device";
 
-/// MAP takes ten bytes. It comes after the program, which stands whole.
-const FULL_MAP: &str = "\
+/// No other file takes OUT's place, also where IN is damaged.
+const OUT_IS_KEPT: &str = "\
+rewrite H OUT
+= H status 3 open 1
+! omf: OUT: 40 Device";
+
+/// MAP takes ten bytes, or no other file takes its place. It comes after the program, which stands whole.
+const NO_MAP: &str = "\
 link -o OUT -m MAP A
 = A status 3 open 1
 OUT 4D 5A 25 00 01 00 01 00 02 00 01 00 FF*2 00*10 1C 00*3 01 00*3 B8 00*2 8E D8
-MAP segments
-0! omf: MAP: 40 Device";
+! omf: MAP: 40 Device";
 
 #[test]
 fn a_fault_is_one_line_on_standard_error(rt: HostRuntime) -> Result<(), Fail> {
     run(rt.alloc(), &FILES, NO_LIMITS, FAULTS)?;
     run(rt.alloc(), &FILES, OUTPUT_FILLS, FULL_OUTPUT)?;
-    run(rt.alloc(), &FILES, OUT_FILLS, FULL_OUT)?;
-    run(rt.alloc(), &FILES, MAP_FILLS, FULL_MAP)
+    run(rt.alloc(), &FILES, OUT_FILLS, NO_OUT)?;
+    run(rt.alloc(), &FILES, OUT_STAYS, NO_OUT)?;
+    run(rt.alloc(), &FILES, OUT_STAYS, OUT_IS_KEPT)?;
+    run(rt.alloc(), &FILES, MAP_FILLS, NO_MAP)?;
+    run(rt.alloc(), &FILES, MAP_STAYS, NO_MAP)
 }
 
 /// Words that are no job.

@@ -1,5 +1,5 @@
 -- Files that are read, and a sink in front of a writer that is written in large pieces.
-use Rattle.std.specs.Prelude.{ℕ, List, Bool, true, false, None}
+use Rattle.std.specs.Prelude.{ℕ, List, Bool, true, false, Some, None}
 use Rattle.std.specs.declared.option.Option.{Option}
 use Rattle.std.specs.Io.Buffered.{reader_remaining, writer_buffer, writer_contents}
 use Rattle.omf_files.specs.declared.files.BufferedSink.{BufferedSink}
@@ -23,6 +23,17 @@ HoldsNothing _ = Unit {0}
 abbrev pub is_out_of_memory : {F A : Type 0} → Stage F A → Bool
 is_out_of_memory NoMemory = true
 is_out_of_memory _ = false
+
+-- the bytes of a file that is created at its first byte, where it has these before
+abbrev pub created_bytes : {F : Type 0} → (F → Option (List ℕ)) → (blank : Option (List ℕ)) → Option F
+    → Option (List ℕ)
+created_bytes contents blank None = blank
+created_bytes contents blank (Some file) = contents file
+
+-- such a file was put at its path with these bytes, unless it was never created
+abbrev pub IsPut : {F : Type 0} → (puts : List ℕ → Type 0) → Option F → (bytes : List ℕ) → Type 0
+IsPut puts None bytes = Unit {0}
+IsPut puts (Some file) bytes = puts bytes
 
 -- the bytes that the writer holds, and then those that are held back
 abbrev pub sink_bytes : {W A : Type 0} → (W → Option (List ℕ)) → BufferedSink W A → Option (List ℕ)

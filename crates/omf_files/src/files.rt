@@ -1,10 +1,10 @@
 //! Files that a program reads and writes, as devices.
-ghost use Rattle.std.specs.Prelude.{All, ◌≡◌, ◌+◌, ◌-◌, ◌^◌, ◌<◌, ◌≤◌, [], IfOk, None, OnErr, OnOk, is_ok, length, map};
-ghost use Rattle.std.specs.Prelude.{take, if◌then◌else◌};
+ghost use Rattle.std.specs.Prelude.{All, ◌≡◌, ◌+◌, ◌-◌, ◌^◌, ◌<◌, ◌≤◌, ℕ, List, [], IfOk, IfSome, None, OnErr, OnOk};
+ghost use Rattle.std.specs.Prelude.{is_ok, length, map, take, if◌then◌else◌};
 ghost use Rattle.std.specs.Io.KnownBytes.{Consumes, IsAtEnd, Keeps};
 ghost use Rattle.omf_frame.specs.Device.{SameWhereTold};
-ghost use Rattle.omf_files.specs.Files.{HoldsNothing, held_back, is_out_of_memory, sink_bytes, sink_failures};
-ghost use Rattle.omf_files.specs.Files.{stage_bytes};
+ghost use Rattle.omf_files.specs.Files.{HoldsNothing, IsPut, created_bytes, held_back, is_out_of_memory, sink_bytes};
+ghost use Rattle.omf_files.specs.Files.{sink_failures, stage_bytes};
 ghost use Rattle.omf_files.specs.inside.Files.{IsOpenedAt};
 
 use crate::world::World;
@@ -136,7 +136,7 @@ pub fn open_sources<'a, W: World + Copy, A: Allocator + Copy>(
     Ok(sources)
 }
 
-/// A file that is created, or emptied, when its first byte is written.
+/// A file that is created when its first byte is written, and takes its place at the path when it is kept.
 #[derive(Drop)]
 pub struct CreatedFile<'a, W: World + Copy> {
     world: W,
@@ -160,6 +160,8 @@ impl<'a, W: World + Copy> CreatedFile<'a, W> {
 }
 
 impl<W: World + Copy> Write for CreatedFile<'_, W> {
+    ghost contents = { λ s. created_bytes W.Created.contents (W.blank s.world) s.file };
+
     fn write(&mut self, buf: &[u8]) -> io::Result<usize> {
         if buf.is_empty() {
             return Ok(0);
@@ -176,6 +178,29 @@ impl<W: World + Copy> Write for CreatedFile<'_, W> {
     fn flush(&mut self) -> io::Result<()> {
         match &mut self.file {
             Some(file) => file.flush(),
+            None => Ok(()),
+        }
+    }
+}
+
+/// What is written, and then put in its place.
+pub trait Keep: Write + Drop {
+    // What was written, these bytes, stands in its place.
+    ghost Stands: { Self → List ℕ → Type 0 } = { λ _ _. Unit {0} };
+
+    /// Puts what was written in its place. Dropped without that, it leaves what stood there before as it was.
+    fn keep(self) -> io::Result<()>
+        ensures { OnOk result (IfSome (Self.contents self) (Stands self)) };
+}
+
+impl<W: World + Copy> Keep for CreatedFile<'_, W> {
+    ghost Stands = { λ s bytes. IsPut (W.Puts s.world s.path.now) s.file bytes };
+
+    // Where nothing was written, the older file stays.
+    fn keep(self) -> io::Result<()> {
+        let CreatedFile { world, path, file } = self;
+        match file {
+            Some(file) => world.keep(file, path),
             None => Ok(()),
         }
     }
@@ -215,6 +240,22 @@ impl<W: Write + Drop, A: Allocator> BufferedSink<W, A> {
             return Err(IoFault);
         }
         Ok(())
+    }
+}
+
+impl<W: Keep, A: Allocator> BufferedSink<W, A> {
+    /// Hands on what is held back, and puts what was written in its place.
+    pub fn keep(self) -> Result<(), IoFault>
+        // A writer that held all the bytes was kept.
+        ensures { OnOk result ((w : W) × IfSome (sink_bytes W.contents self) (W.Stands w)) }
+    {
+        let Ok(writer) = self.writer.into_inner() else {
+            return Err(IoFault);
+        };
+        match writer.keep() {
+            Ok(()) => Ok(()),
+            Err(_) => Err(IoFault),
+        }
     }
 }
 

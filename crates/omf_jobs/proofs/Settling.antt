@@ -1,5 +1,5 @@
 -- What an answer becomes where an input lacked memory, or what is held back isn't handed on.
-use Rattle.std.proofs.Common.{◌≡◌, ℕ, Bool, true, false, Result, Ok, Err, inl, inr, if◌then◌else◌, subst, sym}
+use Rattle.std.proofs.Common.{◌≡◌, ◌⊎◌, ℕ, Bool, true, false, Result, Ok, Err, inl, inr, if◌then◌else◌, subst, sym}
 use Rattle.std.proofs.lemmas.Bool.Decides.{eqb_tells}
 use Rattle.omf_faults.specs.declared.fault.LinkFault.{LinkFault}
 use Rattle.omf_faults.specs.declared.fault.LinkFault.TheVariants.{Memory, Output, Device, Record, Program, File}
@@ -46,3 +46,8 @@ settled-handed_on P lacks before after answer told r is kept failed p = elim (eq
       (settled-by_memory P P (λ a x. x) lacks answer told is (settled P answer p))
   | inr other ↦ subst (Settled P) (sym (failed other.1)) tt
 ]
+
+pub settled-kept : {T A : Type 0} (P : Result T (LinkFault A) → Type 0) (answer r : Result T (LinkFault A))
+    → (r ≡ answer) ⊎ (r ≡ Err Output) → Settled P answer → Settled P r
+settled-kept P answer r (inl same) s = subst (Settled P) (sym same) s
+settled-kept P answer r (inr failed) s = subst (Settled P) (sym failed) tt

@@ -15,7 +15,7 @@ ghost use Rattle.omf_jobs.specs.Jobs.{exit_status, names_of, told_line};
 
 use omf_commands::{Options, Report, check, link, load_file, rewrite, show, write_map};
 use omf_faults::{LinkFault, fault_line, status};
-use omf_files::{BufferedSink, CreatedFile, World, open_source, open_sources};
+use omf_files::{BufferedSink, CreatedFile, Keep, World, open_source, open_sources};
 use omf_frame::{IoFault, Sink, Source, put_all};
 use omf_words::{Job, WordsFault, parse_words};
 use std::alloc::{Allocator, Global};
@@ -183,7 +183,8 @@ fn check_file<W: World + Copy, O: Write + Drop, A: Allocator + Copy>(
     flushed(output, by_memory(source.lacks_memory(), result))
 }
 
-// Writes the records of a file to another one, in their canonical form.
+// Writes the records of a file to another one, in their canonical form. Where the file is at fault, those before the
+// fault take the other's place.
 #[tactic(auto, using(crate::proofs::Failures::at_most_one))]
 fn rewrite_file<W: World + Copy, A: Allocator + Copy>(
     alloc: A,
@@ -197,7 +198,8 @@ fn rewrite_file<W: World + Copy, A: Allocator + Copy>(
     let mut source = open_source(alloc, world, from);
     let mut sink = BufferedSink::new(alloc, CreatedFile::new(world, to))?;
     let result = rewrite(alloc, &mut source, &mut sink);
-    flushed(&mut sink, by_memory(source.lacks_memory(), result))
+    let answer = flushed(&mut sink, by_memory(source.lacks_memory(), result));
+    kept(sink, answer)
 }
 
 // How a link takes names.
@@ -244,7 +246,7 @@ fn link_and_map<'a, W: World + Copy, A: Allocator + Copy>(
 
 // Links the inputs into the program, and then writes the map where one is asked for. Beside the answer stands whether
 // it comes of the map.
-fn link_files<S: Source, W: Write + Drop, A: Allocator + Copy>(
+fn link_files<S: Source, W: Keep, A: Allocator + Copy>(
     alloc: A,
     options: &Options,
     sources: &mut [S],
@@ -264,9 +266,9 @@ fn link_files<S: Source, W: Write + Drop, A: Allocator + Copy>(
     }
 }
 
-// Links the inputs into the program, all of which is handed on to the writer.
+// Links the inputs into the program, which takes its place when all of it is written.
 #[tactic(auto, using(crate::proofs::Failures::at_most_one))]
-fn link_to<S: Source, W: Write + Drop, A: Allocator + Copy>(
+fn link_to<S: Source, W: Keep, A: Allocator + Copy>(
     alloc: A,
     options: &Options,
     sources: &mut [S],
@@ -278,12 +280,13 @@ fn link_to<S: Source, W: Write + Drop, A: Allocator + Copy>(
 {
     let mut sink = BufferedSink::new(alloc, out)?;
     let result = link(alloc, sources, &mut sink, options);
-    flushed(&mut sink, result)
+    let answer = flushed(&mut sink, result);
+    kept(sink, answer)
 }
 
-// Writes the map of what was linked, all of which is handed on to the writer.
+// Writes the map of what was linked, which takes its place when all of it is written.
 #[tactic(auto, using(crate::proofs::Failures::at_most_one))]
-fn map_to<W: Write + Drop, A: Allocator + Copy>(
+fn map_to<W: Keep, A: Allocator + Copy>(
     alloc: A,
     report: &Report<A>,
     out: W,
@@ -292,7 +295,8 @@ fn map_to<W: Write + Drop, A: Allocator + Copy>(
 {
     let mut sink = BufferedSink::new(alloc, out)?;
     let result = write_map(report, &mut sink);
-    flushed(&mut sink, result)
+    let answer = flushed(&mut sink, result);
+    kept(sink, answer)
 }
 
 // The path of the input at fault, where one is.
@@ -356,6 +360,23 @@ fn flushed<W: Write + Drop, T: Drop, A: Allocator + Copy>(
     ensures failed { (sink_failures sink.new ≡ sink_failures sink.old → ⊥) → result ≡ Err LinkFault.Output }
 {
     match sink.flush() {
+        Ok(()) => answer,
+        Err(_) => Err(LinkFault::Output),
+    }
+}
+
+// The answer of a command once what it wrote, all of which was handed on, is put in its place: all that it writes, or
+// what it wrote before an input was at fault.
+fn kept<W: Keep, T: Drop, A: Allocator + Copy>(
+    sink: BufferedSink<W, A>,
+    answer: Result<T, LinkFault<A>>,
+) -> Result<T, LinkFault<A>>
+    ensures { (result ≡ answer) ⊎ (result ≡ Err LinkFault.Output) }
+{
+    if matches!(&answer, Err(LinkFault::Memory | LinkFault::Output)) {
+        return answer;
+    }
+    match sink.keep() {
         Ok(()) => answer,
         Err(_) => Err(LinkFault::Output),
     }

@@ -41,8 +41,14 @@ load_command = with_rule (with_rule (new_app (codes "load")) (needed (codes "FIL
 abbrev pub bare_command : App
 bare_command =
     let app = new_app (codes "omf") in
-    record app
-    { top = record app.top { no_binary_name = true; subcommand_required = true; arg_required_else_help = true } }
+    record app {
+      top = record app.top {
+        no_binary_name = true;
+        subcommand_required = true;
+        arg_required_else_help = true;
+        has_version = true;
+      };
+    }
 
 -- the command `omf`
 unfoldable pub omf_command : App

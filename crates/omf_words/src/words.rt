@@ -12,7 +12,7 @@ ghost use Rattle.omf_words.specs.inside.Words.{IsEntered, IsRefusalOf};
 
 use clap::error::ErrorKind;
 use clap::{Arg, ArgMatches, Command};
-use command_line::{case_flag, files, map_option, with_arg};
+use command_line::{VERSION, case_flag, files, map_option, with_arg};
 use hex::FromHex;
 use std::alloc::{AllocError, Global};
 use thiserror::Error;
@@ -185,6 +185,7 @@ fn bare_command<'a>(alloc: Global) -> Result<Command<'a>, AllocError>
     Command::new(alloc, "omf")
         .about("Links 16-bit OMF object modules into an MS-DOS program")
         .after_help(STATUSES)
+        .version(VERSION)
         .no_binary_name(true)
         .subcommand_required(true)
         .arg_required_else_help(true)

@@ -151,9 +151,6 @@ omf: wrong words\n
 omf what =>
 error: unrecognized subcommand 'what'
 
-omf -V =>
-error: unexpected argument '-V' found
-
 omf =>
 Usage: omf <COMMAND>\n";
     hold(&rt, rt.alloc(), "Err(Wrong(", refused);
@@ -161,6 +158,8 @@ Usage: omf <COMMAND>\n";
 
 #[test]
 fn helps_with_the_texts_of_the_parser(rt: HostRuntime) {
+    let told = "omf --version =>\nomf 1.0\\n\n\nomf -V =>\nomf 1.0\\n";
+    hold(&rt, rt.alloc(), "Err(Help(", told);
     let helped = r"omf -h =>
 Usage: omf <COMMAND>\n
 
