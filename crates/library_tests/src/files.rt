@@ -6,7 +6,9 @@
 //! other line is a record: the bytes of its type and its body in hexadecimal digits, where `41*3` stands for
 //! `41 41 41`. A line that begins with `#` is a comment. Of places each name that is asked for stands before its own.
 
-use omf_library::{Member, ModuleNames, members, module_frames, module_names, wanting_place};
+use omf_library::{
+    Alias, Member, ModuleNames, members, module_frames, module_names, wanting_place,
+};
 use rows::{bytes_of, push_text, put_record, same};
 use std::alloc::{AllocError, Allocator, Global};
 use std::test::*;
@@ -118,6 +120,26 @@ fn push_names(text: &mut String, word: &str, names: &[&[u8]]) -> Result<(), Allo
     Ok(())
 }
 
+/// Appends names behind a word, where there are any.
+fn push_some(text: &mut String, word: &str, names: &[&[u8]]) -> Result<(), AllocError> {
+    if names.is_empty() {
+        return Ok(());
+    }
+    push_names(text, word, names)
+}
+
+/// Appends aliases, each with what it stands for.
+fn push_aliases(text: &mut String, aliases: &[Alias<'_>]) -> Result<(), AllocError> {
+    for alias in aliases {
+        text.push_str(",")?;
+        push_name(text, alias.name)?;
+        text.push_str(" for")?;
+        push_name(text, alias.meaning)?;
+        write!(text, " at {}", alias.place)?;
+    }
+    Ok(())
+}
+
 /// Appends all that a module says of names.
 fn push_said<A: Allocator + Copy>(
     text: &mut String,
@@ -127,7 +149,12 @@ fn push_said<A: Allocator + Copy>(
     if said.needed.len() < said.wanted.len() {
         push_names(text, ", needs", &said.needed)?;
     }
+    if said.wanted.len() < said.externals.len() {
+        push_names(text, ", externals", &said.externals)?;
+    }
     push_names(text, ", offers", &said.offered)?;
+    push_some(text, ", communal", &said.communals)?;
+    push_aliases(text, &said.aliases)?;
     push_names(text, ", libraries", &said.libraries)?;
     if said.dosseg {
         text.push_str(", dosseg")?;

@@ -22,10 +22,16 @@ fn refused_growths(rt: HostRuntime) -> Result<(), Fail> {
     let archive = "text !<arch>\nar a.o/ 1\nraw 41";
     refused(rt.alloc(), What::Members, archive, "[68 1 a.o]")?;
     refused(rt.alloc(), What::Members, "raw 41", "[0 1 ]")?;
-    let module = "96 01 61\n8C 01 62 00\n90 00 01 01 63 00 00 00\nBC 01 00\n88 00 9F 6C";
-    let names = "wants b a, offers c, libraries l";
+    let module =
+        "96 01 61\n8C 01 62 00\n90 00 01 01 63 00 00 00\nBC 01 00\n88 00 9F 6C\nC6 01 64 01 65\nB0 01 66 00 62 01";
+    let names = "wants b a, offers c d, communal f, d for e at 37, libraries l";
     refused(rt.alloc(), What::Names, module, names)?;
     refused(rt.alloc(), What::Places, module, "a 24, b 6, c -")?;
     let weak = "8C 01 66 00 01 67 00\n88 00 A8 01 02";
-    refused(rt.alloc(), What::Names, weak, "wants g, offers, libraries")
+    refused(
+        rt.alloc(),
+        What::Names,
+        weak,
+        "wants g, externals f g, offers, libraries",
+    )
 }

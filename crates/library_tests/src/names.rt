@@ -17,9 +17,15 @@ fn names_of_modules(rt: HostRuntime) -> Result<(), Fail> {
 8C 01 7A 00
 = wants a bc, offers d e f, libraries
 
-# the two names of an alias
+# the two names of an alias, of which neither is wanted
 C6 01 61 01 62 02 63 63 02 64 64
-= wants b dd, offers a cc, libraries
+= wants, offers a cc, a for b at 0, cc for dd at 0, libraries
+
+# aliases of two records, one without a name, and one that is cut off
+8C 01 62 00
+C6 01 61 01 62 00 01 63
+C6 01 64 00 01 65 02 66
+= wants b, offers a  d, a for b at 7,  for c at 7, d for  at 18, libraries
 
 # by the names listed so far
 BC 01 00
@@ -52,7 +58,13 @@ B7 00 01 01 61 00 00 00 00 00
 B8 01 61 00 62 01
 B2 01 61 00
 BE 01 61
-= wants, offers, libraries
+= wants, offers, communal a, libraries
+
+# near and far communal variables, of lengths in all forms, and one of another data type
+B0 01 61 00 62 80 01 62 00 61 81 00 01 84 00 00 01
+B0 01 63 80 01 62 88 00 00 01 00 00 00
+B0 01 64 00 62 01 01 65 00 5F 01
+= wants, offers, communal a b c d, libraries
 
 88 00 9F 6C 69 62
 88 00 81 6F 6C 64
@@ -69,7 +81,8 @@ BE 01 61
 96 01 67 05 68
 BC 01 00 01
 C6 01 69 01 6A 01 6B
-= wants a c g j, offers e i, libraries
+B0 01 6C 00 62 01 01 6D 00 61 01
+= wants a c g, offers e i, communal l, i for j at 53, libraries
 
 # to the first fault
 8C 01 61 00
@@ -95,7 +108,7 @@ fn weak_externals_are_not_wanted(rt: HostRuntime) -> Result<(), Fail> {
         "\
 8C 01 66 00 01 67 00
 88 00 A8 01 02
-= wants g, offers, libraries
+= wants g, externals f g, offers, libraries
 
 # indexes count the externals of all records, and have one byte or two
 96 01 61
@@ -105,24 +118,24 @@ B8 01 6D 00 61 02 84 00 00 01
 BC 01 00
 8C 01 62 00
 88 40 A8 04 80 05
-= wants b, offers, libraries
+= wants b, externals a b, offers, communal c, libraries
 
 # pairs of two externals, and of one that is its own default
 8C 01 61 00 01 62 00 01 63 00
 88 00 A8 01 02 03 03
-= wants b, offers, libraries
+= wants b, externals a b c, offers, libraries
 
 # a default that is weak too, by a later comment
 8C 01 61 00 01 62 00 01 63 00
 88 00 A8 01 02
 88 00 A8 02 03
-= wants c, offers, libraries
+= wants c, externals a b c, offers, libraries
 
 # before the externals, and what an alias stands for
 88 00 A8 02 01
 8C 01 66 00 01 67 00
 C6 01 61 01 67
-= wants f g g, offers a, libraries
+= wants f, externals f g, offers a, a for g at 18, libraries
 
 # another external of the name
 8C 01 66 00 01 66 00 01 67 00
@@ -132,7 +145,14 @@ C6 01 61 01 67
 # and both of them
 8C 01 66 00 01 66 00 01 67 00
 88 00 A8 01 03 02 03
-= wants g, offers, libraries
+= wants g, externals f f g, offers, libraries
+
+# behind local names, by either type of record
+B5 01 6C 00
+B4 01 6D 00
+8C 01 66 00 01 67 00
+88 00 A8 03 04
+= wants g, externals f g, offers, libraries
 
 # no pairs: an index behind the last, none, a local name, and a comment that is cut off
 8C 01 66 00 01 67 00
@@ -146,7 +166,7 @@ B4 01 6C 00
 8C 01 61 00 01 62
 8C 01 66 00 01 67 00
 88 00 A8 02 03
-= wants a g, offers, libraries
+= wants a g, externals a f g, offers, libraries
 
 # a comment of that text in another class
 8C 01 66 00 01 67 00
@@ -170,13 +190,13 @@ fn lazy_externals_are_wanted_and_not_needed(rt: HostRuntime) -> Result<(), Fail>
 8C 01 61 00 01 62 00 01 63 00
 88 00 A9 01 03
 88 00 A8 02 03
-= wants a c, needs c, offers, libraries
+= wants a c, needs c, externals a b c, offers, libraries
 
 # one that is both is weak
 8C 01 61 00 01 62 00 01 63 00
 88 00 A9 01 03
 88 00 A8 01 02
-= wants b c, offers, libraries
+= wants b c, externals a b c, offers, libraries
 
 # one of them lazy, and another one weak, of a name
 8C 01 61 00 01 61 00 01 63 00

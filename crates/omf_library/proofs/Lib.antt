@@ -10,3 +10,4 @@ pub mod Asking
 pub mod Indexes
 pub mod Unmarked
 pub mod Naming
+pub mod Lines

@@ -11,18 +11,22 @@ use Rattle.omf_frame.specs.Frame.{Frame}
 use Rattle.omf_library.specs.Fields.{index_front}
 use Rattle.omf_library.specs.Records.{comment_text}
 use Rattle.omf_library.specs.Entries.{entries, external_front, communal_front, variable_front}
-use Rattle.omf_library.specs.Entries.{listed_name, substitute_front}
+use Rattle.omf_library.specs.Entries.{listed_name}
 use Rattle.omf_library.specs.Listed.{said_by}
 
 -- ---- externals by their indexes
 
--- a record defines externals: 8CH EXTDEF, B4H LEXTDEF, B0H COMDEF, B8H LCOMDEF, BCH CEXTDEF
+-- the externals of a record are local to its module: B4H and B5H LEXTDEF, B8H LCOMDEF
+abbrev pub is_local : ℕ → Bool
+is_local kind = (kind == 0xB4) || (kind == 0xB5) || (kind == 0xB8)
+
+-- a record defines externals: these, 8CH EXTDEF, B0H COMDEF, BCH CEXTDEF
 abbrev pub defines_externals : ℕ → Bool
-defines_externals kind = (kind == 0x8C) || (kind == 0xB4) || (kind == 0xB0) || (kind == 0xB8) || (kind == 0xBC)
+defines_externals kind = is_local kind || (kind == 0x8C) || (kind == 0xB0) || (kind == 0xBC)
 
 -- a name that other modules may define: none of one that is local to its module
 abbrev pub shared_name : (kind : ℕ) → (name : List ℕ) → Option (List ℕ)
-shared_name kind name = if (kind == 0xB4) || (kind == 0xB8) then None else Some name
+shared_name kind name = if is_local kind then None else Some name
 
 -- the external at the front of a record of this type that has names: in COMDEF and LCOMDEF it is a variable
 abbrev pub own_name_front : (kind : ℕ) → List ℕ → Option (List ℕ × List ℕ)
@@ -107,20 +111,14 @@ has_other marked name index [] = false
 has_other marked name index (external ∷ externals) =
     (is_named name external && not (is_index_of marked index)) || has_other marked name (index + 1) externals
 
--- the names for which an ALIAS, C6H, stands
-abbrev pub substitutes_in : Frame → List (List ℕ)
-substitutes_in f = if f.kind == 0xC6 then entries substitute_front f.body else []
-
 -- a name is one of these
 abbrev pub is_among : (name : List ℕ) → List (List ℕ) → Bool
 is_among name names = list_any (bytes_eq name) names
 
--- a name of one of them that no other one of these externals has, and for which no alias stands
-abbrev pub is_theirs : List Defaulted → List (Option (List ℕ)) → (substitutes : List (List ℕ)) → (name : List ℕ) → Bool
-is_theirs marked externals substitutes name =
-    is_name_of marked name && not (has_other marked name 1 externals) && not (is_among name substitutes)
+-- a name of one of them that no other one of these externals has
+abbrev pub is_theirs : List Defaulted → List (Option (List ℕ)) → (name : List ℕ) → Bool
+is_theirs marked externals name = is_name_of marked name && not (has_other marked name 1 externals)
 
 -- the same in records
 unfoldable pub is_theirs_alone : List Defaulted → List Frame → (name : List ℕ) → Bool
-is_theirs_alone marked records name =
-    is_theirs marked (module_externals records) (flat_map substitutes_in records) name
+is_theirs_alone marked records name = is_theirs marked (module_externals records) name

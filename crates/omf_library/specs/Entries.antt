@@ -66,10 +66,6 @@ public_front offset bytes = followed index_front (followed (bytes_front offset) 
 abbrev pub alias_front : List ℕ → Option (List ℕ × List ℕ)
 alias_front bytes = followed name_front (name_front bytes)
 
--- the second of them
-abbrev pub substitute_front : List ℕ → Option (List ℕ × List ℕ)
-substitute_front bytes = behind name_front (name_front bytes)
-
 -- behind a segment index: a frame word where it is 0
 abbrev pub behind_segment : ℕ × List ℕ → Option (List ℕ)
 behind_segment (segment, rest) =

@@ -2,6 +2,7 @@ pub mod Fields
 pub mod Records
 pub mod Entries
 pub mod Listed
+pub mod Aliases
 pub mod Defaults
 pub mod Said
 pub mod Names

@@ -7,7 +7,9 @@ use Rattle.omf_frame.specs.Frame.{Frame}
 use Rattle.omf_frame.specs.Lending.{plain_frame}
 use Rattle.omf_frame.specs.declared.frame.Frame.{Frame as LentFrame}
 use Rattle.omf_library.specs.declared.fault.LibraryFault.{LibraryFault}
+use Rattle.omf_library.specs.declared.aliases.Alias as lent_alias
 use Rattle.omf_library.specs.declared.defaults.Defaulted as lent
+use Rattle.omf_library.specs.Aliases.{Alias}
 use Rattle.omf_library.specs.Defaults.{Defaulted}
 
 -- bytes
@@ -36,3 +38,10 @@ defaulted_said d = record { place = d.place; index = d.index; name = d.name.now;
 
 abbrev pub all_defaulted : List lent.Defaulted → List Defaulted
 all_defaulted marked = map defaulted_said marked
+
+-- aliases
+abbrev pub alias_said : lent_alias.Alias → Alias
+alias_said a = record { place = a.place; name = a.name.now; meaning = a.meaning.now }
+
+abbrev pub aliases_said : List lent_alias.Alias → List Alias
+aliases_said aliases = map alias_said aliases

@@ -1,18 +1,33 @@
--- Which record of a module wants a name first.
-use Rattle.std.specs.Prelude.{ℕ, if◌then◌else◌, List, [], ◌∷◌, ◌++◌, Some, None}
+-- Which record of a module asks for a name first.
+use Rattle.std.specs.Prelude.{ℕ, Bool, ◌||◌, if◌then◌else◌, List, [], ◌∷◌, ◌++◌, Some, None}
 use Rattle.std.specs.declared.option.Option.{Option}
+use Rattle.std.specs.List.{list_any}
 use Rattle.std.specs.Option.{option_map}
+use Rattle.std.specs.Str.{bytes_eq}
 use Rattle.omf_frame.specs.Frame.{Frame}
+use Rattle.omf_library.specs.Aliases.{Alias, aliases_in, aliases_of}
 use Rattle.omf_library.specs.Defaults.{is_among}
 use Rattle.omf_library.specs.Listed.{listed_in}
-use Rattle.omf_library.specs.Names.{wanted_in}
+use Rattle.omf_library.specs.Names.{external_names, wanted_in}
 
--- the first of these records that wants a name, each by the names that those before it have listed
+-- one of some aliases stands for a name
+abbrev pub is_meant : (name : List ℕ) → List Alias → Bool
+is_meant name aliases = list_any (λ a. bytes_eq name a.meaning) aliases
+
+-- a record asks for a name: it wants it, or has an alias that stands for it
+abbrev pub asks : (name : List ℕ) → (listed : List (List ℕ)) → Frame → Bool
+asks name listed f = is_among name (wanted_in listed f) || is_meant name (aliases_in f)
+
+-- the records of a module do
+abbrev pub is_asked : (name : List ℕ) → List Frame → Bool
+is_asked name records = is_among name (external_names records) || is_meant name (aliases_of records)
+
+-- the first of these records that asks for a name, each by the names that those before it have listed
 abbrev pub first_wanting : (name : List ℕ) → (listed : List (List ℕ)) → List Frame → Option Frame
 first_wanting name listed [] = None
 first_wanting name listed (f ∷ fs) =
-    if is_among name (wanted_in listed f) then Some f else first_wanting name (listed ++ listed_in f) fs
+    if asks name listed f then Some f else first_wanting name (listed ++ listed_in f) fs
 
--- the place of the first of a module's records that wants a name
+-- the place of the first of a module's records that asks for a name
 unfoldable pub wanting_place : (name : List ℕ) → List Frame → Option ℕ
 wanting_place name records = option_map (λ f. f.place) (first_wanting name [] records)

@@ -1,15 +1,15 @@
 //! The members of a Unix archive, as `ar` makes it.
 
-ghost use Rattle.std.specs.Prelude.{◌≡◌, ◌==◌, ◌≤◌, length, drop, All, IfOk, OnOk, MatchResult};
-ghost use Rattle.std.specs.List.{before_first};
-ghost use Rattle.omf_library.specs.Archive.{at_place, entry_of, is_table, without_slash, long_name, member_name};
+ghost use Rattle.std.specs.Prelude.{◌≡◌, ◌≤◌, length, drop, All, IfOk, OnOk, MatchResult};
+ghost use Rattle.omf_library.specs.Archive.{at_place, entry_of, is_table, member_name};
 ghost use Rattle.omf_library.specs.Archive.{archive_members, table_behind, modules_of};
 ghost use Rattle.omf_library.specs.Files.{AreMembers, IsFault, IsPart};
-ghost use Rattle.omf_library.specs.Said.{bytes_said};
+ghost use Rattle.omf_library.specs.inside.Lines.{AreMeasured};
 ghost use Rattle.omf_library.specs.inside.Views.{entry_said, plain_entry, IsContent, Pushed};
 
 use crate::fault::{FormatFault, LibraryFault};
 use crate::files::Member;
+use crate::long_names::{LongNames, without_slash};
 use crate::number::{decimal, without_spaces};
 use std::alloc::{AllocError, Allocator};
 
@@ -76,81 +76,57 @@ fn is_table(name: &[u8]) -> bool
         || name == b"__.SYMDEF SORTED".as_slice()
 }
 
-/// The name without a slash at its end.
-#[tactic(auto, unfolding(crate::specs::Archive::without_slash))]
-fn without_slash(name: &[u8]) -> &[u8]
-    ensures { result.now ≡ without_slash name.now }
-{
-    match name {
-        [front @ .., b'/'] => front,
-        _ => name,
-    }
-}
-
-/// The bytes up to the first line end.
-fn first_line(bytes: &[u8]) -> &[u8]
-    ensures { result.now ≡ before_first (λ b. b == 10) bytes.now }
-{
-    let mut len = 0;
-    while len < bytes.len() && bytes[len] != b'\n' {
-        len += 1;
-    }
-    &bytes[..len]
-}
-
-/// The line at the place of the table of long names, without the slash at its end. None where the table ends before it.
-#[tactic(auto, unfolding(crate::specs::Archive::long_name))]
-fn long_name(table: &[u8], place: usize) -> Option<&[u8]>
-    ensures { bytes_said result ≡ long_name table.now place }
-{
-    if place >= table.len() {
-        return None;
-    }
-    Some(without_slash(first_line(&table[place..])))
-}
-
 /// The name of a member: that of its header, or the one in the table of long names that it tells the place of.
 #[tactic(auto, unfolding(crate::specs::Archive::member_name))]
-fn member_name<'a>(name: &'a [u8], table: &'a [u8]) -> &'a [u8]
-    requires { length name.now ≤ 16 }
-    ensures { result.now ≡ member_name table.now name.now }
+fn member_name<'a, A: Allocator + Copy>(name: &'a [u8], names: &LongNames<'a, A>) -> &'a [u8]
+    requires short { length name.now ≤ 16 }
+    requires measured { AreMeasured names.now }
+    ensures { result.now ≡ member_name names.now.table.now name.now }
 {
     if !name.starts_with(b"/") {
         return without_slash(name);
     }
     match decimal(&name[1..]) {
-        Some(place) => long_name(table, place).unwrap_or(name),
+        Some(place) => names.get(place).unwrap_or(name),
         None => name,
     }
 }
 
-/// The table of long names behind a member: its bytes where it is one, else that before it.
-fn table_behind<'a>(table: &'a [u8], entry: &Entry<'a>) -> &'a [u8]
-    ensures { result.now ≡ table_behind table.now (plain_entry entry.now) }
+/// The long names behind a member: those of its bytes where it is their table, else those before it.
+fn names_behind<'a, A: Allocator + Copy>(
+    alloc: A,
+    names: LongNames<'a, A>,
+    entry: &Entry<'a>,
+) -> Result<LongNames<'a, A>, AllocError>
+    requires { AreMeasured names }
+    ensures measured { IfOk result AreMeasured }
+    ensures table { IfOk result (λ behind.
+        behind.table.now ≡ table_behind names.entry.table.now (plain_entry entry.now)) }
 {
     if entry.name == LONG_NAMES {
-        entry.bytes
+        LongNames::new(alloc, entry.bytes)
     } else {
-        table
+        Ok(names)
     }
 }
 
 /// Appends the module that a member is, whose bytes begin at the place, unless it is a table.
 fn push_module<'a, A: Allocator + Copy>(
-    table: &'a [u8],
+    names: &LongNames<'a, A>,
     place: usize,
     entry: &Entry<'a>,
     members: &mut Vec<Member<'a>, A>,
 ) -> Result<(), AllocError>
-    requires { length entry.now.name.now ≤ 16 }
-    ensures { OnOk result (Pushed (modules_of table.now place (plain_entry entry.now)) entry.now.bytes.now place
+    requires short { length entry.now.name.now ≤ 16 }
+    requires measured { AreMeasured names.now }
+    ensures { OnOk result (Pushed (modules_of names.now.table.now place (plain_entry entry.now)) entry.now.bytes.now place
         members.old.items members.new.items) }
 {
     if !is_table(entry.name) {
         members.push(Member {
             place,
             bytes: entry.bytes,
-            name: member_name(entry.name, table),
+            name: member_name(entry.name, names),
         })?;
     }
     Ok(())
@@ -166,12 +142,12 @@ pub(crate) fn archive_members<'a, A: Allocator + Copy>(
     ensures parts { IfOk result (λ ms. All (IsPart file.now) ms.items) }
 {
     let mut members = Vec::new(alloc);
-    let mut table: &'a [u8] = &[];
+    let mut names = LongNames::new(alloc, &[])?;
     let mut place = ARCHIVE.len();
     while place < file.len() {
         let entry = entry_at(file, place)?;
-        table = table_behind(table, &entry);
-        push_module(table, place + HEADER, &entry, &mut members)?;
+        names = names_behind(alloc, names, &entry)?;
+        push_module(&names, place + HEADER, &entry, &mut members)?;
         let end = place + HEADER + entry.bytes.len();
         place = end + end % 2;
     }

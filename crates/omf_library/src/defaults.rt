@@ -1,23 +1,26 @@
 //! Externals with a default resolution, which they mean where nothing defines them: weak ones and lazy ones.
 
-ghost use Rattle.std.specs.Prelude.{◌≡◌, ◌<◌, ◌==◌, ◌&&◌, ◌++◌, filter, is_some, length, map, not, IfOk, IfSome, OnOk};
-ghost use Rattle.std.specs.List.{filter_map, flat_map, list_any};
-ghost use Rattle.std.specs.Str.{bytes_eq};
+ghost use Rattle.std.specs.Prelude.{◌≡◌, ◌<◌, ◌&&◌, ◌++◌, ℕ, filter, is_some, length, map, not, IfOk, IfSome, List, OnOk};
+ghost use Rattle.std.specs.Borrow.{Bor};
+ghost use Rattle.std.specs.BTreeSet.{contains};
+ghost use Rattle.std.specs.List.{filter_map, list_any};
+ghost use Rattle.std.specs.Ordering.{nat_cmp};
 ghost use Rattle.omf_frame.specs.Lending.{plain_frame};
 ghost use Rattle.omf_library.specs.Entries.{entries};
 ghost use Rattle.omf_library.specs.Names.{texts};
 ghost use Rattle.omf_library.specs.Records as records;
 ghost use Rattle.omf_library.specs.Said.{all_defaulted, bytes_said, name_said};
 ghost use Rattle.omf_library.specs.Defaults as spec;
+ghost use Rattle.omf_library.specs.inside.Others.{bytes_cmp, has_name_at, other_name};
 ghost use Rattle.omf_library.specs.inside.Views.{defaulted_found, external_said, externals_said, pair_said};
 
-use crate::entries::{Entry, listed_name, push_names, take_communal, take_entry};
+use crate::entries::{Entry, listed_name, take_communal, take_entry};
 use crate::fields::take_index;
 use crate::names::push_listed;
 use crate::records::comment_text;
-use crate::wanting::is_among;
 use omf_frame::Frame;
 use std::alloc::{AllocError, Allocator};
+use std::collections::BTreeSet;
 
 /// The classes of comments that tell weak externals, and lazy ones.
 const WEAK: u8 = 0xA8;
@@ -37,21 +40,25 @@ pub struct Defaulted<'a> {
     pub default_name: &'a [u8],
 }
 
+/// Whether the externals of a record of this type are local to its module: LEXTDEF, by either type, and LCOMDEF.
+fn is_local(kind: u8) -> bool
+    ensures { result ≡ spec.is_local kind }
+{
+    kind == 0xB4 || kind == 0xB5 || kind == 0xB8
+}
+
 /// Whether a record of this type defines externals: EXTDEF, LEXTDEF, COMDEF, LCOMDEF and CEXTDEF.
 fn defines_externals(kind: u8) -> bool
     ensures { result ≡ spec.defines_externals kind }
 {
-    kind == 0x8C || kind == 0xB4 || kind == 0xB0 || kind == 0xB8 || kind == 0xBC
+    is_local(kind) || kind == 0x8C || kind == 0xB0 || kind == 0xBC
 }
 
 /// A name that other modules may define: none of a record of this type whose names are local to its module.
 fn shared_name(kind: u8, name: &[u8]) -> Option<&[u8]>
     ensures { bytes_said result ≡ spec.shared_name kind name.now }
 {
-    match kind {
-        0xB4 | 0xB8 => None,
-        _ => Some(name),
-    }
+    if is_local(kind) { None } else { Some(name) }
 }
 
 /// The name of an external at the front of a record of this type, which has names and no indexes of them, and the bytes
@@ -281,128 +288,107 @@ pub fn weak_and_lazy<'a, A: Allocator + Copy>(
     Ok(told)
 }
 
-/// Whether a name is that of one of some externals.
-fn is_name_of(marked: &[Defaulted<'_>], name: &[u8]) -> bool
-    ensures { result ≡ list_any (λ one. bytes_eq one.name.now name.now) marked.now }
-{
-    for one in marked {
-        if one.name == name {
-            return true;
-        }
-    }
-    false
-}
-
-/// Whether an index is that of one of them.
-fn is_index_of(marked: &[Defaulted<'_>], index: usize) -> bool
-    ensures { result ≡ list_any (λ one. one.index == index) marked.now }
-{
-    for one in marked {
-        if usize::from(one.index) == index {
-            return true;
-        }
-    }
-    false
-}
-
-/// Whether an external has a name.
-fn is_named(name: &[u8], external: Option<&[u8]>) -> bool
-    ensures { result ≡ spec.is_named name.now (bytes_said external.entry) }
-{
-    match external {
-        Some(own) => name == own,
-        None => false,
-    }
-}
-
-/// Whether an external with this index has the name and isn't one of those.
-fn is_other(marked: &[Defaulted<'_>], name: &[u8], index: usize, external: Option<&[u8]>) -> bool
-    ensures { result ≡ (spec.is_named name.now (bytes_said external.entry)
-        && not (list_any (λ one. one.index == index) marked.now)) }
-{
-    is_named(name, external) && !is_index_of(marked, index)
-}
-
-/// Whether some external does.
-fn has_other(marked: &[Defaulted<'_>], name: &[u8], externals: &[Option<&[u8]>]) -> bool
-    ensures { result ≡ spec.has_other (all_defaulted marked.now) name.now 1 (externals_said externals.now) }
-{
-    for (before, external) in externals.iter().enumerate() {
-        if is_other(marked, name, before + 1, *external) {
-            return true;
-        }
-    }
-    false
-}
-
-/// Appends the names that an ALIAS stands for.
-pub(crate) fn push_substitutes<'a, A: Allocator + Copy>(
-    frame: &Frame<'a>,
-    names: &mut Vec<&'a [u8], A>,
-) -> Result<(), AllocError>
-    ensures { OnOk result (texts names.new.items
-        ≡ texts names.old.items ++ spec.substitutes_in (plain_frame frame.now)) }
-{
-    match frame.kind {
-        0xC6 => push_names(Entry::Substitute, frame.body, names),
-        _ => Ok(()),
-    }
-}
-
-/// The names that aliases of records stand for.
-fn substitutes<'a, A: Allocator + Copy>(
+/// The indexes of some externals.
+fn indexes_of<A: Allocator + Copy>(
     alloc: A,
-    frames: &[Frame<'a>],
-) -> Result<Vec<&'a [u8], A>, AllocError>
-    ensures { IfOk result (λ v. texts v.items ≡ flat_map spec.substitutes_in (map plain_frame frames.now)) }
+    marked: &[Defaulted<'_>],
+) -> Result<BTreeSet<usize, A>, AllocError>
+    ensures { IfOk result (λ s. (q : ℕ) → contains nat_cmp s q ≡ spec.is_index_of (all_defaulted marked.now) q) }
 {
-    let mut names = Vec::new(alloc);
-    for frame in frames {
-        push_substitutes(frame, &mut names)?;
+    let mut indexes = BTreeSet::new(alloc);
+    for one in marked {
+        indexes.insert(usize::from(one.index))?;
+    }
+    Ok(indexes)
+}
+
+/// Their names.
+fn names_of<'a, A: Allocator + Copy>(
+    alloc: A,
+    marked: &[Defaulted<'a>],
+) -> Result<BTreeSet<&'a [u8], A>, AllocError>
+    ensures { IfOk result (λ s. (q : Bor (List ℕ)) →
+        contains bytes_cmp s q ≡ spec.is_name_of (all_defaulted marked.now) q.now) }
+{
+    let mut names = BTreeSet::new(alloc);
+    for one in marked {
+        names.insert(one.name)?;
     }
     Ok(names)
 }
 
-/// Whether a name is that of one of some externals, and no other one of a module has it and no alias stands for it.
-fn is_theirs(
-    marked: &[Defaulted<'_>],
-    externals: &[Option<&[u8]>],
-    substitutes: &[&[u8]],
-    name: &[u8],
-) -> bool
-    ensures { result ≡ (list_any (λ one. bytes_eq one.name.now name.now) marked.now
-        && not (spec.has_other (all_defaulted marked.now) name.now 1 (externals_said externals.now))
-        && not (list_any (λ each. bytes_eq name.now each.now) substitutes.now)) }
+/// The name of an external with an index that isn't one of those.
+fn other_name<'a, A: Allocator + Copy>(
+    indexes: &BTreeSet<usize, A>,
+    index: usize,
+    external: Option<&'a [u8]>,
+) -> Option<&'a [u8]>
+    ensures { bytes_said result ≡ other_name (contains nat_cmp indexes.now index) (bytes_said external.entry) }
 {
-    is_name_of(marked, name) && !has_other(marked, name, externals) && !is_among(name, substitutes)
+    if indexes.contains(&index) {
+        None
+    } else {
+        external
+    }
 }
 
-/// Those names, in their order, that aren't names of some externals alone.
+/// The names of a module's externals whose indexes aren't those.
+fn other_names<'a, A: Allocator + Copy>(
+    alloc: A,
+    indexes: &BTreeSet<usize, A>,
+    externals: &[Option<&'a [u8]>],
+) -> Result<BTreeSet<&'a [u8], A>, AllocError>
+    ensures { IfOk result (λ s. (q : Bor (List ℕ)) →
+        contains bytes_cmp s q ≡ has_name_at (contains nat_cmp indexes.now) q.now 1 (externals_said externals.now)) }
+{
+    let mut names = BTreeSet::new(alloc);
+    for (before, external) in externals.iter().enumerate() {
+        if let Some(name) = other_name(indexes, before + 1, *external) {
+            names.insert(name)?;
+        }
+    }
+    Ok(names)
+}
+
+/// Whether a name is one of theirs, and none of the others'.
+fn is_theirs<'a, A: Allocator + Copy>(
+    theirs: &BTreeSet<&'a [u8], A>,
+    others: &BTreeSet<&'a [u8], A>,
+    name: &'a [u8],
+) -> bool
+    ensures { result ≡ (contains bytes_cmp theirs.now name.entry && not (contains bytes_cmp others.now name.entry)) }
+{
+    theirs.contains(&name) && !others.contains(&name)
+}
+
+/// Those names of a module, in their order, that aren't names of some of its externals alone.
 fn names_except<'a, A: Allocator + Copy>(
     alloc: A,
-    marked: &[Defaulted<'_>],
-    externals: &[Option<&[u8]>],
-    substitutes: &[&[u8]],
+    marked: &[Defaulted<'a>],
+    externals: &[Option<&'a [u8]>],
     names: &[&'a [u8]],
 ) -> Result<Vec<&'a [u8], A>, AllocError>
     ensures { IfOk result (λ v. texts v.items ≡ filter (λ name. not (spec.is_theirs (all_defaulted marked.now)
-        (externals_said externals.now) (texts substitutes.now) name)) (texts names.now)) }
+        (externals_said externals.now) name)) (texts names.now)) }
 {
-    let mut others = Vec::new(alloc);
+    let theirs = names_of(alloc, marked)?;
+    let indexes = indexes_of(alloc, marked)?;
+    let others = other_names(alloc, &indexes, externals)?;
+    let mut kept = Vec::new(alloc);
     for name in names {
-        if is_theirs(marked, externals, substitutes, name) {
+        if is_theirs(&theirs, &others, name) {
             continue;
         }
-        others.push(*name)?;
+        kept.push(*name)?;
     }
-    Ok(others)
+    Ok(kept)
 }
 
 /// Those names of a module, in their order, that aren't names of some of its externals alone.
 #[tactic(auto, unfolding(crate::specs::Defaults::is_theirs_alone))]
 pub(crate) fn names_but<'a, A: Allocator + Copy>(
     alloc: A,
-    marked: &[Defaulted<'_>],
+    marked: &[Defaulted<'a>],
     frames: &[Frame<'a>],
     names: &[&'a [u8]],
 ) -> Result<Vec<&'a [u8], A>, AllocError>
@@ -413,6 +399,5 @@ pub(crate) fn names_but<'a, A: Allocator + Copy>(
         return Vec::from_slice(alloc, names);
     }
     let externals = module_externals(alloc, frames)?;
-    let substitutes = substitutes(alloc, frames)?;
-    names_except(alloc, marked, &externals, &substitutes, names)
+    names_except(alloc, marked, &externals, names)
 }

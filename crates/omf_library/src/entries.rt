@@ -25,8 +25,6 @@ pub(crate) enum Entry {
     Public { offset: usize },
     /// Of ALIAS: a name, and the name that it stands for. The first is meant.
     Alias,
-    /// The same, where the second is meant.
-    Substitute,
 }
 
 /// The bytes behind so many. None where there are fewer.
@@ -115,7 +113,6 @@ pub(crate) fn take_entry<'a>(entry: Entry, bytes: &'a [u8]) -> Option<(&'a [u8],
             let (_, rest) = take_name(rest)?;
             Some((name, rest))
         }
-        Entry::Substitute => take_name(rest),
     }
 }
 

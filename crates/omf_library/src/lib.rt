@@ -1,6 +1,7 @@
 //! Libraries of object modules: their members, and the names that a module wants and offers.
 #![tactic(auto)]
 
+mod aliases;
 mod archive;
 mod defaults;
 mod entries;
@@ -8,11 +9,13 @@ mod fault;
 mod fields;
 mod files;
 mod library;
+mod long_names;
 mod names;
 mod number;
 mod records;
 mod wanting;
 
+pub use aliases::Alias;
 pub use defaults::{Defaulted, weak_and_lazy};
 pub use entries::{behind_length, behind_lengths, listed_name};
 pub use fault::{FormatFault, LibraryFault};

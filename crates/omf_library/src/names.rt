@@ -5,12 +5,15 @@ ghost use Rattle.omf_frame.specs.Lending.{plain_frame};
 ghost use Rattle.omf_library.specs.Records.{comment_text, module_records};
 ghost use Rattle.omf_library.specs.Listed.{listed_in};
 ghost use Rattle.omf_library.specs.Names.{texts, wanted_in, offered_in, library_in};
-ghost use Rattle.omf_library.specs.Names.{public_names, comdat_names};
-ghost use Rattle.omf_library.specs.Names.{asked_names, wanted_names, needed_names};
-ghost use Rattle.omf_library.specs.Names.{offered_names, library_names, asks_dosseg};
+ghost use Rattle.omf_library.specs.Names.{public_names, comdat_names, communals_in};
+ghost use Rattle.omf_library.specs.Names.{external_names, wanted_names, needed_names};
+ghost use Rattle.omf_library.specs.Names.{communal_names, offered_names, library_names, asks_dosseg};
+ghost use Rattle.omf_library.specs.Aliases.{aliases_in, aliases_of};
+ghost use Rattle.omf_library.specs.Said.{aliases_said};
 ghost use Rattle.omf_library.specs.Defaults as spec;
 
-use crate::defaults::{names_but, push_substitutes, weak_and_lazy, weak_externals};
+use crate::aliases::{Alias, push_aliases};
+use crate::defaults::{names_but, weak_and_lazy, weak_externals};
 use crate::entries::{Entry, behind_base, comdat_name, listed_name, push_communal, push_names};
 use crate::records::{comment_text, module_frames};
 use omf_frame::Frame;
@@ -29,10 +32,16 @@ const DOSSEG: u8 = 0x9E;
 pub struct ModuleNames<'a, A: Allocator + Copy = Global> {
     /// The names that it wants from other modules: not those of weak externals alone. One may stand more than once.
     pub wanted: Vec<&'a [u8], A>,
-    /// Those of them that another one has to offer: not those of lazy externals alone either.
+    /// Those of them that another one has to define: not those of lazy externals alone either.
     pub needed: Vec<&'a [u8], A>,
+    /// The names of all externals that other modules may define, of weak and lazy ones too.
+    pub externals: Vec<&'a [u8], A>,
     /// The names that it offers to other modules.
     pub offered: Vec<&'a [u8], A>,
+    /// The communal variables that it declares.
+    pub communals: Vec<&'a [u8], A>,
+    /// The names that it has for others. It offers them; what they stand for isn't among the wanted names.
+    pub aliases: Vec<Alias<'a>, A>,
     /// The default libraries that its comments name.
     pub libraries: Vec<&'a [u8], A>,
     /// Whether a comment asks for the DOSSEG order of segments.
@@ -54,7 +63,7 @@ pub fn push_listed<'a, A: Allocator + Copy>(
     }
 }
 
-/// Appends the names that a record wants: those of EXTDEF and CEXTDEF, and those that ALIAS stands for.
+/// Appends the names that a record wants: those of EXTDEF and CEXTDEF.
 #[tactic(auto, unfolding(crate::specs::Names::wanted_in))]
 pub(crate) fn push_wanted<'a, A: Allocator + Copy>(
     frame: &Frame<'a>,
@@ -67,7 +76,7 @@ pub(crate) fn push_wanted<'a, A: Allocator + Copy>(
     match frame.kind {
         0x8C => push_names(Entry::External, frame.body, wanted),
         0xBC => push_communal(listed, frame.body, wanted),
-        _ => push_substitutes(frame, wanted),
+        _ => Ok(()),
     }
 }
 
@@ -123,6 +132,21 @@ fn push_comdat<'a, A: Allocator + Copy>(
     Ok(())
 }
 
+/// Appends the communal variables that a record declares: COMDEF.
+#[tactic(auto, unfolding(crate::specs::Names::communals_in))]
+fn push_communals<'a, A: Allocator + Copy>(
+    frame: &Frame<'a>,
+    communals: &mut Vec<&'a [u8], A>,
+) -> Result<(), AllocError>
+    ensures { OnOk result (texts communals.new.items
+        ≡ texts communals.old.items ++ communals_in (plain_frame frame.now)) }
+{
+    match frame.kind {
+        0xB0 => push_names(Entry::Variable, frame.body, communals),
+        _ => Ok(()),
+    }
+}
+
 /// Appends the default library that a record names.
 #[tactic(auto, unfolding(crate::specs::Names::library_in))]
 fn push_library<'a, A: Allocator + Copy>(
@@ -154,30 +178,39 @@ fn add_names<'a, A: Allocator + Copy>(
 ) -> Result<(), AllocError>
     ensures listed { OnOk result (texts listed.new.items
         ≡ texts listed.old.items ++ listed_in (plain_frame frame.now)) }
-    ensures wanted { OnOk result (texts said.new.wanted.items
-        ≡ texts said.old.wanted.items ++ wanted_in (texts listed.old.items) (plain_frame frame.now)) }
+    ensures externals { OnOk result (texts said.new.externals.items
+        ≡ texts said.old.externals.items ++ wanted_in (texts listed.old.items) (plain_frame frame.now)) }
     ensures offered { OnOk result (texts said.new.offered.items
         ≡ texts said.old.offered.items ++ offered_in (texts listed.old.items) (plain_frame frame.now)) }
+    ensures communals { OnOk result (texts said.new.communals.items
+        ≡ texts said.old.communals.items ++ communals_in (plain_frame frame.now)) }
+    ensures aliases { OnOk result (aliases_said said.new.aliases.items
+        ≡ aliases_said said.old.aliases.items ++ aliases_in (plain_frame frame.now)) }
     ensures libraries { OnOk result (texts said.new.libraries.items
         ≡ texts said.old.libraries.items ++ library_in (plain_frame frame.now)) }
     ensures dosseg { OnOk result (said.new.dosseg
         ≡ (said.old.dosseg || is_some (comment_text 0x9E (plain_frame frame.now)))) }
 {
-    push_wanted(frame, listed, &mut said.wanted)?;
+    push_wanted(frame, listed, &mut said.externals)?;
     push_offered(frame, listed, &mut said.offered)?;
+    push_communals(frame, &mut said.communals)?;
+    push_aliases(frame, &mut said.aliases)?;
     push_library(frame, &mut said.libraries)?;
     said.dosseg |= is_dosseg(frame);
     push_listed(frame, listed)
 }
 
-/// The names of a module's records. Those of all externals are among the wanted ones, and none is among the needed
-/// ones.
+/// The names of a module's records. None is among the wanted ones, nor among the needed ones.
 fn all_names<'a, A: Allocator + Copy>(
     alloc: A,
     frames: &[Frame<'a>],
 ) -> Result<ModuleNames<'a, A>, AllocError>
-    ensures wanted { IfOk result (λ said. texts said.wanted.items ≡ asked_names (map plain_frame frames.now)) }
+    ensures externals { IfOk result (λ said.
+        texts said.externals.items ≡ external_names (map plain_frame frames.now)) }
     ensures offered { IfOk result (λ said. texts said.offered.items ≡ offered_names (map plain_frame frames.now)) }
+    ensures communals { IfOk result (λ said.
+        texts said.communals.items ≡ communal_names (map plain_frame frames.now)) }
+    ensures aliases { IfOk result (λ said. aliases_said said.aliases.items ≡ aliases_of (map plain_frame frames.now)) }
     ensures libraries { IfOk result (λ said.
         texts said.libraries.items ≡ library_names (map plain_frame frames.now)) }
     ensures dosseg { IfOk result (λ said. said.dosseg ≡ asks_dosseg (map plain_frame frames.now)) }
@@ -185,7 +218,10 @@ fn all_names<'a, A: Allocator + Copy>(
     let mut said = ModuleNames {
         wanted: Vec::new(alloc),
         needed: Vec::new(alloc),
+        externals: Vec::new(alloc),
         offered: Vec::new(alloc),
+        communals: Vec::new(alloc),
+        aliases: Vec::new(alloc),
         libraries: Vec::new(alloc),
         dosseg: false,
     };
@@ -230,13 +266,18 @@ pub fn module_names<'a, A: Allocator + Copy>(
 ) -> Result<ModuleNames<'a, A>, AllocError>
     ensures wanted { IfOk result (λ said. texts said.wanted.items ≡ wanted_names (module_records bytes.now 0)) }
     ensures needed { IfOk result (λ said. texts said.needed.items ≡ needed_names (module_records bytes.now 0)) }
+    ensures externals { IfOk result (λ said.
+        texts said.externals.items ≡ external_names (module_records bytes.now 0)) }
     ensures offered { IfOk result (λ said. texts said.offered.items ≡ offered_names (module_records bytes.now 0)) }
+    ensures communals { IfOk result (λ said.
+        texts said.communals.items ≡ communal_names (module_records bytes.now 0)) }
+    ensures aliases { IfOk result (λ said. aliases_said said.aliases.items ≡ aliases_of (module_records bytes.now 0)) }
     ensures libraries { IfOk result (λ said. texts said.libraries.items ≡ library_names (module_records bytes.now 0)) }
     ensures dosseg { IfOk result (λ said. said.dosseg ≡ asks_dosseg (module_records bytes.now 0)) }
 {
     let frames = module_frames(alloc, bytes)?;
     let mut said = all_names(alloc, &frames)?;
-    said.needed = needed_of(alloc, &frames, &said.wanted)?;
-    said.wanted = wanted_of(alloc, &frames, &said.wanted)?;
+    said.needed = needed_of(alloc, &frames, &said.externals)?;
+    said.wanted = wanted_of(alloc, &frames, &said.externals)?;
     Ok(said)
 }

@@ -8,17 +8,19 @@ use Rattle.omf_frame.specs.Frame.{Frame, frame_of}
 use Rattle.omf_library.specs.declared.fault.FormatFault.{FormatFault}
 use Rattle.omf_library.specs.declared.fault.LibraryFault.{LibraryFault}
 use Rattle.omf_library.specs.declared.entries.Entry.{Entry}
-use Rattle.omf_library.specs.declared.entries.Entry.TheVariants.{Listed, External, Variable, Public, Alias, Substitute}
+use Rattle.omf_library.specs.declared.entries.Entry.TheVariants.{Listed, External, Variable, Public, Alias}
 use Rattle.omf_library.specs.declared.archive.Entry.{Entry as LentEntry}
 use Rattle.omf_library.specs.declared.files.Member.{Member}
+use Rattle.omf_library.specs.declared.aliases.Alias as lent_alias
 use Rattle.omf_library.specs.declared.defaults.Defaulted as lent
 use Rattle.omf_library.specs.Fields.{name_front}
 use Rattle.omf_library.specs.Records.{record_or_fault}
-use Rattle.omf_library.specs.Entries.{external_front, variable_front, public_front, alias_front, substitute_front}
+use Rattle.omf_library.specs.Entries.{external_front, variable_front, public_front, alias_front}
 use Rattle.omf_library.specs.Members.{PlainMember, plain_member}
 use Rattle.omf_library.specs.Archive.{PlainEntry, at_place}
 use Rattle.omf_library.specs.Files.{IsPart}
-use Rattle.omf_library.specs.Said.{bytes_said, defaulted_said}
+use Rattle.omf_library.specs.Aliases as aliases
+use Rattle.omf_library.specs.Said.{alias_said, bytes_said, defaulted_said}
 use Rattle.omf_library.specs.Defaults.{Defaulted}
 
 -- a record's type and body, at this place
@@ -38,7 +40,6 @@ entry_front External bytes = external_front bytes
 entry_front Variable bytes = variable_front bytes
 entry_front (Public offset) bytes = public_front offset bytes
 entry_front Alias bytes = alias_front bytes
-entry_front Substitute bytes = substitute_front bytes
 
 -- a member
 abbrev pub member_said : Result Member LibraryFault → Result PlainMember LibraryFault
@@ -90,3 +91,8 @@ pair_said (Some (pair, rest)) = Some (pair, rest.now)
 abbrev pub defaulted_found : Option lent.Defaulted → Option Defaulted
 defaulted_found None = None
 defaulted_found (Some d) = Some (defaulted_said d)
+
+-- an alias, and the bytes behind it
+abbrev pub alias_found : Option (lent_alias.Alias × Bor (List ℕ)) → Option (aliases.Alias × List ℕ)
+alias_found None = None
+alias_found (Some (a, rest)) = Some (alias_said a, rest.now)

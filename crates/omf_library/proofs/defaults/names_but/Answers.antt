@@ -1,4 +1,4 @@
-use Rattle.std.proofs.Common.{◌≡◌, [], filter, map, not, subst, sym, ap, ap₂, ◌∙◌}
+use Rattle.std.proofs.Common.{◌≡◌, [], filter, map, not, subst, sym, ap, ◌∙◌}
 use Rattle.std.proofs.lemmas.Bool.{eqb-true}
 use Rattle.std.proofs.lemmas.Result.{IfOk-weaker}
 use Rattle.omf_library.specs.Defaults.{is_theirs, is_theirs_alone}
@@ -15,9 +15,8 @@ returns g c =
     let marked = all_defaulted c.args.marked.now in
     IfOk-weaker c.names_except.result _ _
     (λ v items. items
-    ∙ ap₂ (λ es ss. filter (λ name. not (is_theirs marked es ss name)) (texts c.args.names.now))
-    (ap externals_said c.deref.ensures.value ∙ c.in_ok-externals.ensures)
-    (ap texts c.deref-2.ensures.value ∙ c.in_ok-substitutes.ensures))
+    ∙ ap (λ es. filter (λ name. not (is_theirs marked es name)) (texts c.args.names.now))
+    (ap externals_said c.deref.ensures.value ∙ c.in_ok-externals.ensures))
     c.names_except.ensures
 
 pub returns-then-is_empty : goal.returns-then-is_empty

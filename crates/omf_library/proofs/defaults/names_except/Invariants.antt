@@ -7,6 +7,6 @@ use Rattle.omf_library.proofs.defaults.names_except.Given as goal
 
 abbrev pub invariant-loop-name : goal.invariant-loop-name
 invariant-loop-name g l =
-    texts l.others.items
-    ≡ filter (λ name. not (is_theirs (all_defaulted l.fn.marked) (externals_said l.fn.externals)
-    (texts l.fn.substitutes) name)) (texts (take l.name-index l.fn.names))
+    texts l.kept.items
+    ≡ filter (λ name. not (is_theirs (all_defaulted l.fn.marked) (externals_said l.fn.externals) name))
+    (texts (take l.name-index l.fn.names))

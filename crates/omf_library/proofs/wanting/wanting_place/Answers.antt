@@ -1,7 +1,7 @@
 use Rattle.std.proofs.Common.{arith, ap, map, sym, ◌∙◌}
 use Rattle.omf_frame.specs.Lending.{plain_frame}
-use Rattle.omf_library.specs.Names.{texts, wanted_in}
-use Rattle.omf_library.specs.Defaults.{is_among}
+use Rattle.omf_library.specs.Names.{texts}
+use Rattle.omf_library.specs.Wanting.{asks}
 use Rattle.omf_library.proofs.Asking.{left-first, left-found, left-more, left-none, some-wanted}
 use Rattle.omf_library.proofs.wanting.wanting_place.Goals as goal
 
@@ -18,8 +18,8 @@ returns-then-branch g c =
     let found =
     left-found name frames c.loop-frame.frame-index (texts listed) frame c.loop-frame.invariant
     c.loop-frame-test.true c.frame-item.is
-    (ap (λ l. is_among name (wanted_in (texts l) (plain_frame frame))) (sym c.deref.ensures.value)
-    ∙ sym c.in_ok-wants.ensures ∙ c.if-branch.true) in
+    (ap (λ l. asks name (texts l) (plain_frame frame)) (sym c.deref.ensures.value)
+    ∙ sym c.in_ok-asks.ensures ∙ c.if-branch.true) in
     record { first = found; exact = some-wanted name (map plain_frame frames) _ found }
 
 pub returns : goal.returns
@@ -37,6 +37,6 @@ loop-frame-preserved g c =
     let frame = c.frame-item.result in
     left-more name c.args.frames.now c.loop-frame.frame-index (texts c.loop-frame.listed.items) _ frame
     c.loop-frame.invariant c.loop-frame-test.true c.frame-item.is
-    (ap (λ l. is_among name (wanted_in (texts l) (plain_frame frame))) (sym c.deref.ensures.value)
-    ∙ sym c.in_ok-wants.ensures ∙ c.if-branch.false)
+    (ap (λ l. asks name (texts l) (plain_frame frame)) (sym c.deref.ensures.value)
+    ∙ sym c.in_ok-asks.ensures ∙ c.if-branch.false)
     c.in_ok-push_listed.ensures

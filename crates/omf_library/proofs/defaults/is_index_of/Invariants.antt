@@ -1,7 +1,0 @@
-use Rattle.std.proofs.Common.{◌≡◌, ◌==◌, false, take}
-use Rattle.std.specs.List.{list_any}
-use Rattle.omf_library.specs.declared.defaults.Defaulted.{Defaulted}
-use Rattle.omf_library.proofs.defaults.is_index_of.Given as goal
-
-abbrev pub invariant-loop-one : goal.invariant-loop-one
-invariant-loop-one l = list_any (λ (one : Defaulted). one.index == l.index) (take l.one-index l.marked) ≡ false
