@@ -1,6 +1,6 @@
 -- Aliases that are looked for, and one alias behind the other.
-use Rattle.std.proofs.Common.{◌≡◌, ℕ, zero, suc, ◌+◌, ◌<◌, ◌≤◌, Bool, true, false, List, [], ◌∷◌, length, map, drop}
-use Rattle.std.proofs.Common.{get_or, find, cond, is_none, is_some, not, Option, None, Some, refl, sym, ap, ◌∙◌, arith}
+use Rattle.std.proofs.Common.{◌≡◌, ℕ, zero, suc, ◌+◌, ◌<◌, ◌≤◌, Bool, true, false, List, ◌∷◌, length, map, drop}
+use Rattle.std.proofs.Common.{get_or, find, cond, is_none, is_some, not, Option, None, Some, refl, sym, ap, ◌∙◌}
 use Rattle.std.proofs.Common.{add-one}
 use Rattle.std.proofs.Math.ListN.{drop_of_length-le}
 use Rattle.std.proofs.Math.Seq.{drop-cons}

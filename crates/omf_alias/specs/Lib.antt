@@ -1,4 +1,9 @@
 pub mod Reading
 pub mod Meaning
 pub mod Said
+pub mod Layered
+pub mod Layers
+pub mod Told
+pub mod Lent
+pub mod Ordered
 pub mod inside

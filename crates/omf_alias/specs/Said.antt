@@ -1,15 +1,16 @@
 -- Aliases without where their names lie in memory.
-use Rattle.std.specs.Prelude.{List, map}
-use Rattle.omf_alias.specs.declared.names.Renaming as lent_renaming
-use Rattle.omf_alias.specs.declared.reading.Alias as lent
+use Rattle.omf_alias.specs.declared.aliases.Aliases.{Aliases}
+use Rattle.omf_alias.specs.declared.aliases.OwnAliases.{OwnAliases}
+use Rattle.omf_alias.specs.declared.renaming.Renaming as lent
+use Rattle.omf_alias.specs.Layered.{both_said, said_of}
+pub use Rattle.omf_alias.specs.Lent.{alias_said, aliases_said}
 use Rattle.omf_alias.specs.Meaning.{Renaming}
-use Rattle.omf_alias.specs.Reading.{Alias}
 
-abbrev pub alias_said : lent.Alias → Alias
-alias_said a = record { place = a.place; name = a.name.now; meaning = a.meaning.now }
+abbrev pub renaming_said : lent.Renaming → Renaming
+renaming_said r = both_said r.names r.aliases.now r.own.now
 
-abbrev pub aliases_said : List lent.Alias → List Alias
-aliases_said aliases = map alias_said aliases
+abbrev pub shared_said : {A : Type 0} → Aliases A → Renaming
+shared_said a = said_of a.names a.aliases.items
 
-abbrev pub renaming_said : lent_renaming.Renaming → Renaming
-renaming_said r = record { names = r.names; aliases = aliases_said r.aliases.now }
+abbrev pub own_said : {A : Type 0} → OwnAliases A → Renaming
+own_said a = both_said a.names a.aliases.now a.own.items

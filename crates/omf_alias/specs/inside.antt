@@ -1,2 +1,5 @@
 -- How the code sees what it works on: no public contract cites any of it.
 pub mod Views
+pub mod Steps
+pub mod Ends
+pub mod Folded

@@ -7,17 +7,10 @@ ghost use Rattle.omf_place.specs.Names.{agrees};
 ghost use Rattle.omf_alias.specs.Meaning as spec;
 ghost use Rattle.omf_alias.specs.Said.{alias_said, renaming_said};
 
+use crate::ends::told_by;
 use crate::reading::Alias;
+use crate::renaming::Renaming;
 use omf_place::Names;
-
-/// The names that stand for others.
-#[derive(Clone, Copy, Debug)]
-pub struct Renaming<'r, 'a> {
-    /// Which names agree.
-    pub names: Names,
-    /// The names with what they stand for. Of those that agree the first counts.
-    pub aliases: &'r [Alias<'a>],
-}
 
 /// Whether names agree.
 pub fn agree(names: Names, one: &[u8], other: &[u8]) -> bool
@@ -29,33 +22,12 @@ pub fn agree(names: Names, one: &[u8], other: &[u8]) -> bool
     }
 }
 
-/// What a name stands for by the first alias that it agrees with. None where it agrees with none.
-fn replacement<'a>(renaming: &Renaming<'_, 'a>, name: &[u8]) -> Option<&'a [u8]>
-    ensures { bytes_said result ≡ spec.replacement (renaming_said renaming.now) name.now }
-{
-    for alias in renaming.aliases {
-        if agree(renaming.names, alias.name, name) {
-            return Some(alias.meaning);
-        }
-    }
-    None
-}
-
-/// What a name means, by one alias behind the other. None where these go round for ever.
-#[tactic(auto, unfolding(crate::specs::Meaning::meaning))]
+/// What a name means, by one alias behind the other. None where these go round for ever. It is looked up by halves.
 pub fn meaning<'a>(renaming: &Renaming<'_, 'a>, name: &'a [u8]) -> Option<&'a [u8]>
     ensures { bytes_said result ≡ spec.meaning (renaming_said renaming.now) name.now }
 {
-    let mut name = name;
-    let mut left = renaming.aliases.len();
-    while let Some(next) = replacement(renaming, name) {
-        if left == 0 {
-            return None;
-        }
-        name = next;
-        left -= 1;
-    }
-    Some(name)
+    let shared = told_by(renaming.names, renaming.ends, name)?;
+    told_by(renaming.names, renaming.own_ends, shared)
 }
 
 /// The first of some aliases whose name means nothing, since the aliases behind it go round for ever. None where there

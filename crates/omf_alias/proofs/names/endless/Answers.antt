@@ -1,4 +1,4 @@
-use Rattle.std.proofs.Common.{◌≡◌, is_none, sym, ap, ◌∙◌, arith}
+use Rattle.std.proofs.Common.{is_none, sym, ◌∙◌, arith}
 use Rattle.omf_alias.specs.Meaning.{meaning}
 use Rattle.omf_alias.specs.Said.{alias_said, renaming_said}
 use Rattle.omf_alias.proofs.Chains.{found-here, found-later, found-nowhere, none-said}

@@ -1,4 +1,4 @@
-use Rattle.std.proofs.Common.{◌≡◌, ◌++◌, ◌∙◌, [], map, sym, ap, arith}
+use Rattle.std.proofs.Common.{◌++◌, ◌∙◌, map, sym, ap, arith}
 use Rattle.std.proofs.lemmas.List.{append-nil, take_all}
 use Rattle.omf_frame.specs.Lending.{plain_frame}
 use Rattle.omf_alias.specs.Reading.{aliases_in, aliases_of}
