@@ -1,1 +1,4 @@
 pub mod Walks
+pub mod Places
+pub mod Rounds
+pub mod Stocking

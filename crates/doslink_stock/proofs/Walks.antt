@@ -6,20 +6,15 @@ use Rattle.std.proofs.lemmas.List.{map-append, take_all, take_more}
 use Rattle.std.proofs.Math.ListN.{drop_of_length-le}
 use Rattle.std.proofs.Math.Seq.{drop-cons}
 use Rattle.std.specs.Borrow.{Bor}
-use Rattle.std.specs.declared.option.Option.{Option}
-use Rattle.std.specs.List.{cons_option, filter_map}
-use Rattle.std.specs.Option.{option_to_list}
 use Rattle.omf_library.specs.declared.files.Member.{Member}
 use Rattle.omf_library.specs.Files.{file_kind, members_of}
 use Rattle.omf_library.specs.Members.{joined, plain_member}
-use Rattle.omf_search.specs.declared.choosing.Choice.{Choice}
-use Rattle.omf_search.specs.Results.{bytes_of, choice_said}
+use Rattle.omf_search.specs.Results.{bytes_of}
 use Rattle.doslink_stock.specs.declared.fault.StockFault.{StockFault}
 use Rattle.doslink_stock.specs.declared.fault.StockFault.TheVariants as stock
 use Rattle.doslink_stock.specs.Files.{Held, IsFault, both, held, held_members, is_object, members_from, members_in}
 use Rattle.doslink_stock.specs.Files.{object_in}
 use Rattle.doslink_stock.specs.Files.{objects_from}
-use Rattle.doslink_stock.specs.Search.{TakenFor, member_taken}
 
 -- the items from one on are that one and those behind it
 pub drop-one : {X : Type 0} (xs : List X) (i : ℕ) (d : X) → i < length xs → drop i xs ≡ get_or xs i d ∷ drop (i + 1) xs
@@ -117,25 +112,9 @@ pub push-made : {X Z : Type 0} (f : X → Z) (old new : List X) (x : X) (z : Z) 
 push-made f old new x z pushed same =
     ap (map f) pushed ∙ map-append f old (x ∷ []) ∙ ap (λ y. map f old ++ y ∷ []) same
 
-pub cons-option : {X : Type 0} (o : Option X) (xs : List X) → cons_option o xs ≡ option_to_list o ++ xs
-cons-option None xs = refl
-cons-option (Some x) xs = refl
-
 pub map-map : {X Y Z : Type 0} (f : X → Y) (g : Y → Z) (xs : List X) → map (λ x. g (f x)) xs ≡ map g (map f xs)
 map-map f g [] = refl
 map-map f g (x ∷ xs) = ap (λ l. g (f x) ∷ l) (map-map f g xs)
-
--- one more choice, and the member that it takes
-pub chosen-more : {X : Type 0} (f : X → TakenFor) (members : List Held) (choices : List Choice) (i : ℕ) (d : Choice)
-    (old new : List X) (goal : List TakenFor) → i < length choices
-    → map f new ≡ map f old ++ option_to_list (member_taken members (choice_said (get_or choices i d)))
-    → map f old ++ filter_map (member_taken members) (map choice_said (drop i choices)) ≡ goal
-    → map f new ++ filter_map (member_taken members) (map choice_said (drop (i + 1) choices)) ≡ goal
-chosen-more f members choices i d old new goal h added before =
-    let member = member_taken members (choice_said (get_or choices i d)) in
-    let behind = filter_map (member_taken members) (map choice_said (drop (i + 1) choices)) in
-    walk-step f (λ n l. filter_map (member_taken members) (map choice_said l)) (option_to_list member) choices i d old
-    new goal h (cons-option member behind) added before
 
 -- the members of a file that is no object
 pub members-here : (file : ℕ) (bytes : List ℕ) (ms : List Member) → is_object (file_kind bytes) ≡ false

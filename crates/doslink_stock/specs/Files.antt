@@ -9,15 +9,16 @@ use Rattle.omf_library.specs.declared.files.FileKind.{FileKind}
 use Rattle.omf_library.specs.declared.files.FileKind.TheVariants as kind
 use Rattle.omf_library.specs.Files.{file_kind, members_of}
 use Rattle.omf_library.specs.Members.{PlainMember, joined}
-use Rattle.omf_library.specs.Names.{wanted_names, needed_names, offered_names, library_names}
-use Rattle.omf_library.specs.Names.{asks_dosseg}
+use Rattle.omf_library.specs.Aliases.{aliases_of}
+use Rattle.omf_library.specs.Names.{wanted_names, needed_names, external_names, offered_names, communal_names}
+use Rattle.omf_library.specs.Names.{library_names, asks_dosseg}
 use Rattle.omf_library.specs.Records.{module_records}
 use Rattle.omf_search.specs.Said.{Module}
 use Rattle.doslink_stock.specs.declared.fault.StockFault.{StockFault}
 use Rattle.doslink_stock.specs.declared.fault.StockFault.TheVariants as stock
 
--- a module of a file: the index of the file, the member's name where it is one, its bytes, the names that it wants and
--- offers, those that it needs, the default libraries that it names, and whether it asks for the DOSSEG order
+-- a module of a file: the index of the file, the member's name where it is one, its bytes, what it says of names, those
+-- that it needs, the default libraries that it names, and whether it asks for the DOSSEG order
 pub record Held : Type 0 where
   pub file : ℕ
   pub name : Option (List ℕ)
@@ -35,16 +36,25 @@ held file name bytes = record {
   bytes = bytes;
   says = record {
     wanted = wanted_names (module_records bytes 0);
+    externals = external_names (module_records bytes 0);
     offered = offered_names (module_records bytes 0);
+    communals = communal_names (module_records bytes 0);
+    aliases = aliases_of (module_records bytes 0);
   };
   needed = needed_names (module_records bytes 0);
   libraries = library_names (module_records bytes 0);
   dosseg = asks_dosseg (module_records bytes 0);
 }
 
--- what a module says of names once no more are looked for: those that it needs, and those that it offers
+-- what a module says of names once no more are looked for: of those that it wants the ones that it needs
 abbrev pub needs : Held → Module
-needs m = record { wanted = m.needed; offered = m.says.offered }
+needs m = record {
+  wanted = m.needed;
+  externals = m.says.externals;
+  offered = m.says.offered;
+  communals = m.says.communals;
+  aliases = m.says.aliases;
+}
 
 -- a file of this kind is an object module
 abbrev pub is_object : FileKind → Bool
@@ -60,10 +70,6 @@ object_in file bytes = if is_object (file_kind bytes) then held file None bytes 
 abbrev pub objects_from : ℕ → (files : List (List ℕ)) → List Held
 objects_from file [] = []
 objects_from file (bytes ∷ files) = object_in file bytes ++ objects_from (file + 1) files
-
--- the same of all files, in their order
-abbrev pub objects : (files : List (List ℕ)) → List Held
-objects files = objects_from 0 files
 
 -- a fault in a library, as one of the file with this index
 abbrev pub fault_of : ℕ → LibraryFault → StockFault

@@ -2,9 +2,10 @@
 #![tactic(auto)]
 
 mod fault;
+mod linking;
 mod searching;
 mod stock;
 
 pub use fault::StockFault;
-pub use searching::{Handed, members_of, search};
-pub use stock::{Entry, Stock, read_stock};
+pub use searching::{Handed, Stock, members_of};
+pub use stock::Entry;

@@ -1,15 +1,20 @@
-//! The modules that are handed on to the link: the object files, and the members of libraries that they take.
-ghost use Rattle.std.specs.Prelude.{◌≡◌, ◌++◌, IfOk, OnOk, map};
-ghost use Rattle.std.specs.List.{filter_map};
-ghost use Rattle.std.specs.Option.{option_to_list};
-ghost use Rattle.omf_search.specs.Results.{choice_said, member_said, module_said};
-ghost use Rattle.doslink_stock.specs.Search.{TakesFor, candidates, member_taken, object_taken};
+//! The modules that are handed on to the link: object files, and the members of libraries that they take.
+ghost use Rattle.std.specs.Prelude.{◌≡◌, ◌++◌, [], ◌∷◌, ℕ, List, IfOk, MatchResult, Some, drop, map};
+ghost use Rattle.std.specs.Option.{option_map};
+ghost use Rattle.omf_search.specs.Results.{bytes_of, member_said};
+ghost use Rattle.doslink_stock.specs.Files as spec;
+ghost use Rattle.doslink_stock.specs.Files.{IsFault};
+ghost use Rattle.doslink_stock.specs.Placed.{ArePlaced, IsPlaced};
+ghost use Rattle.doslink_stock.specs.Search.{TakenFor, TakesFor, all_files, candidates};
+ghost use Rattle.doslink_stock.specs.Searched.{Searched};
 ghost use Rattle.doslink_stock.specs.Seen.{entry_held, handed_taken};
 
-use crate::stock::{Entry, Stock};
+use crate::fault::StockFault;
+use crate::linking::{link_objects, offer_members, take_members};
+use crate::stock::{Entry, member_entries, object_entries};
 use omf_place::Names;
-use omf_search::{Choice, Member, Said, choose};
-use std::alloc::{AllocError, Allocator};
+use omf_search::{Member, Said, Search};
+use std::alloc::{AllocError, Allocator, Global};
 
 /// A module that is linked.
 #[derive(Clone, Copy)]
@@ -20,19 +25,13 @@ pub struct Handed<'m, 'a, A: Allocator + Copy> {
     pub wanted: Option<&'a [u8]>,
 }
 
-/// What modules say of names, for the search.
-fn saids<'m, 'a, A: Allocator + Copy>(
-    alloc: A,
-    entries: &'m [Entry<'a, A>],
-) -> Result<Vec<Said<'m, 'a>, A>, AllocError>
-    ensures { IfOk result (λ v. map module_said v.items ≡ map (λ e. (entry_held e).says) entries.now) }
-{
-    let mut all = Vec::new(alloc);
-    for entry in entries {
-        let said = Said::of(&entry.says);
-        all.push(said)?;
-    }
-    Ok(all)
+/// Where a module stands that is linked.
+#[derive(Clone, Copy)]
+pub(crate) enum Place<'a> {
+    /// The object file with this index among them.
+    Object(usize),
+    /// The member with this index, and the name for which it was taken.
+    Member(usize, &'a [u8]),
 }
 
 /// The members that may be taken, each with its file and its index among all.
@@ -54,71 +53,126 @@ pub fn members_of<'m, 'a, A: Allocator + Copy>(
     Ok(all)
 }
 
-/// Appends the object files.
-fn push_objects<'m, 'a, A: Allocator + Copy>(
-    handed: &mut Vec<Handed<'m, 'a, A>, A>,
-    entries: &'m [Entry<'a, A>],
-) -> Result<(), AllocError>
-    ensures { OnOk result (map handed_taken handed.new.items ≡ map handed_taken handed.old.items
-        ++ map (λ e. object_taken (entry_held e)) entries.now) }
-{
-    for entry in entries {
-        handed.push(Handed {
-            entry,
-            wanted: None,
-        })?;
-    }
-    Ok(())
+/// What a link may take, the modules of its files, and what it takes so far. Files come in rounds, behind those that
+/// are there.
+#[derive(Drop)]
+pub struct Stock<'a, A: Allocator + Copy = Global> {
+    /// The object files, in their order.
+    pub objects: Vec<Entry<'a, A>, A>,
+    /// The members of the libraries and archives, in the order of these and in each in its own.
+    pub members: Vec<Entry<'a, A>, A>,
+    linked: Vec<Place<'a>, A>,
+    files: usize,
+    search: Search<'a, A>,
 }
 
-/// Appends the member that was chosen.
-fn push_choice<'m, 'a, A: Allocator + Copy>(
-    handed: &mut Vec<Handed<'m, 'a, A>, A>,
-    entries: &'m [Entry<'a, A>],
-    choice: &Choice<'_, 'a>,
-) -> Result<(), AllocError>
-    ensures { OnOk result (map handed_taken handed.new.items ≡ map handed_taken handed.old.items
-        ++ option_to_list (member_taken (map entry_held entries.now) (choice_said choice.now))) }
+/// The module at a place.
+fn handed_at<'m, 'a, A: Allocator + Copy>(
+    objects: &'m [Entry<'a, A>],
+    members: &'m [Entry<'a, A>],
+    place: Place<'a>,
+) -> Option<Handed<'m, 'a, A>>
+    ensures { (t : TakenFor) → IsPlaced (map entry_held objects.now) (map entry_held members.now) place.entry t →
+        option_map handed_taken result ≡ Some t }
 {
-    if let Some(entry) = entries.get(choice.member.member) {
-        handed.push(Handed {
-            entry,
-            wanted: Some(choice.name),
-        })?;
+    match place {
+        Place::Object(index) => {
+            let entry = objects.get(index)?;
+            Some(Handed {
+                entry,
+                wanted: None,
+            })
+        }
+        Place::Member(index, wanted) => {
+            let entry = members.get(index)?;
+            Some(Handed {
+                entry,
+                wanted: Some(wanted),
+            })
+        }
     }
-    Ok(())
 }
 
-/// Appends the members that were chosen.
-fn push_chosen<'m, 'a, A: Allocator + Copy>(
-    handed: &mut Vec<Handed<'m, 'a, A>, A>,
-    entries: &'m [Entry<'a, A>],
-    choices: &[Choice<'_, 'a>],
-) -> Result<(), AllocError>
-    ensures { OnOk result (map handed_taken handed.new.items ≡ map handed_taken handed.old.items
-        ++ filter_map (member_taken (map entry_held entries.now)) (map choice_said choices.now)) }
-{
-    for choice in choices {
-        push_choice(handed, entries, choice)?;
-    }
-    Ok(())
-}
-
-/// The modules to be linked, in order: the object files, and behind them the members of libraries that they take,
-/// each with the name for which it was taken.
-pub fn search<'m, 'a, A: Allocator + Copy>(
+/// The modules at places, from the one with this index on.
+fn handed_at_each<'m, 'a, A: Allocator + Copy>(
     alloc: A,
-    stock: &'m Stock<'a, A>,
-    names: Names,
+    objects: &'m [Entry<'a, A>],
+    members: &'m [Entry<'a, A>],
+    linked: &[Place<'a>],
+    first: usize,
 ) -> Result<Vec<Handed<'m, 'a, A>, A>, AllocError>
-    ensures { IfOk result (λ v. TakesFor names (map entry_held stock.now.objects.items)
-        (map entry_held stock.now.members.items) (map handed_taken v.items)) }
+    ensures { IfOk result (λ v. (taken : List TakenFor) →
+        ArePlaced (map entry_held objects.now) (map entry_held members.now) linked.now taken →
+        map handed_taken v.items ≡ drop first taken) }
 {
-    let modules = saids(alloc, &stock.objects)?;
-    let members = members_of(alloc, &stock.members)?;
-    let choices = choose(alloc, names, &modules, &members)?;
     let mut handed = Vec::new(alloc);
-    push_objects(&mut handed, &stock.objects)?;
-    push_chosen(&mut handed, &stock.members, &choices)?;
+    let mut index = first;
+    while index < linked.len() {
+        if let Some(each) = handed_at(objects, members, linked[index]) {
+            handed.push(each)?;
+        }
+        index += 1;
+    }
     Ok(handed)
+}
+
+impl<'a, A: Allocator + Copy> Stock<'a, A> {
+    /// No files.
+    pub fn new(alloc: A, names: Names) -> Self
+        ensures { Searched names [] result }
+    {
+        Stock {
+            objects: Vec::new(alloc),
+            members: Vec::new(alloc),
+            linked: Vec::new(alloc),
+            files: 0,
+            search: Search::new(alloc, names),
+        }
+    }
+
+    /// Adds a round of files: of all files so far those behind the ones of earlier rounds. Its object files are taken,
+    /// and the search for members goes on: what was taken stays taken.
+    ///
+    /// # Errors
+    /// The first library or archive that is at fault, with its first fault. Nothing holds of the stock then.
+    pub fn add(&mut self, alloc: A, files: &[&'a [u8]]) -> Result<(), StockFault>
+        ensures { (names : Names) (rounds : List (List (List ℕ))) (more : List (List ℕ)) →
+            bytes_of files.now ≡ all_files rounds ++ more → Searched names rounds self.old →
+            MatchResult result (λ done. Searched names (rounds ++ more ∷ []) self.new)
+            (λ fault. IsFault fault (spec.members (bytes_of files.now))) }
+    {
+        let objects = self.objects.len();
+        let members = self.members.len();
+        let mut more_objects = object_entries(alloc, files, self.files)?;
+        let mut more_members = member_entries(alloc, files, self.files)?;
+        self.files = files.len();
+        self.objects.append(&mut more_objects)?;
+        self.members.append(&mut more_members)?;
+        link_objects(&mut self.search, &mut self.linked, &self.objects, objects)?;
+        offer_members(&mut self.search, &self.members, members)?;
+        take_members(&mut self.search, &mut self.linked, &self.members)?;
+        Ok(())
+    }
+
+    /// The modules that are linked, in the order in which they joined, from the one with this index on: of each round
+    /// its object files, and behind them the members that were taken, each with the name for which it was.
+    pub fn handed_from(
+        &self,
+        alloc: A,
+        first: usize,
+    ) -> Result<Vec<Handed<'_, 'a, A>, A>, AllocError>
+        ensures { IfOk result (λ v. (names : Names) (rounds : List (List (List ℕ))) →
+            Searched names rounds self.now →
+            (taken : List TakenFor) × TakesFor names rounds taken × (map handed_taken v.items ≡ drop first taken)) }
+    {
+        handed_at_each(alloc, &self.objects, &self.members, &self.linked, first)
+    }
+
+    /// All modules that are linked.
+    pub fn handed(&self, alloc: A) -> Result<Vec<Handed<'_, 'a, A>, A>, AllocError>
+        ensures { IfOk result (λ v. (names : Names) (rounds : List (List (List ℕ))) →
+            Searched names rounds self.now → TakesFor names rounds (map handed_taken v.items)) }
+    {
+        self.handed_from(alloc, 0)
+    }
 }

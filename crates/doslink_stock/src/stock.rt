@@ -1,8 +1,8 @@
 //! The modules of files in memory, and what they say of names.
-ghost use Rattle.std.specs.Prelude.{◌≡◌, ◌++◌, IfOk, MatchResult, OnOk, Ok, map};
+ghost use Rattle.std.specs.Prelude.{◌≡◌, ◌++◌, IfOk, MatchResult, OnOk, Ok, drop, map};
 ghost use Rattle.std.specs.Option.{option_copied};
-ghost use Rattle.doslink_stock.specs.Files as spec;
-ghost use Rattle.doslink_stock.specs.Files.{IsFault, fault_of, held, is_object, members_in, object_in, objects};
+ghost use Rattle.doslink_stock.specs.Files.{IsFault, fault_of, held, is_object, members_from, members_in, object_in};
+ghost use Rattle.doslink_stock.specs.Files.{objects_from};
 ghost use Rattle.doslink_stock.specs.Seen.{entry_held};
 ghost use Rattle.doslink_stock.specs.inside.Adding.{Adds};
 ghost use Rattle.omf_library.specs.Files.{file_kind};
@@ -23,15 +23,6 @@ pub struct Entry<'a, A: Allocator + Copy = Global> {
     pub bytes: &'a [u8],
     /// What the module says of names.
     pub says: ModuleNames<'a, A>,
-}
-
-/// What a link may take: the modules of its files.
-#[derive(Drop)]
-pub struct Stock<'a, A: Allocator + Copy = Global> {
-    /// The object files, in their order.
-    pub objects: Vec<Entry<'a, A>, A>,
-    /// The members of the libraries and archives, in the order of these and in each in its own.
-    pub members: Vec<Entry<'a, A>, A>,
 }
 
 /// Whether a file of these bytes is an object module.
@@ -81,16 +72,19 @@ fn push_object<'a, A: Allocator + Copy>(
     Ok(())
 }
 
-/// The modules of the object files.
-fn object_entries<'a, A: Allocator + Copy>(
+/// The modules of those files that are object files, from the one with this index on.
+pub(crate) fn object_entries<'a, A: Allocator + Copy>(
     alloc: A,
     files: &[&'a [u8]],
+    first: usize,
 ) -> Result<Vec<Entry<'a, A>, A>, AllocError>
-    ensures { IfOk result (λ v. map entry_held v.items ≡ objects (bytes_of files.now)) }
+    ensures { IfOk result (λ v. map entry_held v.items ≡ objects_from first (bytes_of (drop first files.now))) }
 {
     let mut entries = Vec::new(alloc);
-    for (file, bytes) in files.iter().enumerate() {
-        push_object(alloc, &mut entries, file, bytes)?;
+    let mut file = first;
+    while file < files.len() {
+        push_object(alloc, &mut entries, file, files[file])?;
+        file += 1;
     }
     Ok(entries)
 }
@@ -145,34 +139,21 @@ fn push_members<'a, A: Allocator + Copy>(
     }
 }
 
-/// The members of the files that are libraries or archives.
-fn member_entries<'a, A: Allocator + Copy>(
+/// The members of those files that are libraries or archives, from the one with this index on.
+pub(crate) fn member_entries<'a, A: Allocator + Copy>(
     alloc: A,
     files: &[&'a [u8]],
+    first: usize,
 ) -> Result<Vec<Entry<'a, A>, A>, StockFault>
-    ensures { MatchResult result (λ v. spec.members (bytes_of files.now) ≡ Ok (map entry_held v.items))
-        (λ fault. IsFault fault (spec.members (bytes_of files.now))) }
+    ensures { MatchResult result
+        (λ v. members_from first (bytes_of (drop first files.now)) ≡ Ok (map entry_held v.items))
+        (λ fault. IsFault fault (members_from first (bytes_of (drop first files.now)))) }
 {
     let mut entries = Vec::new(alloc);
-    for (file, bytes) in files.iter().enumerate() {
-        push_members(alloc, &mut entries, file, bytes)?;
+    let mut file = first;
+    while file < files.len() {
+        push_members(alloc, &mut entries, file, files[file])?;
+        file += 1;
     }
     Ok(entries)
-}
-
-/// The modules of files, by their kinds, with their names.
-///
-/// # Errors
-/// The first library or archive that is at fault, with its first fault.
-pub fn read_stock<'a, A: Allocator + Copy>(
-    alloc: A,
-    files: &[&'a [u8]],
-) -> Result<Stock<'a, A>, StockFault>
-    ensures objects { IfOk result (λ s. map entry_held s.objects.items ≡ objects (bytes_of files.now)) }
-    ensures members { MatchResult result (λ s. spec.members (bytes_of files.now) ≡ Ok (map entry_held s.members.items))
-        (λ fault. IsFault fault (spec.members (bytes_of files.now))) }
-{
-    let objects = object_entries(alloc, files)?;
-    let members = member_entries(alloc, files)?;
-    Ok(Stock { objects, members })
 }

@@ -1,31 +1,23 @@
 -- The members that modules take, one after the other.
-use Rattle.std.proofs.Common.{◌≡◌, ℕ, ◌+◌, ◌-◌, ◌<◌, ◌≤◌, Bool, true, false, cond, not, ◌&&◌, ◌||◌, List, [], ◌∷◌, ◌++◌}
-use Rattle.std.proofs.Common.{length, map, take, drop, get_or, Option, Some, None, is_some, refl, ap, sym, subst, ◌∙◌}
-use Rattle.std.proofs.Common.{append_assoc, arith, length-append}
-use Rattle.std.proofs.lemmas.List.{get_or-map, length-map, map-append, take_all, take_more, take-append-drop}
-use Rattle.std.proofs.lemmas.List.{take-append-le}
+use Rattle.std.proofs.Common.{◌≡◌, ℕ, ◌+◌, ◌<◌, ◌≤◌, Bool, true, false, cond, not, ◌&&◌, ◌||◌, List, [], ◌∷◌, ◌++◌}
+use Rattle.std.proofs.Common.{length, map, take, drop, get_or, slice_get, Option, Some, None, is_some, refl, ap, sym, subst, ◌∙◌}
+use Rattle.std.proofs.Common.{append_assoc, arith}
+use Rattle.std.proofs.lemmas.List.{get_or-map, length-map, take_all, take_more, take-append-drop}
 use Rattle.std.proofs.lemmas.List.Folds.{find-append}
 use Rattle.std.specs.List.{find}
 use Rattle.std.specs.Option.{option_and_then, option_map, option_or}
 use Rattle.omf_place.specs.declared.names.Names.{Names}
-use Rattle.omf_search.specs.declared.choosing.Choice as held
-use Rattle.omf_search.specs.declared.said.Said as said
 use Rattle.omf_search.specs.declared.said.Wanted as held_wanted
-use Rattle.omf_search.specs.Results.{module_said, wanted_said}
-use Rattle.omf_search.specs.Said.{Module, Wanted, is_offered, offers, wanted_names, wanted_of}
-use Rattle.omf_search.specs.Search.{Choice, Chooses, Member, choice, first_offering, next_choice, takes}
-use Rattle.omf_search.proofs.Slack.{slack, slack-taken}
-use Rattle.omf_search.proofs.TakenSteps.{is_offered-push, wanted_names-push}
-
--- the modules, and behind them what was taken
-abbrev pub with_chosen : List Module → List held.Choice → List Module
-with_chosen ms cs = ms ++ map (λ c. module_said c.member.says) cs
-
-pub with_chosen-push : (ms : List Module) (cs : List held.Choice) (c : held.Choice)
-    → with_chosen ms (cs ++ c ∷ []) ≡ with_chosen ms cs ++ module_said c.member.says ∷ []
-with_chosen-push ms cs c =
-    ap (λ xs. ms ++ xs) (map-append (λ c. module_said c.member.says) cs (c ∷ []))
-    ∙ sym (append_assoc ms (map (λ c. module_said c.member.says) cs) (module_said c.member.says ∷ []))
+use Rattle.omf_search.specs.declared.searching.Found.{Found}
+use Rattle.omf_search.specs.Places.{place_from}
+use Rattle.omf_search.specs.Results.{wanted_said}
+use Rattle.omf_search.specs.Said.{Module, Wanted, defines, is_defined, offers}
+use Rattle.omf_search.specs.Search.{Choice, Member, choice, first_offering, next_choice, takes}
+use Rattle.omf_search.specs.Searching.{choice_found}
+use Rattle.omf_search.specs.Wanted.{wanted_names}
+use Rattle.omf_search.proofs.Joining.{wanted-front}
+use Rattle.omf_search.proofs.Placing.{found_place}
+use Rattle.omf_search.proofs.TakenSteps.{is_defined-push}
 
 pub find-passes : {X : Type 0} (p : X → Bool) (xs : List X) (x : X) → find p xs ≡ Some x → p x ≡ true
 find-passes p [] x e = absurd (let u : None ≡ Some x = e in cc)
@@ -43,17 +35,17 @@ module _ (names : Names) (bs : List Member) where
   takes-less : (ms : List Module) (m : Module) (w : Wanted) → takes names bs ms w ≡ false
       → takes names bs (ms ++ m ∷ []) w ≡ false
   takes-less ms m w e =
-      (elim (is_offered names ms w.name) as (λ b.
-      is_offered names ms w.name ≡ b → (not b && is_some (first_offering names bs w.name)) ≡ false
+      (elim (is_defined names ms w.name) as (λ b.
+      is_defined names ms w.name ≡ b → (not b && is_some (first_offering names bs w.name)) ≡ false
       → takes names bs (ms ++ m ∷ []) w ≡ false) [
         | true ↦
             λ t u.
             ap (λ b. not b && is_some (first_offering names bs w.name))
-            (is_offered-push names ms m w.name ∙ ap (λ b. b || offers names w.name m) t)
+            (is_defined-push names ms m w.name ∙ ap (λ b. b || defines names w.name m) t)
         | false ↦
             λ t u.
-            ap (λ b. not (is_offered names (ms ++ m ∷ []) w.name) && b) u
-            ∙ and-false (not (is_offered names (ms ++ m ∷ []) w.name))
+            ap (λ b. not (is_defined names (ms ++ m ∷ []) w.name) && b) u
+            ∙ and-false (not (is_defined names (ms ++ m ∷ []) w.name))
       ]) refl e
     where
       and-false : (b : Bool) → (b && false) ≡ false
@@ -85,13 +77,13 @@ module _ (names : Names) (bs : List Member) where
       ∙ ap (λ b. cond b (Some w) None) t
 
   -- a wanted name that takes nothing
-  pub untaken : (ms : List Module) (i : ℕ) (w d : Wanted) → i < length (wanted_names ms) →
-      w ≡ get_or (wanted_names ms) i d → find (takes names bs ms) (take i (wanted_names ms)) ≡ None →
-      None ≡ cond (is_offered names ms w.name) None (first_offering names bs w.name) →
-      find (takes names bs ms) (take (i + 1) (wanted_names ms)) ≡ None
+  pub untaken : (ms : List Module) (i : ℕ) (w d : Wanted) → i < length (wanted_names names ms) →
+      w ≡ get_or (wanted_names names ms) i d → find (takes names bs ms) (take i (wanted_names names ms)) ≡ None →
+      None ≡ cond (is_defined names ms w.name) None (first_offering names bs w.name) →
+      find (takes names bs ms) (take (i + 1) (wanted_names names ms)) ≡ None
   untaken ms i w d h e none is =
-      find-more ms (wanted_names ms) i w d h e none
-      (by (is_offered names ms w.name) (first_offering names bs w.name) is)
+      find-more ms (wanted_names names ms) i w d h e none
+      (by (is_defined names ms w.name) (first_offering names bs w.name) is)
     where
       by : (b : Bool) (o : Option Member) → None ≡ cond b None o → (not b && is_some o) ≡ false
       by true o u = refl
@@ -99,11 +91,11 @@ module _ (names : Names) (bs : List Member) where
       by false (Some x) u = cc
 
   -- a wanted name that takes a member
-  module _ (ms : List Module) (i : ℕ) (w d : Wanted) (b : Member) (h : i < length (wanted_names ms))
-      (e : w ≡ get_or (wanted_names ms) i d) (none : find (takes names bs ms) (take i (wanted_names ms)) ≡ None)
-      (is : Some b ≡ cond (is_offered names ms w.name) None (first_offering names bs w.name)) where
-    pub not_offered : is_offered names ms w.name ≡ false
-    not_offered = by (is_offered names ms w.name) is
+  module _ (ms : List Module) (i : ℕ) (w d : Wanted) (b : Member) (h : i < length (wanted_names names ms))
+      (e : w ≡ get_or (wanted_names names ms) i d) (none : find (takes names bs ms) (take i (wanted_names names ms)) ≡ None)
+      (is : Some b ≡ cond (is_defined names ms w.name) None (first_offering names bs w.name)) where
+    pub not_offered : is_defined names ms w.name ≡ false
+    not_offered = by (is_defined names ms w.name) is
       where
         by : (t : Bool) → Some b ≡ cond t None (first_offering names bs w.name) → t ≡ false
         by true u = absurd (let v : Some b ≡ None = u in cc)
@@ -114,15 +106,15 @@ module _ (names : Names) (bs : List Member) where
 
     pub chosen_next : next_choice names bs ms ≡ Some (record { wanted = w; taken = b })
     chosen_next =
-        let whole : wanted_names ms ≡ take i (wanted_names ms) ++ w ∷ drop (i + 1) (wanted_names ms) =
-        split i (wanted_names ms) w d h e in
+        let whole : wanted_names names ms ≡ take i (wanted_names names ms) ++ w ∷ drop (i + 1) (wanted_names names ms) =
+        split i (wanted_names names ms) w d h e in
         let takes_it : takes names bs ms w ≡ true =
         ap (λ t. not t && is_some (first_offering names bs w.name)) not_offered ∙ ap is_some found in
-        let first : find (takes names bs ms) (wanted_names ms) ≡ Some w =
+        let first : find (takes names bs ms) (wanted_names names ms) ≡ Some w =
         ap (find (takes names bs ms)) whole
-        ∙ find-append (takes names bs ms) (take i (wanted_names ms)) (w ∷ drop (i + 1) (wanted_names ms))
-        ∙ ap (λ o. option_or o (find (takes names bs ms) (w ∷ drop (i + 1) (wanted_names ms)))) none
-        ∙ ap (λ t. cond t (Some w) (find (takes names bs ms) (drop (i + 1) (wanted_names ms)))) takes_it in
+        ∙ find-append (takes names bs ms) (take i (wanted_names names ms)) (w ∷ drop (i + 1) (wanted_names names ms))
+        ∙ ap (λ o. option_or o (find (takes names bs ms) (w ∷ drop (i + 1) (wanted_names names ms)))) none
+        ∙ ap (λ t. cond t (Some w) (find (takes names bs ms) (drop (i + 1) (wanted_names names ms)))) takes_it in
         ap (option_and_then (choice names bs)) first ∙ ap (option_map (λ b. record { wanted = w; taken = b })) found
       where
         split : (i : ℕ) (ws : List Wanted) (w d : Wanted) → i < length ws → w ≡ get_or ws i d
@@ -132,44 +124,20 @@ module _ (names : Names) (bs : List Member) where
             ∙ ap (λ front. front ++ drop (i + 1) ws) (take_more ws i d h ∙ ap (λ v. take i ws ++ v ∷ []) (sym e))
             ∙ append_assoc (take i ws) (w ∷ []) (drop (i + 1) ws)
 
-    pub settled_next : find (takes names bs (ms ++ b.says ∷ [])) (take (i + 1) (wanted_names (ms ++ b.says ∷ [])))
-        ≡ None
-    settled_next =
-        let ms' = ms ++ b.says ∷ [] in
-        let front : take (i + 1) (wanted_names ms') ≡ take (i + 1) (wanted_names ms) =
-        ap (take (i + 1)) (wanted_names-push ms b.says)
-        ∙ take-append-le (i + 1) (wanted_names ms) (wanted_of (length ms, b.says)) (omega arith) in
-        let offered : is_offered names ms' w.name ≡ true =
-        is_offered-push names ms b.says w.name ∙ ap (λ t. t || offers names w.name b.says) not_offered
-        ∙ offering-offers w.name b found in
-        ap (find (takes names bs ms')) front
-        ∙ find-more ms' (wanted_names ms) i w d h e (settled ms b.says (take i (wanted_names ms)) none)
-        (ap (λ t. not t && is_some (first_offering names bs w.name)) offered)
+  -- names that take nothing take nothing once a module joins
+  pub settled_more : (ms : List Module) (m : Module) (i : ℕ) → i ≤ length (wanted_names names ms)
+      → find (takes names bs ms) (take i (wanted_names names ms)) ≡ None
+      → find (takes names bs (ms ++ m ∷ [])) (take i (wanted_names names (ms ++ m ∷ []))) ≡ None
+  settled_more ms m i h none =
+      ap (find (takes names bs (ms ++ m ∷ []))) (wanted-front names ms m i h)
+      ∙ settled ms m (take i (wanted_names names ms)) none
 
   -- with all wanted names settled, nothing is taken
-  pub ended : (ms : List Module) (i : ℕ) → length (wanted_names ms) ≤ i
-      → find (takes names bs ms) (take i (wanted_names ms)) ≡ None → Chooses names bs ms []
+  pub ended : (ms : List Module) (i : ℕ) → length (wanted_names names ms) ≤ i
+      → find (takes names bs ms) (take i (wanted_names names ms)) ≡ None → next_choice names bs ms ≡ None
   ended ms i h none =
       ap (option_and_then (choice names bs))
-      (sym (ap (find (takes names bs ms)) (take_all i (wanted_names ms) h)) ∙ none)
-
-  -- one more choice behind those before
-  pub chosen_more : (start ms ms' : List Module) (done : List Choice) (c : Choice) →
-      ((cs : List Choice) → Chooses names bs ms cs → Chooses names bs start (done ++ cs)) →
-      next_choice names bs ms ≡ Some c → ms' ≡ ms ++ c.taken.says ∷ [] →
-      (cs : List Choice) → Chooses names bs ms' cs → Chooses names bs start ((done ++ c ∷ []) ++ cs)
-  chosen_more start ms ms' done c so_far next e cs rest =
-      subst (Chooses names bs start) (sym (append_assoc done (c ∷ []) cs))
-      (so_far (c ∷ cs) (next, subst (λ ns. Chooses names bs ns cs) e rest))
-
--- how many modules there are
-pub with_chosen-len : (modules : List said.Said) (cs : List held.Choice)
-    → length (with_chosen (map module_said modules) cs) ≡ length modules + length cs
-with_chosen-len modules cs =
-    let one = length-append (map module_said modules) (map (λ (c : held.Choice). module_said c.member.says) cs) in
-    let two = length-map modules module_said in
-    let three = length-map cs (λ (c : held.Choice). module_said c.member.says) in
-    omega (arith, one, two, three)
+      (sym (ap (find (takes names bs ms)) (take_all i (wanted_names names ms) h)) ∙ none)
 
 -- wanted names as the code holds them
 module _ (items : List held_wanted.Wanted) (ws : List Wanted) (i : ℕ) (is : map wanted_said items ≡ ws)
@@ -186,18 +154,61 @@ pub wanted_past : (items : List held_wanted.Wanted) (ws : List Wanted) (i : ℕ)
 wanted_past items ws i is h =
     let len : length items ≡ length ws = sym (length-map items wanted_said) ∙ ap length is in omega arith
 
--- a member that is taken brings no more to search than it takes away
-pub smaller_taken : (names : Names) (bs : List Member) (ms : List Module) (items more : List held_wanted.Wanted) (i : ℕ)
-    (n : List ℕ) (b : Member) → i < length items →
-    map wanted_said items ≡ wanted_names ms → map wanted_said more ≡ wanted_names (ms ++ b.says ∷ []) →
-    first_offering names bs n ≡ Some b → is_offered names ms n ≡ false →
-    (length more - (i + 1)) + slack names (ms ++ b.says ∷ []) bs < (length items - i) + slack names ms bs
-smaller_taken names bs ms items more i n b h was is found missing =
-    let before : length items ≡ length (wanted_names ms) = sym (length-map items wanted_said) ∙ ap length was in
-    let own : length (wanted_of (length ms, b.says)) ≡ length b.says.wanted =
-    length-map b.says.wanted (λ n. let w : Wanted = record { name = n; wanted_by = length ms } in w) in
-    let after : length more ≡ length (wanted_names ms) + length (wanted_of (length ms, b.says)) =
-    sym (length-map more wanted_said) ∙ ap length (is ∙ wanted_names-push ms b.says)
-    ∙ length-append (wanted_names ms) (wanted_of (length ms, b.says)) in
-    let less = slack-taken names ms bs n b found missing in
-    omega arith
+-- ---- a place among members
+
+pub place_some : {X : Type 0} (n : ℕ) (p : X → Bool) (xs : List X) (k : ℕ) → place_from n p xs ≡ Some k
+    → is_some (find p xs) ≡ true
+place_some n p [] k e = absurd (let u : None ≡ Some k = e in cc)
+place_some n p (x ∷ xs) k e =
+    (elim (p x) as (λ b. cond b (Some n) (place_from (n + 1) p xs) ≡ Some k → is_some (cond b (Some x) (find p xs)) ≡ true)
+    [ true ↦ λ u. refl | false ↦ λ u. place_some (n + 1) p xs k u ]) e
+
+is-some : {X : Type 0} (o : Option X) → is_some o ≡ true → (x : X) × (o ≡ Some x)
+is-some None e = absurd (let u : false ≡ true = e in cc)
+is-some (Some x) e = (x, refl)
+
+place-found : (is : Bool) (o : Option ℕ) (k : ℕ) → Some k ≡ cond is None o → (is ≡ false) × (o ≡ Some k)
+place-found true o k e = absurd (let u : Some k ≡ None = e in cc)
+place-found false o k e = (refl, sym e)
+
+module _ (names : Names) (bs : List Member) (ms : List Module) where
+  -- the member at a place, which a wanted name takes
+  pub found_next : (i : ℕ) (w d : Wanted) (f : Found) → i < length (wanted_names names ms)
+      → w ≡ get_or (wanted_names names ms) i d
+      → find (takes names bs ms) (take i (wanted_names names ms)) ≡ None
+      → w ≡ record { name = f.name.now; wanted_by = f.wanted_by }
+      → Some f.member
+      ≡ cond (is_defined names ms w.name) None (place_from 0 (λ (b : Member). offers names w.name b.says) bs)
+      → choice_found bs (Some f) ≡ next_choice names bs ms
+  found_next i w d f h e none own is =
+      let test : Member → Bool = λ b. offers names w.name b.says in
+      let both = place-found (is_defined names ms w.name) (place_from 0 test bs) f.member is in
+      let at : first_offering names bs w.name ≡ slice_get bs f.member =
+      found_place test bs (Some f.member) (sym both.1) in
+      let there = is-some (find test bs) (place_some 0 test bs f.member both.1) in
+      let chosen : next_choice names bs ms ≡ Some (record { wanted = w; taken = there.0 }) =
+      chosen_next names bs ms i w d there.0 h e none
+      (sym there.1 ∙ ap (λ t. cond t None (first_offering names bs w.name)) (sym both.0)) in
+      ap
+      (option_map (λ (b : Member).
+      let c : Choice = record { wanted = record { name = f.name.now; wanted_by = f.wanted_by }; taken = b } in c))
+      (sym at ∙ there.1)
+      ∙ ap (λ (v : Wanted). Some (let c : Choice = record { wanted = v; taken = there.0 } in c)) (sym own) ∙ sym chosen
+
+  -- a wanted name that takes none
+  pub unfound_next : (i : ℕ) (w d : Wanted) → i < length (wanted_names names ms)
+      → w ≡ get_or (wanted_names names ms) i d
+      → find (takes names bs ms) (take i (wanted_names names ms)) ≡ None
+      → None
+      ≡ cond (is_defined names ms w.name) None (place_from 0 (λ (b : Member). offers names w.name b.says) bs)
+      → find (takes names bs ms) (take (i + 1) (wanted_names names ms)) ≡ None
+  unfound_next i w d h e none is =
+      let test : Member → Bool = λ b. offers names w.name b.says in
+      untaken names bs ms i w d h e none
+      (by (is_defined names ms w.name) (place_from 0 test bs) (first_offering names bs w.name) is
+      (λ u. found_place test bs None (sym u)))
+    where
+      by : (t : Bool) (o : Option ℕ) (f : Option Member) → None ≡ cond t None o → (o ≡ None → f ≡ None)
+          → None ≡ cond t None f
+      by true o f u g = refl
+      by false o f u g = sym (g (sym u))

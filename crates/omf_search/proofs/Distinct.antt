@@ -1,23 +1,40 @@
 -- Wanted names, each once, one after the other.
 use Rattle.std.proofs.Common.{◌≡◌, ℕ, ◌+◌, ◌<◌, ◌≤◌, Bool, true, false, cond, not, ◌&&◌, ◌||◌, nat_eq, List, [], ◌∷◌}
-use Rattle.std.proofs.Common.{◌++◌, length, map, take, get_or, refl, ap, sym, ◌∙◌, arith}
+use Rattle.std.proofs.Common.{◌++◌, length, map, take, get_or, refl, ap, ap₂, sym, ◌∙◌, arith}
 use Rattle.std.proofs.lemmas.List.{append-nil, length-map, map-append, take_all, take_more}
 use Rattle.std.proofs.lemmas.List.Elements.{filter-append}
 use Rattle.std.proofs.lemmas.List.Folds.{list_any-append}
 use Rattle.std.specs.List.{filter, list_any}
 use Rattle.omf_place.specs.declared.names.Names.{Names}
 use Rattle.std.specs.Borrow.{Bor}
-use Rattle.std.specs.Cmp.{nat_eq_equiv}
-use Rattle.omf_search.specs.inside.Keys.{key_of, same_key}
-use Rattle.omf_search.specs.inside.Met.{same_wanted}
+use Rattle.std.specs.Cmp.{nat_eq_equiv, unsigned_tied}
+use Rattle.std.specs.Cmp.Lexicographic.{texts_ties}
+use Rattle.std.specs.declared.cmp.Ordering.{Ordering}
+use Rattle.std.specs.declared.cmp.Ordering.TheVariants.{Less, Equal, Greater}
+use Rattle.std.specs.Ordering.{is_eq, nat_cmp, ordering_then}
+use Rattle.omf_search.specs.Keys.{key_of, key_order, key_text}
+use Rattle.omf_search.specs.inside.Same.{same_key}
+use Rattle.omf_search.specs.inside.Met.{same_wanted, wanted_order}
 use Rattle.omf_search.specs.declared.key.Key.{Key}
 use Rattle.omf_search.specs.declared.said.Wanted as held
 use Rattle.omf_search.specs.declared.unmet.WantedKey.{WantedKey}
 use Rattle.omf_search.specs.Missing.{distinct, is_same, missing_names}
 use Rattle.omf_search.specs.Results.{wanted_said}
-use Rattle.omf_search.specs.Said.{Module, Wanted, is_offered, wanted_names}
+use Rattle.omf_search.specs.Said.{Module, Wanted, is_defined}
+use Rattle.omf_search.specs.Wanted.{wanted_names}
 use Rattle.omf_search.proofs.ChoiceSteps.{wanted_at, wanted_within}
 use Rattle.omf_search.proofs.Agreeing.{keys_agree, names_agree}
+
+both-equal : (a b : Ordering) → is_eq (ordering_then a b) ≡ (is_eq a && is_eq b)
+both-equal Less b = refl
+both-equal Equal b = refl
+both-equal Greater b = refl
+
+-- keys that stand at one place are one
+pub wanted_stands : (x y : WantedKey) → is_eq (wanted_order x y) ≡ same_wanted x y
+wanted_stands x y =
+    both-equal (nat_cmp x.wanted_by y.wanted_by) (key_order x.key y.key)
+    ∙ ap₂ (λ a b. a && b) (unsigned_tied x.wanted_by y.wanted_by) (sym (texts_ties (key_text x.key) (key_text y.key)))
 
 -- the names of some that were found, and the keys that were met
 pub record IsFound (names : Names) (left : List Wanted) (missing : List held.Wanted) (known : WantedKey → Bool)
@@ -45,31 +62,31 @@ module _ (names : Names) where
       ∙ ap (λ vs. w ∷ (filter test (distinct names ws) ++ vs))
       (left_out (list_any (is_same names x) ws) (is_same names x w) x (filter test) refl refl)
 
-  -- the names that modules want and none offers
-  abbrev pub unoffered : List Module → List Wanted → List Wanted
-  unoffered ms ws = filter (λ w. not (is_offered names ms w.name)) ws
+  -- the names that modules want and none defines
+  abbrev pub undefined : List Module → List Wanted → List Wanted
+  undefined ms ws = filter (λ w. not (is_defined names ms w.name)) ws
 
-  unoffered-push : (ms : List Module) (ws : List Wanted) (w : Wanted) (b : Bool) → is_offered names ms w.name ≡ b
-      → unoffered ms (ws ++ w ∷ []) ≡ unoffered ms ws ++ cond (not b) (w ∷ []) []
-  unoffered-push ms ws w b e =
-      filter-append (λ w. not (is_offered names ms w.name)) ws (w ∷ [])
-      ∙ ap (λ t. unoffered ms ws ++ cond (not t) (w ∷ []) []) e
+  undefined-push : (ms : List Module) (ws : List Wanted) (w : Wanted) (b : Bool) → is_defined names ms w.name ≡ b
+      → undefined ms (ws ++ w ∷ []) ≡ undefined ms ws ++ cond (not b) (w ∷ []) []
+  undefined-push ms ws w b e =
+      filter-append (λ w. not (is_defined names ms w.name)) ws (w ∷ [])
+      ∙ ap (λ t. undefined ms ws ++ cond (not t) (w ∷ []) []) e
 
-  -- a name that is offered adds nothing
-  pub offered-turn : (ms : List Module) (ws : List Wanted) (i : ℕ) (w d : Wanted) → i < length ws → w ≡ get_or ws i d →
-      is_offered names ms w.name ≡ true →
-      unoffered ms (take (i + 1) ws) ≡ unoffered ms (take i ws)
-  offered-turn ms ws i w d h e t =
-      ap (unoffered ms) (take_more ws i d h ∙ ap (λ v. take i ws ++ v ∷ []) (sym e))
-      ∙ unoffered-push ms (take i ws) w true t ∙ append-nil (unoffered ms (take i ws))
+  -- a name that is defined adds nothing
+  pub defined-turn : (ms : List Module) (ws : List Wanted) (i : ℕ) (w d : Wanted) → i < length ws → w ≡ get_or ws i d →
+      is_defined names ms w.name ≡ true →
+      undefined ms (take (i + 1) ws) ≡ undefined ms (take i ws)
+  defined-turn ms ws i w d h e t =
+      ap (undefined ms) (take_more ws i d h ∙ ap (λ v. take i ws ++ v ∷ []) (sym e))
+      ∙ undefined-push ms (take i ws) w true t ∙ append-nil (undefined ms (take i ws))
 
   -- one that isn't stands behind the others
-  pub unoffered-turn : (ms : List Module) (ws : List Wanted) (i : ℕ) (w d : Wanted) → i < length ws →
-      w ≡ get_or ws i d → is_offered names ms w.name ≡ false →
-      unoffered ms (take (i + 1) ws) ≡ unoffered ms (take i ws) ++ w ∷ []
-  unoffered-turn ms ws i w d h e t =
-      ap (unoffered ms) (take_more ws i d h ∙ ap (λ v. take i ws ++ v ∷ []) (sym e))
-      ∙ unoffered-push ms (take i ws) w false t
+  pub undefined-turn : (ms : List Module) (ws : List Wanted) (i : ℕ) (w d : Wanted) → i < length ws →
+      w ≡ get_or ws i d → is_defined names ms w.name ≡ false →
+      undefined ms (take (i + 1) ws) ≡ undefined ms (take i ws) ++ w ∷ []
+  undefined-turn ms ws i w d h e t =
+      ap (undefined ms) (take_more ws i d h ∙ ap (λ v. take i ws ++ v ∷ []) (sym e))
+      ∙ undefined-push ms (take i ws) w false t
 
   -- a wanted name as a key
   key-same : (q n : Bor (List ℕ)) (m k : ℕ)
@@ -104,19 +121,19 @@ module _ (names : Names) where
 
   -- a name that is missing
   module _ (ms : List Module) (items : List held.Wanted) (i : ℕ) (d : held.Wanted) (h : i < length items)
-      (missed : is_offered names ms (get_or items i d).name.now ≡ false) where
+      (missed : is_defined names ms (get_or items i d).name.now ≡ false) where
     abbrev here : held.Wanted
     here = get_or items i d
 
     abbrev before : List Wanted
-    before = unoffered ms (take i (map wanted_said items))
+    before = undefined ms (take i (map wanted_said items))
 
     abbrev after : List Wanted
-    after = unoffered ms (take (i + 1) (map wanted_said items))
+    after = undefined ms (take (i + 1) (map wanted_said items))
 
     grown : after ≡ before ++ wanted_said here ∷ []
     grown =
-        unoffered-turn ms (map wanted_said items) i (wanted_said here) (wanted_said d)
+        undefined-turn ms (map wanted_said items) i (wanted_said here) (wanted_said d)
         (wanted_within items (map wanted_said items) i refl h) (wanted_at items (map wanted_said items) i refl h d)
         missed
 
@@ -192,8 +209,8 @@ module _ (names : Names) where
 
   -- with all wanted names met
   pub all_missing : (ms : List Module) (items : List held.Wanted) (i : ℕ) → length items ≤ i →
-      map wanted_said items ≡ wanted_names ms →
-      distinct names (unoffered ms (take i (map wanted_said items))) ≡ missing_names names ms
+      map wanted_said items ≡ wanted_names names ms →
+      distinct names (undefined ms (take i (map wanted_said items))) ≡ missing_names names ms
   all_missing ms items i h is =
       let past : length (map wanted_said items) ≤ i = (let len = length-map items wanted_said in omega arith) in
-      ap (λ ws. distinct names (unoffered ms ws)) (take_all i (map wanted_said items) past ∙ is)
+      ap (λ ws. distinct names (undefined ms ws)) (take_all i (map wanted_said items) past ∙ is)

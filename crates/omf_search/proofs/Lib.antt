@@ -1,9 +1,12 @@
-pub mod Results
 pub mod Agreeing
+pub mod InOrder
 pub mod TakenSteps
-pub mod OfferSteps
-pub mod ChoiceSteps
+pub mod Placing
+pub mod MetSteps
+pub mod Joining
 pub mod Slack
-pub mod Distinct
+pub mod Results
+pub mod ChoiceSteps
 pub mod ChoiceLaws
 pub mod LikeSteps
+pub mod Distinct

@@ -1,6 +1,6 @@
 -- Offered names that are like others, one after the other.
-use Rattle.std.proofs.Common.{◌≡◌, ℕ, zero, suc, ◌+◌, ◌<◌, ◌≤◌, Bool, true, false, cond, ◌&&◌, ◌||◌, eqb, List, [], ◌∷◌}
-use Rattle.std.proofs.Common.{◌++◌, length, map, take, get_or, slice_get, Option, Some, None, is_some, IfSome}
+use Rattle.std.proofs.Common.{◌≡◌, ℕ, ◌+◌, ◌<◌, ◌≤◌, Bool, true, false, cond, ◌&&◌, ◌||◌, eqb, List, [], ◌∷◌}
+use Rattle.std.proofs.Common.{◌++◌, length, map, take, get_or, slice_get, Option, Some, None, IfSome}
 use Rattle.std.proofs.Common.{MatchOption, HoldsAt, option_copied, refl, ap, sym, subst, ◌∙◌, append_assoc, arith}
 use Rattle.std.proofs.lemmas.List.{append-nil, map-append, take_all}
 use Rattle.std.proofs.lemmas.Bool.{eqb-true}
@@ -10,69 +10,29 @@ use Rattle.std.proofs.lemmas.Option.{slice_get-map, slice_get_past, slice_get_re
 use Rattle.std.specs.Borrow.{Bor}
 use Rattle.std.specs.Char.{to_ascii_lowercase}
 use Rattle.std.specs.List.{enumerate_from, find, flat_map}
-use Rattle.std.specs.Map.{lookup}
-use Rattle.std.specs.Option.{option_and_then, option_map, option_or}
+use Rattle.std.specs.Option.{option_map, option_or}
 use Rattle.std.specs.Str.{bytes_eq}
 use Rattle.omf_place.specs.Names.{agrees}
 use Rattle.omf_place.specs.inside.Named.{folded}
 use Rattle.omf_place.specs.declared.names.Names.TheVariants as by
-use Rattle.omf_search.specs.declared.key.Key.{Key}
-use Rattle.omf_search.specs.declared.key.Key.TheVariants.{AsciiFolded}
 use Rattle.omf_search.specs.declared.likeness.Whose.TheVariants as whose
 use Rattle.omf_search.specs.declared.likeness.Offered as held
-use Rattle.omf_search.specs.inside.Keys.{same_key}
-use Rattle.omf_search.specs.inside.Likeness.{behind, is_behind, lesser, like_among, place_from}
+use Rattle.omf_search.specs.inside.Likeness.{behind, is_behind, lesser, like_among}
+use Rattle.omf_search.specs.Places.{place_from}
 use Rattle.omf_search.specs.Likeness.{Offered, is_like, offered_names, offered_of}
 use Rattle.omf_search.specs.declared.said.Member as held_member
 use Rattle.omf_search.specs.declared.said.Said as held_said
 use Rattle.omf_search.specs.Results.{bytes_of, member_said, module_said, offered_said}
 use Rattle.omf_search.specs.Said.{Module}
 use Rattle.omf_search.specs.Search.{Member}
-use Rattle.omf_search.proofs.Agreeing.{keys_are_one, names_agree, same_value}
-use Rattle.omf_search.proofs.TakenSteps.{flat-push, length_front, map_more}
-
--- a value that is kept where there is one, and added where there is none
-pub inserted : {X : Type 0} (v : X) (hit found : Bool) (old new : Option X) → (found ≡ true → new ≡ old) →
-    (found ≡ false → new ≡ cond hit (Some v) old) → (hit ≡ true → is_some old ≡ found) →
-    new ≡ option_or old (cond hit (Some v) None)
-inserted v hit true (Some x) new kept added same = kept refl
-inserted v hit false None new kept added same = added refl
-inserted v true false (Some x) new kept added same = absurd (let u : true ≡ false = same refl in cc)
-inserted v false false (Some x) new kept added same = added refl
-inserted v true true None new kept added same = absurd (let u : false ≡ true = same refl in cc)
-inserted v false true None new kept added same = kept refl
-
-pub two_hits : {X : Type 0} (v : X) (a : Option X) (one other : Bool)
-    → option_or (option_or a (cond one (Some v) None)) (cond other (Some v) None)
-    ≡ option_or a (cond (one || other) (Some v) None)
-two_hits v (Some x) one other = refl
-two_hits v None true other = refl
-two_hits v None false other = refl
+use Rattle.omf_search.proofs.Agreeing.{names_agree}
+use Rattle.omf_search.proofs.Placing.{found_place, place_from-le, place_from-more}
+use Rattle.omf_search.proofs.TakenSteps.{flat-push, length_front, map_more, two_hits}
 
 pub one_hit : {X : Type 0} (v : X) (a : Option X) (one : Bool)
     → option_or a (cond one (Some v) None) ≡ option_or a (cond (one || false) (Some v) None)
 one_hit v a true = refl
 one_hit v a false = refl
-
-place_from-push : {X : Type 0} (n m : ℕ) (test : X → Bool) (xs : List X) (x : X) → m ≡ n + length xs →
-    place_from n test (xs ++ x ∷ []) ≡ option_or (place_from n test xs) (cond (test x) (Some m) None)
-place_from-push n m test [] x e = let same : n ≡ m = omega arith in ap (λ k. cond (test x) (Some k) None) same
-place_from-push n m test (y ∷ ys) x e =
-    elim (test y) as (λ b.
-    cond b (Some n) (place_from (n + 1) test (ys ++ x ∷ []))
-    ≡ option_or (cond b (Some n) (place_from (n + 1) test ys)) (cond (test x) (Some m) None)) [
-      | true ↦ refl
-      | false ↦ place_from-push (n + 1) m test ys x (omega arith)
-    ]
-
--- the place of one more element
-pub place_from-more : {X Y : Type 0} (test : Y → Bool) (f : X → Y) (xs : List X) (i : ℕ) (d : X) → i < length xs →
-    place_from 0 test (map f (take (i + 1) xs))
-    ≡ option_or (place_from 0 test (map f (take i xs))) (cond (test (f (get_or xs i d))) (Some i) None)
-place_from-more test f xs i d h =
-    let len = length_front f xs i h in
-    ap (place_from 0 test) (map_more f xs i d h)
-    ∙ place_from-push 0 i test (map f (take i xs)) (f (get_or xs i d)) (omega arith)
 
 -- an underscore has no other case
 under-lower : (b : ℕ) → eqb 95 (to_ascii_lowercase b) ≡ eqb b 95
@@ -92,14 +52,6 @@ behind-none one (b ∷ bs) e =
     let other : eqb b 95 ≡ false =
     (elim (eqb b 95) as (λ t. cond t (Some bs) None ≡ None → t ≡ false) [ true ↦ λ u. cc | false ↦ λ u. refl ]) e in
     ap (λ t. t && bytes_eq (folded one) (folded bs)) (under-lower b ∙ other)
-
-place_from-le : {X : Type 0} (n : ℕ) (test : X → Bool) (xs : List X) (k : ℕ) → place_from n test xs ≡ Some k → n ≤ k
-place_from-le n test [] k e = absurd (let u : None ≡ Some k = e in cc)
-place_from-le n test (x ∷ xs) k e =
-    (elim (test x) as (λ b. cond b (Some n) (place_from (n + 1) test xs) ≡ Some k → n ≤ k) [
-      | true ↦ λ u. let same : n ≡ k = cc in omega arith
-      | false ↦ λ u. let more = place_from-le (n + 1) test xs k u in omega arith
-    ]) e
 
 lesser-first : (n : ℕ) (o : Option ℕ) → ((k : ℕ) → o ≡ Some k → n ≤ k) → lesser (Some n) o ≡ Some n
 lesser-first n None h = refl
@@ -174,47 +126,6 @@ like_without name os e =
     (sym
     (ap (λ b. agrees by.AsciiFolded (95 ∷ name) o.name || b) never
     ∙ or-false (agrees by.AsciiFolded (95 ∷ name) o.name))))
-
-found_at : {X : Type 0} (n : ℕ) (p : X → Bool) (xs : List X) (m : ℕ) → place_from n p xs ≡ Some (n + m)
-    → find p xs ≡ slice_get xs m
-found_at n p [] m e = absurd (let u : None ≡ Some (n + m) = e in cc)
-found_at n p (x ∷ xs) zero e =
-    (elim (p x) as (λ b.
-    cond b (Some n) (place_from (n + 1) p xs) ≡ Some (n + 0) → cond b (Some x) (find p xs) ≡ Some x) [
-      | true ↦ λ u. refl
-      | false ↦ λ u. absurd (let more = place_from-le (n + 1) p xs (n + 0) u in omega arith)
-    ]) e
-found_at n p (x ∷ xs) (suc m) e =
-    (elim (p x) as (λ b.
-    cond b (Some n) (place_from (n + 1) p xs) ≡ Some (n + suc m) → cond b (Some x) (find p xs) ≡ slice_get xs m) [
-      | true ↦ λ u. absurd (let same : n ≡ n + suc m = cc in omega arith)
-      | false ↦ λ u. let k : n + suc m ≡ (n + 1) + m = omega arith in found_at (n + 1) p xs m (u ∙ ap (λ j. Some j) k)
-    ]) e
-
-not_found : {X : Type 0} (n : ℕ) (p : X → Bool) (xs : List X) → place_from n p xs ≡ None → find p xs ≡ None
-not_found n p [] e = refl
-not_found n p (x ∷ xs) e =
-    (elim (p x) as (λ b. cond b (Some n) (place_from (n + 1) p xs) ≡ None → cond b (Some x) (find p xs) ≡ None) [
-      | true ↦ λ u. cc
-      | false ↦ λ u. not_found (n + 1) p xs u
-    ]) e
-
--- the first that passes stands at its place
-pub found_place : {X : Type 0} (p : X → Bool) (xs : List X) (o : Option ℕ) → o ≡ place_from 0 p xs
-    → find p xs ≡ option_and_then (slice_get xs) o
-found_place p xs None e = not_found 0 p xs (sym e)
-found_place p xs (Some k) e = let z : k ≡ 0 + k = omega arith in found_at 0 p xs k (sym e ∙ ap (λ j. Some j) z)
-
--- a key with a place, unless it has one
-pub inserted_key : (key k : Key) (v : ℕ) (old new : List (Key × ℕ)) →
-    (is_some (lookup (same_key key) old) ≡ true → lookup (same_key k) new ≡ lookup (same_key k) old) →
-    (is_some (lookup (same_key key) old) ≡ false →
-    lookup (same_key k) new ≡ cond (same_key key k) (Some v) (lookup (same_key k) old)) →
-    lookup (same_key k) new ≡ option_or (lookup (same_key k) old) (cond (same_key k key) (Some v) None)
-inserted_key key k v old new kept added =
-    inserted v (same_key key k) (is_some (lookup (same_key key) old)) (lookup (same_key k) old)
-    (lookup (same_key k) new) kept added (λ t. ap is_some (sym (same_value old key k t)))
-    ∙ ap (λ b. option_or (lookup (same_key k) old) (cond b (Some v) None)) (keys_are_one.symm key k)
 
 -- what modules offer, with one more
 pub modules-push : (ms : List Module) (m : Module) →
@@ -316,44 +227,23 @@ index-turn q offered i d old new h was is =
     ∙ sym (place_from-more (λ o. is_behind q o.name) offered_said offered i d h)
 
 -- a place for a name without an underscore
-pub placed_alone : (q name : Bor (List ℕ)) (v : ℕ) (old new : List (Key × ℕ)) → behind name.now ≡ None →
-    (is_some (lookup (same_key (AsciiFolded name)) old) ≡ true →
-    lookup (same_key (AsciiFolded q)) new ≡ lookup (same_key (AsciiFolded q)) old) →
-    (is_some (lookup (same_key (AsciiFolded name)) old) ≡ false →
-    lookup (same_key (AsciiFolded q)) new
-    ≡ cond (same_key (AsciiFolded name) (AsciiFolded q)) (Some v) (lookup (same_key (AsciiFolded q)) old)) →
-    lookup (same_key (AsciiFolded q)) new
-    ≡ option_or (lookup (same_key (AsciiFolded q)) old) (cond (is_behind q.now name.now) (Some v) None)
-placed_alone q name v old new e kept added =
-    let was = lookup (same_key (AsciiFolded q)) old in
-    inserted_key (AsciiFolded name) (AsciiFolded q) v old new kept added
-    ∙ one_hit v was (agrees by.AsciiFolded q.now name.now)
-    ∙ ap (λ b. option_or was (cond (agrees by.AsciiFolded q.now name.now || b) (Some v) None))
-    (sym (behind-none q.now name.now e))
+pub placed_alone : (q name : List ℕ) (v : ℕ) (old new : Option ℕ) → behind name ≡ None →
+    new ≡ option_or old (cond (agrees by.AsciiFolded q name) (Some v) None) →
+    new ≡ option_or old (cond (is_behind q name) (Some v) None)
+placed_alone q name v old new e added =
+    added ∙ one_hit v old (agrees by.AsciiFolded q name)
+    ∙ ap (λ b. option_or old (cond (agrees by.AsciiFolded q name || b) (Some v) None)) (sym (behind-none q name e))
 
 -- a place for a name with one, and for what stands behind it
-pub placed_both : (q name rest : Bor (List ℕ)) (v : ℕ) (old mid new : List (Key × ℕ)) →
-    behind name.now ≡ Some rest.now →
-    (is_some (lookup (same_key (AsciiFolded name)) old) ≡ true →
-    lookup (same_key (AsciiFolded q)) mid ≡ lookup (same_key (AsciiFolded q)) old) →
-    (is_some (lookup (same_key (AsciiFolded name)) old) ≡ false →
-    lookup (same_key (AsciiFolded q)) mid
-    ≡ cond (same_key (AsciiFolded name) (AsciiFolded q)) (Some v) (lookup (same_key (AsciiFolded q)) old)) →
-    (is_some (lookup (same_key (AsciiFolded rest)) mid) ≡ true →
-    lookup (same_key (AsciiFolded q)) new ≡ lookup (same_key (AsciiFolded q)) mid) →
-    (is_some (lookup (same_key (AsciiFolded rest)) mid) ≡ false →
-    lookup (same_key (AsciiFolded q)) new
-    ≡ cond (same_key (AsciiFolded rest) (AsciiFolded q)) (Some v) (lookup (same_key (AsciiFolded q)) mid)) →
-    lookup (same_key (AsciiFolded q)) new
-    ≡ option_or (lookup (same_key (AsciiFolded q)) old) (cond (is_behind q.now name.now) (Some v) None)
-placed_both q name rest v old mid new e kept added kept' added' =
-    let was = lookup (same_key (AsciiFolded q)) old in
-    let one = agrees by.AsciiFolded q.now name.now in
-    let other = agrees by.AsciiFolded q.now rest.now in
-    let same : other ≡ agrees by.AsciiFolded (95 ∷ q.now) name.now =
-    ap (agrees by.AsciiFolded (95 ∷ q.now)) (sym (behind-is name.now rest.now e)) in
-    inserted_key (AsciiFolded rest) (AsciiFolded q) v mid new kept' added'
-    ∙ ap (λ o. option_or o (cond other (Some v) None))
-    (inserted_key (AsciiFolded name) (AsciiFolded q) v old mid kept added)
-    ∙ two_hits v was one other
-    ∙ ap (λ b. option_or was (cond (one || b) (Some v) None)) same
+pub placed_both : (q name rest : List ℕ) (v : ℕ) (old mid new : Option ℕ) → behind name ≡ Some rest →
+    mid ≡ option_or old (cond (agrees by.AsciiFolded q name) (Some v) None) →
+    new ≡ option_or mid (cond (agrees by.AsciiFolded q rest) (Some v) None) →
+    new ≡ option_or old (cond (is_behind q name) (Some v) None)
+placed_both q name rest v old mid new e first second =
+    let one = agrees by.AsciiFolded q name in
+    let other = agrees by.AsciiFolded q rest in
+    let same : other ≡ agrees by.AsciiFolded (95 ∷ q) name =
+    ap (agrees by.AsciiFolded (95 ∷ q)) (sym (behind-is name rest e)) in
+    second ∙ ap (λ o. option_or o (cond other (Some v) None)) first
+    ∙ two_hits v old one other
+    ∙ ap (λ b. option_or old (cond (one || b) (Some v) None)) same

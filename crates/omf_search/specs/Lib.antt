@@ -1,7 +1,12 @@
 pub mod Said
+pub mod Wanted
 pub mod Search
 pub mod Laws
 pub mod Missing
 pub mod Likeness
 pub mod Results
+pub mod Keys
+pub mod Places
+pub mod Taken
+pub mod Searching
 pub mod inside

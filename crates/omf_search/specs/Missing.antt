@@ -2,7 +2,8 @@
 use Rattle.std.specs.Prelude.{Bool, not, ◌==◌, ◌&&◌, List, [], ◌∷◌, filter}
 use Rattle.omf_place.specs.Names.{agrees}
 use Rattle.omf_place.specs.declared.names.Names.{Names}
-use Rattle.omf_search.specs.Said.{Module, Wanted, is_offered, wanted_names}
+use Rattle.omf_search.specs.Said.{Module, Wanted, is_defined}
+use Rattle.omf_search.specs.Wanted.{wanted_names}
 
 -- two wanted names are one: of one module, and they agree
 abbrev pub is_same : Names → Wanted → Wanted → Bool
@@ -13,6 +14,6 @@ abbrev pub distinct : Names → List Wanted → List Wanted
 distinct names [] = []
 distinct names (w ∷ ws) = w ∷ filter (λ v. not (is_same names v w)) (distinct names ws)
 
--- the names that modules want and none offers, each once for each module that wants it
+-- the names that modules want and none defines, each once for each module that wants it
 abbrev pub missing_names : Names → List Module → List Wanted
-missing_names names ms = distinct names (filter (λ w. not (is_offered names ms w.name)) (wanted_names ms))
+missing_names names ms = distinct names (filter (λ w. not (is_defined names ms w.name)) (wanted_names names ms))

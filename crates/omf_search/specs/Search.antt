@@ -2,7 +2,8 @@
 use Rattle.std.specs.Prelude.{◌≡◌, ℕ, Bool, not, ◌&&◌, List, [], ◌∷◌, ◌++◌, Option, Some, None, find, is_some}
 use Rattle.std.specs.Option.{option_and_then, option_map}
 use Rattle.omf_place.specs.declared.names.Names.{Names}
-use Rattle.omf_search.specs.Said.{Module, Wanted, is_offered, offers, wanted_names}
+use Rattle.omf_search.specs.Said.{Module, Wanted, is_defined, offers}
+use Rattle.omf_search.specs.Wanted.{wanted_names}
 
 -- a member of a library, with the indexes of both
 pub record Member : Type 0 where
@@ -21,9 +22,9 @@ module _ (names : Names) (members : List Member) where
   abbrev pub first_offering : (name : List ℕ) → Option Member
   first_offering name = find (λ b. offers names name b.says) members
 
-  -- a wanted name takes a member: no module offers it, and some member does
+  -- a wanted name takes a member: no module defines it, and some member offers it
   abbrev pub takes : List Module → Wanted → Bool
-  takes ms w = not (is_offered names ms w.name) && is_some (first_offering w.name)
+  takes ms w = not (is_defined names ms w.name) && is_some (first_offering w.name)
 
   -- a wanted name with the first member that offers it
   abbrev pub choice : Wanted → Option Choice
@@ -31,7 +32,7 @@ module _ (names : Names) (members : List Member) where
 
   -- what modules take next: the first wanted name that takes a member, with that member
   abbrev pub next_choice : List Module → Option Choice
-  next_choice ms = option_and_then choice (find (takes ms) (wanted_names ms))
+  next_choice ms = option_and_then choice (find (takes ms) (wanted_names names ms))
 
   -- these are all that modules take, in order, each joining the modules at their end
   abbrev pub Chooses : List Module → List Choice → Type 0

@@ -1,27 +1,34 @@
 //! Names as keys that agree by a choice.
 
-ghost use Rattle.std.specs.Prelude.{◌≡◌};
-ghost use Rattle.std.proofs.Common.{ap};
-ghost use Rattle.std.specs.Cmp.{partial_equiv_from_equiv};
-ghost use Rattle.std.specs.Cmp.Lexicographic.{on_texts_equal, bytes_decides};
-ghost use Rattle.std.specs.Hash as fed;
-ghost use Rattle.std.specs.List.{flat_map, fold};
+ghost use Rattle.std.specs.Prelude.{◌≡◌, Some, refl};
+ghost use Rattle.std.specs.Cmp.{on_po, on_total, partial_equiv_from_equiv};
+ghost use Rattle.std.specs.Cmp.Lexicographic.{nat_list_cmp_total, on_texts_equal, slice_cmp, texts_po, texts_ties};
+ghost use Rattle.std.specs.Ordering.{nat_cmp};
 ghost use Rattle.omf_place.specs.inside.Named.{folded};
-ghost use Rattle.omf_search.specs.inside.Keys.{key_of, key_text, same_key, text_fed};
+ghost use Rattle.omf_search.specs.Keys.{key_of, key_order, key_text};
+ghost use Rattle.omf_search.specs.inside.Same.{same_key};
 
 use omf_place::Names;
-use std::hash::{Hash, Hasher};
+use std::cmp::Ordering;
 
-/// Feeds a hasher a name in lower case.
-fn feed_folded<H: Hasher>(state: &mut H, name: &[u8])
-    ensures { state.new ≡ fold H.write state.old (flat_map fed.u8 (folded name.now)) }
+/// How a name stands to another one once both are in lower case.
+fn folded_order(one: &[u8], other: &[u8]) -> Ordering
+    ensures { result ≡ slice_cmp nat_cmp (folded one.now) (folded other.now) }
 {
-    for byte in name {
-        state.write_u8(byte.to_ascii_lowercase());
+    let shared = one.len().min(other.len());
+    for at in 0..shared {
+        let order = one[at]
+            .to_ascii_lowercase()
+            .cmp(&other[at].to_ascii_lowercase());
+        if order.is_ne() {
+            return order;
+        }
     }
+    one.len().cmp(&other.len())
 }
 
-/// A name as the key of a map, with which names agree with it: those of one map are all of one choice.
+/// A name as the key of a map, with which names agree with it: those of one map are all of one choice. Keys have an
+/// order, by bytes that count, so that what a look-up costs doesn't depend on what names there are.
 #[derive(Clone, Copy)]
 pub(crate) enum Key<'a> {
     Exact(&'a [u8]),
@@ -58,15 +65,31 @@ impl<'a> Eq for Key<'a> {
     ghost laws = { on_texts_equal key_text };
 }
 
-impl<'a> Hash for Key<'a> {
-    ghost hash_input = { λ x. text_fed (key_text x) };
+impl<'a> PartialOrd for Key<'a> {
+    ghost partial_cmp = { λ x y. Some (key_order x y) };
 
-    ghost respects_eq = { λ x y h. ap text_fed ((bytes_decides (key_text x) (key_text y)).0 h) };
+    ghost laws = { on_po key_text texts_po };
 
-    fn hash<H: Hasher>(&self, state: &mut H) {
-        match self {
-            Key::Exact(name) => state.write(name),
-            Key::AsciiFolded(name) => feed_folded(state, name),
+    fn partial_cmp(&self, other: &Key<'a>) -> Option<Ordering> {
+        Some(self.cmp(other))
+    }
+}
+
+impl<'a> Ord for Key<'a> {
+    ghost cmp = { key_order };
+
+    ghost total = { on_total key_text nat_list_cmp_total };
+
+    ghost matches_partial_cmp = { λ x y. refl };
+
+    ghost matches_eq = { λ x y. texts_ties (key_text x) (key_text y) };
+
+    fn cmp(&self, other: &Key<'a>) -> Ordering {
+        match (self, other) {
+            (Key::Exact(one), Key::Exact(other)) => one.cmp(other),
+            (Key::AsciiFolded(one), Key::AsciiFolded(other)) => folded_order(one, other),
+            (Key::Exact(_), Key::AsciiFolded(_)) => Ordering::Less,
+            (Key::AsciiFolded(_), Key::Exact(_)) => Ordering::Greater,
         }
     }
 }

@@ -3,8 +3,9 @@
 ghost use Rattle.std.specs.Prelude.{◌≡◌, ◌≢◌, ◌∷◌, ◌++◌, false, List, None, Contains};
 ghost use Rattle.omf_place.specs.declared.names.Names.{Names};
 ghost use Rattle.omf_search.specs.Laws.{IsNeeded, joined};
-ghost use Rattle.omf_search.specs.Said.{Module, Wanted, is_offered, wanted_names};
+ghost use Rattle.omf_search.specs.Said.{Module, Wanted, is_defined};
 ghost use Rattle.omf_search.specs.Search.{Choice, Chooses, Member, first_offering};
+ghost use Rattle.omf_search.specs.Wanted.{wanted_names};
 
 /// The members that modules take are the only such list.
 pub fn one_choice()
@@ -13,7 +14,7 @@ pub fn one_choice()
 {}
 
 /// Each member that modules take is needed when it joins them, and none is taken twice; behind them nothing that is
-/// wanted and not offered is offered by a member.
+/// wanted and not defined is offered by a member.
 pub fn least_choice()
     ensures needed { (names : Names) (members : List Member) (ms : List Module) (before : List Choice) (c : Choice)
         (after : List Choice) → Chooses names members ms (before ++ c ∷ after) →
@@ -22,6 +23,6 @@ pub fn least_choice()
         (between : List Choice) (d : Choice) (after : List Choice) →
         Chooses names members ms ((before ++ c ∷ between) ++ d ∷ after) → c.taken ≢ d.taken }
     ensures closed { (names : Names) (members : List Member) (ms : List Module) (cs : List Choice) (w : Wanted) →
-        Chooses names members ms cs → Contains (wanted_names (joined ms cs)) w →
-        is_offered names (joined ms cs) w.name ≡ false → first_offering names members w.name ≡ None }
+        Chooses names members ms cs → Contains (wanted_names names (joined ms cs)) w →
+        is_defined names (joined ms cs) w.name ≡ false → first_offering names members w.name ≡ None }
 {}

@@ -4,18 +4,19 @@ ghost use Rattle.std.specs.Prelude.{◌≡◌, ◌++◌, ℕ, List, Some, None, 
 ghost use Rattle.std.specs.Prelude.{option_copied};
 ghost use Rattle.std.specs.Borrow.{Bor};
 ghost use Rattle.std.specs.Option.{option_map, option_or};
-ghost use Rattle.omf_search.specs.inside.Likeness.{IsIndex, behind, is_behind, like_among, place_from, place_of};
+ghost use Rattle.omf_place.specs.declared.names.Names.TheVariants as by;
+ghost use Rattle.omf_search.specs.Keys.{value_of};
+ghost use Rattle.omf_search.specs.inside.Likeness.{IsIndex, behind, is_behind, like_among};
+ghost use Rattle.omf_search.specs.Places.{place_from};
 ghost use Rattle.omf_search.specs.inside.Likeness.{lesser as lesser_place};
 ghost use Rattle.omf_search.specs.Likeness.{first_like, is_like, offered_names as all_offered};
 ghost use Rattle.omf_search.specs.Likeness as like;
 ghost use Rattle.omf_search.specs.Results.{bytes_of, member_said, module_said, offered_said};
 
-use crate::key::Key;
-use crate::offers::insert_first;
+use crate::name_map::NameMap;
 use crate::said::{Member, Said};
-use indexmap::IndexMap;
+use omf_place::Names;
 use std::alloc::{AllocError, Allocator};
-use std::hash::{BuildHasherDefault, FoldHasher};
 
 /// Which module offers a name.
 #[derive(Clone, Copy)]
@@ -34,7 +35,8 @@ pub struct Offered<'a> {
     pub whose: Whose,
 }
 
-type Places<'a, A> = IndexMap<Key<'a>, usize, BuildHasherDefault<FoldHasher>, A>;
+/// The places of offered names, by these without regard to case.
+type Places<'a, A> = NameMap<'a, usize, A>;
 
 /// The name behind the underscore that it begins with, if it does.
 fn behind_underscore(name: &[u8]) -> Option<&[u8]>
@@ -91,14 +93,14 @@ fn add_place<'a, A: Allocator + Copy>(
     place: usize,
 ) -> Result<(), AllocError>
     ensures { OnOk result ((q : Bor (List ℕ)) →
-        place_of places.new q ≡
-        option_or (place_of places.old q) (if is_behind q.now name.now then Some place else None)) }
+        value_of by.AsciiFolded places.new q ≡
+        option_or (value_of by.AsciiFolded places.old q) (if is_behind q.now name.now then Some place else None)) }
 {
-    insert_first(places, Key::AsciiFolded(name), place)?;
-    match behind_underscore(name) {
-        Some(rest) => insert_first(places, Key::AsciiFolded(rest), place),
-        None => Ok(()),
+    places.add(Names::AsciiFolded, name, place)?;
+    if let Some(rest) = behind_underscore(name) {
+        places.add(Names::AsciiFolded, rest, place)?;
     }
+    Ok(())
 }
 
 /// For each name, without regard to case, the place of the first offered name that is it, or it behind an underscore.
@@ -108,7 +110,7 @@ fn index_likeness<'a, A: Allocator + Copy>(
 ) -> Result<Places<'a, A>, AllocError>
     ensures { IfOk result (IsIndex (map offered_said offered.now)) }
 {
-    let mut places = IndexMap::new(alloc);
+    let mut places = NameMap::new(alloc);
     for (place, entry) in offered.iter().enumerate() {
         add_place(&mut places, entry.name, place)?;
     }
@@ -131,9 +133,9 @@ fn like_place<'a, A: Allocator + Copy>(places: &Places<'a, A>, name: &'a [u8]) -
     ensures { (os : List like.Offered) → IsIndex os places.now →
         result ≡ place_from 0 (λ o. is_like name.now o.name) os }
 {
-    let whole = places.get(&Key::AsciiFolded(name)).copied();
+    let whole = places.get(Names::AsciiFolded, name);
     match behind_underscore(name) {
-        Some(rest) => lesser(whole, places.get(&Key::AsciiFolded(rest)).copied()),
+        Some(rest) => lesser(whole, places.get(Names::AsciiFolded, rest)),
         None => whole,
     }
 }

@@ -1,9 +1,9 @@
 //! The names that stay missing.
 
 ghost use Rattle.std.specs.Prelude.{◌≡◌, ◌++◌, [], ◌∷◌, List, IfOk, OnOk, cond, map, true};
-ghost use Rattle.indexmap.specs.IndexSet.{contains};
-ghost use Rattle.omf_search.specs.inside.Met.{same_wanted};
-ghost use Rattle.omf_search.specs.inside.Taken.{IsTaken};
+ghost use Rattle.std.specs.BTreeSet.{contains};
+ghost use Rattle.omf_search.specs.inside.Met.{same_wanted, wanted_order};
+ghost use Rattle.omf_search.specs.Taken.{IsTaken};
 ghost use Rattle.omf_search.specs.Missing.{missing_names};
 ghost use Rattle.omf_search.specs.Results.{module_said, wanted_said};
 ghost use Rattle.omf_search.specs.Said.{Module};
@@ -11,20 +11,19 @@ ghost use Rattle.omf_search.specs.Said.{Module};
 use crate::key::Key;
 use crate::said::{Said, Wanted};
 use crate::taken::Taken;
-use indexmap::IndexSet;
 use omf_place::Names;
 use std::alloc::{AllocError, Allocator};
-use std::hash::{BuildHasherDefault, FoldHasher};
+use std::collections::BTreeSet;
 
 /// A name that a module wants, as a key.
-#[derive(Clone, Copy, PartialEq, Eq, Hash)]
+#[derive(Clone, Copy, PartialEq, Eq, PartialOrd, Ord)]
 struct WantedKey<'a> {
     wanted_by: usize,
     key: Key<'a>,
 }
 
-/// Wanted names as keys. The hash has a fixed seed.
-type WantedSet<'a, A> = IndexSet<WantedKey<'a>, BuildHasherDefault<FoldHasher>, A>;
+/// Wanted names as keys.
+type WantedSet<'a, A> = BTreeSet<WantedKey<'a>, A>;
 
 /// Appends a name, unless its key was met before.
 fn push_new<'a, A: Allocator + Copy>(
@@ -33,9 +32,9 @@ fn push_new<'a, A: Allocator + Copy>(
     key: WantedKey<'a>,
     wanted: Wanted<'a>,
 ) -> Result<(), AllocError>
-    ensures met { OnOk result ((k : WantedKey) → contains same_wanted met.new k
-        ≡ cond (same_wanted key.entry k) true (contains same_wanted met.old k)) }
-    ensures missing { OnOk result (missing.new.items ≡ cond (contains same_wanted met.old key.entry)
+    ensures met { OnOk result ((k : WantedKey) → contains wanted_order met.new k
+        ≡ cond (same_wanted key.entry k) true (contains wanted_order met.old k)) }
+    ensures missing { OnOk result (missing.new.items ≡ cond (contains wanted_order met.old key.entry)
         missing.old.items (missing.old.items ++ wanted.entry ∷ [])) }
 {
     if !met.insert(key)? {
@@ -45,7 +44,7 @@ fn push_new<'a, A: Allocator + Copy>(
     Ok(())
 }
 
-/// Those of the wanted names that no module offers, in order, each once for each module that wants it.
+/// Those of the wanted names that no module defines, in order, each once for each module that wants it.
 fn missing_of<'a, A: Allocator + Copy>(
     alloc: A,
     names: Names,
@@ -54,10 +53,10 @@ fn missing_of<'a, A: Allocator + Copy>(
     ensures { IfOk result (λ v. (ms : List Module) → IsTaken names ms taken.now →
         map wanted_said v.items ≡ missing_names names ms) }
 {
-    let mut met = IndexSet::new(alloc);
+    let mut met = BTreeSet::new(alloc);
     let mut missing = Vec::new(alloc);
-    for wanted in &taken.wanted {
-        if taken.offers(names, wanted.name) {
+    for wanted in &taken.meeting.wanted {
+        if taken.defines(names, wanted.name) {
             continue;
         }
         let key = WantedKey {
@@ -69,7 +68,7 @@ fn missing_of<'a, A: Allocator + Copy>(
     Ok(missing)
 }
 
-/// The names that modules want and none offers, in order of meeting, each once for each module that wants it.
+/// The names that modules want and none defines, in order of meeting, each once for each module that wants it.
 pub fn missing<'a, A: Allocator + Copy>(
     alloc: A,
     names: Names,

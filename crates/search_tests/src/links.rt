@@ -1,12 +1,13 @@
 //! Links as text, and what is answered of them.
 //!
-//! A line is a module: `+` before a name that it offers, `-` before one that it wants. A line `library` begins a
-//! library, of the members that follow; the modules of the link stand before the first. A first line `folded` chooses
-//! names that agree without regard to case.
+//! A line is a module: `+` before a name that it offers, `-` before one that it wants, `~` before that of a weak
+//! external, `*` before a communal variable; `a=b` is the alias a of b. A line `library` begins a library, of the members
+//! that follow; the modules of the link stand before the first. A first line `folded` chooses names that agree without
+//! regard to case.
 
-use omf_library::ModuleNames;
+use omf_library::{Alias, ModuleNames};
 use omf_place::Names;
-use omf_search::{Choice, Member, Offered, Said, Wanted, Whose, choose, likes, missing};
+use omf_search::{Found, Member, Offered, Said, Search, Wanted, Whose, likes, missing};
 use rows::push_text;
 use std::alloc::{AllocError, Allocator, Global};
 use std::test::Fail;
@@ -18,6 +19,34 @@ struct Line<'a, A: Allocator + Copy> {
     names: ModuleNames<'a, A>,
 }
 
+/// What a word of a line says.
+fn read_word<'a, A: Allocator + Copy>(
+    names: &mut ModuleNames<'a, A>,
+    word: &'a str,
+) -> Result<(), AllocError> {
+    let (mark, name) = word.split_at_checked(1).unwrap_or(("", word));
+    match mark {
+        "+" => names.offered.push(name.as_bytes())?,
+        "*" => names.communals.push(name.as_bytes())?,
+        "~" => names.externals.push(name.as_bytes())?,
+        "-" => {
+            names.wanted.push(name.as_bytes())?;
+            names.externals.push(name.as_bytes())?;
+        }
+        _ => {
+            let (name, meaning) = word.split_once('=').unwrap_or((word, ""));
+            let (name, meaning) = (name.as_bytes(), meaning.as_bytes());
+            names.offered.push(name)?;
+            names.aliases.push(Alias {
+                place: 0,
+                name,
+                meaning,
+            })?;
+        }
+    }
+    Ok(())
+}
+
 /// A module of a line.
 fn read_module<'a, A: Allocator + Copy>(
     alloc: A,
@@ -26,17 +55,15 @@ fn read_module<'a, A: Allocator + Copy>(
     let mut names = ModuleNames {
         wanted: Vec::new(alloc),
         needed: Vec::new(alloc),
+        externals: Vec::new(alloc),
         offered: Vec::new(alloc),
+        communals: Vec::new(alloc),
+        aliases: Vec::new(alloc),
         libraries: Vec::new(alloc),
         dosseg: false,
     };
     for word in line.split_ascii_whitespace() {
-        if let Some(name) = word.strip_prefix("+") {
-            names.offered.push(name.as_bytes())?;
-        }
-        if let Some(name) = word.strip_prefix("-") {
-            names.wanted.push(name.as_bytes())?;
-        }
+        read_word(&mut names, word)?;
     }
     Ok(names)
 }
@@ -84,14 +111,15 @@ fn members_of<'m, 'a, A: Allocator + Copy>(
     Ok(members)
 }
 
-/// The members that are taken: each by its indexes, the name for which it is taken, and the module that wants it.
-fn push_choices(text: &mut String, choices: &[Choice<'_, '_>]) -> Result<(), AllocError> {
-    for choice in choices {
-        write!(text, "{}.{} ", choice.member.library, choice.member.member)?;
-        push_text(text, choice.name)?;
-        write!(text, " {}\n", choice.wanted_by)?;
-    }
-    Ok(())
+/// A member that is taken: its indexes, the name for which it is taken, and the module that wants it.
+fn push_found(
+    text: &mut String,
+    member: &Member<'_, '_>,
+    found: &Found<'_>,
+) -> Result<(), AllocError> {
+    write!(text, "{}.{} ", member.library, member.member)?;
+    push_text(text, found.name)?;
+    write!(text, " {}\n", found.wanted_by)
 }
 
 /// A missing name, the module that wants it, and the first name that is like it.
@@ -134,6 +162,27 @@ fn push_all_missing<'a, A: Allocator + Copy>(
     Ok(())
 }
 
+/// Takes the members that modules choose, which join them.
+fn take<'m, 'a, A: Allocator + Copy>(
+    text: &mut String,
+    search: &mut Search<'a, A>,
+    modules: &mut Vec<Said<'m, 'a>, A>,
+    members: &[Member<'m, 'a>],
+) -> Result<(), AllocError> {
+    for _ in 0..=members.len() {
+        let Some(found) = search.next_found() else {
+            break;
+        };
+        let Some(member) = members.get(found.member) else {
+            break;
+        };
+        push_found(text, member, &found)?;
+        search.add_module(modules.len(), member.says)?;
+        modules.push(member.says)?;
+    }
+    Ok(())
+}
+
 /// The members that are taken of so many first ones, then of so many with those before, and the names that are missing.
 fn answer<A: Allocator + Copy>(
     alloc: A,
@@ -143,20 +192,23 @@ fn answer<A: Allocator + Copy>(
     rounds: &[usize],
 ) -> Result<String, AllocError> {
     let mut text = String::new(words);
+    let mut search = Search::new(alloc, names);
     let mut modules = Vec::new(alloc);
     for line in lines {
         if line.library == 0 {
-            modules.push(Said::of(&line.names))?;
+            let says = Said::of(&line.names);
+            search.add_module(modules.len(), says)?;
+            modules.push(says)?;
         }
     }
     let members = members_of(alloc, lines)?;
+    let mut added = 0usize;
     for count in rounds {
-        let first = members.get(..*count).unwrap_or(&members);
-        let choices = choose(alloc, names, &modules, first)?;
-        push_choices(&mut text, &choices)?;
-        for choice in &choices {
-            modules.push(choice.member.says)?;
+        for member in members.get(added..members.len().min(*count)).unwrap_or(&[]) {
+            search.add_member(added, member.says)?;
+            added = added.saturating_add(1);
         }
+        take(&mut text, &mut search, &mut modules, &members)?;
     }
     push_all_missing(alloc, &mut text, names, &modules, &members)?;
     Ok(text)

@@ -126,6 +126,140 @@ library
 missing _Alpha 0 like alpha 0.0
 missing BETA 0 like _beta 0.2";
 
+/// Links with communal variables: one of a module that is linked is defined, and no member is taken for its own.
+const COMMUNALS: &str = "\
++main -f *buf
++other -buf
+library
++buf
++f
+=
+0.1 f 0
+
++main *buf -x
+library
++buf
+*x
+=
+missing x 0
+
++main -f
+library
++f -buf
++g *buf
++buf
+=
+0.0 f 0
+0.2 buf 1
+
++main -f -buf
+library
++f *buf
++buf
+=
+0.0 f 0
+
+folded
++main -f *BUF
++other -buf
+library
++buf
++f
+=
+0.1 f 0";
+
+#[test]
+fn communal_variables(rt: HostRuntime) -> Result<(), Fail> {
+    answers(rt.alloc(), COMMUNALS, &[99])
+}
+
+/// Links with aliases, of which an unused one wants nothing.
+const ALIASES: &str = "\
++main a=b
+library
++b
+=
+
++main -a
+library
+a=b
++b
+=
+0.0 a 0
+0.1 b 1
+
++main -a a=b
++other b=c -x
+library
++c
++x
+=
+0.1 x 1
+0.0 c 1
+
++main -a a=b
++other a=c
+library
++c
++b
+=
+0.1 b 0
+
++main ~a
++other a=b
+library
++b
+=
+0.0 b 1
+
++main *a a=b
+library
++b
+=
+0.0 b 0
+
++main a=b -f
+library
++f -a
++b
+=
+0.0 f 0
+0.1 b 0
+
++main -a +a
++other a=b
+=
+missing b 1
+
++main -a a=b b=a
+=
+
++main -a a=b
++other -b
+=
+missing b 0
+missing b 1
+
+folded
++main -A a=B
+library
++b
+=
+0.0 B 0
+
++main -f
+library
++f *a a=b
++b
+=
+0.0 f 0
+0.1 b 1";
+
+#[test]
+fn aliases(rt: HostRuntime) -> Result<(), Fail> {
+    answers(rt.alloc(), ALIASES, &[99])
+}
+
 /// Each link of a table is answered as its row says.
 fn answers(alloc: Global, table: &str, rounds: &[usize]) -> Result<(), Fail> {
     for row in table.split("\n\n") {

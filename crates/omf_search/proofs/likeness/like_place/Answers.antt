@@ -5,13 +5,13 @@ use Rattle.omf_search.proofs.likeness.like_place.Goals as goal
 
 pub returns-in-Some : goal.returns-in-Some
 returns-in-Some g c = λ os index.
-    let whole = c.copied-whole.ensures ∙ c.get.ensures.value ∙ index c.args.name in
-    let rest = c.copied.ensures ∙ c.get-in-Some.ensures.value ∙ index c.in-Some.rest in
+    let whole = c.get-whole.ensures ∙ index c.args.name in
+    let rest = c.get.ensures ∙ index c.in-Some.rest in
     c.lesser.ensures ∙ (λ j. lesser (whole j) (rest j))
     ∙ like_with c.args.name.now c.in-Some.rest.now os
     (behind-is c.args.name.now c.in-Some.rest.now (sym c.in-Some.ensures))
 
 pub returns-in-None : goal.returns-in-None
 returns-in-None g c = λ os index.
-    c.copied-whole.ensures ∙ c.get.ensures.value ∙ index c.args.name
+    c.get-whole.ensures ∙ index c.args.name
     ∙ like_without c.args.name.now os (sym c.in-None.ensures)

@@ -1,22 +1,33 @@
-use Rattle.std.proofs.Common.{◌||◌, ◌++◌, ap, sym, ◌∙◌}
+use Rattle.std.proofs.Common.{◌≡◌, Bool, ◌||◌, true, false, ap, refl, subst, sym, ◌∙◌}
 use Rattle.std.specs.List.{list_any}
 use Rattle.omf_place.specs.Names.{agrees}
+use Rattle.omf_search.specs.Taken.{IsMet}
 use Rattle.omf_search.specs.Results.{module_said}
-use Rattle.omf_search.specs.Said.{wanted_names, wanted_of}
+use Rattle.omf_search.specs.Wanted.{Met, add_module, met}
+use Rattle.omf_search.proofs.Joining.{met-push}
 use Rattle.omf_search.proofs.Results.{OnOk-map}
-use Rattle.omf_search.proofs.TakenSteps.{is_offered-push, wanted_names-push}
+use Rattle.omf_search.proofs.TakenSteps.{is_defined-push}
 use Rattle.omf_search.proofs.taken.Taken.add.Goals as goal
+
+or-assoc : (a b c : Bool) → ((a || b) || c) ≡ (a || (b || c))
+or-assoc true b c = refl
+or-assoc false b c = refl
 
 pub returns : goal.returns
 returns g c =
     let m = module_said c.args.says in
-    OnOk-map c.insert_offered.result _ _
-    (λ offered. λ ms len was. record {
-      wanted =
-          c.in_ok-push_wanted.ensures ∙ ap (λ ws. ws ++ wanted_of (c.args.index, m)) was.wanted
-          ∙ ap (λ n. wanted_names ms ++ wanted_of (n, m)) (sym len) ∙ sym (wanted_names-push ms m);
-      offered =
+    let names = c.args.names in
+    OnOk-map c.define_each-2.result _ _
+    (λ defined. λ ms len was. record {
+      met =
+          subst (λ (s : Met). IsMet names s c.add.new.self)
+          (ap (λ n. add_module names (met names ms) (n, m)) (sym len) ∙ sym (met-push names ms m))
+          (c.in_ok-add.ensures (met names ms) was.met);
+      defined =
           λ q.
-          offered q ∙ ap (λ b. b || list_any (agrees c.args.names q.now) m.offered) (was.offered q)
-          ∙ sym (is_offered-push c.args.names ms m q.now);
-    }) c.insert_offered.ensures
+          defined q
+          ∙ ap (λ b. b || list_any (agrees names q.now) m.communals)
+          (c.in_ok-define_each.ensures q ∙ ap (λ b. b || list_any (agrees names q.now) m.offered) (was.defined q))
+          ∙ or-assoc _ (list_any (agrees names q.now) m.offered) (list_any (agrees names q.now) m.communals)
+          ∙ sym (is_defined-push names ms m q.now);
+    }) c.define_each-2.ensures

@@ -1,7 +1,7 @@
 use Rattle.std.proofs.Common.{List, arith, map, take, subst, sym}
 use Rattle.std.proofs.lemmas.List.{take_all}
 use Rattle.omf_search.specs.declared.said.Said.{Said}
-use Rattle.omf_search.specs.inside.Taken.{IsTaken}
+use Rattle.omf_search.specs.Taken.{IsTaken}
 use Rattle.omf_search.specs.Results.{module_said}
 use Rattle.omf_search.proofs.TakenSteps.{length_front, map_more}
 use Rattle.omf_search.proofs.taken.Taken.collect.Goals as goal
@@ -14,7 +14,7 @@ loop-index-preserved g c =
     (length_front module_said c.args.modules.now c.loop-index.index c.loop-index-test.true) c.loop-index.invariant)
 
 pub loop-index-init : goal.loop-index-init
-loop-index-init g c = c.new-taken.ensures
+loop-index-init g c = c.new-taken.ensures c.args.names
 
 pub returns : goal.returns
 returns g c =

@@ -1,5 +1,5 @@
 use Rattle.std.proofs.Common.{map, take}
-use Rattle.omf_search.specs.inside.Taken.{IsTaken}
+use Rattle.omf_search.specs.Taken.{IsTaken}
 use Rattle.omf_search.specs.Results.{module_said}
 use Rattle.omf_search.proofs.taken.Taken.collect.Given as goal
 

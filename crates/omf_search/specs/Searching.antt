@@ -1,0 +1,30 @@
+-- What a search stands at, as the program holds it.
+use Rattle.std.specs.Prelude.{◌≡◌, ◌≤◌, ℕ, List, None, find, length, slice_get, take}
+use Rattle.std.specs.declared.option.Option.{Option}
+use Rattle.std.specs.Borrow.{Bor}
+use Rattle.std.specs.Option.{option_and_then, option_map}
+use Rattle.omf_place.specs.declared.names.Names.{Names}
+use Rattle.omf_search.specs.declared.searching.Found.{Found}
+use Rattle.omf_search.specs.declared.searching.Search.{Search}
+use Rattle.omf_search.specs.Keys.{value_of}
+use Rattle.omf_search.specs.Places.{place_from}
+use Rattle.omf_search.specs.Taken.{IsTaken}
+use Rattle.omf_search.specs.Said.{Module, offers}
+use Rattle.omf_search.specs.Search.{Choice, Member, takes}
+use Rattle.omf_search.specs.Wanted.{wanted_names}
+
+-- these modules are linked, and these members may be taken, in the order in which they were added
+pub record IsSearch {A : Type 0} (names : Names) (ms : List Module) (bs : List Member) (s : Search A) : Type 0 where
+  pub by : s.names ≡ names
+  pub taken : IsTaken names ms s.taken
+  pub offered : (q : Bor (List ℕ)) → value_of names s.offers q ≡ place_from 0 (λ b. offers names q.now b.says) bs
+  pub within : s.next ≤ length (wanted_names names ms)
+  pub settled : find (takes names bs ms) (take s.next (wanted_names names ms)) ≡ None
+
+-- a member that is found for a name, of these
+abbrev pub choice_of : List Member → Found → Option Choice
+choice_of bs f = option_map
+    (λ b. record { wanted = record { name = f.name.now; wanted_by = f.wanted_by }; taken = b }) (slice_get bs f.member)
+
+abbrev pub choice_found : List Member → Option Found → Option Choice
+choice_found bs f = option_and_then (choice_of bs) f
