@@ -54,10 +54,14 @@ BC
 8C 02 79 79 00 01 78 01
 8C
 
+# ALIAS without entries
+C6
+--
+88 00 DA
+
 # types that are lowered to none
 B2 01 01 00 00 05 00
 B3 01 01 00 00 00 00 05 00 00 00
-B5 01 61 00
 B9 01 61 00 62 02
 BE 01 61
 C3 00 00 00 00 00 00 00 00 00 01 02 AA

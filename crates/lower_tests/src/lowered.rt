@@ -16,12 +16,6 @@ pub const PLAIN: Lowering = Lowering {
     shares_far_data: false,
 };
 
-/// Where no name means another one.
-pub const UNRENAMED: Renaming<'static, 'static> = Renaming {
-    names: Names::Exact,
-    aliases: &[],
-};
-
 /// Bytes in hexadecimal digits.
 pub fn digits_of(alloc: Global, bytes: &[u8]) -> Result<String, AllocError> {
     let mut text = String::new(alloc);
@@ -48,7 +42,7 @@ pub fn told<A: Allocator + Copy>(
 
 /// Whether each module of a table is lowered as its row says.
 pub fn run<R: Abort>(rt: &R, alloc: Global, lowering: Lowering, table: &str) -> Result<(), Fail> {
-    run_renamed(rt, alloc, lowering, &UNRENAMED, table)
+    run_renamed(rt, alloc, lowering, &Renaming::none(Names::Exact), table)
 }
 
 /// The same where names mean others.

@@ -33,6 +33,13 @@ B8 01 64 00 61 80 00
 B4 01 64 00
 8C 01 79 00
 
+# LEXTDEF of either type
+B5 01 61 00 01 62 80 05
+B4 01 63 00
+--
+B4 01 61 00 01 62 80 05
+B4 01 63 00
+
 # CEXTDEF by the names so far, one by an index of two bytes
 BC 02 00 80 01 80 05
 --
@@ -70,6 +77,13 @@ B0 01 61 00 62 82 00 00 00 00
 BC 02
 = record 2: its body isn't one of its type
 
+# aliases
+C6 01 61 02 62
+= record 2: its body isn't one of its type
+
+C6 01 61 01 62 01 63
+= record 2: its body isn't one of its type
+
 # no such name
 BC 03 00
 = record 2: its body isn't one of its type
@@ -82,5 +96,156 @@ BC 00 00
 96 FF 41*255
 BC 01*600
 = record 2: what it is lowered to is longer than a record may be",
+    )
+}
+
+/// Comments that say what can't be done, and those that don't.
+#[test]
+fn comments(rt: HostRuntime) -> Result<(), Fail> {
+    run(
+        &rt,
+        rt.alloc(),
+        PLAIN,
+        "\
+88 80 AA 38 30 33 38 36
+= record 2: the module is Easy OMF
+
+88 00 AA
+= record 2: the module is Easy OMF
+
+88 00 A0 01 01 01 66 03 4C 49 42 00
+= record 2: a name is imported from a dynamic library
+
+88 00 A0 01
+= record 2: a name is imported from a dynamic library
+
+# what comes first in the order of records is told
+88 00 00 41
+C6 01 61 02 62
+88 00 AA
+= record 3: its body isn't one of its type
+
+# other classes and other subtypes; what stands behind the end
+88 00 A0 02 00
+88 00 A0
+88 AA 00 AA
+88 A0 00 01
+88 AA
+88
+8A 00
+88 80 AA 38 30 33 38 36",
+    )
+}
+
+/// What counts from the group FLAT.
+#[test]
+fn flat(rt: HostRuntime) -> Result<(), Fail> {
+    run(
+        &rt,
+        rt.alloc(),
+        PLAIN,
+        "\
+# the group alone, and others and segments of its index
+80 01 41
+96 00 04 46 4C 41 54 04 43 4F 44 45 03 46 4C 41
+98 28 04 00 03 03 01
+9A 02
+9A 03 FF 01
+9A 04 FF 01
+A0 01 00 00 00 00 00 00
+9C 40 01 45 02 00 01 05 02 05 03
+9C C4 00 54 01 C4 02 04 01 01 C4 00 14 02 01 C4 00 15 03 02
+8A C1 50 01 00 00
+
+# its index by the names so far
+80 01 41
+96 00 04 43 4F 44 45
+9A 03
+96 04 46 4C 41 54
+98 28 04 00 02 02 01
+A0 01 00 00 00 00
+9C C4 00 14 01 01
+
+# as a frame
+80 01 41
+96 00 04 46 4C 41 54 04 43 4F 44 45
+98 28 04 00 03 03 01
+9A 03 FF 01
+9A 02 FF 01
+A0 01 00 00 00 00 00 00
+9C C4 02 54 01 C4 00 14 02 01
+= record 6: an address counts from the group FLAT
+
+80 01 41
+96 00 04 46 4C 41 54
+9A 80 02
+A1 01 00*8
+9D E4 00 10 80 01 01 00*4
+= record 4: an address counts from the group FLAT
+
+# as a target, behind a frame with an index and without one
+80 01 41
+96 00 04 46 4C 41 54
+9A 02
+9C C4 00 05 01 01
+= record 3: an address counts from the group FLAT
+
+80 01 41
+96 00 04 46 4C 41 54
+9A 02
+9C C4 00 51 01 00 00
+= record 3: an address counts from the group FLAT
+
+# a frame and a target by threads, before what is none
+80 01 41
+96 00 04 46 4C 41 54
+9A 02
+9C C4 00 8D 45 02 01
+
+# in threads
+80 01 41
+96 00 04 46 4C 41 54
+9A 02
+9C 40 01 45 01
+= record 3: an address counts from the group FLAT
+
+80 01 41
+96 00 04 46 4C 41 54
+9A 02
+9C 06 01
+= record 3: an address counts from the group FLAT
+
+# of the start
+80 01 41
+96 00 04 46 4C 41 54
+9A 02
+8A C1 10 01 01 00 00
+= record 3: an address counts from the group FLAT
+
+80 01 41
+96 00 04 46 4C 41 54
+9A 02
+8B C1 55 01 00 00 00 00
+= record 3: an address counts from the group FLAT
+
+80 01 41
+96 00 04 46 4C 41 54
+9A 02
+8A 80 10 01 01 00 00
+
+# of what only debuggers read
+80 01 41
+96 00 04 46 4C 41 54 05 44 57 41 52 46
+98 28 04 00 03 03 01
+9A 02
+A0 01 00 00 00 00 00 00
+9C C4 00 14 01 01
+--
+80 01 41
+96 00 04 46 4C 41 54 05 44 57 41 52 46
+98 20 00 00 03 03 01
+9A 02
+88 00 DA
+9C",
     )
 }

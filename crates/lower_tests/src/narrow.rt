@@ -16,11 +16,15 @@ fn numbers(rt: HostRuntime) -> Result<(), Fail> {
 98 29 02 00 02 02 01
 99 01 34 12 05 02 00 00 00 02 02 01
 98 28 02 00 02 02 01
+99 A9 00 00 01 00 02 02 01
+99 00 00 B8 0F 00 00 01 00 02 02 01
 --
 98 A8 10 00 02 02 01
 98 28 02 00 02 02 01
 98 00 34 12 05 02 00 02 02 01
 98 28 02 00 02 02 01
+98 AA 00 00 02 02 01
+98 02 00 B8 0F 00 00 02 02 01
 
 # PUBDEF, LPUBDEF, LINNUM
 91 00 01 01 61 34 12 00 00 00 01 62 FF FF 00 00 80 05
@@ -178,7 +182,13 @@ fn faults(rt: HostRuntime) -> Result<(), Fail> {
         PLAIN,
         "\
 # numbers above 16 bits
-99 A9 00 00 01 00 02 02 01
+99 A9 01 00 01 00 02 02 01
+= record 2: a number has more than 16 bits
+
+99 A9 00 00 02 00 02 02 01
+= record 2: a number has more than 16 bits
+
+99 A9 00 00 01 01 02 02 01
 = record 2: a number has more than 16 bits
 
 # 4,294,967,296 bytes
@@ -231,6 +241,12 @@ A3 01 00 00 00 00 02 00 00 00 00 00 02 AA BB
 = record 3: a fix-up of 32 bits can't be one of 16
 
 # bodies that are cut off
+99 A9 10 00 00 00 02
+= record 2: its body isn't one of its type
+
+99
+= record 2: its body isn't one of its type
+
 91 00 01 01 61 34 12 00
 = record 2: its body isn't one of its type
 

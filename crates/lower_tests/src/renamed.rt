@@ -1,7 +1,9 @@
 //! Externals whose names stand for others.
 
 use crate::lowered::{PLAIN, run_renamed};
-use omf_alias::{Alias, Renaming, endless, meaning, push_module_aliases};
+use omf_alias::{
+    Alias, Aliases, NameMap, NamedValue, Renaming, endless, meaning, push_module_aliases,
+};
 use omf_place::Names;
 use rows::module_of;
 use std::alloc::Global;
@@ -32,11 +34,8 @@ fn aliases_of(alloc: Global, module: &[u8]) -> Result<Vec<Alias<'_>>, Fail> {
 fn renamed(rt: HostRuntime) -> Result<(), Fail> {
     let alloc = rt.alloc();
     let chain = module_of(alloc, CHAIN)?;
-    let aliases = aliases_of(alloc, &chain)?;
-    let renaming = Renaming {
-        names: Names::Exact,
-        aliases: &aliases,
-    };
+    let aliases = Aliases::new(alloc, Names::Exact, aliases_of(alloc, &chain)?)?;
+    let renaming = aliases.renaming();
     let table = "\
 # by one alias and by two, between others
 C6 01 61 02 62 62
@@ -83,17 +82,13 @@ fn meanings(rt: HostRuntime) -> Result<(), Fail> {
     let alloc = rt.alloc();
     let chain = module_of(alloc, CHAIN)?;
     let aliases = aliases_of(alloc, &chain)?;
-    let folded = Renaming {
-        names: Names::AsciiFolded,
-        aliases: &aliases,
-    };
-    assert_eq!(rt; meaning(&folded, b"BB"), Some(b"ccc".as_slice()));
-    assert!(rt; endless(&folded, &aliases).is_none());
-    let exact = Renaming {
-        names: Names::Exact,
-        aliases: &aliases,
-    };
-    assert_eq!(rt; meaning(&exact, b"BB"), Some(b"BB".as_slice()));
+    let folded = Aliases::new(alloc, Names::AsciiFolded, aliases_of(alloc, &chain)?)?;
+    assert_eq!(rt; meaning(&folded.renaming(), b"BB"), Some(b"ccc".as_slice()));
+    assert!(rt; endless(&folded.renaming(), &aliases).is_none());
+    let exact = Aliases::new(alloc, Names::Exact, aliases)?;
+    assert_eq!(rt; meaning(&exact.renaming(), b"BB"), Some(b"BB".as_slice()));
+    let none = Renaming::none(Names::AsciiFolded);
+    assert_eq!(rt; meaning(&none, b"BB"), Some(b"BB".as_slice()));
     Ok(())
 }
 
@@ -103,14 +98,102 @@ fn circles(rt: HostRuntime) -> Result<(), Fail> {
     let alloc = rt.alloc();
     let circle = module_of(alloc, CIRCLE)?;
     let aliases = aliases_of(alloc, &circle)?;
-    let renaming = Renaming {
-        names: Names::Exact,
-        aliases: &aliases,
-    };
+    let all = Aliases::new(alloc, Names::Exact, aliases_of(alloc, &circle)?)?;
+    let renaming = all.renaming();
     assert_eq!(rt; meaning(&renaming, b"d"), None);
     assert_eq!(rt; meaning(&renaming, b"f"), Some(b"g".as_slice()));
     let found = endless(&renaming, &aliases).ok_or("none goes round")?;
     assert_eq!(rt; found.name, b"d".as_slice());
     assert_eq!(rt; found.place, 14);
+    Ok(())
+}
+
+/// An alias of a name that another one has, as a link says it.
+fn alias<'a>(name: &'a [u8], meaning: &'a [u8]) -> Alias<'a> {
+    Alias {
+        place: 0,
+        name,
+        meaning,
+    }
+}
+
+/// Aliases of one module behind those of all, which count before them, and the ways from one to the other and back.
+#[test]
+fn own_aliases(rt: HostRuntime) -> Result<(), Fail> {
+    let alloc = rt.alloc();
+    let shared = vec![in alloc; alias(b"a", b"b"), alias(b"c", b"d"), alias(b"x", b"y")]?;
+    let all = Aliases::new(alloc, Names::AsciiFolded, shared)?;
+    let own = vec![in alloc;
+        alias(b"B", b"c"),
+        alias(b"d", b"e"),
+        alias(b"a", b"z"),
+        alias(b"y", b"X"),
+        alias(b"q", b"x"),
+    ]?;
+    let with = all.with(alloc, own)?;
+    let renaming = with.renaming();
+    assert_eq!(rt; meaning(&renaming, b"a"), Some(b"e".as_slice()));
+    assert_eq!(rt; meaning(&renaming, b"b"), Some(b"e".as_slice()));
+    assert_eq!(rt; meaning(&renaming, b"D"), Some(b"e".as_slice()));
+    assert_eq!(rt; meaning(&renaming, b"e"), Some(b"e".as_slice()));
+    assert_eq!(rt; meaning(&renaming, b"x"), None);
+    assert_eq!(rt; meaning(&renaming, b"Y"), None);
+    assert_eq!(rt; meaning(&renaming, b"q"), None);
+    assert_eq!(rt; meaning(&all.renaming(), b"x"), Some(b"y".as_slice()));
+    Ok(())
+}
+
+/// A chain of so many aliases that it is no power of two, from each of them.
+#[test]
+fn long_chain(rt: HostRuntime) -> Result<(), Fail> {
+    let alloc = rt.alloc();
+    let names: [&[u8]; 8] = [b"h", b"b", b"g", b"c", b"f", b"d", b"e", b"a"];
+    let mut aliases = Vec::new(alloc);
+    for index in 1..8 {
+        aliases.push(alias(names[index - 1], names[index]))?;
+    }
+    let all = Aliases::new(alloc, Names::Exact, aliases)?;
+    for name in names {
+        assert_eq!(rt; meaning(&all.renaming(), name), Some(b"a".as_slice()));
+    }
+    Ok(())
+}
+
+/// Of values whose names agree the first counts.
+#[test]
+fn first_of_a_name(rt: HostRuntime) -> Result<(), Fail> {
+    let alloc = rt.alloc();
+    let values = vec![in alloc;
+        NamedValue {
+            name: b"B".as_slice(),
+            value: 1_u8
+        },
+        NamedValue {
+            name: b"ab".as_slice(),
+            value: 2
+        },
+        NamedValue {
+            name: b"b".as_slice(),
+            value: 3
+        },
+        NamedValue {
+            name: b"".as_slice(),
+            value: 4
+        },
+        NamedValue {
+            name: b"AB".as_slice(),
+            value: 5
+        },
+        NamedValue {
+            name: b"a".as_slice(),
+            value: 6
+        },
+    ]?;
+    let map = NameMap::new(Names::AsciiFolded, values)?;
+    assert_eq!(rt; map.get(b"b"), Some(1));
+    assert_eq!(rt; map.get(b"Ab"), Some(2));
+    assert_eq!(rt; map.get(b""), Some(4));
+    assert_eq!(rt; map.get(b"A"), Some(6));
+    assert_eq!(rt; map.get(b"abc"), None);
     Ok(())
 }

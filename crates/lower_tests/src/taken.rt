@@ -1,8 +1,9 @@
 //! Lowered modules are read as `omf` reads them.
 
-use crate::lowered::{PLAIN, UNRENAMED};
+use crate::lowered::PLAIN;
 use omf_alias::Renaming;
 use omf_lower::{Lowering, lower};
+use omf_place::Names;
 use rows::{module_of, read_modules};
 use std::alloc::Global;
 use std::process::Abort;
@@ -26,7 +27,7 @@ fn expect_read<R: Abort>(
     lines: &str,
 ) -> Result<(), Fail> {
     let module = module_of(alloc, lines)?;
-    let lowered = changed(alloc, &module, lowering, &UNRENAMED)?;
+    let lowered = changed(alloc, &module, lowering, &Renaming::none(Names::Exact))?;
     let before = vec![in alloc; module]?;
     assert!(rt; read_modules(alloc, &before).is_err());
     let after = vec![in alloc; lowered]?;

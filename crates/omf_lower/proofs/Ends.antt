@@ -9,6 +9,8 @@ use Rattle.omf_frame.specs.Frame.{Frame}
 use Rattle.omf_library.specs.Records.{ends_module}
 use Rattle.omf_lower.specs.declared.lowering.Lowering.{Lowering}
 use Rattle.omf_lower.specs.declared.fault.Obstacle.{Obstacle}
+use Rattle.omf_lower.specs.declared.fault.Obstacle.TheVariants.{EasyOmf, FlatFrame, ImportedName}
+use Rattle.omf_lower.specs.Comments.{for_comment, is_easy_omf, is_import}
 use Rattle.omf_library.specs.Entries.{behind_base}
 use Rattle.omf_library.specs.Fields.{index_front}
 use Rattle.omf_lower.specs.Fields.{◌>>=◌, field, before, narrow, entries, any_entry}
@@ -17,11 +19,12 @@ use Rattle.omf_lower.specs.Narrow.{public_front, line_front, block_front}
 use Rattle.omf_lower.specs.Fixups.{Reference, reference_front, narrowed, subrecord_front}
 use Rattle.omf_lower.specs.Content.{Content, Recipe, with_tail, made, of_bytes, empty_comment}
 use Rattle.omf_lower.specs.Segments.{Definition, definition, segment_recipe, is_kept_out, shares_frame, nothing_of}
-use Rattle.omf_lower.specs.Segments.{made_public, with_names, short_size}
+use Rattle.omf_lower.specs.Segments.{made_public, with_names, short_length}
 use Rattle.omf_lower.specs.Data.{Data, is_data}
 use Rattle.omf_lower.specs.Seen.{Seen, is_of_kept_out}
 use Rattle.omf_lower.specs.Records.{listing, stays_or, for_segment, for_publics, for_lines, for_wide_data, for_data}
-use Rattle.omf_lower.specs.Records.{for_fixups, for_start, for_end, for_externals, for_other, recipe_for, content_for}
+use Rattle.omf_lower.specs.Records.{for_fixups, for_start, for_end, for_aliases, for_externals, for_other, names_flat}
+use Rattle.omf_lower.specs.Records.{recipe_by_type, recipe_for, content_for}
 use Rattle.omf_lower.specs.Law.{content_of, written_or}
 
 choose : {X : Type 0} (P : X → Type 0) (b : Bool) (x y : X) → (b ≡ true → P x) → (b ≡ false → P y) → P (cond b x y)
@@ -73,10 +76,26 @@ segment-keeps lowering names kind d e =
     choose (Keeps kind) (shares_frame lowering names d)
     (with_names d (made_public d.acbp) (d.class_index ++ d.behind_name))
     (cond (eqb kind 0x98 && eqb (d.acbp % 2) 0) (Ok None) (with_names d d.acbp d.names))
-    (λ _. bind kind (short_size d.acbp d.size) _ (λ size. sym e))
+    (λ _. bind kind (short_length (made_public d.acbp) d.size) _ (λ size. sym e))
     (λ _.
     choose (Keeps kind) (eqb kind 0x98 && eqb (d.acbp % 2) 0) (Ok None) (with_names d d.acbp d.names) (λ _. tt)
-    (λ _. bind kind (short_size d.acbp d.size) _ (λ size. sym e))))
+    (λ _. bind kind (short_length d.acbp d.size) _ (λ size. sym e))))
+
+-- one that isn't a SEGDEF stays or is in the way
+define-keeps : (lowering : Lowering) (names : List (List ℕ)) (width kind : ℕ) (body : List ℕ)
+    → ends_module kind ≡ false → Keeps kind (for_segment lowering names width kind body)
+define-keeps lowering names width kind body e =
+    choose (Keeps kind) (eqb kind 0x98) (stays_or (segment_recipe lowering names kind) (definition width body))
+    (field (definition width body) >>= segment_recipe lowering names kind)
+    (λ _. maybe kind (definition width body) (segment_recipe lowering names kind)
+    (λ d. segment-keeps lowering names kind d e))
+    (λ _. bind kind (field (definition width body)) (segment_recipe lowering names kind)
+    (λ d. segment-keeps lowering names kind d e))
+
+comment-keeps : (body : List ℕ) → Keeps 0x88 (for_comment body)
+comment-keeps body =
+    choose (Keeps 0x88) (is_easy_omf body) (Err EasyOmf) (cond (is_import body) (Err ImportedName) (Ok None)) (λ _. tt)
+    (λ _. choose (Keeps 0x88) (is_import body) (Err ImportedName) (Ok None) (λ _. tt) (λ _. tt))
 
 data-no_end : (kind : ℕ) → is_data kind ≡ true → ends_module kind ≡ false
 data-no_end kind e = grind (arith, nat_tests)
@@ -164,8 +183,11 @@ other-keeps renaming names kind body =
     choose (Keeps kind) (eqb kind 0x8C) (for_externals renaming body) _
     (λ e. at_kind kind 0x8C (for_externals renaming body) e (externals-keep renaming body))
     (λ _.
-    choose (Keeps kind) (eqb kind 0xC6) (Ok (Some empty_comment)) _
-    (λ e. at_kind kind 0xC6 (Ok (Some empty_comment)) e refl)
+    choose (Keeps kind) (eqb kind 0x88) (for_comment body) _
+    (λ e. at_kind kind 0x88 (for_comment body) e (comment-keeps body))
+    (λ _.
+    choose (Keeps kind) (eqb kind 0xC6) (for_aliases body) _
+    (λ e. at_kind kind 0xC6 (for_aliases body) e refl)
     (λ _.
     choose (Keeps kind) (eqb kind 0x82) (Ok (Some (of_bytes 0x80 body))) _
     (λ e. at_kind kind 0x82 (Ok (Some (of_bytes 0x80 body))) e refl)
@@ -175,6 +197,9 @@ other-keeps renaming names kind body =
     (λ _.
     choose (Keeps kind) (eqb kind 0xB0) (listing 0x8C [] (entries (renamed_communal_front renaming) body)) _
     (λ e. at_kind kind 0xB0 (listing 0x8C [] (entries (renamed_communal_front renaming) body)) e refl)
+    (λ _.
+    choose (Keeps kind) (eqb kind 0xB5) (Ok (Some (of_bytes 0xB4 body))) _
+    (λ e. at_kind kind 0xB5 (Ok (Some (of_bytes 0xB4 body))) e refl)
     (λ _.
     choose (Keeps kind) (eqb kind 0xB8) (listing 0xB4 [] (entries communal_front body)) _
     (λ e. at_kind kind 0xB8 (listing 0xB4 [] (entries communal_front body)) e refl)
@@ -193,23 +218,21 @@ other-keeps renaming names kind body =
     (λ _.
     choose (Keeps kind) (eqb kind 0x8B) (for_end body) (Ok None)
     (λ e. at_kind kind 0x8B (for_end body) e (end-keeps body))
-    (λ _. tt)))))))))))
+    (λ _. tt)))))))))))))
 
-recipe-keeps : (lowering : Lowering) (seen : Seen) (f : Frame) → Keeps f.kind (recipe_for lowering seen f)
-unfolding recipe_for
-recipe-keeps lowering seen f =
+typed-keeps : (lowering : Lowering) (seen : Seen) (f : Frame) → Keeps f.kind (recipe_by_type lowering seen f)
+unfolding recipe_by_type
+typed-keeps lowering seen f =
     choose (Keeps f.kind) (is_data f.kind) (for_data seen.kept_out f.kind f.body) _
     (λ e. data-keeps seen.kept_out f.kind f.body (data-no_end f.kind e))
     (λ _. choose (Keeps f.kind) (eqb f.kind 0x98) (for_segment lowering seen.names 2 0x98 f.body) _
     (λ e.
     at_kind f.kind 0x98 (for_segment lowering seen.names 2 0x98 f.body) e
-    (maybe 0x98 (definition 2 f.body) (segment_recipe lowering seen.names 0x98)
-    (λ d. segment-keeps lowering seen.names 0x98 d refl)))
+    (define-keeps lowering seen.names 2 0x98 f.body refl))
     (λ _. choose (Keeps f.kind) (eqb f.kind 0x99) (for_segment lowering seen.names 4 0x99 f.body) _
     (λ e.
     at_kind f.kind 0x99 (for_segment lowering seen.names 4 0x99 f.body) e
-    (maybe 0x99 (definition 4 f.body) (segment_recipe lowering seen.names 0x99)
-    (λ d. segment-keeps lowering seen.names 0x99 d refl)))
+    (define-keeps lowering seen.names 4 0x99 f.body refl))
     (λ _. choose (Keeps f.kind) (eqb f.kind 0x9C) (for_fixups seen.dropped seen.last 2 0x9C f.body) _
     (λ e.
     at_kind f.kind 0x9C (for_fixups seen.dropped seen.last 2 0x9C f.body) e
@@ -221,6 +244,12 @@ recipe-keeps lowering seen f =
     at_kind f.kind 0x9D (for_fixups seen.dropped seen.last 4 0x9D f.body) e
     (fixups-keep seen.dropped seen.last 4 0x9D f.body refl))
     (λ _. other-keeps seen.renaming seen.names f.kind f.body)))))
+
+recipe-keeps : (lowering : Lowering) (seen : Seen) (f : Frame) → Keeps f.kind (recipe_for lowering seen f)
+unfolding recipe_for
+recipe-keeps lowering seen f =
+    choose (Keeps f.kind) (names_flat seen f) (Err FlatFrame) (recipe_by_type lowering seen f) (λ _. tt)
+    (λ _. typed-keeps lowering seen f)
 
 pub same_end : (lowering : Lowering) (seen : Seen) (f : Frame)
     → ends_module (written_or (content_of f) (content_for lowering seen f)).kind ≡ ends_module f.kind

@@ -5,7 +5,7 @@ use Rattle.std.proofs.Common.{arith}
 use Rattle.std.proofs.Common.{le_refl, length-append, length-drop, subst}
 use Rattle.std.proofs.lemmas.Bool.{cases_lt, lt-ltb, le-ltb}
 use Rattle.std.specs.declared.result.Result.{Result}
-use Rattle.std.specs.Option.{option_map, option_map_or, option_and_then}
+use Rattle.std.specs.Option.{option_map, option_map_or}
 use Rattle.omf_alias.specs.Meaning.{Renaming}
 use Rattle.omf_library.specs.Entries as of_names
 use Rattle.omf_library.specs.Entries.{external_front}
@@ -13,7 +13,7 @@ use Rattle.omf_library.specs.Fields.{bytes_front, name_front, low_front, index_f
 use Rattle.omf_library.specs.Members.{joined}
 use Rattle.omf_library.proofs.Fronts.{bytes_front-cut, bytes_front-whole}
 use Rattle.omf_lower.specs.declared.fault.Obstacle.{Obstacle}
-use Rattle.omf_lower.specs.declared.fault.Obstacle.TheVariants.{Body, TooLong}
+use Rattle.omf_lower.specs.declared.fault.Obstacle.TheVariants.{TooLong}
 use Rattle.omf_lower.specs.Externals.{renamed, renamed_text, renamed_front}
 use Rattle.omf_lower.specs.Fields.{◌>>=◌, field, before, entries_up_to, entries}
 use Rattle.omf_lower.specs.Law.{RenamesExternals}

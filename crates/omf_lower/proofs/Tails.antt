@@ -7,7 +7,7 @@ use Rattle.omf_library.specs.Members.{joined}
 use Rattle.omf_lower.specs.declared.fault.Obstacle.{Obstacle}
 use Rattle.omf_lower.specs.declared.entries.Tail.{Tail}
 use Rattle.omf_lower.specs.declared.entries.Tail.TheVariants.{Same, Communals, RenamedCommunals, Named, Renamed}
-use Rattle.omf_lower.specs.declared.entries.Tail.TheVariants.{Publics, Lines, Blocks, Threads, Fixups}
+use Rattle.omf_lower.specs.declared.entries.Tail.TheVariants.{Aliases, Publics, Lines, Blocks, Threads, Fixups}
 use Rattle.omf_lower.specs.Fields.{◌>>=◌, entries_up_to, entries}
 use Rattle.omf_lower.specs.inside.Tails.{entry_front, tail_text}
 
@@ -109,6 +109,7 @@ tail-entries Communals bytes = refl
 tail-entries (RenamedCommunals renaming) bytes = refl
 tail-entries (Named renaming names) bytes = refl
 tail-entries (Renamed renaming) bytes = refl
+tail-entries Aliases bytes = refl
 tail-entries Publics bytes = refl
 tail-entries Lines bytes = refl
 tail-entries Blocks bytes = refl

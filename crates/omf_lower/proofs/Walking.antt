@@ -1,9 +1,9 @@
 -- What is left of a module's records while they are lowered.
 use Rattle.std.proofs.Common.{◌≡◌, ℕ, zero, suc, ◌+◌, ◌<◌, ◌≤◌, Bool, true, false, List, [], ◌∷◌, ◌++◌, length, take}
-use Rattle.std.proofs.Common.{drop, cond, Option, None, Some, Vec, Ok, Err, refl, sym, ap, ◌∙◌, append_assoc, arith}
+use Rattle.std.proofs.Common.{drop, cond, Option, None, Some, Vec, Ok, Err, refl, subst, sym, ap, ◌∙◌, append_assoc, arith}
 use Rattle.std.specs.declared.result.Result.{Result}
 use Rattle.std.specs.Option.{option_map_or}
-use Rattle.std.specs.Result.{result_ok}
+use Rattle.std.specs.Result.{IsErrAnd, result_ok}
 use Rattle.omf_alias.specs.Meaning.{Renaming}
 use Rattle.omf_frame.specs.Frame.{Frame}
 use Rattle.omf_library.specs.declared.fault.LibraryFault.{LibraryFault}
@@ -210,6 +210,13 @@ pub answers-fault : (A T : Type 0) (lowering : Lowering) (renaming : Renaming) (
 answers-fault A T lowering renaming module' place number seen d new f (At n o) left is behind within goes =
     lowering_fault lowering renaming module' place number seen d f (At n o) left is behind within goes
 answers-fault A T lowering renaming module' place number seen d new f Memory left is behind within goes = tt
+
+-- a fault that is handed on
+pub answers-err : {A : Type 0} (module' : List ℕ) (stands : Result (List ℕ) LoweringFault)
+    (r : Result (Option (Vec ℕ A)) LoweringFault) (e : LoweringFault) → IsErrAnd r (λ f. f ≡ e)
+    → Answers {A = A} module' stands (Err e) → Answers {A = A} module' stands r
+answers-err module' stands (Ok o) e is h = let z : ⊥ = is in absurd z
+answers-err {A} module' stands (Err f) e is h = subst (λ f. Answers {A = A} module' stands (Err f)) (sym is) h
 
 pub answers-memory : (A : Type 0) (module' : List ℕ) (stands : Result (List ℕ) LoweringFault) (e : LoweringFault)
     → e ≡ Memory → Answers {A = A} module' stands (Err e)

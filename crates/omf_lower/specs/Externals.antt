@@ -1,5 +1,5 @@
 -- Externals of 8CH EXTDEF, and those of B0H COMDEF, B8H LCOMDEF and BCH CEXTDEF as those of EXTDEF (TIS OMF 1.1, the
--- section of each), by what their names mean.
+-- section of each), by what their names mean; and C6H ALIAS.
 use Rattle.std.specs.Prelude.{ℕ, ◌==◌, if◌then◌else◌, nat_lt, Bool, not, List, [], ◌∷◌, ◌++◌, length}
 use Rattle.std.specs.Prelude.{Ok, Err}
 use Rattle.std.specs.declared.option.Option.{Option}
@@ -69,3 +69,10 @@ named_front renaming names bytes = do
 unfoldable pub alias_front : Renaming → List ℕ → Option (Bool × List ℕ)
 alias_front renaming bytes = option_map
     (λ (name, rest). (not (bytes_eq (renamed renaming name) name), rest)) (external_front bytes)
+
+-- of C6H ALIAS a name and what it stands for, which nothing is written for
+unfoldable pub alias_pair_front : List ℕ → Result (List ℕ × List ℕ) Obstacle
+alias_pair_front bytes = do
+  name ← field (name_front bytes)
+  stands_for ← field (name_front name.1)
+  Ok ([], stands_for.1)

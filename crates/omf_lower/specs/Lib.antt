@@ -1,10 +1,12 @@
 pub mod Fields
 pub mod Content
 pub mod Segments
+pub mod Comments
 pub mod Externals
 pub mod Narrow
 pub mod Data
 pub mod Fixups
+pub mod Flat
 pub mod Seen
 pub mod Records
 pub mod Wide

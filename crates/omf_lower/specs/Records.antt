@@ -1,6 +1,6 @@
 -- What is written for a record of a module.
-use Rattle.std.specs.Prelude.{ℕ, ◌/◌, ◌%◌, ◌==◌, ◌||◌, Bool, if◌then◌else◌, nat_lt, List, [], ◌∷◌, ◌++◌, length}
-use Rattle.std.specs.Prelude.{slice_range, Some, None, Ok, Err}
+use Rattle.std.specs.Prelude.{ℕ, ◌/◌, ◌%◌, ◌==◌, ◌&&◌, ◌||◌, Bool, false, not, if◌then◌else◌, nat_lt, List, [], ◌∷◌}
+use Rattle.std.specs.Prelude.{◌++◌, length, slice_range, Some, None, Ok, Err}
 use Rattle.std.specs.declared.option.Option.{Option}
 use Rattle.std.specs.declared.result.Result.{Result}
 use Rattle.omf_frame.specs.Frame.{Frame, frame}
@@ -10,13 +10,16 @@ use Rattle.omf_library.specs.Entries.{behind_base}
 use Rattle.omf_library.specs.Records.{place_behind}
 use Rattle.omf_lower.specs.declared.lowering.Lowering.{Lowering}
 use Rattle.omf_lower.specs.declared.fault.Obstacle.{Obstacle}
-use Rattle.omf_lower.specs.declared.fault.Obstacle.TheVariants.{Body, TooLong}
+use Rattle.omf_lower.specs.declared.fault.Obstacle.TheVariants.{Body, TooLong, FlatFrame}
 use Rattle.omf_lower.specs.declared.fault.LoweringFault.{LoweringFault}
 use Rattle.omf_lower.specs.declared.fault.LoweringFault.TheVariants.{At}
 use Rattle.omf_lower.specs.Fields.{◌>>=◌, field, before, narrow, entries, any_entry}
 use Rattle.omf_lower.specs.Content.{Content, Recipe, made, of_bytes, empty_comment}
 use Rattle.omf_lower.specs.Segments.{definition, segment_recipe}
+use Rattle.omf_lower.specs.Comments.{for_comment}
 use Rattle.omf_lower.specs.Externals.{communal_front, renamed_communal_front, named_front, renamed_front, alias_front}
+use Rattle.omf_lower.specs.Externals.{alias_pair_front}
+use Rattle.omf_lower.specs.Flat.{flat_front, start_is_flat}
 use Rattle.omf_lower.specs.Narrow.{public_front, line_front, block_front}
 use Rattle.omf_lower.specs.Data.{Data, is_data}
 use Rattle.omf_lower.specs.Fixups.{Reference, reference_front, narrowed, threads_front, fixups_front}
@@ -32,9 +35,11 @@ abbrev pub stays_or : {A : Type 0} → (A → Result (Option Recipe) Obstacle) �
 stays_or next None = Ok None
 stays_or next (Some fields) = next fields
 
--- for a SEGDEF whose length has so many bytes
+-- for a SEGDEF whose length has so many bytes; of 98H, one that isn't stays
 abbrev pub for_segment : Lowering → List (List ℕ) → ℕ → ℕ → List ℕ → Result (Option Recipe) Obstacle
-for_segment lowering names width kind body = stays_or (segment_recipe lowering names kind) (definition width body)
+for_segment lowering names width kind body =
+    if kind == 0x98 then stays_or (segment_recipe lowering names kind) (definition width body)
+    else (field (definition width body) >>= segment_recipe lowering names kind)
 
 -- for 91H PUBDEF and B7H LPUBDEF: a base, and public names
 abbrev pub for_publics : ℕ → List ℕ → Result (Option Recipe) Obstacle
@@ -90,15 +95,21 @@ abbrev pub for_externals : Renaming → List ℕ → Result (Option Recipe) Obst
 for_externals renaming body =
     if any_entry (alias_front renaming) body then listing 0x8C [] (entries (renamed_front renaming) body) else Ok None
 
--- for names and externals: 82H LHEADR, CAH LLNAMES, 8CH EXTDEF, B0H COMDEF, B8H LCOMDEF, BCH CEXTDEF, C6H ALIAS; and for
--- other records, of 32 bits
+-- for C6H ALIAS, pairs of names: a comment without text
+abbrev pub for_aliases : List ℕ → Result (Option Recipe) Obstacle
+for_aliases body = listing 0x88 (0x00 ∷ 0xDA ∷ []) (entries alias_pair_front body)
+
+-- for names and externals: 82H LHEADR, CAH LLNAMES, 8CH EXTDEF, B0H COMDEF, B5H LEXTDEF, B8H LCOMDEF, BCH CEXTDEF, C6H
+-- ALIAS; for 88H COMENT; and for other records, of 32 bits
 abbrev pub for_other : Renaming → List (List ℕ) → ℕ → List ℕ → Result (Option Recipe) Obstacle
 for_other renaming names kind body =
     if kind == 0x8C then for_externals renaming body
-    else if kind == 0xC6 then Ok (Some empty_comment)
+    else if kind == 0x88 then for_comment body
+    else if kind == 0xC6 then for_aliases body
     else if kind == 0x82 then Ok (Some (of_bytes 0x80 body))
     else if kind == 0xCA then Ok (Some (of_bytes 0x96 body))
     else if kind == 0xB0 then listing 0x8C [] (entries (renamed_communal_front renaming) body)
+    else if kind == 0xB5 then Ok (Some (of_bytes 0xB4 body))
     else if kind == 0xB8 then listing 0xB4 [] (entries communal_front body)
     else if kind == 0xBC then listing 0x8C [] (entries (named_front renaming names) body)
     else if kind == 0x91 then for_publics 0x90 body
@@ -107,15 +118,28 @@ for_other renaming names kind body =
     else if kind == 0x8B then for_end body
     else Ok None
 
--- what is written for a record; none, where it stays
-unfoldable pub recipe_for : Lowering → Seen → Frame → Result (Option Recipe) Obstacle
-recipe_for lowering seen f =
+-- what is written for a record of its type
+unfoldable pub recipe_by_type : Lowering → Seen → Frame → Result (Option Recipe) Obstacle
+recipe_by_type lowering seen f =
     if is_data f.kind then for_data seen.kept_out f.kind f.body
     else if f.kind == 0x98 then for_segment lowering seen.names 2 0x98 f.body
     else if f.kind == 0x99 then for_segment lowering seen.names 4 0x99 f.body
     else if f.kind == 0x9C then for_fixups seen.dropped seen.last 2 0x9C f.body
     else if f.kind == 0x9D then for_fixups seen.dropped seen.last 4 0x9D f.body
     else for_other seen.renaming seen.names f.kind f.body
+
+-- the group FLAT is named by a start, or by a fix-up or a thread behind data that is kept
+abbrev pub names_flat : Seen → Frame → Bool
+names_flat seen f =
+    if f.kind == 0x9C then not seen.dropped && any_entry (flat_front seen.flat 2) f.body
+    else if f.kind == 0x9D then not seen.dropped && any_entry (flat_front seen.flat 4) f.body
+    else if (f.kind == 0x8A) || (f.kind == 0x8B) then start_is_flat seen.flat f.body
+    else false
+
+-- what is written for a record; none, where it stays
+unfoldable pub recipe_for : Lowering → Seen → Frame → Result (Option Recipe) Obstacle
+recipe_for lowering seen f =
+    if names_flat seen f then Err FlatFrame else recipe_by_type lowering seen f
 
 unfoldable pub content_for : Lowering → Seen → Frame → Result (Option Content) Obstacle
 content_for lowering seen f = made (recipe_for lowering seen f)

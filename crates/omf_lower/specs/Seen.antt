@@ -8,6 +8,7 @@ use Rattle.omf_library.specs.Fields.{index_front}
 use Rattle.omf_library.specs.Listed.{listed_in}
 use Rattle.omf_lower.specs.declared.lowering.Lowering.{Lowering}
 use Rattle.omf_lower.specs.Data.{Data, no_data, data_of, is_data}
+use Rattle.omf_lower.specs.Flat.{groups_in}
 use Rattle.omf_lower.specs.Segments.{definition, is_kept_out}
 
 pub record Seen : Type 0 where
@@ -15,6 +16,8 @@ pub record Seen : Type 0 where
   pub names : List (List ℕ)
   -- of each segment whether it is kept out
   pub kept_out : List Bool
+  -- of each group whether it is FLAT
+  pub flat : List Bool
   -- the last record of data was of a segment that is kept out
   pub dropped : Bool
   -- the last record of data
@@ -25,7 +28,7 @@ pub record Seen : Type 0 where
 -- before the first record
 abbrev pub nothing_seen : Renaming → Seen
 nothing_seen renaming =
-    record { names = []; kept_out = []; dropped = false; last = no_data; renaming = renaming }
+    record { names = []; kept_out = []; flat = []; dropped = false; last = no_data; renaming = renaming }
 
 -- whether the segment of a SEGDEF is kept out, whose length has so many bytes; a body that isn't one defines a segment
 -- that isn't
@@ -72,6 +75,7 @@ abbrev pub seen_after : Lowering → Seen → Frame → Seen
 seen_after lowering seen f = record {
   names = seen.names ++ listed_in f;
   kept_out = seen.kept_out ++ defined_in lowering seen.names f;
+  flat = seen.flat ++ groups_in seen.names f;
   dropped = dropped_by seen.kept_out seen.dropped f;
   last = last_by seen.last f;
   renaming = seen.renaming;

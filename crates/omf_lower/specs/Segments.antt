@@ -1,7 +1,8 @@
 -- Segment definitions, 98H and 99H SEGDEF (TIS OMF 1.1, "Segment Definition Record"): which segments are kept out of
 -- the program, and which share a frame.
 use Rattle.std.specs.Prelude.{ℕ, ◌+◌, ◌*◌, ◌/◌, ◌%◌, ◌==◌, Bool, false, not, ◌&&◌, ◌||◌, if◌then◌else◌}
-use Rattle.std.specs.Prelude.{nat_lt, List, [], ◌∷◌, ◌++◌, length, codes, Some, None, Ok, Err}
+use Rattle.std.specs.Prelude.{nat_le, nat_lt, List, [], ◌∷◌, ◌++◌, length, slice_index, codes, Some, None, Ok}
+use Rattle.std.specs.Prelude.{Err}
 use Rattle.std.specs.declared.option.Option.{Option}
 use Rattle.std.specs.declared.result.Result.{Result}
 use Rattle.std.specs.Option.{option_map, option_map_or, option_and_then}
@@ -75,9 +76,14 @@ has_class is names d = option_map_or is (listed_name names d.class) false
 abbrev pub is_kept_out : Lowering → List (List ℕ) → Definition → Bool
 is_kept_out lowering names d = not lowering.keep_debug && has_class is_debug names d
 
--- the segment shares a frame with all of its class
+-- a segment that is placed, A, bits 7 to 5, isn't 0, and is private or public: C, bits 4 to 2, is neither 5, a stack, nor
+-- 6, common
+abbrev pub is_private_or_public : ℕ → Bool
+is_private_or_public acbp = nat_le 32 acbp && not ((acbp / 4 % 8 == 5) || (acbp / 4 % 8 == 6))
+
+-- the segment shares a frame with all private and public ones of its class
 abbrev pub shares_frame : Lowering → List (List ℕ) → Definition → Bool
-shares_frame lowering names d = lowering.shares_far_data && has_class is_far_data names d
+shares_frame lowering names d = lowering.shares_far_data && is_private_or_public d.acbp && has_class is_far_data names d
 
 -- what stays of a segment that is kept out: it is private, byte aligned, of length 0, and its names are the same
 abbrev pub nothing_of : Definition → Recipe
@@ -91,20 +97,27 @@ made_public acbp = acbp / 32 * 32 + 8 + acbp % 4
 abbrev pub of_16_bits : ℕ → ℕ
 of_16_bits acbp = acbp / 2 * 2
 
--- a length in two bytes. One of four bytes is 4,294,967,296 where B, bit 1, is set
-abbrev pub short_size : ℕ → List ℕ → Result (List ℕ) Obstacle
-short_size acbp size =
-    if nat_lt (length size) 4 then Ok size
+-- four bytes that are the number 65,536
+abbrev pub is_64_kib : List ℕ → Bool
+is_64_kib size =
+    (slice_index size 0 == 0) && (slice_index size 1 == 0) && (slice_index size 2 == 1) && (slice_index size 3 == 0)
+
+-- the byte A, C, B, P of a segment of 16 bits, and its length in two bytes. With B, bit 1, the length is 65,536 and
+-- stands as 0; one of four bytes is 4,294,967,296 with B
+abbrev pub short_length : ℕ → List ℕ → Result (ℕ × List ℕ) Obstacle
+short_length acbp size =
+    if nat_lt (length size) 4 then Ok (of_16_bits acbp, size)
     else if acbp / 2 % 2 == 1 then Err Above16Bits
-    else (narrow size >>= λ number. Ok number.0)
+    else if is_64_kib size then Ok (of_16_bits acbp + 2, 0 ∷ 0 ∷ [])
+    else (narrow size >>= λ number. Ok (of_16_bits acbp, number.0))
 
 -- a segment of 16 bits with this byte and these names
 abbrev pub with_names : Definition → ℕ → List ℕ → Result (Option Recipe) Obstacle
-with_names d acbp names = short_size d.acbp d.size >>= λ size.
-    Ok (Some (record { kind = 0x98; front = of_16_bits acbp ∷ (d.standing ++ (size ++ names)); tail = Ok [] }))
+with_names d acbp names = short_length acbp d.size >>= λ (byte, size).
+    Ok (Some (record { kind = 0x98; front = byte ∷ (d.standing ++ (size ++ names)); tail = Ok [] }))
 
 -- what is written for a SEGDEF of this type; none, where it stays: it is of 16 bits. One that shares a frame is public,
--- and the name of its class is its own
+-- and the name of its class is its own; all others combine as they did
 abbrev pub segment_recipe : Lowering → List (List ℕ) → ℕ → Definition → Result (Option Recipe) Obstacle
 segment_recipe lowering names kind d =
     if is_kept_out lowering names d then Ok (Some (nothing_of d))

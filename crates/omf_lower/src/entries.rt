@@ -5,7 +5,9 @@ ghost use Rattle.omf_lower.specs.inside.Tails.{Puts, entry_front, tail_text};
 ghost use Rattle.omf_lower.specs.inside.Views.{entry_said};
 
 use crate::data::Data;
-use crate::externals::{take_communal, take_named, take_renamed, take_renamed_communal};
+use crate::externals::{
+    take_alias_pair, take_communal, take_named, take_renamed, take_renamed_communal,
+};
 use crate::fault::{Obstacle, RecordFault};
 use crate::fixups::{take_fixup, take_thread};
 use crate::narrowing::{take_block, take_line, take_public};
@@ -26,6 +28,8 @@ pub(crate) enum Tail<'a> {
     Named(&'a Renaming<'a, 'a>, &'a [&'a [u8]]),
     /// Externals by what their names mean.
     Renamed(&'a Renaming<'a, 'a>),
+    /// Aliases, of which nothing is written.
+    Aliases,
     /// Public names with offsets of four bytes.
     Publics,
     /// Line numbers with offsets of four bytes.
@@ -50,6 +54,7 @@ fn take_entry<'a>(tail: Tail<'a>, bytes: &'a [u8]) -> Result<(Written<'a>, &'a [
         Tail::RenamedCommunals(renaming) => take_renamed_communal(renaming, bytes),
         Tail::Named(renaming, names) => take_named(renaming, names, bytes),
         Tail::Renamed(renaming) => take_renamed(renaming, bytes),
+        Tail::Aliases => take_alias_pair(bytes),
         Tail::Publics => take_public(bytes),
         Tail::Lines => take_line(bytes),
         Tail::Blocks => take_block(bytes),

@@ -1,4 +1,4 @@
-//! Externals, and those of COMDEF, LCOMDEF and CEXTDEF as these, by what their names mean.
+//! Externals, and those of COMDEF, LCOMDEF and CEXTDEF as these, by what their names mean; and aliases.
 
 ghost use Rattle.std.specs.Prelude.{◌≡◌, ◌<◌, ◌≤◌, IfOk, IfSome, length};
 ghost use Rattle.omf_alias.specs.Said.{renaming_said};
@@ -138,4 +138,15 @@ pub(crate) fn take_named<'a>(
     let name = listed_name(names, index).ok_or(Obstacle::Body)?;
     let written = with_meaning(renaming, name, before(rest, after))?;
     Ok((written, after))
+}
+
+/// What is written for the alias at the front, which is nothing, and the bytes behind it.
+#[tactic(auto, unfolding(crate::specs::Externals::alias_pair_front))]
+pub(crate) fn take_alias_pair(bytes: &[u8]) -> Result<(Written<'_>, &[u8]), Obstacle>
+    ensures said { entry_said result ≡ externals.alias_pair_front bytes.now }
+    ensures shorter { IfOk result (λ x. length x.1.now < length bytes.now) }
+{
+    let (_, rest) = take_name(bytes).ok_or(Obstacle::Body)?;
+    let (_, after) = take_name(rest).ok_or(Obstacle::Body)?;
+    Ok((Written::Nothing, after))
 }

@@ -24,6 +24,15 @@ pub enum Obstacle {
     /// 255.
     #[error("what it is lowered to is longer than a record may be")]
     TooLong,
+    /// 63: a comment says that the module is Easy OMF, of 32 bits in records of even types.
+    #[error("the module is Easy OMF")]
+    EasyOmf,
+    /// 64: a comment imports a name from a dynamic library.
+    #[error("a name is imported from a dynamic library")]
+    ImportedName,
+    /// 65: a fix-up, a thread or the start counts from the group FLAT, of protected mode.
+    #[error("an address counts from the group FLAT")]
+    FlatFrame,
 }
 
 /// Why a module isn't lowered.

@@ -42,7 +42,7 @@ fn target_has_index(method: u8) -> Option<bool>
 }
 
 /// The bytes behind an index, if there is one. None where they end inside it.
-fn behind_index(has: bool, bytes: &[u8]) -> Option<&[u8]>
+pub(crate) fn behind_index(has: bool, bytes: &[u8]) -> Option<&[u8]>
     ensures said { bytes_said result ≡ fixups.behind_index has bytes.now }
     ensures no_longer { IfSome result (λ rest. length rest.now ≤ length bytes.now) }
 {
@@ -65,7 +65,7 @@ fn thread_has_index(first: u8) -> Option<bool>
 }
 
 /// Whether an index stands for the frame of a fix-up. None where its method is refused.
-fn has_frame_index(fix_data: u8) -> Option<bool>
+pub(crate) fn has_frame_index(fix_data: u8) -> Option<bool>
     ensures { result ≡ fixups.has_frame_index fix_data }
 {
     if fix_data / 128 == 1 {
@@ -145,7 +145,7 @@ fn behind_thread(first: u8, bytes: &[u8]) -> Option<&[u8]>
 }
 
 /// The bytes behind a subrecord with this first byte, whose displacement has so many bytes.
-fn behind_subrecord(width: usize, first: u8, bytes: &[u8]) -> Option<&[u8]>
+pub(crate) fn behind_subrecord(width: usize, first: u8, bytes: &[u8]) -> Option<&[u8]>
     ensures said { bytes_said result ≡ fixups.behind_subrecord width first bytes.now }
     ensures no_longer { IfSome result (λ rest. length rest.now ≤ length bytes.now) }
 {

@@ -1,6 +1,7 @@
 //! What compilers write, lowered to records that `omf` takes: a record for a record.
 #![tactic(auto)]
 
+mod comments;
 mod data;
 mod draft;
 mod entries;
@@ -8,6 +9,7 @@ mod externals;
 mod fault;
 mod fields;
 mod fixups;
+mod flat;
 mod laws;
 mod lowering;
 mod narrowing;

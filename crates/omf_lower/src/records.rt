@@ -1,6 +1,6 @@
 //! What is written for a record of a module.
 
-ghost use Rattle.std.specs.Prelude.{◌≡◌, ◌<◌, [], IfSome, length};
+ghost use Rattle.std.specs.Prelude.{◌≡◌, ◌<◌, [], IfSome, Some, Ok, length};
 ghost use Rattle.omf_alias.specs.Said.{renaming_said};
 ghost use Rattle.omf_frame.specs.Lending.{plain_frame};
 ghost use Rattle.omf_library.specs.Entries.{behind_base};
@@ -11,12 +11,14 @@ ghost use Rattle.omf_lower.specs.inside.Recipes.{IsContent, recipe_view, recipes
 ghost use Rattle.omf_lower.specs.inside.Tails.{tail_text};
 ghost use Rattle.omf_lower.specs.inside.Views.{data_view, reference_view, seen_view};
 
+use crate::comments::for_comment;
 use crate::data::{Data, is_data};
 use crate::entries::Tail;
 use crate::externals::has_alias;
 use crate::fault::{Obstacle, RecordFault};
 use crate::fields::{before, narrow};
 use crate::fixups::{Reference, has_wide, narrowed, take_reference};
+use crate::flat::{has_flat, start_is_flat};
 use crate::lowering::Lowering;
 use crate::recipe::{Content, Recipe, empty_comment, made, of_bytes};
 use crate::seen::{Seen, is_of_kept_out};
@@ -178,7 +180,20 @@ fn for_externals<'a>(
     }
 }
 
-/// What is written for names and externals, and for other records of 32 bits. None where the record stays.
+/// What is written for aliases: a comment without text.
+fn for_aliases(body: &[u8]) -> Recipe<'_>
+    ensures { Ok (Some (recipe_view result)) ≡ records.for_aliases body.now }
+{
+    Recipe {
+        kind: 0x88,
+        front: Written::Same(&[0x00, 0xDA]),
+        tail: Tail::Aliases,
+        rest: body,
+    }
+}
+
+/// What is written for names and externals, for comments, and for other records of 32 bits. None where the record
+/// stays.
 fn for_other<'a>(
     renaming: &'a Renaming<'a, 'a>,
     names: &'a [&'a [u8]],
@@ -189,10 +204,12 @@ fn for_other<'a>(
 {
     match kind {
         0x8C => for_externals(renaming, body),
-        0xC6 => Ok(Some(empty_comment())),
+        0x88 => for_comment(body),
+        0xC6 => Ok(Some(for_aliases(body))),
         0x82 => Ok(Some(of_bytes(0x80, body))),
         0xCA => Ok(Some(of_bytes(0x96, body))),
         0xB0 => Ok(Some(entry_by_entry(0x8C, Tail::RenamedCommunals(renaming), body))),
+        0xB5 => Ok(Some(of_bytes(0xB4, body))),
         0xB8 => Ok(Some(entry_by_entry(0xB4, Tail::Communals, body))),
         0xBC => Ok(Some(entry_by_entry(0x8C, Tail::Named(renaming, names), body))),
         0x91 => for_publics(0x90, body),
@@ -200,6 +217,40 @@ fn for_other<'a>(
         0x95 => for_lines(body),
         0x8B => for_end(body),
         _ => Ok(None),
+    }
+}
+
+/// What is written for a record of its type, by what is known of those before it. None where it stays.
+#[tactic(auto, unfolding(crate::specs::Records::recipe_by_type))]
+fn recipe_by_type<'a, A: Allocator + Copy>(
+    lowering: Lowering,
+    seen: &'a Seen<'a, A>,
+    frame: &Frame<'a>,
+) -> Result<Option<Recipe<'a>>, Obstacle>
+    ensures { recipes_said result
+        ≡ records.recipe_by_type lowering (seen_view seen.now) (plain_frame frame.now) }
+{
+    if is_data(frame.kind) {
+        return for_data(&seen.kept_out, frame.kind, frame.body);
+    }
+    match frame.kind {
+        0x98 => for_segment(lowering, &seen.names, 2, 0x98, frame.body),
+        0x99 => for_segment(lowering, &seen.names, 4, 0x99, frame.body),
+        0x9C => for_fixups(seen.dropped, seen.last, 2, 0x9C, frame.body),
+        0x9D => for_fixups(seen.dropped, seen.last, 4, 0x9D, frame.body),
+        _ => for_other(&seen.renaming, &seen.names, frame.kind, frame.body),
+    }
+}
+
+/// Whether the group FLAT is named by a start, or by a fix-up or a thread behind data that is kept.
+fn names_flat<A: Allocator + Copy>(seen: &Seen<'_, A>, frame: &Frame<'_>) -> bool
+    ensures { result ≡ records.names_flat (seen_view seen.now) (plain_frame frame.now) }
+{
+    match frame.kind {
+        0x9C => !seen.dropped && has_flat(&seen.flat, 2, frame.body),
+        0x9D => !seen.dropped && has_flat(&seen.flat, 4, frame.body),
+        0x8A | 0x8B => start_is_flat(&seen.flat, frame.body),
+        _ => false,
     }
 }
 
@@ -213,16 +264,10 @@ pub(crate) fn recipe_for<'a, A: Allocator + Copy>(
     ensures { recipes_said result
         ≡ records.recipe_for lowering (seen_view seen.now) (plain_frame frame.now) }
 {
-    if is_data(frame.kind) {
-        return for_data(&seen.kept_out, frame.kind, frame.body);
+    if names_flat(seen, frame) {
+        return Err(Obstacle::FlatFrame);
     }
-    match frame.kind {
-        0x98 => for_segment(lowering, &seen.names, 2, 0x98, frame.body),
-        0x99 => for_segment(lowering, &seen.names, 4, 0x99, frame.body),
-        0x9C => for_fixups(seen.dropped, seen.last, 2, 0x9C, frame.body),
-        0x9D => for_fixups(seen.dropped, seen.last, 4, 0x9D, frame.body),
-        _ => for_other(&seen.renaming, &seen.names, frame.kind, frame.body),
-    }
+    recipe_by_type(lowering, seen, frame)
 }
 
 /// What is written for a record, made. None where it stays.

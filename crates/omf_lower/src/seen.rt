@@ -4,10 +4,12 @@ ghost use Rattle.std.specs.Prelude.{◌≡◌, ◌++◌, OnOk};
 ghost use Rattle.omf_alias.specs.Said.{renaming_said};
 ghost use Rattle.omf_frame.specs.Lending.{plain_frame};
 ghost use Rattle.omf_library.specs.Names.{texts};
+ghost use Rattle.omf_lower.specs.Flat.{groups_in};
 ghost use Rattle.omf_lower.specs.Seen as seen;
 ghost use Rattle.omf_lower.specs.inside.Views.{data_view, seen_view};
 
 use crate::data::{Data, data_of, is_data, no_data};
+use crate::flat::defines_flat;
 use crate::lowering::Lowering;
 use crate::segments::{is_kept_out, read_definition};
 use omf_alias::Renaming;
@@ -22,6 +24,8 @@ pub(crate) struct Seen<'a, A: Allocator + Copy> {
     pub(crate) names: Vec<&'a [u8], A>,
     /// Of each segment whether it is kept out.
     pub(crate) kept_out: Vec<bool, A>,
+    /// Of each group whether it is FLAT.
+    pub(crate) flat: Vec<bool, A>,
     /// Whether the last record of data was of a segment that is kept out.
     pub(crate) dropped: bool,
     /// The last record of data.
@@ -88,6 +92,20 @@ fn push_defined<A: Allocator + Copy>(
     Ok(())
 }
 
+/// Appends whether the group that a record defines is FLAT.
+fn push_group<A: Allocator + Copy>(
+    names: &[&[u8]],
+    frame: &Frame<'_>,
+    flat: &mut Vec<bool, A>,
+) -> Result<(), AllocError>
+    ensures { OnOk result (flat.new.items ≡ flat.old.items ++ groups_in (texts names.now) (plain_frame frame.now)) }
+{
+    if frame.kind == 0x9A {
+        flat.push(defines_flat(names, frame.body))?;
+    }
+    Ok(())
+}
+
 /// Whether the last record of data was of a segment that is kept out, once this record is among those.
 fn dropped_by(kept_out: &[bool], dropped: bool, frame: &Frame<'_>) -> bool
     ensures { result ≡ seen.dropped_by kept_out.now dropped (plain_frame frame.now) }
@@ -125,6 +143,7 @@ impl<'a, A: Allocator + Copy> Seen<'a, A> {
         Seen {
             names: Vec::new(alloc),
             kept_out: Vec::new(alloc),
+            flat: Vec::new(alloc),
             dropped: false,
             last: no_data(),
             renaming: *renaming,
@@ -139,6 +158,7 @@ impl<'a, A: Allocator + Copy> Seen<'a, A> {
         self.last = last_by(&self.last, frame);
         self.dropped = dropped_by(&self.kept_out, self.dropped, frame);
         push_defined(lowering, &self.names, frame, &mut self.kept_out)?;
+        push_group(&self.names, frame, &mut self.flat)?;
         push_listed(frame, &mut self.names)?;
         Ok(())
     }

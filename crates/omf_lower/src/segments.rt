@@ -1,12 +1,13 @@
 //! Segment definitions, 98H and 99H SEGDEF.
 
-ghost use Rattle.std.specs.Prelude.{◌≡◌, ◌++◌};
+ghost use Rattle.std.specs.Prelude.{◌≡◌, ◌++◌, ◌≤◌, length};
 ghost use Rattle.omf_library.specs.Names.{texts};
 ghost use Rattle.omf_lower.specs.Records.{for_segment};
-ghost use Rattle.omf_lower.specs.Segments.{definition, is_debug, is_far_data, is_kept_out, shares_frame, standing_len};
-ghost use Rattle.omf_lower.specs.Segments.{made_public, of_16_bits, nothing_of, segment_recipe, short_size, with_names};
+ghost use Rattle.omf_lower.specs.Segments.{definition, is_debug, is_far_data, is_kept_out, is_private_or_public};
+ghost use Rattle.omf_lower.specs.Segments.{is_64_kib, made_public, of_16_bits, nothing_of, segment_recipe, shares_frame};
+ghost use Rattle.omf_lower.specs.Segments.{short_length, standing_len, with_names};
 ghost use Rattle.omf_lower.specs.inside.Recipes.{recipe_view, recipes_said};
-ghost use Rattle.omf_lower.specs.inside.Views.{definition_view, definition_said, rest_said};
+ghost use Rattle.omf_lower.specs.inside.Views.{definition_view, definition_said, length_said};
 
 use crate::entries::Tail;
 use crate::fault::Obstacle;
@@ -92,11 +93,18 @@ pub(crate) fn is_kept_out(lowering: Lowering, names: &[&[u8]], definition: &Defi
     }
 }
 
-/// Whether the segment shares a frame with all of its class.
+/// Whether a segment with this byte A, C, B, P is placed, and private or public: neither a stack nor common.
+fn is_private_or_public(acbp: u8) -> bool
+    ensures { result ≡ is_private_or_public acbp }
+{
+    32 <= acbp && !(acbp / 4 % 8 == 5 || acbp / 4 % 8 == 6)
+}
+
+/// Whether the segment shares a frame with all private and public ones of its class.
 fn shares_frame(lowering: Lowering, names: &[&[u8]], definition: &Definition<'_>) -> bool
     ensures { result ≡ shares_frame lowering (texts names.now) (definition_view «definition».now) }
 {
-    if !lowering.shares_far_data {
+    if !lowering.shares_far_data || !is_private_or_public(definition.acbp) {
         return false;
     }
     match listed_name(names, definition.class) {
@@ -119,18 +127,30 @@ fn of_16_bits(acbp: u8) -> u8
     acbp / 2 * 2
 }
 
-/// A length in two bytes. One of four bytes is 4,294,967,296 where B is set.
-fn short_size(acbp: u8, size: &[u8]) -> Result<&[u8], Obstacle>
-    ensures { rest_said result ≡ short_size acbp size.now }
+/// Whether four bytes are the number 65,536.
+fn is_64_kib(size: &[u8]) -> bool
+    requires { 4 ≤ length size.now }
+    ensures { result ≡ is_64_kib size.now }
+{
+    size[0] == 0 && size[1] == 0 && size[2] == 1 && size[3] == 0
+}
+
+/// The byte A, C, B, P of a segment of 16 bits, and its length in two bytes, which is 0 for 65,536 where B is set. One
+/// of four bytes is 4,294,967,296 where B is set.
+fn short_length(acbp: u8, size: &[u8]) -> Result<(u8, &[u8]), Obstacle>
+    ensures { length_said result ≡ short_length acbp size.now }
 {
     if size.len() < 4 {
-        return Ok(size);
+        return Ok((of_16_bits(acbp), size));
     }
     if acbp / 2 % 2 == 1 {
         return Err(Obstacle::Above16Bits);
     }
+    if is_64_kib(size) {
+        return Ok((of_16_bits(acbp) + 2, &[0, 0]));
+    }
     let (number, _) = narrow(size)?;
-    Ok(number)
+    Ok((of_16_bits(acbp), number))
 }
 
 /// What stays of a segment that is kept out.
@@ -154,10 +174,10 @@ fn with_names<'a>(
 ) -> Result<Option<Recipe<'a>>, Obstacle>
     ensures { recipes_said result ≡ with_names (definition_view «definition».now) acbp (name.now ++ names.now) }
 {
-    let size = short_size(definition.acbp, definition.size)?;
+    let (acbp, size) = short_length(acbp, definition.size)?;
     Ok(Some(Recipe {
         kind: 0x98,
-        front: Written::Behind(of_16_bits(acbp), definition.standing, size, name, names),
+        front: Written::Behind(acbp, definition.standing, size, name, names),
         tail: Tail::Same,
         rest: &[],
     }))
@@ -191,7 +211,8 @@ fn segment_recipe<'a>(
     with_names(definition, definition.acbp, &[], definition.names)
 }
 
-/// What is written for a SEGDEF of this type and body, whose length has so many bytes. None where it stays.
+/// What is written for a SEGDEF of this type and body, whose length has so many bytes. None where it stays, as a 98H
+/// does that isn't one.
 pub(crate) fn for_segment<'a>(
     lowering: Lowering,
     names: &[&[u8]],
@@ -203,6 +224,7 @@ pub(crate) fn for_segment<'a>(
 {
     match read_definition(width, body) {
         Some(definition) => segment_recipe(lowering, names, kind, &definition),
-        None => Ok(None),
+        None if kind == 0x98 => Ok(None),
+        None => Err(Obstacle::Body),
     }
 }

@@ -47,6 +47,11 @@ abbrev pub narrow_said : Result (Bor (List ℕ) × Bor (List ℕ)) Obstacle → 
 narrow_said (Ok (number, rest)) = Ok (number.now, rest.now)
 narrow_said (Err obstacle) = Err obstacle
 
+-- a byte, and bytes
+abbrev pub length_said : Result (ℕ × Bor (List ℕ)) Obstacle → Result (ℕ × List ℕ) Obstacle
+length_said (Ok (byte, size)) = Ok (byte, size.now)
+length_said (Err obstacle) = Err obstacle
+
 -- the fields of a SEGDEF
 abbrev pub definition_view : definition.Definition → Definition
 definition_view d = record {
@@ -103,6 +108,7 @@ abbrev pub seen_view : {A : Type 0} → seen.Seen A → Seen
 seen_view s = record {
   names = texts s.names.items;
   kept_out = s.kept_out.items;
+  flat = s.flat.items;
   dropped = s.dropped;
   last = data_view s.last;
   renaming = renaming_said s.renaming;

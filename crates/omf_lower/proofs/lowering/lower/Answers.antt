@@ -2,12 +2,12 @@ use Rattle.std.proofs.Common.{◌≡◌, ◌+◌, length, sym, subst, ◌∙◌,
 use Rattle.omf_alias.specs.Said.{renaming_said}
 use Rattle.omf_frame.specs.Lending.{plain_frame}
 use Rattle.omf_library.specs.Records.{place_behind}
-use Rattle.omf_lower.specs.Module.{lowered}
+use Rattle.omf_lower.specs.Module.{Answers, lowered}
 use Rattle.omf_lower.specs.Seen.{Seen, nothing_seen, seen_after}
 use Rattle.omf_lower.specs.inside.Drafts.{Draft, draft_view, Extends}
 use Rattle.omf_lower.specs.inside.Views.{seen_view}
 use Rattle.omf_lower.proofs.Walking.{LoweringLeft, lowering_first, lowering_stop, lowering_last, lowering_more}
-use Rattle.omf_lower.proofs.Walking.{answers-whole}
+use Rattle.omf_lower.proofs.Walking.{answers-err, answers-fault, answers-whole}
 use Rattle.omf_lower.proofs.lowering.lower.Goals as goal
 
 pub loop-frame-init : goal.loop-frame-init
@@ -69,3 +69,17 @@ loop-frame-preserved g c =
     (omega (arith, at)) (omega (arith, at, c.in-Ok.ensures.within)) in
     subst (λ (s : Seen). LoweringLeft l r m (place + (length f.body + 4)) (number + 1) s new) (sym c.in_ok-note.ensures)
     (subst (λ n. LoweringLeft l r m n (number + 1) (seen_after l seen f) new) here left)
+
+pub returns-in_err-put_lowered : goal.returns-in_err-put_lowered
+returns-in_err-put_lowered g c =
+    let l = c.args.lowering in
+    let r = renaming_said c.args.renaming.now in
+    let m = c.args.module.now in
+    let f = plain_frame c.in-Ok.frame in
+    let at : f.place ≡ c.loop-frame.place = c.in-Ok.ensures.place in
+    let fault = answers-fault g.row.A.Denot (Unit {0}) l r m c.loop-frame.place c.loop-frame.number (seen_view c.loop-frame.seen)
+    (draft_view c.loop-frame.draft) (draft_view c.put_lowered.new.self) f _ c.loop-frame.invariant
+    (sym c.in-Ok.ensures.said) (omega (arith, at)) (omega (arith, at, c.in-Ok.ensures.within))
+    c.in_err-put_lowered.ensures in
+    answers-err m (lowered l r m) c.from_residual-in_err-put_lowered.result _
+    c.from_residual-in_err-put_lowered.ensures.1 fault
