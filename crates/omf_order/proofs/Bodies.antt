@@ -1,12 +1,12 @@
 -- The canonical bodies of the records of the order module, and that each fits a frame.
-use Rattle.std.proofs.Common.{ℕ, ◌+◌, ◌*◌, ◌<◌, ◌≤◌, true, false, cond, eqb, List, [], ◌∷◌, ◌++◌, length, map, Option}
+use Rattle.std.proofs.Common.{ℕ, ◌+◌, ◌*◌, ◌<◌, ◌≤◌, Bool, true, false, replicate, cond, eqb, List, [], ◌∷◌, ◌++◌, length, map, Option}
 use Rattle.std.proofs.Common.{None, Some, IfSome, refl, arith, length-append, lit<, lit≤}
 use Rattle.std.proofs.lemmas.List.{length-map}
 use Rattle.std.specs.List.{AllByRecursion, flat_map}
 use Rattle.std.specs.Option.{option_to_list}
 use Rattle.omf_module.specs.declared.Kind.{Kind}
 use Rattle.omf_module.specs.declared.Kind.TheVariants as kind
-use Rattle.omf_record.specs.Language.{Name}
+use Rattle.omf_record.specs.Language.{IsBytes, Name}
 use Rattle.omf_record.specs.declared.segments.Alignment.{Alignment}
 use Rattle.omf_record.specs.declared.segments.SegmentDefinition.{SegmentDefinition}
 use Rattle.omf_record.specs.declared.externals.PublicBase.TheVariants.{InSegment}
@@ -18,7 +18,8 @@ use Rattle.omf_record.specs.inside.Fields.{ComponentText, PublicText}
 use Rattle.omf_record.specs.Canonical as canon
 use Rattle.omf_record.specs.Canonical.{FitsFrame, canonical}
 use Rattle.omf_order.specs.Parts.{Part}
-use Rattle.omf_order.specs.Records.{alignment_of, public_of, combination_of, segment_index, segment_record}
+use Rattle.omf_order.specs.Records.{alignment_of, combination_of, null_data, null_record, public_of, segment_index}
+use Rattle.omf_order.specs.Records.{segment_record}
 use Rattle.omf_write.specs.inside.Fits.{IsName}
 use Rattle.omf_write.proofs.Bodies.{each_text, index_len, index_text, joined, name_text, segment_by}
 
@@ -54,46 +55,65 @@ plain P b w d p g bytes =
           ]
     ]
 
-abbrev with : (name class : ℕ) → Kind → Alignment → SegmentDefinition
-with name class k a = record {
+abbrev with : (length name class : ℕ) → Kind → Alignment → SegmentDefinition
+with length name class k a = record {
   alignment = a;
   combination = combination_of k;
-  length = len.Word 0;
+  length = len.Word length;
   name = name;
   class = class;
   overlay = 0;
 }
 
-by_kind : (name class : ℕ) → name ≤ 32767 → class ≤ 32767 → (k : Kind) → (bytes : ℕ)
-    → FitsFrame (Segdef (with name class k (alignment_of bytes)))
-by_kind n c h j kind.Private = plain (λ a. FitsFrame (Segdef (with n c kind.Private a)))
-    (segment_by _ (32, lit< tt, (refl, refl, refl, refl), refl) refl refl (lit< tt, refl) h j (lit≤ tt))
-    (segment_by _ (64, lit< tt, (refl, refl, refl, refl), refl) refl refl (lit< tt, refl) h j (lit≤ tt))
-    (segment_by _ (160, lit< tt, (refl, refl, refl, refl), refl) refl refl (lit< tt, refl) h j (lit≤ tt))
-    (segment_by _ (96, lit< tt, (refl, refl, refl, refl), refl) refl refl (lit< tt, refl) h j (lit≤ tt))
-    (segment_by _ (128, lit< tt, (refl, refl, refl, refl), refl) refl refl (lit< tt, refl) h j (lit≤ tt))
-by_kind n c h j kind.Public = plain (λ a. FitsFrame (Segdef (with n c kind.Public a)))
-    (segment_by _ (40, lit< tt, (refl, refl, refl, refl), refl) refl refl (lit< tt, refl) h j (lit≤ tt))
-    (segment_by _ (72, lit< tt, (refl, refl, refl, refl), refl) refl refl (lit< tt, refl) h j (lit≤ tt))
-    (segment_by _ (168, lit< tt, (refl, refl, refl, refl), refl) refl refl (lit< tt, refl) h j (lit≤ tt))
-    (segment_by _ (104, lit< tt, (refl, refl, refl, refl), refl) refl refl (lit< tt, refl) h j (lit≤ tt))
-    (segment_by _ (136, lit< tt, (refl, refl, refl, refl), refl) refl refl (lit< tt, refl) h j (lit≤ tt))
-by_kind n c h j kind.Stack = plain (λ a. FitsFrame (Segdef (with n c kind.Stack a)))
-    (segment_by _ (52, lit< tt, (refl, refl, refl, refl), refl) refl refl (lit< tt, refl) h j (lit≤ tt))
-    (segment_by _ (84, lit< tt, (refl, refl, refl, refl), refl) refl refl (lit< tt, refl) h j (lit≤ tt))
-    (segment_by _ (180, lit< tt, (refl, refl, refl, refl), refl) refl refl (lit< tt, refl) h j (lit≤ tt))
-    (segment_by _ (116, lit< tt, (refl, refl, refl, refl), refl) refl refl (lit< tt, refl) h j (lit≤ tt))
-    (segment_by _ (148, lit< tt, (refl, refl, refl, refl), refl) refl refl (lit< tt, refl) h j (lit≤ tt))
-by_kind n c h j kind.Common = plain (λ a. FitsFrame (Segdef (with n c kind.Common a)))
-    (segment_by _ (56, lit< tt, (refl, refl, refl, refl), refl) refl refl (lit< tt, refl) h j (lit≤ tt))
-    (segment_by _ (88, lit< tt, (refl, refl, refl, refl), refl) refl refl (lit< tt, refl) h j (lit≤ tt))
-    (segment_by _ (184, lit< tt, (refl, refl, refl, refl), refl) refl refl (lit< tt, refl) h j (lit≤ tt))
-    (segment_by _ (120, lit< tt, (refl, refl, refl, refl), refl) refl refl (lit< tt, refl) h j (lit≤ tt))
-    (segment_by _ (152, lit< tt, (refl, refl, refl, refl), refl) refl refl (lit< tt, refl) h j (lit≤ tt))
+by_kind : (w name class : ℕ) → w < 65536 → name ≤ 32767 → class ≤ 32767 → (k : Kind) → (bytes : ℕ)
+    → FitsFrame (Segdef (with w name class k (alignment_of bytes)))
+by_kind w n c l h j kind.Private = plain (λ a. FitsFrame (Segdef (with w n c kind.Private a)))
+    (segment_by _ (32, lit< tt, (refl, refl, refl, refl), refl) refl refl (l, refl) h j (lit≤ tt))
+    (segment_by _ (64, lit< tt, (refl, refl, refl, refl), refl) refl refl (l, refl) h j (lit≤ tt))
+    (segment_by _ (160, lit< tt, (refl, refl, refl, refl), refl) refl refl (l, refl) h j (lit≤ tt))
+    (segment_by _ (96, lit< tt, (refl, refl, refl, refl), refl) refl refl (l, refl) h j (lit≤ tt))
+    (segment_by _ (128, lit< tt, (refl, refl, refl, refl), refl) refl refl (l, refl) h j (lit≤ tt))
+by_kind w n c l h j kind.Public = plain (λ a. FitsFrame (Segdef (with w n c kind.Public a)))
+    (segment_by _ (40, lit< tt, (refl, refl, refl, refl), refl) refl refl (l, refl) h j (lit≤ tt))
+    (segment_by _ (72, lit< tt, (refl, refl, refl, refl), refl) refl refl (l, refl) h j (lit≤ tt))
+    (segment_by _ (168, lit< tt, (refl, refl, refl, refl), refl) refl refl (l, refl) h j (lit≤ tt))
+    (segment_by _ (104, lit< tt, (refl, refl, refl, refl), refl) refl refl (l, refl) h j (lit≤ tt))
+    (segment_by _ (136, lit< tt, (refl, refl, refl, refl), refl) refl refl (l, refl) h j (lit≤ tt))
+by_kind w n c l h j kind.Stack = plain (λ a. FitsFrame (Segdef (with w n c kind.Stack a)))
+    (segment_by _ (52, lit< tt, (refl, refl, refl, refl), refl) refl refl (l, refl) h j (lit≤ tt))
+    (segment_by _ (84, lit< tt, (refl, refl, refl, refl), refl) refl refl (l, refl) h j (lit≤ tt))
+    (segment_by _ (180, lit< tt, (refl, refl, refl, refl), refl) refl refl (l, refl) h j (lit≤ tt))
+    (segment_by _ (116, lit< tt, (refl, refl, refl, refl), refl) refl refl (l, refl) h j (lit≤ tt))
+    (segment_by _ (148, lit< tt, (refl, refl, refl, refl), refl) refl refl (l, refl) h j (lit≤ tt))
+by_kind w n c l h j kind.Common = plain (λ a. FitsFrame (Segdef (with w n c kind.Common a)))
+    (segment_by _ (56, lit< tt, (refl, refl, refl, refl), refl) refl refl (l, refl) h j (lit≤ tt))
+    (segment_by _ (88, lit< tt, (refl, refl, refl, refl), refl) refl refl (l, refl) h j (lit≤ tt))
+    (segment_by _ (184, lit< tt, (refl, refl, refl, refl), refl) refl refl (l, refl) h j (lit≤ tt))
+    (segment_by _ (120, lit< tt, (refl, refl, refl, refl), refl) refl refl (l, refl) h j (lit≤ tt))
+    (segment_by _ (152, lit< tt, (refl, refl, refl, refl), refl) refl refl (l, refl) h j (lit≤ tt))
 
-pub segment_fits : (place : ℕ) (p : Part) → place < 16383 → FitsFrame (segment_record place p)
-segment_fits place p h =
-    by_kind (2 * place + 2) (2 * place + 3) (omega (arith, h)) (omega (arith, h)) p.kind p.alignment
+pub segment_fits : (place : ℕ) (nulls : Bool) (p : Part) → place < 16383 → FitsFrame (segment_record place nulls p)
+segment_fits place true p h =
+    by_kind 16 (2 * place + 2) (2 * place + 3) (lit< tt) (omega (arith, h)) (omega (arith, h)) p.kind p.alignment
+segment_fits place false p h =
+    by_kind 0 (2 * place + 2) (2 * place + 3) (lit< tt) (omega (arith, h)) (omega (arith, h)) p.kind p.alignment
+
+-- ---- LEDATA
+
+null_bytes : IsBytes null_data
+null_bytes = (lit< tt, (lit< tt, (lit< tt, (lit< tt, (lit< tt, (lit< tt, (lit< tt, (lit< tt, eight))))))))
+  where
+    eight : IsBytes (replicate 8 0)
+    eight = (lit< tt, (lit< tt, (lit< tt, (lit< tt, (lit< tt, (lit< tt, (lit< tt, (lit< tt, tt))))))))
+
+pub nulls_fit : (place : ℕ) → place < 16383 → FitsFrame (null_record place)
+unfolding Body canonical
+nulls_fit place h = record {
+  body =
+      joined (canon.index (place + 1)) (canon.word 0 ++ null_data) (index_text (place + 1) (omega (arith, h)))
+      (joined (canon.word 0) null_data (lit< tt, refl) (null_bytes, refl));
+  short = omega (arith, length-append (canon.index (place + 1)) (canon.word 0 ++ null_data), index_len (place + 1));
+}
 
 -- ---- GRPDEF and PUBDEF
 

@@ -63,7 +63,7 @@ none_join (Relocatable a Common) (Relocatable b k) e = cc
 keys_combine : (a b : Segment) → is_private (kind_of a.standing) ≡ false → same_key a b ≡ combine a b
 keys_combine a b e = ap (λ t. t && (bytes_eq a.name b.name && same_class a b)) (standings_join a.standing b.standing e)
 
-any_none : {X : Type 0} (p : X → Bool) (xs : List X) → ((x : X) → p x ≡ false) → list_any p xs ≡ false
+pub any_none : {X : Type 0} (p : X → Bool) (xs : List X) → ((x : X) → p x ≡ false) → list_any p xs ≡ false
 any_none p [] h = refl
 any_none p (x ∷ xs) h = rw (h x, any_none p xs h) refl
 
@@ -99,7 +99,7 @@ part_by G s c k ec ek =
     ap (λ b. record (part_of G s) { in_group = b; class_in_group = ltb c (length G) }) group
     ∙ ap (λ b. record (part_of G s) { class_in_group = b }) class
 
-enumerated : {X : Type 0} (n : ℕ) (xs : List X) (i j : ℕ) (x : X) → slice_get xs i ≡ Some x → j ≡ n + i
+pub enumerated : {X : Type 0} (n : ℕ) (xs : List X) (i j : ℕ) (x : X) → slice_get xs i ≡ Some x → j ≡ n + i
     → slice_get (enumerate_from n xs) i ≡ Some (j, x)
 enumerated n [] i j x e h = cc
 enumerated n (y ∷ ys) zero j x e h = let h' : n ≡ j = omega arith in cc

@@ -1,11 +1,10 @@
 -- What holds of the parts of a plan; the plan for sound modules fits its records.
-use Rattle.std.proofs.Common.{◌≡◌, ℕ, zero, suc, ◌+◌, ◌<◌, ◌≤◌, Bool, true, false, cond, eqb, ltb, All, List, [], ◌∷◌}
+use Rattle.std.proofs.Common.{◌≡◌, ℕ, zero, suc, ◌+◌, ◌<◌, ◌≤◌, Bool, true, false, not, cond, eqb, ltb, All, List, [], ◌∷◌}
 use Rattle.std.proofs.Common.{length, take, drop, map, filter, insert, Option, Some, None, IfSome, refl, arith}
-use Rattle.std.proofs.Common.{length-append, length-take, length-drop, lit<, lit≤}
+use Rattle.std.proofs.Common.{lit<, lit≤}
 use Rattle.std.proofs.lemmas.Bool.{ltb-true}
 use Rattle.std.specs.Prelude.{codes, position}
 use Rattle.std.specs.List.{AllByRecursion, enumerate_from, flat_map, position_or_len, range_with_len}
-use Rattle.std.specs.Option.{option_map_or}
 use Rattle.omf_module.specs.Module.{Module, Segment}
 use Rattle.omf_module.specs.Sound.{IsSound, SegmentFits}
 use Rattle.omf_place.specs.declared.names.Names.{Names}
@@ -17,7 +16,7 @@ use Rattle.omf_order.specs.Parts.{Part, first_parts, opens, part_of}
 use Rattle.omf_order.specs.Marks.{bss_end_names, data_end_names, is_wanted, wanted}
 use Rattle.omf_order.specs.Keys.{arranged, dosseg_key, in_order, key_by, selectors}
 use Rattle.omf_order.specs.Plan.{adds_bss, adds_end, behind_bss, bss_end_part, data_end_part, is_of, new_part, plan}
-use Rattle.omf_order.specs.Plan.{plan_of}
+use Rattle.omf_order.specs.Plan.{others, plan_of}
 use Rattle.omf_order.specs.Plan.{with_bss, with_end}
 use Rattle.omf_order.specs.inside.Fits.{Fits, IsShortPart}
 use Rattle.omf_write.specs.inside.Fits.{IsName}
@@ -89,7 +88,7 @@ module _ (Q : Part → Type 0) where
   All-in_order : (order : Order) (adds : Bool) (ps : List Part) → AllByRecursion Q ps
       → AllByRecursion Q (in_order order adds ps)
   All-in_order Meeting adds ps h = h
-  All-in_order Dosseg adds ps h = All-arranged (dosseg_key adds) 6 ps h
+  All-in_order (Dosseg nulls) adds ps h = All-arranged (dosseg_key adds) 6 ps h
   All-in_order (Listed items) adds ps h =
       All-arranged (key_by (selectors items.now)) (length (selectors items.now) + 1) ps h
 
@@ -101,8 +100,11 @@ module _ (Q : Part → Type 0) where
   All-with_end : (os : List Part) (adds : Bool) → Q (new_part (codes "_END") (codes "_END")) → AllByRecursion Q os
       → AllByRecursion Q (with_end os adds)
   All-with_end os true new h =
-      All-append Q (take (behind_bss os) os) _ (All-take Q (behind_bss os) os h)
-      (new, All-drop Q (behind_bss os) os h)
+      let ps = others os in
+      let own : AllByRecursion Q ps = All-filter Q (λ p. not (is_of (codes "_END") p)) os h in
+      All-append Q (insert ps (behind_bss ps) (new_part (codes "_END") (codes "_END"))) (filter (is_of (codes "_END")) os)
+      (All-append Q (take (behind_bss ps) ps) _ (All-take Q (behind_bss ps) ps own)
+      (new, All-drop Q (behind_bss ps) ps own)) (All-filter Q (is_of (codes "_END")) os h)
   All-with_end os false new h = h
 
   -- what holds of the parts of the first segments, and of new ones, holds of all of a plan
@@ -110,7 +112,8 @@ module _ (Q : Part → Type 0) where
       Q (new_part (codes "_BSS") (codes "BSS")) → Q (new_part (codes "_END") (codes "_END")) → AllByRecursion Q first →
       AllByRecursion Q (plan_of order first data_end bss_end).parts
   All-planned order first data_end bss_end bss end h =
-      All-with_end _ (adds_end first bss_end) end
+      let os = in_order order (adds_bss first data_end bss_end) (with_bss first (adds_bss first data_end bss_end)) in
+      All-with_end os (adds_end os bss_end) end
       (All-in_order order (adds_bss first data_end bss_end) _
       (All-with_bss first (adds_bss first data_end bss_end) bss h))
 
@@ -142,20 +145,9 @@ position_within p ps =
       | false ↦ λ e. tt
     ]) refl
 
-behind_within : (ps : List Part) → behind_bss ps ≤ length ps
-behind_within ps =
-    (elim (position (is_of (codes "BSS")) ps) as (λ o.
-    IfSome o (λ k. k < length ps) → option_map_or (λ place. place + 1) o (length ps) ≤ length ps) [
-      | None ↦ λ h. omega arith
-      | Some k ↦ λ h. omega (arith, h)
-    ]) (position_within (is_of (codes "BSS")) ps)
-
 IfSome-below : (o : Option ℕ) (n m : ℕ) → n ≤ m → IfSome o (λ k. k < n) → IfSome o (λ k. k < m)
 IfSome-below None n m l h = tt
 IfSome-below (Some k) n m l h = omega (arith, h)
-
-length-insert : (ps : List Part) (i : ℕ) (p : Part) → i ≤ length ps → length (insert ps i p) ≡ length ps + 1
-length-insert ps i p h = omega (arith, length-append (take i ps) (p ∷ drop i ps), length-take i ps, length-drop i ps)
 
 -- ---- wanted names
 
@@ -184,16 +176,11 @@ pub data_within : (names : List (List ℕ)) (parts : List Part)
 data_within [] parts = tt
 data_within (n ∷ ns) parts = position_within _ parts
 
-pub end_within : (names : List (List ℕ)) (adds : Bool) (os : List Part)
-    → IfSome (bss_end_part names adds os (with_end os adds)) (λ k. k < length (with_end os adds))
-end_within [] adds os = tt
-end_within (n ∷ ns) true os =
-    omega (
-      arith,
-      behind_within os,
-      length-insert os (behind_bss os) (new_part (codes "_END") (codes "_END")) (behind_within os),
-    )
-end_within (n ∷ ns) false os = position_within _ os
+pub end_within : (names : List (List ℕ)) (adds : Bool) (parts : List Part)
+    → IfSome (bss_end_part names adds parts) (λ k. k < length parts)
+end_within [] adds parts = tt
+end_within (n ∷ ns) true parts = position_within _ parts
+end_within (n ∷ ns) false parts = position_within _ parts
 
 -- a plan for sound modules of at most 16,383 parts
 pub plan_fits : (order : Order) (names : Names) (program : List Module) → All IsSound program
@@ -211,12 +198,14 @@ plan_fits order names program sound count =
           (All-first IsShort IsShortPart (grouped program) (λ s h. record { name = h.name; class = h.class })
           (placed program) (All-placed IsShort program (short_modules program (All-each IsSound program sound))));
       data_end = record {
-        part = IfSome-below _ _ 16383 count (data_within data_end (with_end os (adds_end first bss_end)));
+        part = IfSome-below _ _ 16383 count (data_within data_end (with_end os (adds_end os bss_end)));
         names = All-filter IsName (is_wanted names program) data_end_names data_names;
         few = few_wanted (is_wanted names program) (codes "_edata") (codes "__edata");
       };
       bss_end = record {
-        part = IfSome-below _ _ 16383 count (end_within bss_end (adds_end first bss_end) os);
+        part =
+            IfSome-below _ _ 16383 count
+            (end_within bss_end (adds_end os bss_end) (with_end os (adds_end os bss_end)));
         names = All-filter IsName (is_wanted names program) bss_end_names bss_names;
         few = few_wanted (is_wanted names program) (codes "_end") (codes "__end");
       };

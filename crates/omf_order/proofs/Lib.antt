@@ -1,10 +1,13 @@
 pub mod Bodies
 pub mod Lists
+pub mod Behind
 pub mod ByKey
 pub mod Found
 pub mod Selecting
 pub mod Steps
+pub mod Clearing
 pub mod FirstMet
 pub mod Fitting
 pub mod Sound
 pub mod Naming
+pub mod Refusing

@@ -172,3 +172,24 @@ flat_turn f xs i x old new h e is was =
     ∙ sym
     (ap (flat_map f) (take_more xs i x h ∙ ap (λ y. take i xs ++ y ∷ []) (sym e))
     ∙ flat_map-append f (take i xs) (x ∷ []) ∙ ap (λ ys. flat_map f (take i xs) ++ ys) (append-nil (f x)))
+
+-- what passes
+pub filter_turn : {C : Type 0} (p : C → Bool) (xs : List C) (i : ℕ) (d : C) (b : Bool) (old new : List C) →
+    i < length xs → b ≡ p (get_or xs i d) → new ≡ old ++ cond b (get_or xs i d ∷ []) [] → old ≡ filter p (take i xs) →
+    new ≡ filter p (take (i + 1) xs)
+filter_turn p xs i d b old new h e is was =
+    is ∙ ap (λ t. old ++ cond t (get_or xs i d ∷ []) []) e
+    ∙ ap (λ ys. ys ++ cond (p (get_or xs i d)) (get_or xs i d ∷ []) []) was
+    ∙ sym (ap (filter p) (take_more xs i d h) ∙ filter-append p (take i xs) (get_or xs i d ∷ []))
+
+-- views of what passes
+pub filter_viewed : {C X : Type 0} (view : C → X) (p : X → Bool) (xs : List C)
+    → map view (filter (λ x. p (view x)) xs) ≡ filter p (map view xs)
+filter_viewed view p [] = refl
+filter_viewed view p (x ∷ xs) =
+    elim (p (view x)) as (λ b.
+    map view (cond b (x ∷ filter (λ x. p (view x)) xs) (filter (λ x. p (view x)) xs))
+    ≡ cond b (view x ∷ filter p (map view xs)) (filter p (map view xs))) [
+      | true ↦ ap (λ ys. view x ∷ ys) (filter_viewed view p xs)
+      | false ↦ filter_viewed view p xs
+    ]

@@ -57,6 +57,6 @@ whole order names program sound bytes few =
       module_sound p (plan_fits order names program sound few)
           (All-planned IsNamedPart order first data_end bss_end (record { name = bss_name; class = bss_class })
           (record { name = end_name; class = end_name }) named)
-          (data_within data_end (with_end os (adds_end first bss_end)))
-          (end_within bss_end (adds_end first bss_end) os),
+          (data_within data_end (with_end os (adds_end os bss_end)))
+          (end_within bss_end (adds_end os bss_end) (with_end os (adds_end os bss_end))),
     )

@@ -1,11 +1,12 @@
 -- What a list selects, the key of a part by it, and parts of a class.
 use Rattle.std.proofs.Common.{◌≡◌, ℕ, suc, ◌+◌, ◌≤◌, Bool, true, false, cond, not, ◌&&◌, ◌||◌, ltb, List, [], ◌∷◌}
 use Rattle.std.proofs.Common.{length}
-use Rattle.std.proofs.Common.{map, Some, None, is_some, unwrap_or, refl, ap, sym, ◌∙◌, arith}
+use Rattle.std.proofs.Common.{map, min, Bor, Option, Some, None, is_some, unwrap_or, refl, ap, sym, ◌∙◌, arith}
 use Rattle.std.specs.Prelude.{position}
 use Rattle.std.proofs.lemmas.Bool.{ltb-false}
 use Rattle.std.proofs.lemmas.List.{length-map}
 use Rattle.std.specs.List.{list_any, position_or_len}
+use Rattle.std.specs.Option.{option_eq, option_map, option_map_or}
 use Rattle.std.specs.Str.{bytes_eq}
 use Rattle.omf_order.specs.declared.keys.Selector.{Selector}
 use Rattle.omf_order.specs.declared.parts.Part as held
@@ -91,10 +92,70 @@ place_or_len p xs =
       | false ↦ λ e. let l = ltb-false _ _ e in let m = place_within p xs in omega (arith, l, m)
     ]) refl
 
+-- the first that passes one of two tests
+min_places : {X : Type 0} (p q r : X → Bool) (xs : List X) → ((x : X) → r x ≡ (p x || q x))
+    → min (position_or_len p xs) (position_or_len q xs) ≡ position_or_len r xs
+min_places p q r [] is = refl
+min_places p q r (x ∷ xs) is =
+    let more : min (position_or_len p xs) (position_or_len q xs) ≡ position_or_len r xs = min_places p q r xs is in
+    (elim (p x) as (λ a.
+    min (cond (not a) (1 + position_or_len p xs) 0) (cond (not (q x)) (1 + position_or_len q xs) 0)
+    ≡ cond (not (a || q x)) (1 + position_or_len r xs) 0) [
+      | true ↦ omega arith
+      | false ↦ elim (q x) as (λ b.
+          min (1 + position_or_len p xs) (cond (not b) (1 + position_or_len q xs) 0)
+          ≡ cond (not b) (1 + position_or_len r xs) 0) [
+            | true ↦ omega arith
+            | false ↦ omega (arith, more)
+          ]
+    ])
+    ∙ ap (λ b. cond (not b) (1 + position_or_len r xs) 0) (sym (is x))
+
+-- what selects all of a class, and what selects those of a name in it
+abbrev pub whole_of : held.Part → Selector
+whole_of p = record { class = p.class; segment = None }
+
+abbrev pub named_of : held.Part → Selector
+named_of p = record { class = p.class; segment = Some p.name }
+
+by_segment : (P : Option (Bor (List ℕ)) → Type 0) → P None → ((n : Bor (List ℕ)) → P (Some n))
+    → (o : Option (Bor (List ℕ))) → P o
+by_segment P none some None = none
+by_segment P none some (Some n) = some n
+
+-- two names of segments are one
+abbrev pub same_segment : Option (Bor (List ℕ)) → Option (Bor (List ℕ)) → Bool
+same_segment a b = option_eq (λ x y. bytes_eq x.now y.now) a b
+
+-- a part is selected by one of the two
+selected : (p : held.Part) (s : Selector)
+    → selects (part_view p) (selector_view s)
+    ≡ ((bytes_eq p.class.now s.class.now && same_segment None s.segment)
+    || (bytes_eq p.class.now s.class.now && same_segment (Some p.name) s.segment))
+selected p s =
+    by_segment (λ o.
+    (bytes_eq p.class.now s.class.now
+    && option_map_or (λ name. bytes_eq p.name.now name) (option_map (λ n. n.now) o) true)
+    ≡ ((bytes_eq p.class.now s.class.now && same_segment None o)
+    || (bytes_eq p.class.now s.class.now && same_segment (Some p.name) o)))
+    (elim (bytes_eq p.class.now s.class.now) as (λ b. (b && true) ≡ ((b && true) || (b && false))) [
+      | true ↦ refl
+      | false ↦ refl
+    ])
+    (λ n.
+    elim (bytes_eq p.class.now s.class.now) as (λ b.
+    (b && bytes_eq p.name.now n.now) ≡ ((b && false) || (b && bytes_eq p.name.now n.now))) [
+      | true ↦ refl
+      | false ↦ refl
+    ]) s.segment
+
 -- the key of a part by what the code holds of a list
-pub listed_place : (all : List Selector) (p : held.Part)
-    → unwrap_or (position (λ s. selects (part_view p) (selector_view s)) all) (length all)
+pub listed_place : (eq : Selector → Selector → Bool) →
+    ((x y : Selector) → eq x y ≡ (bytes_eq x.class.now y.class.now && same_segment x.segment y.segment)) →
+    (all : List Selector) (p : held.Part) →
+    min (position_or_len (eq (whole_of p)) all) (position_or_len (eq (named_of p)) all)
     ≡ key_by (map selector_view all) (part_view p)
-listed_place all p =
-    place_or_len (λ s. selects (part_view p) (selector_view s)) all
+listed_place eq is all p =
+    min_places (eq (whole_of p)) (eq (named_of p)) (λ s. selects (part_view p) (selector_view s)) all
+    (λ s. rw (is (whole_of p) s, is (named_of p) s) (selected p s))
     ∙ sym (map_place selector_view (selects (part_view p)) all)

@@ -4,6 +4,7 @@ pub mod Marks
 pub mod Keys
 pub mod Plan
 pub mod Records
+pub mod Cleared
 pub mod Answer
 pub mod Whole
 pub mod inside

@@ -10,7 +10,7 @@ use Rattle.omf_place.specs.declared.names.Names.{Names}
 abbrev pub data_end_names : List (List ℕ)
 data_end_names = codes "_edata" ∷ codes "__edata" ∷ []
 
--- the names of the begin of class STACK in DGROUP
+-- the names of the end of class BSS in DGROUP
 abbrev pub bss_end_names : List (List ℕ)
 bss_end_names = codes "_end" ∷ codes "__end" ∷ []
 

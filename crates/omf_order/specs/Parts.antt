@@ -1,6 +1,7 @@
--- The parts of length 0 that open the classes and combined segments of a program.
-use Rattle.std.specs.Prelude.{ℕ, Bool, true, false, ◌==◌, List, filter, map, if◌then◌else◌}
+-- The parts that open the classes and combined segments of a program: they have no bytes, or null bytes.
+use Rattle.std.specs.Prelude.{ℕ, Bool, true, false, ◌==◌, ◌&&◌, List, filter, map, if◌then◌else◌, codes}
 use Rattle.std.specs.List.{enumerate_from, list_any, position_or_len}
+use Rattle.std.specs.Str.{bytes_eq}
 use Rattle.omf_module.specs.declared.Kind.{Kind}
 use Rattle.omf_module.specs.declared.Kind.TheVariants.{Private, Public, Stack, Common}
 use Rattle.omf_module.specs.declared.Standing.{Standing}
@@ -24,6 +25,17 @@ is_private Private = true
 is_private Public = false
 is_private Stack = false
 is_private Common = false
+
+-- a segment that combines with those of its name and class, one behind the other
+abbrev pub is_public : Kind → Bool
+is_public Private = false
+is_public Public = true
+is_public Stack = false
+is_public Common = false
+
+-- the code segment of small programs
+abbrev pub is_text : Part → Bool
+is_text p = is_public p.kind && bytes_eq p.name (codes "_TEXT")
 
 -- A part has the alignment of the first segment that it combines with: then that one stands where it would without the
 -- part. A private segment is stood for by its class alone.

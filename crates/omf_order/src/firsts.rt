@@ -1,12 +1,13 @@
 //! Where keys are first met.
 
 ghost use Rattle.std.specs.Prelude.{◌≡◌, map, cond, IfOk, OnOk, Some, is_some, length, unwrap_or, true, false};
-ghost use Rattle.std.specs.List.{position_or_len};
+ghost use Rattle.std.specs.List.{list_any, position_or_len};
 ghost use Rattle.indexmap.specs.IndexMap.{get};
 
 use indexmap::IndexMap;
 use std::alloc::{AllocError, Allocator};
 use std::hash::{BuildHasherDefault, FoldHasher, Hash};
+use std::marker::Model;
 
 /// The place at which each key was first met. The hash has a fixed seed.
 type FirstPlaces<K, A> = IndexMap<K, usize, BuildHasherDefault<FoldHasher>, A>;
@@ -30,17 +31,6 @@ fn meet<K: Eq + Hash + Copy, A: Allocator + Copy>(
     Ok(())
 }
 
-/// The place at which a key was met, or the number of all where it wasn't.
-fn place_of<K: Eq + Hash + Copy, A: Allocator + Copy>(
-    met: &FirstPlaces<K, A>,
-    key: K,
-    keys: &[K],
-) -> usize
-    ensures { result ≡ unwrap_or (get K.eq met.now key) (length keys.now) }
-{
-    met.get(&key).copied().unwrap_or(keys.len())
-}
-
 /// Where each of some keys is first met.
 fn places_met<K: Eq + Hash + Copy, A: Allocator + Copy>(
     alloc: A,
@@ -56,18 +46,61 @@ fn places_met<K: Eq + Hash + Copy, A: Allocator + Copy>(
     Ok(met)
 }
 
-/// For each key that is asked for, the place at which it was met, or the number of all where it wasn't.
+/// Some keys, and where each is first met.
+#[derive(Drop)]
+pub(crate) struct KeyPlaces<'k, K: Eq + Hash + Copy, A: Allocator + Copy> {
+    keys: &'k [K],
+    met: FirstPlaces<K, A>,
+}
+
+impl<'k, K: Eq + Hash + Copy, A: Allocator + Copy> Model for KeyPlaces<'k, K, A> {
+    ghost use Rattle.std.specs.Prelude.{◌≡◌, List, length, unwrap_or};
+    ghost use Rattle.std.specs.List.{position_or_len};
+    ghost use Rattle.indexmap.specs.IndexMap.{get};
+
+    ghost Value = { List K };
+
+    ghost view = { λ p. p.keys.now };
+
+    ghost invariant = { λ p. (q : K) →
+        unwrap_or (get K.eq p.met q) (length p.keys.now) ≡ position_or_len (K.eq q) p.keys.now };
+}
+
+impl<'k, K: Eq + Hash + Copy, A: Allocator + Copy> KeyPlaces<'k, K, A> {
+    /// Those of some keys.
+    pub(crate) fn new(alloc: A, keys: &'k [K]) -> Result<Self, AllocError>
+        ensures { IfOk result (λ p. p ≡ keys.now) }
+    {
+        let met = places_met(alloc, keys)?;
+        Ok(KeyPlaces { keys, met })
+    }
+
+    /// The place of the first key that is equal to this one, or their number.
+    pub(crate) fn first(&self, key: K) -> usize
+        ensures { result ≡ position_or_len (K.eq key) self.now }
+    {
+        self.met.get(&key).copied().unwrap_or(self.keys.len())
+    }
+
+    /// Whether some key is equal to this one.
+    pub(crate) fn has(&self, key: K) -> bool
+        ensures { result ≡ list_any (K.eq key) self.now }
+    {
+        self.first(key) < self.keys.len()
+    }
+}
+
+/// For each key that is asked for, the place of the first of some keys that is equal to it, or their number.
 fn places_of<K: Eq + Hash + Copy, A: Allocator + Copy>(
     alloc: A,
-    met: &FirstPlaces<K, A>,
+    known: &KeyPlaces<'_, K, A>,
     asked: &[K],
-    keys: &[K],
 ) -> Result<Vec<usize, A>, AllocError>
-    ensures { IfOk result (λ v. v.items ≡ map (λ k. unwrap_or (get K.eq met.now k) (length keys.now)) asked.now) }
+    ensures { IfOk result (λ v. v.items ≡ map (λ k. position_or_len (K.eq k) known.now) asked.now) }
 {
     let mut places = Vec::new(alloc);
     for key in asked {
-        let place = place_of(met, *key, keys);
+        let place = known.first(*key);
         places.push(place)?;
     }
     Ok(places)
@@ -81,6 +114,6 @@ pub(crate) fn first_places<K: Eq + Hash + Copy, A: Allocator + Copy>(
 ) -> Result<Vec<usize, A>, AllocError>
     ensures { IfOk result (λ v. v.items ≡ map (λ k. position_or_len (K.eq k) keys.now) asked.now) }
 {
-    let met = places_met(alloc, keys)?;
-    places_of(alloc, &met, asked, keys)
+    let known = KeyPlaces::new(alloc, keys)?;
+    places_of(alloc, &known, asked)
 }

@@ -5,6 +5,7 @@ ghost use Rattle.omf_order.specs.Keys as keys;
 ghost use Rattle.omf_order.specs.inside.Held as held;
 ghost use Rattle.omf_order.specs.inside.Held.{part_view, selector_view};
 
+use crate::firsts::KeyPlaces;
 use crate::order::Item;
 use crate::parts::Part;
 use std::alloc::{AllocError, Allocator};
@@ -32,7 +33,7 @@ pub(crate) fn dosseg_key(part: &Part<'_>, adds_bss: bool) -> usize
 }
 
 /// What a list names: in a class the segments of a name, or all of them.
-#[derive(Clone, Copy)]
+#[derive(Clone, Copy, PartialEq, Eq, Hash)]
 pub(crate) struct Selector<'a> {
     pub class: &'a [u8],
     pub segment: Option<&'a [u8]>,
@@ -95,25 +96,20 @@ pub(crate) fn selectors_of<'a, A: Allocator + Copy>(
     Ok(all)
 }
 
-/// Whether a part is one of those that are named.
-fn selects(selector: &Selector<'_>, part: &Part<'_>) -> bool
-    ensures { result ≡ keys.selects (part_view part.now) (selector_view selector.now) }
-{
-    if part.class != selector.class {
-        return false;
-    }
-    match selector.segment {
-        Some(name) => part.name == name,
-        None => true,
-    }
-}
-
 /// The key of a part by a list: the place of the first of these that selects it, or their number where none does.
-pub(crate) fn listed_key(selectors: &[Selector<'_>], part: &Part<'_>) -> usize
+pub(crate) fn listed_key<'a, A: Allocator + Copy>(
+    selectors: &KeyPlaces<'_, Selector<'a>, A>,
+    part: &Part<'a>,
+) -> usize
     ensures { result ≡ keys.key_by (map selector_view selectors.now) (part_view part.now) }
 {
-    selectors
-        .iter()
-        .position(|selector| selects(selector, part))
-        .unwrap_or(selectors.len())
+    let whole = Selector {
+        class: part.class,
+        segment: None,
+    };
+    let named = Selector {
+        class: part.class,
+        segment: Some(part.name),
+    };
+    selectors.first(whole).min(selectors.first(named))
 }

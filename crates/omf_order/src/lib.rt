@@ -1,8 +1,10 @@
-//! A module of segments of length 0 that stands first among the modules of a link: it opens classes and combined
-//! segments in an order that is asked for, and defines the names `_edata` and `_end` where they are wanted.
+//! A module of segments without bytes that stands first among the modules of a link: it opens classes and combined
+//! segments in an order that is asked for, and defines the names `_edata` and `_end` where they are wanted. Null bytes in
+//! front of `_TEXT` are all that it has, where they are asked for.
 #![tactic(auto)]
 
 mod arranging;
+mod cleared;
 mod fault;
 mod firsts;
 mod keys;

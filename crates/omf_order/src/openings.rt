@@ -28,7 +28,7 @@ pub(crate) struct Combining<'a> {
 }
 
 /// How a kind combines.
-fn joining_of(kind: Kind) -> Joining
+pub(crate) fn joining_of(kind: Kind) -> Joining
     ensures { result ≡ held.joining kind }
 {
     match kind {
@@ -50,7 +50,7 @@ pub(crate) fn kind_of(segment: &Segment<'_>) -> Kind
 }
 
 /// What a segment combines by.
-fn combining_of<'a>(segment: &Segment<'a>) -> Combining<'a>
+pub(crate) fn combining_of<'a>(segment: &Segment<'a>) -> Combining<'a>
     ensures { result ≡ held.combining segment.now }
 {
     Combining {

@@ -16,7 +16,11 @@ pub enum Order<'a> {
     Meeting,
     /// Classes that end in CODE; those without a segment in the group DGROUP; of the others BEGDATA, then those that
     /// are neither BSS nor STACK, then BSS, then STACK. Those of one kind in the order in which they are first met.
-    Dosseg,
+    Dosseg {
+        /// Whether 16 null bytes stand in front of what the modules have of a public segment named `_TEXT`, so that none
+        /// of it has the offset 0.
+        null_bytes: bool,
+    },
     /// What is listed, in the order of the list, and behind it the rest in the order in which it is first met.
     Listed(&'a [Item<'a>]),
 }

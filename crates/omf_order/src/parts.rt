@@ -10,7 +10,7 @@ use crate::openings::{Met, first_met, kind_of};
 use omf_module::{Kind, Segment, Standing};
 use std::alloc::{AllocError, Allocator};
 
-/// A segment of the order module. Its length is 0.
+/// A segment of the order module.
 #[derive(Clone, Copy)]
 pub(crate) struct Part<'a> {
     pub name: &'a [u8],
@@ -25,7 +25,7 @@ pub(crate) struct Part<'a> {
 }
 
 /// Whether a kind is the one that never combines.
-fn is_private(kind: Kind) -> bool
+pub(crate) fn is_private(kind: Kind) -> bool
     ensures { result ≡ part.is_private kind }
 {
     matches!(kind, Kind::Private)

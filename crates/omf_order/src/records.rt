@@ -17,6 +17,9 @@ use omf_record::{Alignment, Combination, Public, PublicBase, Record, SegmentDefi
 use omf_write::{put_end, put_header, put_names, put_record, segment_of_length};
 use std::alloc::{AllocError, Allocator};
 
+/// What stands in front of `_TEXT`.
+const NULL_BYTES: [u8; 16] = [0; 16];
+
 /// How a SEGDEF says an alignment.
 fn alignment_of(bytes: u16) -> Alignment
     ensures { result ≡ records.alignment_of bytes }
@@ -42,15 +45,33 @@ fn combination_of(kind: Kind) -> Combination
     }
 }
 
-/// The definition of the part at a place, which counts from 0.
-fn definition(place: usize, part: &Part<'_>) -> SegmentDefinition
+/// Whether a part has null bytes, where these are asked for.
+fn has_nulls(null_bytes: bool, part: &Part<'_>) -> bool
+    ensures { result ≡ records.has_nulls null_bytes (part_view part.now) }
+{
+    null_bytes && matches!(part.kind, Kind::Public) && part.name == b"_TEXT".as_slice()
+}
+
+/// The length of a part that has null bytes or not.
+fn length_of(has_nulls: bool) -> u32
+    ensures { result ≡ records.length_of has_nulls }
+{
+    if has_nulls {
+        NULL_BYTES.len() as u32
+    } else {
+        0
+    }
+}
+
+/// The definition of the part at a place, which counts from 0, with null bytes or without.
+fn definition(place: usize, has_nulls: bool, part: &Part<'_>) -> SegmentDefinition
     requires { place < 16383 }
-    ensures { result ≡ records.definition place (part_view part.now) }
+    ensures { result ≡ records.definition place has_nulls (part_view part.now) }
 {
     segment_of_length(
         alignment_of(part.alignment),
         combination_of(part.kind),
-        0,
+        length_of(has_nulls),
         2 * place as u16 + 2,
         2 * place as u16 + 3,
     )
@@ -71,36 +92,92 @@ fn put_name<A: Allocator + Copy>(
     put_record(alloc, 0x96, &Record::Lnames { names }, out)
 }
 
-/// Appends SEGDEF of the part at a place.
+/// Appends SEGDEF of the part at a place, with null bytes or without.
 #[tactic(auto, unfolding(omf_record::specs::View::view))]
 fn put_segment<A: Allocator + Copy>(
     alloc: A,
     place: usize,
+    has_nulls: bool,
     part: &Part<'_>,
     out: &mut Vec<u8, A>,
 ) -> Result<(), AllocError>
     requires { place < 16383 }
     ensures { OnOk result (out.new.items ≡
-        out.old.items ++ records.record_bytes (records.segment_record place (part_view part.now))) }
+        out.old.items ++ records.record_bytes (records.segment_record place has_nulls (part_view part.now))) }
 {
-    let segment = definition(place, part);
+    let segment = definition(place, has_nulls, part);
     put_record(alloc, 0x98, &Record::Segdef { segment }, out)
 }
 
-/// Appends the names and the SEGDEF of each part.
+/// Appends LEDATA of the null bytes of the part at a place.
+#[tactic(auto, unfolding(omf_record::specs::View::view))]
+fn put_null_bytes<A: Allocator + Copy>(
+    alloc: A,
+    place: usize,
+    out: &mut Vec<u8, A>,
+) -> Result<(), AllocError>
+    requires { place < 16383 }
+    ensures { OnOk result
+        (out.new.items ≡ out.old.items ++ records.record_bytes (records.null_record place)) }
+{
+    let data = Record::Ledata {
+        segment: segment_index(place),
+        offset: 0,
+        bytes: &NULL_BYTES,
+    };
+    put_record(alloc, 0xA0, &data, out)
+}
+
+/// Appends the null bytes of the part at a place, if it has any.
+fn put_nulls<A: Allocator + Copy>(
+    alloc: A,
+    place: usize,
+    has_nulls: bool,
+    out: &mut Vec<u8, A>,
+) -> Result<(), AllocError>
+    requires { place < 16383 }
+    ensures { OnOk result
+        (out.new.items ≡ out.old.items ++ records.records_bytes (records.null_records place has_nulls)) }
+{
+    if has_nulls {
+        put_null_bytes(alloc, place, out)?;
+    }
+    Ok(())
+}
+
+/// Appends the names, the SEGDEF and the null bytes of the part at a place.
+fn put_part<A: Allocator + Copy>(
+    alloc: A,
+    place: usize,
+    null_bytes: bool,
+    part: &Part<'_>,
+    out: &mut Vec<u8, A>,
+) -> Result<(), AllocError>
+    requires place { place < 16383 }
+    requires short { IsShortPart (part_view part.now) }
+    ensures { OnOk result (out.new.items ≡
+        out.old.items ++ records.records_bytes (records.records_of null_bytes place (part_view part.now))) }
+{
+    let has_nulls = has_nulls(null_bytes, part);
+    put_names(alloc, part.name, part.class, out)?;
+    put_segment(alloc, place, has_nulls, part, out)?;
+    put_nulls(alloc, place, has_nulls, out)
+}
+
+/// Appends the records of each part.
 fn put_parts<A: Allocator + Copy>(
     alloc: A,
+    null_bytes: bool,
     parts: &[Part<'_>],
     out: &mut Vec<u8, A>,
 ) -> Result<(), AllocError>
     requires count { length parts.now ≤ 16383 }
     requires short { AllByRecursion IsShortPart (parts_view parts.now) }
     ensures { OnOk result (out.new.items ≡
-        out.old.items ++ records.records_bytes (records.part_records 0 (parts_view parts.now))) }
+        out.old.items ++ records.records_bytes (records.part_records null_bytes 0 (parts_view parts.now))) }
 {
     for (place, part) in parts.iter().enumerate() {
-        put_names(alloc, part.name, part.class, out)?;
-        put_segment(alloc, place, part, out)?;
+        put_part(alloc, place, null_bytes, part, out)?;
     }
     Ok(())
 }
@@ -245,6 +322,6 @@ pub(crate) fn put_module<A: Allocator + Copy>(
 {
     put_header(alloc, b"doslink", out)?;
     put_name(alloc, b"DGROUP", out)?;
-    put_parts(alloc, &plan.parts, out)?;
+    put_parts(alloc, plan.null_bytes, &plan.parts, out)?;
     put_last(alloc, plan, out)
 }

@@ -1,11 +1,27 @@
 //! What an order module says, as text.
 
-use omf_module::Module;
+use omf_frame::MemSource;
+use omf_module::{Module, read_module};
 use omf_order::{Order, OrderFault, order_module};
 use omf_place::{Layout, Names, Position, place};
-use rows::{push_module, push_text, read_modules, read_row, same};
+use rows::{push_bytes, push_module, push_text, read_modules, read_row, same};
 use std::alloc::Global;
 use std::test::*;
+
+/// Appends the data records of the module that bytes are.
+fn push_data(alloc: Global, text: &mut String, bytes: &[u8]) -> Result<(), Fail> {
+    let mut source = MemSource::over(bytes, usize::MAX, None);
+    if let Ok(module) = read_module(alloc, &mut source) {
+        for index in 0..module.data_record_count() {
+            let stored = module.data_record(index);
+            let (segment, offset) = (stored.segment, stored.offset);
+            write!(text, " data {segment}:{offset}")?;
+            push_bytes(text, stored.bytes)?;
+            text.push(';')?;
+        }
+    }
+    Ok(())
+}
 
 /// What the order module of some modules says.
 fn answer(
@@ -17,9 +33,16 @@ fn answer(
     let mut text = String::new(alloc);
     match order_module(alloc, modules, order, names) {
         Ok(None) => text.push_str("none")?,
-        Ok(Some(bytes)) => push_module(alloc, &mut text, &bytes)?,
+        Ok(Some(bytes)) => {
+            push_module(alloc, &mut text, &bytes)?;
+            push_data(alloc, &mut text, &bytes)?;
+        }
         Err(OrderFault::Memory) => text.push_str("memory")?,
         Err(OrderFault::TooManySegments) => text.push_str("too many")?,
+        Err(OrderFault::DataInBss { module, segment }) => {
+            write!(text, "data in {module} ")?;
+            push_text(&mut text, segment)?;
+        }
     }
     Ok(text)
 }

@@ -1,7 +1,8 @@
 -- What the code holds, as values.
 use Rattle.std.specs.Prelude.{◌≡◌, ℕ, Bool, true, false, not, ◌==◌, ◌&&◌, ◌||◌, List, filter, length, map, Option}
+use Rattle.std.specs.Prelude.{Vec, [], ◌∷◌, ◌++◌, codes, get_or, set}
 use Rattle.std.specs.Str.{bytes_eq}
-use Rattle.std.specs.List.{position_or_len}
+use Rattle.std.specs.List.{position_or_len, range_with_len}
 use Rattle.std.specs.Option.{option_map}
 use Rattle.std.specs.Borrow.{Bor}
 use Rattle.omf_module.specs.declared.Kind.{Kind}
@@ -9,6 +10,7 @@ use Rattle.omf_module.specs.declared.Kind.TheVariants as kind
 use Rattle.omf_module.specs.declared.lookups.Segment.{Segment}
 use Rattle.omf_module.specs.Module as says
 use Rattle.omf_module.specs.Seen.{segment_seen}
+use Rattle.omf_order.specs.declared.cleared.Lost as lost
 use Rattle.omf_order.specs.declared.keys.Selector as held
 use Rattle.omf_order.specs.declared.openings.Combining.{Combining}
 use Rattle.omf_order.specs.declared.openings.Joining.{Joining}
@@ -19,7 +21,12 @@ use Rattle.omf_order.specs.declared.planning.Plan as plan
 use Rattle.omf_order.specs.Keys.{Selector}
 use Rattle.omf_order.specs.Parts.{Part, alignment_of, is_private}
 use Rattle.omf_order.specs.Segments.{kind_of, same_class}
-use Rattle.omf_order.specs.Plan.{Mark, Plan}
+use Rattle.omf_order.specs.Cleared.{Lost}
+use Rattle.omf_order.specs.Plan.{Mark, Plan, is_of}
+
+-- a part as the code holds it
+abbrev pub CodePart : Type 0
+CodePart = part.Part
 
 -- segments
 abbrev pub segments_view : List Segment → List says.Segment
@@ -108,8 +115,34 @@ plan_view p = record {
   parts = parts_view p.parts.items;
   data_end = mark_view p.data_end;
   bss_end = mark_view p.bss_end;
+  null_bytes = p.null_bytes;
 }
+
+-- a part of the new class behind class BSS, or of another
+abbrev pub is_by_end : (is_of_it : Bool) → Part → Bool
+is_by_end true p = is_of (codes "_END") p
+is_by_end false p = not (is_of (codes "_END") p)
 
 -- the items of a key
 abbrev pub of_key : {T : Type 0} → List (ℕ × T) → ℕ → List T
 of_key keyed key = map (λ p. p.1) (filter (λ p. p.0 == key) keyed)
+
+-- lists
+abbrev pub lists_view : {T A : Type 0} → List (Vec T A) → List (List T)
+lists_view vs = map (λ v. v.items) vs
+
+-- lists with an item more in the one at a place
+abbrev pub with_item : {T : Type 0} → List (List T) → ℕ → T → List (List T)
+with_item lists place item = set lists place (get_or lists place [] ++ item ∷ [])
+
+-- for each key below a count the items of that key
+abbrev pub AreByKey : {T A : Type 0} → List (Vec T A) → (count : ℕ) → List (ℕ × T) → Type 0
+AreByKey lists count keyed = lists_view lists ≡ map (of_key keyed) (range_with_len 0 count)
+
+-- what combines with a part
+abbrev pub part_key : part.Part → Combining
+part_key p = record { kind = joining p.kind; name = p.name; class = p.class }
+
+-- data that would be cleared
+abbrev pub lost_view : lost.Lost → Lost
+lost_view l = record { input = l.module; segment = l.segment.now }

@@ -1,8 +1,7 @@
-use Rattle.std.proofs.Common.{◌≡◌, length, map, take, unwrap_or}
-use Rattle.indexmap.specs.IndexMap.{get}
+use Rattle.std.proofs.Common.{◌≡◌, map, take}
+use Rattle.std.specs.List.{position_or_len}
 use Rattle.omf_order.proofs.firsts.places_of.Given as goal
 
 abbrev pub invariant-loop-key : goal.invariant-loop-key
 invariant-loop-key g l =
-    l.places.items
-    ≡ map (λ k. unwrap_or (get g.K.PartialEq.eq l.met k) (length l.keys)) (take l.key-index l.asked)
+    l.places.items ≡ map (λ k. position_or_len (g.K.PartialEq.eq k) l.known) (take l.key-index l.asked)

@@ -26,8 +26,8 @@ returns g c =
     let out = c.args.out.now.items in
     on_ok_weaker c.put_last.result (λ e. e
     ∙ ap (λ t. t ++ records_bytes (last_records p)) (c.in_ok-put_parts.ensures
-    ∙ ap (λ ps. c.put_name.new.out.items ++ records_bytes (part_records 0 (parts_view ps))) c.deref.ensures.value
-    ∙ ap (λ t. t ++ records_bytes (part_records 0 p.parts)) (c.in_ok-put_name.ensures
+    ∙ ap (λ ps. c.put_name.new.out.items ++ records_bytes (part_records p.null_bytes 0 (parts_view ps))) c.deref.ensures.value
+    ∙ ap (λ t. t ++ records_bytes (part_records p.null_bytes 0 p.parts)) (c.in_ok-put_name.ensures
     ∙ ap (λ t. t ++ record_bytes (Lnames (dgroup ∷ []))) c.in_ok-put_header.ensures))
-    ∙ bytes-whole out (Theadr (codes "doslink")) (Lnames (dgroup ∷ [])) (part_records 0 p.parts) (last_records p))
+    ∙ bytes-whole out (Theadr (codes "doslink")) (Lnames (dgroup ∷ [])) (part_records p.null_bytes 0 p.parts) (last_records p))
     c.put_last.ensures

@@ -5,4 +5,5 @@ use Rattle.omf_order.proofs.records.put_parts.Given as goal
 
 abbrev pub invariant-loop-place : goal.invariant-loop-place
 invariant-loop-place g l =
-    l.out.items ≡ l.initial.out.items ++ records_bytes (part_records 0 (parts_view (take l.place l.parts)))
+    l.out.items
+    ≡ l.initial.out.items ++ records_bytes (part_records l.null_bytes 0 (parts_view (take l.place l.parts)))

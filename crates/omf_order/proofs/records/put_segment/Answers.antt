@@ -10,4 +10,4 @@ pub put_record-requires-clause-fits : goal.put_record-requires-clause-fits
 unfolding view
 put_record-requires-clause-fits g c =
     subst (λ s. FitsFrame (Segdef s)) (sym c.definition-segment.ensures)
-    (segment_fits c.args.place (part_view c.args.part.now) c.requires)
+    (segment_fits c.args.place c.args.has_nulls (part_view c.args.part.now) c.requires)
