@@ -1,0 +1,6 @@
+pub mod Stack
+pub mod Records
+pub mod Answer
+pub mod Cut
+pub mod Whole
+pub mod inside
