@@ -228,6 +228,82 @@ fn in_bss(rt: HostRuntime) -> Result<(), Fail> {
     )
 }
 
+/// Far variables that modules reach by their offsets alone.
+#[test]
+fn reached_by_offset(rt: HostRuntime) -> Result<(), Fail> {
+    run(
+        rt.alloc(),
+        Asked::Far(Names::Exact),
+        "\
+# at an offset, of the loader too, and nowhere at a base
+B0 01 61 00 61 01 02 01 62 00 61 01 02
+--
+98 28 04 00 02 02 01
+8C 01 61 00 01 62 00
+A0 01 00 00 00 00 00 00
+9C C4 00 56 01 D4 02 56 02
+= 0 a; 0 b;
+
+# a base or a pointer elsewhere in the module, and not in another one
+B0 01 61 00 61 01 02 01 62 00 61 01 02
+--
+98 28 08 00 02 02 01
+8C 01 61 00 01 62 00
+A0 01 00 00 00 00 00 00 00 00 00 00
+9C C4 00 56 01 C8 02 56 01 CC 04 56 02
+--
+98 28 02 00 02 02 01
+8C 01 61 00
+A0 01 00 00 00 00
+9C C4 00 56 01
+= 1 a;
+
+# near ones, one that isn't reached, another target, and a local external
+B0 01 61 00 62 02 01 62 00 61 01 02 01 63 00 61 01 02
+--
+98 28 06 00 02 02 01
+8C 01 61 00 01 62 00
+B4 01 63 00
+A0 01 00 00 00 00 00 00 00 00
+9C C4 00 56 01 C4 02 54 01 C4 04 56 03
+= nothing
+
+# names are case by case
+B0 01 61 00 61 01 02
+--
+98 28 02 00 02 02 01
+8C 01 41 00
+A0 01 00 00 00 00
+9C C4 00 56 01
+= nothing",
+    )
+}
+
+/// The same where names agree without regard to case.
+#[test]
+fn reached_by_offset_folded(rt: HostRuntime) -> Result<(), Fail> {
+    run(
+        rt.alloc(),
+        Asked::Far(Names::AsciiFolded),
+        "\
+B0 01 61 00 61 01 02
+--
+98 28 04 00 02 02 01
+8C 01 41 00
+A0 01 00 00 00 00 00 00
+9C C4 00 56 01
+= 0 A;
+
+B0 01 61 00 61 01 02
+--
+98 28 04 00 02 02 01
+8C 01 41 00 01 61 00
+A0 01 00 00 00 00 00 00
+9C C4 00 56 01 C8 02 56 02
+= nothing",
+    )
+}
+
 /// What a module declares as local to it.
 #[test]
 fn placed_locally(rt: HostRuntime) -> Result<(), Fail> {

@@ -6,4 +6,6 @@ mod cases;
 #[cfg(test)]
 mod growths;
 #[cfg(test)]
+mod hashes;
+#[cfg(test)]
 mod told;

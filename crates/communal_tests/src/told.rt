@@ -2,7 +2,7 @@
 
 use omf_communal::{
     ClashFault, Communal, CommunalFault, Declaring, Extent, PlanFault, Scope, Variable,
-    communal_module, communals, has_bss, local_module, local_names, variables,
+    communal_module, communals, far_by_offset, has_bss, local_module, local_names, variables,
 };
 use omf_library::{ModuleNames, module_frames, module_names};
 use omf_place::Names;
@@ -23,6 +23,8 @@ pub enum Asked {
     Local { in_bss: bool },
     /// Whether one of them has `_BSS` in DGROUP.
     Bss,
+    /// Which of them reach far variables of the first by their offsets alone.
+    Far(Names),
 }
 
 /// What a module declares and offers.
@@ -238,6 +240,40 @@ fn told_bss(alloc: Global, text: &mut String, inputs: &[Vec<u8>]) -> Result<(), 
     }
 }
 
+/// The far variables that the first declares and the others reach by their offsets alone.
+fn told_far(
+    alloc: Global,
+    text: &mut String,
+    names: Names,
+    inputs: &[Vec<u8>],
+) -> Result<(), AllocError> {
+    let [first, others @ ..] = inputs else {
+        return text.push_str("no module");
+    };
+    let mut declaring = Vec::new(alloc);
+    declaring.push(Vec::from_slice(alloc, first)?)?;
+    let all = match read_all(alloc, &declaring) {
+        Ok(all) => all,
+        Err(fault) => return write!(text, "{fault}"),
+    };
+    let variables = match decided(alloc, names, &all) {
+        Ok(variables) => variables,
+        Err(fault) => return write!(text, "{fault}"),
+    };
+    match read_modules(alloc, others) {
+        Ok(modules) => {
+            for reached in &far_by_offset(alloc, names, &modules, &variables)? {
+                let module = reached.module;
+                write!(text, "{module} ")?;
+                push_text(text, reached.name)?;
+                text.push_str("; ")?;
+            }
+            Ok(())
+        }
+        Err(fault) => write!(text, "{fault}"),
+    }
+}
+
 /// What is told of modules.
 pub fn told<A: Allocator + Copy>(
     alloc: A,
@@ -248,6 +284,7 @@ pub fn told<A: Allocator + Copy>(
     let mut text = String::new(words);
     match asked {
         Asked::Bss => told_bss(words, &mut text, inputs)?,
+        Asked::Far(names) => told_far(words, &mut text, names, inputs)?,
         Asked::Local { in_bss } => told_local(alloc, words, &mut text, in_bss, inputs)?,
         Asked::Communals => {
             for bytes in inputs {

@@ -17,3 +17,4 @@ pub mod Added
 pub mod Extending
 pub mod Once
 pub mod Apart
+pub mod Reaching

@@ -73,7 +73,7 @@ offers-turn names name modules i x old new h e was is =
     ∙ list_any-append (offers names name) (map module_said (take i modules)) (m ∷ [])
     ∙ ap (λ b. is_offered names (map module_said (take i modules)) name || b) (or-false (offers names name m)))
 
-enumerate-push : {X : Type 0} (k : ℕ) (xs : List X) (x : X)
+pub enumerate-push : {X : Type 0} (k : ℕ) (xs : List X) (x : X)
     → enumerate_from k (xs ++ x ∷ []) ≡ enumerate_from k xs ++ (k + length xs, x) ∷ []
 enumerate-push k [] x = let e : k ≡ k + 0 = omega arith in ap (λ n. (n, x) ∷ []) e
 enumerate-push k (y ∷ ys) x =

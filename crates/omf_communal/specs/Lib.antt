@@ -8,6 +8,7 @@ pub mod Records
 pub mod Answers
 pub mod Locals
 pub mod Bss
+pub mod Far
 pub mod Whole
 pub mod Extended
 pub mod Once

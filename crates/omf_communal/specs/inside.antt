@@ -3,3 +3,4 @@ pub mod Views
 pub mod Keys
 pub mod Met
 pub mod Planned
+pub mod Sought

@@ -12,6 +12,15 @@ ghost use Rattle.omf_communal.specs.inside.Keys.{key_of, key_text, same_key, tex
 use omf_place::Names;
 use std::hash::{Hash, Hasher};
 
+/// Feeds a hasher a name, byte by byte: names that would collide as a whole are no nearer to each other than others.
+fn feed<H: Hasher>(state: &mut H, name: &[u8])
+    ensures { state.new ≡ fold H.write state.old (flat_map fed.u8 name.now) }
+{
+    for byte in name {
+        state.write_u8(*byte);
+    }
+}
+
 /// Feeds a hasher a name in lower case.
 fn feed_folded<H: Hasher>(state: &mut H, name: &[u8])
     ensures { state.new ≡ fold H.write state.old (flat_map fed.u8 (folded name.now)) }
@@ -65,7 +74,7 @@ impl<'a> Hash for Key<'a> {
 
     fn hash<H: Hasher>(&self, state: &mut H) {
         match self {
-            Key::Exact(name) => state.write(name),
+            Key::Exact(name) => feed(state, name),
             Key::AsciiFolded(name) => feed_folded(state, name),
         }
     }

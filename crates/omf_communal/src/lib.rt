@@ -6,6 +6,7 @@ mod bss;
 mod deciding;
 mod declarations;
 mod entries;
+mod far;
 mod fault;
 mod fields;
 mod key;
@@ -21,6 +22,7 @@ mod records;
 pub use bss::has_bss;
 pub use deciding::variables;
 pub use declarations::{Communal, Declaring, Extent, Scope, Variable, Whose};
+pub use far::{Reached, far_by_offset};
 pub use fault::{ClashFault, CommunalFault, EntryFault, PlanFault};
 pub use laws::{
     communal_module_is_whole, local_module_is_whole, one_variable_for_each_name, places_are_apart,

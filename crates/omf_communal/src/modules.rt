@@ -22,7 +22,7 @@ use std::hash::{BuildHasherDefault, FoldHasher};
 pub(crate) type NameSet<'a, A> = IndexSet<Key<'a>, BuildHasherDefault<FoldHasher>, A>;
 
 /// Adds names that are offered.
-fn insert_offered<'a, A: Allocator + Copy>(
+pub(crate) fn insert_offered<'a, A: Allocator + Copy>(
     offered: &mut NameSet<'a, A>,
     names: Names,
     more: &[&'a [u8]],
@@ -90,7 +90,7 @@ fn all_declared<'a, A: Allocator + Copy>(
 }
 
 /// Whether one of the names that are offered is this one.
-fn is_offered<'a, A: Allocator + Copy>(
+pub(crate) fn is_offered<'a, A: Allocator + Copy>(
     offered: &NameSet<'a, A>,
     names: Names,
     name: &'a [u8],

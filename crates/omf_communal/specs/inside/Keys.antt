@@ -1,5 +1,5 @@
 -- Names as keys.
-use Rattle.std.specs.Prelude.{ℕ, zero, suc, Bool, List, [], ◌∷◌}
+use Rattle.std.specs.Prelude.{ℕ, Bool, List, [], ◌∷◌}
 use Rattle.std.specs.Borrow.{Bor}
 use Rattle.std.specs.Hash as fed
 use Rattle.std.specs.List.{flat_map}
@@ -15,11 +15,10 @@ abbrev pub key_text : Key → List ℕ
 key_text (Exact name) = 0 ∷ name.now
 key_text (AsciiFolded name) = 1 ∷ folded name.now
 
--- what of it a hasher is fed, by its text: a name that counts byte for byte whole, a folded one in single bytes
+-- what of it a hasher is fed, by its text: the name in single bytes
 abbrev pub text_fed : List ℕ → List (List ℕ)
 text_fed [] = []
-text_fed (zero ∷ name) = name ∷ []
-text_fed (suc choice ∷ name) = flat_map fed.u8 name
+text_fed (choice ∷ name) = flat_map fed.u8 name
 
 -- two keys are one
 abbrev pub same_key : Key → Key → Bool

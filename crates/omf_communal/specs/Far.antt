@@ -1,0 +1,87 @@
+-- The far communal variables that modules reach by their offsets alone (TIS OMF 1.1, FIXUPP, the location). A far
+-- variable has segments of its own, and so a frame that no other segment has: whoever reaches it loads that frame, by a
+-- base or a pointer to its name.
+use Rattle.std.specs.Prelude.{ℕ, ◌-◌, Bool, true, false, not, ◌&&◌, if◌then◌else◌, List, filter, map, slice_get}
+use Rattle.std.specs.Prelude.{None}
+use Rattle.std.specs.declared.option.Option.{Option}
+use Rattle.std.specs.List.{enumerate_from, filter_map, flat_map, list_any}
+use Rattle.std.specs.Option.{option_map}
+use Rattle.omf_record.specs.declared.fixups.Location.{Location}
+use Rattle.omf_record.specs.declared.fixups.Location.TheVariants as at
+use Rattle.omf_record.specs.declared.fixups.TargetMethod.{TargetMethod}
+use Rattle.omf_record.specs.declared.fixups.TargetMethod.TheVariants as to
+use Rattle.omf_module.specs.declared.ResolvedFixup.{ResolvedFixup}
+use Rattle.omf_module.specs.Module as says
+use Rattle.omf_place.specs.Names.{agrees}
+use Rattle.omf_place.specs.declared.names.Names.{Names}
+use Rattle.omf_communal.specs.declared.declarations.Extent.{Extent}
+use Rattle.omf_communal.specs.declared.declarations.Extent.TheVariants.{Near, Far}
+use Rattle.omf_communal.specs.declared.far.Reached as lent
+use Rattle.omf_communal.specs.Deciding.{Variable}
+
+-- a location that has an offset alone: 1 and 5
+abbrev pub is_offset : Location → Bool
+is_offset at.Offset = true
+is_offset at.LoaderOffset = true
+is_offset _ = false
+
+-- one that has a frame: 2, and 3 with an offset
+abbrev pub is_base : Location → Bool
+is_base at.Base = true
+is_base at.Pointer = true
+is_base _ = false
+
+-- the name of the external that is a target; externals count from 1
+abbrev pub target_name : says.Module → TargetMethod → Option (List ℕ)
+target_name m (to.External index) = option_map (λ e. e.name) (slice_get m.externals (index - 1))
+target_name m (to.Segment index) = None
+target_name m (to.Group index) = None
+
+-- that of a fix-up at such a location
+abbrev pub name_at : (Location → Bool) → says.Module → ResolvedFixup → Option (List ℕ)
+name_at test m f = if test f.location then target_name m f.target else None
+
+-- those of the fix-ups of a module
+abbrev pub names_at : (Location → Bool) → says.Module → List (List ℕ)
+names_at test m = flat_map (λ d. filter_map (name_at test m) d.fixups) m.data_records
+
+-- the names of far variables
+abbrev pub is_far : Extent → Bool
+is_far (Near length) = false
+is_far (Far count size) = true
+
+abbrev pub far_names : List Variable → List (List ℕ)
+far_names vs = map (λ v. v.name) (filter (λ v. is_far v.extent) vs)
+
+-- one of these names is this one
+abbrev pub is_among : Names → List (List ℕ) → (name : List ℕ) → Bool
+is_among names list name = list_any (agrees names name) list
+
+-- an external of a module that isn't local has a far variable's name, some fix-up at an offset refers to that, and none
+-- at a base or a pointer does
+abbrev pub is_reached : Names → (far : List (List ℕ)) → says.Module → says.ExternalSymbol → Bool
+is_reached names far m e = not e.local && (is_among names far e.name && (is_among names (names_at is_offset m) e.name
+    && not (is_among names (names_at is_base m) e.name)))
+
+-- such a name, and the module's place in the program
+pub record Reached : Type 0 where
+  pub «module» : ℕ
+  pub name : List ℕ
+
+abbrev pub reached_said : lent.Reached → Reached
+reached_said r = record { «module» = r.«module»; name = r.name.now }
+
+-- those of a module
+abbrev pub reached_names : Names → (far : List (List ℕ)) → says.Module → List (List ℕ)
+reached_names names far m = map (λ e. e.name) (filter (is_reached names far m) m.externals)
+
+-- those of the module with an index
+abbrev pub reached_at : (index : ℕ) → (name : List ℕ) → Reached
+reached_at index name = record { «module» = index; name = name }
+
+abbrev pub reached_in : Names → (far : List (List ℕ)) → ℕ × says.Module → List Reached
+reached_in names far p = map (reached_at p.0) (reached_names names far p.1)
+
+-- those of a program with these variables, in order of modules and of their externals
+abbrev pub far_by_offset : Names → List Variable → List says.Module → List Reached
+far_by_offset names vs program = flat_map (reached_in names (far_names vs)) (enumerate_from 0 program)

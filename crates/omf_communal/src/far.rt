@@ -1,0 +1,237 @@
+//! The far communal variables that modules reach by their offsets alone.
+
+ghost use Rattle.std.specs.Prelude.{◌≡◌, ◌++◌, ◌&&◌, ℕ, List, IfOk, OnOk, map, not};
+ghost use Rattle.std.specs.Borrow.{Bor};
+ghost use Rattle.std.specs.List.{filter_map, list_any};
+ghost use Rattle.std.specs.Option.{option_map};
+ghost use Rattle.indexmap.specs.IndexSet.{contains};
+ghost use Rattle.omf_module.specs.Seen.{external_seen};
+ghost use Rattle.omf_place.specs.Names.{agrees};
+ghost use Rattle.omf_communal.specs.Deciding.{variable_said};
+ghost use Rattle.omf_communal.specs.Far as reach;
+ghost use Rattle.omf_communal.specs.Modules.{bytes_of};
+ghost use Rattle.omf_communal.specs.inside.Keys.{key_of, same_key};
+ghost use Rattle.omf_communal.specs.inside.Sought as seek;
+
+use crate::declarations::{Extent, Variable};
+use crate::modules::{NameSet, insert_offered, is_offered};
+use indexmap::IndexSet;
+use omf_module::{ExternalSymbol, Module, ResolvedFixup};
+use omf_place::Names;
+use omf_record::{Location, TargetMethod};
+use std::alloc::{AllocError, Allocator};
+
+/// A far communal variable that a module reaches by its offset alone.
+#[derive(Clone, Copy, Debug)]
+pub struct Reached<'m> {
+    /// Which module, counted from 0.
+    pub module: usize,
+    /// The variable's name, as the module spells it.
+    pub name: &'m [u8],
+}
+
+/// What fix-ups are at.
+#[derive(Clone, Copy)]
+pub(crate) enum Sought {
+    Offset,
+    Base,
+}
+
+/// Whether a location is one of those.
+fn is_at(sought: Sought, location: Location) -> bool
+    ensures { result ≡ seek.is_at sought location }
+{
+    match sought {
+        Sought::Offset => matches!(location, Location::Offset | Location::LoaderOffset),
+        Sought::Base => matches!(location, Location::Base | Location::Pointer),
+    }
+}
+
+/// The name of the external that is a target.
+fn target_name<'m, A: Allocator + Copy>(
+    from: &'m Module<A>,
+    target: TargetMethod,
+) -> Option<&'m [u8]>
+    ensures { option_map (λ n. n.now) result ≡ reach.target_name from.now target }
+{
+    let TargetMethod::External(index) = target else {
+        return None;
+    };
+    let index = usize::from(index).saturating_sub(1);
+    if index < from.external_count() {
+        Some(from.external(index).name)
+    } else {
+        None
+    }
+}
+
+/// The name that a fix-up refers to, where it is at what is sought.
+fn name_at<'m, A: Allocator + Copy>(
+    from: &'m Module<A>,
+    sought: Sought,
+    fixup: &ResolvedFixup,
+) -> Option<&'m [u8]>
+    ensures { option_map (λ n. n.now) result ≡ reach.name_at (seek.is_at sought) from.now fixup.now }
+{
+    if is_at(sought, fixup.location) {
+        target_name(from, fixup.target)
+    } else {
+        None
+    }
+}
+
+/// Appends the names that fix-ups of a module refer to.
+fn push_names<'m, A: Allocator + Copy>(
+    names: &mut Vec<&'m [u8], A>,
+    from: &'m Module<A>,
+    sought: Sought,
+    fixups: &[ResolvedFixup],
+) -> Result<(), AllocError>
+    ensures { OnOk result (bytes_of names.new.items ≡
+        bytes_of names.old.items ++ filter_map (reach.name_at (seek.is_at sought) from.now) fixups.now) }
+{
+    for fixup in fixups {
+        if let Some(name) = name_at(from, sought, fixup) {
+            names.push(name)?;
+        }
+    }
+    Ok(())
+}
+
+/// The names that the fix-ups of a module refer to.
+fn names_at<'m, A: Allocator + Copy>(
+    alloc: A,
+    from: &'m Module<A>,
+    sought: Sought,
+) -> Result<Vec<&'m [u8], A>, AllocError>
+    ensures { IfOk result (λ v. bytes_of v.items ≡ reach.names_at (seek.is_at sought) from.now) }
+{
+    let mut names = Vec::new(alloc);
+    for index in 0..from.data_record_count() {
+        let data = from.data_record(index);
+        push_names(&mut names, from, sought, data.fixups)?;
+    }
+    Ok(names)
+}
+
+/// Some names, to be asked for.
+fn name_set<'a, A: Allocator + Copy>(
+    alloc: A,
+    names: Names,
+    list: &[&'a [u8]],
+) -> Result<NameSet<'a, A>, AllocError>
+    ensures { IfOk result (λ set. (q : Bor (List ℕ)) →
+        contains same_key set (key_of names q) ≡ list_any (agrees names q.now) (bytes_of list.now)) }
+{
+    let mut set = IndexSet::new(alloc);
+    insert_offered(&mut set, names, list)?;
+    Ok(set)
+}
+
+/// The names of the far ones of some variables.
+fn far_names<'a, A: Allocator + Copy>(
+    alloc: A,
+    variables: &[Variable<'a>],
+) -> Result<Vec<&'a [u8], A>, AllocError>
+    ensures { IfOk result (λ v. bytes_of v.items ≡ reach.far_names (map variable_said variables.now)) }
+{
+    let mut names = Vec::new(alloc);
+    for variable in variables {
+        if let Extent::Far { .. } = variable.extent {
+            names.push(variable.name)?;
+        }
+    }
+    Ok(names)
+}
+
+/// The names of far variables, and those that the fix-ups of a module refer to.
+#[derive(Clone, Copy)]
+pub(crate) struct NameSets<'s, 'm, A: Allocator + Copy> {
+    far: &'s NameSet<'m, A>,
+    by_offset: &'s NameSet<'m, A>,
+    by_base: &'s NameSet<'m, A>,
+}
+
+/// Whether an external is a far variable that its module reaches by the offset alone.
+fn is_reached<'m, A: Allocator + Copy>(
+    sets: NameSets<'_, 'm, A>,
+    names: Names,
+    external: ExternalSymbol<'m>,
+) -> bool
+    ensures { result ≡ (not external.entry.local
+        && (contains same_key sets.entry.far.now (key_of names external.entry.name)
+        && (contains same_key sets.entry.by_offset.now (key_of names external.entry.name)
+        && not (contains same_key sets.entry.by_base.now (key_of names external.entry.name))))) }
+{
+    !external.local
+        && is_offered(sets.far, names, external.name)
+        && is_offered(sets.by_offset, names, external.name)
+        && !is_offered(sets.by_base, names, external.name)
+}
+
+/// The names of the far variables that a module reaches by their offsets alone.
+fn reached_in<'m, A: Allocator + Copy>(
+    alloc: A,
+    names: Names,
+    from: &'m Module<A>,
+    far: &NameSet<'m, A>,
+) -> Result<Vec<&'m [u8], A>, AllocError>
+    // By whatever names these are.
+    ensures { IfOk result (λ v. (list : List (List ℕ)) →
+        ((q : Bor (List ℕ)) → contains same_key far.now (key_of names q) ≡ list_any (agrees names q.now) list) →
+        bytes_of v.items ≡ reach.reached_names names list from.now) }
+{
+    let offsets = names_at(alloc, from, Sought::Offset)?;
+    let bases = names_at(alloc, from, Sought::Base)?;
+    let by_offset = name_set(alloc, names, &offsets)?;
+    let by_base = name_set(alloc, names, &bases)?;
+    let sets = NameSets {
+        far,
+        by_offset: &by_offset,
+        by_base: &by_base,
+    };
+    let mut reached = Vec::new(alloc);
+    for index in 0..from.external_count() {
+        let external = from.external(index);
+        if is_reached(sets, names, external) {
+            reached.push(external.name)?;
+        }
+    }
+    Ok(reached)
+}
+
+/// Appends such names of the module with this index.
+fn push_reached<'m, A: Allocator + Copy>(
+    all: &mut Vec<Reached<'m>, A>,
+    module: usize,
+    names: &[&'m [u8]],
+) -> Result<(), AllocError>
+    ensures { OnOk result (map reach.reached_said all.new.items ≡
+        map reach.reached_said all.old.items ++ map (reach.reached_at «module») (bytes_of names.now)) }
+{
+    for name in names {
+        all.push(Reached { module, name })?;
+    }
+    Ok(())
+}
+
+/// The far ones of a program's variables that its modules reach by their offsets alone, in order of modules and of
+/// their external names. Such a module has a fix-up at an offset of the name, and none at a base or a pointer.
+pub fn far_by_offset<'m, A: Allocator + Copy>(
+    alloc: A,
+    names: Names,
+    modules: &'m [Module<A>],
+    variables: &[Variable<'m>],
+) -> Result<Vec<Reached<'m>, A>, AllocError>
+    ensures { IfOk result (λ v. map reach.reached_said v.items ≡
+        reach.far_by_offset names (map variable_said variables.now) modules.now) }
+{
+    let far = far_names(alloc, variables)?;
+    let far = name_set(alloc, names, &far)?;
+    let mut all = Vec::new(alloc);
+    for (index, from) in modules.iter().enumerate() {
+        let reached = reached_in(alloc, names, from, &far)?;
+        push_reached(&mut all, index, &reached)?;
+    }
+    Ok(all)
+}
