@@ -1,3 +1,4 @@
+pub mod NamedLemmas
 pub mod PartsLemmas
 pub mod TokensLemmas
 pub mod WordsLemmas

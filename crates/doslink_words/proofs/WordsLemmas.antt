@@ -1,18 +1,18 @@
 -- What the values of the command line give.
-use Rattle.std.proofs.Common.{◌≡◌, ◌∙◌, Bool, List, Some, Result, Ok, map, true, false, refl, sym, ap, subst, codes}
+use Rattle.std.proofs.Common.{◌≡◌, ◌∙◌, Bool, List, Some, Result, Ok, Err, [], map, true, false, refl, sym, ap, subst, codes}
 use Rattle.std.proofs.Common.{cond}
 use Rattle.std.specs.Prelude.{◌==◌}
 use Rattle.std.specs.List.{slice_split}
-use Rattle.clap.specs.Words.{App, HasMatchesOf, Text, fault_of, found_of, is_simple_and_free, rows_of}
+use Rattle.clap.specs.Words.{App, HasMatchesOf, Text, fault_of, first_of, found_of, is_simple_and_free, kind_of, matches_of, rows_of}
 use Rattle.clap.specs.Kinds.{FailsBy}
 use Rattle.clap.specs.declared.error.Error.{Error}
+use Rattle.clap.specs.declared.error.ErrorKind.TheVariants.{OutOfMemory}
 use Rattle.clap.specs.declared.parser.matches.ArgMatches.{ArgMatches}
 use Rattle.clap.proofs.OnLiterals.{clap_on_literals}
-use Rattle.command_line.proofs.Parses.{no_fault, rows_given}
+use Rattle.command_line.proofs.Parses.{memory_fails, no_fault, rows_given}
 use Rattle.doslink_words.specs.declared.job.Job.{Job}
-use Rattle.doslink_words.specs.Keywords.{is_keyword}
 use Rattle.doslink_words.specs.Said.{SaidItem, Class, Dosseg, Listed}
-use Rattle.doslink_words.specs.Words.{order_asked, IsJobFor, IsJobOf, doslink_command}
+use Rattle.doslink_words.specs.Words.{AreTaken, IsJobFor, IsJobOf, asked, doslink_command, is_dosseg, is_no_stack, order_asked}
 
 -- ---- the command
 
@@ -21,17 +21,43 @@ unfolding doslink_command clap_on_literals
 doslink_is_free = refl
 
 -- what a parse of the command gives where it succeeds
-pub job_for : {T : Type 0} (a : App) (words : List Text) (m : ArgMatches) (r : Result T Error) (v : T) (job : Job)
-    → a ≡ doslink_command → (is_simple_and_free a ≡ true → FailsBy (fault_of a words) r)
-    → r ≡ Ok v → HasMatchesOf a words m → IsJobOf (rows_of (found_of m)) job → IsJobFor words job
-unfolding IsJobFor
-job_for a words m r v job is fails met matched fits = (
-  no_fault doslink_command a words is doslink_is_free r v fails met,
-  subst (λ rows. IsJobOf rows job) (rows_given doslink_command a words is doslink_is_free m matched) fits,
-)
+pub job_for : {T : Type 0} (a : App) (words given : List Text) (m : ArgMatches) (r : Result T Error) (v : T) (job : Job)
+    → given ≡ asked words → a ≡ doslink_command → (is_simple_and_free a ≡ true → FailsBy (fault_of a given) r)
+    → r ≡ Ok v → HasMatchesOf a given m → is_no_stack (first_of (codes "N") (rows_of (found_of m))) ≡ false
+    → IsJobOf given (rows_of (found_of m)) job → IsJobFor words job
+unfolding AreTaken IsJobFor
+job_for a words given m r v job same is fails met matched length fits =
+    let rows = rows_given doslink_command a given is doslink_is_free m matched in (
+      (
+        subst (λ ws. fault_of doslink_command ws ≡ []) same
+            (no_fault doslink_command a given is doslink_is_free r v fails met),
+        subst (λ ws. is_no_stack (first_of (codes "N") (matches_of doslink_command ws)) ≡ false) same
+            (subst (λ rs. is_no_stack (first_of (codes "N") rs) ≡ false) rows length),
+      ),
+      subst (λ ws. IsJobOf ws (matches_of doslink_command ws) job) same
+          (subst (λ rs. IsJobOf given rs job) rows fits),
+    )
+
+-- where words are taken, nothing fails but memory ..
+pub taken_fails : {T : Type 0} (a : App) (words given : List Text) (r : Result T Error) (e : Error)
+    → given ≡ asked words → a ≡ doslink_command → (is_simple_and_free a ≡ true → FailsBy (fault_of a given) r)
+    → r ≡ Err e → AreTaken words → kind_of e ≡ OutOfMemory
+unfolding AreTaken
+taken_fails a words given r e same is fails met taken =
+    memory_fails doslink_command a given is doslink_is_free r e fails met
+    (subst (λ ws. fault_of doslink_command ws ≡ []) (sym same) taken.0)
+
+-- .. and the stack is a length
+pub taken_length : (a : App) (words given : List Text) (m : ArgMatches) → given ≡ asked words → a ≡ doslink_command
+    → HasMatchesOf a given m → AreTaken words → is_no_stack (first_of (codes "N") (rows_of (found_of m))) ≡ false
+unfolding AreTaken
+taken_length a words given m same is matched taken =
+    subst (λ rs. is_no_stack (first_of (codes "N") rs) ≡ false)
+    (sym (rows_given doslink_command a given is doslink_is_free m matched))
+    (subst (λ ws. is_no_stack (first_of (codes "N") (matches_of doslink_command ws)) ≡ false) (sym same) taken.1)
 
 -- an order that is no DOSSEG lists classes
-pub listed_order : (word : Text) (items : List SaidItem) → is_keyword word (codes "dosseg") ≡ false
+pub listed_order : (word : Text) (items : List SaidItem) → is_dosseg word ≡ false
     → items ≡ map Class (slice_split (λ byte. byte == 44) word) → Listed items ≡ order_asked (Some word)
 listed_order word items other same =
     ap (λ (xs : List SaidItem). Listed xs) same

@@ -1,7 +1,7 @@
 -- What the directives of a response file mean: a fold over its lines.
-use Rattle.std.specs.Prelude.{◌≡◌, ℕ, ◌+◌, ◌==◌, ◌||◌, ⊤, Bool, true, false, List, [], ◌∷◌, ◌++◌, length, codes}
+use Rattle.std.specs.Prelude.{◌≡◌, ℕ, ◌+◌, ◌==◌, ◌||◌, ⊤, Bool, true, false, List, [], ◌∷◌, ◌++◌, length, codes, map}
 use Rattle.std.specs.Prelude.{Option, Some, None, Result, Ok, Err, if◌then◌else◌, slice_index}
-use Rattle.std.specs.Option.{option_map_or}
+use Rattle.std.specs.Option.{option_and_then, option_map_or}
 use Rattle.std.specs.List.{slice_split}
 use Rattle.std.specs.Str.Lines.{lines}
 use Rattle.clap.specs.Words.{Text}
@@ -21,7 +21,8 @@ use Rattle.doslink_words.specs.declared.keywords.Switch.TheVariants as switch
 use Rattle.doslink_words.specs.declared.tokens.Syntax.TheVariants.{Directives as Directive_syntax}
 use Rattle.doslink_words.specs.Keywords.{is_keyword, directive_named, switch_named}
 use Rattle.doslink_words.specs.Said.{Said, SaidItem, nothing, said_of}
-use Rattle.doslink_words.specs.Said.{Class, Segment, Beside, At, Dosseg, Listed}
+use Rattle.doslink_words.specs.Said.{File, Library, Class, Segment, Beside, At, Dosseg, Listed}
+use Rattle.doslink_words.specs.Sizes.{stack_bytes}
 use Rattle.doslink_words.specs.Tokens.{Piece, Word, Quoted, Comma, Equals, after_space, tokens}
 
 -- what is done with a value, where there is one, and else the fault that there is
@@ -102,9 +103,16 @@ plain_meaning plain.Exact said = record said { ignore_case = false }
 plain_meaning plain.Ignoring said = record said { ignore_case = true }
 plain_meaning plain.NoDefaultLibraries said = record said { default_libraries = false }
 
+-- `stack=N`: a longer stack is cut to it
+abbrev pub stack_meaning : Option Text → Said → Line Said
+stack_meaning value said =
+    option_map_or (λ n. Ok (record said { stack = Some (record { bytes = n; cuts = true }) }))
+    (option_and_then stack_bytes value) (Err kind.WrongOperands)
+
 -- what an option means with a value or without: those that have no effect take any
 abbrev pub switch_meaning : (line : ℕ) → Switch → Option Text → Said → Line Said
 switch_meaning line switch.Map value said = Ok (record said { map = Some (option_map_or At value Beside) })
+switch_meaning line switch.Stack value said = stack_meaning value said
 switch_meaning line (switch.Idle what) value said = warned line what said
 switch_meaning line (switch.Plain what) None said = Ok (plain_meaning what said)
 switch_meaning line (switch.Plain what) (Some value) said = Err kind.WrongOperands
@@ -154,9 +162,9 @@ order_meaning (first ∷ more) said =
 -- what a directive means
 abbrev pub directive_meaning : (line : ℕ) → Directive → List Piece → Said → Line Said
 directive_meaning line directive.File operands said =
-    and_then (with_names said.files (parts operands)) (λ names. Ok (record said { files = names }))
+    and_then (with_names [] (parts operands)) (λ names. Ok (record said { inputs = said.inputs ++ map File names }))
 directive_meaning line directive.Library operands said =
-    and_then (with_names said.libraries (parts operands)) (λ names. Ok (record said { libraries = names }))
+    and_then (with_names [] (parts operands)) (λ names. Ok (record said { inputs = said.inputs ++ map Library names }))
 directive_meaning line directive.Folder operands said =
     and_then (with_names said.folders (parts operands)) (λ names. Ok (record said { folders = names }))
 directive_meaning line directive.Name operands said =

@@ -58,6 +58,6 @@ switch_named word =
     else (if is_ignoring word then Some (switch.Plain plain.Ignoring)
     else (if is_keyword word (codes "nodefaultlibs") then Some (switch.Plain plain.NoDefaultLibraries)
     else (if is_keyword word (codes "symfile") then Some (switch.Idle warning.Symbols)
-    else (if is_keyword word (codes "stack") then Some (switch.Idle warning.Stack)
+    else (if is_keyword word (codes "stack") then Some switch.Stack
     else (if is_harmless word then Some (switch.Idle warning.Option)
     else None))))))))

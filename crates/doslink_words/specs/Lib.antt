@@ -1,6 +1,9 @@
 pub mod Directives
 pub mod inside
 pub mod Keywords
+pub mod Named
+pub mod Responses
 pub mod Said
+pub mod Sizes
 pub mod Tokens
 pub mod Words

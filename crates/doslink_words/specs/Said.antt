@@ -4,13 +4,21 @@ use Rattle.std.specs.Option.{option_map}
 use Rattle.clap.specs.Words.{Text}
 use Rattle.doslink_words.specs.Tokens.{texts}
 use Rattle.doslink_words.specs.declared.job.Directives.{Directives}
+use Rattle.doslink_words.specs.declared.job.Input.{Input}
+use Rattle.doslink_words.specs.declared.job.Input.TheVariants as input
 use Rattle.doslink_words.specs.declared.job.MapFile.{MapFile}
 use Rattle.doslink_words.specs.declared.job.MapFile.TheVariants as map_file
 use Rattle.doslink_words.specs.declared.job.Order.{Order}
 use Rattle.doslink_words.specs.declared.job.Order.TheVariants as order
 use Rattle.doslink_words.specs.declared.job.OrderItem.{OrderItem}
 use Rattle.doslink_words.specs.declared.job.OrderItem.TheVariants as order_item
+use Rattle.doslink_words.specs.declared.job.Stack.{Stack}
 use Rattle.doslink_words.specs.declared.job.Warning.{Warning}
+
+-- a file, or a library that is looked up
+pub data SaidInput : Type 0 where
+  File : Text → SaidInput
+  Library : Text → SaidInput
 
 -- a map beside the program, or at a path
 pub data SaidMap : Type 0 where
@@ -30,13 +38,14 @@ pub data SaidOrder : Type 0 where
 
 -- a job and its warnings
 pub record Said : Type 0 where
-  pub files : List Text
+  pub inputs : List SaidInput
   pub out : Option Text
   pub map : Option SaidMap
   pub folders : List Text
-  pub libraries : List Text
   pub ignore_case : Bool
   pub order : SaidOrder
+  pub null_bytes : Bool
+  pub stack : Option Stack
   pub default_libraries : Bool
   pub keep_debug : Bool
   pub packs_far_data : Bool
@@ -47,13 +56,14 @@ pub record Said : Type 0 where
 -- what no directive asks for
 abbrev pub nothing : Said
 nothing = record {
-  files = [];
+  inputs = [];
   out = None;
   map = None;
   folders = [];
-  libraries = [];
   ignore_case = false;
   order = Meeting;
+  null_bytes = false;
+  stack = None;
   default_libraries = true;
   keep_debug = false;
   packs_far_data = true;
@@ -63,6 +73,13 @@ nothing = record {
 }
 
 -- what the values of the code say
+abbrev pub input_of : Input → SaidInput
+input_of (input.File path) = File path.now
+input_of (input.Library name) = Library name.now
+
+abbrev pub inputs_of : List Input → List SaidInput
+inputs_of = map input_of
+
 abbrev pub map_of : MapFile → SaidMap
 map_of map_file.Beside = Beside
 map_of (map_file.At path) = At path.now
@@ -81,13 +98,14 @@ order_of (order.Listed items) = Listed (items_of items.items)
 
 abbrev pub said_of : Directives → Said
 said_of directives = record {
-  files = texts directives.job.files.items;
+  inputs = inputs_of directives.job.inputs.items;
   out = option_map (λ path. path.now) directives.job.out;
   map = option_map map_of directives.job.map;
   folders = texts directives.job.folders.items;
-  libraries = texts directives.job.libraries.items;
   ignore_case = directives.job.ignore_case;
   order = order_of directives.job.order;
+  null_bytes = directives.job.null_bytes;
+  stack = directives.job.stack;
   default_libraries = directives.job.default_libraries;
   keep_debug = directives.job.keep_debug;
   packs_far_data = directives.job.packs_far_data;

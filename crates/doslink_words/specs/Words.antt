@@ -1,16 +1,21 @@
 -- The command line: what it takes, and which job its values are.
 use Rattle.std.specs.Prelude.{◌≡◌, ◌==◌, ℕ, true, false, not, List, [], Option, Some, None, map, codes}
-use Rattle.std.specs.Prelude.{if◌then◌else◌}
+use Rattle.std.specs.Prelude.{◌∷◌, ◌||◌, Bool, if◌then◌else◌, is_some}
 use Rattle.std.specs.Option.{option_map, unwrap_or}
 use Rattle.std.specs.List.{slice_split}
+use Rattle.std.specs.Str.{bytes_eq}
 use Rattle.clap.specs.Words.{App, Row, Rule, Text, all_of, fault_of, first_of, matches_of, new_app, new_rule}
 use Rattle.clap.specs.Words.{with_rule}
 use Rattle.clap.specs.declared.builder.action.ArgAction.TheVariants.{Append, SetTrue}
 use Rattle.command_line.specs.Rules.{case_rule, files_rule, flag_rule, map_rule}
 pub use Rattle.command_line.specs.Values.{IsFlag}
 use Rattle.doslink_words.specs.declared.job.Job.{Job}
+use Rattle.doslink_words.specs.declared.job.Stack.{Stack}
+use Rattle.doslink_words.specs.declared.named.Expected.TheVariants.{Any}
 use Rattle.doslink_words.specs.Keywords.{is_keyword}
-use Rattle.doslink_words.specs.Said.{SaidOrder, Meeting, Dosseg, Listed, Class, At, map_of, order_of}
+use Rattle.doslink_words.specs.Named.{in_order, kinds_named}
+use Rattle.doslink_words.specs.Said.{SaidOrder, Meeting, Dosseg, Listed, Class, At, inputs_of, map_of, order_of}
+use Rattle.doslink_words.specs.Sizes.{stack_bytes}
 use Rattle.doslink_words.specs.Tokens.{texts}
 
 -- the program that is written: `-o OUT`
@@ -33,6 +38,10 @@ library_rule = list_rule (codes "LIB") 108
 abbrev pub order_rule : Rule
 order_rule = record (new_rule (codes "ORDER")) { long = Some (codes "order") }
 
+-- the length of the stack: `--stack N`
+abbrev pub stack_rule : Rule
+stack_rule = record (new_rule (codes "N")) { long = Some (codes "stack") }
+
 -- `--no-default-libs`, a flag
 abbrev pub no_defaults_rule : Rule
 no_defaults_rule = flag_rule (codes "no-default-libs")
@@ -49,7 +58,7 @@ verbose_rule = record (new_rule (codes "verbose")) { short = Some 118; action = 
 abbrev pub bare_command : App
 bare_command =
     let app = new_app (codes "doslink") in
-    record app { top = record app.top { no_binary_name = true; arg_required_else_help = true } }
+    record app { top = record app.top { no_binary_name = true; arg_required_else_help = true; has_version = true } }
 
 -- `-o OUT`, `-m MAP`, `-L FOLDER`, `-l LIB` and the files
 abbrev pub files_command : App
@@ -60,34 +69,72 @@ files_command =
 -- the command `doslink`
 unfoldable pub doslink_command : App
 doslink_command =
-    with_rule (with_rule (with_rule (with_rule (with_rule files_command case_rule) order_rule) no_defaults_rule) debug_rule)
-    verbose_rule
+    with_rule (with_rule (with_rule (with_rule (with_rule (with_rule files_command case_rule) order_rule) stack_rule)
+    no_defaults_rule) debug_rule) verbose_rule
+
+-- whether the only word is `help`
+abbrev pub is_help : List Text → Bool
+is_help (word ∷ []) = bytes_eq word (codes "help")
+is_help _ = false
+
+-- `help` alone asks for the same as `--help`
+abbrev pub asked : List Text → List Text
+asked words = if is_help words then codes "--help" ∷ [] else words
 
 -- the values of an argument, none where it isn't given
 abbrev pub values_of : Text → List Row → List Text
 values_of id rows = unwrap_or (all_of id rows) []
 
+-- the order DOSSEG by its name, and by the one that asks for no null bytes
+abbrev pub is_dosseg : Text → Bool
+is_dosseg word = is_keyword word (codes "dosseg") || is_keyword word (codes "dosseg-nonulls")
+
 -- an order as a word: DOSSEG by its name, else classes, which commas separate
 abbrev pub order_asked : Option Text → SaidOrder
 order_asked None = Meeting
-order_asked (Some word) =
-    if is_keyword word (codes "dosseg") then Dosseg else Listed (map Class (slice_split (λ byte. byte == 44) word))
+order_asked (Some word) = if is_dosseg word then Dosseg else Listed (map Class (slice_split (λ byte. byte == 44) word))
 
--- `job` is what these values ask for
-pub record IsJobOf (rows : List Row) (job : Job) : Type 0 where
-  pub files : texts job.files.items ≡ values_of (codes "FILES") rows
+-- whether the order DOSSEG has null bytes: wherever nothing asks for none
+abbrev pub nulls_asked : Option Text → Bool
+nulls_asked None = true
+nulls_asked (Some word) = not (is_keyword word (codes "dosseg-nonulls"))
+
+-- the stack as a word: a longer one is a fault
+abbrev pub stack_asked : Option Text → Option Stack
+stack_asked None = None
+stack_asked (Some word) = option_map (λ n. record { bytes = n; cuts = false }) (stack_bytes word)
+
+-- whether a word is no length of a stack
+abbrev pub is_no_stack : Option Text → Bool
+is_no_stack None = false
+is_no_stack (Some word) = not (is_some (stack_bytes word))
+
+-- `job` is what these values, which words give, ask for
+pub record IsJobOf (words : List Text) (rows : List Row) (job : Job) : Type 0 where
+  pub inputs : inputs_of job.inputs.items
+      ≡ in_order (kinds_named Any words) (values_of (codes "FILES") rows) (values_of (codes "LIB") rows)
   pub out : option_map (λ path. path.now) job.out ≡ first_of (codes "OUT") rows
   pub map : option_map map_of job.map ≡ option_map At (first_of (codes "MAP") rows)
   pub folders : texts job.folders.items ≡ values_of (codes "FOLDER") rows
-  pub libraries : texts job.libraries.items ≡ values_of (codes "LIB") rows
   pub ignore_case : IsFlag (codes "ignore-case") rows job.ignore_case
   pub order : order_of job.order ≡ order_asked (first_of (codes "ORDER") rows)
+  pub null_bytes : job.null_bytes ≡ nulls_asked (first_of (codes "ORDER") rows)
+  pub stack : job.stack ≡ stack_asked (first_of (codes "N") rows)
   pub default_libraries : IsFlag (codes "no-default-libs") rows (not job.default_libraries)
   pub keep_debug : IsFlag (codes "keep-debug") rows job.keep_debug
   pub packs_far_data : job.packs_far_data ≡ false
   pub verbose : IsFlag (codes "verbose") rows job.verbose
   pub quiet : job.quiet ≡ false
 
--- the command has no fault at the words, and `job` is what its matches give for them
+-- the values that the words give
+abbrev pub values_in : List Text → List Row
+values_in words = matches_of doslink_command (asked words)
+
+-- the command has no fault at the words, and the stack is a length
+unfoldable pub AreTaken : List Text → Type 0
+AreTaken words =
+    (fault_of doslink_command (asked words) ≡ []) × (is_no_stack (first_of (codes "N") (values_in words)) ≡ false)
+
+-- the words are taken, and `job` is what their values ask for
 unfoldable pub IsJobFor : List Text → Job → Type 0
-IsJobFor words job = (fault_of doslink_command words ≡ []) × IsJobOf (matches_of doslink_command words) job
+IsJobFor words job = AreTaken words × IsJobOf (asked words) (values_in words) job

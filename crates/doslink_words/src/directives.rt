@@ -14,6 +14,7 @@ ghost use Rattle.doslink_words.specs.inside.Faults.{IsFaultAt};
 use crate::faults::{DirectiveFault, DirectiveFaultKind, LineFault};
 use crate::job::{Directives, Order, WarningKind};
 use crate::keywords::{Directive, directive_named};
+use crate::named::{put_files, put_libraries};
 use crate::operands::{one_name, put_items, put_names};
 use crate::options::{follow_options, warn};
 use crate::tokens::{Syntax, Token, after_space, tokens};
@@ -81,6 +82,34 @@ fn follow_order<'a>(
     }
 }
 
+// Follows `file`.
+fn follow_file<'a>(
+    alloc: Global,
+    directives: &mut Directives<'a>,
+    operands: &[Token<'a>],
+) -> Result<(), LineFault>
+    ensures { Follows result (spec.directive_meaning 0 directive.File (pieces operands.now) (said_of directives.old))
+        (said_of directives.new) }
+{
+    let mut names = Vec::new(alloc);
+    put_names(&mut names, operands)?;
+    Ok(put_files(&mut directives.job.inputs, &names)?)
+}
+
+// Follows `library`.
+fn follow_library<'a>(
+    alloc: Global,
+    directives: &mut Directives<'a>,
+    operands: &[Token<'a>],
+) -> Result<(), LineFault>
+    ensures { Follows result (spec.directive_meaning 0 directive.Library (pieces operands.now) (said_of directives.old))
+        (said_of directives.new) }
+{
+    let mut names = Vec::new(alloc);
+    put_names(&mut names, operands)?;
+    Ok(put_libraries(&mut directives.job.inputs, &names)?)
+}
+
 // Follows a directive.
 fn follow_directive<'a>(
     alloc: Global,
@@ -93,8 +122,8 @@ fn follow_directive<'a>(
         (said_of directives.new) }
 {
     match directive {
-        Directive::File => put_names(&mut directives.job.files, operands),
-        Directive::Library => put_names(&mut directives.job.libraries, operands),
+        Directive::File => follow_file(alloc, directives, operands),
+        Directive::Library => follow_library(alloc, directives, operands),
         Directive::Folder => put_names(&mut directives.job.folders, operands),
         Directive::Name => follow_name(directives, operands),
         Directive::Format => follow_format(operands),
@@ -197,8 +226,8 @@ fn follow_lines<'a>(alloc: Global, lines: &[&'a str]) -> Result<Directives<'a>, 
 /// - `file A[,B..]`, `library A[,B..]` (`lib`), `libpath A[,B..]`: modules, libraries and folders, in order.
 /// - `name FILE`: the program. Of several the last counts, as of orders and of options that exclude each other.
 /// - `format dos [exe]`: nothing; of `com` and other systems it is a fault.
-/// - `option X[=VALUE][,..]` (`op`): `quiet`, `map[=FILE]`, `dosseg`, `caseexact`, `ignorecase`, `nodefaultlibs`. Of
-///   `symfile`, `stack` and what changes no DOS program (`verbose`, `statics`, `artificial`, `showdead`, `cache`,
+/// - `option X[=VALUE][,..]` (`op`): `quiet`, `map[=FILE]`, `stack=BYTES`, `dosseg`, `caseexact`, `ignorecase`,
+///   `nodefaultlibs`. Of `symfile` and what changes no DOS program (`verbose`, `statics`, `artificial`, `showdead`, `cache`,
 ///   `nocache`, `farcalls`, `nofarcalls`, `maxerrors`) a warning is told; any other is a fault.
 /// - `order clname CLASS [segment SEGMENT..] ..`: the order of classes, and of segments in them.
 /// - `debug ..` is nothing, `sort ..` and `disable ..` are warned of.

@@ -7,20 +7,22 @@ use std::alloc::Global;
 /// What is linked, and how. Each text is a slice of the words or of the response file that ask for it.
 #[derive(Debug, Drop)]
 pub struct Job<'a> {
-    /// The paths of the object modules, in their order.
-    pub files: Vec<&'a str>,
+    /// What is linked, in the order in which it was named: modules, and libraries where they are searched.
+    pub inputs: Vec<Input<'a>>,
     /// The path of the program that is written, where one is given.
     pub out: Option<&'a str>,
     /// The map that is written, where one is asked for.
     pub map: Option<MapFile<'a>>,
     /// The folders in which libraries are looked up, in their order.
     pub folders: Vec<&'a str>,
-    /// The libraries as they are named, in their order.
-    pub libraries: Vec<&'a str>,
     /// Whether names of publics and externals agree without regard to case.
     pub ignore_case: bool,
     /// The order of segments.
     pub order: Order<'a>,
+    /// Whether the order DOSSEG, asked for by the job or by a module, has 16 null bytes in front of `_TEXT`.
+    pub null_bytes: bool,
+    /// How long the stack is to be, where that is asked for.
+    pub stack: Option<Stack>,
     /// Whether the libraries that modules name are searched too.
     pub default_libraries: bool,
     /// Whether segments of debugging stay in the program.
@@ -31,6 +33,24 @@ pub struct Job<'a> {
     pub verbose: bool,
     /// Whether nothing is told but faults.
     pub quiet: bool,
+}
+
+/// Something that is linked.
+#[derive(Clone, Copy, Debug, PartialEq, Eq)]
+pub enum Input<'a> {
+    /// The path of a file: a module, or a library, as its bytes say.
+    File(&'a str),
+    /// The name of a library that is looked up in folders.
+    Library(&'a str),
+}
+
+/// The length of a stack.
+#[derive(Clone, Copy, Debug, PartialEq, Eq)]
+pub struct Stack {
+    /// How many bytes it has, 1 to 65,536.
+    pub bytes: u32,
+    /// Whether a longer one, made by the modules, is cut to it; else that is a fault.
+    pub cuts: bool,
 }
 
 /// Where a map is written.
@@ -86,8 +106,6 @@ pub struct Warning {
 pub enum WarningKind {
     /// An option that changes nothing of what a DOS program does: nothing is lost.
     Option,
-    /// `option stack`: the stack is as long as the modules make it.
-    Stack,
     /// `option symfile`: no file of symbols is written.
     Symbols,
     /// `sort`: the map is not sorted.
@@ -102,13 +120,14 @@ impl<'a> Directives<'a> {
         ensures { said_of result ≡ nothing }
     {
         let job = Job {
-            files: Vec::new(alloc),
+            inputs: Vec::new(alloc),
             out: None,
             map: None,
             folders: Vec::new(alloc),
-            libraries: Vec::new(alloc),
             ignore_case: false,
             order: Order::Meeting,
+            null_bytes: false,
+            stack: None,
             default_libraries: true,
             keep_debug: false,
             packs_far_data: true,

@@ -34,10 +34,11 @@ pub(crate) enum Directive {
 pub(crate) enum Switch {
     /// `map`: a map is written.
     Map,
+    /// `stack`: the length of the stack.
+    Stack,
     /// An option that takes no value.
     Plain(Plain),
-    /// An option that has no effect, and what is told of it. `symfile`: a file of symbols; `stack`: the length of the
-    /// stack; and what changes nothing of a DOS program: `verbose`, `statics`, `artificial`, `showdead`, `cache`,
+    /// An option that has no effect, and what is told of it. `symfile`: a file of symbols; and what changes nothing of a DOS program: `verbose`, `statics`, `artificial`, `showdead`, `cache`,
     /// `nocache`, `farcalls`, `nofarcalls`, `maxerrors`.
     Idle(WarningKind),
 }
@@ -141,7 +142,7 @@ pub(crate) fn switch_named(word: &str) -> Option<Switch>
     } else if is(word, "symfile") {
         Some(Switch::Idle(WarningKind::Symbols))
     } else if is(word, "stack") {
-        Some(Switch::Idle(WarningKind::Stack))
+        Some(Switch::Stack)
     } else if is_harmless(word) {
         Some(Switch::Idle(WarningKind::Option))
     } else {

@@ -5,13 +5,17 @@ mod directives;
 mod faults;
 mod job;
 mod keywords;
+mod named;
 mod operands;
 mod options;
+mod responses;
+mod sizes;
 mod tokens;
 mod words;
 
 pub use directives::parse_directives;
 pub use faults::{DirectiveFault, DirectiveFaultKind, SplitFault};
-pub use job::{Directives, Job, MapFile, Order, OrderItem, Warning, WarningKind};
+pub use job::{Directives, Input, Job, MapFile, Order, OrderItem, Stack, Warning, WarningKind};
+pub use responses::{response_word, text_asked};
 pub use tokens::split_words;
 pub use words::{WordsFault, parse_words};

@@ -1,16 +1,18 @@
 //! The options of a directive `option`.
 ghost use Rattle.std.specs.Prelude.{◌≡◌, Ok, Some};
-ghost use Rattle.std.specs.Option.{option_map, option_map_or};
+ghost use Rattle.std.specs.Option.{option_and_then, option_map, option_map_or};
 ghost use Rattle.doslink_words.specs.Directives as spec;
 ghost use Rattle.doslink_words.specs.Said.{At, Beside, map_of, said_of};
+ghost use Rattle.doslink_words.specs.Sizes.{stack_bytes};
 ghost use Rattle.doslink_words.specs.inside.Tokens.{piece_of, pieces};
 ghost use Rattle.doslink_words.specs.inside.Follows.{Follows, Gives, option_said};
 ghost use Rattle.doslink_words.specs.inside.Parts.{optioned};
 
 use crate::faults::{DirectiveFaultKind, LineFault};
-use crate::job::{Directives, MapFile, Order, Warning, WarningKind};
+use crate::job::{Directives, MapFile, Order, Stack, Warning, WarningKind};
 use crate::keywords::{Plain, Switch, switch_named};
 use crate::operands::part_end;
+use crate::sizes::stack_bytes;
 use crate::tokens::Token;
 
 /// Tells that something of a line has no effect.
@@ -57,6 +59,27 @@ fn map_file<'a>(value: Option<&'a str>) -> MapFile<'a>
     }
 }
 
+// How many bytes a value asks for.
+fn bytes_of(value: Option<&str>) -> Option<u32>
+    ensures { result ≡ option_and_then stack_bytes (option_map (λ s. s.now) value.entry) }
+{
+    stack_bytes(value?)
+}
+
+// Follows `stack=N`.
+fn follow_stack(directives: &mut Directives, value: Option<&str>) -> Result<(), LineFault>
+    ensures { Follows result (spec.stack_meaning (option_map (λ s. s.now) value.entry) (said_of directives.old))
+        (said_of directives.new) }
+{
+    match bytes_of(value) {
+        Some(bytes) => {
+            directives.job.stack = Some(Stack { bytes, cuts: true });
+            Ok(())
+        }
+        None => Err(LineFault::Wrong(DirectiveFaultKind::WrongOperands)),
+    }
+}
+
 // Follows an option that takes no value.
 fn follow_plain(directives: &mut Directives, plain: Plain)
     ensures { said_of directives.new ≡ spec.plain_meaning plain (said_of directives.old) }
@@ -86,6 +109,7 @@ fn follow_option<'a>(
     };
     match switch {
         Switch::Idle(kind) => warn(directives, line, kind),
+        Switch::Stack => follow_stack(directives, value),
         Switch::Map => {
             directives.job.map = Some(map_file(value));
             Ok(())

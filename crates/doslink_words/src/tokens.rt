@@ -136,7 +136,7 @@ pub(crate) fn after_space(text: &str) -> &str
 }
 
 // What stands up to a quote, and what follows that.
-fn quoted_token<'a>(quote: u8, text: &'a str) -> Option<(Token<'a>, &'a str)>
+pub(crate) fn quoted_token<'a>(quote: u8, text: &'a str) -> Option<(Token<'a>, &'a str)>
     requires { quote < 128 }
     ensures token { said result ≡ spec.quoted quote text.now }
     ensures shorter { IfSome result (λ p. length p.1.now ≤ length text.now) }

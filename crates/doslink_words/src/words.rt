@@ -1,21 +1,25 @@
 //! The words of the command line.
-ghost use Rattle.std.specs.Prelude.{◌≡◌, ◌==◌, IfErr, IfOk, [], false, map, true};
+ghost use Rattle.std.specs.Prelude.{◌≡◌, ◌==◌, IfErr, IfOk, [], codes, false, map, true};
 ghost use Rattle.std.specs.List.{slice_split};
 ghost use Rattle.std.specs.Option.{option_map};
-ghost use Rattle.clap.specs.Words.{app_of, fault_of, found_of, is_simple_and_free, kind_of, rows_of, rule_of};
+ghost use Rattle.clap.specs.Words.{app_of, first_of, found_of, is_simple_and_free, kind_of, rows_of, rule_of};
 ghost use Rattle.clap.specs.declared.Command.{out-Command as fields_of};
 ghost use Rattle.clap.specs.declared.error.ErrorKind.TheVariants.{OutOfMemory};
-ghost use Rattle.doslink_words.specs.Said.{At, Class, items_of, map_of, order_of};
+ghost use Rattle.doslink_words.specs.Named as named;
+ghost use Rattle.doslink_words.specs.Said.{At, Class, items_of, inputs_of, map_of, order_of};
 ghost use Rattle.doslink_words.specs.Tokens.{texts};
+ghost use Rattle.doslink_words.specs.declared.named.Expected.TheVariants.{Any};
 ghost use Rattle.doslink_words.specs.Words as spec;
-ghost use Rattle.doslink_words.specs.Words.{IsJobFor, IsJobOf};
+ghost use Rattle.doslink_words.specs.Words.{AreTaken, IsJobFor, IsJobOf};
 ghost use Rattle.doslink_words.specs.declared.words.WordsFault.TheVariants.{Memory};
 
-use crate::job::{Job, MapFile, Order, OrderItem};
+use crate::job::{Input, Job, MapFile, Order, OrderItem, Stack};
 use crate::keywords::is;
+use crate::named::{in_order, kinds_named};
+use crate::sizes::stack_bytes;
 use clap::error::ErrorKind;
 use clap::{Arg, ArgAction, ArgMatches, Command};
-use command_line::{case_flag, files, flag, map_option, with_arg};
+use command_line::{VERSION, case_flag, files, flag, map_option, with_arg};
 use std::alloc::{AllocError, Global};
 use thiserror::Error;
 
@@ -76,7 +80,17 @@ fn order_option<'a>(alloc: Global) -> Arg<'a>
     ensures local { result.global ≡ false }
 {
     Arg::new(alloc, "ORDER").long("order").help(
-        "dosseg, or the classes that stand first: CLASS,CLASS,.. (else in the order of meeting)",
+        "dosseg, dosseg-nonulls, or the classes that stand first: CLASS,.. (else in the order of meeting)",
+    )
+}
+
+// The length of the stack.
+fn stack_option<'a>(alloc: Global) -> Arg<'a>
+    ensures rule { rule_of result ≡ spec.stack_rule }
+    ensures local { result.global ≡ false }
+{
+    Arg::new(alloc, "N").long("stack").help(
+        "The stack's bytes, 1 to 65,536: a shorter one is made so long (0x800, 2k: 2,048)",
     )
 }
 
@@ -99,6 +113,7 @@ fn bare_command<'a>(alloc: Global) -> Result<Command<'a>, AllocError>
     Command::new(alloc, "doslink")
         .about("Links what compilers for DOS write, with libraries, into an MS-DOS program")
         .after_help(NOTES)
+        .version(VERSION)
         .no_binary_name(true)
         .arg_required_else_help(true)
         .bin_name("doslink")
@@ -127,6 +142,7 @@ fn doslink_command<'a>(alloc: Global) -> Result<Command<'a>, AllocError>
     let debug = "Keep segments of the classes DEBSYM, DEBTYP and DWARF in the program";
     let command = with_arg(files_command(alloc), case_flag(alloc));
     let command = with_arg(command, order_option(alloc));
+    let command = with_arg(command, stack_option(alloc));
     let command = with_arg(command, flag(alloc, "no-default-libs", no_defaults));
     let command = with_arg(command, flag(alloc, "keep-debug", debug));
     with_arg(command, verbose_flag(alloc))
@@ -178,6 +194,13 @@ fn classes_of<'a>(alloc: Global, names: &[&'a str]) -> Result<Vec<OrderItem<'a>>
     Ok(classes)
 }
 
+// Whether a word names the order DOSSEG.
+fn is_dosseg(word: &str) -> bool
+    ensures { result ≡ spec.is_dosseg word.now }
+{
+    is(word, "dosseg") || is(word, "dosseg-nonulls")
+}
+
 // The order that a value asks for.
 fn order_asked<'a>(alloc: Global, value: Option<&'a str>) -> Result<Order<'a>, AllocError>
     ensures { IfOk result (λ order. order_of order ≡ spec.order_asked (option_map (λ s. s.now) value.entry)) }
@@ -185,11 +208,29 @@ fn order_asked<'a>(alloc: Global, value: Option<&'a str>) -> Result<Order<'a>, A
     let Some(word) = value else {
         return Ok(Order::Meeting);
     };
-    if is(word, "dosseg") {
+    if is_dosseg(word) {
         return Ok(Order::Dosseg);
     }
     let names = names_in(alloc, word)?;
     Ok(Order::Listed(classes_of(alloc, names.as_slice())?))
+}
+
+// Whether the order DOSSEG has null bytes.
+fn nulls_asked(value: Option<&str>) -> bool
+    ensures { result ≡ spec.nulls_asked (option_map (λ s. s.now) value.entry) }
+{
+    match value {
+        Some(word) => !is(word, "dosseg-nonulls"),
+        None => true,
+    }
+}
+
+// The stack that a value asks for.
+fn stack_asked(value: Option<&str>) -> Option<Stack>
+    ensures { result ≡ spec.stack_asked (option_map (λ s. s.now) value.entry) }
+{
+    let bytes = stack_bytes(value?)?;
+    Some(Stack { bytes, cuts: false })
 }
 
 // The map that a value asks for.
@@ -202,18 +243,35 @@ fn map_asked<'a>(value: Option<&'a str>) -> Option<MapFile<'a>>
     }
 }
 
-// The job that values ask for.
-fn job_of<'a>(alloc: Global, values: &ArgMatches<'a>) -> Result<Job<'a>, AllocError>
-    ensures { IfOk result (IsJobOf (rows_of (found_of values.now))) }
+// What is linked, in the order of the words.
+fn inputs_asked<'a>(
+    alloc: Global,
+    words: &[&str],
+    values: &ArgMatches<'a>,
+) -> Result<Vec<Input<'a>>, AllocError>
+    ensures { IfOk result (λ inputs. inputs_of inputs.items ≡ named.in_order (named.kinds_named Any (texts words.now))
+        (spec.values_of (codes "FILES") (rows_of (found_of values.now)))
+        (spec.values_of (codes "LIB") (rows_of (found_of values.now)))) }
+{
+    let kinds = kinds_named(alloc, words)?;
+    let files = values_of(alloc, values, "FILES")?;
+    let libraries = values_of(alloc, values, "LIB")?;
+    in_order(alloc, &kinds, &files, &libraries)
+}
+
+// The job that values ask for, which words give.
+fn job_of<'a>(alloc: Global, words: &[&str], values: &ArgMatches<'a>) -> Result<Job<'a>, AllocError>
+    ensures { IfOk result (IsJobOf (texts words.now) (rows_of (found_of values.now))) }
 {
     Ok(Job {
-        files: values_of(alloc, values, "FILES")?,
+        inputs: inputs_asked(alloc, words, values)?,
         out: values.get_str("OUT"),
         map: map_asked(values.get_str("MAP")),
         folders: values_of(alloc, values, "FOLDER")?,
-        libraries: values_of(alloc, values, "LIB")?,
         ignore_case: values.get_flag("ignore-case"),
         order: order_asked(alloc, values.get_str("ORDER"))?,
+        null_bytes: nulls_asked(values.get_str("ORDER")),
+        stack: stack_asked(values.get_str("N")),
         default_libraries: !values.get_flag("no-default-libs"),
         keep_debug: values.get_flag("keep-debug"),
         packs_far_data: false,
@@ -222,18 +280,66 @@ fn job_of<'a>(alloc: Global, values: &ArgMatches<'a>) -> Result<Job<'a>, AllocEr
     })
 }
 
-/// The job that the words after the program's name ask for. Words in which the command has no fault are refused for
-/// nothing but want of memory.
+// The words that stand for those that are given: `--help` for `help` alone.
+fn asked<'a>(words: &'a [&'a str]) -> &'a [&'a str]
+    ensures { texts result.now ≡ spec.asked (texts words.now) }
+{
+    match words {
+        [word] if word.as_bytes() == b"help".as_slice() => &["--help"],
+        _ => words,
+    }
+}
+
+// Says that a value is no length of a stack.
+fn stack_refused(alloc: Global, word: &str) -> WordsFault {
+    let text = format!(in alloc;
+        "error: invalid value '{word}' for '--stack <N>': a stack has 1 to 65,536 bytes\n\n\
+        For more information, try '--help'.\n"
+    );
+    match text {
+        Ok(text) => WordsFault::Wrong(text),
+        Err(AllocError) => WordsFault::Memory,
+    }
+}
+
+// Refuses a value that is no length of a stack.
+fn check_stack(alloc: Global, value: Option<&str>) -> Result<(), WordsFault>
+    ensures ok { IfOk result (λ _. spec.is_no_stack (option_map (λ s. s.now) value.entry) ≡ false) }
+    ensures err { IfErr result (λ _. spec.is_no_stack (option_map (λ s. s.now) value.entry) ≡ true) }
+{
+    match value {
+        Some(word) if stack_bytes(word).is_none() => Err(stack_refused(alloc, word)),
+        _ => Ok(()),
+    }
+}
+
+// The job that values ask for, which words give, where the stack is a length.
+fn checked_job<'a>(
+    alloc: Global,
+    words: &[&str],
+    values: &ArgMatches<'a>,
+) -> Result<Job<'a>, WordsFault>
+    ensures job { IfOk result (λ job. (spec.is_no_stack (first_of (codes "N") (rows_of (found_of values.now))) ≡ false)
+        × IsJobOf (texts words.now) (rows_of (found_of values.now)) job) }
+    ensures refused { spec.is_no_stack (first_of (codes "N") (rows_of (found_of values.now))) ≡ false
+        → IfErr result (λ fault. fault ≡ Memory) }
+{
+    check_stack(alloc, values.get_str("N"))?;
+    Ok(job_of(alloc, words, values)?)
+}
+
+/// The job that the words after the program's name ask for. Words that are taken, by a command that has no fault in
+/// them and with a stack of a length that there is, are refused for nothing but want of memory.
 pub fn parse_words<'a>(alloc: Global, words: &'a [&'a str]) -> Result<Job<'a>, WordsFault>
     ensures job { IfOk result (IsJobFor (texts words.entry.now)) }
-    ensures refused { fault_of spec.doslink_command (texts words.entry.now) ≡ []
-        → IfErr result (λ fault. fault ≡ Memory) }
+    ensures refused { AreTaken (texts words.entry.now) → IfErr result (λ fault. fault ≡ Memory) }
     // What is at fault, and the matches, are those that the parser promises of simple commands.
     ensures simple { is_simple_and_free spec.doslink_command ≡ true }
 {
+    let words = asked(words);
     let command = doslink_command(alloc)?;
     match command.try_get_matches_from(words) {
-        Ok(values) => Ok(job_of(alloc, &values)?),
+        Ok(values) => checked_job(alloc, words, &values),
         Err(error) => Err(refusal(alloc, &error)),
     }
 }

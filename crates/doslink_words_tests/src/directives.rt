@@ -31,7 +31,7 @@ format dos
 order clname CODE clname FAR_DATA clname BEGDATA segment _NULL segment _AFTERNULL clname DATA clname BSS clname STACK clname HEAP
 name hello.exe
 =>
-Ok(Directives { job: Job { files: ["rtl/large/prt0l.o"], out: Some("hello.exe"), map: None, folders: [], libraries: ["hello.a", "rtl/large/system.a"], ignore_case: false, order: Listed([Class("CODE"), Class("FAR_DATA"), Class("BEGDATA"), Segment("_NULL"), Segment("_AFTERNULL"), Class("DATA"), Class("BSS"), Class("STACK"), Class("HEAP")]), default_libraries: true, keep_debug: false, packs_far_data: true, verbose: false, quiet: true }, warnings: [] })
+Ok(Directives { job: Job { inputs: [File("rtl/large/prt0l.o"), Library("hello.a"), Library("rtl/large/system.a")], out: Some("hello.exe"), map: None, folders: [], ignore_case: false, order: Listed([Class("CODE"), Class("FAR_DATA"), Class("BEGDATA"), Segment("_NULL"), Segment("_AFTERNULL"), Class("DATA"), Class("BSS"), Class("STACK"), Class("HEAP")]), null_bytes: false, stack: None, default_libraries: true, keep_debug: false, packs_far_data: true, verbose: false, quiet: true }, warnings: [] })
 
 
 # a comment with "a quote
@@ -39,14 +39,16 @@ Ok(Directives { job: Job { files: ["rtl/large/prt0l.o"], out: Some("hello.exe"),
   # another
  FILE 'a b.obj' , "it's.obj",c.obj
 =>
-files: ["a b.obj", "it's.obj", "c.obj"]
+inputs: [File("a b.obj"), File("it's.obj"), File("c.obj")]
 
 
 libpath a,b
 Lib c,d
+file e
 libpath e
+library f
 =>
-folders: ["a", "b", "e"], libraries: ["c", "d"],
+inputs: [Library("c"), Library("d"), File("e"), Library("f")], out: None, map: None, folders: ["a", "b", "e"], ignore_case: false,
 
 
 option map
@@ -56,7 +58,7 @@ map: Some(Beside)
 
 op quiet, map = "a b.map", dosseg, NODEFAULTLIBS
 =>
-map: Some(At("a b.map")), folders: [], libraries: [], ignore_case: false, order: Dosseg, default_libraries: false, keep_debug: false, packs_far_data: true, verbose: false, quiet: true
+map: Some(At("a b.map")), folders: [], ignore_case: false, order: Dosseg, null_bytes: false, stack: None, default_libraries: false, keep_debug: false, packs_far_data: true, verbose: false, quiet: true
 
 
 option ignorecase
@@ -74,15 +76,35 @@ name b.exe
 option dosseg
 order clname A
 =>
-out: Some("b.exe"), map: None, folders: [], libraries: [], ignore_case: false, order: Listed([Class("A")])
+out: Some("b.exe"), map: None, folders: [], ignore_case: false, order: Listed([Class("A")])
 
 
-option symfile,verbose,stack=4096
+option stack=4096
+=>
+stack: Some(Stack { bytes: 4096, cuts: true })
+
+
+op st=1, stack=0x2000, STACK=0X1f
+=>
+kind: UnknownOption
+
+
+option stack=4k,stack=64K
+=>
+stack: Some(Stack { bytes: 65536, cuts: true })
+
+
+option stack=0x10k
+=>
+stack: Some(Stack { bytes: 16384, cuts: true })
+
+
+option symfile,verbose
 sort global
 disable 1023
 format DOS exe
 =>
-warnings: [Warning { line: 1, kind: Symbols }, Warning { line: 1, kind: Option }, Warning { line: 1, kind: Stack }, Warning { line: 2, kind: Sort }, Warning { line: 3, kind: Disable }]
+warnings: [Warning { line: 1, kind: Symbols }, Warning { line: 1, kind: Option }, Warning { line: 2, kind: Sort }, Warning { line: 3, kind: Disable }]
 
 
  a "b c" d'e "f"g,h=i
@@ -162,6 +184,51 @@ kind: WrongOperands
 
 
 option map=
+=>
+kind: WrongOperands
+
+
+option stack
+=>
+kind: WrongOperands
+
+
+option stack=0
+=>
+kind: WrongOperands
+
+
+option stack=65537
+=>
+kind: WrongOperands
+
+
+option stack=65k
+=>
+kind: WrongOperands
+
+
+option stack=1m
+=>
+kind: WrongOperands
+
+
+option stack=+5
+=>
+kind: WrongOperands
+
+
+option stack=k
+=>
+kind: WrongOperands
+
+
+option stack=0x
+=>
+kind: WrongOperands
+
+
+option stack=18446744073709551617
 =>
 kind: WrongOperands
 

@@ -4,4 +4,6 @@
 #[cfg(test)]
 mod directives;
 #[cfg(test)]
+mod responses;
+#[cfg(test)]
 mod words;

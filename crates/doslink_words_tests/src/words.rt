@@ -21,22 +21,67 @@ fn hold<R: Abort>(rt: &R, alloc: Global, table: &str) {
 #[test]
 fn reads_words(rt: HostRuntime) {
     let table = r#"doslink A.OBJ =>
-Ok(Job { files: ["A.OBJ"], out: None, map: None, folders: [], libraries: [], ignore_case: false, order: Meeting, default_libraries: true, keep_debug: false, packs_far_data: false, verbose: false, quiet: false })
+Ok(Job { inputs: [File("A.OBJ")], out: None, map: None, folders: [], ignore_case: false, order: Meeting, null_bytes: true, stack: None, default_libraries: true, keep_debug: false, packs_far_data: false, verbose: false, quiet: false })
 
 doslink -o P -m M A B =>
-files: ["A", "B"], out: Some("P"), map: Some(At("M"))
+inputs: [File("A"), File("B")], out: Some("P"), map: Some(At("M"))
 
 doslink -L X A -L Y -lC -l D.LIB B =>
-files: ["A", "B"], out: None, map: None, folders: ["X", "Y"], libraries: ["C", "D.LIB"],
+inputs: [File("A"), Library("C"), Library("D.LIB"), File("B")], out: None, map: None, folders: ["X", "Y"],
 
 doslink --ignore-case -v A --no-default-libs =>
-ignore_case: true, order: Meeting, default_libraries: false, keep_debug: false, packs_far_data: false, verbose: true, quiet: false
+ignore_case: true, order: Meeting, null_bytes: true, stack: None, default_libraries: false, keep_debug: false, packs_far_data: false, verbose: true, quiet: false
 
 doslink --keep-debug A =>
 keep_debug: true, packs_far_data: false
 
+doslink -l L1.LIB A.OBJ L0.LIB =>
+inputs: [Library("L1.LIB"), File("A.OBJ"), File("L0.LIB")]
+
+doslink A -vl=B -o-lC -vlD =>
+error: the argument '-v' cannot be used multiple times
+
+doslink A -vl=B -o C - -lD -m E -L F G =>
+inputs: [File("A"), Library("B"), File("-"), Library("D"), File("G")], out: Some("C"), map: Some(At("E")), folders: ["F"]
+
+doslink --order X --stack 2 A --keep-debug -l B -- -l -o --stack B =>
+inputs: [File("A"), Library("B"), File("-l"), File("-o"), File("--stack"), File("B")]
+
+doslink -lA A -l A A -L A -l A =>
+inputs: [Library("A"), File("A"), Library("A"), File("A"), Library("A")]
+
 doslink --order DosSeg A =>
-order: Dosseg
+order: Dosseg, null_bytes: true
+
+doslink --order dosseg-NONULLS A =>
+order: Dosseg, null_bytes: false
+
+doslink --stack 1 A =>
+stack: Some(Stack { bytes: 1, cuts: false })
+
+doslink --stack=0x800 A =>
+stack: Some(Stack { bytes: 2048, cuts: false })
+
+doslink --stack 0 A =>
+Err(Wrong("error: invalid value '0' for '--stack <N>': a stack has 1 to 65,536 bytes\n\nFor more information, try '--help'.\n"))
+
+doslink --stack 65537 A =>
+invalid value '65537'
+
+doslink --stack=-1 A =>
+invalid value '-1'
+
+doslink --version =>
+Err(Help("doslink 1.0\n"))
+
+doslink -V =>
+Err(Help("doslink 1.0\n"))
+
+doslink help =>
+Err(Help("Links what compilers for DOS write, with libraries, into an MS-DOS program\n
+
+doslink help A =>
+inputs: [File("help"), File("A")]
 
 doslink --order CODE,DATA,,BSS A =>
 order: Listed([Class("CODE"), Class("DATA"), Class(""), Class("BSS")])

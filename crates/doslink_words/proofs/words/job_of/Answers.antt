@@ -3,23 +3,24 @@ use Rattle.clap.specs.Words.{found_of}
 use Rattle.clap.proofs.WalkLemmas.{first_value-rows}
 use Rattle.command_line.proofs.Values.{contrary_flag, flag_of}
 use Rattle.doslink_words.specs.Said.{At}
-use Rattle.doslink_words.specs.Words.{order_asked}
+use Rattle.doslink_words.specs.Words.{nulls_asked, order_asked, stack_asked}
 use Rattle.doslink_words.proofs.words.job_of.Goals as goal
 
 pub returns : goal.returns
 returns c =
     let f = found_of c.args.values.now in
     record {
-      files = c.in_ok-values_of.ensures;
+      inputs = c.in_ok-inputs_asked.ensures;
       out = c.get_str.ensures ∙ first_value-rows f (codes "OUT");
       map = c.map_asked.ensures ∙ ap (option_map At) (c.get_str-2.ensures ∙ first_value-rows f (codes "MAP"));
-      folders = c.in_ok-values_of-2.ensures;
-      libraries = c.in_ok-values_of-3.ensures;
+      folders = c.in_ok-values_of.ensures;
       ignore_case =
           flag_of f (codes "ignore-case") c.get_flag.result c.get_flag.ensures.value c.get_flag.ensures.other
           c.get_flag.ensures.none;
       order =
           c.in_ok-order_asked.ensures ∙ ap order_asked (c.get_str-3.ensures ∙ first_value-rows f (codes "ORDER"));
+      null_bytes = c.nulls_asked.ensures ∙ ap nulls_asked (c.get_str-4.ensures ∙ first_value-rows f (codes "ORDER"));
+      stack = c.stack_asked.ensures ∙ ap stack_asked (c.get_str-5.ensures ∙ first_value-rows f (codes "N"));
       default_libraries =
           contrary_flag f (codes "no-default-libs") c.get_flag-2.result c.get_flag-2.ensures.value
           c.get_flag-2.ensures.other c.get_flag-2.ensures.none;

@@ -9,5 +9,5 @@ pub returns : goal.returns
 returns c =
     let classes =
     c.in_ok-classes_of.ensures ∙ ap (map Class) (ap texts c.as_slice.ensures.value ∙ c.in_ok-names.ensures) in
-    listed_order c.in-Some.word.now _ (sym c.is.ensures ∙ c.if-is.false) classes
+    listed_order c.in-Some.word.now _ (sym c.is_dosseg.ensures ∙ c.if-is_dosseg.false) classes
     ∙ ap order_asked (sym (ap (option_map (λ s. s.now)) c.in-Some.is))
