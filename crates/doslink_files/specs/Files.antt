@@ -1,16 +1,16 @@
--- The files of a link, read whole, and libraries, which are looked up. `told` are the bytes of files by their paths,
+-- The files of a link, which are read, and libraries, which are looked up. `told` are the bytes of files by their paths,
 -- where the world tells them.
-use Rattle.std.specs.Prelude.{◌≡◌, ℕ, List, [], ◌∷◌, ◌++◌, map, string_bytes, Some, None}
+use Rattle.std.specs.Prelude.{All, ◌≡◌, ◌≢◌, ℕ, List, [], ◌∷◌, ◌++◌, map, string_bytes, Some, None}
 use Rattle.std.specs.declared.option.Option.{Option}
 use Rattle.std.specs.List.{Contains}
-use Rattle.doslink_files.specs.declared.fault.FileFault.{FileFault}
-use Rattle.doslink_files.specs.declared.fault.FileFault.TheVariants as fault
+use Rattle.doslink_files.specs.declared.fault.FilesFault.{FilesFault}
+use Rattle.doslink_files.specs.declared.fault.FilesFault.TheVariants as fault
+use Rattle.doslink_files.specs.declared.lookup.Found.{Found}
+use Rattle.doslink_files.specs.declared.lookup.Found.TheVariants.{New, Known}
 use Rattle.doslink_files.specs.declared.reading.InputFile.{InputFile}
-use Rattle.doslink_files.specs.Paths.{extensions, in_folder}
-
--- the paths of files
-abbrev pub file_paths : {A : Type 0} → List (InputFile A) → List (List ℕ)
-file_paths files = map (λ f. string_bytes f.path) files
+use Rattle.doslink_files.specs.declared.reading.Sought.{Sought}
+use Rattle.doslink_files.specs.declared.reading.Sought.TheVariants.{File, Library}
+use Rattle.doslink_files.specs.Paths.{extensions, in_folder, object_extensions}
 
 -- the bytes of files
 abbrev pub contents : {A : Type 0} → List (InputFile A) → List (List ℕ)
@@ -27,10 +27,6 @@ Each holds [] [] = Unit {0}
 Each holds (name ∷ names) (bytes ∷ files) = holds name bytes × Each holds names files
 Each holds _ _ = ⊥
 
--- these are the bytes of the files at the paths, in their order
-abbrev pub AreTold : (told : List ℕ → Option (List ℕ)) → (paths files : List (List ℕ)) → Type 0
-AreTold told paths files = Each (λ path bytes. IsTold (told path) bytes) paths files
-
 -- a library of this name is looked up in a folder at this path: that of a file there of this name, or with an extension
 abbrev pub IsPathIn : (folder name path : List ℕ) → Type 0
 IsPathIn folder name path =
@@ -44,17 +40,40 @@ IsPathOf folders name path = (folder : List ℕ) × Contains ([] ∷ folders) fo
 abbrev pub IsFound : (told : List ℕ → Option (List ℕ)) → (folders : List (List ℕ)) → (name path bytes : List ℕ) → Type 0
 IsFound told folders name path bytes = IsPathOf folders name path × IsTold (told path) bytes
 
--- these are the bytes of the libraries of the names, in their order
-abbrev pub AreFound : (told : List ℕ → Option (List ℕ)) → (folders names files : List (List ℕ)) → Type 0
-AreFound told folders names files =
-    (paths : List (List ℕ)) × Each (IsPathOf folders) names paths × AreTold told paths files
+-- this is the library of the name, looked up in this folder and in the others, where it is new
+abbrev pub IsFoundNew : {A : Type 0} → (told : List ℕ → Option (List ℕ)) → (folders : List (List ℕ)) → (name : List ℕ)
+    → Found A → Type 0
+IsFoundNew told folders name (New file) = IsFound told folders name (string_bytes file.path) file.bytes.items
+IsFoundNew told folders name Known = Unit {0}
 
--- the fault is that what has this name isn't read, unless it is want of memory
-abbrev pub IsUnread : (name : List ℕ) → FileFault → Type 0
-IsUnread name fault.Memory = Unit {0}
-IsUnread name (fault.Unread unread) = unread.now ≡ name
+-- a module that is named by a path is looked up at this one: that one, or with an extension
+abbrev pub IsObjectPath : (path found : List ℕ) → Type 0
+IsObjectPath path found = (extension : List ℕ) × Contains (object_extensions path) extension × (found ≡ path ++ extension)
 
--- the same of one of these names
-abbrev pub IsOneUnread : (names : List (List ℕ)) → FileFault → Type 0
-IsOneUnread names fault.Memory = Unit {0}
-IsOneUnread names (fault.Unread unread) = Contains names unread.now
+-- these are the bytes of the module that is named by a path
+abbrev pub IsFileOf : (told : List ℕ → Option (List ℕ)) → (path bytes : List ℕ) → Type 0
+IsFileOf told path bytes = (found : List ℕ) × IsObjectPath path found × IsTold (told found) bytes
+
+-- these are the bytes of what is wanted: of the module at a path, or of the library of a name
+abbrev pub IsSought : (told : List ℕ → Option (List ℕ)) → (folders : List (List ℕ)) → Sought → (bytes : List ℕ) → Type 0
+IsSought told folders (File path) bytes = IsFileOf told path.now bytes
+IsSought told folders (Library name) bytes = (path : List ℕ) × IsFound told folders name.now path bytes
+
+-- the same of all that is wanted, in its order
+abbrev pub AreSought : (told : List ℕ → Option (List ℕ)) → (folders : List (List ℕ)) → List Sought
+    → (files : List (List ℕ)) → Type 0
+AreSought told folders [] [] = Unit {0}
+AreSought told folders (one ∷ sought) (bytes ∷ files) =
+    IsSought told folders one bytes × AreSought told folders sought files
+AreSought told folders _ _ = ⊥
+
+-- the path or the name of what is wanted
+abbrev pub sought_name : Sought → List ℕ
+sought_name (File path) = path.now
+sought_name (Library name) = name.now
+
+-- some of these names are told as those of what isn't read, unless there is no memory
+abbrev pub AreUnread : {A : Type 0} → (names : List (List ℕ)) → FilesFault A → Type 0
+AreUnread names fault.Memory = Unit {0}
+AreUnread names (fault.Unread unread) =
+    (unread.items ≢ []) × All (λ one. Contains names one.name.now) unread.items

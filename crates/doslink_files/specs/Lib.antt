@@ -1,2 +1,4 @@
 pub mod Files
 pub mod Paths
+pub mod Standing
+pub mod inside

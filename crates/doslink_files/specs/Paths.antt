@@ -33,3 +33,7 @@ in_folder folder name = folder ++ joint folder ++ name
 -- what is put behind a library's name
 abbrev pub extensions : (name : List ℕ) → List (List ℕ)
 extensions name = if has_extension name then [] ∷ [] else [] ∷ codes ".LIB" ∷ codes ".lib" ∷ []
+
+-- what is put behind the path of a module
+abbrev pub object_extensions : (path : List ℕ) → List (List ℕ)
+object_extensions path = if has_extension path then [] ∷ [] else [] ∷ codes ".OBJ" ∷ codes ".obj" ∷ []

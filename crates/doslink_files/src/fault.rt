@@ -1,8 +1,8 @@
 //! Why files aren't read.
 ghost use Rattle.std.specs.Prelude.{◌≡◌};
-ghost use Rattle.doslink_files.specs.Files.{IsUnread};
 
-use std::alloc::{AllocError, AllocFailed};
+use std::alloc::{AllocError, AllocFailed, Allocator};
+use std::io::{self, ErrorKind};
 use thiserror::Error;
 
 /// Why a file isn't read.
@@ -11,15 +11,46 @@ pub enum ReadFault {
     /// There was no memory.
     #[error("out of memory")]
     Memory,
-    /// It can't be opened.
-    #[error("the file can't be opened")]
+    /// Nothing stands at its path.
+    #[error("no such file")]
     Absent,
     /// It is a folder.
     #[error("it is a folder")]
     Folder,
+    /// It may not be opened.
+    #[error("no permission")]
+    Forbidden,
+    /// It is no regular file, where one is asked for.
+    #[error("it is no regular file")]
+    Special,
+    /// It can't be opened for another reason of the system's.
+    #[error("{0}")]
+    Unopened(ErrorKind),
     /// A read failed.
-    #[error("the device failed")]
-    Device,
+    #[error("{0}")]
+    Device(ErrorKind),
+}
+
+impl ReadFault {
+    /// Why a file isn't opened, where opening it or looking at it answered this.
+    pub(crate) fn of_opening(error: &io::Error) -> ReadFault {
+        match error.kind() {
+            ErrorKind::OutOfMemory => ReadFault::Memory,
+            ErrorKind::NotFound | ErrorKind::NotADirectory => ReadFault::Absent,
+            ErrorKind::IsADirectory => ReadFault::Folder,
+            ErrorKind::PermissionDenied => ReadFault::Forbidden,
+            kind => ReadFault::Unopened(kind),
+        }
+    }
+
+    /// Why a file isn't read, where reading it answered this.
+    pub(crate) fn of_reading(error: &io::Error) -> ReadFault {
+        match error.kind() {
+            ErrorKind::OutOfMemory => ReadFault::Memory,
+            ErrorKind::IsADirectory => ReadFault::Folder,
+            kind => ReadFault::Device(kind),
+        }
+    }
 }
 
 impl From<AllocError> for ReadFault {
@@ -32,50 +63,40 @@ impl From<AllocError> for ReadFault {
     }
 }
 
-/// Why some files aren't read.
-#[derive(Clone, Copy, Debug, PartialEq, Eq, Error)]
-pub enum FileFault<'a> {
-    /// There was no memory.
-    #[error("out of memory")]
-    Memory,
-    /// A file can't be opened or read.
-    #[error("{name}: it can't be read")]
-    Unread {
-        /// The path of the file, or the name of the library.
-        name: &'a str,
-    },
+/// A file that isn't read, and why.
+#[derive(Clone, Copy, Debug, PartialEq, Eq)]
+pub struct Unread<'a> {
+    /// The path of the file, or the name of the library.
+    pub name: &'a str,
+    /// Why it isn't read.
+    pub fault: ReadFault,
 }
 
-impl From<AllocError> for FileFault<'_> {
-    ghost use Rattle.doslink_files.specs.declared.fault.FileFault.TheVariants.{Memory};
+/// Why some files aren't read.
+#[derive(Debug, Drop)]
+pub enum FilesFault<'a, A: Allocator> {
+    /// There was no memory.
+    Memory,
+    /// These can't be opened or read: at least one, in their order.
+    Unread(Vec<Unread<'a>, A>),
+}
+
+impl<A: Allocator> From<AllocError> for FilesFault<'_, A> {
+    ghost use Rattle.doslink_files.specs.declared.fault.FilesFault.TheVariants.{Memory};
 
     ghost from_gives = { λ _ e. e ≡ Memory };
 
     fn from(_error: AllocError) -> Self {
-        FileFault::Memory
+        FilesFault::Memory
     }
 }
 
-impl<T: Drop> From<AllocFailed<T>> for FileFault<'_> {
-    ghost use Rattle.doslink_files.specs.declared.fault.FileFault.TheVariants.{Memory};
+impl<T: Drop, A: Allocator> From<AllocFailed<T>> for FilesFault<'_, A> {
+    ghost use Rattle.doslink_files.specs.declared.fault.FilesFault.TheVariants.{Memory};
 
     ghost from_gives = { λ _ e. e ≡ Memory };
 
     fn from(_error: AllocFailed<T>) -> Self {
-        FileFault::Memory
-    }
-}
-
-impl ReadFault {
-    /// The same of the file of this name.
-    pub fn of(self, name: &str) -> FileFault<'_>
-        ensures { IsUnread name.now result }
-    {
-        match self {
-            ReadFault::Memory => FileFault::Memory,
-            ReadFault::Absent | ReadFault::Folder | ReadFault::Device => {
-                FileFault::Unread { name }
-            }
-        }
+        FilesFault::Memory
     }
 }

@@ -1,12 +1,14 @@
-//! Files that are read whole, and libraries that are looked up in folders.
+//! Files that are read, libraries that are looked up in folders, and what stands where a file is to be written.
 #![tactic(auto)]
 
 mod fault;
 mod lookup;
 mod paths;
 mod reading;
+mod standing;
 
-pub use fault::{FileFault, ReadFault};
-pub use lookup::{find_libraries, find_library};
+pub use fault::{FilesFault, ReadFault, Unread};
+pub use lookup::{Found, find_default, find_library};
 pub use paths::{has_extension, last_part};
-pub use reading::{InputFile, read_file, read_files};
+pub use reading::{InputFile, Sought, read_file, read_sought};
+pub use standing::{begins_as_input, is_one_of, is_one_place, stands_as_input};

@@ -1,14 +1,16 @@
 //! Libraries that are looked up in folders.
-ghost use Rattle.std.specs.Prelude.{◌≡◌, [], ◌∷◌, IfErr, IfOk, IfSome, map, string_bytes};
-ghost use Rattle.doslink_files.specs.Files.{AreTold, Each, IsFound, IsOneUnread, IsPathIn, IsPathOf, IsTold, contents};
-ghost use Rattle.doslink_files.specs.Files.{file_paths};
+ghost use Rattle.std.specs.Prelude.{◌≡◌, ℕ, List, [], ◌∷◌, IfOk, OnOk, map, string_bytes};
+ghost use Rattle.std.specs.List.{Contains};
+ghost use Rattle.doslink_files.specs.Files.{IsFound, IsFoundNew};
+ghost use Rattle.doslink_files.specs.inside.Looking.{ArePathsOf, IsReadNew};
 ghost use Rattle.doslink_files.specs.Paths as spec;
 
-use crate::fault::{FileFault, ReadFault};
+use crate::fault::ReadFault;
 use crate::paths::{has_extension, path_in};
-use crate::reading::{InputFile, read_file};
-use omf_files::World;
-use std::alloc::Allocator;
+use crate::reading::{InputFile, passed_over, read_file, read_first};
+use omf_files::{FileId, PlaceKind, World};
+use std::alloc::{AllocError, Allocator};
+use std::collections::BTreeSet;
 
 /// What is put behind a library's name, in turn.
 fn extensions(name: &str) -> &'static [&'static str]
@@ -21,78 +23,110 @@ fn extensions(name: &str) -> &'static [&'static str]
     }
 }
 
-/// The library of this name in a folder: the first file that can be opened. What is a folder itself is passed over.
-fn find_in<W: World, A: Allocator + Copy>(
+/// Appends the paths at which the library of this name may stand in a folder.
+fn push_paths<A: Allocator + Copy>(
     alloc: A,
-    world: &W,
     folder: &str,
     name: &str,
-) -> Result<Option<InputFile<A>>, ReadFault>
-    ensures path { IfOk result (λ found. IfSome found
-        (λ file. IsPathIn folder.now name.now (string_bytes file.path))) }
-    ensures told { IfOk result (λ found. IfSome found
-        (λ file. IsTold (W.bytes world.now (string_bytes file.path)) file.bytes.items)) }
+    paths: &mut Vec<String<A>, A>,
+) -> Result<(), AllocError>
+    ensures { OnOk result ((folders : List (List ℕ)) → Contains ([] ∷ folders) folder.now
+        → ArePathsOf folders name.now paths.old.items → ArePathsOf folders name.now paths.new.items) }
 {
     for extension in extensions(name) {
-        let path = path_in(alloc, folder, name, extension)?;
-        match read_file(alloc, world, path.as_str()) {
-            Ok(bytes) => return Ok(Some(InputFile { path, bytes })),
-            Err(ReadFault::Absent | ReadFault::Folder) => {}
-            Err(fault) => return Err(fault),
-        }
+        paths.push(path_in(alloc, folder, name, extension)?)?;
     }
-    Ok(None)
+    Ok(())
+}
+
+/// The paths at which the library of this name may stand: in this folder, and then in each of the others, in their
+/// order.
+fn library_paths<A: Allocator + Copy>(
+    alloc: A,
+    folders: &[&str],
+    name: &str,
+) -> Result<Vec<String<A>, A>, AllocError>
+    ensures { IfOk result (λ paths. ArePathsOf (map (λ f. f.now) folders.now) name.now paths.items) }
+{
+    let mut paths = Vec::new(alloc);
+    push_paths(alloc, "", name, &mut paths)?;
+    for folder in folders {
+        push_paths(alloc, folder, name, &mut paths)?;
+    }
+    Ok(paths)
 }
 
 /// The library of this name, looked up in this folder, and then in each of the others, in their order: the first file
-/// that can be opened, of the name as it stands and, where it has no dot, with `.LIB` or `.lib` at its end. None where
-/// there is no such file. A folder of such a name is passed over.
+/// that can be opened, of the name as it stands and, where it has no dot, with `.LIB` or `.lib` at its end. A folder of
+/// such a name is passed over.
 ///
 /// # Errors
-/// Want of memory, or that the file can't be read to its end.
+/// Want of memory; that a file can't be read to its end; else why the last of those that are there isn't opened, and
+/// `Absent` where none is.
 pub fn find_library<W: World, A: Allocator + Copy>(
     alloc: A,
     world: &W,
     folders: &[&str],
     name: &str,
-) -> Result<Option<InputFile<A>>, ReadFault>
-    ensures { IfOk result (λ found. IfSome found
-        (λ file. IsFound (W.bytes world.now) (map (λ f. f.now) folders.now) name.now (string_bytes file.path)
-        file.bytes.items)) }
+) -> Result<InputFile<A>, ReadFault>
+    ensures { IfOk result (λ file. IsFound (W.bytes world.now) (map (λ f. f.now) folders.now) name.now
+        (string_bytes file.path) file.bytes.items) }
 {
-    if let Some(file) = find_in(alloc, world, "", name)? {
-        return Ok(Some(file));
-    }
-    for folder in folders {
-        if let Some(file) = find_in(alloc, world, folder, name)? {
-            return Ok(Some(file));
-        }
-    }
-    Ok(None)
+    let paths = library_paths(alloc, folders, name)?;
+    read_first(alloc, world, &paths)
 }
 
-/// The libraries of these names, each looked up as `find_library` does.
+/// What a look-up found.
+#[derive(Drop)]
+pub enum Found<A: Allocator + Copy> {
+    /// A file, which was read.
+    New(InputFile<A>),
+    /// A file that is known, under this path or another one. It isn't read again.
+    Known,
+}
+
+/// The regular file at a path, unless it is known.
+fn read_regular<W: World, A: Allocator + Copy>(
+    alloc: A,
+    world: &W,
+    path: &str,
+    known: &BTreeSet<FileId, A>,
+) -> Result<Found<A>, ReadFault>
+    ensures { IfOk result (IsReadNew (W.bytes world.now) path.now) }
+{
+    let looked = match world.look(path) {
+        Ok(looked) => looked,
+        Err(error) => return Err(ReadFault::of_opening(&error)),
+    };
+    match looked.kind {
+        PlaceKind::Folder => Err(ReadFault::Folder),
+        PlaceKind::Other => Err(ReadFault::Special),
+        PlaceKind::Regular if known.contains(&looked.id) => Ok(Found::Known),
+        PlaceKind::Regular => Ok(Found::New(read_file(alloc, world, path)?)),
+    }
+}
+
+/// The library of this name, looked up as `find_library` does, but among regular files alone: what modules name may be
+/// anything. One that is known isn't read again.
 ///
 /// # Errors
-/// The first that can't be found or read, by its name; or want of memory.
-pub fn find_libraries<'a, W: World, A: Allocator + Copy>(
+/// As those of `find_library`.
+pub fn find_default<W: World, A: Allocator + Copy>(
     alloc: A,
     world: &W,
     folders: &[&str],
-    names: &[&'a str],
-) -> Result<Vec<InputFile<A>, A>, FileFault<'a>>
-    ensures paths { IfOk result (λ files. Each (IsPathOf (map (λ f. f.now) folders.now)) (map (λ n. n.now) names.now)
-        (file_paths files.items)) }
-    ensures told { IfOk result (λ files. AreTold (W.bytes world.now) (file_paths files.items) (contents files.items)) }
-    ensures unread { IfErr result (IsOneUnread (map (λ n. n.now) names.now)) }
+    name: &str,
+    known: &BTreeSet<FileId, A>,
+) -> Result<Found<A>, ReadFault>
+    ensures { IfOk result (IsFoundNew (W.bytes world.now) (map (λ f. f.now) folders.now) name.now) }
 {
-    let mut files = Vec::new(alloc);
-    for name in names {
-        match find_library(alloc, world, folders, name) {
-            Ok(Some(file)) => files.push(file)?,
-            Ok(None) => return Err(FileFault::Unread { name }),
-            Err(fault) => return Err(fault.of(name)),
+    let mut why = ReadFault::Absent;
+    let paths = library_paths(alloc, folders, name)?;
+    for path in &paths {
+        match read_regular(alloc, world, path.as_str(), known) {
+            Ok(found) => return Ok(found),
+            Err(fault) => why = passed_over(why, fault)?,
         }
     }
-    Ok(files)
+    Err(why)
 }

@@ -56,3 +56,16 @@ pub(crate) fn path_in<A: Allocator + Copy>(
     made.push_str(extension)?;
     Ok(made)
 }
+
+/// A path with something behind it.
+pub(crate) fn joined<A: Allocator + Copy>(
+    alloc: A,
+    path: &str,
+    extension: &str,
+) -> Result<String<A>, AllocError>
+    ensures { IfOk result (λ s. string_bytes s ≡ path.now ++ extension.now) }
+{
+    let mut made = String::from_str(alloc, path)?;
+    made.push_str(extension)?;
+    Ok(made)
+}

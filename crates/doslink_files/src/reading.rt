@@ -1,67 +1,210 @@
-//! Files that are read whole.
-ghost use Rattle.std.specs.Prelude.{◌≡◌, IfErr, IfOk, map, string_bytes};
-ghost use Rattle.doslink_files.specs.Files.{AreTold, IsOneUnread, IsTold, contents, file_paths};
+//! Files that are read into memory.
+ghost use Rattle.std.specs.Prelude.{All, ◌≡◌, IfErr, IfOk, map, string_bytes};
+ghost use Rattle.std.specs.List.{Contains};
+ghost use Rattle.doslink_files.specs.Files.{AreSought, AreUnread, IsFileOf, IsObjectPath, IsSought, IsTold, contents};
+ghost use Rattle.doslink_files.specs.Files.{sought_name};
+ghost use Rattle.doslink_files.specs.Paths as spec;
 
-use crate::fault::{FileFault, ReadFault};
-use omf_files::World;
-use std::alloc::{Allocator, Global};
-use std::io::{ErrorKind, Read};
+use crate::fault::{FilesFault, ReadFault, Unread};
+use crate::lookup::find_library;
+use crate::paths::{has_extension, joined};
+use omf_files::{FileId, World};
+use std::alloc::{AllocError, Allocator, Global};
+use std::io::Read;
 
-/// A file of a link, read whole.
+/// A file of a link that was read.
 #[derive(Drop)]
 pub struct InputFile<A: Allocator + Copy = Global> {
     /// Its path.
     pub path: String<A>,
-    /// All its bytes.
+    /// Its bytes.
     pub bytes: Vec<u8, A>,
+    /// Which file it is. None where the world can't tell.
+    pub id: Option<FileId>,
 }
 
-/// All bytes of the file at a path.
-///
-/// # Errors
-/// Want of memory; else that the file can't be opened, that it is a folder, or that it can't be read to its end.
-pub fn read_file<W: World, A: Allocator + Copy>(
+/// A file that is wanted.
+#[derive(Clone, Copy, Debug, PartialEq, Eq)]
+pub enum Sought<'a> {
+    /// The one at a path.
+    File(&'a str),
+    /// The library of a name, which is looked up in folders.
+    Library(&'a str),
+}
+
+impl<'a> Sought<'a> {
+    /// The path, or the name.
+    pub fn name(self) -> &'a str
+        ensures { result.now ≡ sought_name self.entry }
+    {
+        match self {
+            Sought::File(path) => path,
+            Sought::Library(name) => name,
+        }
+    }
+}
+
+/// The bytes of the file at a path.
+fn read_bytes<W: World, A: Allocator + Copy>(
     alloc: A,
     world: &W,
     path: &str,
 ) -> Result<Vec<u8, A>, ReadFault>
     ensures { IfOk result (λ bytes. IsTold (W.bytes world.now path.now) bytes.items) }
 {
-    let Ok(mut file) = world.open(path) else {
-        return Err(ReadFault::Absent);
+    let mut file = match world.open(path) {
+        Ok(file) => file,
+        Err(error) => return Err(ReadFault::of_opening(&error)),
     };
     let mut bytes = Vec::new(alloc);
     match file.read_to_end(&mut bytes) {
         Ok(_) => Ok(bytes),
-        Err(error) if error.kind() == ErrorKind::OutOfMemory => Err(ReadFault::Memory),
-        Err(error) if error.kind() == ErrorKind::IsADirectory => Err(ReadFault::Folder),
-        Err(_) => Err(ReadFault::Device),
+        Err(error) => Err(ReadFault::of_reading(&error)),
     }
 }
 
-/// The files at these paths, in their order.
+/// The file at a path, read to its end.
 ///
 /// # Errors
-/// The first that can't be read, by its path; or want of memory.
-pub fn read_files<'a, W: World, A: Allocator + Copy>(
+/// Want of memory; else why the file can't be opened, or can't be read to its end.
+pub fn read_file<W: World, A: Allocator + Copy>(
     alloc: A,
     world: &W,
-    paths: &[&'a str],
-) -> Result<Vec<InputFile<A>, A>, FileFault<'a>>
-    ensures paths { IfOk result (λ files. file_paths files.items ≡ map (λ p. p.now) paths.now) }
-    ensures told { IfOk result
-        (λ files. AreTold (W.bytes world.now) (map (λ p. p.now) paths.now) (contents files.items)) }
-    ensures unread { IfErr result (IsOneUnread (map (λ p. p.now) paths.now)) }
+    path: &str,
+) -> Result<InputFile<A>, ReadFault>
+    ensures path { IfOk result (λ file. string_bytes file.path ≡ path.now) }
+    ensures told { IfOk result (λ file. IsTold (W.bytes world.now path.now) file.bytes.items) }
 {
-    let mut files = Vec::new(alloc);
+    let bytes = read_bytes(alloc, world, path)?;
+    let id = match world.look(path) {
+        Ok(looked) => Some(looked.id),
+        Err(_) => None,
+    };
+    let path = String::from_str(alloc, path)?;
+    Ok(InputFile { path, bytes, id })
+}
+
+/// What is put behind the path of a module, in turn.
+fn object_extensions(path: &str) -> &'static [&'static str]
+    ensures { map (λ e. e.now) result.now ≡ spec.object_extensions path.now }
+{
+    if has_extension(path.as_bytes()) {
+        &[""]
+    } else {
+        &["", ".OBJ", ".obj"]
+    }
+}
+
+/// The paths at which a module may stand that is named by this one.
+fn object_paths<A: Allocator + Copy>(alloc: A, path: &str) -> Result<Vec<String<A>, A>, AllocError>
+    ensures { IfOk result (λ paths. All (λ p. IsObjectPath path.now (string_bytes p)) paths.items) }
+{
+    let mut paths = Vec::new(alloc);
+    for extension in object_extensions(path) {
+        paths.push(joined(alloc, path, extension)?)?;
+    }
+    Ok(paths)
+}
+
+/// Why a look-up found nothing so far, where it goes on behind a file that isn't read.
+///
+/// # Errors
+/// The fault, where it doesn't go on: want of memory, or that a read failed.
+pub(crate) fn passed_over(before: ReadFault, fault: ReadFault) -> Result<ReadFault, ReadFault> {
+    match fault {
+        ReadFault::Memory | ReadFault::Device(_) => Err(fault),
+        ReadFault::Absent => Ok(before),
+        ReadFault::Folder | ReadFault::Forbidden | ReadFault::Special | ReadFault::Unopened(_) =>
+            Ok(fault),
+    }
+}
+
+/// The first file at some paths that can be opened and is no folder.
+///
+/// # Errors
+/// Want of memory; that a file can't be read to its end; else why the last of those that are there isn't opened, and
+/// `Absent` where none is.
+pub(crate) fn read_first<W: World, A: Allocator + Copy>(
+    alloc: A,
+    world: &W,
+    paths: &[String<A>],
+) -> Result<InputFile<A>, ReadFault>
+    ensures path { IfOk result (λ file. Contains (map string_bytes paths.now) (string_bytes file.path)) }
+    ensures told { IfOk result (λ file. IsTold (W.bytes world.now (string_bytes file.path)) file.bytes.items) }
+{
+    let mut why = ReadFault::Absent;
     for path in paths {
-        match read_file(alloc, world, path) {
-            Ok(bytes) => {
-                let path = String::from_str(alloc, path)?;
-                files.push(InputFile { path, bytes })?;
-            }
-            Err(fault) => return Err(fault.of(path)),
+        match read_file(alloc, world, path.as_str()) {
+            Ok(file) => return Ok(file),
+            Err(fault) => why = passed_over(why, fault)?,
         }
     }
-    Ok(files)
+    Err(why)
+}
+
+/// The module that is named by a path: the file there, or, where the path's last part has no dot, at the path with
+/// `.OBJ` or `.obj` behind it, the first that can be opened. A folder is passed over.
+///
+/// # Errors
+/// As those of `read_first`.
+fn read_module_file<W: World, A: Allocator + Copy>(
+    alloc: A,
+    world: &W,
+    path: &str,
+) -> Result<InputFile<A>, ReadFault>
+    ensures { IfOk result (λ file. IsFileOf (W.bytes world.now) path.now file.bytes.items) }
+{
+    let paths = object_paths(alloc, path)?;
+    read_first(alloc, world, &paths)
+}
+
+/// A file that is wanted.
+fn read_one<W: World, A: Allocator + Copy>(
+    alloc: A,
+    world: &W,
+    folders: &[&str],
+    sought: Sought<'_>,
+) -> Result<InputFile<A>, ReadFault>
+    ensures { IfOk result (λ file. IsSought (W.bytes world.now) (map (λ f. f.now) folders.now) sought.entry
+        file.bytes.items) }
+{
+    match sought {
+        Sought::File(path) => read_module_file(alloc, world, path),
+        Sought::Library(name) => find_library(alloc, world, folders, name),
+    }
+}
+
+/// Files that are wanted, one for each, in their order. Where a path's last part has no dot, and no file that can be
+/// opened stands there, it is that of the file with `.OBJ` or `.obj` behind it. Libraries are looked up as
+/// `find_library` does.
+///
+/// # Errors
+/// All that can't be found or read, and why; or want of memory.
+pub fn read_sought<'a, W: World, A: Allocator + Copy>(
+    alloc: A,
+    world: &W,
+    folders: &[&str],
+    sought: &[Sought<'a>],
+) -> Result<Vec<InputFile<A>, A>, FilesFault<'a, A>>
+    ensures told { IfOk result (λ files. AreSought (W.bytes world.now) (map (λ f. f.now) folders.now) sought.now
+        (contents files.items)) }
+    ensures unread { IfErr result (AreUnread (map sought_name sought.now)) }
+{
+    let mut files = Vec::new(alloc);
+    let mut unread = Vec::new(alloc);
+    for each in sought {
+        match read_one(alloc, world, folders, *each) {
+            Ok(file) => files.push(file)?,
+            Err(ReadFault::Memory) => return Err(FilesFault::Memory),
+            Err(fault) => unread.push(Unread {
+                name: each.name(),
+                fault,
+            })?,
+        }
+    }
+    if unread.is_empty() {
+        Ok(files)
+    } else {
+        Err(FilesFault::Unread(unread))
+    }
 }
