@@ -1,8 +1,9 @@
 -- The lines of faults and warnings. A word stands in a line for a file or a module: it is a path, and of a member its
 -- name in parentheses behind that of its library. A label is the number and the name of a fault.
 use Rattle.std.specs.Prelude.{◌≡◌, ℕ, ◌==◌, if◌then◌else◌, List, [], ◌∷◌, ◌++◌, codes, decimal, drop, filter, length}
-use Rattle.std.specs.Prelude.{map, slice_get, Some, None, Vec}
+use Rattle.std.specs.Prelude.{take, map, slice_get, Some, None, Vec}
 use Rattle.std.specs.declared.option.Option.{Option}
+use Rattle.std.specs.Borrow.{Bor}
 use Rattle.std.specs.List.{concat, enumerate_from, flat_map}
 use Rattle.std.specs.Option.{option_map_or}
 use Rattle.std.specs.Str.Lossy.{utf8_lossy}
@@ -24,12 +25,13 @@ use Rattle.omf_place.specs.declared.names.Names.{Names}
 use Rattle.omf_faults.specs.declared.fault.LinkFault.{LinkFault}
 use Rattle.omf_faults.specs.FaultLines as omf
 use Rattle.omf_text.specs.Printing.{printed_name}
-use Rattle.doslink_files.specs.declared.reading.InputFile.{InputFile}
+use Rattle.doslink_files.specs.declared.fault.ReadFault.{ReadFault}
+use Rattle.doslink_files.specs.declared.fault.ReadFault.TheVariants as read
 use Rattle.doslink_stock.specs.declared.fault.StockFault.{StockFault}
 use Rattle.doslink_stock.specs.declared.fault.StockFault.TheVariants as stock
 use Rattle.doslink_stock.specs.declared.searching.Handed.{Handed}
 use Rattle.doslink_stock.specs.Seen.{handed_held}
-use Rattle.doslink_telling.specs.Words.{path_of, word_at}
+use Rattle.doslink_telling.specs.Words.{cut_end, most_bytes, path_of, word_at}
 
 -- a line was appended, of what has one: want of memory has none
 abbrev pub IsTold : (line : Option (List ℕ)) → (old new : List ℕ) → Type 0
@@ -50,9 +52,20 @@ located word label at place =
     concat (codes "doslink: " ∷ word ∷ codes ": " ∷ decimal label.0 ∷ codes " " ∷ label.1 ∷ at ∷ decimal place
     ∷ codes "\n" ∷ [])
 
--- the line of a file that can't be opened or read
-abbrev pub device_line : (path : List ℕ) → List ℕ
-device_line path = located path (1, codes "Device") (codes " at record ") 0
+-- why a file isn't read
+abbrev pub unread_text : ReadFault → List ℕ
+unread_text read.Memory = codes "out of memory"
+unread_text read.Absent = codes "no such file"
+unread_text read.Folder = codes "it is a folder"
+unread_text read.Forbidden = codes "no permission"
+unread_text read.Special = codes "it is no regular file"
+unread_text (read.Unopened kind) = codes "it can't be opened"
+unread_text (read.Device kind) = codes "it can't be read"
+
+-- the line of a file or a library of this name that isn't read
+abbrev pub unread_line : (name : List ℕ) → ReadFault → List ℕ
+unread_line name fault = concat (codes "doslink: " ∷ name ∷ codes ": 1 Device at record 0: " ∷ unread_text fault
+    ∷ codes "\n" ∷ [])
 
 -- the label of a fault of a library
 abbrev pub format_label : FormatFault → ℕ × List ℕ
@@ -64,10 +77,10 @@ format_label format.Header = (46, codes "Header")
 format_label format.TooLong = (47, codes "TooLong")
 
 -- the line of a library at fault, by the place of the byte
-abbrev pub stock_line : {A : Type 0} → List (InputFile A) → StockFault → Option (List ℕ)
-stock_line files stock.Memory = None
-stock_line files (stock.Library file place fault) =
-    Some (located (path_of files file) (format_label fault) (codes " at place ") place)
+abbrev pub stock_line : (paths : List (Bor (List ℕ))) → StockFault → Option (List ℕ)
+stock_line paths stock.Memory = None
+stock_line paths (stock.Library file place fault) =
+    Some (located (path_of paths file) (format_label fault) (codes " at place ") place)
 
 -- the label of what of a record can't be lowered
 abbrev pub obstacle_label : Obstacle → ℕ × List ℕ
@@ -76,6 +89,9 @@ obstacle_label obstacle.Above16Bits = (49, codes "Above16Bits")
 obstacle_label obstacle.Location = (50, codes "Location")
 obstacle_label obstacle.Body = (51, codes "Body")
 obstacle_label obstacle.TooLong = (52, codes "TooLong")
+obstacle_label obstacle.EasyOmf = (63, codes "EasyOmf")
+obstacle_label obstacle.ImportedName = (64, codes "ImportedName")
+obstacle_label obstacle.FlatFrame = (65, codes "FlatFrame")
 
 -- the line of a record that can't be lowered, by its place in its module
 abbrev pub obstacle_line : (word : List ℕ) (place : ℕ) → Obstacle → List ℕ
@@ -164,8 +180,8 @@ unplaced_line plan.Memory variables words = None
 
 -- the warning that a default library wasn't found, with the first module that names it
 abbrev pub absent_line : (library word : List ℕ) → List ℕ
-absent_line library word = concat (codes "doslink: warning: library " ∷ printed_name library ∷ codes " of " ∷ word
-    ∷ codes " was not found\n" ∷ [])
+absent_line library word = concat (codes "doslink: warning: library " ∷ printed_name (take most_bytes library)
+    ∷ cut_end library ∷ codes " of " ∷ word ∷ codes " was not found\n" ∷ [])
 
 -- the warning that a module has segments of 32 bits
 abbrev pub wide_line : (word : List ℕ) → List ℕ

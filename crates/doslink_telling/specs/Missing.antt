@@ -1,8 +1,9 @@
 -- The names that stay missing, and the lines that tell of them.
-use Rattle.std.specs.Prelude.{ℕ, Bool, not, ◌||◌, List, [], ◌∷◌, ◌++◌, codes, decimal, filter, map, slice_get}
+use Rattle.std.specs.Prelude.{ℕ, ◌-◌, ◌==◌, Bool, if◌then◌else◌, length, nat_le, not, take, ◌||◌, List, [], ◌∷◌, ◌++◌, codes, decimal, filter, map, slice_get}
 use Rattle.std.specs.Prelude.{Some, None}
 use Rattle.std.specs.declared.option.Option.{Option}
-use Rattle.std.specs.List.{concat, list_any}
+use Rattle.std.specs.Borrow.{Bor}
+use Rattle.std.specs.List.{concat, flat_map, list_any}
 use Rattle.std.specs.Option.{option_map_or}
 use Rattle.omf_library.specs.Records.{module_records}
 use Rattle.omf_library.specs.Wanting.{wanting_place}
@@ -14,10 +15,10 @@ use Rattle.omf_search.specs.Likeness.{Offered, first_like}
 use Rattle.omf_search.specs.Missing.{missing_names}
 use Rattle.omf_search.specs.Said.{Module, Wanted}
 use Rattle.omf_text.specs.Printing.{hexadecimal, printed_name}
-use Rattle.doslink_files.specs.declared.reading.InputFile.{InputFile}
 use Rattle.doslink_stock.specs.Files.{Held, needs}
 use Rattle.doslink_stock.specs.Search.{candidates}
 use Rattle.doslink_telling.specs.Table.{header_name}
+use Rattle.doslink_telling.specs.Warnings.{more_line, most_told}
 use Rattle.doslink_telling.specs.Words.{module_word}
 
 -- a name is one that the order module defines where it is wanted
@@ -48,14 +49,14 @@ header_text None = []
 header_text (Some name) = codes ", wanted by " ++ printed_name name
 
 -- a module wants the name
-abbrev pub wanting_text : {A : Type 0} → List (InputFile A) → (name : List ℕ) → Held → List ℕ
-wanting_text files name m = concat (codes "doslink: " ∷ module_word files m ∷ codes ": " ∷ printed_name name
+abbrev pub wanting_text : (paths : List (Bor (List ℕ))) → (name : List ℕ) → Held → List ℕ
+wanting_text paths name m = concat (codes "doslink: " ∷ module_word paths m ∷ codes ": " ∷ printed_name name
     ∷ codes " is missing" ∷ record_text (wanting_place name (module_records m.bytes 0))
     ∷ header_text (header_name m.bytes) ∷ [])
 
 -- a module offers a name
-abbrev pub offering_text : {A : Type 0} → List (InputFile A) → (name : List ℕ) → Held → List ℕ
-offering_text files name m = concat (codes "; " ∷ printed_name name ∷ codes " is in " ∷ module_word files m ∷ [])
+abbrev pub offering_text : (paths : List (Bor (List ℕ))) → (name : List ℕ) → Held → List ℕ
+offering_text paths name m = concat (codes "; " ∷ printed_name name ∷ codes " is in " ∷ module_word paths m ∷ [])
 
 -- the module of those that are linked, or of the members of libraries
 abbrev pub whose_module : (linked members : List Held) → Whose → Option Held
@@ -63,17 +64,32 @@ whose_module linked members (whose.Module index) = slice_get linked index
 whose_module linked members (whose.Member library member) = slice_get members member
 
 -- a name that is offered, where there is one
-abbrev pub like_text : {A : Type 0} → List (InputFile A) → (linked members : List Held) → Option Offered → List ℕ
-like_text files linked members None = []
-like_text files linked members (Some o) =
-    option_map_or (offering_text files o.name) (whose_module linked members o.whose) []
+abbrev pub like_text : (paths : List (Bor (List ℕ))) → (linked members : List Held) → Option Offered → List ℕ
+like_text paths linked members None = []
+like_text paths linked members (Some o) =
+    option_map_or (offering_text paths o.name) (whose_module linked members o.whose) []
 
 -- the first name that is offered and like one, by a module that is linked or else by a member
 abbrev pub like_offered : (linked members : List Held) → (name : List ℕ) → Option Offered
 like_offered linked members name = first_like (map needs linked) (candidates members) name
 
 -- the line of a missing name: the module that wants it, and where a name like it is offered
-abbrev pub missing_line : {A : Type 0} → List (InputFile A) → (linked members : List Held) → Wanted → List ℕ
-missing_line files linked members w =
-    concat (option_map_or (wanting_text files w.name) (slice_get linked w.wanted_by) []
-    ∷ like_text files linked members (like_offered linked members w.name) ∷ codes "\n" ∷ [])
+abbrev pub missing_line : (paths : List (Bor (List ℕ))) → (linked members : List Held) → Wanted → List ℕ
+missing_line paths linked members w =
+    concat (option_map_or (wanting_text paths w.name) (slice_get linked w.wanted_by) []
+    ∷ like_text paths linked members (like_offered linked members w.name) ∷ codes "\n" ∷ [])
+
+-- how many of so many missing names are told: all, or the first of them
+abbrev pub told_count : (count : ℕ) → (tells_all : Bool) → ℕ
+told_count count tells_all = if tells_all || nat_le count most_told then count else most_told
+
+-- how many more there are, where there are more
+abbrev pub rest_text : ℕ → List ℕ
+rest_text count = if count == 0 then [] else more_line count
+
+-- the lines of missing names: of all, or of the first of them and how many more there are
+abbrev pub missing_lines : (paths : List (Bor (List ℕ))) → (linked members : List Held) → List Wanted
+    → (tells_all : Bool) → List ℕ
+missing_lines paths linked members missing tells_all =
+    let told = told_count (length missing) tells_all in
+    flat_map (missing_line paths linked members) (take told missing) ++ rest_text (length missing - told)

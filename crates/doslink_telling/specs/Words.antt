@@ -1,25 +1,34 @@
 -- The words for modules in lines, and the modules that are linked.
-use Rattle.std.specs.Prelude.{ℕ, List, [], ◌∷◌, ◌++◌, codes, slice_get, string_bytes, Some, None, Vec}
+use Rattle.std.specs.Prelude.{ℕ, if◌then◌else◌, length, nat_le, take, List, [], ◌∷◌, ◌++◌, codes, slice_get, Some, None, Vec}
 use Rattle.std.specs.declared.option.Option.{Option}
+use Rattle.std.specs.Borrow.{Bor}
 use Rattle.std.specs.List.{concat, enumerate_from, flat_map}
 use Rattle.std.specs.Option.{option_copied, option_map_or}
 use Rattle.omf_text.specs.Printing.{name_byte, printed_name}
-use Rattle.doslink_files.specs.declared.reading.InputFile.{InputFile}
 use Rattle.doslink_stock.specs.declared.searching.Handed.{Handed}
 use Rattle.doslink_stock.specs.Files.{Held}
 
 -- the path of the file with this index
-abbrev pub path_of : {A : Type 0} → List (InputFile A) → ℕ → List ℕ
-path_of files file = option_map_or (λ f. string_bytes f.path) (slice_get files file) []
+abbrev pub path_of : (paths : List (Bor (List ℕ))) → ℕ → List ℕ
+path_of paths file = option_map_or (λ p. p.now) (slice_get paths file) []
+
+-- how many bytes of a name are told
+abbrev pub most_bytes : ℕ
+most_bytes = 255
+
+-- what stands behind a name that is cut
+abbrev pub cut_end : (name : List ℕ) → List ℕ
+cut_end name = if nat_le (length name) most_bytes then [] else codes ".."
 
 -- what stands behind the path of a member's library: the member's name in parentheses, as it is printed but for quotes
 abbrev pub member_end : Option (List ℕ) → List ℕ
 member_end None = []
-member_end (Some name) = concat (codes "(" ∷ flat_map name_byte name ∷ codes ")" ∷ [])
+member_end (Some name) =
+    concat (codes "(" ∷ flat_map name_byte (take most_bytes name) ∷ cut_end name ∷ codes ")" ∷ [])
 
 -- the word for a module: its file's path, and of a member its name behind it
-abbrev pub module_word : {A : Type 0} → List (InputFile A) → Held → List ℕ
-module_word files m = path_of files m.file ++ member_end m.name
+abbrev pub module_word : (paths : List (Bor (List ℕ))) → Held → List ℕ
+module_word paths m = path_of paths m.file ++ member_end m.name
 
 -- the word with this index
 abbrev pub word_at : {A : Type 0} → List (Vec ℕ A) → ℕ → List ℕ

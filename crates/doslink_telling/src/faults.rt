@@ -11,8 +11,8 @@ ghost use Rattle.doslink_telling.specs.Lines.{IsTold};
 use crate::lines::{
     Lines, Part, push_front, push_located, push_name, push_named, push_parts, push_place,
 };
-use crate::telling::{path_of, word_at};
-use doslink_files::InputFile;
+use crate::telling::{cut_end, path_of, told_part, word_at};
+use doslink_files::ReadFault;
 use doslink_stock::{Handed, StockFault};
 use omf_alias::agree;
 use omf_faults::{LinkFault, fault_line};
@@ -22,14 +22,37 @@ use omf_lower::Obstacle;
 use omf_place::Names;
 use std::alloc::{AllocError, Allocator};
 
-/// Appends the line of a file that can't be opened or read.
-pub fn push_device_line<A: Allocator + Copy>(
-    lines: &mut Vec<u8, A>,
-    path: &str,
-) -> Result<(), AllocError>
-    ensures { OnOk result (lines.new.items ≡ lines.old.items ++ spec.device_line path.now) }
+/// Why a file isn't read.
+fn unread_text(fault: ReadFault) -> &'static str
+    ensures { result.now ≡ spec.unread_text fault }
 {
-    push_located(lines, path.as_bytes(), (1, "Device"), " at record ", 0)
+    match fault {
+        ReadFault::Memory => "out of memory",
+        ReadFault::Absent => "no such file",
+        ReadFault::Folder => "it is a folder",
+        ReadFault::Forbidden => "no permission",
+        ReadFault::Special => "it is no regular file",
+        ReadFault::Unopened(_) => "it can't be opened",
+        ReadFault::Device(_) => "it can't be read",
+    }
+}
+
+/// Appends the line of a file or a library of this name that isn't read, and why.
+pub fn push_unread_line<'p, A: Allocator + Copy>(
+    lines: &mut Vec<u8, A>,
+    name: &'p str,
+    fault: ReadFault,
+) -> Result<(), AllocError>
+    ensures { OnOk result (lines.new.items ≡ lines.old.items ++ spec.unread_line name.now fault) }
+{
+    let parts = [
+        Part::Text("doslink: "),
+        Part::Text(name),
+        Part::Text(": 1 Device at record 0: "),
+        Part::Text(unread_text(fault)),
+        Part::Text("\n"),
+    ];
+    push_parts(lines, parts.as_slice())
 }
 
 /// The number and the name that a fault of a library is printed with.
@@ -53,15 +76,15 @@ fn format_label(fault: FormatFault) -> (u8, &'static str)
 /// Want of memory, also where that is what it answered.
 pub fn push_stock_fault<A: Allocator + Copy>(
     lines: &mut Vec<u8, A>,
-    files: &[InputFile<A>],
+    paths: &[&str],
     fault: StockFault,
 ) -> Result<(), AllocError>
-    ensures { OnOk result (IsTold (spec.stock_line files.now fault) lines.old.items lines.new.items) }
+    ensures { OnOk result (IsTold (spec.stock_line paths.now fault) lines.old.items lines.new.items) }
 {
     match fault {
         StockFault::Memory => Err(AllocError),
         StockFault::Library { file, place, fault } => {
-            let path = path_of(files, file).as_bytes();
+            let path = path_of(paths, file).as_bytes();
             push_located(lines, path, format_label(fault), " at place ", place as u64)
         }
     }
@@ -77,8 +100,9 @@ pub fn push_absent_line<A: Allocator + Copy>(
     ensures { OnOk result (lines.new.items ≡ lines.old.items ++ spec.absent_line library.now word.now) }
 {
     lines.extend_from_slice(b"doslink: warning: library ")?;
-    push_name(alloc, lines, library)?;
+    push_name(alloc, lines, told_part(library))?;
     let parts = [
+        Part::Text(cut_end(library)),
         Part::Text(" of "),
         Part::Bytes(word),
         Part::Text(" was not found\n"),
@@ -193,6 +217,9 @@ fn obstacle_label(obstacle: Obstacle) -> (u8, &'static str)
         Obstacle::Location => (50, "Location"),
         Obstacle::Body => (51, "Body"),
         Obstacle::TooLong => (52, "TooLong"),
+        Obstacle::EasyOmf => (63, "EasyOmf"),
+        Obstacle::ImportedName => (64, "ImportedName"),
+        Obstacle::FlatFrame => (65, "FlatFrame"),
     }
 }
 

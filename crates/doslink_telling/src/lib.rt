@@ -4,17 +4,24 @@
 
 mod communals;
 mod faults;
+mod kinds;
 mod lines;
 mod mapping;
 mod missing;
 mod telling;
+mod warnings;
 
 pub use communals::{push_clash, push_entry_fault, push_unplaced};
 pub use faults::{
-    push_absent_line, push_device_line, push_duplicate, push_endless_alias, push_fault,
-    push_obstacle, push_order_line, push_overflow, push_path_line, push_stock_fault,
+    push_absent_line, push_duplicate, push_endless_alias, push_fault, push_obstacle,
+    push_order_line, push_overflow, push_path_line, push_stock_fault, push_unread_line,
     push_wide_line,
 };
+pub use kinds::{Foreign, foreign_kind, push_foreign};
 pub use mapping::table;
 pub use missing::{Unmet, push_missing_lines, unmet_names};
 pub use telling::{handed_saids, handed_text, module_word, module_words, word_at};
+pub use warnings::{
+    push_cut_stack, push_data_in_bss, push_long_stack, push_more_line, push_no_code,
+    push_no_program, push_no_stack, push_no_start, push_reached,
+};

@@ -12,13 +12,16 @@ ghost use Rattle.doslink_telling.specs.Table.{header_name};
 
 use crate::lines::{Part, push_front, push_name, push_parts};
 use crate::telling::{handed_saids, module_word};
-use doslink_files::InputFile;
+use crate::warnings::push_more_line;
 use doslink_stock::{Entry, Handed, Stock, members_of};
 use omf_alias::agree;
 use omf_library::{module_frames, wanting_place};
 use omf_place::Names;
 use omf_search::{Offered, Said, Wanted, Whose, likes, missing};
 use std::alloc::{AllocError, Allocator};
+
+/// How many missing names are told, where not all are.
+const MOST_TOLD: usize = 20;
 
 /// Whether a name is one that the order module defines where it is wanted.
 fn is_mark(names: Names, name: &[u8]) -> bool
@@ -98,14 +101,14 @@ fn offering_entry<'m, 'a, A: Allocator + Copy>(
 fn push_offering<A: Allocator + Copy>(
     alloc: A,
     lines: &mut Vec<u8, A>,
-    files: &[InputFile<A>],
+    paths: &[&str],
     entry: &Entry<'_, A>,
     name: &[u8],
 ) -> Result<(), AllocError>
     ensures { OnOk result (lines.new.items ≡ lines.old.items
-        ++ spec.offering_text files.now name.now (entry_held entry.now)) }
+        ++ spec.offering_text paths.now name.now (entry_held entry.now)) }
 {
-    let word = module_word(alloc, files, entry)?;
+    let word = module_word(alloc, paths, entry)?;
     lines.extend_from_slice(b"; ")?;
     push_name(alloc, lines, name)?;
     lines.extend_from_slice(b" is in ")?;
@@ -116,20 +119,20 @@ fn push_offering<A: Allocator + Copy>(
 fn push_like<'m, 'a, A: Allocator + Copy>(
     alloc: A,
     lines: &mut Vec<u8, A>,
-    files: &[InputFile<A>],
+    paths: &[&str],
     stock: &'m Stock<'a, A>,
     handed: &[Handed<'m, 'a, A>],
     like: Option<Offered<'a>>,
 ) -> Result<(), AllocError>
     ensures { OnOk result (lines.new.items ≡ lines.old.items
-        ++ spec.like_text files.now (map handed_held handed.now) (map entry_held stock.now.members.items)
+        ++ spec.like_text paths.now (map handed_held handed.now) (map entry_held stock.now.members.items)
         (option_map offered_said like.entry)) }
 {
     let Some(like) = like else {
         return Ok(());
     };
     match offering_entry(stock, handed, like.whose) {
-        Some(entry) => push_offering(alloc, lines, files, entry, like.name),
+        Some(entry) => push_offering(alloc, lines, paths, entry, like.name),
         None => Ok(()),
     }
 }
@@ -182,14 +185,14 @@ fn push_header<A: Allocator + Copy>(
 fn push_wanting<A: Allocator + Copy>(
     alloc: A,
     lines: &mut Vec<u8, A>,
-    files: &[InputFile<A>],
+    paths: &[&str],
     wanter: &Entry<'_, A>,
     name: &[u8],
 ) -> Result<(), AllocError>
     ensures { OnOk result (lines.new.items ≡ lines.old.items
-        ++ spec.wanting_text files.now name.now (entry_held wanter.now)) }
+        ++ spec.wanting_text paths.now name.now (entry_held wanter.now)) }
 {
-    let word = module_word(alloc, files, wanter)?;
+    let word = module_word(alloc, paths, wanter)?;
     push_front(lines, &word, ": ")?;
     push_name(alloc, lines, name)?;
     lines.extend_from_slice(b" is missing")?;
@@ -201,16 +204,16 @@ fn push_wanting<A: Allocator + Copy>(
 fn push_wanted<A: Allocator + Copy>(
     alloc: A,
     lines: &mut Vec<u8, A>,
-    files: &[InputFile<A>],
+    paths: &[&str],
     handed: &[Handed<'_, '_, A>],
     wanted: &Wanted<'_>,
 ) -> Result<(), AllocError>
     ensures { OnOk result (lines.new.items ≡ lines.old.items
-        ++ option_map_or (spec.wanting_text files.now wanted.now.name.now)
+        ++ option_map_or (spec.wanting_text paths.now wanted.now.name.now)
         (slice_get (map handed_held handed.now) wanted.now.wanted_by) []) }
 {
     match handed.get(wanted.wanted_by) {
-        Some(wanter) => push_wanting(alloc, lines, files, wanter.entry, wanted.name),
+        Some(wanter) => push_wanting(alloc, lines, paths, wanter.entry, wanted.name),
         None => Ok(()),
     }
 }
@@ -219,7 +222,7 @@ fn push_wanted<A: Allocator + Copy>(
 fn push_missing_line<'m, 'a, A: Allocator + Copy>(
     alloc: A,
     lines: &mut Vec<u8, A>,
-    files: &[InputFile<A>],
+    paths: &[&str],
     stock: &'m Stock<'a, A>,
     handed: &[Handed<'m, 'a, A>],
     wanted: &Wanted<'a>,
@@ -228,11 +231,11 @@ fn push_missing_line<'m, 'a, A: Allocator + Copy>(
     requires { option_map offered_said like ≡ like_offered (map handed_held handed.now)
         (map entry_held stock.now.members.items) wanted.now.name.now }
     ensures { OnOk result (lines.new.items ≡ lines.old.items
-        ++ spec.missing_line files.now (map handed_held handed.now) (map entry_held stock.now.members.items)
+        ++ spec.missing_line paths.now (map handed_held handed.now) (map entry_held stock.now.members.items)
         (wanted_said wanted.now)) }
 {
-    push_wanted(alloc, lines, files, handed, wanted)?;
-    push_like(alloc, lines, files, stock, handed, like)?;
+    push_wanted(alloc, lines, paths, handed, wanted)?;
+    push_like(alloc, lines, paths, stock, handed, like)?;
     lines.extend_from_slice(b"\n")
 }
 
@@ -267,23 +270,63 @@ fn likes_of<'a, A: Allocator + Copy>(
     likes(alloc, &names, &modules, &members)
 }
 
-/// Appends a line for each missing name: the module that wants it, the first of its records that does, and where a name
-/// like it is offered.
-pub fn push_missing_lines<'m, 'a, A: Allocator + Copy>(
+/// Appends a line for each of some missing names.
+fn push_told_lines<'m, 'a, A: Allocator + Copy>(
     alloc: A,
     lines: &mut Vec<u8, A>,
-    files: &[InputFile<A>],
+    paths: &[&str],
     stock: &'m Stock<'a, A>,
     handed: &[Handed<'m, 'a, A>],
     missing: &[Wanted<'a>],
 ) -> Result<(), AllocError>
     ensures { OnOk result (lines.new.items ≡ lines.old.items
-        ++ flat_map (spec.missing_line files.now (map handed_held handed.now) (map entry_held stock.now.members.items))
+        ++ flat_map (spec.missing_line paths.now (map handed_held handed.now) (map entry_held stock.now.members.items))
         (map wanted_said missing.now)) }
 {
     let likes = likes_of(alloc, stock, handed, missing)?;
     for (each, like) in missing.iter().zip(&likes) {
-        push_missing_line(alloc, lines, files, stock, handed, each, *like)?;
+        push_missing_line(alloc, lines, paths, stock, handed, each, *like)?;
     }
     Ok(())
+}
+
+/// How many of so many missing names are told: all, or the first of them.
+fn told_count(count: usize, tells_all: bool) -> usize
+    ensures { result ≡ spec.told_count count tells_all }
+{
+    if tells_all || count <= MOST_TOLD {
+        count
+    } else {
+        MOST_TOLD
+    }
+}
+
+/// Appends how many more there are, where there are more.
+fn push_rest<A: Allocator + Copy>(lines: &mut Vec<u8, A>, count: usize) -> Result<(), AllocError>
+    ensures { OnOk result (lines.new.items ≡ lines.old.items ++ spec.rest_text count) }
+{
+    if count == 0 {
+        return Ok(());
+    }
+    push_more_line(lines, count)
+}
+
+/// Appends a line for each missing name, or for the first 20 and how many more there are: the module that wants it, the
+/// first of its records that does, and where a name like it is offered.
+pub fn push_missing_lines<'m, 'a, A: Allocator + Copy>(
+    alloc: A,
+    lines: &mut Vec<u8, A>,
+    paths: &[&str],
+    stock: &'m Stock<'a, A>,
+    handed: &[Handed<'m, 'a, A>],
+    missing: &[Wanted<'a>],
+    tells_all: bool,
+) -> Result<(), AllocError>
+    ensures { OnOk result (lines.new.items ≡ lines.old.items
+        ++ spec.missing_lines paths.now (map handed_held handed.now) (map entry_held stock.now.members.items)
+        (map wanted_said missing.now) tells_all) }
+{
+    let told = told_count(missing.len(), tells_all);
+    push_told_lines(alloc, lines, paths, stock, handed, &missing[..told])?;
+    push_rest(lines, missing.len() - told)
 }

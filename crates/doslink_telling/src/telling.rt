@@ -1,5 +1,5 @@
 //! The words for modules, and the modules that are linked.
-ghost use Rattle.std.specs.Prelude.{◌≡◌, ◌++◌, IfOk, OnOk, Some, map};
+ghost use Rattle.std.specs.Prelude.{◌≡◌, ◌++◌, IfOk, OnOk, Some, map, take};
 ghost use Rattle.std.specs.Option.{option_copied};
 ghost use Rattle.omf_search.specs.Results.{module_said};
 ghost use Rattle.doslink_stock.specs.Files.{needs};
@@ -7,17 +7,16 @@ ghost use Rattle.doslink_stock.specs.Seen.{entry_held, handed_held};
 ghost use Rattle.doslink_telling.specs.Words as spec;
 
 use crate::lines::{plain_name, push_name};
-use doslink_files::InputFile;
 use doslink_stock::{Entry, Handed};
 use omf_search::Said;
 use std::alloc::{AllocError, Allocator};
 
 /// The path of the file with this index; empty behind the last.
-pub(crate) fn path_of<A: Allocator + Copy>(files: &[InputFile<A>], file: usize) -> &str
-    ensures { result.now ≡ spec.path_of files.now file }
+pub(crate) fn path_of<'p>(paths: &[&'p str], file: usize) -> &'p str
+    ensures { result.now ≡ spec.path_of paths.now file }
 {
-    match files.get(file) {
-        Some(file) => file.path.as_str(),
+    match paths.get(file) {
+        Some(path) => path,
         None => "",
     }
 }
@@ -32,6 +31,27 @@ pub fn word_at<A: Allocator + Copy>(words: &[Vec<u8, A>], index: usize) -> &[u8]
     }
 }
 
+/// How many bytes of a name are told.
+const MOST_BYTES: usize = 255;
+
+/// As much of a name as is told.
+pub(crate) fn told_part(name: &[u8]) -> &[u8]
+    ensures { result.now ≡ take spec.most_bytes name.now }
+{
+    if name.len() <= MOST_BYTES {
+        name
+    } else {
+        &name[..MOST_BYTES]
+    }
+}
+
+/// What stands behind a name that is cut.
+pub(crate) fn cut_end(name: &[u8]) -> &'static str
+    ensures { result.now ≡ spec.cut_end name.now }
+{
+    if name.len() <= MOST_BYTES { "" } else { ".." }
+}
+
 /// Appends a member's name in parentheses.
 fn push_member<A: Allocator + Copy>(
     alloc: A,
@@ -40,21 +60,22 @@ fn push_member<A: Allocator + Copy>(
 ) -> Result<(), AllocError>
     ensures { OnOk result (word.new.items ≡ word.old.items ++ spec.member_end (Some member.now)) }
 {
-    let name = plain_name(alloc, member)?;
+    let name = plain_name(alloc, told_part(member))?;
     word.extend_from_slice(b"(")?;
     word.extend_from_slice(&name)?;
+    word.extend_from_slice(cut_end(member).as_bytes())?;
     word.extend_from_slice(b")")
 }
 
 /// The word for a module: its file's path, and behind it the member's name in parentheses.
 pub fn module_word<A: Allocator + Copy>(
     alloc: A,
-    files: &[InputFile<A>],
+    paths: &[&str],
     entry: &Entry<'_, A>,
 ) -> Result<Vec<u8, A>, AllocError>
-    ensures { IfOk result (λ word. word.items ≡ spec.module_word files.now (entry_held entry.now)) }
+    ensures { IfOk result (λ word. word.items ≡ spec.module_word paths.now (entry_held entry.now)) }
 {
-    let mut word = Vec::from_slice(alloc, path_of(files, entry.file).as_bytes())?;
+    let mut word = Vec::from_slice(alloc, path_of(paths, entry.file).as_bytes())?;
     if let Some(member) = entry.member {
         push_member(alloc, &mut word, member)?;
     }
@@ -64,15 +85,15 @@ pub fn module_word<A: Allocator + Copy>(
 /// The words for the modules of a link.
 pub fn module_words<A: Allocator + Copy>(
     alloc: A,
-    files: &[InputFile<A>],
+    paths: &[&str],
     handed: &[Handed<'_, '_, A>],
 ) -> Result<Vec<Vec<u8, A>, A>, AllocError>
     ensures { IfOk result (λ words. map (λ w. w.items) words.items
-        ≡ map (λ h. spec.module_word files.now (handed_held h)) handed.now) }
+        ≡ map (λ h. spec.module_word paths.now (handed_held h)) handed.now) }
 {
     let mut words = Vec::new(alloc);
     for each in handed {
-        words.push(module_word(alloc, files, each.entry)?)?;
+        words.push(module_word(alloc, paths, each.entry)?)?;
     }
     Ok(words)
 }
@@ -87,10 +108,7 @@ pub fn handed_saids<'h, 'a, A: Allocator + Copy>(
     let mut all = Vec::new(alloc);
     for each in handed {
         let names = &each.entry.says;
-        all.push(Said {
-            wanted: names.needed.as_slice(),
-            offered: names.offered.as_slice(),
-        })?;
+        all.push(Said::needs(names))?;
     }
     Ok(all)
 }

@@ -1,4 +1,4 @@
-use Rattle.std.proofs.Common.{[], ◌≡◌, ◌++◌, OnOk, codes, map, slice_get, subst}
+use Rattle.std.proofs.Common.{[], ◌≡◌, ◌++◌, codes, map, slice_get, subst}
 use Rattle.std.specs.Option.{option_map_or}
 use Rattle.doslink_stock.specs.Seen.{entry_held, handed_held}
 use Rattle.doslink_telling.specs.Missing.{like_text, wanting_text}
@@ -12,7 +12,7 @@ returns g c =
     let s1 = c.push_wanted.new.lines.items in
     let s2 = c.push_like.new.lines.items in
     let s3 = c.extend_from_slice.new.self.items in
-    let files = c.args.files.now in
+    let files = c.args.paths.now in
     let wanted = c.args.wanted.now in
     let linked = map handed_held c.args.handed.now in
     let members = map entry_held c.args.stock.now.members.items in

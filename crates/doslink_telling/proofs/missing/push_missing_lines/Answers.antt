@@ -1,69 +1,29 @@
-use Rattle.std.proofs.Common.{rules, arith, ◌≡◌, ◌≤◌, ◌++◌, [], ◌∷◌, ap, drop, get_or, length, length-append, map}
-use Rattle.std.proofs.Common.{refl, subst, sym, ◌∙◌}
+use Rattle.std.proofs.Common.{◌≡◌, ◌++◌, ◌-◌, ◌∙◌, OnOk, ap, length, map, subst, sym, take}
+use Rattle.std.specs.List.{flat_map, take-map}
 use Rattle.std.proofs.lemmas.List.{length-map}
-use Rattle.std.proofs.lemmas.Slice.Zip.{zip_end, zip_turn}
-use Rattle.std.specs.Iterator.Adapters.{zip_first, zip_second}
-use Rattle.std.specs.List.{flat_map}
-use Rattle.std.specs.Option.{option_map}
-use Rattle.std.specs.Slice.Iter.{iter_rest}
-use Rattle.omf_search.specs.declared.said.Wanted.{Wanted}
-use Rattle.omf_search.specs.Results.{offered_said, wanted_said}
+use Rattle.omf_search.specs.Results.{wanted_said}
 use Rattle.doslink_stock.specs.Seen.{entry_held, handed_held}
-use Rattle.doslink_telling.specs.Missing.{like_offered, missing_line}
-use Rattle.doslink_telling.proofs.Texts.{mapped-same, text-done, text-step}
+use Rattle.doslink_telling.specs.Missing.{missing_line, rest_text, told_count}
+use Rattle.doslink_telling.proofs.Texts.{then-ok}
 use Rattle.doslink_telling.proofs.missing.push_missing_lines.Goals as goal
-
-pub push_missing_line-requires : goal.push_missing_line-requires
-push_missing_line-requires g c =
-    let missing = c.args.missing.now in
-    let likes = c.in_ok-likes.likes.items in
-    let linked = map handed_held c.args.handed.now in
-    let members = map entry_held c.args.stock.now.members.items in
-    let each = c.in-Some.each.now in
-    let like = c.in-Some.like.now in
-    let n = length c.loop-each.yielded in
-    let first : iter_rest (zip_first c.into_iter-each-iterator.result) ≡ missing = search rules in
-    let second : iter_rest (zip_second c.into_iter-each-iterator.result) ≡ likes = search rules in
-    let turn = zip_turn missing likes c.loop-each.yielded c.into_iter-each-iterator.result c.loop-each.each-iterator
-    c.next.new.self c.next.result first second c.loop-each.yielded_by _ c.in-Some.is c.next.ensures.steps in
-    ap (option_map offered_said) (turn.3 like)
-    ∙ mapped-same (option_map offered_said) (λ (w : Wanted). like_offered linked members w.name.now) likes missing n
-    like each c.in_ok-likes.ensures turn.1 turn.0
-    ∙ ap (λ (w : Wanted). like_offered linked members w.name.now) (sym (turn.2 each))
-
-pub loop-each-preserved : goal.loop-each-preserved
-loop-each-preserved g c =
-    let missing = c.args.missing.now in
-    let likes = c.in_ok-likes.likes.items in
-    let line = missing_line c.args.files.now (map handed_held c.args.handed.now)
-    (map entry_held c.args.stock.now.members.items) in
-    let each = c.in-Some.each.now in
-    let old = c.loop-each.lines.items in
-    let new = c.push_missing_line.new.lines.items in
-    let yielded = c.loop-each.yielded in
-    let goal = c.args.lines.now.items ++ flat_map line (map wanted_said missing) in
-    let first : iter_rest (zip_first c.into_iter-each-iterator.result) ≡ missing = search rules in
-    let second : iter_rest (zip_second c.into_iter-each-iterator.result) ≡ likes = search rules in
-    let turn = zip_turn missing likes yielded c.into_iter-each-iterator.result c.loop-each.each-iterator
-    c.next.new.self c.next.result first second c.loop-each.yielded_by _ c.in-Some.is c.next.ensures.steps in
-    subst (λ k. new ++ flat_map line (map wanted_said (drop k missing)) ≡ goal)
-    (sym (length-append yielded ((c.in-Some.each, c.in-Some.like) ∷ [])))
-    (text-step (λ _ l. flat_map line (map wanted_said l)) (line (wanted_said (get_or missing (length yielded) each)))
-    missing (length yielded) each old new goal turn.0 refl
-    (c.in_ok-push_missing_line.ensures ∙ ap (λ w. old ++ line (wanted_said w)) (turn.2 each)) c.loop-each.invariant)
 
 pub returns : goal.returns
 returns g c =
+    let r = c.push_rest.result in
+    let s0 = c.args.lines.now.items in
+    let s1 = c.push_told_lines.new.lines.items in
+    let s2 = c.push_rest.new.lines.items in
     let missing = c.args.missing.now in
-    let likes = c.in_ok-likes.likes.items in
-    let line = missing_line c.args.files.now (map handed_held c.args.handed.now)
+    let all = map wanted_said missing in
+    let n = c.told_count-told.result in
+    let told = told_count (length all) c.args.tells_all in
+    let line = missing_line c.args.paths.now (map handed_held c.args.handed.now)
     (map entry_held c.args.stock.now.members.items) in
-    let yielded = c.loop-each.yielded in
-    let first : iter_rest (zip_first c.into_iter-each-iterator.result) ≡ missing = search rules in
-    let second : iter_rest (zip_second c.into_iter-each-iterator.result) ≡ likes = search rules in
-    let end = zip_end missing likes yielded c.into_iter-each-iterator.result c.loop-each.each-iterator
-    c.next.new.self c.next.result first second c.loop-each.yielded_by c.in-None.is c.next.ensures.steps in
-    let same = sym (length-map likes _) ∙ ap length c.in_ok-likes.ensures ∙ length-map missing _ in
-    let all : length missing ≤ length yielded = omega (arith, end, same) in
-    text-done (λ _ l. flat_map line (map wanted_said l)) missing (length yielded) c.loop-each.lines.items _ all refl
-    c.loop-each.invariant
+    let len : length all ≡ length missing = length-map missing wanted_said in
+    let same : n ≡ told = c.told_count-told.ensures ∙ ap (λ k. told_count k c.args.tells_all) (sym len) in
+    let first : s1 ≡ s0 ++ flat_map line (take told all) =
+    c.in_ok-push_told_lines.ensures ∙ ap (λ l. s0 ++ flat_map line l) (sym (take-map wanted_said n missing))
+    ∙ ap (λ k. s0 ++ flat_map line (take k all)) same in
+    let left : length missing - n ≡ length all - told = ap (λ k. k - n) (sym len) ∙ ap (λ k. length all - k) same in
+    then-ok r s0 s1 s2 (flat_map line (take told all)) (rest_text (length all - told)) first
+    (subst (λ k. OnOk r (s2 ≡ s1 ++ rest_text k)) left c.push_rest.ensures)

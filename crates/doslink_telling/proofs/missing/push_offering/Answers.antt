@@ -1,4 +1,4 @@
-use Rattle.std.proofs.Common.{[], ◌≡◌, ◌++◌, OnOk, append-nil, codes, subst, sym, ◌∙◌}
+use Rattle.std.proofs.Common.{◌≡◌, ◌++◌, OnOk, append-nil, codes, subst, sym, ◌∙◌}
 use Rattle.omf_text.specs.Printing.{printed_name}
 use Rattle.doslink_telling.proofs.Texts.{extended-ok, then-ok}
 use Rattle.doslink_telling.proofs.missing.push_offering.Goals as goal

@@ -17,7 +17,7 @@ returns-in-Some g c =
     ∙ ap (option_map handed_held)
     (slice_get_read handed (length handed) wanted.wanted_by c.in-Some.wanter.now refl lookup.3.0 lookup.1) in
     on_ok_weaker c.push_wanting.result
-    (λ e. e ∙ sym (ap (λ o. old ++ option_map_or (wanting_text c.args.files.now wanted.name.now) o []) is))
+    (λ e. e ∙ sym (ap (λ o. old ++ option_map_or (wanting_text c.args.paths.now wanted.name.now) o []) is))
     c.push_wanting.ensures
 
 pub returns-in-None : goal.returns-in-None
@@ -28,4 +28,4 @@ returns-in-None g c =
     let is =
     slice_get-map handed_held handed wanted.wanted_by
     ∙ ap (option_map handed_held) (slice_get_past handed wanted.wanted_by c.in-None.ensures.lookup.3) in
-    sym (ap (λ o. old ++ option_map_or (wanting_text c.args.files.now wanted.name.now) o []) is ∙ append-nil old)
+    sym (ap (λ o. old ++ option_map_or (wanting_text c.args.paths.now wanted.name.now) o []) is ∙ append-nil old)

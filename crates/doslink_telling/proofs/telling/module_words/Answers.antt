@@ -12,14 +12,14 @@ loop-each-init g c = ap (map (λ (w : Vec ℕ g.row.A.Denot). w.items)) c.new-wo
 pub loop-each-preserved : goal.loop-each-preserved
 loop-each-preserved g c =
     map-step (λ (w : Vec ℕ g.row.A.Denot). w.items)
-    (λ (h : Handed g.row.A.Denot). module_word c.args.files.now (handed_held h)) c.args.handed.now
+    (λ (h : Handed g.row.A.Denot). module_word c.args.paths.now (handed_held h)) c.args.handed.now
     c.loop-each.each-index c.each-item.result c.loop-each.words.items _ _ c.loop-each-test.true
     c.in_ok-push.ensures.items
-    (c.in_ok-module_word.ensures ∙ ap (λ h. module_word c.args.files.now (handed_held h)) c.each-item.is)
+    (c.in_ok-module_word.ensures ∙ ap (λ h. module_word c.args.paths.now (handed_held h)) c.each-item.is)
     c.loop-each.invariant
 
 pub returns : goal.returns
 returns g c =
     c.loop-each.invariant
-    ∙ ap (map (λ (h : Handed g.row.A.Denot). module_word c.args.files.now (handed_held h)))
+    ∙ ap (map (λ (h : Handed g.row.A.Denot). module_word c.args.paths.now (handed_held h)))
     (take_all c.loop-each.each-index c.args.handed.now (omega arith))

@@ -5,4 +5,4 @@ use Rattle.doslink_telling.proofs.telling.module_words.Given as goal
 
 abbrev pub invariant-loop-each : goal.invariant-loop-each
 invariant-loop-each g l = map (λ w. w.items) l.words.items
-    ≡ map (λ h. module_word l.fn.files (handed_held h)) (take l.each-index l.fn.handed)
+    ≡ map (λ h. module_word l.fn.paths (handed_held h)) (take l.each-index l.fn.handed)

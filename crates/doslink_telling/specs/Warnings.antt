@@ -1,0 +1,61 @@
+-- The lines of refusals and warnings of a whole program, and how many of a kind are told.
+use Rattle.std.specs.Prelude.{ℕ, ◌+◌, ◌/◌, ◌%◌, nat_lt, if◌then◌else◌, List, [], ◌∷◌, codes, decimal}
+use Rattle.std.specs.List.{concat}
+use Rattle.omf_text.specs.Printing.{printed_name}
+
+-- ---- numbers
+
+-- the last three digits of a number
+abbrev pub three_digits : ℕ → List ℕ
+three_digits n = (48 + n / 100 % 10) ∷ (48 + n / 10 % 10) ∷ (48 + n % 10) ∷ []
+
+-- a number with a comma before its last three digits and before those in front of them
+abbrev pub grouped : ℕ → List ℕ
+grouped n =
+    if nat_lt n 1000 then decimal n
+    else (if nat_lt n 1_000_000 then concat (decimal (n / 1000) ∷ codes "," ∷ three_digits n ∷ [])
+    else concat (decimal (n / 1_000_000) ∷ codes "," ∷ three_digits (n / 1000) ∷ codes "," ∷ three_digits n ∷ []))
+
+-- ---- what is told at most
+
+-- how many missing names, and warnings of a kind, are told, where not all of them are
+abbrev pub most_told : ℕ
+most_told = 20
+
+-- how many more there are
+abbrev pub more_line : ℕ → List ℕ
+more_line count = concat (codes "doslink: and " ∷ grouped count ∷ codes " more\n" ∷ [])
+
+-- ---- refusals
+
+-- the program would have no byte
+abbrev pub no_program_line : List ℕ
+no_program_line = codes "doslink: link: 67 NoProgram\n"
+
+-- data with values stands in a segment of the module that start-up code clears
+abbrev pub data_in_bss_line : (segment word : List ℕ) → List ℕ
+data_in_bss_line segment word =
+    concat (codes "doslink: " ∷ word ∷ codes ": 62 DataInBss " ∷ printed_name segment ∷ codes "\n" ∷ [])
+
+-- the modules ask for a longer stack than is asked for
+abbrev pub long_stack_line : (bytes : ℕ) → List ℕ
+long_stack_line bytes = concat (codes "doslink: link: 66 StackTooLong: more than " ∷ grouped bytes ∷ codes " bytes\n" ∷ [])
+
+-- ---- warnings
+
+abbrev pub cut_stack_line : (bytes : ℕ) → List ℕ
+cut_stack_line bytes = concat (codes "doslink: warning: the stack is cut to " ∷ grouped bytes ∷ codes " bytes\n" ∷ [])
+
+abbrev pub no_start_line : List ℕ
+no_start_line = codes "doslink: warning: no module has a start\n"
+
+abbrev pub no_stack_line : List ℕ
+no_stack_line = codes "doslink: warning: no module has a stack\n"
+
+abbrev pub no_code_line : List ℕ
+no_code_line = codes "doslink: warning: no module has a byte of code\n"
+
+-- a far communal variable that the module reaches by its offset alone
+abbrev pub reached_line : (name word : List ℕ) → List ℕ
+reached_line name word = concat (codes "doslink: warning: " ∷ printed_name name ∷ codes " of " ∷ word
+    ∷ codes " is far and reached by its offset alone: declare it near (NASM: common NAME:near SIZE)\n" ∷ [])

@@ -1,0 +1,164 @@
+//! The lines of refusals and warnings of a whole program, and how many of a kind are told.
+ghost use Rattle.std.specs.Prelude.{◌≡◌, ◌+◌, ◌++◌, ◌∷◌, ◌<◌, [], OnOk};
+ghost use Rattle.std.specs.List.{concat};
+ghost use Rattle.doslink_telling.specs.Warnings as spec;
+
+use crate::lines::{Part, push_front, push_name, push_parts};
+use std::alloc::{AllocError, Allocator};
+
+/// The digit that a number below ten is.
+fn digit(value: u64) -> u8
+    requires { value < 10 }
+    ensures { result ≡ 48 + value }
+{
+    b'0' + value as u8
+}
+
+/// The last three digits of a number.
+fn three_digits(count: u64) -> [u8; 3]
+    ensures { result ≡ spec.three_digits count }
+{
+    [
+        digit(count / 100 % 10),
+        digit(count / 10 % 10),
+        digit(count % 10),
+    ]
+}
+
+/// Appends a number with a comma before its last three digits and before those in front of them.
+fn push_grouped<A: Allocator + Copy>(lines: &mut Vec<u8, A>, count: u64) -> Result<(), AllocError>
+    ensures { OnOk result (lines.new.items ≡ lines.old.items ++ spec.grouped count) }
+{
+    let last = three_digits(count);
+    if count < 1000 {
+        return push_parts(lines, [Part::Count(count)].as_slice());
+    }
+    if count < 1_000_000 {
+        let parts = [
+            Part::Count(count / 1000),
+            Part::Text(","),
+            Part::Bytes(last.as_slice()),
+        ];
+        return push_parts(lines, parts.as_slice());
+    }
+    let middle = three_digits(count / 1000);
+    let parts = [
+        Part::Count(count / 1_000_000),
+        Part::Text(","),
+        Part::Bytes(middle.as_slice()),
+        Part::Text(","),
+        Part::Bytes(last.as_slice()),
+    ];
+    push_parts(lines, parts.as_slice())
+}
+
+/// Appends a number with commas between two texts.
+fn push_counted<'p, A: Allocator + Copy>(
+    lines: &mut Vec<u8, A>,
+    front: &'p str,
+    count: u64,
+    end: &'p str,
+) -> Result<(), AllocError>
+    ensures { OnOk result (lines.new.items ≡ lines.old.items
+        ++ concat (front.now ∷ spec.grouped count ∷ end.now ∷ [])) }
+{
+    lines.extend_from_slice(front.as_bytes())?;
+    push_grouped(lines, count)?;
+    lines.extend_from_slice(end.as_bytes())
+}
+
+/// Appends that there are so many more of what was told.
+pub fn push_more_line<A: Allocator + Copy>(
+    lines: &mut Vec<u8, A>,
+    count: usize,
+) -> Result<(), AllocError>
+    ensures { OnOk result (lines.new.items ≡ lines.old.items ++ spec.more_line count) }
+{
+    push_counted(lines, "doslink: and ", count as u64, " more\n")
+}
+
+/// Appends that the program would have no byte.
+pub fn push_no_program<A: Allocator + Copy>(lines: &mut Vec<u8, A>) -> Result<(), AllocError>
+    ensures { OnOk result (lines.new.items ≡ lines.old.items ++ spec.no_program_line) }
+{
+    lines.extend_from_slice(b"doslink: link: 67 NoProgram\n")
+}
+
+/// Appends that data with values stands in a segment that start-up code clears, of the module for which this is the
+/// word.
+pub fn push_data_in_bss<A: Allocator + Copy>(
+    alloc: A,
+    lines: &mut Vec<u8, A>,
+    segment: &[u8],
+    word: &[u8],
+) -> Result<(), AllocError>
+    ensures { OnOk result (lines.new.items ≡ lines.old.items ++ spec.data_in_bss_line segment.now word.now) }
+{
+    push_front(lines, word, ": 62 DataInBss ")?;
+    push_name(alloc, lines, segment)?;
+    lines.extend_from_slice(b"\n")
+}
+
+/// Appends that the modules ask for a longer stack than one of so many bytes.
+pub fn push_long_stack<A: Allocator + Copy>(
+    lines: &mut Vec<u8, A>,
+    bytes: u32,
+) -> Result<(), AllocError>
+    ensures { OnOk result (lines.new.items ≡ lines.old.items ++ spec.long_stack_line bytes) }
+{
+    let front = "doslink: link: 66 StackTooLong: more than ";
+    push_counted(lines, front, u64::from(bytes), " bytes\n")
+}
+
+/// Appends the warning that the stack is cut to so many bytes.
+pub fn push_cut_stack<A: Allocator + Copy>(
+    lines: &mut Vec<u8, A>,
+    bytes: u32,
+) -> Result<(), AllocError>
+    ensures { OnOk result (lines.new.items ≡ lines.old.items ++ spec.cut_stack_line bytes) }
+{
+    let front = "doslink: warning: the stack is cut to ";
+    push_counted(lines, front, u64::from(bytes), " bytes\n")
+}
+
+/// Appends the warning that no module has a start.
+pub fn push_no_start<A: Allocator + Copy>(lines: &mut Vec<u8, A>) -> Result<(), AllocError>
+    ensures { OnOk result (lines.new.items ≡ lines.old.items ++ spec.no_start_line) }
+{
+    lines.extend_from_slice(b"doslink: warning: no module has a start\n")
+}
+
+/// Appends the warning that no module has a stack.
+pub fn push_no_stack<A: Allocator + Copy>(lines: &mut Vec<u8, A>) -> Result<(), AllocError>
+    ensures { OnOk result (lines.new.items ≡ lines.old.items ++ spec.no_stack_line) }
+{
+    lines.extend_from_slice(b"doslink: warning: no module has a stack\n")
+}
+
+/// Appends the warning that no module has a byte of code.
+pub fn push_no_code<A: Allocator + Copy>(lines: &mut Vec<u8, A>) -> Result<(), AllocError>
+    ensures { OnOk result (lines.new.items ≡ lines.old.items ++ spec.no_code_line) }
+{
+    lines.extend_from_slice(b"doslink: warning: no module has a byte of code\n")
+}
+
+/// Appends the warning that the module for which this is the word reaches a far communal variable by its offset alone.
+pub fn push_reached<A: Allocator + Copy>(
+    alloc: A,
+    lines: &mut Vec<u8, A>,
+    name: &[u8],
+    word: &[u8],
+) -> Result<(), AllocError>
+    ensures { OnOk result (lines.new.items ≡ lines.old.items ++ spec.reached_line name.now word.now) }
+{
+    let parts = [
+        Part::Text(" of "),
+        Part::Bytes(word),
+        Part::Text(
+            " is far and reached by its offset alone: declare it near (NASM: common NAME:near SIZE)\n",
+        ),
+    ];
+    lines.extend_from_slice(b"doslink: warning: ")?;
+    push_name(alloc, lines, name)?;
+    push_parts(lines, parts.as_slice())
+}
