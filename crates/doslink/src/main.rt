@@ -5,7 +5,7 @@ ghost use Rattle.std.specs.Prelude.{◌≡◌, ◌-◌, ◌^◌, ◌<◌};
 ghost use Rattle.omf_files.specs.Files.{sink_failures};
 
 use doslink_jobs::{Language, language_of, library_folders, out_of_memory, run_words, wrong_words};
-use omf_files::BufferedSink;
+use omf_files::{BufferedSink, Streams};
 use omf_frame::{Sink, WriteSink};
 use std::env::{self, VarError};
 use std::io::{ErrorKind, Write};
@@ -58,7 +58,10 @@ fn run_arguments<O: Write + Drop, E: Sink>(
         Err(_) => String::new(rt.alloc()),
     };
     match library_folders(rt.alloc(), list.as_str()) {
-        Ok(folders) => run_words(rt.alloc(), rt, language, words, &folders, output, errors),
+        Ok(folders) => {
+            let world = Streams::of(rt);
+            run_words(rt.alloc(), world, language, words, &folders, output, errors)
+        }
         Err(_) => out_of_memory(errors),
     }
 }

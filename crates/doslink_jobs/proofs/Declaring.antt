@@ -11,15 +11,12 @@ use Rattle.omf_communal.specs.Modules as communal
 use Rattle.omf_communal.specs.declared.declarations.Scope.TheVariants as scope
 use Rattle.omf_communal.specs.Reading.{Communal, communals_of, plain_communal}
 use Rattle.omf_library.specs.Records.{module_records, result_and_then}
-use Rattle.omf_search.specs.declared.said.Said.{Said}
-use Rattle.omf_search.specs.Results.{module_said}
-use Rattle.omf_search.specs.Said as search
 use Rattle.doslink_stock.specs.declared.searching.Handed.{Handed}
 use Rattle.doslink_stock.specs.Seen.{handed_held}
 use Rattle.doslink_jobs.specs.declared.communals.Declared.{Declared}
 use Rattle.doslink_jobs.specs.declared.lowering.LoweredModule.{LoweredModule}
-use Rattle.doslink_jobs.specs.Communals.{declared_by, offering}
-use Rattle.doslink_jobs.specs.inside.Declaring.{DeclareNone, declared_said, offering_names}
+use Rattle.doslink_jobs.specs.Communals.{declared_by}
+use Rattle.doslink_jobs.specs.inside.Declaring.{DeclareNone, declared_said}
 use Rattle.doslink_jobs.specs.inside.Inputs.{own_bytes}
 use Rattle.doslink_jobs.proofs.Lists.{map-map}
 
@@ -40,19 +37,6 @@ declared-one h cs offered is same =
 pub declaring-one : {A : Type 0} (d : Declared A) (cs : List lent.Communal) → cs ≡ d.communals.items
     → said_with (bytes_of d.offered.now) (map plain_communal cs) ≡ declared_said d
 declaring-one d cs same = ap (λ l. said_with (bytes_of d.offered.now) (map plain_communal l)) same
-
--- what modules say of names, and behind them one more
-pub said-behind : (says all : List Said) (last : Said) (modules : List search.Module) → map module_said says ≡ modules
-    → all ≡ says ++ last ∷ [] → map module_said all ≡ modules ++ module_said last ∷ []
-said-behind says all last modules are pushed =
-    ap (map module_said) pushed ∙ map-append module_said says (last ∷ []) ∙ ap (λ l. l ++ module_said last ∷ []) are
-
--- the same where that one is of the names of communal variables
-pub says-all : (modules says : List search.Module) (names : List (List ℕ)) (vs : List variable.Variable)
-    → names ≡ map (λ v. (variable_said v).name) vs → says ≡ modules ++ offering_names names ∷ []
-    → says ≡ modules ++ offering (map variable_said vs) ∷ []
-says-all modules says names vs are is =
-    is ∙ ap (λ ns. modules ++ offering_names ns ∷ []) (are ∙ map-map variable_said (λ v. v.name) vs)
 
 none-declared : {X : Type 0} (xs : List X) → (length xs == 0) ≡ true → xs ≡ []
 none-declared xs none = nil_from_length xs (grind arith)

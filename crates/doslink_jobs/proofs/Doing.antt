@@ -10,32 +10,15 @@ use Rattle.doslink_words.specs.declared.job.Job.{Job}
 use Rattle.doslink_words.specs.Tokens.{texts}
 use Rattle.doslink_jobs.specs.declared.stop.Stop.{Stop}
 use Rattle.doslink_jobs.specs.declared.stop.Stop.TheVariants.{Input, Words, Device, Memory}
-use Rattle.doslink_stock.specs.Files.{Held, members, objects}
-use Rattle.doslink_stock.specs.Search.{Takes}
+use Rattle.doslink_stock.specs.Files.{Held, needs}
 use Rattle.doslink_jobs.specs.Communals.{AreVariablesOf}
-use Rattle.doslink_jobs.specs.Jobs.{AreDefaults, AreFilesOf, AreInputsOf, EndsWith, IsDone, IsLinkOf, IsLinked}
-use Rattle.doslink_jobs.specs.Jobs.{link_says, names_of}
-use Rattle.doslink_jobs.specs.Refusals.{IsRefusedJob, IsRefusedOf}
+use Rattle.doslink_jobs.specs.Jobs.{AreInputsOf, EndsWith, IsDone, IsLinkOf, names_of}
+use Rattle.doslink_jobs.specs.Refusals.{AreMissingOf, IsRefusedJob, IsRefusedOf}
 use Rattle.doslink_jobs.specs.Runs.{AskForNone, EndsBy}
-use Rattle.doslink_jobs.specs.inside.Adding.{AddsDefaults, AreGiven}
-use Rattle.doslink_jobs.specs.inside.Inputs.{IsLinkedStock, IsLinkedWith, IsRefusedWith}
+use Rattle.doslink_jobs.specs.inside.Inputs.{IsLinkedWith, IsRefusedWith}
 use Rattle.doslink_jobs.specs.inside.Stops.{OnInput, status_of, stop_status}
 use Rattle.omf_search.specs.Said.{Module, Wanted}
 use Rattle.doslink_telling.specs.Missing.{unmet, wants_marks}
-
--- a link of the objects and members of files is one of the files
-pub of-files : (A : Type 0) (job : Job) (files : List (List ℕ)) (os ms : List Held) → os ≡ objects files
-    → members files ≡ Ok ms → IsLinkedStock A job os ms → IsLinked A job files
-of-files A job files os ms first second linked = record {
-  modules = linked.modules;
-  variables = linked.variables;
-  linked = linked.linked;
-  taken = (ms, second, subst (λ o. Takes (names_of job.ignore_case) o ms linked.modules) first linked.taken);
-  are_variables = linked.are_variables;
-  met = linked.met;
-  are_inputs = linked.are_inputs;
-  faultless = linked.faultless;
-}
 
 -- a link of modules is one of what takes them
 pub link-of : (A : Type 0) (job : Job) (modules : List Held) (takes : List Held → Type 0) → takes modules
@@ -58,42 +41,44 @@ link-refused A job modules takes taken (ms, same, refused) = (ms, subst takes (s
 
 -- modules that say so of names are linked with their communal variables
 pub linked-with : (A : Type 0) (job : Job) (names : Names) (marks : Bool) (modules : List Held) (vs : List Variable)
-    (says : List Module) → names ≡ names_of job.ignore_case → says ≡ link_says modules vs
-    → AreVariablesOf names modules vs → unmet names says ≡ [] → marks ≡ wants_marks names says
+    (says : List Module) → names ≡ names_of job.ignore_case → says ≡ map needs modules
+    → AreVariablesOf names modules vs
+    → (unmet (names_of job.ignore_case) says ≡ []) × (marks ≡ wants_marks (names_of job.ignore_case) says)
     → IsLinkedWith A job says marks modules vs → IsLinkOf A job (λ ms. ms ≡ modules)
-linked-with A job names marks modules vs says same all are met wants (linked, inputs, faultless) =
+linked-with A job names marks modules vs says same all are (met, wants) (linked, inputs, faultless) =
     let those = names_of job.ignore_case in
-    let mine = link_says modules vs in
+    let mine = map needs modules in
     record {
       modules = modules;
       variables = vs;
       linked = linked;
       taken = refl;
       are_variables = subst (λ n. AreVariablesOf n modules vs) same are;
-      met = ap₂ unmet (sym same) (sym all) ∙ met;
-      are_inputs = subst (λ m. AreInputsOf job mine m modules vs linked) (wants ∙ ap₂ wants_marks same all)
+      met = ap (unmet those) (sym all) ∙ met;
+      are_inputs = subst (λ m. AreInputsOf job mine m modules vs linked) (wants ∙ ap (wants_marks those) all)
           (subst (λ s. AreInputsOf job s marks modules vs linked) all inputs);
       faultless = faultless;
     }
 
 -- nothing is linked where a name is missing
 pub missing-with : (A : Type 0) (job : Job) (names : Names) (modules : List Held) (vs : List Variable)
-    (says : List Module) → names ≡ names_of job.ignore_case → says ≡ link_says modules vs
-    → AreVariablesOf names modules vs → unmet names says ≢ [] → IsRefusedOf A job (λ ms. ms ≡ modules)
-missing-with A job names modules vs says same all are missing = (
+    (says : List Module) (own : List (List ℕ)) → names ≡ names_of job.ignore_case → says ≡ map needs modules
+    → own ≡ map (λ m. m.bytes) modules → AreVariablesOf names modules vs → AreMissingOf job says own
+    → IsRefusedOf A job (λ ms. ms ≡ modules)
+missing-with A job names modules vs says own same all mine are missing = (
   modules,
   refl,
   inr (
     vs,
     subst (λ n. AreVariablesOf n modules vs) same are,
-    inl (λ none. missing (ap₂ unmet same all ∙ none)),
+    inl (subst (λ o. AreMissingOf job (map needs modules) o) mine (subst (λ s. AreMissingOf job s own) all missing)),
   ),
 )
 
 -- nor where they can't be linked with these variables
 pub refused-with : (A : Type 0) (job : Job) (names : Names) (marks : Bool) (modules : List Held) (vs : List Variable)
-    (says : List Module) → names ≡ names_of job.ignore_case → says ≡ link_says modules vs
-    → AreVariablesOf names modules vs → marks ≡ wants_marks names says
+    (says : List Module) → names ≡ names_of job.ignore_case → says ≡ map needs modules
+    → AreVariablesOf names modules vs → marks ≡ wants_marks (names_of job.ignore_case) says
     → IsRefusedWith A job says marks modules vs → IsRefusedOf A job (λ ms. ms ≡ modules)
 refused-with A job names marks modules vs says same all are wants refused = (
   modules,
@@ -101,25 +86,11 @@ refused-with A job names marks modules vs says same all are wants refused = (
   inr (
     vs,
     subst (λ n. AreVariablesOf n modules vs) same are,
-    inr (subst (λ m. IsRefusedWith A job (link_says modules vs) m modules vs) (wants ∙ ap₂ wants_marks same all)
+    inr (subst (λ m. IsRefusedWith A job (map needs modules) m modules vs)
+        (wants ∙ ap (wants_marks (names_of job.ignore_case)) all)
         (subst (λ s. IsRefusedWith A job s marks modules vs) all refused)),
   ),
 )
-
--- the files of a job
-pub files-of : (told : Text → Option (List ℕ)) (folders all : List Text) (job : Job) (given files : List (List ℕ))
-    → all ≡ texts job.folders.items ++ folders → AreGiven told job given → AddsDefaults told all job given files
-    → AreFilesOf told folders job files
-files-of told folders all job given files folded (named, libraries, first, second, is) (defaults, added, are) = record {
-  named = named;
-  libraries = libraries;
-  defaults = defaults;
-  are_named = first;
-  are_libraries = second;
-  are_defaults = subst (λ fs. AreDefaults told fs job (named ++ libraries) defaults) folded
-      (subst (λ g. AreDefaults told all job g defaults) is are);
-  together = added ∙ ap (λ l. l ++ defaults) is;
-}
 
 -- a run ends well only where what it does holds, and refuses only where that holds by which it does
 pub EndsWith-weaker : (P Q R S : Type 0) (tells : List ℕ → Type 0) (status : ℕ) → (P → Q) → (R → S)
@@ -189,3 +160,7 @@ some-unmet names said items [] says are is some none = absurd (true≢false some
 some-unmet names said [] (x ∷ xs) says are is some none = absurd (omega (arith, ap length is))
 some-unmet names said (y ∷ ys) (x ∷ xs) says are is some none =
     let long : length (map said (y ∷ ys)) ≡ 0 = ap length (are ∙ none) in absurd (omega (arith, long))
+
+-- a name is missing by what names agree by
+pub missing-of : (names other : Names) (says : List Module) → names ≡ other → unmet names says ≢ [] → unmet other says ≢ []
+missing-of names other says same missing none = missing (ap (λ n. unmet n says) same ∙ none)

@@ -7,14 +7,13 @@ use Rattle.omf_lower.specs.Wide.{has_wide_start}
 use Rattle.omf_place.specs.declared.names.Names.{Names}
 use Rattle.omf_search.specs.Said.{Module}
 use Rattle.doslink_stock.specs.Files.{Held}
-use Rattle.doslink_words.specs.Said.{order_of}
 use Rattle.doslink_words.specs.declared.job.Job.{Job}
 use Rattle.doslink_jobs.specs.declared.overflow.Narrowed.{Narrowed}
-use Rattle.doslink_jobs.specs.Jobs.{AreInputsOf, AreLoweredFor, names_of}
+use Rattle.doslink_jobs.specs.Jobs.{AreInputsOf, AreLoweredFor, asking_of, names_of}
+use Rattle.doslink_jobs.specs.Joined.{AreJoined}
 use Rattle.doslink_jobs.specs.Locals.{HaveLocals}
 use Rattle.doslink_jobs.specs.Overflow.{HaveOverflow, NarrowFixups}
-use Rattle.doslink_jobs.specs.Refusals.{HasNoLocals, HaveNoInputs, IsNotLowered}
-use Rattle.doslink_jobs.specs.inside.Inputs.{AreJoined, AreNotJoined}
+use Rattle.doslink_jobs.specs.Refusals.{AreNotJoined, HasNoLocals, HaveNoInputs, IsNotLowered}
 use Rattle.doslink_jobs.specs.inside.Sums.{AllFit, SomeOverflows}
 use Rattle.doslink_jobs.proofs.Overflowing.{fit-of, overflows-in}
 
@@ -25,8 +24,7 @@ bytes_in modules = map (λ m. m.bytes) modules
 -- what is joined of the modules of a job
 abbrev JoinedFor : Job → (marks : Bool) → List Held → (inputs : List (List ℕ)) → List Variable
     → (linked : List (List ℕ)) → Type 0
-JoinedFor job marks modules inputs vs linked =
-    AreJoined (names_of job.ignore_case) marks (list_any (λ m. m.dosseg) modules) (order_of job.order) inputs vs linked
+JoinedFor job marks modules inputs vs linked = AreJoined (asking_of job marks modules) job.stack inputs vs linked
 
 have-locals : (names other : Names) (own mine lowered inputs : List (List ℕ)) → names ≡ other → own ≡ mine
     → HaveLocals names own lowered inputs → HaveLocals other mine lowered inputs
@@ -46,13 +44,9 @@ inputs-are job names marks modules says vs narrowed held own lowered inputs link
     record {
       lowered = lowered;
       inputs = inputs;
-      communal = joined.communal;
-      order = joined.order;
       are_lowered = subst (λ o. AreLoweredFor job says o lowered) is are;
       have_locals = have-locals names (names_of job.ignore_case) own (bytes_in modules) lowered inputs same all have;
-      placed = joined.placed;
-      ordered = joined.ordered;
-      together = joined.together;
+      joined = joined;
       fit = fit-of _ _ narrowed.fixups (λ no. subst (λ o. NarrowFixups o lowered → ⊥) all (none no))
           (λ yes. subst (λ n. HaveOverflow first_overflow n linked → ⊥) same (fits.fixups yes));
       start_fits = λ narrow. subst (λ n. HaveOverflow start_overflow n linked → ⊥) same
@@ -78,22 +72,18 @@ none-local job names marks modules says vs held own lowered same is mine are som
       (subst (λ o. Any (λ m. HasNoLocals names lowered m.0 m.1) (zip o lowered)) (mine ∙ is) some)),
 )
 
--- where what is made for them can't be
+-- where nothing can be joined to them
 pub none-joined : (job : Job) (names : Names) (marks : Bool) (modules : List Held) (says : List Module)
     (vs : List Variable) (held own lowered inputs : List (List ℕ)) → names ≡ names_of job.ignore_case
     → held ≡ bytes_in modules → own ≡ held → AreLoweredFor job says held lowered → HaveLocals names own lowered inputs
-    → AreNotJoined (names_of job.ignore_case) (list_any (λ m. m.dosseg) modules) (order_of job.order) inputs vs
-    → HaveNoInputs job says marks modules vs
+    → AreNotJoined (asking_of job marks modules) job.stack inputs vs → HaveNoInputs job says marks modules vs
 none-joined job names marks modules says vs held own lowered inputs same is mine are have none = inr (
   lowered,
   subst (λ o. AreLoweredFor job says o lowered) is are,
   inr (
     inputs,
     have-locals names (names_of job.ignore_case) own (bytes_in modules) lowered inputs same (mine ∙ is) have,
-    elim none [
-      | inl place ↦ inl place
-      | inr order ↦ inr (order.0, order.1, inl order.2)
-    ],
+    inl none,
   ),
 )
 
@@ -112,14 +102,10 @@ none-fits job names marks modules says vs narrowed held own lowered inputs linke
         inputs,
         have-locals names (names_of job.ignore_case) own (bytes_in modules) lowered inputs same (mine ∙ is) have,
         inr (
-          joined.communal,
-          joined.placed,
-          inr (
-            joined.order,
-            joined.ordered,
-            overflows-in names (names_of job.ignore_case) narrowed own (bytes_in modules) _ same start (mine ∙ is)
-                (subst (SomeOverflows narrowed names) joined.together some),
-          ),
+          linked,
+          joined,
+          overflows-in names (names_of job.ignore_case) narrowed own (bytes_in modules) linked same start (mine ∙ is)
+              some,
         ),
       ),
     )

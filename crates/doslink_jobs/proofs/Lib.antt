@@ -1,12 +1,16 @@
-pub mod Adding
+pub mod Cutting
+pub mod Rounds
 pub mod Endless
 pub mod Bss
 pub mod Declaring
 pub mod Defaulting
+mod Held
 pub mod Doing
 pub mod Failures
+pub mod FaultyModules
 pub mod FarData
 pub mod Lists
+pub mod Joined
 pub mod Joining
 pub mod LocalModules
 pub mod Lowered

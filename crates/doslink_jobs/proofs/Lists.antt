@@ -1,7 +1,7 @@
 -- Lists that are made element by element.
 use Rattle.std.proofs.Common.{◌≡◌, ℕ, ◌+◌, ◌<◌, Bool, false, ◌||◌, List, [], ◌∷◌, length, map, refl}
-use Rattle.std.proofs.Common.{get_or, take, sym, ap, ap₂, ◌∙◌}
-use Rattle.std.proofs.lemmas.List.{map_more}
+use Rattle.std.proofs.Common.{get_or, take, sym, ap, ap₂, ◌∙◌, ◌++◌}
+use Rattle.std.proofs.lemmas.List.{map-append, map_more, take_more}
 use Rattle.std.proofs.lemmas.List.Folds.{list_any-append}
 use Rattle.std.specs.List.{list_any}
 
@@ -17,3 +17,11 @@ pub none-more : {X Y : Type 0} (test : Y → Bool) (f : X → Y) (xs : List X) (
 none-more test f xs i x h is before none =
     ap (list_any test) (map_more f xs i x h) ∙ list_any-append test (map f (take i xs)) (f (get_or xs i x) ∷ [])
     ∙ ap₂ (λ a b. a || (b || false)) before (ap (λ y. test (f y)) (sym is) ∙ none)
+
+-- one list that is made as another one is, with one element more
+pub map-step : {X Y Z : Type 0} (f : X → Z) (g : Y → Z) (ys : List Y) (i : ℕ) (d : Y) (old new : List X) (x : X)
+    → i < length ys → new ≡ old ++ x ∷ [] → f x ≡ g (get_or ys i d) → map f old ≡ map g (take i ys)
+    → map f new ≡ map g (take (i + 1) ys)
+map-step f g ys i d old new x h pushed same before =
+    ap (map f) pushed ∙ map-append f old (x ∷ []) ∙ ap₂ (λ l y. l ++ y ∷ []) before same
+    ∙ sym (ap (map g) (take_more ys i d h) ∙ map-append g (take i ys) (get_or ys i d ∷ []))

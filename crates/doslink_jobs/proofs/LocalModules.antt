@@ -1,6 +1,9 @@
 -- The variables that are local to modules, one module after the other.
 use Rattle.std.proofs.Common.{◌≡◌, ℕ, Bool, List, [], ◌∷◌, ◌++◌, map, Ok}
-use Rattle.std.proofs.Common.{inl, inr, refl, sym, ap, ◌∙◌}
+use Rattle.std.proofs.Common.{inl, inr, refl, sym, ap, ◌∙◌, is_some, MatchOption, None, Option, Some}
+use Rattle.omf_module.specs.Module.{Module}
+use Rattle.omf_module.specs.Tables.{module_of}
+use Rattle.doslink_jobs.specs.inside.Reading.{IsNoModule, IsRead, TellsModule}
 use Rattle.std.specs.List.{AllByRecursion}
 use Rattle.omf_communal.specs.Deciding.{Variable}
 use Rattle.omf_communal.specs.Locals.{local_module}
@@ -8,7 +11,7 @@ use Rattle.omf_place.specs.declared.names.Names.{Names}
 use Rattle.doslink_jobs.specs.declared.communals.Declared.{Declared}
 use Rattle.doslink_jobs.specs.declared.lowering.LoweredModule.{LoweredModule}
 use Rattle.doslink_jobs.specs.Communals.{TellsBss}
-use Rattle.doslink_jobs.specs.Locals.{EachHasLocals, HasLocals, IsPlaced}
+use Rattle.doslink_jobs.specs.Locals.{EachHasLocals, HasLocals, HasModule, IsPlaced}
 use Rattle.doslink_jobs.specs.Refusals.{HasNoLocals}
 use Rattle.doslink_jobs.specs.inside.Declaring.{AreNotLocal, DeclareNone, declared_said}
 use Rattle.doslink_jobs.specs.inside.Inputs.{lowered_bytes, own_bytes}
@@ -35,9 +38,16 @@ none-declared names all (m ∷ ms) none =
 
 -- where variables stand, where there are some
 pub is-placed : (all : List (List ℕ)) (in_bss : Bool) (vs : List Variable) (lowered linked : List ℕ)
-    → TellsBss all in_bss → local_module in_bss vs lowered ≡ Ok linked → IsPlaced all vs lowered linked
-is-placed all in_bss [] lowered linked tells e = let is : lowered ≡ linked = cc in sym is
-is-placed all in_bss (v ∷ vs) lowered linked tells e = (in_bss, tells, e)
+    → HasModule lowered → TellsBss all in_bss → local_module in_bss vs lowered ≡ Ok linked
+    → IsPlaced all vs lowered linked
+is-placed all in_bss [] lowered linked has tells e = let is : lowered ≡ linked = cc in sym is
+is-placed all in_bss (v ∷ vs) lowered linked has tells e = inr (has, in_bss, tells, e)
+
+-- a module at fault has none
+pub none-placed : (all : List (List ℕ)) (vs : List Variable) (lowered : List ℕ) → (HasModule lowered → ⊥)
+    → IsPlaced all vs lowered lowered
+none-placed all [] lowered none = refl
+none-placed all (v ∷ vs) lowered none = inl (none, refl)
 
 -- variables that can't be agreed on are none of the module's
 pub none-agreed : (names : Names) (all : List (List ℕ)) (own lowered : List ℕ) → AreNotLocal names own lowered
@@ -54,3 +64,9 @@ All-push P (y ∷ xs) x h p = (h.0, All-push P xs x h.1 p)
 pub said-alone : {A : Type 0} (old new : List (Declared A)) (d : Declared A) → new ≡ old ++ d ∷ [] → old ≡ []
     → map declared_said new ≡ declared_said d ∷ []
 said-alone old new d pushed none = ap (map declared_said) (pushed ∙ ap (λ l. l ++ d ∷ []) none)
+
+-- whether a module was read
+pub tells : (bytes : List ℕ) (o : Option Module) → MatchOption o (IsNoModule bytes) (λ one. IsRead bytes one)
+    → TellsModule bytes (is_some o)
+tells bytes None none = λ h. none (module_of h.0) (h.0, h.1, refl)
+tells bytes (Some one) read = (read.0, read.1)

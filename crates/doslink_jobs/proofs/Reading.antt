@@ -1,6 +1,6 @@
 -- Modules that are read, one behind the other.
 use Rattle.std.proofs.Common.{◌≡◌, ℕ, zero, suc, ◌+◌, ◌<◌, Bool, Vec, List, [], ◌∷◌, ◌++◌, length, take, get_or}
-use Rattle.std.proofs.Common.{Some, None, Ok, arith, refl, sym, subst, ap, ap₂, ◌∙◌}
+use Rattle.std.proofs.Common.{Some, None, Ok, Err, ◌≢◌, is_some, inl, inr, arith, refl, sym, subst, ap, ap₂, ◌∙◌}
 use Rattle.std.proofs.lemmas.List.{map-append, take_more}
 use Rattle.std.specs.declared.option.Option.{Option}
 use Rattle.std.specs.Borrow.{Bor}
@@ -10,13 +10,14 @@ use Rattle.omf_module.specs.Module.{Module}
 use Rattle.omf_module.specs.Reading.{Reads}
 use Rattle.omf_module.specs.Tables.{module_of}
 use Rattle.doslink_link.specs.Linking.{AllBeginWith, BeginsWith, bytes_of}
+use Rattle.omf_order.specs.declared.fault.OrderFault.{OrderFault}
+use Rattle.omf_order.specs.declared.fault.OrderFault.TheVariants as kind
 use Rattle.omf_order.specs.Answer.{Answers}
+use Rattle.omf_order.specs.Cleared.{data_in_bss}
 use Rattle.omf_order.specs.Plan.{plan}
 use Rattle.omf_order.specs.declared.order.Order.{Order}
-use Rattle.omf_place.specs.declared.names.Names.{Names}
-use Rattle.doslink_words.specs.Said.{SaidOrder}
-use Rattle.doslink_jobs.specs.Orders.{AreRead, AreUnread, IsOrderFor, IsOrderModule, order_asked, order_said}
-use Rattle.doslink_jobs.specs.Refusals.{HaveNoOrder}
+use Rattle.doslink_jobs.specs.Orders.{AreRead, AreUnread, Asking, IsAsked, IsOrderFor}
+use Rattle.doslink_jobs.specs.Refusals.{HasNoPlan}
 use Rattle.doslink_jobs.specs.inside.Reading.{IsRead, IsNoModule}
 
 -- what reading answers is what the bytes begin with
@@ -62,28 +63,20 @@ unread-at inputs i d h none modules (lists, all, are) =
     none (module_of records) (records, begins, refl)
 
 -- what making an order module answers
-pub in-order : {A : Type 0} (names : Names) (dosseg : Bool) (asked : SaidOrder) (modules : List Module) (order : Order)
-    → order_said order ≡ order_asked asked dosseg → (made : Option (Vec ℕ A))
-    → Answers order (plan order names modules) (Ok made)
-    → IsOrderFor names dosseg asked modules (option_map (λ v. v.items) made)
-in-order names dosseg asked modules order is None answers =
-    record { order = order; in_order = is; planned = answers }
-in-order names dosseg asked modules order is (Some b) answers =
-    record { order = order; in_order = is; planned = (answers.0, answers.2) }
+pub in-order : {A : Type 0} (asking : Asking) (modules : List Module) (order : Order) → IsAsked asking order
+    → (made : Option (Vec ℕ A))
+    → Answers order (plan order asking.names modules) (data_in_bss modules (plan order asking.names modules)) (Ok made)
+    → IsOrderFor asking modules (option_map (λ v. v.items) made)
+in-order asking modules order is None answers = (order, is, answers)
+in-order asking modules order is (Some b) answers = (order, is, (answers.0.0, answers.1, answers.2))
 
--- an order module is one for what is the same
-pub order-for : (bytes : Option (List ℕ)) (asked : SaidOrder) (names other : Names) (marks dosseg asks : Bool)
-    (inputs others : List (List ℕ)) → names ≡ other → dosseg ≡ asks → inputs ≡ others
-    → IsOrderModule names marks dosseg asked inputs bytes → IsOrderModule other marks asks asked others bytes
-order-for bytes asked names other marks dosseg asks inputs others same ask are is =
-    subst (λ i. IsOrderModule other marks asks asked i bytes) are
-    (subst (λ d. IsOrderModule other marks d asked inputs bytes) ask
-    (subst (λ n. IsOrderModule n marks dosseg asked inputs bytes) same is))
-
--- what is the same has no order module either
-pub no-order-for : (asked : SaidOrder) (names other : Names) (dosseg asks : Bool) (inputs others : List (List ℕ))
-    → names ≡ other → dosseg ≡ asks → inputs ≡ others → HaveNoOrder names dosseg asked inputs
-    → HaveNoOrder other asks asked others
-no-order-for asked names other dosseg asks inputs others same ask are none =
-    subst (HaveNoOrder other asks asked) are
-    (subst (λ d. HaveNoOrder other d asked inputs) ask (subst (λ n. HaveNoOrder n dosseg asked inputs) same none))
+-- why there is none, unless there was no memory
+pub no-order : (A : Type 0) (asking : Asking) (modules : List Module) (order : Order) (fault : OrderFault)
+    → IsAsked asking order
+    → Answers {A = A} order (plan order asking.names modules) (data_in_bss modules (plan order asking.names modules))
+    (Err fault)
+    → fault ≢ kind.Memory → HasNoPlan asking modules
+no-order A asking modules order kind.Memory is answers other = absurd (other refl)
+no-order A asking modules order kind.TooManySegments is answers other = (order, is, inl answers.1)
+no-order A asking modules order (kind.DataInBss input segment) is answers other =
+    (order, is, inr (ap is_some answers.1))

@@ -17,19 +17,9 @@ use Rattle.omf_lower.specs.declared.fault.LoweringFault.{LoweringFault}
 use Rattle.omf_lower.specs.declared.fault.LoweringFault.TheVariants as lowering
 use Rattle.omf_lower.specs.Module as lower
 use Rattle.omf_library.specs.Records.{result_and_then}
-use Rattle.omf_place.specs.declared.names.Names.{Names}
-use Rattle.doslink_stock.specs.declared.searching.Handed.{Handed}
-use Rattle.doslink_stock.specs.Seen.{handed_held, handed_taken}
-use Rattle.doslink_stock.specs.Files.{Held, members, objects}
-use Rattle.doslink_stock.specs.Search.{Takes, TakesFor}
-use Rattle.doslink_words.specs.declared.job.Job.{Job}
 use Rattle.doslink_jobs.specs.declared.stop.Stop.{Stop}
 use Rattle.doslink_jobs.specs.declared.stop.Stop.TheVariants.{Input, Words, Device, Memory}
-use Rattle.doslink_jobs.specs.Jobs.{names_of}
-use Rattle.doslink_jobs.specs.Refusals.{IsRefused}
-use Rattle.doslink_jobs.specs.inside.Inputs.{IsRefusedStock}
 use Rattle.doslink_jobs.specs.inside.Stops.{OnInput}
-use Rattle.doslink_jobs.proofs.Lists.{map-map}
 
 -- ---- what holds where an input is at fault
 
@@ -118,19 +108,3 @@ any-pair P f g (y ∷ ys) (suc i) x h is p =
 pub any-of-both : {X Y Z : Type 0} (Q : X → Type 0) (P : Y → Z → Type 0) (f : X → Y) (g : X → Z) (xs : List X)
     → ((x : X) → Q x → P (f x) (g x)) → Any Q xs → Any (λ p. P p.0 p.1) (zip (map f xs) (map g xs))
 any-of-both Q P f g xs weaker (k, x, h, is, q) = any-pair P f g xs k x h (sym is) (weaker x q)
-
--- ---- a link
-
--- the modules that a link takes
-pub takes-of : {A : Type 0} (names other : Names) (os ms : List Held) (found handed : List (Handed A)) → other ≡ names
-    → TakesFor other os ms (map handed_taken found) → handed ≡ found → Takes names os ms (map handed_held handed)
-takes-of names other os ms found handed same takes is =
-    subst (λ n. Takes n os ms (map handed_held handed)) same
-    (subst (λ hs. Takes other os ms (map handed_held hs)) (sym is)
-    (map handed_taken found, takes, map-map handed_taken (λ t. t.held) found))
-
--- objects and members of files that can't be linked
-pub stock-refused : (A : Type 0) (job : Job) (files : List (List ℕ)) (os ms : List Held) → os ≡ objects files
-    → members files ≡ Ok ms → IsRefusedStock A job os ms → IsRefused A job files
-stock-refused A job files os ms first second (modules, takes, refused) =
-    inr (modules, (ms, second, subst (λ o. Takes (names_of job.ignore_case) o ms modules) first takes), refused)

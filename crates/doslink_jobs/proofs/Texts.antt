@@ -11,7 +11,6 @@ use Rattle.std.specs.Borrow.{Bor}
 use Rattle.clap.specs.Words.{Text}
 use Rattle.doslink_words.specs.Tokens.{texts}
 use Rattle.doslink_files.specs.Files.{Each, IsTold}
-use Rattle.doslink_files.proofs.Found.{Each-push}
 use Rattle.doslink_jobs.specs.Runs.{IsPart, IsTextOf, response_path}
 
 -- the texts of words up to the next
@@ -19,6 +18,14 @@ pub texts-next : (words : List (Bor Text)) (i : ℕ) (d : Bor Text) → i < leng
     → texts (take i words) ++ (get_or words i d).now ∷ [] ≡ texts (take (i + 1) words)
 texts-next words i d h =
     sym (ap texts (take_more words i d h) ∙ map-append (λ w. w.now) (take i words) (get_or words i d ∷ []))
+
+-- one more part behind others
+Each-push : (holds : List ℕ → List ℕ → Type 0) (names files : List (List ℕ)) (name bytes : List ℕ)
+    → Each holds names files → holds name bytes → Each holds (names ++ name ∷ []) (files ++ bytes ∷ [])
+Each-push holds [] [] name bytes each one = (one, tt)
+Each-push holds [] (x ∷ xs) name bytes each one = absurd each
+Each-push holds (n ∷ ns) [] name bytes each one = absurd each
+Each-push holds (n ∷ ns) (x ∷ xs) name bytes each one = (each.0, Each-push holds ns xs name bytes each.1 one)
 
 -- the text with the next word's part
 pub text-next : (told : Text → Option (List ℕ)) (words : List (Bor Text)) (i : ℕ) (d : Bor Text) (old new part : Text)

@@ -1,7 +1,6 @@
 -- A program that was written, and handed on.
-use Rattle.std.proofs.Common.{◌≡◌, ℕ, List, [], Result, Ok, Err, OnOk, IfErr, IfOk, Some, None, append-nil, refl, sym}
-use Rattle.std.proofs.Common.{subst}
-use Rattle.std.proofs.Common.{MatchResult, arith, ◌∙◌}
+use Rattle.std.proofs.Common.{◌≡◌, ℕ, List, [], Result, Ok, Err, OnOk, IfErr, IfOk, Some, None, append-nil, sym}
+use Rattle.std.proofs.Common.{ap, subst, ◌∙◌}
 use Rattle.std.specs.declared.option.Option.{Option}
 use Rattle.std.specs.Io.KnownBytes.{Keeps}
 use Rattle.omf_frame.proofs.Told.{Appends-kept}
@@ -62,12 +61,6 @@ module _ {R A : Type 0} (names : Names) (inputs : List (List ℕ)) where
   flushed-written old mid new (Err fault) result is kept written =
       subst (WritesBy names inputs old new) (sym is) (kept-front R names inputs old mid new fault kept written)
 
--- behind a program that was written the map alone can fail
-pub behind-program : {A : Type 0} (P : Type 0) (Q : LinkFault A → Type 0) (r : Result (Unit {0}) (LinkFault A)) → P
-    → IfErr r (λ fault. status fault ≡ 3) → MatchResult r (λ done. P) (λ fault. status fault ≡ 1 → Q fault)
-behind-program P Q (Ok done) p is = p
-behind-program P Q (Err fault) p is = λ one. absurd (omega (arith, is, one))
-
 -- what holds of what is answered
 pub flushed-holds : {R A : Type 0} (P : R → Type 0) (answer result : Result R (LinkFault A)) → IsFlushed answer result
     → IfOk answer P → IfOk result P
@@ -98,13 +91,8 @@ text-flushed {A} text old mid new (Ok done) (Err fault) is kept appended =
 text-flushed text old mid new (Err fault) result is kept written =
     subst (WritesText text old new) (sym is) (text-kept text old mid new fault kept written)
 
--- it ends with status 3 where it isn't
-pub text-status : {A : Type 0} (text : List ℕ) (old new : Option (List ℕ)) (r : Result (Unit {0}) (LinkFault A))
-    → WritesText text old new r → IfErr r (λ fault. status fault ≡ 3)
-text-status text old new (Ok done) written = tt
-text-status text old new (Err Output) written = refl
-text-status text old new (Err Memory) written = refl
-text-status text old new (Err (Device input place)) written = absurd written
-text-status text old new (Err (Record input place fault)) written = absurd written
-text-status text old new (Err (Program fault)) written = absurd written
-text-status text old new (Err (File fault)) written = absurd written
+-- what was written takes its place, or the run ends with status 3
+pub kept-status : {R A : Type 0} (done : R) (r : Result R (LinkFault A)) → IsFlushed (Ok done) r
+    → IfErr r (λ fault. status fault ≡ 3)
+kept-status done (Ok same) is = tt
+kept-status done (Err fault) is = ap status is

@@ -8,7 +8,7 @@ use Rattle.omf_library.specs.Defaults.{Defaulted, weak_and_lazy}
 use Rattle.omf_library.specs.Records.{module_records}
 use Rattle.omf_place.specs.Names.{agrees}
 use Rattle.omf_place.specs.declared.names.Names.{Names}
-use Rattle.omf_search.specs.Said.{Module, offers}
+use Rattle.omf_search.specs.Said.{Module, defines}
 
 -- the aliases of modules, in the order of these
 abbrev pub link_aliases : (modules : List (List ℕ)) → List Alias
@@ -18,11 +18,11 @@ link_aliases modules = flat_map (λ m. aliases_of (module_records m 0)) modules
 abbrev pub needs_name : Names → (name : List ℕ) → Module → Bool
 needs_name names name m = list_any (agrees names name) m.wanted
 
--- it offers the name or needs it
+-- it defines the name or needs it
 abbrev pub has_name : Names → (name : List ℕ) → Module → Bool
-has_name names name m = offers names name m || needs_name names name m
+has_name names name m = defines names name m || needs_name names name m
 
--- A name is defined in a link whose modules say so of names: one offers it, or one needs it, where it isn't missing.
+-- A name is defined in a link whose modules say so of names: one defines it, or one needs it, where it isn't missing.
 abbrev pub is_defined : Names → (says : List Module) → (name : List ℕ) → Bool
 is_defined names says name = list_any (has_name names name) says
 

@@ -1,5 +1,5 @@
 -- The communal variables of a link, and the module that has them.
-use Rattle.std.specs.Prelude.{◌≡◌, ℕ, Bool, List, [], map, Ok}
+use Rattle.std.specs.Prelude.{◌≡◌, ℕ, Bool, List, map, Ok}
 use Rattle.std.specs.declared.option.Option.{Option}
 use Rattle.std.specs.declared.result.Result.{Result}
 use Rattle.std.specs.List.{list_any}
@@ -13,7 +13,6 @@ use Rattle.omf_communal.specs.Reading.{communals_of}
 use Rattle.omf_library.specs.Records.{module_records, result_and_then}
 use Rattle.omf_module.specs.Module.{Module}
 use Rattle.omf_place.specs.declared.names.Names.{Names}
-use Rattle.omf_search.specs.Said as search
 use Rattle.doslink_stock.specs.Files.{Held}
 use Rattle.doslink_jobs.specs.Orders.{AreRead}
 
@@ -27,10 +26,6 @@ pub record AreVariablesOf (names : Names) (modules : List Held) (vs : List Varia
   pub declared : List communal.Module
   pub are_declared : map declared_by modules ≡ map Ok declared
   pub agreed : variables names declared ≡ Ok vs
-
--- what the module of variables says of names: it offers theirs
-abbrev pub offering : List Variable → search.Module
-offering vs = record { wanted = []; offered = map (λ v. v.name) vs }
 
 -- this says whether the modules that inputs begin with have the segment `_BSS` in DGROUP
 abbrev pub TellsBss : (inputs : List (List ℕ)) → Bool → Type 0

@@ -5,7 +5,6 @@ use Rattle.std.specs.Prelude.{if◌then◌else◌}
 use Rattle.std.specs.declared.option.Option.{Option}
 use Rattle.std.specs.declared.result.Result.{Result}
 use Rattle.std.specs.List.{Contains, list_any}
-use Rattle.std.specs.Option.{option_to_list}
 use Rattle.clap.specs.Words.{Text}
 use Rattle.omf_alias.specs.Meaning.{Renaming}
 use Rattle.omf_frame.specs.declared.device.IoFault.{IoFault}
@@ -19,29 +18,29 @@ use Rattle.omf_lower.specs.declared.lowering.Lowering.{Lowering}
 use Rattle.omf_lower.specs.Module.{lowered}
 use Rattle.omf_search.specs.Said.{Module}
 use Rattle.doslink_words.specs.declared.job.Job.{Job}
+use Rattle.doslink_words.specs.declared.job.Input.{Input}
+use Rattle.doslink_words.specs.declared.job.Input.TheVariants as input
 use Rattle.doslink_words.specs.Said.{order_of}
 use Rattle.doslink_words.specs.Tokens.{texts}
 use Rattle.doslink_stock.specs.Search.{Takes}
-use Rattle.doslink_stock.specs.Files.{Held, members, needs, objects}
+use Rattle.doslink_stock.specs.Files.{Held, needs}
 use Rattle.doslink_telling.specs.Missing.{unmet, wants_marks}
 use Rattle.doslink_jobs.specs.Aliases.{EndsIn, link_aliases, module_renaming}
-use Rattle.doslink_jobs.specs.Communals.{AreVariablesOf, IsCommunalModule, offering}
+use Rattle.doslink_jobs.specs.Communals.{AreVariablesOf}
 use Rattle.doslink_jobs.specs.FarData.{TellsFit}
+use Rattle.doslink_jobs.specs.Joined.{AreJoined}
 use Rattle.doslink_jobs.specs.Locals.{HaveLocals}
-use Rattle.doslink_jobs.specs.Orders.{IsOrderModule}
+use Rattle.doslink_jobs.specs.Orders.{Asking}
 use Rattle.doslink_jobs.specs.Overflow.{HaveOverflow, NarrowFixups, NarrowStart}
-use Rattle.doslink_files.specs.Files.{AreFound, AreTold, IsFound}
+use Rattle.doslink_files.specs.declared.reading.Sought.{Sought}
+use Rattle.doslink_files.specs.declared.reading.Sought.TheVariants as sought
+use Rattle.doslink_files.specs.Files.{AreSought, IsFound}
 
 -- which names agree, by `--ignore-case`
 abbrev pub names_of : Bool → Names
 names_of ignore_case = if ignore_case then AsciiFolded else Exact
 
 -- ---- the modules of a link
-
--- of these files a link takes these modules: the object files, and the members of libraries that they choose
-abbrev pub TakesOf : Names → (files : List (List ℕ)) → (modules : List Held) → Type 0
-TakesOf names files modules =
-    (offered : List Held) × (members files ≡ Ok offered) × Takes names (objects files) offered modules
 
 -- what names mean in each of the modules of a job, by its bytes, where the link's modules say so of names: the aliases
 -- of each hold for all
@@ -72,96 +71,90 @@ pub record AreLoweredFor (job : Job) (says : List Module) (modules inputs : List
   pub end : All (EndsIn (names_of job.ignore_case) says (link_aliases modules)) modules
   pub are_lowered : AreLowered lowering (renaming_of job says modules) modules inputs
 
--- what modules say of names, and behind them the module of their communal variables
-abbrev pub link_says : List Held → List Variable → List Module
-link_says modules vs = map needs modules ++ offering vs ∷ []
+-- what asks for the order of a job's modules, where marks are wanted or not
+abbrev pub asking_of : Job → (marks : Bool) → (modules : List Held) → Asking
+asking_of job marks modules = record {
+  names = names_of job.ignore_case;
+  marks = marks;
+  dosseg = list_any (λ m. m.dosseg) modules;
+  order = order_of job.order;
+  null_bytes = job.null_bytes;
+}
 
--- These are linked for the modules that a link takes, which say so of names with their communal variables: the modules
--- lowered, each with the variables that are local to it, the module of communal variables behind them and the order
--- module in front of all, where there are these. Marks are wanted or not. Where fix-ups of 32 bits or a start became
--- ones of 16, none of their sums has more than 16 bits.
+-- These are linked for the modules that a link takes, which say so of names: the modules lowered, each with the
+-- variables that are local to it, and what is joined to them. Where fix-ups of 32 bits or a start became ones of 16,
+-- none of their sums has more than 16 bits.
 pub record AreInputsOf (job : Job) (says : List Module) (marks : Bool) (modules : List Held) (vs : List Variable)
     (linked : List (List ℕ)) : Type 0 where
   pub lowered : List (List ℕ)
   pub inputs : List (List ℕ)
-  pub communal : Option (List ℕ)
-  pub order : Option (List ℕ)
   pub are_lowered : AreLoweredFor job says (map (λ m. m.bytes) modules) lowered
   pub have_locals : HaveLocals (names_of job.ignore_case) (map (λ m. m.bytes) modules) lowered inputs
-  pub placed : IsCommunalModule inputs vs communal
-  pub ordered : IsOrderModule (names_of job.ignore_case) marks (list_any (λ m. m.dosseg) modules) (order_of job.order)
-      (inputs ++ option_to_list communal) order
-  pub together : linked ≡ option_to_list order ++ (inputs ++ option_to_list communal)
+  pub joined : AreJoined (asking_of job marks modules) job.stack inputs vs linked
   pub fit : NarrowFixups (map (λ m. m.bytes) modules) lowered
       → HaveOverflow first_overflow (names_of job.ignore_case) linked → ⊥
   pub start_fits : NarrowStart (map (λ m. m.bytes) modules)
       → HaveOverflow start_overflow (names_of job.ignore_case) linked → ⊥
 
--- A link was done of the modules that it takes: none of their names is missing, those of their communal variables being
--- offered too, and what is linked for them has no fault.
+-- A link was done of the modules that it takes: none of their names is missing, and what is linked for them has no
+-- fault.
 pub record IsLinkOf (A : Type 0) (job : Job) (takes : List Held → Type 0) : Type 0 where
   pub modules : List Held
   pub variables : List Variable
   pub linked : List (List ℕ)
   pub taken : takes modules
   pub are_variables : AreVariablesOf (names_of job.ignore_case) modules variables
-  pub met : unmet (names_of job.ignore_case) (link_says modules variables) ≡ []
-  pub are_inputs : AreInputsOf job (link_says modules variables)
-      (wants_marks (names_of job.ignore_case) (link_says modules variables)) modules variables linked
+  pub met : unmet (names_of job.ignore_case) (map needs modules) ≡ []
+  pub are_inputs : AreInputsOf job (map needs modules) (wants_marks (names_of job.ignore_case) (map needs modules))
+      modules variables linked
   pub faultless : IsFaultless A (names_of job.ignore_case) linked
 
--- the same of the modules of files
-abbrev pub IsLinked : (A : Type 0) → Job → (files : List (List ℕ)) → Type 0
-IsLinked A job files = IsLinkOf A job (TakesOf (names_of job.ignore_case) files)
-
 -- ---- a job
+
+-- what a job names, as it is sought: the module at a path, or a library that is looked up
+abbrev pub sought_of : Input → Sought
+sought_of (input.File path) = sought.File path
+sought_of (input.Library name) = sought.Library name
 
 -- one of these modules names this default library
 abbrev pub IsNamedBy : (modules : List Held) → (name : List ℕ) → Type 0
 IsNamedBy modules name = (m : Held) × Contains modules m × Contains m.libraries name
 
--- a module that a link takes of these files names this default library
-abbrev pub AsksFor : Names → (files : List (List ℕ)) → (name : List ℕ) → Type 0
-AsksFor names files name = (modules : List Held) × TakesOf names files modules × IsNamedBy modules name
-
--- the same of the first of these files, however many
-abbrev pub AsksEarly : Names → (files : List (List ℕ)) → (name : List ℕ) → Type 0
-AsksEarly names files name = (front rest : List (List ℕ)) × (files ≡ front ++ rest) × AsksFor names front name
-
--- these are the bytes of a library that was looked up by a name for which the first of the files ask
-abbrev pub IsDefault : (told : Text → Option (List ℕ)) → (folders : List Text) → Names → (files : List (List ℕ))
+-- these are the bytes of a library that was looked up by a name that one of these modules names
+abbrev pub IsDefault : (told : Text → Option (List ℕ)) → (folders : List Text) → (modules : List Held)
     → (bytes : List ℕ) → Type 0
-IsDefault told folders names files bytes =
-    (name path : Text) × IsFound told folders name path bytes × AsksEarly names files name
+IsDefault told folders modules bytes =
+    (name path : Text) × IsFound told folders name path bytes × IsNamedBy modules name
 
--- each of these files is such a library, the first of the files before it asking
-abbrev pub AreAsked : (told : Text → Option (List ℕ)) → (folders : List Text) → Names → (before files : List (List ℕ))
-    → Type 0
-AreAsked told folders names before [] = Unit {0}
-AreAsked told folders names before (bytes ∷ files) =
-    IsDefault told folders names before bytes × AreAsked told folders names (before ++ bytes ∷ []) files
+-- these are default libraries that go behind the files of some rounds: the modules that a link takes of those name them
+abbrev pub AreDefaults : (told : Text → Option (List ℕ)) → (folders : List Text) → Names
+    → (rounds : List (List (List ℕ))) → (files : List (List ℕ)) → Type 0
+AreDefaults told folders names rounds files =
+    (modules : List Held) × Takes names rounds modules × All (IsDefault told folders modules) files
 
--- these are default libraries of a job behind the files that were given; it may ask for none
-pub record AreDefaults (told : Text → Option (List ℕ)) (folders : List Text) (job : Job) (given files : List (List ℕ))
-    : Type 0 where
-  pub asked : AreAsked told folders (names_of job.ignore_case) given files
-  pub none : job.default_libraries ≡ false → files ≡ []
+-- so is each further round, behind those before it
+abbrev pub AreRounds : (told : Text → Option (List ℕ)) → (folders : List Text) → Names
+    → (before rounds : List (List (List ℕ))) → Type 0
+AreRounds told folders names before [] = Unit {0}
+AreRounds told folders names before (files ∷ rounds) =
+    AreDefaults told folders names before files × AreRounds told folders names (before ++ files ∷ []) rounds
 
--- These are the files of a job: those that it names, its libraries and default libraries, in this order. Default
--- libraries are looked up in other folders too, behind those of the job.
-pub record AreFilesOf (told : Text → Option (List ℕ)) (folders : List Text) (job : Job) (files : List (List ℕ))
-    : Type 0 where
-  pub named : List (List ℕ)
-  pub libraries : List (List ℕ)
-  pub defaults : List (List ℕ)
-  pub are_named : AreTold told (texts job.files.items) named
-  pub are_libraries : AreFound told (texts job.folders.items) (texts job.libraries.items) libraries
-  pub are_defaults : AreDefaults told (texts job.folders.items ++ folders) job (named ++ libraries) defaults
-  pub together : files ≡ named ++ libraries ++ defaults
+-- These are the files of a job, in the rounds in which they are searched: those that it names, and then default
+-- libraries, where it asks for these. They are looked up in other folders too, behind those of the job.
+pub record AreFilesOf (told : Text → Option (List ℕ)) (folders : List Text) (job : Job)
+    (rounds : List (List (List ℕ))) : Type 0 where
+  pub given : List (List ℕ)
+  pub defaults : List (List (List ℕ))
+  pub are_given : AreSought told (texts job.folders.items) (map sought_of job.inputs.items) given
+  pub are_defaults : AreRounds told (texts job.folders.items ++ folders) (names_of job.ignore_case) (given ∷ []) defaults
+  pub none : job.default_libraries ≡ false → defaults ≡ []
+  pub together : rounds ≡ given ∷ defaults
 
 -- a job was done: its files were read and linked
 abbrev pub IsDone : (A : Type 0) → (told : Text → Option (List ℕ)) → (folders : List Text) → Job → Type 0
-IsDone A told folders job = (files : List (List ℕ)) × AreFilesOf told folders job files × IsLinked A job files
+IsDone A told folders job =
+    (rounds : List (List (List ℕ))) × AreFilesOf told folders job rounds
+    × IsLinkOf A job (Takes (names_of job.ignore_case) rounds)
 
 -- ---- a run
 

@@ -2,10 +2,12 @@ pub mod Aliases
 pub mod Communals
 pub mod FarData
 pub mod Jobs
+pub mod Joined
 pub mod Locals
 pub mod Maps
 pub mod Orders
 pub mod Overflow
 pub mod Refusals
 pub mod Runs
+pub mod Stacks
 pub mod inside

@@ -1,19 +1,28 @@
 -- The variables that are local to the modules of a link.
-use Rattle.std.specs.Prelude.{◌≡◌, ℕ, Bool, List, [], ◌∷◌, Ok}
+use Rattle.std.specs.Prelude.{◌≡◌, ◌⊎◌, ℕ, Bool, List, [], ◌∷◌, Ok}
 use Rattle.omf_communal.specs.declared.declarations.Scope.TheVariants as scope
 use Rattle.omf_communal.specs.Deciding.{Variable}
 use Rattle.omf_communal.specs.Locals.{local_module, local_variables}
 use Rattle.omf_communal.specs.Reading.{Communal, communals_of}
 use Rattle.omf_library.specs.Records.{module_records}
 use Rattle.omf_place.specs.declared.names.Names.{Names}
+use Rattle.omf_record.specs.Records.{Placed}
+use Rattle.doslink_link.specs.Linking.{BeginsWith}
 use Rattle.doslink_jobs.specs.Communals.{TellsBss}
 
+-- bytes begin with a whole sound module
+abbrev pub HasModule : (bytes : List ℕ) → Type 0
+HasModule bytes = (records : List Placed) × BeginsWith records bytes
+
 -- A lowered module, one of these, with variables that are local to it: the same, where there are none. Near ones stand
--- in `_BSS` where one of the lowered modules has that in DGROUP.
+-- in `_BSS` where one of the lowered modules has that in DGROUP. A module at fault is the same too, since the link names
+-- its fault: an index of it would mean a segment of the variables.
 abbrev pub IsPlaced : (all : List (List ℕ)) → List Variable → (lowered linked : List ℕ) → Type 0
 IsPlaced all [] lowered linked = linked ≡ lowered
 IsPlaced all (v ∷ vs) lowered linked =
-    (in_bss : Bool) × TellsBss all in_bss × (local_module in_bss (v ∷ vs) lowered ≡ Ok linked)
+    ((HasModule lowered → ⊥) × (linked ≡ lowered))
+    ⊎ (HasModule lowered × (in_bss : Bool) × TellsBss all in_bss
+    × (local_module in_bss (v ∷ vs) lowered ≡ Ok linked))
 
 -- a lowered module, one of these, with the variables that the module itself declares as local to it
 pub record HasLocals (names : Names) (all : List (List ℕ)) (own lowered linked : List ℕ) : Type 0 where

@@ -9,15 +9,33 @@ use Rattle.omf_order.specs.declared.order.Item.{Item}
 use Rattle.omf_order.specs.declared.order.Item.TheVariants as item
 use Rattle.omf_order.specs.declared.order.Order.{Order}
 use Rattle.omf_order.specs.declared.order.Order.TheVariants as order
+use Rattle.omf_order.specs.Cleared.{data_in_bss}
 use Rattle.omf_order.specs.Plan.{is_needless, plan}
 use Rattle.omf_order.specs.Records.{module_bytes}
 use Rattle.omf_place.specs.declared.names.Names.{Names}
-use Rattle.doslink_link.specs.Linking.{AllBeginWith}
+use Rattle.doslink_link.specs.Linking.{AllBeginWith, BeginsWith}
 use Rattle.doslink_words.specs.Said.{SaidItem, SaidOrder, Class, Segment, Meeting, Dosseg, Listed}
 
 -- these are the modules that inputs begin with
 abbrev pub AreRead : (inputs : List (List ℕ)) → (modules : List Module) → Type 0
 AreRead inputs modules = (lists : List (List Placed)) × AllBeginWith lists inputs × (modules ≡ map module_of lists)
+
+-- bytes begin with this module
+abbrev pub IsRead : (bytes : List ℕ) → Module → Type 0
+IsRead bytes one = (records : List Placed) × BeginsWith records bytes × (one ≡ module_of records)
+
+-- bytes begin with no module
+abbrev pub IsNoModule : (bytes : List ℕ) → Type 0
+IsNoModule bytes = (one : Module) → IsRead bytes one → ⊥
+
+-- What asks for an order: which names agree, whether marks are wanted that no module defines, whether a module asks for
+-- DOSSEG, the order that the job asks for, and whether DOSSEG has null bytes in front of `_TEXT`.
+pub record Asking : Type 0 where
+  pub names : Names
+  pub marks : Bool
+  pub dosseg : Bool
+  pub order : SaidOrder
+  pub null_bytes : Bool
 
 -- what an order says
 abbrev pub item_said : Item → SaidItem
@@ -26,8 +44,13 @@ item_said (item.Segment name) = Segment name.now
 
 abbrev pub order_said : Order → SaidOrder
 order_said order.Meeting = Meeting
-order_said order.Dosseg = Dosseg
+order_said (order.Dosseg null_bytes) = Dosseg
 order_said (order.Listed items) = Listed (map item_said items.now)
+
+-- where an order is DOSSEG, it has null bytes as it is asked for
+abbrev pub HasNulls : (null_bytes : Bool) → Order → Type 0
+HasNulls null_bytes (order.Dosseg nulls) = nulls ≡ null_bytes
+HasNulls null_bytes other = Unit {0}
 
 -- the order that is asked for: by the job, and where that asks for none by a module
 abbrev pub order_asked : SaidOrder → (dosseg : Bool) → SaidOrder
@@ -35,20 +58,29 @@ order_asked Meeting dosseg = if dosseg then Dosseg else Meeting
 order_asked Dosseg dosseg = Dosseg
 order_asked (Listed items) dosseg = Listed items
 
+-- this is the order that is asked for
+abbrev pub IsAsked : Asking → Order → Type 0
+IsAsked asking order =
+    (order_said order ≡ order_asked asking.order asking.dosseg) × HasNulls asking.null_bytes order
+
 -- neither is an order asked for nor a mark wanted
 abbrev pub is_unasked : (marks dosseg : Bool) → SaidOrder → Bool
 is_unasked marks dosseg Meeting = not dosseg && not marks
 is_unasked marks dosseg Dosseg = false
 is_unasked marks dosseg (Listed items) = false
 
--- these bytes are the order module for modules, in the order that is asked for; there are none exactly where it would
--- change nothing
-pub record IsOrderFor (names : Names) (dosseg : Bool) (asked : SaidOrder) (modules : List Module)
-    (bytes : Option (List ℕ)) : Type 0 where
-  pub order : Order
-  pub in_order : order_said order ≡ order_asked asked dosseg
-  pub planned : MatchOption bytes (is_needless order (plan order names modules) ≡ true)
-      (λ b. (is_needless order (plan order names modules) ≡ false) × (b ≡ module_bytes (plan order names modules)))
+-- These bytes are the order module for modules, in this order; there are none exactly where it would change nothing.
+-- No data with values stands where start-up code clears it by the marks.
+abbrev pub IsPlanned : Names → Order → List Module → (bytes : Option (List ℕ)) → Type 0
+IsPlanned names order modules bytes =
+    let p = plan order names modules in
+    MatchOption bytes (is_needless order p ≡ true)
+    (λ b. (is_needless order p ≡ false) × (data_in_bss modules p ≡ None) × (b ≡ module_bytes p))
+
+-- the same in the order that is asked for
+abbrev pub IsOrderFor : Asking → List Module → (bytes : Option (List ℕ)) → Type 0
+IsOrderFor asking modules bytes =
+    (order : Order) × IsAsked asking order × IsPlanned asking.names order modules bytes
 
 -- some input begins with no module
 abbrev pub AreUnread : (inputs : List (List ℕ)) → Type 0
@@ -56,8 +88,7 @@ AreUnread inputs = (modules : List Module) → AreRead inputs modules → ⊥
 
 -- These bytes are the order module for the modules that inputs begin with. There are none too where neither an order is
 -- asked for nor a mark wanted, and where an input begins with no module.
-abbrev pub IsOrderModule : (names : Names) (marks dosseg : Bool) (asked : SaidOrder) (inputs : List (List ℕ))
-    (bytes : Option (List ℕ)) → Type 0
-IsOrderModule names marks dosseg asked inputs bytes =
-    (((is_unasked marks dosseg asked ≡ true) ⊎ AreUnread inputs) × (bytes ≡ None))
-    ⊎ ((modules : List Module) × AreRead inputs modules × IsOrderFor names dosseg asked modules bytes)
+abbrev pub IsOrderModule : Asking → (inputs : List (List ℕ)) → (bytes : Option (List ℕ)) → Type 0
+IsOrderModule asking inputs bytes =
+    (((is_unasked asking.marks asking.dosseg asking.order ≡ true) ⊎ AreUnread inputs) × (bytes ≡ None))
+    ⊎ ((modules : List Module) × AreRead inputs modules × IsOrderFor asking modules bytes)

@@ -1,15 +1,16 @@
 -- What a run has done that ends with status 0.
-use Rattle.std.specs.Prelude.{◌≡◌, ◌⊎◌, ◌==◌, ◌||◌, ℕ, List, [], ◌∷◌, ◌++◌, codes, if◌then◌else◌}
+use Rattle.std.specs.Prelude.{◌≡◌, ◌⊎◌, ◌==◌, ◌||◌, ℕ, List, [], ◌∷◌, ◌++◌, codes, true, if◌then◌else◌}
 use Rattle.std.specs.Prelude.{Ok, None, Some, MatchOption}
 use Rattle.std.specs.declared.option.Option.{Option}
 use Rattle.std.specs.List.{flat_map, slice_split}
-use Rattle.clap.specs.Words.{Text, fault_of}
+use Rattle.clap.specs.Words.{Text}
 use Rattle.doslink_words.specs.declared.job.Directives.{Directives}
 use Rattle.doslink_words.specs.declared.job.Job.{Job}
 use Rattle.doslink_words.specs.Directives.{Means, meaning}
 use Rattle.doslink_words.specs.Keywords.{is_keyword}
 use Rattle.doslink_words.specs.Tokens.{words}
-use Rattle.doslink_words.specs.Words.{IsJobFor, doslink_command}
+use Rattle.doslink_words.specs.Responses.{asks_text, response_words}
+use Rattle.doslink_words.specs.Words.{AreTaken, IsJobFor}
 use Rattle.doslink_files.specs.Files.{Each, IsTold}
 use Rattle.doslink_files.specs.Paths.{last_part}
 use Rattle.doslink_jobs.specs.declared.words.Language.{Language}
@@ -47,9 +48,9 @@ abbrev pub IsTextOf : (told : Text → Option (List ℕ)) → (words : List Text
 IsTextOf told words text =
     (parts : List Text) × Each (IsPart told) words parts × (text ≡ flat_map (λ part. part ++ 10 ∷ []) parts)
 
--- words ask for no job, as where they ask for help
+-- words ask for no job, as where they ask for help, and as directives where they ask for a text alone
 abbrev pub AskForNone : (words : List Text) → Type 0
-AskForNone words = fault_of doslink_command words ≡ [] → ⊥
+AskForNone words = (AreTaken words → ⊥) ⊎ (asks_text words ≡ true)
 
 module _ (told : Text → Option (List ℕ)) (Does : Job → Type 0) (Helps : List Text → Type 0) where
   -- this holds of the job that the words ask for, or they ask for none
@@ -68,10 +69,14 @@ module _ (told : Text → Option (List ℕ)) (Does : Job → Type 0) (Helps : Li
   abbrev pub RunsText : (text : Text) → Type 0
   RunsText text = (directives : Directives) × Means (Ok directives) (meaning text) × Does directives.job
 
+  -- the same of the directives that words give
+  abbrev pub RunsGiven : (words : List Text) → Type 0
+  RunsGiven list = (text : Text) × IsTextOf told list text × RunsText text
+
   -- it holds of the job that words ask for, which are options and files, or directives
   abbrev pub Runs : Language → (words : List Text) → Type 0
   Runs language.Words list = MatchOption (only_response list) (RunsWords list) RunsResponse
-  Runs language.Directives list = (text : Text) × IsTextOf told list text × RunsText text
+  Runs language.Directives list = ((asks_text list ≡ true) × Helps list) ⊎ RunsGiven (response_words list)
 
 -- A run ends with status 0 only where the job that words ask for was done, or they ask for none, and with 1 only where
 -- it was refused.

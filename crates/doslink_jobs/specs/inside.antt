@@ -1,10 +1,12 @@
 -- How the code sees what it works on: no public contract cites any of it.
-pub mod Adding
+pub mod Changes
 pub mod Declaring
 pub mod Flushed
+pub mod Gathering
 pub mod Inputs
 pub mod Listed
 pub mod Meanings
 pub mod Reading
 pub mod Stops
 pub mod Sums
+pub mod Defined

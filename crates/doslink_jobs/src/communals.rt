@@ -163,20 +163,6 @@ pub(crate) fn variables_of<'a, A: Allocator + Copy>(
     agreed_variables(alloc, names, &declared, taken.words, lines)
 }
 
-/// The names of communal variables.
-pub(crate) fn variable_names<'a, A: Allocator + Copy>(
-    alloc: A,
-    variables: &[Variable<'a>],
-) -> Result<Vec<&'a [u8], A>, AllocError>
-    ensures { IfOk result (λ v. bytes_of v.items ≡ map (λ x. (variable_said x).name) variables.now) }
-{
-    let mut names = Vec::new(alloc);
-    for variable in variables {
-        names.push(variable.name)?;
-    }
-    Ok(names)
-}
-
 /// Whether the module that these bytes begin with has the segment `_BSS` in DGROUP. The word is that of the module.
 fn has_bss_in<A: Allocator + Copy>(
     alloc: A,

@@ -7,11 +7,12 @@ ghost use Rattle.doslink_jobs.specs.Runs as spec;
 ghost use Rattle.doslink_jobs.specs.Runs.{IsPart, IsTextOf};
 ghost use Rattle.doslink_jobs.specs.inside.Stops.{OnInput};
 
-use crate::stop::{Stop, stop_at};
+use crate::limit::Limit;
+use crate::stop::{Stop, stop_unread};
 use doslink_files::read_file;
 use doslink_telling::push_path_line;
 use doslink_words::{DirectiveFault, Directives, Warning, WarningKind};
-use omf_files::World;
+use omf_files::{FileId, World};
 use std::alloc::{AllocError, Global};
 
 /// The path of the response file that a word names: what stands behind `@`.
@@ -21,24 +22,28 @@ pub(crate) fn response_path(word: &str) -> Option<&str>
     word.strip_prefix('@')
 }
 
-/// Appends the text of a response file.
+/// Appends the text of a response file, and which file it is.
 fn push_response<W: World>(
     alloc: Global,
     world: &W,
     path: &str,
     text: &mut String,
+    read: &mut Vec<FileId>,
     lines: &mut Vec<u8>,
 ) -> Result<(), Stop>
     ensures { MatchResult result (λ done. (part : List ℕ) × IsTold (W.bytes world.now path.now) part
         × (string_bytes text.new ≡ string_bytes text.old ++ part))
         (λ stop. OnInput stop ⊥) }
 {
-    let bytes = match read_file(alloc, world, path) {
-        Ok(bytes) => bytes,
-        Err(fault) => return Err(stop_at(lines, fault.of(path))),
+    let file = match read_file(alloc, world, path) {
+        Ok(file) => file,
+        Err(fault) => return Err(stop_unread(lines, path, fault)),
     };
-    match str::from_utf8(&bytes) {
-        Ok(read) => Ok(text.push_str(read)?),
+    if let Some(id) = file.id {
+        read.push(id)?;
+    }
+    match str::from_utf8(&file.bytes) {
+        Ok(part) => Ok(text.push_str(part)?),
         Err(_) => {
             push_path_line(lines, path, "it is no UTF-8 text")?;
             Err(Stop::Words)
@@ -46,18 +51,19 @@ fn push_response<W: World>(
     }
 }
 
-/// The text of a response file.
+/// The text of a response file. Which file it is is appended.
 pub(crate) fn response_text<W: World>(
     alloc: Global,
     world: &W,
     path: &str,
+    read: &mut Vec<FileId>,
     lines: &mut Vec<u8>,
 ) -> Result<String, Stop>
     ensures { MatchResult result (λ text. IsTold (W.bytes world.now path.now) (string_bytes text))
         (λ stop. OnInput stop ⊥) }
 {
     let mut text = String::new(alloc);
-    push_response(alloc, world, path, &mut text, lines)?;
+    push_response(alloc, world, path, &mut text, read, lines)?;
     Ok(text)
 }
 
@@ -67,6 +73,7 @@ fn push_part<W: World>(
     world: &W,
     word: &str,
     text: &mut String,
+    read: &mut Vec<FileId>,
     lines: &mut Vec<u8>,
 ) -> Result<(), Stop>
     ensures { MatchResult result (λ done. (part : List ℕ) × IsPart (W.bytes world.now) word.now part
@@ -74,19 +81,19 @@ fn push_part<W: World>(
         (λ stop. OnInput stop ⊥) }
 {
     match response_path(word) {
-        Some(path) => push_response(alloc, world, path, text, lines)?,
+        Some(path) => push_response(alloc, world, path, text, read, lines)?,
         None => text.push_str(word)?,
     }
     text.push_str("\n")?;
     Ok(())
 }
 
-/// How many lines a text has whose last one has an end.
-fn line_count(text: &str) -> usize {
-    text.as_bytes()
-        .iter()
-        .filter(|byte| **byte == b'\n')
-        .count()
+/// How many lines end behind a place of a text.
+fn line_count(text: &[u8], start: usize) -> usize {
+    match text.get(start..) {
+        Some(rest) => rest.iter().filter(|byte| **byte == b'\n').count(),
+        None => 0,
+    }
 }
 
 /// The directives of some words.
@@ -98,6 +105,8 @@ pub(crate) struct Spoken<'w> {
     pub starts: Vec<usize>,
     /// The words.
     pub words: &'w [&'w str],
+    /// The files of which they were read.
+    pub read: Vec<FileId>,
 }
 
 /// The directives that words give: those of the files that words with `@` name, and other words as they stand, each
@@ -113,27 +122,31 @@ pub(crate) fn directives_of<'w, W: World>(
 {
     let mut text = String::new(alloc);
     let mut starts = Vec::new(alloc);
+    let mut read = Vec::new(alloc);
+    let mut before: usize = 0;
     for word in words {
-        starts.push(line_count(text.as_str()))?;
-        push_part(alloc, world, word, &mut text, lines)?;
+        starts.push(before)?;
+        let start = text.len();
+        push_part(alloc, world, word, &mut text, &mut read, lines)?;
+        before = before.saturating_add(line_count(text.as_bytes(), start));
     }
     Ok(Spoken {
         text,
         starts,
         words,
+        read,
     })
 }
 
 impl<'w> Spoken<'w> {
     /// The response file in which a line of the text stands, if it is in one, and the line's number there.
     fn place_of(&self, line: usize) -> (Option<&'w str>, usize) {
-        let mut place = (None, line);
-        for (word, before) in self.words.iter().zip(&self.starts) {
-            if *before < line {
-                place = (response_path(word), line - *before);
-            }
+        let words = self.starts.partition_point(|before| *before < line);
+        let index = words.saturating_sub(1);
+        match (self.words.get(index), self.starts.get(index)) {
+            (Some(word), Some(before)) => (response_path(word), line.saturating_sub(*before)),
+            _ => (None, line),
         }
-        place
     }
 }
 
@@ -158,7 +171,6 @@ pub(crate) fn directive_line(
 fn warning_text(kind: WarningKind) -> &'static str {
     match kind {
         WarningKind::Option => "the option has no effect",
-        WarningKind::Stack => "the stack is as long as the modules make it",
         WarningKind::Symbols => "no file of symbols is written",
         WarningKind::Sort => "the map is not sorted",
         WarningKind::Disable => "no message is left out",

@@ -3,24 +3,33 @@
 
 mod aliases;
 mod communals;
-mod defaults;
 mod directives;
+mod faults;
+mod faulty;
+mod filled;
+mod gathering;
 mod inputs;
 mod kinds;
+mod limit;
 mod linking;
 mod locals;
 mod lowering;
+mod meanings;
 mod ordering;
 mod overflow;
 mod paths;
 mod places;
 mod program;
 mod running;
+mod stacking;
 mod stop;
 mod taking;
+mod warnings;
 mod widths;
 mod words;
 
 pub use program::{link_into, map_into};
 pub use running::run_job;
-pub use words::{Language, language_of, library_folders, out_of_memory, run_words, wrong_words};
+pub use words::{
+    Besides, Language, language_of, library_folders, out_of_memory, run_words, wrong_words,
+};

@@ -8,47 +8,22 @@ ghost use Rattle.doslink_jobs.specs.Refusals.{HaveFault};
 ghost use Rattle.doslink_jobs.specs.inside.Inputs.{input_list};
 ghost use Rattle.doslink_jobs.specs.inside.Stops.{OnInput};
 
-use crate::inputs::{
-    Inputs, in_own_bytes, input_slices, input_words, lowered_amiss, options_of, type_at_fault,
-};
-use crate::kinds::push_type;
+use crate::faults::tell_record;
+use crate::inputs::{Inputs, input_slices, input_words, module_at, options_of};
 use crate::places::Places;
 use crate::program::link_and_map;
 use crate::stop::Stop;
 use crate::taking::Taken;
-use doslink_telling::{push_duplicate, push_fault, push_obstacle};
+use crate::warnings::warn_of_program;
+use doslink_telling::{push_duplicate, push_fault};
 use doslink_words::Job;
 use omf_commands::Options;
+use omf_communal::Variable;
 use omf_faults::{LinkFault, ProgramFault, status};
 use omf_files::{CreatedFile, World};
-use omf_lower::Obstacle;
+use omf_module::Module;
 use omf_place::Names;
 use std::alloc::{AllocError, Allocator};
-
-/// Tells a fault of a link, once it speaks of the user's own bytes.
-fn tell_own_fault<A: Allocator + Copy>(
-    alloc: A,
-    fault: &LinkFault<A>,
-    names: Names,
-    taken: &Taken<'_, '_, '_, A>,
-    inputs: &Inputs<'_, A>,
-    word: &[u8],
-    lines: &mut Vec<u8, A>,
-) -> Result<(), AllocError> {
-    match fault {
-        LinkFault::Memory => Err(AllocError),
-        LinkFault::Program(ProgramFault::DuplicatePublic(name)) => {
-            push_duplicate(alloc, lines, name, names, taken.handed, taken.words)
-        }
-        fault => {
-            push_fault(alloc, lines, fault, word)?;
-            match type_at_fault(fault, inputs) {
-                Some(kind) => push_type(lines, kind),
-                None => Ok(()),
-            }
-        }
-    }
-}
 
 /// Tells why the link stopped, `word` being that for what is at fault.
 fn tell_fault<A: Allocator + Copy>(
@@ -60,11 +35,21 @@ fn tell_fault<A: Allocator + Copy>(
     word: &[u8],
     lines: &mut Vec<u8, A>,
 ) -> Result<(), AllocError> {
-    if let Some(place) = lowered_amiss(&fault, inputs) {
-        return push_obstacle(lines, word, place, Obstacle::Body);
+    match &fault {
+        LinkFault::Memory => Err(AllocError),
+        LinkFault::Program(ProgramFault::DuplicatePublic(name)) => {
+            push_duplicate(alloc, lines, name, names, taken.handed, taken.words)
+        }
+        LinkFault::Record {
+            input,
+            place,
+            fault: at_fault,
+        } => match module_at(inputs, *input) {
+            Some(module) => tell_record(alloc, module, *place, *at_fault, word, lines),
+            None => push_fault(alloc, lines, &fault, word),
+        },
+        _ => push_fault(alloc, lines, &fault, word),
     }
-    let fault = in_own_bytes(fault, inputs);
-    tell_own_fault(alloc, &fault, names, taken, inputs, word, lines)
 }
 
 /// The word for what is at fault: the input, or else the file that was written last.
@@ -88,8 +73,8 @@ fn link_to_files<'p, W: World + Copy, A: Allocator + Copy>(
     inputs: &[&[u8]],
     words: &[&[u8]],
     places: &'p Places<A>,
-) -> (Result<(), LinkFault<A>>, &'p str)
-    ensures { MatchResult result.0 (λ done. IsFaultless A options.now.names (bytes_of inputs.now))
+) -> (Result<Vec<Module<A>, A>, LinkFault<A>>, &'p str)
+    ensures { MatchResult result.0 (λ modules. IsFaultless A options.now.names (bytes_of inputs.now))
         (λ fault. faults.status fault ≡ 1 →
         IsOnlyFault options.now.names (bytes_of inputs.now) fault) }
 {
@@ -107,13 +92,15 @@ fn link_to_files<'p, W: World + Copy, A: Allocator + Copy>(
     (answer, written)
 }
 
-/// Links the modules, and writes the program and the map.
+/// Links the modules with these communal variables, and writes the program and the map. What can't be run as it is
+/// meant is warned of.
 pub(crate) fn write_program<W: World + Copy, A: Allocator + Copy>(
     alloc: A,
     world: W,
     job: &Job<'_>,
     places: &Places<A>,
     taken: &Taken<'_, '_, '_, A>,
+    variables: &[Variable<'_>],
     inputs: &Inputs<'_, A>,
     lines: &mut Vec<u8, A>,
 ) -> Result<(), Stop>
@@ -126,7 +113,7 @@ pub(crate) fn write_program<W: World + Copy, A: Allocator + Copy>(
     let options = options_of(job);
     let (answer, written) = link_to_files(alloc, world, &options, &slices, &words, places);
     match answer {
-        Ok(()) => Ok(()),
+        Ok(modules) => Ok(warn_of_program(alloc, job, &modules, variables, &words, lines)?),
         Err(fault) => {
             let stop = if status(&fault) == 1 {
                 Stop::Input

@@ -5,15 +5,18 @@ ghost use Rattle.omf_communal.specs.declared.declarations.Scope.TheVariants as s
 ghost use Rattle.omf_communal.specs.Deciding.{variable_said};
 ghost use Rattle.omf_communal.specs.Reading.{communals_of, plain_communal};
 ghost use Rattle.omf_library.specs.Records.{module_records};
-ghost use Rattle.doslink_jobs.specs.Locals.{HasLocals, HaveLocals};
+ghost use Rattle.omf_communal.specs.Locals as place;
+ghost use Rattle.doslink_jobs.specs.Locals.{HasLocals, HasModule, HaveLocals, IsPlaced};
 ghost use Rattle.doslink_jobs.specs.Communals.{TellsBss};
 ghost use Rattle.doslink_jobs.specs.Refusals.{HasNoLocals};
 ghost use Rattle.doslink_jobs.specs.inside.Inputs.{lowered_bytes, own_bytes};
 ghost use Rattle.doslink_jobs.specs.inside.Stops.{OnInput};
 ghost use Rattle.doslink_jobs.specs.inside.Declaring.{AreLocal, AreNotLocal, DeclareNone};
+ghost use Rattle.doslink_jobs.specs.inside.Reading.{TellsModule};
 
 use crate::communals::{Declared, agreed_variables, is_in_bss, stop_at_entry, stop_unplaced};
 use crate::lowering::LoweredModule;
+use crate::ordering::read_bytes;
 use crate::stop::Stop;
 use crate::taking::Taken;
 use omf_communal::{Communal, Scope, Variable, communals, local_module, local_names};
@@ -59,6 +62,14 @@ fn declare_some<A: Allocator + Copy>(
     Ok(false)
 }
 
+/// The first of some words.
+fn first_word<'w, A: Allocator + Copy>(words: &'w [Vec<u8, A>]) -> &'w [u8] {
+    match words.first() {
+        Some(word) => word.as_slice(),
+        None => b"",
+    }
+}
+
 /// The variables that a lowered module itself declares as local to it. Its first record at fault is told, and
 /// declarations that clash. The words are those of this module and others behind it.
 fn variables_in<'o, A: Allocator + Copy>(
@@ -72,10 +83,7 @@ fn variables_in<'o, A: Allocator + Copy>(
         (λ v. AreLocal names (own_bytes one.now) (lowered_bytes one.now) (map variable_said v.items))
         (λ stop. OnInput stop (AreNotLocal names (own_bytes one.now) (lowered_bytes one.now))) }
 {
-    let word = match words.first() {
-        Some(word) => word.as_slice(),
-        None => b"",
-    };
+    let word = first_word(words);
     let publics = local_names(alloc, one.bytes())?;
     let mut declared = Vec::new(alloc);
     declared.push(Declared {
@@ -83,6 +91,46 @@ fn variables_in<'o, A: Allocator + Copy>(
         offered: publics.as_slice(),
     })?;
     agreed_variables(alloc, names, &declared, words, lines)
+}
+
+/// Whether bytes begin with a whole sound module. The word is that of the module.
+fn has_module<A: Allocator + Copy>(
+    alloc: A,
+    bytes: &[u8],
+    word: &[u8],
+    lines: &mut Vec<u8, A>,
+) -> Result<bool, Stop>
+    ensures { MatchResult result (λ has. TellsModule bytes.now has)
+        (λ stop. OnInput stop ⊥) }
+{
+    Ok(read_bytes(alloc, bytes, word, lines)?.is_some())
+}
+
+/// The bytes that are linked of a lowered module with these variables, where they are others than it has: not where it
+/// is at fault, which the link names. A variable that has no place is told. The words are those of this module and
+/// others behind it.
+fn placed_bytes<A: Allocator + Copy>(
+    alloc: A,
+    in_bss: bool,
+    one: &LoweredModule<'_, A>,
+    variables: &[Variable<'_>],
+    words: &[Vec<u8, A>],
+    lines: &mut Vec<u8, A>,
+) -> Result<Option<Vec<u8, A>>, Stop>
+    ensures { MatchResult result (λ o. (all : List (List ℕ)) → TellsBss all in_bss →
+        IsPlaced all (map variable_said variables.now) (lowered_bytes one.now)
+        (option_map_or (λ v. v.items) o (lowered_bytes one.now)))
+        (λ stop. OnInput stop (HasModule (lowered_bytes one.now) ×
+        IsErr (place.local_module in_bss (map variable_said variables.now) (lowered_bytes one.now)))) }
+{
+    let has = has_module(alloc, one.bytes(), first_word(words), lines)?;
+    if !has {
+        return Ok(None);
+    }
+    match local_module(alloc, one.bytes(), variables, in_bss) {
+        Ok(bytes) => Ok(bytes),
+        Err(fault) => Err(stop_unplaced(alloc, fault, variables, words, lines)),
+    }
 }
 
 /// The bytes that are linked of a lowered module, where those with the variables that are local to it are others. A
@@ -102,10 +150,7 @@ fn linked_bytes<A: Allocator + Copy>(
         HasNoLocals names all (own_bytes one.now) (lowered_bytes one.now))) }
 {
     let variables = variables_in(alloc, names, one, words, lines)?;
-    match local_module(alloc, one.bytes(), &variables, in_bss) {
-        Ok(bytes) => Ok(bytes),
-        Err(fault) => Err(stop_unplaced(alloc, fault, &variables, words, lines)),
-    }
+    placed_bytes(alloc, in_bss, one, &variables, words, lines)
 }
 
 /// A lowered module with these bytes in place of its own, where there are some. Records stand in front of the one that

@@ -1,5 +1,5 @@
 //! The modules of a link, lowered: what compilers write in place of what `link` takes is rewritten.
-ghost use Rattle.std.specs.Prelude.{◌≡◌, ◌≢◌, ◌+◌, ◌≤◌, Any, IfErr, IfOk, IsErr, map, min, nat_le, sum_by, MatchResult};
+ghost use Rattle.std.specs.Prelude.{◌≡◌, ◌≢◌, ◌+◌, ◌≤◌, Any, IfErr, IfOk, IsErr, map, min, sum_by, MatchResult};
 ghost use Rattle.omf_lower.specs.Module as stands;
 ghost use Rattle.omf_module.specs.Seen.{segment_seen};
 ghost use Rattle.omf_search.specs.Results.{module_said};
@@ -7,13 +7,14 @@ ghost use Rattle.doslink_stock.specs.Seen.{handed_held};
 ghost use Rattle.doslink_link.specs.Linking.{bytes_of};
 ghost use Rattle.doslink_jobs.specs.FarData as spec;
 ghost use Rattle.doslink_jobs.specs.FarData.{TellsFit};
-ghost use Rattle.doslink_jobs.specs.Jobs.{AreLowered, AreLoweredFor, IsLoweringFor, plain_lowering};
+ghost use Rattle.doslink_jobs.specs.Jobs as done;
+ghost use Rattle.doslink_jobs.specs.Jobs.{AreLowered, AreLoweredFor, IsLoweringFor};
 ghost use Rattle.doslink_jobs.specs.Refusals.{IsNotLowered};
 ghost use Rattle.doslink_jobs.specs.inside.Inputs.{lowered_bytes, own_bytes};
 ghost use Rattle.doslink_jobs.specs.inside.Meanings.{means};
 ghost use Rattle.doslink_jobs.specs.inside.Stops.{OnInput};
 
-use crate::aliases::{Meanings, aliases_in, aliases_of, check_aliases};
+use crate::aliases::{Meanings, aliases_of, check_aliases, own_aliases};
 use crate::inputs::options_of;
 use crate::ordering::read_modules;
 use crate::stop::{Stop, stop_after};
@@ -21,10 +22,9 @@ use crate::taking::Taken;
 use doslink_stock::Handed;
 use doslink_telling::push_obstacle;
 use doslink_words::Job;
-use omf_alias::Renaming;
 use omf_library::record_at;
 use omf_lower::{Lowering, LoweringFault, is_far_data, lower, record_place};
-use omf_module::{Module, Segment};
+use omf_module::{Kind, Module, Segment, Standing};
 use omf_search::Said;
 use std::alloc::{AllocError, Allocator};
 
@@ -107,7 +107,7 @@ pub(crate) fn lower_modules<'a, A: Allocator + Copy>(
     alloc: A,
     taken: &Taken<'_, '_, 'a, A>,
     lowering: Lowering,
-    meanings: &Meanings<'_, '_, 'a>,
+    meanings: &Meanings<'_, '_, 'a, A>,
     lines: &mut Vec<u8, A>,
 ) -> Result<Vec<LoweredModule<'a, A>, A>, Stop>
     ensures own { IfOk result (λ v. map own_bytes v.items ≡ map (λ h. (handed_held h).bytes) taken.now.handed.now) }
@@ -120,27 +120,25 @@ pub(crate) fn lower_modules<'a, A: Allocator + Copy>(
     let mut modules = Vec::new(alloc);
     for each in taken.handed {
         let own = each.entry.bytes;
-        let aliases = aliases_in(alloc, meanings, own)?;
-        let renaming = Renaming {
-            names: meanings.names,
-            aliases: &aliases,
-        };
-        match lower(alloc, own, lowering, &renaming) {
+        let aliases = own_aliases(alloc, meanings, own)?;
+        match lower(alloc, own, lowering, &aliases.renaming()) {
             Ok(lowered) => modules.push(LoweredModule {
                 own,
                 lowered,
                 end: u64::MAX,
             })?,
-            Err(fault) => return Err(stop_at_record(taken, modules.len(), own, fault, lines)),
+            Err(fault) => {
+                let word = taken.word(modules.len());
+                return Err(stop_at_record(word, own, fault, lines));
+            }
         }
     }
     Ok(modules)
 }
 
-/// Tells that a module can't be lowered, and stops.
-fn stop_at_record<A: Allocator + Copy>(
-    taken: &Taken<'_, '_, '_, A>,
-    index: usize,
+/// Tells that a module can't be lowered, and stops. The word is that for the module.
+pub(crate) fn stop_at_record<A: Allocator + Copy>(
+    word: &[u8],
     own: &[u8],
     fault: LoweringFault,
     lines: &mut Vec<u8, A>,
@@ -151,7 +149,7 @@ fn stop_at_record<A: Allocator + Copy>(
         return Stop::Memory;
     };
     let place = record_place(own, number);
-    stop_after(push_obstacle(lines, taken.word(index), place, obstacle))
+    stop_after(push_obstacle(lines, word, place, obstacle))
 }
 
 /// The bytes of the modules that are linked.
@@ -168,28 +166,58 @@ pub(crate) fn lowered_slices<'m, A: Allocator + Copy>(
     Ok(slices)
 }
 
-/// The bytes of a segment of class FAR_DATA, in whole paragraphs; none of another one.
+/// The bytes that may have to stand before a segment of this alignment, in whole paragraphs.
+fn room_before(alignment: u16) -> u64
+    ensures value { result ≡ spec.room_before alignment }
+    ensures small { result ≤ 240 }
+{
+    match alignment {
+        16 => 0,
+        256 => 240,
+        _ => 16,
+    }
+}
+
+/// The bytes that a part of this alignment and length takes at most.
+fn part_bytes(alignment: u16, length: u32) -> u64
+    ensures value { result ≡ spec.part_bytes alignment length }
+    ensures small { result ≤ 4294967550 }
+{
+    room_before(alignment) + (u64::from(length) + 15) / 16 * 16
+}
+
+/// The bytes that a segment takes at most in a frame that private and public ones of class FAR_DATA share; none of
+/// another one.
 fn far_bytes(segment: &Segment<'_>) -> u64
     ensures value { result ≡ spec.far_bytes (segment_seen segment.now) }
-    ensures small { result ≤ 4294967310 }
+    ensures small { result ≤ 4294967550 }
 {
-    if is_far_data(segment.class) {
-        (u64::from(segment.length) + 15) / 16 * 16
-    } else {
-        0
+    if !is_far_data(segment.class) {
+        return 0;
+    }
+    match segment.standing {
+        Standing::Relocatable {
+            alignment,
+            kind: Kind::Private,
+        } => part_bytes(alignment, segment.length),
+        Standing::Relocatable {
+            alignment,
+            kind: Kind::Public,
+        } => part_bytes(alignment, segment.length),
+        _ => 0,
     }
 }
 
 /// A length and more bytes: at most one more than a frame has.
 fn sum_up_to_frame(length: u64, bytes: u64) -> u64
     requires length { length ≤ 65537 }
-    requires bytes { bytes ≤ 4294967310 }
+    requires bytes { bytes ≤ 4294967550 }
     ensures { result ≡ min (length + bytes) 65537 }
 {
     (length + bytes).min(FRAME + 1)
 }
 
-/// The far data of a module, and so many bytes before: at most one more than a frame has.
+/// The private and public far data of a module, and so many bytes before: at most one more than a frame has.
 fn far_data_of<A: Allocator + Copy>(one: &Module<A>, before: u64) -> u64
     requires { before ≤ 65537 }
     ensures { result ≡ min (before + sum_by spec.far_bytes one.now.segments) 65537 }
@@ -204,9 +232,9 @@ fn far_data_of<A: Allocator + Copy>(one: &Module<A>, before: u64) -> u64
     total
 }
 
-/// Whether the far data of modules fits in one frame.
+/// Whether the private and public far data of modules shares a frame: it fits in one.
 fn far_data_fits<A: Allocator + Copy>(modules: &[Module<A>]) -> bool
-    ensures { result ≡ nat_le (spec.far_data_length modules.now) 65536 }
+    ensures { result ≡ spec.shares_a_frame modules.now }
 {
     let mut total = 0;
     for one in modules {
@@ -216,7 +244,7 @@ fn far_data_fits<A: Allocator + Copy>(modules: &[Module<A>]) -> bool
     total <= FRAME
 }
 
-/// Whether the far data of these modules fits in one frame. It does not, where a module is at fault.
+/// Whether the private and public far data of these modules shares a frame. It does not, where a module is at fault.
 fn shares_far_data<A: Allocator + Copy>(
     alloc: A,
     modules: &[LoweredModule<'_, A>],
@@ -233,24 +261,31 @@ fn shares_far_data<A: Allocator + Copy>(
     }
 }
 
+/// How a job lowers modules whose far data shares no frame.
+pub(crate) fn plain_lowering(job: &Job<'_>) -> Lowering
+    ensures { result ≡ done.plain_lowering job.now }
+{
+    Lowering {
+        keep_debug: job.keep_debug,
+        shares_far_data: false,
+    }
+}
+
 /// How a job lowers its modules.
 fn lowering_of<'a, A: Allocator + Copy>(
     alloc: A,
     job: &Job<'_>,
     taken: &Taken<'_, '_, 'a, A>,
-    meanings: &Meanings<'_, '_, 'a>,
+    meanings: &Meanings<'_, '_, 'a, A>,
     lines: &mut Vec<u8, A>,
 ) -> Result<Lowering, Stop>
     ensures { MatchResult result (IsLoweringFor job.now (means meanings.now)
         (map (λ h. (handed_held h).bytes) taken.now.handed.now))
         (λ stop. OnInput stop (Any
-        (λ bytes. IsErr (stands.lowered (plain_lowering job.now) (means meanings.now bytes) bytes))
+        (λ bytes. IsErr (stands.lowered (done.plain_lowering job.now) (means meanings.now bytes) bytes))
         (map (λ h. (handed_held h).bytes) taken.now.handed.now))) }
 {
-    let plain = Lowering {
-        keep_debug: job.keep_debug,
-        shares_far_data: false,
-    };
+    let plain = plain_lowering(job);
     if !job.packs_far_data {
         return Ok(plain);
     }
@@ -278,11 +313,7 @@ pub(crate) fn lower_for<'a, A: Allocator + Copy>(
         (map (λ h. (handed_held h).bytes) taken.now.handed.now))) }
 {
     let aliases = aliases_of(alloc, taken)?;
-    let meanings = Meanings {
-        names: options_of(job).names,
-        says,
-        aliases: &aliases,
-    };
+    let meanings = Meanings::new(alloc, options_of(job).names, says, aliases)?;
     check_aliases(alloc, taken, &meanings, lines)?;
     let lowering = lowering_of(alloc, job, taken, &meanings, lines)?;
     lower_modules(alloc, taken, lowering, &meanings, lines)

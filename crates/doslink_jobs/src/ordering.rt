@@ -1,19 +1,20 @@
 //! The order module, where one is asked for.
-ghost use Rattle.std.specs.Prelude.{◌≡◌, IfOk, MatchOption, map, MatchResult};
+ghost use Rattle.std.specs.Prelude.{◌≡◌, ◌≢◌, IfOk, MatchOption, map, MatchResult};
 ghost use Rattle.std.specs.Option.{option_map};
 ghost use Rattle.doslink_link.specs.Linking.{bytes_of};
 ghost use Rattle.doslink_words.specs.Said as said;
 ghost use Rattle.doslink_words.specs.Said.{order_of};
 ghost use Rattle.doslink_jobs.specs.Orders as spec;
-ghost use Rattle.doslink_jobs.specs.Orders.{AreRead, AreUnread, IsOrderFor};
+ghost use Rattle.doslink_jobs.specs.Orders.{AreRead, AreUnread, IsAsked, IsOrderFor};
+ghost use Rattle.doslink_jobs.specs.inside.Inputs.{asking_said};
 ghost use Rattle.doslink_jobs.specs.inside.Listed.{listed};
-ghost use Rattle.doslink_jobs.specs.Refusals.{IsTooLong};
+ghost use Rattle.doslink_jobs.specs.Refusals.{HasNoPlan};
 ghost use Rattle.doslink_jobs.specs.inside.Reading.{IsOfBytes, IsRead, IsNoModule};
 ghost use Rattle.doslink_jobs.specs.inside.Stops.{OnInput};
 
-use crate::stop::Stop;
+use crate::stop::{Stop, stop_after};
 use crate::taking::Taken;
-use doslink_telling::{push_fault, push_order_line};
+use doslink_telling::{push_data_in_bss, push_fault, push_order_line};
 use doslink_words::{Order, OrderItem};
 use omf_faults::LinkFault;
 use omf_frame::MemSource;
@@ -47,7 +48,7 @@ pub(crate) fn pass_unread<A: Allocator + Copy>(
 }
 
 /// The module that these bytes begin with. None where they are at fault. The word is that of the module.
-fn read_bytes<A: Allocator + Copy>(
+pub(crate) fn read_bytes<A: Allocator + Copy>(
     alloc: A,
     bytes: &[u8],
     word: &[u8],
@@ -131,6 +132,8 @@ fn listed_items<'a, A: Allocator + Copy>(
 pub(crate) struct Asked<'o, 'a> {
     /// The order of the job.
     pub order: &'o Order<'a>,
+    /// Whether the DOSSEG order has null bytes in front of `_TEXT`.
+    pub null_bytes: bool,
     /// Whether a module asks for the DOSSEG order.
     pub dosseg: bool,
     /// Whether marks are wanted that no module defines.
@@ -141,14 +144,15 @@ pub(crate) struct Asked<'o, 'a> {
 
 /// The order that is asked for, whose list these items are. A module that asks for DOSSEG is heard where the job asks
 /// for none.
-fn order_asked<'i>(order: &Order<'_>, dosseg: bool, items: &'i [Item<'i>]) -> omf_order::Order<'i>
-    requires { map spec.item_said items.now ≡ listed (order_of order.now) }
-    ensures { spec.order_said result ≡ spec.order_asked (order_of order.now) dosseg }
+fn order_asked<'i>(asked: &Asked<'_, '_>, items: &'i [Item<'i>]) -> omf_order::Order<'i>
+    requires { map spec.item_said items.now ≡ listed (order_of asked.now.order.now) }
+    ensures { IsAsked (asking_said asked.now) result }
 {
-    match order {
+    let null_bytes = asked.null_bytes;
+    match asked.order {
         Order::Listed(_) => omf_order::Order::Listed(items),
-        Order::Dosseg => omf_order::Order::Dosseg,
-        Order::Meeting if dosseg => omf_order::Order::Dosseg,
+        Order::Dosseg => omf_order::Order::Dosseg { null_bytes },
+        Order::Meeting if asked.dosseg => omf_order::Order::Dosseg { null_bytes },
         Order::Meeting => omf_order::Order::Meeting,
     }
 }
@@ -163,27 +167,42 @@ pub(crate) fn is_unasked(asked: &Asked<'_, '_>) -> bool
     }
 }
 
+/// Tells why there is no order module, and stops. The words are those of the modules.
+fn stop_at_order<A: Allocator + Copy>(
+    alloc: A,
+    fault: OrderFault<'_>,
+    words: &[&[u8]],
+    lines: &mut Vec<u8, A>,
+) -> Stop
+    ensures { OnInput result (fault.entry ≢ OrderFault.Memory) }
+{
+    match fault {
+        OrderFault::Memory => Stop::Memory,
+        OrderFault::TooManySegments => stop_after(push_order_line(lines)),
+        OrderFault::DataInBss { module, segment } => {
+            let word = words.get(module).copied().unwrap_or(b"");
+            stop_after(push_data_in_bss(alloc, lines, segment, word))
+        }
+    }
+}
+
 /// The bytes of the order module for modules, in the order that is asked for. None where it would change nothing. That
-/// it would have too many segments is told.
+/// it would have too many segments is told, and that data with values would be cleared, with the words of the modules.
 pub(crate) fn order_bytes<A: Allocator + Copy>(
     alloc: A,
     modules: &[Module<A>],
     asked: &Asked<'_, '_>,
+    words: &[&[u8]],
     lines: &mut Vec<u8, A>,
 ) -> Result<Option<Vec<u8, A>>, Stop>
-    ensures { MatchResult result (λ o. IsOrderFor asked.now.names asked.now.dosseg (order_of asked.now.order.now)
-        modules.now (option_map (λ v. v.items) o))
-        (λ stop. OnInput stop
-        (IsTooLong asked.now.names asked.now.dosseg (order_of asked.now.order.now) modules.now)) }
+    ensures { MatchResult result
+        (λ o. IsOrderFor (asking_said asked.now) modules.now (option_map (λ v. v.items) o))
+        (λ stop. OnInput stop (HasNoPlan (asking_said asked.now) modules.now)) }
 {
     let items = listed_items(alloc, asked.order)?;
-    let order = order_asked(asked.order, asked.dosseg, &items);
+    let order = order_asked(asked, &items);
     match order_module(alloc, modules, order, asked.names) {
         Ok(made) => Ok(made),
-        Err(OrderFault::Memory) => Err(Stop::Memory),
-        Err(OrderFault::TooManySegments) => {
-            push_order_line(lines)?;
-            Err(Stop::Input)
-        }
+        Err(fault) => Err(stop_at_order(alloc, fault, words, lines)),
     }
 }

@@ -14,6 +14,17 @@ fn without_extension(path: &str) -> &str {
     }
 }
 
+/// What stands behind the last dot in the last part of a path; nothing where it has none.
+pub(crate) fn extension_of(path: &str) -> &str {
+    if !has_extension(path.as_bytes()) {
+        return "";
+    }
+    match path.rsplit_once('.') {
+        Some((_, extension)) => extension,
+        None => "",
+    }
+}
+
 /// The path with this extension in place of its own, if it has one.
 pub(crate) fn with_extension<A: Allocator + Copy>(
     alloc: A,

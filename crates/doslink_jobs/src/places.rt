@@ -2,12 +2,14 @@
 ghost use Rattle.std.specs.Prelude.{IfErr};
 ghost use Rattle.doslink_jobs.specs.inside.Stops.{OnInput};
 
-use crate::paths::with_extension;
+use crate::paths::{extension_of, with_extension};
 use crate::stop::Stop;
-use doslink_files::InputFile;
+use doslink_files::{is_one_of, is_one_place, stands_as_input};
 use doslink_telling::push_path_line;
-use doslink_words::{Job, MapFile};
+use doslink_words::{Input, Job, MapFile};
+use omf_files::{FileId, World};
 use std::alloc::{AllocError, Allocator};
+use std::collections::BTreeSet;
 
 /// The paths of what a job writes.
 #[derive(Drop)]
@@ -18,13 +20,27 @@ pub(crate) struct Places<A: Allocator + Copy> {
     pub map: Option<String<A>>,
 }
 
+/// The extensions of programs of other forms, in small letters.
+const OTHER_FORMS: [&str; 4] = ["com", "sys", "bin", "img"];
+
+/// The name after which the program is called: that of the first file, or else of the first library.
+fn first_name<'a>(inputs: &[Input<'a>]) -> Option<&'a str> {
+    let mut library = None;
+    for input in inputs {
+        match input {
+            Input::File(path) => return Some(path),
+            Input::Library(name) => library = library.or(Some(*name)),
+        }
+    }
+    library
+}
+
 /// The path of the program: the one that is given, or that of the first file with `.EXE` in place of its extension.
 fn out_path<A: Allocator + Copy>(alloc: A, job: &Job<'_>) -> Result<String<A>, AllocError> {
-    match (job.out, job.files.first(), job.libraries.first()) {
-        (Some(out), _, _) => String::from_str(alloc, out),
-        (None, Some(file), _) => with_extension(alloc, file, ".EXE"),
-        (None, None, Some(library)) => with_extension(alloc, library, ".EXE"),
-        (None, None, None) => String::from_str(alloc, "OUT.EXE"),
+    match (job.out, first_name(&job.inputs)) {
+        (Some(out), _) => String::from_str(alloc, out),
+        (None, None | Some("-")) => String::from_str(alloc, "OUT.EXE"),
+        (None, Some(name)) => with_extension(alloc, name, ".EXE"),
     }
 }
 
@@ -41,47 +57,84 @@ fn map_path<A: Allocator + Copy>(
     }
 }
 
-/// Stops where a path is one of the files that were read.
-fn check_place<A: Allocator + Copy>(
-    path: &str,
-    files: &[InputFile<A>],
+/// Tells why nothing is written to a path, and stops.
+fn stop_at_path<A: Allocator + Copy>(path: &str, why: &str, lines: &mut Vec<u8, A>) -> Stop
+    ensures { OnInput result ⊥ }
+{
+    match push_path_line(lines, path, why) {
+        Ok(()) => Stop::Words,
+        Err(AllocError) => Stop::Memory,
+    }
+}
+
+/// Stops where a program of another form is asked for.
+pub(crate) fn check_form<A: Allocator + Copy>(
+    job: &Job<'_>,
     lines: &mut Vec<u8, A>,
 ) -> Result<(), Stop>
     ensures { IfErr result (λ stop. OnInput stop ⊥) }
 {
-    if files.iter().any(|file| file.path.as_str() == path) {
-        push_path_line(lines, path, "it is read and would be written")?;
-        return Err(Stop::Words);
+    let out = job.out.unwrap_or("");
+    let extension = extension_of(out);
+    for other in OTHER_FORMS {
+        if extension.eq_ignore_ascii_case(other) {
+            return Err(stop_at_path(out, "no such file is written, only .EXE", lines));
+        }
+    }
+    Ok(())
+}
+
+/// Stops where a path leads to one of the files that were read, or to a module or a library.
+fn check_place<W: World, A: Allocator + Copy>(
+    world: &W,
+    path: &str,
+    read: &BTreeSet<FileId, A>,
+    lines: &mut Vec<u8, A>,
+) -> Result<(), Stop>
+    ensures { IfErr result (λ stop. OnInput stop ⊥) }
+{
+    if is_one_of(world, path, read) {
+        return Err(stop_at_path(path, "it is read and would be written", lines));
+    }
+    if stands_as_input(world, path) {
+        let why = "it is a module or a library and would be written";
+        return Err(stop_at_path(path, why, lines));
     }
     Ok(())
 }
 
 /// Stops where the map would be written over the program.
-fn check_map<A: Allocator + Copy>(map: &str, out: &str, lines: &mut Vec<u8, A>) -> Result<(), Stop>
+fn check_map<W: World, A: Allocator + Copy>(
+    world: &W,
+    map: &str,
+    out: &str,
+    lines: &mut Vec<u8, A>,
+) -> Result<(), Stop>
     ensures { IfErr result (λ stop. OnInput stop ⊥) }
 {
-    if map == out {
-        push_path_line(lines, map, "it would be the program and its map")?;
-        return Err(Stop::Words);
+    if is_one_place(world, map, out) {
+        return Err(stop_at_path(map, "it would be the program and its map", lines));
     }
     Ok(())
 }
 
-/// The paths of what a job writes. None of them may be one of the files that were read, and the map not the program.
-pub(crate) fn places_of<A: Allocator + Copy>(
+/// The paths of what a job writes. None of them may be one of the files that were read, or a module or a library, and
+/// the map not the program.
+pub(crate) fn places_of<W: World, A: Allocator + Copy>(
     alloc: A,
+    world: &W,
     job: &Job<'_>,
-    files: &[InputFile<A>],
+    read: &BTreeSet<FileId, A>,
     lines: &mut Vec<u8, A>,
 ) -> Result<Places<A>, Stop>
     ensures { IfErr result (λ stop. OnInput stop ⊥) }
 {
     let out = out_path(alloc, job)?;
-    check_place(out.as_str(), files, lines)?;
+    check_place(world, out.as_str(), read, lines)?;
     let map = map_path(alloc, job, out.as_str())?;
     if let Some(path) = &map {
-        check_place(path.as_str(), files, lines)?;
-        check_map(path.as_str(), out.as_str(), lines)?;
+        check_place(world, path.as_str(), read, lines)?;
+        check_map(world, path.as_str(), out.as_str(), lines)?;
     }
     Ok(Places { out, map })
 }

@@ -13,8 +13,9 @@ use doslink_link::link_bytes;
 use doslink_telling::table;
 use omf_commands::{Options, Report, write_map};
 use omf_faults::LinkFault;
-use omf_files::BufferedSink;
+use omf_files::{BufferedSink, Keep};
 use omf_frame::{Sink, put_all};
+use omf_module::Module;
 use std::alloc::Allocator;
 use std::io::Write;
 
@@ -65,8 +66,21 @@ pub fn link_into<W: Write + Drop, A: Allocator + Copy>(
     flushed(sink, result)
 }
 
-/// Links the inputs into the program, all of which is handed on to the writer.
-fn link_to<W: Write + Drop, A: Allocator + Copy>(
+/// The answer, once the file that was written is in its place where it is no fault.
+fn kept<W: Keep, T: Drop, A: Allocator + Copy>(
+    sink: BufferedSink<W, A>,
+    done: T,
+) -> Result<T, LinkFault<A>>
+    ensures { IsFlushed (Ok done) result }
+{
+    match sink.keep() {
+        Ok(()) => Ok(done),
+        Err(_) => Err(LinkFault::Output),
+    }
+}
+
+/// Links the inputs into the program, all of which is handed on to the file, which then takes its place.
+fn link_to<W: Keep, A: Allocator + Copy>(
     alloc: A,
     options: &Options,
     inputs: &[&[u8]],
@@ -76,7 +90,8 @@ fn link_to<W: Write + Drop, A: Allocator + Copy>(
     ensures bounded { IfOk result (λ report. IsBounded report.modules.items report.layout) }
 {
     let mut sink = BufferedSink::new(alloc, out)?;
-    link_into(alloc, options, inputs, &mut sink)
+    let report = link_into(alloc, options, inputs, &mut sink)?;
+    kept(sink, report)
 }
 
 /// Writes the map of what was linked and its table.
@@ -126,7 +141,7 @@ pub fn map_into<W: Write + Drop, A: Allocator + Copy>(
 }
 
 /// Writes the map of what was linked, all of which is handed on to the writer.
-fn map_to<W: Write + Drop, A: Allocator + Copy>(
+fn map_to<W: Keep, A: Allocator + Copy>(
     alloc: A,
     report: &Report<A>,
     inputs: &[&[u8]],
@@ -137,11 +152,12 @@ fn map_to<W: Write + Drop, A: Allocator + Copy>(
     ensures { IfErr result (λ fault. faults.status fault ≡ 3) }
 {
     let mut sink = BufferedSink::new(alloc, out)?;
-    map_into(alloc, report, inputs, words, &mut sink)
+    map_into(alloc, report, inputs, words, &mut sink)?;
+    kept(sink, ())
 }
 
 /// Writes the map of what was linked, where one is asked for. Beside the answer stands whether it comes of the map.
-fn map_asked<W: Write + Drop, A: Allocator + Copy>(
+fn map_asked<W: Keep, A: Allocator + Copy>(
     alloc: A,
     report: &Report<A>,
     inputs: &[&[u8]],
@@ -157,22 +173,35 @@ fn map_asked<W: Write + Drop, A: Allocator + Copy>(
     }
 }
 
-/// Links the inputs into the program, and then writes the map where one is asked for. Beside the answer stands whether
-/// it comes of the map.
-pub(crate) fn link_and_map<W: Write + Drop, A: Allocator + Copy>(
+/// Links the inputs into the program, and then writes the map where one is asked for: hands out the modules that were
+/// linked. Beside the answer stands whether it comes of the map.
+pub(crate) fn link_and_map<W: Keep, A: Allocator + Copy>(
     alloc: A,
     options: &Options,
     inputs: &[&[u8]],
     words: &[&[u8]],
     out: W,
     map: Option<W>,
-) -> (Result<(), LinkFault<A>>, bool)
-    ensures { MatchResult result.0 (λ done. IsFaultless A options.now.names (bytes_of inputs.now))
+) -> (Result<Vec<Module<A>, A>, LinkFault<A>>, bool)
+    ensures { MatchResult result.0 (λ modules. IsFaultless A options.now.names (bytes_of inputs.now))
         (λ fault. faults.status fault ≡ 1 →
         IsOnlyFault options.now.names (bytes_of inputs.now) fault) }
 {
     match link_to(alloc, options, inputs, out) {
-        Ok(report) => map_asked(alloc, &report, inputs, words, map),
+        Ok(report) => {
+            let (mapped, is_of_map) = map_asked(alloc, &report, inputs, words, map);
+            match mapped {
+                Ok(()) => {
+                    let Report {
+                        modules,
+                        layout: _,
+                        program: _,
+                    } = report;
+                    (Ok(modules), is_of_map)
+                }
+                Err(fault) => (Err(fault), is_of_map),
+            }
+        }
         Err(fault) => (Err(fault), false),
     }
 }

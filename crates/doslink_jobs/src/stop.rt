@@ -2,8 +2,8 @@
 ghost use Rattle.std.specs.Prelude.{◌≡◌};
 ghost use Rattle.doslink_jobs.specs.inside.Stops.{OnInput, stop_status, stop_text};
 
-use doslink_files::FileFault;
-use doslink_telling::push_device_line;
+use doslink_files::{FilesFault, ReadFault};
+use doslink_telling::push_unread_line;
 use std::alloc::{AllocError, AllocFailed, Allocator};
 
 /// Why a run stops before its program is written.
@@ -75,15 +75,37 @@ pub(crate) fn stop_after(told: Result<(), AllocError>) -> Stop {
     }
 }
 
-/// Tells that a file can't be read, and stops.
-pub(crate) fn stop_at<A: Allocator + Copy>(lines: &mut Vec<u8, A>, fault: FileFault<'_>) -> Stop
+/// Tells why what has this name can't be read, and stops.
+pub(crate) fn stop_unread<A: Allocator + Copy>(
+    lines: &mut Vec<u8, A>,
+    name: &str,
+    fault: ReadFault,
+) -> Stop
     ensures { OnInput result ⊥ }
 {
-    match fault {
-        FileFault::Memory => Stop::Memory,
-        FileFault::Unread { name } => match push_device_line(lines, name) {
-            Ok(()) => Stop::Device,
-            Err(AllocError) => Stop::Memory,
-        },
+    if matches!(fault, ReadFault::Memory) {
+        return Stop::Memory;
     }
+    match push_unread_line(lines, name, fault) {
+        Ok(()) => Stop::Device,
+        Err(AllocError) => Stop::Memory,
+    }
+}
+
+/// Tells of each of some files why it can't be read, and stops.
+pub(crate) fn stop_at_files<A: Allocator + Copy>(
+    lines: &mut Vec<u8, A>,
+    fault: FilesFault<'_, A>,
+) -> Stop
+    ensures { OnInput result ⊥ }
+{
+    let FilesFault::Unread(files) = fault else {
+        return Stop::Memory;
+    };
+    for file in &files {
+        if matches!(stop_unread(lines, file.name, file.fault), Stop::Memory) {
+            return Stop::Memory;
+        }
+    }
+    Stop::Device
 }

@@ -1,23 +1,22 @@
 //! The modules that a link takes: told, and looked through for names that are missing.
-ghost use Rattle.std.specs.Prelude.{◌≡◌, ◌≢◌, ◌++◌, ◌∷◌, [], IfErr, IfOk, OnOk, map};
+ghost use Rattle.std.specs.Prelude.{◌≡◌, [], IfErr, map, MatchResult};
 ghost use Rattle.omf_search.specs.Results.{module_said};
-ghost use Rattle.doslink_stock.specs.Files.{needs};
 ghost use Rattle.doslink_stock.specs.Seen.{handed_held};
-ghost use Rattle.doslink_link.specs.Linking.{bytes_of};
 ghost use Rattle.doslink_telling.specs.Missing.{unmet, wants_marks};
-ghost use Rattle.doslink_jobs.specs.inside.Declaring.{offering_names};
+ghost use Rattle.doslink_jobs.specs.Jobs.{names_of};
+ghost use Rattle.doslink_jobs.specs.Refusals.{AreMissingOf};
 ghost use Rattle.doslink_jobs.specs.inside.Stops.{OnInput};
 ghost use Rattle.omf_files.specs.Files.{sink_failures};
 
+use crate::faulty::check_modules;
+use crate::inputs::options_of;
 use crate::stop::Stop;
-use doslink_files::InputFile;
 use doslink_stock::{Handed, Stock};
-use doslink_telling::{handed_saids, handed_text, push_fault, push_missing_lines, unmet_names};
+use doslink_telling::{handed_text, push_fault, push_missing_lines, unmet_names};
 use doslink_words::Job;
 use omf_faults::LinkFault;
 use omf_files::BufferedSink;
 use omf_frame::{IoFault, put_all};
-use omf_place::Names;
 use omf_search::Said;
 use std::alloc::{AllocError, Allocator};
 use std::io::Write;
@@ -95,48 +94,39 @@ pub(crate) fn tell_taken<O: Write + Drop, A: Allocator + Copy>(
     tell_text(alloc, output, &text, lines)
 }
 
-/// What the module of communal variables says of names, where these are theirs: it offers them.
-fn offering<'n, 'a>(names: &'n [&'a [u8]]) -> Said<'n, 'a>
-    ensures { module_said result ≡ offering_names (bytes_of names.now) }
-{
-    Said {
-        wanted: &[],
-        offered: names,
-    }
-}
-
-/// What the modules say of names, and behind them that of their communal variables, whose names these are.
-pub(crate) fn link_saids<'n, 'a, A: Allocator + Copy>(
-    alloc: A,
-    handed: &'n [Handed<'_, 'a, A>],
-    communal: &'n [&'a [u8]],
-) -> Result<Vec<Said<'n, 'a>, A>, AllocError>
-    ensures { IfOk result (λ says. map module_said says.items
-        ≡ map needs (map handed_held handed.now) ++ offering_names (bytes_of communal.now) ∷ []) }
-{
-    let mut says = handed_saids(alloc, handed)?;
-    says.push(offering(communal))?;
-    Ok(says)
-}
-
-/// Tells the names that are missing, and stops; else hands out whether marks are wanted.
+/// Tells the names that are missing, and stops; else hands out whether marks are wanted. Where a module can't be read
+/// names may be missing for that, which is told in their place.
 pub(crate) fn check_names<'m, 'a, A: Allocator + Copy>(
     alloc: A,
-    names: Names,
-    files: &[InputFile<A>],
+    job: &Job<'_>,
+    paths: &[&str],
     stock: &'m Stock<'a, A>,
-    handed: &[Handed<'m, 'a, A>],
+    taken: &Taken<'_, 'm, 'a, A>,
     says: &[Said<'_, 'a>],
     lines: &mut Vec<u8, A>,
 ) -> Result<bool, Stop>
-    ensures met { OnOk result (unmet names (map module_said says.now) ≡ []) }
-    ensures marks { IfOk result (λ marks. marks ≡ wants_marks names (map module_said says.now)) }
-    ensures refused { IfErr result (λ stop. OnInput stop (unmet names (map module_said says.now) ≢ [])) }
+    ensures { MatchResult result (λ marks.
+        (unmet (names_of job.now.ignore_case) (map module_said says.now) ≡ [])
+        × (marks ≡ wants_marks (names_of job.now.ignore_case) (map module_said says.now)))
+        (λ stop. OnInput stop (AreMissingOf job.now (map module_said says.now)
+        (map (λ h. (handed_held h).bytes) taken.now.handed.now))) }
 {
+    let names = options_of(job).names;
     let unmet = unmet_names(alloc, names, says)?;
     if unmet.missing.as_slice().is_empty() {
         return Ok(unmet.marks);
     }
-    push_missing_lines(alloc, lines, files, stock, handed, &unmet.missing)?;
+    check_modules(alloc, job, taken, says, lines)?;
+    let handed = taken.handed;
+    let tells_all = job.verbose;
+    push_missing_lines(
+        alloc,
+        lines,
+        paths,
+        stock,
+        handed,
+        &unmet.missing,
+        tells_all,
+    )?;
     Err(Stop::Input)
 }

@@ -4,11 +4,12 @@ ghost use Rattle.std.specs.List.{slice_split};
 ghost use Rattle.std.specs.Option.{option_map};
 ghost use Rattle.omf_files.specs.Files.{sink_failures};
 ghost use Rattle.doslink_words.specs.Keywords.{is_keyword};
+ghost use Rattle.doslink_words.specs.Responses.{response_words};
 ghost use Rattle.doslink_words.specs.Tokens.{texts};
 ghost use Rattle.doslink_jobs.specs.Jobs.{EndsWith, IsDone, Tells};
 ghost use Rattle.doslink_jobs.specs.Runs as spec;
 ghost use Rattle.doslink_jobs.specs.Refusals.{IsRefusedJob};
-ghost use Rattle.doslink_jobs.specs.Runs.{EndsBy, Runs, RunsList, RunsResponse, RunsText, RunsWords};
+ghost use Rattle.doslink_jobs.specs.Runs.{EndsBy, Runs, RunsGiven, RunsList, RunsResponse, RunsText, RunsWords};
 
 use crate::directives::{
     Spoken, directive_line, directives_of, push_warnings, response_path, response_text,
@@ -17,12 +18,22 @@ use crate::running::{finish, run_job, run_lines};
 use crate::stop::Stop;
 use doslink_files::last_part;
 use doslink_words::{
-    DirectiveFault, Directives, SplitFault, WordsFault, parse_directives, parse_words, split_words,
+    DirectiveFault, Directives, SplitFault, WordsFault, parse_directives, parse_words,
+    response_word, split_words, text_asked,
 };
-use omf_files::{BufferedSink, World};
+use omf_files::{BufferedSink, FileId, World};
 use omf_frame::{Sink, put_all};
 use std::alloc::{AllocError, Global};
 use std::io::Write;
+
+/// What a run is given beside its words.
+#[derive(Clone, Copy)]
+pub struct Besides<'b> {
+    /// The folders of the environment's LIB, in which default libraries are looked up last.
+    pub folders: &'b [&'b str],
+    /// The files that its words or directives were read of.
+    pub read: &'b [FileId],
+}
 
 /// The exit status of wrong words.
 const WRONG_WORDS: u8 = 2;
@@ -103,15 +114,12 @@ fn run_parsed<W: World + Copy, O: Write + Drop, E: Sink>(
     if !directives.job.quiet && push_warnings(alloc, directives, spoken, &mut lines).is_err() {
         return out_of_memory(errors);
     }
-    run_lines(
-        alloc,
-        world,
-        &directives.job,
+    let besides = Besides {
         folders,
-        lines,
-        output,
-        errors,
-    )
+        read: &spoken.read,
+    };
+    let job = &directives.job;
+    run_lines(alloc, world, job, &besides, lines, output, errors)
 }
 
 /// Does what directives ask for, and hands out the exit status.
@@ -154,7 +162,54 @@ fn refuse_directives<E: Sink>(
     }
 }
 
-/// Does what directives ask for that words give, and hands out the exit status.
+/// Does what the directives ask for that these words give, and hands out the exit status.
+fn run_given<W: World + Copy, O: Write + Drop, E: Sink>(
+    alloc: Global,
+    world: W,
+    words: &[&str],
+    folders: &[&str],
+    output: &mut BufferedSink<O>,
+    errors: &mut E,
+) -> u8
+    requires output { sink_failures output.old ≡ 0 }
+    requires errors { E.failures errors.old < 2 ^ 64 - 1 }
+    ensures { EndsBy Global (W.bytes world) (texts folders.now)
+        (λ does helps. RunsGiven (W.bytes world) does helps (texts words.now))
+        (Tells E.written E.failures errors.old errors.new) result }
+{
+    let mut lines = Vec::new(alloc);
+    match directives_of(alloc, &world, words, &mut lines) {
+        Ok(spoken) => run_spoken(alloc, world, &spoken, folders, output, errors),
+        Err(stop) => finish(Err(stop), &lines, errors),
+    }
+}
+
+/// Does the same, where words may be a path in quotes that was cut at its blanks.
+fn run_joined<W: World + Copy, O: Write + Drop, E: Sink>(
+    alloc: Global,
+    world: W,
+    words: &[&str],
+    folders: &[&str],
+    output: &mut BufferedSink<O>,
+    errors: &mut E,
+) -> u8
+    requires output { sink_failures output.old ≡ 0 }
+    requires errors { E.failures errors.old < 2 ^ 64 - 1 }
+    ensures { EndsBy Global (W.bytes world) (texts folders.now)
+        (λ does helps. RunsGiven (W.bytes world) does helps (response_words (texts words.now)))
+        (Tells E.written E.failures errors.old errors.new) result }
+{
+    match response_word(alloc, words) {
+        Ok(Some(word)) => {
+            let only = [word.as_str()];
+            run_given(alloc, world, only.as_slice(), folders, output, errors)
+        }
+        Ok(None) => run_given(alloc, world, words, folders, output, errors),
+        Err(AllocError) => out_of_memory(errors),
+    }
+}
+
+/// Does what directives ask for that words give, or tells help or the version, and hands out the exit status.
 fn run_directives<W: World + Copy, O: Write + Drop, E: Sink>(
     alloc: Global,
     world: W,
@@ -169,10 +224,9 @@ fn run_directives<W: World + Copy, O: Write + Drop, E: Sink>(
         (λ does helps. Runs (W.bytes world) does helps Language.Directives (texts words.now))
         (Tells E.written E.failures errors.old errors.new) result }
 {
-    let mut lines = Vec::new(alloc);
-    match directives_of(alloc, &world, words, &mut lines) {
-        Ok(spoken) => run_spoken(alloc, world, &spoken, folders, output, errors),
-        Err(stop) => finish(Err(stop), &lines, errors),
+    match text_asked(words) {
+        Some(text) => print_help(text, output, errors),
+        None => run_joined(alloc, world, words, folders, output, errors),
     }
 }
 
@@ -181,18 +235,18 @@ fn run_plain<W: World + Copy, O: Write + Drop, E: Sink>(
     alloc: Global,
     world: W,
     words: &[&str],
-    folders: &[&str],
+    besides: &Besides<'_>,
     output: &mut BufferedSink<O>,
     errors: &mut E,
 ) -> u8
     requires output { sink_failures output.old ≡ 0 }
     requires errors { E.failures errors.old < 2 ^ 64 - 1 }
-    ensures { EndsBy Global (W.bytes world) (texts folders.now)
+    ensures { EndsBy Global (W.bytes world) (texts besides.now.folders.now)
         (λ does helps. RunsWords (W.bytes world) does helps (texts words.now))
         (Tells E.written E.failures errors.old errors.new) result }
 {
     match parse_words(alloc, words) {
-        Ok(job) => run_job(alloc, world, &job, folders, output, errors),
+        Ok(job) => run_job(alloc, world, &job, besides, output, errors),
         Err(fault) => answer_words(&fault, output, errors),
     }
 }
@@ -240,18 +294,18 @@ fn run_list<W: World + Copy, O: Write + Drop, E: Sink>(
     alloc: Global,
     world: W,
     text: &str,
-    folders: &[&str],
+    besides: &Besides<'_>,
     output: &mut BufferedSink<O>,
     errors: &mut E,
 ) -> u8
     requires output { sink_failures output.old ≡ 0 }
     requires errors { E.failures errors.old < 2 ^ 64 - 1 }
-    ensures { EndsBy Global (W.bytes world) (texts folders.now)
+    ensures { EndsBy Global (W.bytes world) (texts besides.now.folders.now)
         (λ does helps. RunsList (W.bytes world) does helps text.now)
         (Tells E.written E.failures errors.old errors.new) result }
 {
     match split_words(alloc, text) {
-        Ok(words) => run_plain(alloc, world, &words, folders, output, errors),
+        Ok(words) => run_plain(alloc, world, &words, besides, output, errors),
         Err(SplitFault::Memory) => out_of_memory(errors),
         Err(SplitFault::UnclosedQuote) => wrong_words("doslink: a quote isn't closed\n", errors),
     }
@@ -273,8 +327,15 @@ fn run_response<W: World + Copy, O: Write + Drop, E: Sink>(
         (Tells E.written E.failures errors.old errors.new) result }
 {
     let mut lines = Vec::new(alloc);
-    match response_text(alloc, &world, path, &mut lines) {
-        Ok(text) => run_list(alloc, world, text.as_str(), folders, output, errors),
+    let mut read = Vec::new(alloc);
+    match response_text(alloc, &world, path, &mut read, &mut lines) {
+        Ok(text) => {
+            let besides = Besides {
+                folders,
+                read: &read,
+            };
+            run_list(alloc, world, text.as_str(), &besides, output, errors)
+        }
         Err(stop) => finish(Err(stop), &lines, errors),
     }
 }
@@ -306,7 +367,10 @@ fn run_command<W: World + Copy, O: Write + Drop, E: Sink>(
 {
     match only_response(words) {
         Some(path) => run_response(alloc, world, path, folders, output, errors),
-        None => run_plain(alloc, world, words, folders, output, errors),
+        None => {
+            let besides = Besides { folders, read: &[] };
+            run_plain(alloc, world, words, &besides, output, errors)
+        }
     }
 }
 

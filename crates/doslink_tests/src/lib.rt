@@ -12,4 +12,6 @@ mod records;
 #[cfg(test)]
 mod runs;
 #[cfg(test)]
+mod searching;
+#[cfg(test)]
 mod sums;

@@ -3,8 +3,8 @@ use crate::aliasing::{
     ALIAS, BACK, BEHIND, CALLS, CASE, ITSELF, LAZILY, NOWHERE, OTHERWISE, ROUND, WEAKLY,
 };
 use crate::declaring::{
-    BODY, CUT_ELEMENT, END, FAR, LOCAL, LOCAL_CLASH, LOCAL_LONG, LOCAL_START, LOCAL_TABLE, LONG,
-    MANY, NEAR, OTHER_SIZE, TABLE,
+    BODY, CUT_ELEMENT, END, FAR, LOCAL, LOCAL_CLASH, LOCAL_FAULTY, LOCAL_LONG, LOCAL_START,
+    LOCAL_TABLE, LONG, MANY, NEAR, OTHER_SIZE, TABLE,
 };
 use crate::modules::{
     AMISS, ELSEWHERE, HEADLESS, KEEPS, LIBRARY, LIKE, MARKS, NAMELESS, NAMES, OFFERS, WANTS, WIDE,
@@ -12,6 +12,10 @@ use crate::modules::{
 use crate::records::{
     BEHIND_LOWERED, BESIDE_LCOMDEF, CHOSEN, COMDAT, COMDATS, LINSYM, LOCAL_FAR, OTHER_TYPE,
     PATCHED, PATCHED_BY_NAME, REPEATS, UNLISTED, WIDELY,
+};
+use crate::searching::{
+    BOTH, CLEARED, DEVICE, ELF, HAS, LOADS, NAMER, NOTHING, ONLY, OUTSIDE, SPACE, STACKED, STARTED,
+    TEXT, UNUSED,
 };
 use crate::sums::{
     EXTERNAL_FITS, EXTERNAL_SUM, FAR_POINTER, GROUP_FITS, GROUP_SUM, LOADER, LOCAL_WIDE_START,
@@ -34,6 +38,20 @@ const DIRECTIVES: &str = "file A.OBJ\nlibrary RUN\nsort global\nname A.EXE\n";
 /// Directives of which the second is wrong.
 const WRONG: &str = "file A.OBJ\nfill F.OBJ\n";
 
+/// Directives that cut a stack of 256 bytes to 16.
+const CUT_TO_16: &str = "file STACKED.OBJ\nname P.EXE\noption map=P.MAP,stack=16\n";
+
+/// Those that cut one of 16 and 256 bytes to 32, and place it in front of the code.
+const CUT_TO_32: &str = "\
+file STARTED.OBJ,STACKED.OBJ
+name P.EXE
+option map=P.MAP,stack=32
+order clname STACK clname CODE
+";
+
+/// Those that ask for as many bytes as it has.
+const AS_MANY: &str = "file STARTED.OBJ,STACKED.OBJ\nname P.EXE\noption stack=272\n";
+
 /// Bytes that are no text.
 const BINARY: [u8; 4] = [0x41, 0xFF, 0xFE, 0x0A];
 
@@ -55,20 +73,20 @@ doslink A.OBJ D.OBJ|1||doslink: A.OBJ: \"f\" is missing: record 28 (0000001C), w
 doslink E.OBJ|0||doslink: warning: library \"NONE\" of E.OBJ was not found~
 doslink --no-default-libs E.OBJ|1||doslink: E.OBJ: \"f\" is missing: record 47 (0000002F), wanted by \"e.c\"~
 doslink A.OBJ F.OBJ F.OBJ|1||doslink: link: 25 DuplicatePublic \"f\" in F.OBJ and F.OBJ~
-doslink A.OBJ -l NONE|3||doslink: NONE: 1 Device at record 0~
-doslink A.OBJ -l LIBS|3||doslink: LIBS: 1 Device at record 0~
-doslink LIBS|3||doslink: LIBS: 1 Device at record 0~
+doslink A.OBJ -l NONE|3||doslink: NONE: 1 Device at record 0: no such file~
+doslink A.OBJ -l LIBS|3||doslink: LIBS: 1 Device at record 0: it is a folder~
+doslink LIBS|3||doslink: LIBS: 1 Device at record 0: it is a folder~
 doslink -L LIBS H.OBJ F.OBJ|0||
 doslink -L LIBS A.OBJ -l OTHER|0||
 doslink M.OBJ|0||
 doslink --order dosseg A.OBJ F.OBJ|0||
 doslink --order DATA,CODE A.OBJ F.OBJ F.OBJ|1||doslink: link: 25 DuplicatePublic \"f\" in F.OBJ and F.OBJ~
-doslink X.OBJ|3||doslink: X.OBJ: 1 Device at record 0~
+doslink X.OBJ|3||doslink: X.OBJ: 1 Device at record 0: no such file~
 doslink A.OBJ CUT.LIB|1||doslink: CUT.LIB: 44 Truncated at place 63~
 doslink @WORDS|0|A.OBJ~RUN.LIB(b.c) for \"f\"~RUN.LIB(c.c) for \"g\"~|
 /bin/WLINK.EXE @LINES|0||doslink: warning: LINES: line 3: the map is not sorted~
 wlink sort @LINES|0||doslink: warning: line 1: the map is not sorted~doslink: warning: LINES: line 3: the map is not sorted~
-wlink @NONE|3||doslink: NONE: 1 Device at record 0~
+wlink @NONE|3||doslink: NONE: 1 Device at record 0: no such file~
 wlink @WRONG|2||doslink: WRONG: line 2: unknown directive: fill F.OBJ~
 wlink @LINES @WRONG|2||doslink: WRONG: line 2: unknown directive: fill F.OBJ~
 doslink @BINARY|2||doslink: BINARY: it is no UTF-8 text~
@@ -99,7 +117,7 @@ doslink K.OBJ|1||\
 doslink: K.OBJ: \"kept\" is missing: record 33 (00000021), wanted by \"k.c\"~\
 doslink: K.OBJ: \"f\" is missing: record 39 (00000027), wanted by \"k.c\"~
 doslink K.OBJ F.OBJ|1||doslink: K.OBJ: \"kept\" is missing: record 33 (00000021), wanted by \"k.c\"~
-doslink N.OBJ|1||doslink: N.OBJ: \"n\" is missing: record 0 (00000000)~
+doslink N.OBJ|1||doslink: N.OBJ: 7 NotHeader at record 0: this is no object module~
 ";
 
 /// Runs with communal variables, in the same form.
@@ -109,7 +127,7 @@ doslink NEAR.OBJ A.OBJ|0||
 doslink NEAR.OBJ F.OBJ|0||
 doslink FAR.OBJ A.OBJ|0||
 doslink -v NEAR.OBJ RUN.LIB|0|NEAR.OBJ~|
-doslink -v NEAR.OBJ A.OBJ RUN.LIB|0|NEAR.OBJ~A.OBJ~RUN.LIB(b.c) for \"f\"~RUN.LIB(c.c) for \"g\"~|
+doslink -v NEAR.OBJ A.OBJ RUN.LIB|0|NEAR.OBJ~A.OBJ~|
 doslink END.OBJ M.OBJ|0||
 doslink --order dosseg A.OBJ NEAR.OBJ|0||
 doslink NEAR.OBJ D.OBJ FAR.OBJ|1||doslink: link: 55 NearAndFar \"f\" in NEAR.OBJ and FAR.OBJ~
@@ -126,6 +144,7 @@ doslink LOCAL.OBJ LOCAL.OBJ NEAR.OBJ|0||
 doslink LOCAL.OBJ A.OBJ F.OBJ|0||
 doslink LOCAL.OBJ A.OBJ|1||doslink: A.OBJ: \"f\" is missing: record 28 (0000001C), wanted by \"a.c\"~
 doslink LSTART.OBJ|1||doslink: LSTART.OBJ: 27 Unresolved at record 24~
+doslink LFAULTY.OBJ|1||doslink: LFAULTY.OBJ: 11 SegmentIndex at record 46~
 doslink LOCAL.OBJ LCLASH.OBJ|1||doslink: link: 55 NearAndFar \"f\" in LCLASH.OBJ and LCLASH.OBJ~
 doslink LOCAL.OBJ LLONG.OBJ|1||doslink: link: 57 NearTooLong \"g\" in LLONG.OBJ~
 doslink LOCAL.OBJ LTABLE.OBJ|1||doslink: LTABLE.OBJ: 48 DataType at record 8~
@@ -141,7 +160,7 @@ doslink CALLS.OBJ ALIAS.OBJ|1||doslink: ALIAS.OBJ: \"g\" is missing: record 8 (0
 doslink CALLS.OBJ ROUND.OBJ|1||doslink: ROUND.OBJ: 60 EndlessAlias \"f\" at record 8~
 doslink CALLS.OBJ ALIAS.OBJ ROUND.OBJ RUN.LIB|0||
 doslink CALLS.OBJ CASE.OBJ F.OBJ|0||
-doslink -v LOCAL.OBJ ALIAS.OBJ RUN.LIB|0|LOCAL.OBJ~ALIAS.OBJ~RUN.LIB(c.c) for \"g\"~|
+doslink -v LOCAL.OBJ ALIAS.OBJ RUN.LIB|0|LOCAL.OBJ~ALIAS.OBJ~|
 doslink --ignore-case CALLS.OBJ CASE.OBJ F.OBJ|1||doslink: CASE.OBJ: 60 EndlessAlias \"F\" at record 8~
 ";
 
@@ -201,8 +220,58 @@ doslink ITSELF.OBJ F.OBJ|0||
 doslink ITSELF.OBJ|1||doslink: ITSELF.OBJ: 60 EndlessAlias \"f\" at record 35~
 ";
 
+/// Runs that search libraries in the order in which these stand, and go on with default libraries, in the same form.
+const SEARCH_RUNS: &str = "\
+doslink -v -l RUN A.OBJ ONLY.LIB|0|A.OBJ~RUN.LIB(b.c) for \"f\"~RUN.LIB(c.c) for \"g\"~|
+doslink -v ONLY.LIB A.OBJ -l RUN|0|A.OBJ~ONLY.LIB(f.c) for \"f\"~|
+doslink -v BOTH.OBJ NAMER.LIB|0|BOTH.OBJ~NAMER.LIB(n.c) for \"f\"~HAS.LIB(h.c) for \"h\"~|
+doslink -v A.OBJ UNUSED.LIB|0|A.OBJ~UNUSED.LIB(u.c) for \"f\"~|
+doslink DEVICE.OBJ F.OBJ|0||doslink: warning: library \"DEVICE\" of DEVICE.OBJ was not found~
+";
+
+/// Runs that are refused by what their files are, in the same form.
+const REFUSED_RUNS: &str = "\
+doslink A.OBJ ELF.OBJ|1||doslink: ELF.OBJ: 3 Truncated at record 0: this is an ELF file; nasm wants -f obj~
+doslink A.OBJ TEXT.OBJ|1||doslink: TEXT.OBJ: 3 Truncated at record 0: this is a text; assemble or compile it first~
+doslink RUN.LIB|1||doslink: link: 67 NoProgram~
+doslink NOTHING.OBJ|1||doslink: link: 67 NoProgram~
+doslink -o A.COM A.OBJ F.OBJ|2||doslink: A.COM: no such file is written, only .EXE~
+doslink -o a.sys A.OBJ F.OBJ|2||doslink: a.sys: no such file is written, only .EXE~
+doslink -o A.bin A.OBJ F.OBJ|2||doslink: A.bin: no such file is written, only .EXE~
+doslink -o A.IMG A.OBJ F.OBJ|2||doslink: A.IMG: no such file is written, only .EXE~
+doslink -o LINK.EXE A.OBJ F.OBJ|2||doslink: LINK.EXE: it is read and would be written~
+doslink -m D.OBJ A.OBJ F.OBJ|2||doslink: D.OBJ: it is a module or a library and would be written~
+doslink OUTSIDE.OBJ|1||doslink: OUTSIDE.OBJ: 11 SegmentIndex at record 17~
+doslink CLEARED.OBJ|1||doslink: CLEARED.OBJ: 62 DataInBss \"_BSS\"~
+doslink --stack 8 STARTED.OBJ|1||doslink: link: 66 StackTooLong: more than 8 bytes~
+doslink A.OBJ X.OBJ Y.OBJ|3||doslink: X.OBJ: 1 Device at record 0: no such file~doslink: Y.OBJ: 1 Device at record 0: no such file~
+";
+
+/// Runs that are warned of what can't be run, in the same form.
+const WARNED_RUNS: &str = "\
+doslink STARTED.OBJ|0||
+doslink --stack 64 STARTED.OBJ|0||
+doslink --stack 64 A.OBJ F.OBJ|0||doslink: warning: no module has a start~
+wlink @CUT32|0||doslink: warning: the stack is cut to 32 bytes~
+wlink @UNCUT|0||
+doslink SPACE.OBJ|0||\
+doslink: warning: no module has a start~doslink: warning: no module has a stack~doslink: warning: no module has a byte of code~
+";
+
 /// Runs, and the end of the file that each writes: the whole of it, or its code, which calls `f` first.
-const PROGRAMS: [(&str, &[u8]); 19] = [
+const PROGRAMS: [(&str, &[u8]); 21] = [
+    // null bytes in front of `_TEXT`, and none where the job asks for none
+    (
+        "doslink LOADS.OBJ",
+        &[
+            0x00, 0x00, 0x00, 0x00, 0x00, 0x00, 0x00, 0x00, 0x00, 0x00, 0x00, 0x00, 0x00, 0x00,
+            0x00, 0x00, 0x00, 0x00, 0x00, 0x00, 0x90,
+        ],
+    ),
+    (
+        "doslink --order dosseg-nonulls LOADS.OBJ",
+        &[0x1C, 0x00, 0x00, 0x00, 0x00, 0x00, 0x00, 0x00, 0x90],
+    ),
     // FFFBH and the offset 4 in 32 bits
     ("doslink EFITS.OBJ F.OBJ", &[0xFF, 0xFF, 0x00, 0x00, 0x90]),
     // an offset of 16 bits goes round, and one of 32 doesn't
@@ -360,9 +429,65 @@ modules
  000001 R 000001 \"CODE\" \"\"
 ";
 
+/// A program whose stack of 256 bytes is cut to 16.
+const CUT_STACK: [u8; 33] = [
+    0x4D, 0x5A, 0x21, 0x00, 0x01, 0x00, 0x00, 0x00, 0x02, 0x00, 0x02, 0x00, 0xFF, 0xFF, 0x01, 0x00,
+    0x10, 0x00, 0x00, 0x00, 0x00, 0x00, 0x00, 0x00, 0x1C, 0x00, 0x00, 0x00, 0x00, 0x00, 0x00, 0x00,
+    0x90,
+];
+
+/// Its map.
+const CUT_STACK_MAP: &str = "\
+segments
+000000 000001 public   \"CODE\" \"\"
+000010 000010 stack    \"STACK\" \"STACK\"
+groups
+publics
+entry 0000:0000
+stack 0001:0010
+size 000020
+relocations 0
+modules
+\"k.c\" STACKED.OBJ
+ 000000 R 000001 \"CODE\" \"\"
+ 000010 R 000010 \"STACK\" \"STACK\"
+";
+
+/// A program whose stack of 16 and 256 bytes, which stands in front, is cut to 32.
+const CUT_PARTS: [u8; 66] = [
+    0x4D, 0x5A, 0x42, 0x00, 0x01, 0x00, 0x00, 0x00, 0x02, 0x00, 0x01, 0x00, 0xFF, 0xFF, 0x00, 0x00,
+    0x20, 0x00, 0x00, 0x00, 0x00, 0x00, 0x02, 0x00, 0x1C, 0x00, 0x00, 0x00, 0x00, 0x00, 0x00, 0x00,
+    0x00, 0x00, 0x00, 0x00, 0x00, 0x00, 0x00, 0x00, 0x00, 0x00, 0x00, 0x00, 0x00, 0x00, 0x00, 0x00,
+    0x00, 0x00, 0x00, 0x00, 0x00, 0x00, 0x00, 0x00, 0x00, 0x00, 0x00, 0x00, 0x00, 0x00, 0x00, 0x00,
+    0x90, 0x90,
+];
+
+/// Its map.
+const CUT_PARTS_MAP: &str = "\
+segments
+000000 000020 stack    \"STACK\" \"STACK\"
+000020 000002 public   \"CODE\" \"\"
+groups
+publics
+entry 0002:0000
+stack 0000:0020
+size 000022
+relocations 0
+modules
+\"doslink\" order
+ 000000 R 000000 \"STACK\" \"STACK\"
+ 000020 R 000000 \"CODE\" \"\"
+\"s.c\" STARTED.OBJ
+ 000020 R 000001 \"CODE\" \"\"
+ 000000 R 000010 \"STACK\" \"STACK\"
+\"k.c\" STACKED.OBJ
+ 000021 R 000001 \"CODE\" \"\"
+ 000010 R 000010 \"STACK\" \"STACK\"
+";
+
 /// Runs, and what each writes: the path of its program, the program, and its map at P.MAP.
 /// What isn't written stays `old`.
-const WRITTEN: [(&str, &str, &[u8], &str); 7] = [
+const WRITTEN: [(&str, &str, &[u8], &str); 9] = [
     (
         "doslink -o P.EXE -m P.MAP A.OBJ F.OBJ",
         "P.EXE",
@@ -370,6 +495,9 @@ const WRITTEN: [(&str, &str, &[u8], &str); 7] = [
         MAP,
     ),
     ("doslink A.OBJ F.OBJ", "A.EXE", &PROGRAM, "old"),
+    ("wlink @CUT16", "P.EXE", &CUT_STACK, CUT_STACK_MAP),
+    // in the order module's order
+    ("wlink @CUT32", "P.EXE", &CUT_PARTS, CUT_PARTS_MAP),
     // a name is missing, two publics have one name, and the map is read
     ("doslink -m P.MAP A.OBJ", "", b"old", "old"),
     ("doslink -m P.MAP A.OBJ F.OBJ F.OBJ", "", b"old", "old"),
@@ -385,6 +513,96 @@ const WRITTEN: [(&str, &str, &[u8], &str); 7] = [
     ),
 ];
 
+/// The files of the world that are modules or libraries, with two that only begin so.
+const MODULES: [(&str, &[u8]); 86] = [
+    ("A.OBJ", &WANTS),
+    ("F.OBJ", &OFFERS),
+    ("D.OBJ", &LIKE),
+    ("E.OBJ", &NAMES),
+    ("M.OBJ", &MARKS),
+    ("H.OBJ", &NAMELESS),
+    ("K.OBJ", &KEEPS),
+    ("N.OBJ", &HEADLESS),
+    ("RUN.LIB", &LIBRARY),
+    ("LIBS/OTHER.lib", &LIBRARY),
+    ("G.OBJ", &ELSEWHERE),
+    ("ENV/ENV.LIB", &LIBRARY),
+    ("BINARY", &BINARY),
+    ("WIDE.OBJ", &WIDE),
+    ("AMISS.OBJ", &AMISS),
+    ("NEAR.OBJ", &NEAR),
+    ("FAR.OBJ", &FAR),
+    ("SIZE.OBJ", &OTHER_SIZE),
+    ("BODY.OBJ", &BODY),
+    ("TABLE.OBJ", &TABLE),
+    ("LONG.OBJ", &LONG),
+    ("CUT.OBJ", &CUT_ELEMENT),
+    ("MANY.OBJ", &MANY),
+    ("END.OBJ", &END),
+    ("CALLS.OBJ", &CALLS),
+    ("ALIAS.OBJ", &ALIAS),
+    ("ROUND.OBJ", &ROUND),
+    ("CASE.OBJ", &CASE),
+    ("LOCAL.OBJ", &LOCAL),
+    ("LSTART.OBJ", &LOCAL_START),
+    ("LFAULTY.OBJ", &LOCAL_FAULTY),
+    ("LCLASH.OBJ", &LOCAL_CLASH),
+    ("LLONG.OBJ", &LOCAL_LONG),
+    ("LTABLE.OBJ", &LOCAL_TABLE),
+    ("BACK.OBJ", &BACK),
+    ("BEHIND.OBJ", &BEHIND),
+    ("WEAKLY.OBJ", &WEAKLY),
+    ("LAZILY.OBJ", &LAZILY),
+    ("OTHERWISE.OBJ", &OTHERWISE),
+    ("NOWHERE.OBJ", &NOWHERE),
+    ("ITSELF.OBJ", &ITSELF),
+    ("COMDAT.OBJ", &COMDAT),
+    ("COMDATS.LIB", &COMDATS),
+    ("PATCHED.OBJ", &PATCHED),
+    ("PATCHED2.OBJ", &PATCHED_BY_NAME),
+    ("LINSYM.OBJ", &LINSYM),
+    ("B9.OBJ", &BESIDE_LCOMDEF),
+    ("BE.OBJ", &OTHER_TYPE),
+    ("REPEATS.OBJ", &REPEATS),
+    ("WIDELY.OBJ", &WIDELY),
+    ("LFAR.OBJ", &LOCAL_FAR),
+    ("CHOSEN.OBJ", &CHOSEN),
+    ("UNLISTED.OBJ", &UNLISTED),
+    ("LOWERED.OBJ", &BEHIND_LOWERED),
+    ("EFITS.OBJ", &EXTERNAL_FITS),
+    ("ESUM.OBJ", &EXTERNAL_SUM),
+    ("SFITS.OBJ", &SEGMENT_FITS),
+    ("SSUM.OBJ", &SEGMENT_SUM),
+    ("GFITS.OBJ", &GROUP_FITS),
+    ("GSUM.OBJ", &GROUP_SUM),
+    ("RFITS.OBJ", &REPEATED_FITS),
+    ("RSUM.OBJ", &REPEATED_SUM),
+    ("WSUM.OBJ", &WIDELY_REPEATED),
+    ("LOADER.OBJ", &LOADER),
+    ("BYTE.OBJ", &SHARED_BYTE),
+    ("WORD.OBJ", &SHARED_WORD),
+    ("POINTER.OBJ", &FAR_POINTER),
+    ("START.OBJ", &WIDE_START),
+    ("START16.OBJ", &SHORT_START),
+    ("LWIDE.OBJ", &LOCAL_WIDE_START),
+    ("END32.OBJ", &WIDE_END),
+    ("BOTH.OBJ", &BOTH),
+    ("ONLY.LIB", &ONLY),
+    ("NAMER.LIB", &NAMER),
+    ("HAS.LIB", &HAS),
+    ("UNUSED.LIB", &UNUSED),
+    ("ELF.OBJ", &ELF),
+    ("TEXT.OBJ", &TEXT),
+    ("STARTED.OBJ", &STARTED),
+    ("STACKED.OBJ", &STACKED),
+    ("SPACE.OBJ", &SPACE),
+    ("NOTHING.OBJ", &NOTHING),
+    ("DEVICE.OBJ", &DEVICE),
+    ("LOADS.OBJ", &LOADS),
+    ("OUTSIDE.OBJ", &OUTSIDE),
+    ("CLEARED.OBJ", &CLEARED),
+];
+
 /// What a run did: its status, both streams, and the program and its map, which were `old`.
 #[derive(Drop)]
 struct Done {
@@ -395,16 +613,23 @@ struct Done {
     map: Vec<u8>,
 }
 
-/// What a run of these words tells, as a row of the table has it.
-fn told(alloc: Global, words: &str) -> Result<Vec<u8>, AllocError> {
+/// What begins the warnings of what no module has, which most of these modules haven't: they are looked at in rows of
+/// their own alone.
+const LACKING: &str = "doslink: warning: no module has a ";
+
+/// What a run of these words tells, as a row of the table has it, with the warnings of what no module has or without.
+fn told(alloc: Global, words: &str, lacking: bool) -> Result<Vec<u8>, AllocError> {
     let done = run_row(alloc, words, "")?;
     let mut row = Vec::from_slice(alloc, words.as_bytes())?;
     row.push(b'|')?;
     row.push(b'0' + done.status % 10)?;
     for text in [done.output, done.errors] {
         row.push(b'|')?;
-        for byte in &text {
-            row.push(if *byte == b'\n' { b'~' } else { *byte })?;
+        for line in text.split(|byte| *byte == b'\n') {
+            if !line.is_empty() && (lacking || !line.starts_with(LACKING.as_bytes())) {
+                row.extend_from_slice(line)?;
+                row.push(b'~')?;
+            }
         }
     }
     Ok(row)
@@ -412,82 +637,16 @@ fn told(alloc: Global, words: &str) -> Result<Vec<u8>, AllocError> {
 
 /// What a run of these words does that may write a program at a path, or at any if it is empty, and a map at P.MAP.
 fn run_row(alloc: Global, row: &str, path: &str) -> Result<Done, AllocError> {
-    let files = [
-        ("A.OBJ", WANTS.as_slice()),
-        ("F.OBJ", OFFERS.as_slice()),
-        ("D.OBJ", LIKE.as_slice()),
-        ("E.OBJ", NAMES.as_slice()),
-        ("M.OBJ", MARKS.as_slice()),
-        ("H.OBJ", NAMELESS.as_slice()),
-        ("K.OBJ", KEEPS.as_slice()),
-        ("N.OBJ", HEADLESS.as_slice()),
-        ("RUN.LIB", LIBRARY.as_slice()),
-        ("LIBS/OTHER.lib", LIBRARY.as_slice()),
-        ("G.OBJ", ELSEWHERE.as_slice()),
-        ("ENV/ENV.LIB", LIBRARY.as_slice()),
+    let mut files = Vec::from_slice(alloc, &MODULES)?;
+    files.extend_from_slice(&[
         ("WRONG", WRONG.as_bytes()),
-        ("BINARY", BINARY.as_slice()),
         ("CUT.LIB", &LIBRARY.as_slice()[..CUT]),
         ("WORDS", RESPONSE.as_bytes()),
         ("LINES", DIRECTIVES.as_bytes()),
-        ("WIDE.OBJ", WIDE.as_slice()),
-        ("AMISS.OBJ", AMISS.as_slice()),
-        ("NEAR.OBJ", NEAR.as_slice()),
-        ("FAR.OBJ", FAR.as_slice()),
-        ("SIZE.OBJ", OTHER_SIZE.as_slice()),
-        ("BODY.OBJ", BODY.as_slice()),
-        ("TABLE.OBJ", TABLE.as_slice()),
-        ("LONG.OBJ", LONG.as_slice()),
-        ("CUT.OBJ", CUT_ELEMENT.as_slice()),
-        ("MANY.OBJ", MANY.as_slice()),
-        ("END.OBJ", END.as_slice()),
-        ("CALLS.OBJ", CALLS.as_slice()),
-        ("ALIAS.OBJ", ALIAS.as_slice()),
-        ("ROUND.OBJ", ROUND.as_slice()),
-        ("CASE.OBJ", CASE.as_slice()),
-        ("LOCAL.OBJ", LOCAL.as_slice()),
-        ("LSTART.OBJ", LOCAL_START.as_slice()),
-        ("LCLASH.OBJ", LOCAL_CLASH.as_slice()),
-        ("LLONG.OBJ", LOCAL_LONG.as_slice()),
-        ("LTABLE.OBJ", LOCAL_TABLE.as_slice()),
-        ("BACK.OBJ", BACK.as_slice()),
-        ("BEHIND.OBJ", BEHIND.as_slice()),
-        ("WEAKLY.OBJ", WEAKLY.as_slice()),
-        ("LAZILY.OBJ", LAZILY.as_slice()),
-        ("OTHERWISE.OBJ", OTHERWISE.as_slice()),
-        ("NOWHERE.OBJ", NOWHERE.as_slice()),
-        ("ITSELF.OBJ", ITSELF.as_slice()),
-        ("COMDAT.OBJ", COMDAT.as_slice()),
-        ("COMDATS.LIB", COMDATS.as_slice()),
-        ("PATCHED.OBJ", PATCHED.as_slice()),
-        ("PATCHED2.OBJ", PATCHED_BY_NAME.as_slice()),
-        ("LINSYM.OBJ", LINSYM.as_slice()),
-        ("B9.OBJ", BESIDE_LCOMDEF.as_slice()),
-        ("BE.OBJ", OTHER_TYPE.as_slice()),
-        ("REPEATS.OBJ", REPEATS.as_slice()),
-        ("WIDELY.OBJ", WIDELY.as_slice()),
-        ("LFAR.OBJ", LOCAL_FAR.as_slice()),
-        ("CHOSEN.OBJ", CHOSEN.as_slice()),
-        ("UNLISTED.OBJ", UNLISTED.as_slice()),
-        ("LOWERED.OBJ", BEHIND_LOWERED.as_slice()),
-        ("EFITS.OBJ", EXTERNAL_FITS.as_slice()),
-        ("ESUM.OBJ", EXTERNAL_SUM.as_slice()),
-        ("SFITS.OBJ", SEGMENT_FITS.as_slice()),
-        ("SSUM.OBJ", SEGMENT_SUM.as_slice()),
-        ("GFITS.OBJ", GROUP_FITS.as_slice()),
-        ("GSUM.OBJ", GROUP_SUM.as_slice()),
-        ("RFITS.OBJ", REPEATED_FITS.as_slice()),
-        ("RSUM.OBJ", REPEATED_SUM.as_slice()),
-        ("WSUM.OBJ", WIDELY_REPEATED.as_slice()),
-        ("LOADER.OBJ", LOADER.as_slice()),
-        ("BYTE.OBJ", SHARED_BYTE.as_slice()),
-        ("WORD.OBJ", SHARED_WORD.as_slice()),
-        ("POINTER.OBJ", FAR_POINTER.as_slice()),
-        ("START.OBJ", WIDE_START.as_slice()),
-        ("START16.OBJ", SHORT_START.as_slice()),
-        ("LWIDE.OBJ", LOCAL_WIDE_START.as_slice()),
-        ("END32.OBJ", WIDE_END.as_slice()),
-    ];
+        ("CUT16", CUT_TO_16.as_bytes()),
+        ("CUT32", CUT_TO_32.as_bytes()),
+        ("UNCUT", AS_MANY.as_bytes()),
+    ])?;
     let out = Page::new(alloc, path, b"old", ROOM)?;
     let map = Page::new(alloc, "P.MAP", b"old", ROOM)?;
     let output_page = Page::new(alloc, "", b"", ROOM)?;
@@ -497,6 +656,9 @@ fn run_row(alloc: Global, row: &str, path: &str) -> Result<Done, AllocError> {
     let desk = Desk {
         files: files.as_slice(),
         folders: &["RUN", "LIBS", "LIBS/"],
+        devices: &["DEVICE"],
+        locked: &[],
+        links: &[("./HAS.LIB", "HAS.LIB"), ("LINK.EXE", "F.OBJ")],
         out: &out,
         map: &map,
         opened: &opened,
@@ -528,19 +690,24 @@ fn run_row(alloc: Global, row: &str, path: &str) -> Result<Done, AllocError> {
     })
 }
 
-/// The first row that isn't what its run tells, if there is one.
-fn first_wrong(alloc: Global, rows: &str) -> Result<Option<String>, AllocError> {
+/// The first row that isn't what its run tells, if there is one, with the warnings of what no module has or without.
+fn first_other(alloc: Global, rows: &str, lacking: bool) -> Result<Option<String>, AllocError> {
     for row in rows.lines() {
         let words = match row.split_once('|') {
             Some((words, _)) => words,
             None => row,
         };
-        let line = told(alloc, words)?;
+        let line = told(alloc, words, lacking)?;
         if line.as_slice() != row.as_bytes() {
             return Ok(Some(String::from_utf8_lossy(alloc, &line)?));
         }
     }
     Ok(None)
+}
+
+/// The same without those warnings.
+fn first_wrong(alloc: Global, rows: &str) -> Result<Option<String>, AllocError> {
+    first_other(alloc, rows, false)
 }
 
 #[test]
@@ -581,6 +748,27 @@ fn sum_runs_tell_these_lines(rt: HostRuntime) -> Result<(), Fail> {
 #[test]
 fn default_runs_tell_these_lines(rt: HostRuntime) -> Result<(), Fail> {
     let wrong = first_wrong(rt.alloc(), DEFAULT_RUNS)?;
+    assert_eq!(rt; wrong, None);
+    Ok(())
+}
+
+#[test]
+fn search_runs_tell_these_lines(rt: HostRuntime) -> Result<(), Fail> {
+    let wrong = first_wrong(rt.alloc(), SEARCH_RUNS)?;
+    assert_eq!(rt; wrong, None);
+    Ok(())
+}
+
+#[test]
+fn refused_runs_tell_these_lines(rt: HostRuntime) -> Result<(), Fail> {
+    let wrong = first_wrong(rt.alloc(), REFUSED_RUNS)?;
+    assert_eq!(rt; wrong, None);
+    Ok(())
+}
+
+#[test]
+fn warned_runs_tell_these_lines(rt: HostRuntime) -> Result<(), Fail> {
+    let wrong = first_other(rt.alloc(), WARNED_RUNS, true)?;
     assert_eq!(rt; wrong, None);
     Ok(())
 }

@@ -8,7 +8,6 @@ use Rattle.omf_communal.specs.Deciding.{Variable}
 use Rattle.omf_communal.specs.Locals.{local_variables}
 use Rattle.omf_communal.specs.Reading.{Communal, communals_of, plain_communal}
 use Rattle.omf_place.specs.declared.names.Names.{Names}
-use Rattle.omf_search.specs.Said as search
 use Rattle.doslink_jobs.specs.declared.communals.Declared.{Declared}
 
 -- a module without where its bytes lie in memory
@@ -18,10 +17,6 @@ declared_said d = record { communals = map plain_communal d.communals.items; off
 -- none of these modules declares variables that are local to it
 abbrev pub DeclareNone : (own : List (List ℕ)) → Type 0
 DeclareNone own = AllByRecursion (λ bytes. communals_of scope.Module (module_records bytes 0) ≡ Ok []) own
-
--- what the module of variables of these names says of names
-abbrev pub offering_names : (names : List (List ℕ)) → search.Module
-offering_names names = record { wanted = []; offered = names }
 
 -- these are the variables that a module itself declares as local to it, as it is lowered
 abbrev pub AreLocal : Names → (own lowered : List ℕ) → List Variable → Type 0

@@ -4,18 +4,19 @@ use Rattle.std.specs.declared.option.Option.{Option}
 use Rattle.std.specs.Option.{option_map, option_map_or, option_to_list}
 use Rattle.omf_communal.specs.Deciding.{Variable}
 use Rattle.omf_commands.specs.Outcome.{IsFaultless}
-use Rattle.omf_place.specs.declared.names.Names.{Names}
 use Rattle.omf_search.specs.Said.{Module}
 use Rattle.doslink_words.specs.declared.job.Job.{Job}
-use Rattle.doslink_words.specs.Said.{SaidOrder}
+use Rattle.doslink_words.specs.Said.{order_of}
 use Rattle.doslink_stock.specs.Files.{Held}
-use Rattle.doslink_stock.specs.Search.{Takes}
 use Rattle.doslink_jobs.specs.declared.inputs.Inputs.{Inputs}
+use Rattle.doslink_jobs.specs.declared.inputs.Linked.{Linked}
+use Rattle.doslink_jobs.specs.declared.inputs.MadeModule.{MadeModule}
 use Rattle.doslink_jobs.specs.declared.lowering.LoweredModule.{LoweredModule}
+use Rattle.doslink_jobs.specs.declared.ordering.Asked.{Asked}
 use Rattle.doslink_jobs.specs.Communals.{IsCommunalModule}
-use Rattle.doslink_jobs.specs.Jobs.{AreInputsOf, IsLinkOf, names_of}
-use Rattle.doslink_jobs.specs.Orders.{IsOrderModule}
-use Rattle.doslink_jobs.specs.Refusals.{HaveFault, HaveNoInputs, HaveNoOrder, HaveNoPlace, IsRefusedOf}
+use Rattle.doslink_jobs.specs.Jobs.{AreInputsOf, names_of}
+use Rattle.doslink_jobs.specs.Orders.{Asking}
+use Rattle.doslink_jobs.specs.Refusals.{HaveFault, HaveNoInputs}
 
 -- the bytes of the module itself
 abbrev pub own_bytes : {A : Type 0} → LoweredModule A → List ℕ
@@ -25,43 +26,37 @@ own_bytes m = m.own.now
 abbrev pub lowered_bytes : {A : Type 0} → LoweredModule A → List ℕ
 lowered_bytes m = option_map_or (λ v. v.items) m.lowered m.own.now
 
--- the bytes of a module that is made, where it is needed
-abbrev pub made_bytes : {A : Type 0} → Option (Vec ℕ A) → List (List ℕ)
-made_bytes made = option_to_list (option_map (λ v. v.items) made)
+-- the bytes of the order module, where there is one
+abbrev pub order_list : {A : Type 0} → Option (Vec ℕ A) → List (List ℕ)
+order_list order = option_to_list (option_map (λ v. v.items) order)
 
--- the bytes of lowered modules, and of the module of communal variables behind them
-abbrev pub module_list : {A : Type 0} → List (LoweredModule A) → (communal : Option (Vec ℕ A)) → List (List ℕ)
-module_list modules communal = map lowered_bytes modules ++ made_bytes communal
+-- the bytes of modules that are made
+abbrev pub made_bytes : {A : Type 0} → MadeModule A → List ℕ
+made_bytes m = m.bytes.items
+
+-- the bytes of lowered modules, and of those that are made behind them
+abbrev pub linked_list : {A : Type 0} → Linked A → List (List ℕ)
+linked_list l = map lowered_bytes l.modules.items ++ map made_bytes l.made.items
 
 -- the bytes of all that is linked
 abbrev pub input_list : {A : Type 0} → Inputs A → List (List ℕ)
-input_list inputs = made_bytes inputs.order ++ module_list inputs.modules.items inputs.communal
+input_list inputs = order_list inputs.order ++ linked_list inputs.linked
 
--- a link was done of the modules that it takes of these objects and members
-abbrev pub IsLinkedStock : (A : Type 0) → Job → (objects members : List Held) → Type 0
-IsLinkedStock A job objects members = IsLinkOf A job (Takes (names_of job.ignore_case) objects members)
+-- these are modules with the module of their communal variables behind them, where there is one
+abbrev pub HasCommunal : (inputs : List (List ℕ)) → List Variable → (linked : List (List ℕ)) → Type 0
+HasCommunal inputs vs linked =
+    (communal : Option (List ℕ)) × IsCommunalModule inputs vs communal
+    × (linked ≡ inputs ++ option_to_list communal)
 
--- they can't be linked
-abbrev pub IsRefusedStock : (A : Type 0) → Job → (objects members : List Held) → Type 0
-IsRefusedStock A job objects members = IsRefusedOf A job (Takes (names_of job.ignore_case) objects members)
-
--- Behind these modules stands the module of their communal variables, and in front of all the order module, where there
--- are these.
-pub record AreJoined (names : Names) (marks dosseg : Bool) (asked : SaidOrder) (modules : List (List ℕ))
-    (vs : List Variable) (linked : List (List ℕ)) : Type 0 where
-  pub communal : Option (List ℕ)
-  pub order : Option (List ℕ)
-  pub placed : IsCommunalModule modules vs communal
-  pub ordered : IsOrderModule names marks dosseg asked (modules ++ option_to_list communal) order
-  pub together : linked ≡ option_to_list order ++ (modules ++ option_to_list communal)
-
--- one of the two can't be made
-abbrev pub AreNotJoined : Names → (dosseg : Bool) → (asked : SaidOrder) → (modules : List (List ℕ)) → List Variable
-    → Type 0
-AreNotJoined names dosseg asked modules vs =
-    HaveNoPlace modules vs
-    ⊎ ((communal : Option (List ℕ)) × IsCommunalModule modules vs communal
-    × HaveNoOrder names dosseg asked (modules ++ option_to_list communal))
+-- what asks for the order, as it is held
+abbrev pub asking_said : Asked → Asking
+asking_said a = record {
+  names = a.names;
+  marks = a.marks;
+  dosseg = a.dosseg;
+  order = order_of a.order.now;
+  null_bytes = a.null_bytes;
+}
 
 -- modules were linked with their communal variables, where all say so of names
 abbrev pub IsLinkedWith : (A : Type 0) → Job → (says : List Module) → (marks : Bool) → (modules : List Held)

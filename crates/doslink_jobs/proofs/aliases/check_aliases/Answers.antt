@@ -12,7 +12,7 @@ use Rattle.doslink_jobs.proofs.aliases.check_aliases.Goals as goal
 pub loop-index-preserved : goal.loop-index-preserved
 loop-index-preserved g c =
     let m = c.args.meanings.now in
-    all-turn (EndsIn m.names (map module_said m.says.now) (aliases_said m.aliases.now)) (λ h. (handed_held h).bytes)
+    all-turn (EndsIn m.names (map module_said m.says.now) (aliases_said m.aliases.aliases.items)) (λ h. (handed_held h).bytes)
     c.args.taken.now.handed.now c.loop-index.index c.index-handed-index.result c.loop-index-test.true
     c.index-handed-index.is c.loop-index.invariant
     (sym c.in_ok-found.ensures ∙ ap (option_map alias_said) c.in_default.is)
@@ -20,7 +20,7 @@ loop-index-preserved g c =
 pub returns : goal.returns
 returns g c =
     let m = c.args.meanings.now in
-    subst (λ hs. All (EndsIn m.names (map module_said m.says.now) (aliases_said m.aliases.now))
+    subst (λ hs. All (EndsIn m.names (map module_said m.says.now) (aliases_said m.aliases.aliases.items))
     (map (λ h. (handed_held h).bytes) hs)) (take_all c.loop-index.index c.args.taken.now.handed.now (omega arith))
     c.loop-index.invariant
 
@@ -28,7 +28,7 @@ pub returns-in-Some : goal.returns-in-Some
 returns-in-Some g c =
     let m = c.args.meanings.now in
     OnInput-holds c.stop_after.result
-    (any-seen (λ bytes. EndsIn m.names (map module_said m.says.now) (aliases_said m.aliases.now) bytes → ⊥)
+    (any-seen (λ bytes. EndsIn m.names (map module_said m.says.now) (aliases_said m.aliases.aliases.items) bytes → ⊥)
     (λ h. (handed_held h).bytes) c.args.taken.now.handed.now c.loop-index.index c.index-handed-index.result
     c.loop-index-test.true c.index-handed-index.is
     (λ ends. let e : Some (alias_said c.in-Some.alias) ≡ None =

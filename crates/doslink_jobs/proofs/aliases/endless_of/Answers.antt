@@ -11,9 +11,8 @@ pub returns : goal.returns
 returns g c =
     let m = c.args.meanings.now in
     c.endless.ensures
-    ∙ ap₂ (λ aliases own. endless (record { names = m.names; aliases = aliases }) own)
-    (ap aliases_said c.deref.ensures.value ∙ c.in_ok-aliases.ensures)
-    (ap aliases_said c.deref-2.ensures.value ∙ c.in_ok-push_own_defaults.ensures
+    ∙ ap₂ endless (c.renaming.ensures ∙ c.in_ok-all.ensures)
+    (ap aliases_said c.deref.ensures.value ∙ c.in_ok-push_own_defaults.ensures
     ∙ ap (λ l. l ++ own_defaults m.names (map module_said m.says.now) c.args.module.now)
     (c.in_ok-push_module_aliases.ensures
     ∙ ap (λ l. aliases_said l ++ aliases_of (module_records c.args.module.now 0)) c.new-own.ensures.items))

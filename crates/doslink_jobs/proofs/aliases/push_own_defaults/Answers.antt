@@ -11,6 +11,6 @@ pub returns : goal.returns
 returns g c =
     c.in_ok-push_defaults.ensures
     ∙ ap (λ ds. aliases_said c.args.aliases.now.items
-    ++ default_aliases c.args.names (map module_said c.args.says.now) ds)
+    ++ default_aliases c.args.meanings.now.names (map module_said c.args.meanings.now.says.now) ds)
     (ap all_defaulted c.deref-2.ensures.value ∙ c.in_ok-externals.ensures
     ∙ ap weak_and_lazy (ap (map plain_frame) c.deref.ensures.value ∙ c.in_ok-frames.ensures))

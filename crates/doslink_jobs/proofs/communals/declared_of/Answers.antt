@@ -1,6 +1,6 @@
 use Rattle.std.proofs.Common.{IsErr, Ok, map, ap, ◌∙◌, arith}
 use Rattle.std.proofs.lemmas.List.{take_all}
-use Rattle.doslink_stock.proofs.Walks.{map-step}
+use Rattle.doslink_jobs.proofs.Lists.{map-step}
 use Rattle.doslink_stock.specs.Seen.{handed_held}
 use Rattle.doslink_jobs.specs.Communals.{declared_by}
 use Rattle.doslink_jobs.specs.inside.Declaring.{declared_said}

@@ -1,7 +1,7 @@
 use Rattle.std.proofs.Common.{map, ap, ◌∙◌, arith}
 use Rattle.std.proofs.lemmas.List.{take_all}
 use Rattle.omf_communal.specs.Modules.{module_said}
-use Rattle.doslink_stock.proofs.Walks.{map-step}
+use Rattle.doslink_jobs.proofs.Lists.{map-step}
 use Rattle.doslink_jobs.specs.inside.Declaring.{declared_said}
 use Rattle.doslink_jobs.proofs.Declaring.{declaring-one}
 use Rattle.doslink_jobs.proofs.communals.declarings.Goals as goal

@@ -1,10 +1,9 @@
 use Rattle.std.proofs.Common.{◌≡◌, ap, inl, inr, refl, subst, sym, ◌∙◌}
 use Rattle.std.specs.Option.{option_map}
 use Rattle.doslink_link.specs.Linking.{bytes_of}
-use Rattle.doslink_words.specs.Said.{order_of}
 use Rattle.doslink_jobs.specs.Orders.{AreRead, AreUnread, IsOrderFor}
-use Rattle.doslink_jobs.specs.Refusals.{IsTooLong}
-use Rattle.doslink_jobs.specs.inside.Inputs.{module_list}
+use Rattle.doslink_jobs.specs.Refusals.{HasNoPlan}
+use Rattle.doslink_jobs.specs.inside.Inputs.{asking_said, linked_list}
 use Rattle.doslink_jobs.proofs.Refused.{refused-exit, steps-weaker}
 use Rattle.doslink_jobs.proofs.inputs.order_of.Goals as goal
 
@@ -13,8 +12,8 @@ returns-then-is_unasked g c = inl (inl (sym c.is_unasked.ensures ∙ c.if-is_una
 
 pub returns-in-Some : goal.returns-in-Some
 returns-in-Some g c =
-    let asked = c.args.asked.now in
-    let same : bytes_of c.deref.result.now ≡ module_list c.args.modules.now c.args.communal.now =
+    let asking = asking_said c.args.asked.now in
+    let same : bytes_of c.deref.result.now ≡ linked_list c.args.linked.now =
     ap bytes_of c.deref.ensures.value ∙ c.in_ok-slices.ensures in
     let read = c.in-Some.read.items in
     let are = rw c.in-Some.is at c.in_ok-read.ensures in
@@ -22,19 +21,18 @@ returns-in-Some g c =
     (λ made is. inr (
       read,
       subst (λ inputs. AreRead inputs read) same are,
-      subst (λ ms. IsOrderFor asked.names asked.dosseg (order_of asked.order.now) ms (option_map (λ v. v.items) made))
-          c.deref-in-Some.ensures.value is,
+      subst (λ ms. IsOrderFor asking ms (option_map (λ v. v.items) made)) c.deref-in-Some.ensures.value is,
     ))
-    (λ long. (
+    (λ none. (
       read,
       subst (λ inputs. AreRead inputs read) same are,
-      subst (IsTooLong asked.names asked.dosseg (order_of asked.order.now)) c.deref-in-Some.ensures.value long,
+      subst (HasNoPlan asking) c.deref-in-Some.ensures.value none,
     ))
     c.order_bytes.ensures
 
 pub returns : goal.returns
 returns g c =
-    let same : bytes_of c.deref.result.now ≡ module_list c.args.modules.now c.args.communal.now =
+    let same : bytes_of c.deref.result.now ≡ linked_list c.args.linked.now =
     ap bytes_of c.deref.ensures.value ∙ c.in_ok-slices.ensures in
     let none = rw c.in-None.is at c.in_ok-read.ensures in
     inl (inr (subst AreUnread same none), refl)

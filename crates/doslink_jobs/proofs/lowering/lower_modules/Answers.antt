@@ -1,8 +1,7 @@
 use Rattle.std.proofs.Common.{IsErr, Ok, map, sym, ap, subst, ◌∙◌, arith}
 use Rattle.std.proofs.lemmas.List.{take_all}
-use Rattle.omf_alias.specs.Said.{aliases_said}
 use Rattle.omf_lower.specs.Module.{lowered}
-use Rattle.doslink_stock.proofs.Walks.{map-step}
+use Rattle.doslink_jobs.proofs.Lists.{map-step}
 use Rattle.doslink_stock.specs.Seen.{handed_held}
 use Rattle.doslink_jobs.specs.Jobs.{AreLowered}
 use Rattle.doslink_jobs.specs.inside.Inputs.{lowered_bytes, own_bytes}
@@ -28,8 +27,8 @@ loop-each-preserved g c = record {
       c.loop-each.each-index c.each-item.result
       c.loop-each.modules.items c.push.new.self.items _ c.loop-each-test.true c.loop-each.invariant.lowered
       (ap (λ h. lowered-as c.args.lowering (means c.args.meanings.now) (handed_held h).bytes) (sym c.each-item.is)
-      ∙ ap (λ l. lowered c.args.lowering (record { names = c.args.meanings.now.names; aliases = l })
-      (handed_held c.each-item.result).bytes) (sym (ap aliases_said c.deref.ensures.value ∙ c.in_ok-aliases.ensures))
+      ∙ ap (λ r. lowered c.args.lowering r (handed_held c.each-item.result).bytes)
+      (sym (c.renaming.ensures ∙ c.in_ok-aliases.ensures))
       ∙ answer-lowered _ _ c.in-Ok.lowered c.in-Ok.ensures)
       c.in_ok-push-in-Ok.ensures.items;
 }
@@ -40,8 +39,8 @@ returns-in-Err-clause-refused g c =
     OnInput-weaker c.stop_at_record.result
     (λ other. any-seen (λ bytes. IsErr (lowered c.args.lowering (means bytes) bytes)) (λ h. (handed_held h).bytes)
     c.args.taken.now.handed.now c.loop-each.each-index c.each-item.result c.loop-each-test.true c.each-item.is
-    (subst (λ l. IsErr (lowered c.args.lowering (record { names = c.args.meanings.now.names; aliases = l })
-    (handed_held c.each-item.result).bytes)) (ap aliases_said c.deref.ensures.value ∙ c.in_ok-aliases.ensures)
+    (subst (λ r. IsErr (lowered c.args.lowering r (handed_held c.each-item.result).bytes))
+    (c.renaming.ensures ∙ c.in_ok-aliases.ensures)
     (lowering-fault g.row.A.Denot (handed_held c.each-item.result).bytes c.in-Err.fault _ c.in-Err.ensures other)))
     c.stop_at_record.ensures
 

@@ -1,6 +1,6 @@
 use Rattle.std.proofs.Common.{rules, ◌≡◌, ◌<◌, ◌++◌, ◌∷◌, [], length, map, ap, ◌∙◌, arith}
 use Rattle.std.proofs.lemmas.List.{take_all}
-use Rattle.doslink_stock.proofs.Walks.{map-step}
+use Rattle.doslink_jobs.proofs.Lists.{map-step}
 use Rattle.doslink_link.specs.Linking.{bytes_of}
 use Rattle.doslink_jobs.specs.inside.Inputs.{lowered_bytes}
 use Rattle.doslink_jobs.proofs.lowering.lowered_slices.Goals as goal

@@ -1,6 +1,6 @@
-use Rattle.std.proofs.Common.{◌≡◌, ap, inl, inr, leb, map, refl, subst, ◌∙◌}
+use Rattle.std.proofs.Common.{◌≡◌, ap, inl, inr, map, refl, subst, ◌∙◌}
 use Rattle.doslink_link.specs.Linking.{bytes_of}
-use Rattle.doslink_jobs.specs.FarData.{far_data_length}
+use Rattle.doslink_jobs.specs.FarData.{shares_a_frame}
 use Rattle.doslink_jobs.specs.Orders.{AreRead, AreUnread}
 use Rattle.doslink_jobs.specs.inside.Inputs.{lowered_bytes}
 use Rattle.doslink_jobs.proofs.Refused.{refused-exit}
@@ -15,7 +15,7 @@ returns-in-Some g c =
     inl (
       read,
       subst (λ inputs. AreRead inputs read) same are,
-      c.far_data_fits.ensures ∙ ap (λ ms. leb (far_data_length ms) 65536) c.deref-in-Some.ensures.value,
+      c.far_data_fits.ensures ∙ ap shares_a_frame c.deref-in-Some.ensures.value,
     )
 
 pub returns : goal.returns

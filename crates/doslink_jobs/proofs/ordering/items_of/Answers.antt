@@ -1,6 +1,6 @@
 use Rattle.std.proofs.Common.{rules, ◌≡◌, ◌<◌, ◌++◌, ◌∷◌, [], length, map, ap, ◌∙◌, arith}
 use Rattle.std.proofs.lemmas.List.{take_all}
-use Rattle.doslink_stock.proofs.Walks.{map-step}
+use Rattle.doslink_jobs.proofs.Lists.{map-step}
 use Rattle.doslink_words.specs.Said.{item_of}
 use Rattle.doslink_jobs.specs.Orders.{item_said}
 use Rattle.doslink_jobs.proofs.ordering.items_of.Goals as goal

@@ -1,7 +1,8 @@
 use Rattle.std.proofs.Common.{map, ap, ◌∙◌}
-use Rattle.doslink_words.specs.Said.{order_of}
 use Rattle.doslink_jobs.specs.Orders.{item_said}
-use Rattle.doslink_jobs.proofs.Reading.{in-order}
+use Rattle.doslink_jobs.specs.inside.Inputs.{asking_said}
+use Rattle.doslink_jobs.proofs.Reading.{in-order, no-order}
+use Rattle.doslink_jobs.proofs.Refused.{OnInput-weaker}
 use Rattle.doslink_jobs.proofs.ordering.order_bytes.Goals as goal
 
 pub order_asked-order-requires : goal.order_asked-order-requires
@@ -9,6 +10,12 @@ order_asked-order-requires g c = ap (map item_said) c.deref.ensures.value ∙ c.
 
 pub returns-in-Ok : goal.returns-in-Ok
 returns-in-Ok g c =
-    let asked = c.args.asked.now in
-    in-order asked.names asked.dosseg (order_of asked.order.now) c.args.modules.now c.order_asked-order.result
-    c.order_asked-order.ensures c.in-Ok.made c.in-Ok.ensures
+    in-order (asking_said c.args.asked.now) c.args.modules.now c.order_asked-order.result c.order_asked-order.ensures
+    c.in-Ok.made c.in-Ok.ensures
+
+pub returns : goal.returns
+returns g c =
+    OnInput-weaker c.stop_at_order.result
+    (no-order g.row.A.Denot (asking_said c.args.asked.now) c.args.modules.now c.order_asked-order.result c.in-Err.fault
+    c.order_asked-order.ensures c.in-Err.ensures)
+    c.stop_at_order.ensures

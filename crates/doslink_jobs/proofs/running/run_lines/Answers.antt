@@ -7,6 +7,6 @@ use Rattle.doslink_jobs.proofs.running.run_lines.Goals as goal
 pub returns : goal.returns
 returns g c =
     let told = g.W.World.bytes c.args.world in
-    let folders = texts c.args.folders.now in
+    let folders = texts c.args.besides.now.folders.now in
     ends (IsDone g.row.A.Denot told folders c.args.job.now) (IsRefusedJob g.row.A.Denot told folders c.args.job.now) _
     c.do_job-done.result c.finish.result _ c.finish.ensures.status c.do_job-done.ensures c.finish.ensures.told

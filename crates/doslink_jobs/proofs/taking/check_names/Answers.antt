@@ -1,25 +1,41 @@
-use Rattle.std.proofs.Common.{map, sym, ◌∙◌}
+use Rattle.std.proofs.Common.{[], ◌≡◌, inl, inr, map, ap, subst, sym, ◌∙◌}
 use Rattle.std.proofs.lemmas.Bool.{eqb-true}
 use Rattle.omf_search.specs.Results.{module_said, wanted_said}
-use Rattle.doslink_jobs.proofs.Doing.{none-unmet, some-unmet}
+use Rattle.doslink_telling.specs.Missing.{unmet, wants_marks}
+use Rattle.doslink_jobs.specs.Jobs.{names_of}
+use Rattle.doslink_jobs.proofs.Doing.{missing-of, none-unmet, some-unmet}
+use Rattle.doslink_jobs.proofs.Refused.{refused-exit}
 use Rattle.doslink_jobs.proofs.taking.check_names.Goals as goal
 
 pub returns-then-is_empty : goal.returns-then-is_empty
-returns-then-is_empty g c = record {
-  met =
-      none-unmet c.args.names wanted_said c.in_ok-unmet.unmet.missing.items c.as_slice.result.now
-      (map module_said c.args.says.now) c.in_ok-unmet.ensures.missing c.as_slice.ensures.value
-      (eqb-true _ 0 (sym c.is_empty.ensures ∙ c.if-is_empty.true));
-  marks = c.in_ok-unmet.ensures.marks;
-  refused = tt;
-}
+returns-then-is_empty g c =
+    let says = map module_said c.args.says.now in (
+      subst (λ n. unmet n says ≡ []) c.options_of-names.ensures
+          (none-unmet c.options_of-names.result.names wanted_said c.in_ok-unmet.unmet.missing.items c.as_slice.result.now
+          says c.in_ok-unmet.ensures.missing c.as_slice.ensures.value
+          (eqb-true _ 0 (sym c.is_empty.ensures ∙ c.if-is_empty.true))),
+      c.in_ok-unmet.ensures.marks ∙ ap (λ n. wants_marks n says) c.options_of-names.ensures,
+    )
+
+pub returns-in_err-check_modules : goal.returns-in_err-check_modules
+returns-in_err-check_modules g c =
+    let says = map module_said c.args.says.now in
+    refused-exit _ c.from_residual-in_err-check_modules.result _ c.from_residual-in_err-check_modules.ensures.1
+    (λ some. (
+      missing-of c.options_of-names.result.names (names_of c.args.job.now.ignore_case) says
+          c.options_of-names.ensures (some-unmet c.options_of-names.result.names wanted_said
+          c.in_ok-unmet.unmet.missing.items c.as_slice.result.now says c.in_ok-unmet.ensures.missing
+          c.as_slice.ensures.value (sym c.is_empty.ensures ∙ c.if-is_empty.false)),
+      inl some,
+    ))
+    c.in_err-check_modules.ensures
 
 pub returns : goal.returns
-returns g c = record {
-  met = tt;
-  marks = tt;
-  refused =
-      some-unmet c.args.names wanted_said c.in_ok-unmet.unmet.missing.items c.as_slice.result.now
-      (map module_said c.args.says.now) c.in_ok-unmet.ensures.missing c.as_slice.ensures.value
-      (sym c.is_empty.ensures ∙ c.if-is_empty.false);
-}
+returns g c =
+    let says = map module_said c.args.says.now in (
+      missing-of c.options_of-names.result.names (names_of c.args.job.now.ignore_case) says
+          c.options_of-names.ensures (some-unmet c.options_of-names.result.names wanted_said
+          c.in_ok-unmet.unmet.missing.items c.as_slice.result.now says c.in_ok-unmet.ensures.missing
+          c.as_slice.ensures.value (sym c.is_empty.ensures ∙ c.if-is_empty.false)),
+      inr c.in_ok-check_modules.ensures,
+    )

@@ -1,22 +1,23 @@
-use Rattle.std.proofs.Common.{string_bytes}
+use Rattle.std.proofs.Common.{ap, inl, inr, is_some, sym, ◌∙◌}
 use Rattle.std.specs.declared.alloc.Global.{Global}
+use Rattle.doslink_words.specs.Responses.{response_words}
 use Rattle.doslink_words.specs.Tokens.{texts}
 use Rattle.doslink_jobs.specs.declared.words.Language.TheVariants.{Directives}
-use Rattle.doslink_jobs.specs.Runs.{Runs, RunsText}
-use Rattle.doslink_jobs.proofs.Doing.{EndsBy-stopped, EndsBy-weaker}
+use Rattle.doslink_jobs.specs.Runs.{Runs, RunsGiven}
+use Rattle.doslink_jobs.proofs.Doing.{EndsBy-none, EndsBy-weaker}
 use Rattle.doslink_jobs.proofs.words.run_directives.Goals as goal
 
-pub returns-in-Ok : goal.returns-in-Ok
-returns-in-Ok g c =
+pub returns-in-Some : goal.returns-in-Some
+returns-in-Some g c =
     let told = g.W.World.bytes c.args.world in
-    let text = string_bytes c.in-Ok.spoken.text in
-    EndsBy-weaker Global told (texts c.args.folders.now) (λ does helps. RunsText told does helps text)
-    (λ does helps. Runs told does helps Directives (texts c.args.words.now)) _ c.run_spoken.result
-    (λ does helps runs. (text, c.in-Ok.ensures, runs)) c.run_spoken.ensures
+    EndsBy-none Global told (texts c.args.folders.now)
+    (λ does helps. Runs told does helps Directives (texts c.args.words.now)) (Unit {0}) _ c.print_help.result
+    (λ done. let asks = sym c.text_asked.ensures ∙ ap is_some c.in-Some.is in inl (asks, inr asks)) c.print_help.ensures
 
-pub returns : goal.returns
-returns g c =
+pub returns-in-None : goal.returns-in-None
+returns-in-None g c =
     let told = g.W.World.bytes c.args.world in
-    EndsBy-stopped Global told (texts c.args.folders.now)
-    (λ does helps. Runs told does helps Directives (texts c.args.words.now)) _ c.in-Err.stop
-    c.finish.result _ c.finish.ensures.status c.in-Err.ensures c.finish.ensures.told
+    EndsBy-weaker Global told (texts c.args.folders.now)
+    (λ does helps. RunsGiven told does helps (response_words (texts c.args.words.now)))
+    (λ does helps. Runs told does helps Directives (texts c.args.words.now)) _ c.run_joined.result
+    (λ does helps runs. inr runs) c.run_joined.ensures

@@ -8,7 +8,7 @@ use Rattle.doslink_jobs.proofs.words.run_list.Goals as goal
 pub returns-in-Ok : goal.returns-in-Ok
 returns-in-Ok g c =
     let told = g.W.World.bytes c.args.world in
-    EndsBy-weaker Global told (texts c.args.folders.now)
+    EndsBy-weaker Global told (texts c.args.besides.now.folders.now)
     (λ does helps. RunsWords told does helps (texts c.deref.result.now))
     (λ does helps. RunsList told does helps c.args.text.now) _
     c.run_plain.result

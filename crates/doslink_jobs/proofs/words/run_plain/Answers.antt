@@ -10,13 +10,13 @@ pub returns-in-Ok : goal.returns-in-Ok
 returns-in-Ok g c =
     let told = g.W.World.bytes c.args.world in
     let job = c.in-Ok.job in
-    EndsBy-done Global told (texts c.args.folders.now)
+    EndsBy-done Global told (texts c.args.besides.now.folders.now)
     (λ does helps. RunsWords told does helps (texts c.args.words.now)) job _ c.run_job.result
     (λ does helps done. inl (job, c.in-Ok.ensures.job, done)) c.run_job.ensures
 
 pub returns-in-Err : goal.returns-in-Err
 returns-in-Err g c =
     let told = g.W.World.bytes c.args.world in
-    EndsBy-none Global told (texts c.args.folders.now)
+    EndsBy-none Global told (texts c.args.besides.now.folders.now)
     (λ does helps. RunsWords told does helps (texts c.args.words.now)) (c.in-Err.fault ≢ Memory) _
-    c.answer_words.result (λ other. inr (λ none. other (c.in-Err.ensures.refused none))) c.answer_words.ensures
+    c.answer_words.result (λ other. inr (inl (λ none. other (c.in-Err.ensures.refused none)))) c.answer_words.ensures

@@ -1,0 +1,13 @@
+use Rattle.std.proofs.Common.{map, ap, subst, ◌∙◌}
+use Rattle.doslink_files.specs.Files.{AreSought, contents}
+use Rattle.doslink_words.specs.Tokens.{texts}
+use Rattle.doslink_jobs.specs.Jobs.{sought_of}
+use Rattle.doslink_jobs.proofs.gathering.given_files.Goals as goal
+
+pub returns-in-Ok : goal.returns-in-Ok
+returns-in-Ok g c =
+    let told = g.W.World.bytes c.args.world.now in
+    let files = contents c.in-Ok.files.items in
+    subst (λ s. AreSought told (texts c.args.job.now.folders.items) s files)
+    (c.deref-3.ensures.value ∙ c.in_ok-sought.ensures ∙ ap (map sought_of) c.deref.ensures.value)
+    (subst (λ fs. AreSought told (texts fs) c.deref-3.result.now files) c.deref-2.ensures.value c.in-Ok.ensures.told)

@@ -1,0 +1,114 @@
+//! Modules that can't be read, where names are missing: they may be missing since they can't.
+ghost use Rattle.std.specs.Prelude.{◌≡◌, All, Any, map, MatchResult};
+ghost use Rattle.omf_search.specs.Results.{module_said};
+ghost use Rattle.doslink_stock.specs.Seen.{handed_held};
+ghost use Rattle.doslink_jobs.specs.Jobs.{plain_lowering};
+ghost use Rattle.doslink_jobs.specs.Refusals.{IsFaulty, IsFaultyWith};
+ghost use Rattle.doslink_jobs.specs.inside.Meanings.{means};
+ghost use Rattle.doslink_jobs.specs.inside.Inputs.{lowered_bytes};
+ghost use Rattle.doslink_jobs.specs.inside.Reading.{IsNoModule, IsOfBytes};
+ghost use Rattle.doslink_jobs.specs.inside.Stops.{OnInput};
+
+use crate::aliases::{Meanings, aliases_of, own_aliases};
+use crate::faults::tell_record;
+use crate::inputs::options_of;
+use crate::lowering::{LoweredModule, plain_lowering, stop_at_record};
+use crate::stop::{Stop, stop_after};
+use crate::taking::Taken;
+use doslink_words::Job;
+use omf_faults::InputFault;
+use omf_frame::MemSource;
+use omf_lower::{Lowering, lower};
+use omf_module::{FaultKind, ModuleFault, read_module};
+use omf_search::Said;
+use std::alloc::Allocator;
+
+/// Tells why what is linked of a module can't be read, and stops. The word is that for the module.
+fn stop_unreadable<A: Allocator + Copy>(
+    alloc: A,
+    one: &LoweredModule<'_, A>,
+    fault: ModuleFault,
+    word: &[u8],
+    lines: &mut Vec<u8, A>,
+) -> Stop
+    ensures { OnInput result (IsOfBytes fault) }
+{
+    let ModuleFault::Record { place, kind } = fault else {
+        return Stop::Memory;
+    };
+    let fault = match kind {
+        FaultKind::Device => return Stop::Device,
+        FaultKind::Absent(fault) => InputFault::Absent(fault),
+        FaultKind::Check(fault) => InputFault::Check(fault),
+    };
+    stop_after(tell_record(alloc, one, place, fault, word, lines))
+}
+
+/// Stops where what is linked of a module can't be read, and tells why.
+fn check_readable<A: Allocator + Copy>(
+    alloc: A,
+    one: &LoweredModule<'_, A>,
+    word: &[u8],
+    lines: &mut Vec<u8, A>,
+) -> Result<(), Stop>
+    ensures { MatchResult result (λ done. IsNoModule (lowered_bytes one.now) → ⊥)
+        (λ stop. OnInput stop (IsNoModule (lowered_bytes one.now))) }
+{
+    let mut source = MemSource::over(one.bytes(), usize::MAX, None);
+    match read_module(alloc, &mut source) {
+        Ok(_) => Ok(()),
+        Err(fault) => Err(stop_unreadable(alloc, one, fault, word, lines)),
+    }
+}
+
+/// Stops where a module can't be lowered so, or read, and tells why.
+fn check_module<'a, A: Allocator + Copy>(
+    alloc: A,
+    lowering: Lowering,
+    meanings: &Meanings<'_, '_, 'a, A>,
+    own: &'a [u8],
+    word: &[u8],
+    lines: &mut Vec<u8, A>,
+) -> Result<(), Stop>
+    ensures { MatchResult result
+        (λ done. IsFaultyWith lowering (means meanings.now «own».now) «own».now → ⊥)
+        (λ stop. OnInput stop (IsFaultyWith lowering (means meanings.now «own».now) «own».now)) }
+{
+    let aliases = own_aliases(alloc, meanings, own)?;
+    let lowered = match lower(alloc, own, lowering, &aliases.renaming()) {
+        Ok(lowered) => lowered,
+        Err(fault) => return Err(stop_at_record(word, own, fault, lines)),
+    };
+    let module = LoweredModule {
+        own,
+        lowered,
+        end: u64::MAX,
+    };
+    check_readable(alloc, &module, word, lines)
+}
+
+/// Stops at the first of the modules that can't be lowered, far data sharing no frame, or read, and tells why.
+pub(crate) fn check_modules<'a, A: Allocator + Copy>(
+    alloc: A,
+    job: &Job<'_>,
+    taken: &Taken<'_, '_, 'a, A>,
+    says: &[Said<'_, 'a>],
+    lines: &mut Vec<u8, A>,
+) -> Result<(), Stop>
+    ensures { MatchResult result
+        (λ done. All (λ bytes. IsFaulty job.now (map module_said says.now)
+        (map (λ h. (handed_held h).bytes) taken.now.handed.now) bytes → ⊥)
+        (map (λ h. (handed_held h).bytes) taken.now.handed.now))
+        (λ stop. OnInput stop (Any (IsFaulty job.now (map module_said says.now)
+        (map (λ h. (handed_held h).bytes) taken.now.handed.now))
+        (map (λ h. (handed_held h).bytes) taken.now.handed.now))) }
+{
+    let aliases = aliases_of(alloc, taken)?;
+    let meanings = Meanings::new(alloc, options_of(job).names, says, aliases)?;
+    let lowering = plain_lowering(job);
+    for (index, each) in taken.handed.iter().enumerate() {
+        let word = taken.word(index);
+        check_module(alloc, lowering, &meanings, each.entry.bytes, word, lines)?;
+    }
+    Ok(())
+}

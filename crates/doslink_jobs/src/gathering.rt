@@ -1,0 +1,440 @@
+//! The files of a job: those that it names, and in rounds the default libraries that modules name.
+ghost use Rattle.std.specs.Prelude.{◌≡◌, ◌≢◌, ◌++◌, ◌∷◌, ℕ, All, List, [], IfErr, IfOk, map, MatchResult, OnOk};
+ghost use Rattle.std.specs.declared.option.Option as maybe;
+ghost use Rattle.std.specs.List.{Contains};
+ghost use Rattle.clap.specs.Words.{Text};
+ghost use Rattle.omf_place.specs.declared.names.Names as agreeing;
+ghost use Rattle.doslink_files.specs.Files.{AreSought, IsFoundNew, contents};
+ghost use Rattle.doslink_link.specs.Linking.{bytes_of};
+ghost use Rattle.doslink_stock.specs.Files.{Held};
+ghost use Rattle.doslink_stock.specs.Searched.{Searched};
+ghost use Rattle.doslink_stock.specs.Seen.{handed_held};
+ghost use Rattle.doslink_words.specs.Tokens.{texts};
+ghost use Rattle.doslink_jobs.specs.Jobs as done;
+ghost use Rattle.doslink_jobs.specs.Jobs.{IsDefault, IsNamedBy, names_of};
+ghost use Rattle.doslink_jobs.specs.Refusals.{HasFaultyLibrary};
+ghost use Rattle.doslink_jobs.specs.inside.Gathering.{AddsFaulty, AddsRounds, AreNamed, AreNamedBy, Holds};
+ghost use Rattle.doslink_jobs.specs.inside.Gathering.{IsFaultyJob, IsGathered};
+ghost use Rattle.doslink_jobs.specs.inside.Stops.{OnInput};
+
+use crate::inputs::options_of;
+use crate::limit::Limit;
+use crate::stop::{Stop, stop_after, stop_at_files, stop_unread};
+use crate::words::Besides;
+use bumpalo::Bump;
+use doslink_files::{Found, InputFile, ReadFault, Sought, find_default, read_sought};
+use doslink_stock::{Handed, Stock, StockFault};
+use doslink_telling::{module_word, push_absent_line, push_stock_fault};
+use doslink_words::{Input, Job};
+use omf_files::{FileId, World};
+use std::alloc::{AllocError, Allocator};
+use std::collections::BTreeSet;
+
+/// How often the search goes on with libraries that it has met, at most.
+const MOST_ROUNDS: usize = usize::MAX;
+
+/// The files of a link, whose bytes stay where they are, and what the link takes of them.
+#[derive(Drop)]
+pub(crate) struct Gathered<'f, A: Allocator + Copy> {
+    /// The paths of the files, in their order.
+    pub paths: Vec<&'f str, A>,
+    /// Their bytes.
+    pub bytes: Vec<&'f [u8], A>,
+    /// Which files were read, as far as the world can tell.
+    pub read: BTreeSet<FileId, A>,
+    /// The modules that they hold, and those that are taken.
+    pub stock: Stock<'f, A>,
+}
+
+/// A default library, and the word for the first module that names it.
+#[derive(Drop)]
+struct DefaultLibrary<'f, A: Allocator + Copy> {
+    name: &'f [u8],
+    word: Vec<u8, A>,
+}
+
+/// What a job names, as it is sought.
+fn sought_of<'a>(input: &Input<'a>) -> Sought<'a>
+    ensures { result ≡ done.sought_of input.now }
+{
+    match input {
+        Input::File(path) => Sought::File(path),
+        Input::Library(name) => Sought::Library(name),
+    }
+}
+
+/// All that a job names, as it is sought.
+fn all_sought<'a, A: Allocator + Copy>(
+    alloc: A,
+    inputs: &[Input<'a>],
+) -> Result<Vec<Sought<'a>, A>, AllocError>
+    ensures { IfOk result (λ v. v.items ≡ map done.sought_of inputs.now) }
+{
+    let mut sought = Vec::new(alloc);
+    for input in inputs {
+        let one = sought_of(input);
+        sought.push(one)?;
+    }
+    Ok(sought)
+}
+
+/// The files that a job names, in their order. All that can't be read are told.
+fn given_files<W: World, A: Allocator + Copy>(
+    alloc: A,
+    world: &W,
+    job: &Job<'_>,
+    lines: &mut Vec<u8, A>,
+) -> Result<Vec<InputFile<A>, A>, Stop>
+    ensures { MatchResult result (λ files. AreSought (W.bytes world.now) (texts job.now.folders.items)
+        (map done.sought_of job.now.inputs.items) (contents files.items))
+        (λ stop. OnInput stop ⊥) }
+{
+    let sought = all_sought(alloc, &job.inputs)?;
+    match read_sought(alloc, world, &job.folders, &sought) {
+        Ok(files) => Ok(files),
+        Err(fault) => Err(stop_at_files(lines, fault)),
+    }
+}
+
+/// Puts a file where it stays, behind those that are there.
+fn keep_file<'f, A: Allocator + Copy>(
+    arena: &'f Bump<A>,
+    gathered: &mut Gathered<'f, A>,
+    file: InputFile<A>,
+) -> Result<(), Stop>
+    ensures bytes { OnOk result
+        (bytes_of gathered.new.bytes.items ≡ bytes_of gathered.old.bytes.items ++ file.bytes.items ∷ []) }
+    ensures same { gathered.new.stock ≡ gathered.old.stock }
+    ensures refused { IfErr result (λ stop. OnInput stop ⊥) }
+{
+    if let Some(id) = file.id {
+        gathered.read.insert(id)?;
+    }
+    let file: &'f InputFile<A> = arena.try_alloc(file)?;
+    gathered.paths.push(file.path.as_str())?;
+    gathered.bytes.push(file.bytes.as_slice())?;
+    Ok(())
+}
+
+/// Puts files where they stay, behind those that are there.
+fn keep_files<'f, A: Allocator + Copy>(
+    arena: &'f Bump<A>,
+    gathered: &mut Gathered<'f, A>,
+    files: Vec<InputFile<A>, A>,
+) -> Result<(), Stop>
+    ensures bytes { OnOk result
+        (bytes_of gathered.new.bytes.items ≡ bytes_of gathered.old.bytes.items ++ contents files.items) }
+    ensures same { gathered.new.stock ≡ gathered.old.stock }
+    ensures refused { IfErr result (λ stop. OnInput stop ⊥) }
+{
+    for file in files {
+        keep_file(arena, gathered, file)?;
+    }
+    Ok(())
+}
+
+/// Tells that a library is at fault, and stops.
+fn stop_at_library<A: Allocator + Copy>(
+    lines: &mut Vec<u8, A>,
+    paths: &[&str],
+    fault: StockFault,
+) -> Stop
+    ensures { OnInput result (fault ≢ StockFault.Memory) }
+{
+    match fault {
+        StockFault::Memory => Stop::Memory,
+        StockFault::Library { .. } => stop_after(push_stock_fault(lines, paths, fault)),
+    }
+}
+
+/// Adds a round of files behind those that are there, and goes on with the search. The first library that is at fault is
+/// told.
+fn add_round<'f, A: Allocator + Copy>(
+    alloc: A,
+    arena: &'f Bump<A>,
+    gathered: &mut Gathered<'f, A>,
+    round: Vec<InputFile<A>, A>,
+    lines: &mut Vec<u8, A>,
+) -> Result<(), Stop>
+    ensures { (names : agreeing.Names) (rounds : List (List (List ℕ))) → Holds names rounds gathered.old
+        → MatchResult result (λ done. Holds names (rounds ++ contents round.items ∷ []) gathered.new)
+        (λ stop. OnInput stop (HasFaultyLibrary (rounds ++ contents round.items ∷ []))) }
+{
+    keep_files(arena, gathered, round)?;
+    match gathered.stock.add(alloc, &gathered.bytes) {
+        Ok(()) => Ok(()),
+        Err(fault) => Err(stop_at_library(lines, &gathered.paths, fault)),
+    }
+}
+
+/// Appends a default library that a module names, unless it was asked for before, or its name is empty.
+fn push_name<'f, A: Allocator + Copy>(
+    alloc: A,
+    paths: &[&str],
+    handed: &Handed<'_, 'f, A>,
+    name: &'f [u8],
+    asked: &mut BTreeSet<&'f [u8], A>,
+    libraries: &mut Vec<DefaultLibrary<'f, A>, A>,
+) -> Result<(), AllocError>
+    ensures { OnOk result ((modules : List Held) → IsNamedBy modules name.now
+        → AreNamed modules libraries.old.items → AreNamed modules libraries.new.items) }
+{
+    if name.is_empty() || !asked.insert(name)? {
+        return Ok(());
+    }
+    let word = module_word(alloc, paths, handed.entry)?;
+    libraries.push(DefaultLibrary { name, word })?;
+    Ok(())
+}
+
+/// Appends the default libraries that a module names, without those that were asked for before, and without the empty
+/// name.
+fn push_names<'f, A: Allocator + Copy>(
+    alloc: A,
+    paths: &[&str],
+    handed: &Handed<'_, 'f, A>,
+    asked: &mut BTreeSet<&'f [u8], A>,
+    libraries: &mut Vec<DefaultLibrary<'f, A>, A>,
+) -> Result<(), AllocError>
+    ensures { OnOk result ((modules : List Held) → Contains modules (handed_held handed.now)
+        → AreNamed modules libraries.old.items → AreNamed modules libraries.new.items) }
+{
+    for name in &handed.entry.says.libraries {
+        push_name(alloc, paths, handed, name, asked, libraries)?;
+    }
+    Ok(())
+}
+
+/// The default libraries that modules name, each once.
+fn names_of<'f, A: Allocator + Copy>(
+    alloc: A,
+    paths: &[&str],
+    handed: &[Handed<'_, 'f, A>],
+    asked: &mut BTreeSet<&'f [u8], A>,
+) -> Result<Vec<DefaultLibrary<'f, A>, A>, AllocError>
+    ensures { IfOk result (λ libraries. AreNamed (map handed_held handed.now) libraries.items) }
+{
+    let mut libraries = Vec::new(alloc);
+    for each in handed {
+        push_names(alloc, paths, each, asked, &mut libraries)?;
+    }
+    Ok(libraries)
+}
+
+/// The file of a default library; `Known` where it is there already.
+fn find_one<W: World, A: Allocator + Copy>(
+    alloc: A,
+    world: &W,
+    folders: &[&str],
+    library: &DefaultLibrary<'_, A>,
+    known: &BTreeSet<FileId, A>,
+) -> Result<Found<A>, ReadFault>
+    ensures { IfOk result (IsFoundNew (W.bytes world.now) (texts folders.now) library.now.name.now) }
+{
+    match str::from_utf8(library.name) {
+        Ok(name) => find_default(alloc, world, folders, name, known),
+        Err(_) => Err(ReadFault::Absent),
+    }
+}
+
+/// Warns that a default library isn't found, or stops where a device failed or memory.
+fn pass_absent<A: Allocator + Copy>(
+    alloc: A,
+    library: &DefaultLibrary<'_, A>,
+    fault: ReadFault,
+    warnings: &mut Limit<A>,
+    lines: &mut Vec<u8, A>,
+) -> Result<(), Stop>
+    ensures { IfErr result (λ stop. OnInput stop ⊥) }
+{
+    if matches!(fault, ReadFault::Memory | ReadFault::Device(_)) {
+        let name = str::from_utf8(library.name).unwrap_or("");
+        return Err(stop_unread(lines, name, fault));
+    }
+    if let Some(lines) = warnings.next() {
+        push_absent_line(alloc, lines, library.name, &library.word)?;
+    }
+    Ok(())
+}
+
+/// Appends the file of a default library that was looked up, and which file it is, where it is new.
+fn keep_found<A: Allocator + Copy>(
+    found: Found<A>,
+    known: &mut BTreeSet<FileId, A>,
+    round: &mut Vec<InputFile<A>, A>,
+) -> Result<(), AllocError>
+    ensures { OnOk result ((told : Text → maybe.Option (List ℕ)) (folders : List Text) (name : List ℕ)
+        (modules : List Held) → IsFoundNew told folders name found → IsNamedBy modules name
+        → All (IsDefault told folders modules) (contents round.old.items)
+        → All (IsDefault told folders modules) (contents round.new.items)) }
+{
+    let Found::New(file) = found else {
+        return Ok(());
+    };
+    if let Some(id) = file.id {
+        known.insert(id)?;
+    }
+    round.push(file)?;
+    Ok(())
+}
+
+/// The files of default libraries that aren't there yet, in their order.
+fn find_round<W: World, A: Allocator + Copy>(
+    alloc: A,
+    world: &W,
+    folders: &[&str],
+    libraries: &[DefaultLibrary<'_, A>],
+    known: &mut BTreeSet<FileId, A>,
+    warnings: &mut Limit<A>,
+    lines: &mut Vec<u8, A>,
+) -> Result<Vec<InputFile<A>, A>, Stop>
+    ensures { MatchResult result (λ files. (modules : List Held) → AreNamed modules libraries.now
+        → All (IsDefault (W.bytes world.now) (texts folders.now) modules) (contents files.items))
+        (λ stop. OnInput stop ⊥) }
+{
+    let mut round = Vec::new(alloc);
+    for library in libraries {
+        match find_one(alloc, world, folders, library, known) {
+            Ok(found) => keep_found(found, known, &mut round)?,
+            Err(fault) => pass_absent(alloc, library, fault, warnings, lines)?,
+        }
+    }
+    Ok(round)
+}
+
+/// The default libraries that modules name which were taken behind so many, each once, and how many modules are taken
+/// now.
+fn asked_now<'f, A: Allocator + Copy>(
+    alloc: A,
+    gathered: &Gathered<'f, A>,
+    before: usize,
+    asked: &mut BTreeSet<&'f [u8], A>,
+) -> Result<(Vec<DefaultLibrary<'f, A>, A>, usize), AllocError>
+    ensures { IfOk result (λ r. (names : agreeing.Names) (rounds : List (List (List ℕ)))
+        → Searched names rounds gathered.now.stock → AreNamedBy names rounds r.0.items) }
+{
+    let taken = gathered.stock.handed_from(alloc, before)?;
+    let libraries = names_of(alloc, &gathered.paths, &taken, asked)?;
+    Ok((libraries, before.saturating_add(taken.len())))
+}
+
+/// Adds the default libraries that the modules name, in rounds: those that are found go behind the files that are
+/// there, and the search goes on. What was taken stays taken.
+fn add_defaults<'f, W: World, A: Allocator + Copy>(
+    alloc: A,
+    world: &W,
+    arena: &'f Bump<A>,
+    folders: &[&str],
+    gathered: &mut Gathered<'f, A>,
+    warnings: &mut Limit<A>,
+    lines: &mut Vec<u8, A>,
+) -> Result<(), Stop>
+    ensures { (names : agreeing.Names) (before : List (List (List ℕ))) → Holds names before gathered.old
+        → MatchResult result
+        (λ done. AddsRounds (W.bytes world.now) (texts folders.now) names before gathered.new)
+        (λ stop. OnInput stop (AddsFaulty (W.bytes world.now) (texts folders.now) names before)) }
+{
+    let mut asked = BTreeSet::new(alloc);
+    let mut before = 0;
+    'rounds: for _ in 0..MOST_ROUNDS {
+        let (libraries, now) = asked_now(alloc, gathered, before, &mut asked)?;
+        let known = &mut gathered.read;
+        let round = find_round(alloc, world, folders, &libraries, known, warnings, lines)?;
+        if round.is_empty() {
+            return Ok(());
+        }
+        add_round(alloc, arena, gathered, round, lines)?;
+        before = now;
+    }
+    Ok(())
+}
+
+/// The folders of a job, and others behind them.
+fn all_folders<'a, A: Allocator + Copy>(
+    alloc: A,
+    job: &Job<'a>,
+    others: &[&'a str],
+) -> Result<Vec<&'a str, A>, AllocError>
+    ensures { IfOk result (λ folders. texts folders.items ≡ texts job.now.folders.items ++ texts others.now) }
+{
+    let mut folders = Vec::from_slice(alloc, &job.folders)?;
+    folders.extend_from_slice(others)?;
+    Ok(folders)
+}
+
+/// Adds the default libraries of a job, where it asks for them. Those that aren't found are warned of, unless it is to
+/// be quiet and goes on.
+fn add_asked<'f, W: World, A: Allocator + Copy>(
+    alloc: A,
+    world: &W,
+    arena: &'f Bump<A>,
+    job: &Job<'_>,
+    folders: &[&str],
+    gathered: &mut Gathered<'f, A>,
+    lines: &mut Vec<u8, A>,
+) -> Result<(), Stop>
+    ensures { (given : List (List ℕ)) → Holds (names_of job.now.ignore_case) (given ∷ []) gathered.old
+        → AreSought (W.bytes world.now) (texts job.now.folders.items) (map done.sought_of job.now.inputs.items) given
+        → MatchResult result (λ done. IsGathered (W.bytes world.now) (texts folders.now) job.now gathered.new)
+        (λ stop. OnInput stop (IsFaultyJob (W.bytes world.now) (texts folders.now) job.now)) }
+{
+    if !job.default_libraries {
+        return Ok(());
+    }
+    let everywhere = all_folders(alloc, job, folders)?;
+    let mut warnings = Limit::new(alloc, job.verbose);
+    let mut told = Vec::new(alloc);
+    let added = add_defaults(
+        alloc,
+        world,
+        arena,
+        &everywhere,
+        gathered,
+        &mut warnings,
+        &mut told,
+    );
+    if added.is_err() || !job.quiet {
+        warnings.append_to(lines)?;
+    }
+    lines.extend_from_slice(&told)?;
+    added
+}
+
+/// Which files these are.
+fn known_files<A: Allocator + Copy>(
+    alloc: A,
+    files: &[FileId],
+) -> Result<BTreeSet<FileId, A>, AllocError> {
+    let mut known = BTreeSet::new(alloc);
+    for id in files {
+        known.insert(*id)?;
+    }
+    Ok(known)
+}
+
+/// The files of a job, and what the link takes of them: those that it names, and in rounds the default libraries that
+/// modules name.
+pub(crate) fn gather<'f, W: World, A: Allocator + Copy>(
+    alloc: A,
+    world: &W,
+    arena: &'f Bump<A>,
+    job: &Job<'_>,
+    besides: &Besides<'_>,
+    lines: &mut Vec<u8, A>,
+) -> Result<Gathered<'f, A>, Stop>
+    ensures { MatchResult result
+        (λ gathered. IsGathered (W.bytes world.now) (texts besides.now.folders.now) job.now gathered)
+        (λ stop. OnInput stop (IsFaultyJob (W.bytes world.now) (texts besides.now.folders.now) job.now)) }
+{
+    let given = given_files(alloc, world, job, lines)?;
+    let mut gathered = Gathered {
+        paths: Vec::new(alloc),
+        bytes: Vec::new(alloc),
+        read: known_files(alloc, besides.read)?,
+        stock: Stock::new(alloc, options_of(job).names),
+    };
+    add_round(alloc, arena, &mut gathered, given, lines)?;
+    let folders = besides.folders;
+    add_asked(alloc, world, arena, job, folders, &mut gathered, lines)?;
+    Ok(gathered)
+}

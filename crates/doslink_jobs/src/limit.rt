@@ -1,0 +1,47 @@
+//! Warnings of one kind, of which the first are told.
+
+use doslink_telling::push_more_line;
+use std::alloc::{AllocError, Allocator};
+
+/// How many warnings of a kind are told, where not all of them are.
+const MOST: usize = 20;
+
+/// Warnings of one kind.
+#[derive(Drop)]
+pub(crate) struct Limit<A: Allocator + Copy> {
+    /// Their lines.
+    lines: Vec<u8, A>,
+    /// How many there are.
+    count: usize,
+    /// How many are told at most.
+    most: usize,
+}
+
+impl<A: Allocator + Copy> Limit<A> {
+    /// None yet. All are told, or the first of them.
+    pub(crate) fn new(alloc: A, tells_all: bool) -> Limit<A> {
+        Limit {
+            lines: Vec::new(alloc),
+            count: 0,
+            most: if tells_all { usize::MAX } else { MOST },
+        }
+    }
+
+    /// One more; its line goes behind these, if it is told.
+    pub(crate) fn next(&mut self) -> Option<&mut Vec<u8, A>> {
+        self.count = self.count.saturating_add(1);
+        if self.most < self.count {
+            return None;
+        }
+        Some(&mut self.lines)
+    }
+
+    /// Appends the lines, and how many more there are.
+    pub(crate) fn append_to(&self, lines: &mut Vec<u8, A>) -> Result<(), AllocError> {
+        lines.extend_from_slice(&self.lines)?;
+        if self.most < self.count {
+            push_more_line(lines, self.count - self.most)?;
+        }
+        Ok(())
+    }
+}
