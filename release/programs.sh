@@ -44,9 +44,10 @@ sum_of() {
     )
 }
 
-# What release/RELEASE says of a program, sources or sha256: said_of PROGRAM WORD
+# What release/RELEASE says of a program, sources or sha256; or what another file of release/ does, as ports/PORTS, which
+# has the sum of each port by its name: said_of PROGRAM WORD [FILE]
 said_of() {
-    sed -n "s/^$1 $2 //p" "$top/release/RELEASE" 2>/dev/null
+    sed -n "s/^$1 $2 //p" "$top/release/${3-RELEASE}" 2>/dev/null
 }
 
 # The first source that was touched after a file, or with WORDS also the first folder of them: touched FILE [WORDS]
@@ -101,25 +102,47 @@ unpacked_bytes() {
     fi
 }
 
-# Unpacks the released program, and says why where that can't be: unpack PROGRAM
+# Unpacks a program from a file of release/, and says why where that can't be: unpack PROGRAM FILE SUM
 unpack() {
     local status
     mkdir -p "$unpacked" 2>/dev/null && [ -w "$unpacked" ] || take_other_folder "$1" || {
         echo "$1: there is no folder to unpack the program in" >&2
         return 1
     }
-    unpacked_bytes "$top/release/$1.xz" >"$unpacked/$1.new" 2>/dev/null
+    unpacked_bytes "$top/release/$2" >"$unpacked/$1.new" 2>/dev/null
     status=$?
     if [ $status -eq 127 ]; then
-        echo "$1: nothing here unpacks release/$1.xz: install xz (Debian's package xz-utils), or python3" >&2
-    elif [ "$(sha256sum <"$unpacked/$1.new" | cut -d ' ' -f 1)" != "$(said_of "$1" sha256)" ]; then
-        echo "$1: release/$1.xz is damaged: it doesn't have the sum that release/RELEASE says" >&2
+        echo "$1: nothing here unpacks release/$2: install xz (Debian's package xz-utils), or python3" >&2
+    elif [ "$(sha256sum <"$unpacked/$1.new" | cut -d ' ' -f 1)" != "$3" ]; then
+        echo "$1: release/$2 is damaged: it doesn't have the sum that was noted of it" >&2
     else
         chmod 755 "$unpacked/$1.new" && mv -f "$unpacked/$1.new" "$unpacked/$1"
         return
     fi
     rm -f "$unpacked/$1.new"
     return 1
+}
+
+# Has the static program for this processor stand where the released one was unpacked, if it is of sources with this sum:
+# take_static PROGRAM SUM
+take_static() {
+    local port
+    port=linux-$(uname -m)
+    [ "$(said_of "$1" sources ports/PORTS)" = "$2" ] && [ -n "$(said_of "$1" "$port" ports/PORTS)" ] &&
+        unpack "$1" "ports/$1-$port.xz" "$(said_of "$1" "$port" ports/PORTS)"
+}
+
+# Unpacks the released program if it is of sources with this sum, and says so. Where it doesn't run here, since the C
+# library is older or the processor another, the static one is taken, which is made of the same module:
+# take_released PROGRAM SUM
+take_released() {
+    [ "$(said_of "$1" sources)" = "$2" ] && unpack "$1" "$1.xz" "$(said_of "$1" sha256)" || return
+    if ! "$unpacked/$1" --version >/dev/null 2>&1 && take_static "$1" "$2"; then
+        echo "$1: this is the static program, made of the module of the released one (docs/PORTS.md)," \
+            "which doesn't run here" >&2
+    else
+        echo "$1: this is the released program, which was built of these very sources and proved" >&2
+    fi
 }
 
 # A line for every fifty functions that are proved, with how many there are in the released program, of which rt counts
@@ -134,7 +157,7 @@ progress() {
 
 # Builds a program of its sources, which takes long, since each function is proved first: build PROGRAM
 build() {
-    echo "$1: building the program from its sources; each function is proved first (README says how long that takes)" >&2
+    echo "$1: building the program from its sources; each function is proved first (CONTRIBUTING.md says how long that takes)" >&2
     command -v rt >/dev/null || {
         echo "$1: the Rattle kit isn't here (its command rt), which proves and compiles the sources" >&2
         return 1
@@ -179,9 +202,8 @@ make_or_find() {
     for program in "${made[@]}"; do
         [ -x "$program" ] && [ "$(cat "$program.sources" 2>/dev/null)" = "$2" ] && return
     done
-    if [ -z "${OMF_BUILD-}" ] && ! is_newer "$1" && [ "$(said_of "$1" sources)" = "$2" ] && unpack "$1"; then
+    if [ -z "${OMF_BUILD-}" ] && ! is_newer "$1" && take_released "$1" "$2"; then
         program=$unpacked/$1
-        echo "$1: this is the released program, which was built of these very sources and proved" >&2
         return
     fi
     program=$built

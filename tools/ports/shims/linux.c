@@ -1,0 +1,248 @@
+/* Linux on x86-64, aarch64 or riscv64 by its own calls, with no C library: the program needs nothing but a kernel. */
+#include "common.h"
+#include "heap.h"
+
+/* The kernel's numbers of its calls, the program's start, and a call of the kernel, which answers an error below 0. */
+#if defined __x86_64__
+enum { READ = 0, WRITE = 1, CLOSE = 3, FSTAT = 5, BRK = 12, SIGACTION = 13, FTRUNCATE = 77, GETCWD = 79, FCHMOD = 91,
+       FCHOWN = 93, EXIT = 231, OPENAT = 257, FSTATAT = 262, UNLINKAT = 263, RENAME = 264, READLINKAT = 267,
+       STATX = 332 };
+__asm__(".globl _start\n_start: xor %ebp, %ebp\n mov %rsp, %rdi\n and $-16, %rsp\n call begin");
+static long call(long number, long a, long b, long c, long d, long e) {
+    long answer;
+    register long fourth __asm__("r10") = d, fifth __asm__("r8") = e;
+    __asm__ volatile("syscall" : "=a"(answer) : "a"(number), "D"(a), "S"(b), "d"(c), "r"(fourth), "r"(fifth)
+                     : "rcx", "r11", "memory");
+    return answer;
+}
+#else
+enum { GETCWD = 17, UNLINKAT = 35, FTRUNCATE = 46, FCHMOD = 52, FCHOWN = 55, OPENAT = 56, CLOSE = 57, READ = 63,
+       WRITE = 64, READLINKAT = 78, FSTATAT = 79, FSTAT = 80, EXIT = 94, SIGACTION = 134, BRK = 214, STATX = 291 };
+#if defined __aarch64__
+enum { RENAME = 38 };
+__asm__(".globl _start\n_start: mov x29, #0\n mov x30, #0\n mov x0, sp\n bl begin");
+#define REGISTERS "x0", "x1", "x2", "x3", "x4", "x8", "svc 0"
+#else
+enum { RENAME = 276 }; /* renameat2, whose flags are 0 */
+__asm__(".globl _start\n_start: mv a0, sp\n andi sp, sp, -16\n call begin");
+#define REGISTERS "a0", "a1", "a2", "a3", "a4", "a7", "ecall"
+#endif
+#define CALL(R0, R1, R2, R3, R4, NUMBER, TRAP)                                                                        \
+    register long r0 __asm__(R0) = a, r1 __asm__(R1) = b, r2 __asm__(R2) = c, r3 __asm__(R3) = d, r4 __asm__(R4) = e; \
+    register long called __asm__(NUMBER) = number;                                                                    \
+    __asm__ volatile(TRAP : "+r"(r0) : "r"(r1), "r"(r2), "r"(r3), "r"(r4), "r"(called) : "memory");                   \
+    return r0
+#define WITH(...) CALL(__VA_ARGS__)
+static long call(long number, long a, long b, long c, long d, long e) { WITH(REGISTERS); }
+#endif
+
+static ptrdiff_t answered(long answer) { return answer < 0 ? failed(-answer) : answer; }
+
+int32_t port_open(const char *path, int32_t flags, ...) {
+    return answered(call(OPENAT, HERE, (long)path, flags, 0666, 0));
+}
+ptrdiff_t port_read(int32_t file, void *to, size_t size) { return answered(call(READ, file, (long)to, size, 0, 0)); }
+ptrdiff_t port_write(int32_t file, const void *from, size_t size) {
+    return answered(call(WRITE, file, (long)from, size, 0, 0));
+}
+int32_t port_close(int32_t file) { return answered(call(CLOSE, file, 0, 0, 0, 0)); }
+int32_t port_fchmod(int32_t file, uint32_t mode) { return answered(call(FCHMOD, file, mode, 0, 0, 0)); }
+int32_t port_fchown(int32_t file, uint32_t owner, uint32_t group) {
+    return answered(call(FCHOWN, file, owner, group, 0, 0));
+}
+int32_t port_ftruncate(int32_t file, int64_t size) { return answered(call(FTRUNCATE, file, size, 0, 0, 0)); }
+int32_t port_rename(const char *from, const char *to) {
+    return answered(call(RENAME, HERE, (long)from, HERE, (long)to, 0));
+}
+int32_t port_unlink(const char *path) { return answered(call(UNLINKAT, HERE, (long)path, 0, 0, 0)); }
+
+#if defined __x86_64__ || defined __aarch64__
+/* The status of a file for kernels before 4.11, which have no statx: kind and mode, owner, group, number, device and
+   size, which is all that the programs ask. */
+static int32_t older_status(int32_t folder, const char *path, int32_t flags, file_status *to) {
+#if defined __x86_64__
+    struct {
+        uint64_t device, number, links;
+        uint32_t mode, owner, group, unused;
+        uint64_t special, size, rest[11];
+    } got;
+#else
+    struct {
+        uint64_t device, number;
+        uint32_t mode, links, owner, group;
+        uint64_t special, unused, size, rest[9];
+    } got;
+#endif
+    long answer = flags & OF_OPEN_FILE ? call(FSTAT, folder, (long)&got, 0, 0, 0)
+                                       : call(FSTATAT, folder, (long)path, (long)&got, flags, 0);
+    if (answer < 0) return failed(-answer);
+    *to = (file_status){.told = BASIC_STATUS, .mode = got.mode, .links = got.links, .owner = got.owner,
+                        .group = got.group, .number = got.number, .size = got.size,
+                        .device_major = (got.device >> 8 & 0xFFF) | (got.device >> 32 & ~0xFFFu),
+                        .device_minor = (got.device & 0xFF) | (got.device >> 12 & ~0xFFu)};
+    return 0;
+}
+#else /* Linux for riscv64 is younger than statx */
+static int32_t older_status(int32_t folder, const char *path, int32_t flags, file_status *to) {
+    return failed(NO_CALL);
+}
+#endif
+
+int32_t port_statx(int32_t folder, const char *path, int32_t flags, uint32_t asked, file_status *to) {
+    long answer = call(STATX, folder, (long)path, flags, asked, (long)to);
+    return answer == -NO_CALL ? older_status(folder, path, flags, to) : answered(answer);
+}
+
+static size_t length_of(const char *text) {
+    size_t length = 0;
+    while (text[length]) length++;
+    return length;
+}
+
+/* A path on its way to be resolved: what is done, with a `/` before each part, what is left from `next` on, and how
+   many links were followed. */
+typedef struct {
+    char *done, left[PATH_BYTES], text[PATH_BYTES];
+    size_t size, next, links;
+} way;
+
+/* Reads the link whose path is done: answers its text's length, or an error below 0, -INVALID where it is no link. */
+static long read_link(way *on) { return call(READLINKAT, HERE, (long)on->done, (long)on->text, PATH_BYTES - 1, 0); }
+
+/* Takes a part back. */
+static void go_up(way *on) {
+    while (on->size && on->done[--on->size] != '/') continue;
+}
+
+/* Puts the text of a link, which replaces the last part, before what is left: answers 0, or an error below 0. */
+static long follow(way *on, size_t length) {
+    char *rest = on->left + on->next;
+    size_t more = length_of(rest) + 1;
+    if (++on->links > 40) return -TOO_MANY_LINKS;
+    if (length + more > PATH_BYTES) return -TOO_LONG;
+    __builtin_memmove(on->left + length, rest, more);
+    __builtin_memcpy(on->left, on->text, length);
+    on->next = 0;
+    go_up(on);
+    if (on->text[0] == '/') on->size = 0;
+    return 0;
+}
+
+/* Goes on by a part, or to where it leads: answers 0, or an error below 0. */
+static long go_on(way *on, const char *part, size_t length) {
+    if (on->size + length + 3 > PATH_BYTES) return -TOO_LONG;
+    on->done[on->size++] = '/';
+    __builtin_memcpy(on->done + on->size, part, length);
+    on->size += length;
+    on->done[on->size] = 0;
+    long answer = read_link(on);
+    if (answer >= 0) return follow(on, answer);
+    if (answer == -INVALID && on->left[on->next]) { /* more follows, so it has to be a folder */
+        on->done[on->size] = '/', on->done[on->size + 1] = 0;
+        answer = read_link(on);
+    }
+    return answer == -INVALID ? 0 : answer;
+}
+
+/* Goes through all parts: answers 0, or an error below 0. */
+static long go_through(way *on) {
+    for (;;) {
+        while (on->left[on->next] == '/') on->next++;
+        const char *part = on->left + on->next;
+        size_t length = 0;
+        while (part[length] && part[length] != '/') length++;
+        if (!length) return 0;
+        on->next += length;
+        if (length == 1 && part[0] == '.') continue;
+        if (length == 2 && part[0] == '.' && part[1] == '.') {
+            go_up(on);
+            continue;
+        }
+        long answer = go_on(on, part, length);
+        if (answer < 0) return answer;
+    }
+}
+
+char *port_realpath(const char *path, char *to) {
+    way on = {.done = to};
+    long answer = *path ? 0 : -NOT_THERE;
+    __builtin_memcpy(on.left, path, length_of(path) + 1);
+    if (*path && *path != '/') {
+        answer = call(GETCWD, (long)to, PATH_BYTES, 0, 0, 0);
+        if (answer >= 0) on.size = answer == 2 ? 0 : answer - 1; /* the root is no part */
+    }
+    if (answer >= 0) answer = go_through(&on);
+    if (answer < 0) {
+        failed(-answer);
+        return NULL;
+    }
+    if (!on.size) to[on.size++] = '/';
+    to[on.size] = 0;
+    return to;
+}
+
+/* Up to where the kernel gave memory. */
+static uintptr_t has;
+
+static int reach(uintptr_t to) {
+    if (to <= has) return 1;
+    uintptr_t wanted = to + (1 << 20), least = to;
+    if (call(BRK, wanted, 0, 0, 0, 0) == (long)wanted) return (has = wanted) != 0;
+    return call(BRK, least, 0, 0, 0, 0) == (long)least && (has = least) != 0;
+}
+
+static char **environment;
+
+ptrdiff_t rattle_env(const char *name, uint8_t *to, size_t size) {
+    for (char **each = environment; *each; each++) {
+        size_t length = 0;
+        while (name[length] && (*each)[length] == name[length]) length++;
+        if (!name[length] && (*each)[length] == '=') return put(*each + length + 1, to, size);
+    }
+    return -1;
+}
+
+/* The functions that clang calls for copies, whose bodies it mustn't take for calls of themselves. */
+#define PLAIN __attribute__((no_builtin, used))
+PLAIN void *memcpy(void *to, const void *from, size_t size) {
+#if defined __x86_64__
+    void *start = to;
+    __asm__ volatile("rep movsb" : "+D"(to), "+S"(from), "+c"(size) : : "memory");
+    return start;
+#else
+    typedef struct { long word; } __attribute__((packed, may_alias)) word;
+    size_t i = 0;
+    for (; i + 8 <= size; i += 8) *(word *)((uint8_t *)to + i) = *(const word *)((const uint8_t *)from + i);
+    for (; i < size; i++) ((uint8_t *)to)[i] = ((const uint8_t *)from)[i];
+    return to;
+#endif
+}
+/* Where `to` lies before `from`, or behind all of it, copying from the front is right. */
+PLAIN void *memmove(void *to, const void *from, size_t size) {
+    if ((uintptr_t)to - (uintptr_t)from >= size) return memcpy(to, from, size);
+    while (size--) ((uint8_t *)to)[size] = ((const uint8_t *)from)[size];
+    return to;
+}
+PLAIN void *memset(void *to, int value, size_t size) {
+    for (size_t i = 0; i < size; i++) ((uint8_t *)to)[i] = value;
+    return to;
+}
+PLAIN int memcmp(const void *one, const void *other, size_t size) {
+    for (size_t i = 0; i < size; i++)
+        if (((const uint8_t *)one)[i] != ((const uint8_t *)other)[i])
+            return ((const uint8_t *)one)[i] - ((const uint8_t *)other)[i];
+    return 0;
+}
+
+/* Called at the program's start with its stack, as the kernel leaves it: the count of words, the words, a NULL, the
+   environment. */
+__attribute__((used)) void begin(size_t *stack) {
+    static const long ignored[4] = {1}; /* SIG_IGN, so that a pipe that nobody reads is an error of write */
+    arg_count = *stack;
+    args = (char **)(stack + 1);
+    environment = args + arg_count + 1;
+    end = has = (call(BRK, 0, 0, 0, 0, 0) + 15) & ~(uintptr_t)15;
+    call(SIGACTION, 13, (long)ignored, 0, 8, 0);
+    call(EXIT, program(), 0, 0, 0, 0);
+    for (;;) continue;
+}

@@ -1,0 +1,217 @@
+"""Runs of the programs, which have to end the same under each system: with the same status, streams and files."""
+
+import os
+import resource
+import signal
+import subprocess
+from dataclasses import dataclass, field
+from pathlib import Path
+
+TOP = Path(__file__).resolve().parent.parent.parent.parent
+EXAMPLES = TOP / "examples"
+SECONDS = 120  # of one run
+FULL = "/dev/full"  # what is written there fails
+
+
+@dataclass
+class Case:
+    """A run: which program, its words, the files that are there, and where its output goes.
+
+    Words are texts, or bytes that are none. An output is `pipe`, `closed`, `unread` (a pipe that nobody reads), or a
+    path. A folder among the files is one whose bytes are None. The most bytes of a file, where they are given, end in
+    an error of the write behind them.
+    """
+
+    title: str
+    program: str
+    words: list
+    files: dict = field(default_factory=dict)
+    output: str = "pipe"
+    most_bytes: int = None
+    variables: dict = field(default_factory=dict)
+    input: bytes = b""
+
+
+@dataclass
+class Outcome:
+    """How a run ended."""
+
+    status: int
+    output: bytes
+    error: bytes
+    files: dict
+
+
+def prepare(most_bytes):
+    """Prepares a run's process: a pipe that nobody reads ends it unless it says otherwise, and what is behind a file's
+    most bytes is refused with an error, and not by a signal, which Python ignores."""
+    signal.signal(signal.SIGPIPE, signal.SIG_DFL)
+    if most_bytes is not None:
+        resource.setrlimit(resource.RLIMIT_FSIZE, (most_bytes, most_bytes))
+
+
+def opened(output, folder):
+    """What the output goes to, and how many bytes of it are kept: a file, or subprocess.PIPE."""
+    if output == "pipe":
+        return subprocess.PIPE
+    if output == "unread":
+        reading, writing = os.pipe()
+        os.close(reading)
+        return open(writing, "wb")
+    return open(folder / output, "wb")
+
+
+def run(programs, case, folder):
+    """Runs a case in an empty folder by the programs of a folder."""
+    for path, content in case.files.items():
+        place = folder / path
+        if content is None:
+            place.mkdir(parents=True)
+        else:
+            place.parent.mkdir(parents=True, exist_ok=True)
+            place.write_bytes(content)
+    words = [str(programs / case.program), *case.words]
+    if case.output == "closed":
+        words = ["/bin/sh", "-c", 'exec "$@" >&-', "sh", *words]
+    stdout = subprocess.PIPE if case.output == "closed" else opened(case.output, folder)
+    done = subprocess.run(
+        words, cwd=folder, stdout=stdout, stderr=subprocess.PIPE, input=case.input, timeout=SECONDS,
+        env={**os.environ, **case.variables}, restore_signals=False, preexec_fn=lambda: prepare(case.most_bytes))
+    files = {
+        str(path.relative_to(folder)): path.read_bytes() if path.is_file() else None
+        for path in sorted(folder.rglob("*"))}
+    return Outcome(done.returncode, done.stdout or b"", done.stderr, files)
+
+
+def modules_of(example):
+    """The names of an example's modules, in the order of its link, and their bytes."""
+    order = example / "MODULES"
+    names = order.read_text().split() if order.exists() else sorted(path.name for path in example.glob("*.OBJ"))
+    return {name: (example / name).read_bytes() for name in names}
+
+
+def all_modules():
+    """The modules of the examples, each by a name of its own."""
+    return {
+        f"{example.name}{name}": content for example in sorted(EXAMPLES.iterdir()) if example.is_dir()
+        for name, content in modules_of(example).items()}
+
+
+def of_examples(program_of):
+    """Each example linked, and its modules shown, checked and rewritten. `program_of` makes the linked program."""
+    for example in sorted(path for path in EXAMPLES.iterdir() if path.is_dir()):
+        files = modules_of(example)
+        words = ["link", "-o", "OUT.EXE", "-m", "OUT.MAP", *files]
+        yield Case(f"{example.name} is linked", "omf", words, files)
+        linked = program_of(words, files)
+        if linked is not None:
+            yield Case(f"{example.name} is loaded", "omf", ["load", "P.EXE", "1000"], {"P.EXE": linked})
+        for name, content in files.items():
+            for words in (["show", name], ["check", name], ["rewrite", name, "NEW.OBJ"], ["rewrite", name, name]):
+                yield Case(f"{example.name}: {' '.join(words)}", "omf", words, {name: content})
+
+
+HELLO = (EXAMPLES / "hello" / "HELLO.OBJ").read_bytes()
+LINK = ["link", "-o", "OUT.EXE"]
+# a module that says nothing but its name
+EMPTY = bytes([0x80, 3, 0, 1, 0x41, 0x3B, 0x8A, 2, 0, 0, 0x74])
+
+
+def of_words():
+    """Words that are wrong, and those of help."""
+    for words in (
+            [], ["help"], ["help", "link"], ["--help"], ["--version"], ["link"], ["lin"], ["link", "-o"],
+            ["link", "--no-such"], [*LINK], ["show"], ["load", "A", "XYZW"], [""], ["show", ""],
+            ["link", "-o", "", "A"]):
+        yield Case(f"omf {words}", "omf", words)
+    many = {f"{number}.OBJ": EMPTY for number in range(200)}
+    title = "two hundred words, of which the last matters"
+    yield Case(title, "omf", [*LINK, *many, "A.OBJ"], {**many, "A.OBJ": HELLO})
+    yield Case("two thousand words", "omf", [*LINK, *(f"{number}.OBJ" for number in range(2000))], many)
+    yield Case("a long word", "omf", ["show", "x" * 3000])
+    yield Case("words with spaces and quotes", "omf", ["show", 'a "b" c\\'])
+
+
+def of_files():
+    """Files that aren't there, or can't be read or written."""
+    given = {"A.OBJ": HELLO, "OUT.EXE": b"an older file" * 1000, "omf-0.tmp": b"of another"}
+    for title, words, files in (
+            ("over an older file", [*LINK, "A.OBJ"], given),
+            ("a map over an older file", [*LINK, "-m", "omf-0.tmp", "A.OBJ"], given),
+            ("a missing module", [*LINK, "B.OBJ"], given),
+            ("a missing folder", ["link", "-o", "none/OUT.EXE", "A.OBJ"], given),
+            ("a folder of a file", ["link", "-o", "A.OBJ/OUT.EXE", "A.OBJ"], given),
+            ("a folder in the place of OUT", [*LINK, "A.OBJ"], {"A.OBJ": HELLO, "OUT.EXE": None}),
+            ("a folder in the place of a module", [*LINK, "A.OBJ"], {"A.OBJ": None}),
+            ("a folder that is shown", ["show", "A.OBJ"], {"A.OBJ": None}),
+            ("no module", [*LINK, "A.OBJ"], {"A.OBJ": b"no module"}),
+            ("an empty module", [*LINK, "A.OBJ"], {"A.OBJ": b""}),
+            ("half a module", ["rewrite", "A.OBJ", "B.OBJ"], {"A.OBJ": HELLO[:100], "B.OBJ": b"old"}),
+            ("other folders", ["link", "-o", "a/b/OUT.EXE", "c/A.OBJ"], {"c/A.OBJ": HELLO, "a/b": None}),
+            ("`.` and `..`", ["link", "-o", "./a/../a/OUT.EXE", "a/../A.OBJ"],
+             {"A.OBJ": HELLO, "a/OUT.EXE": b"old"})):
+        yield Case(title, "omf", words, files)
+    for name in ("a b.obj", "ä Ö ß.obj", "мир.obj", "連結.obj", "é😀.obj"):
+        yield Case(name, "omf", ["link", "-o", f"{name}.exe", "-m", f"{name}.map", name], {name: HELLO})
+        yield Case(f"{name} over another", "omf", ["rewrite", name, name], {name: HELLO})
+        yield Case(f"{name} isn't there", "omf", ["show", name])
+
+
+def of_outputs():
+    """Outputs that are closed, read by nobody, or full."""
+    for output in ("closed", "unread"):
+        for words in (["show", "A.OBJ"], ["check", "A.OBJ"], ["help"], [*LINK, "A.OBJ"], ["show", "B.OBJ"]):
+            yield Case(f"{words[0]} to an output that is {output}", "omf", words, {"A.OBJ": HELLO}, output)
+    for words in (["show", "A.OBJ"], ["check", "A.OBJ"], [*LINK, "A.OBJ"]):
+        yield Case(f"{words[0]} to a full output", "omf", words, {"A.OBJ": HELLO}, FULL)
+    for words in (["link", "-o", FULL, "A.OBJ"], [*LINK, "-m", FULL, "A.OBJ"], ["rewrite", "A.OBJ", FULL]):
+        yield Case(f"{' '.join(words)}", "omf", words, {"A.OBJ": HELLO})
+    yield Case("to the device that takes all", "omf", ["link", "-o", "/dev/null", "A.OBJ"], {"A.OBJ": HELLO})
+
+
+def of_limits(shown, linked):
+    """A disk that takes fewer bytes than there are: one less, half of them, none. `shown` and `linked` are how many
+    bytes `show` and `link` write."""
+    for title, words, output, most in (
+            ("show", ["show", "A.OBJ"], "SHOWN.TXT", shown), ("link", [*LINK, "A.OBJ"], "pipe", linked)):
+        for left in (most, most - 1, most // 2, 1, 0):
+            yield Case(f"{title}: {left} of {most} bytes", "omf", words, {"A.OBJ": HELLO}, output, left)
+
+
+def of_doslink():
+    """Links by doslink: libraries, folders, the variable LIB, a response file and directives."""
+    letters = modules_of(EXAMPLES / "letters")
+    members, main = list(letters)[1:], list(letters)[0]
+    library = archive({name: letters[name] for name in members})
+    files = {main: letters[main], "LETTERS.A": library, "lib/LETTERS.LIB": library, "x/y/LETTERS.LIB": b"no library"}
+    for title, words, more, variables in (
+            ("a library", ["-v", "-o", "OUT.EXE", "-m", "OUT.MAP", main, "LETTERS.A"], {}, {}),
+            ("a library in a folder", ["-v", "-o", "OUT.EXE", "-L", "lib", main, "-l", "LETTERS"], {}, {}),
+            ("a library by LIB", ["-v", "-o", "OUT.EXE", main, "-l", "LETTERS"], {}, {"LIB": "lib", "LIBX": "x"}),
+            ("a library by another variable", ["-o", "OUT.EXE", main, "-l", "LETTERS"], {}, {"LIBX": "lib"}),
+            ("LIB with two folders", ["-o", "OUT.EXE", main, "-l", "LETTERS"], {}, {"LIB": "none;lib"}),
+            ("a damaged library", ["-o", "OUT.EXE", "-L", "x/y", main, "-l", "LETTERS"], {}, {}),
+            ("a missing library", ["-o", "OUT.EXE", main, "-l", "NONE"], {}, {}),
+            ("missing names", ["-o", "OUT.EXE", main], {}, {}),
+            ("a response file", ["@WORDS.RSP"], {"WORDS.RSP": f"-o OUT.EXE {main}\nLETTERS.A\n".encode()}, {}),
+            ("over an input", ["-o", main, main, "LETTERS.A"], {}, {}),
+            ("over an input, otherwise spelled", ["-o", f"./lib/../{main}", main, "LETTERS.A"], {}, {}),
+            ("a folder as an input", ["-o", "OUT.EXE", "lib"], {}, {}),
+            ("several that aren't there", ["-o", "OUT.EXE", "A.OBJ", "B.OBJ", main], {}, {}),
+            ("no words", [], {}, {}), ("wrong words", ["--none"], {}, {}), ("--version", ["--version"], {}, {}),
+            ("help", ["help"], {}, {}), ("letters beyond ASCII", ["-o", "ä ö.exe", main, "LETTERS.A"], {}, {})):
+        yield Case(f"doslink: {title}", "doslink", words, {**files, **more}, variables={"LIB": "", **variables})
+    directives = f"option quiet\nfile {main}\nlibrary LETTERS.A\nname OUT.EXE\n".encode()
+    yield Case("wlink: directives", "wlink", ["@LINK.LNK"], {**files, "LINK.LNK": directives}, variables={"LIB": ""})
+    yield Case("doslink: to standard output", "doslink", ["-o", "-", main, "LETTERS.A"], files, variables={"LIB": ""})
+    yield Case("doslink: of standard input", "doslink", ["-o", "OUT.EXE", "-", "LETTERS.A"], files,
+               variables={"LIB": ""}, input=letters[main])
+
+
+def archive(members):
+    """A Unix archive of these files."""
+    made = b"!<arch>\n"
+    for name, content in members.items():
+        head = f"{name + '/':16}{0:<12}{0:<6}{0:<6}{0o644:<8o}{len(content):<10}`\n"
+        made += head.encode() + content + b"\n" * (len(content) % 2)
+    return made

@@ -1,0 +1,67 @@
+"""Tests of the port for DOS, in DOSBox: what is made there is what the programs that were proved make."""
+
+import shutil
+import sys
+import tempfile
+from pathlib import Path
+
+import cases
+
+sys.path.insert(0, str(cases.TOP / "tools"))
+import dosbox  # noqa: E402
+
+SECONDS = 300  # of all runs in DOSBox
+
+
+def jobs(names):
+    """What is done: a title, the program, its words and the files that are there."""
+    for example in sorted(path for path in cases.EXAMPLES.iterdir() if path.is_dir()):
+        files = cases.modules_of(example)
+        yield f"{example.name} is linked", "omf", ["link", "-o", "OUT.EXE", "-m", "OUT.MAP", *files], files
+        first = next(iter(files))
+        yield f"{first} is shown", "omf", ["show", first], files
+    letters = cases.modules_of(cases.EXAMPLES / "letters")
+    main, *others = letters
+    library = {main: letters[main], "L.LIB": cases.archive({name: letters[name] for name in others}), "D/X.TXT": b"x"}
+    hello = {"HELLO.OBJ": cases.HELLO}
+    yield "over an older file", "omf", ["link", "-o", "OUT.EXE", "HELLO.OBJ"], {**hello, "OUT.EXE": b"old" * 9999}
+    yield "into a folder", "omf", ["link", "-o", "D/OUT.EXE", "HELLO.OBJ"], {**hello, "D/X.TXT": b"x"}
+    yield "a missing module", "omf", ["link", "-o", "OUT.EXE", "NONE.OBJ"], hello
+    yield "a missing name", "omf", ["link", "-o", "OUT.EXE", main], letters
+    yield "wrong words", "omf", ["link", "--none"], {}
+    yield "itself rewritten", "omf", ["rewrite", "HELLO.OBJ", "HELLO.OBJ"], hello
+    if "doslink" in names:
+        yield "a library", "doslink", ["-v", "-o", "OUT.EXE", "-m", "OUT.MAP", main, "L.LIB"], library
+        yield "a library by -l", "doslink", ["-o", "D/OUT.EXE", main, "-l", "L"], library
+        yield "missing names", "doslink", ["-o", "OUT.EXE", main], library
+        yield "over an input", "doslink", ["-o", main, main, "L.LIB"], library
+
+
+def test(programs, outcome, check):
+    """Tests the programs of a folder, by their names. `outcome` runs a case by those that were proved; `check` notes a
+    title, whether it holds, and what is told where it doesn't. DOS has no way to catch what goes to standard error, so
+    that isn't looked at."""
+    with tempfile.TemporaryDirectory(prefix="omf-dos-") as folder:
+        folder, lines, wanted = Path(folder), [], {}
+        for name, file in programs.items():
+            shutil.copy(file, folder / f"{name.upper()}.EXE")
+        for number, (title, program, words, files) in enumerate(jobs(programs)):
+            wanted[number] = title, outcome(cases.Case(title, program, words, files))
+            (folder / str(number)).mkdir()
+            for path, content in files.items():
+                (folder / str(number) / path).parent.mkdir(exist_ok=True)
+                (folder / str(number) / path).write_bytes(content)
+            lines += [f"cd \\{number}", f"\\{program.upper()} {' '.join(words)} > \\{number}.TXT"]
+            for status in (1, 2, 3):
+                lines.append(f"if errorlevel {status} echo {status} > \\{number}.{status}")
+        check("all runs end in DOSBox", dosbox.run(folder, lines, SECONDS))
+        for number, (title, ended) in wanted.items():
+            found = {
+                str(path.relative_to(folder / str(number))): path.read_bytes() if path.is_file() else None
+                for path in (folder / str(number)).rglob("*")}
+            check(f"{title}: the files", found == ended.files, f"{sorted(found)} for {sorted(ended.files)}")
+            output = (folder / f"{number}.TXT").read_bytes()
+            check(f"{title}: the output", output == ended.output, f"{output[:200]!r} for {ended.output[:200]!r}")
+            # DOSBox makes the file in any case, and the line writes into it
+            status = max([each for each in (1, 2, 3) if (folder / f"{number}.{each}").read_bytes()], default=0)
+            check(f"{title}: the status", status == ended.status, f"{status} for {ended.status}")
