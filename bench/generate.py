@@ -1,7 +1,7 @@
 """Object modules of any size, to measure the linker with."""
 
 import struct
-from dataclasses import dataclass
+from dataclasses import dataclass, field
 from enum import IntEnum
 from typing import Optional
 
@@ -33,9 +33,17 @@ CODE = 16
 PAGE = 512
 
 
+# bytes of a name that all members of an archive share
+LONG_NAME = 200_000
+
 # types of the records that define names and use them, for all modules or for their own
 PUBDEF, LPUBDEF = 0x90, 0xB6
 EXTDEF, LEXTDEF = 0x8C, 0xB4
+
+# the types of comments and of aliases, and the class of a comment that gives weak externals their defaults
+COMENT, ALIAS, WKEXT = 0x88, 0xC6, 0xA8
+# the class of a comment that names a default library
+LIBRARY = 0x9F
 
 
 class Location(IntEnum):
@@ -71,12 +79,14 @@ class Combination(IntEnum):
 @dataclass
 class Inputs:
     """The modules of a link, and what the program that they make must have; its file has all of the size, or
-    the written bytes where it has fewer."""
+    the written bytes where it has fewer. Beside them stand files of other names, and further words."""
 
     modules: list
     size: int
     relocations: int
     written: Optional[int] = None
+    files: dict = field(default_factory=dict)
+    words: tuple = ()
 
 
 def record(kind, body):
@@ -225,6 +235,158 @@ def library_of_callers(count):
     for number, module in enumerate(taken):
         members += [unwanted_module(2 * number), unwanted_module(2 * number + 1), module]
     return Inputs([main, library(members)], called.size, called.relocations)
+
+
+def aliases(pairs):
+    """Names with those that they stand for."""
+    return b"".join(
+        record(ALIAS, b"".join(name(text) + name(meaning) for text, meaning in some))
+        for some in pieces(pairs, NAMES_IN_RECORD)
+    )
+
+
+def weak_externals(pairs):
+    """Externals by their indexes, with their defaults."""
+    return b"".join(
+        record(COMENT, bytes([0, WKEXT]) + b"".join(index(number) + index(default) for number, default in some))
+        for some in pieces(pairs, NAMES_IN_RECORD)
+    )
+
+
+def renaming_module(defined, used, records=b""):
+    """A module that defines a name, and has a pointer to the first of the names that it uses."""
+    return Inputs([
+        header("renaming")
+        + names("CODE", "CODE")
+        + segment(4)
+        + publics({defined: 0})
+        + externals(used)
+        + records
+        + data(1, 0, bytes(4))
+        + fixups([fixup(0, Location.POINTER, Target.EXTERNAL, 1)])
+        + main_end()
+    ], 4, 1)
+
+
+def weak_externals_of_one_name(count):
+    """Externals of one name that nothing defines, each weak, and with the same default."""
+    pairs = [(number, count + 1) for number in range(1, count + 1)]
+    return renaming_module("_default", ["_weak"] * count + ["_default"], weak_externals(pairs))
+
+
+def different_weak_externals(count):
+    """The same of as many names."""
+    pairs = [(number, count + 1) for number in range(1, count + 1)]
+    used = [f"_weak{number}" for number in range(count)]
+    return renaming_module("_default", used + ["_default"], weak_externals(pairs))
+
+
+def alias_chain(count):
+    """Aliases, each of the next one, the last of which is of a public."""
+    pairs = [(f"_name{number}", f"_name{number + 1}") for number in range(count)]
+    return renaming_module(f"_name{count}", ["_name0"], aliases(pairs))
+
+
+def aliases_of_one_name(count):
+    """Aliases of one name, which all are of a public, and an external of that name."""
+    return renaming_module("_public", ["_alias"], aliases([("_alias", "_public")] * count))
+
+
+def weak_externals_unwanted(count):
+    """A module, and a library whose only member nobody wants: it has weak externals of one name."""
+    main = renaming_module("_main", ["_main"])
+    unwanted = weak_externals_of_one_name(count).modules
+    return Inputs([*main.modules, library(unwanted)], main.size, main.relocations)
+
+
+def archive(names_table, members):
+    """An archive of `ar`, whose members are named by places of its table of long names."""
+    def member(text, content):
+        head = f"{text:16}{0:<12}{0:<6}{0:<6}{644:<8}{len(content):<10}`\n".encode()
+        return head + content + b"\n" * (len(content) % 2)
+
+    front = b"!<arch>\n" + member("//", names_table)
+    return front + b"".join(member("/0", content) for content in members)
+
+
+def defining_module(text):
+    """A module that defines a name, and has four bytes."""
+    return header("defining") + names("CODE", "CODE") + segment(4) + publics({text: 0}) + data(1, 0, bytes(4)) + end()
+
+
+def archive_of_one_name(count):
+    """A module, and an archive with a long name, which all of its members share; the last of them is taken."""
+    main = renaming_module("_main", ["u0"])
+    members = [unwanted_module(number) for number in reversed(range(1, count))]
+    table = b"n" * LONG_NAME + b"/\n"
+    return Inputs([*main.modules, archive(table, [*members, defining_module("u0")])], 8, main.relocations)
+
+
+def missing_names(count):
+    """A module that uses names of which none is defined."""
+    used = [f"_missing{number}" for number in range(count)]
+    code = header("missing") + names("CODE", "CODE") + segment(2 * count) + externals(used) + fixed_to_externals(count)
+    return Inputs([code + main_end()], 2 * count, 0)
+
+
+def one_public(count):
+    """A module that defines one name many times."""
+    entry = name("_public") + struct.pack("<HB", 0, 0)
+    records = b"".join(record(PUBDEF, b"\0\1" + entry * len(some)) for some in pieces(range(count), NAMES_IN_RECORD))
+    code = header("one") + names("CODE", "CODE") + segment(4) + records + data(1, 0, bytes(4)) + main_end()
+    return Inputs([code], 4, 0)
+
+
+def naming_libraries(texts):
+    """Comments that name default libraries."""
+    return b"".join(record(COMENT, bytes([0, LIBRARY]) + text.encode()) for text in texts)
+
+
+def library_chain(count):
+    """A module that names a library, whose only member names the next one and wants a name of it."""
+    main = renaming_module("_0", ["_1"], naming_libraries(["L1"]))
+    files = {}
+    for number in range(1, count):
+        member = renaming_module(f"_{number}", [f"_{number + 1}"], naming_libraries([f"L{number + 1}"]))
+        files[f"L{number}.LIB"] = library([without_start(member.modules[0])])
+    files[f"L{count}.LIB"] = library([defining_module(f"_{count}")])
+    return Inputs(main.modules, 4 * (count + 1), count, files=files)
+
+
+def without_start(module):
+    """A module that ends as no main one does."""
+    return module[: -len(main_end())] + end()
+
+
+def absent_libraries(count):
+    """A module that names libraries of which none is there."""
+    main = renaming_module("_main", ["_main"], naming_libraries(f"ABSENT{number}" for number in range(count)))
+    return Inputs(main.modules, main.size, main.relocations)
+
+
+def library_of_spellings(count):
+    """A module, and a library by as many spellings of its path."""
+    main = renaming_module("_main", ["_main"])
+    spelled = ["".join("./" if number >> bit & 1 else ".//" for bit in range(13)) for number in range(count)]
+    words = tuple(word for text in spelled for word in ("-l", f"{text}L.LIB"))
+    return Inputs(main.modules, main.size, main.relocations, files={"L.LIB": library([end_only()])}, words=words)
+
+
+def end_only():
+    """A module that says nothing."""
+    return header("end") + end()
+
+
+def ordered_classes(count):
+    """A module with a segment of each of many classes, which an order names the other way round."""
+    texts = [f"C{number}" for number in range(count)]
+    listed = b"".join(names(*some) for some in pieces(texts, NAMES_IN_RECORD))
+    segments = b"".join(
+        record(0x98, struct.pack("<BH", Alignment.BYTE << 5, 1) + 2 * index(number) + b"\0")
+        for number in range(1, count + 1))
+    filled = b"".join(data(number, 0, b"\x90") for number in range(1, count + 1))
+    order = ("--order", ",".join(reversed(texts)))
+    return Inputs([header("classes") + listed + segments + filled + main_end()], count, 0, words=order)
 
 
 def part_module(number):
