@@ -12,6 +12,8 @@ import tempfile
 from dataclasses import dataclass
 from pathlib import Path
 
+import comparison
+
 HERE = Path(__file__).resolve().parent
 
 
@@ -24,13 +26,16 @@ class Change:
     old: str
     new: str
 
-    def make(self, folder):
-        """Makes the change in a copy of this folder."""
-        path = folder / "model" / self.file
-        text = path.read_text()
+    def made(self, folder=HERE):
+        """The file of the model in a folder like this one, as the change makes it."""
+        text = (folder / "model" / self.file).read_text()
         if text.count(self.old) != 1:
             raise ValueError(f"{self.title}: its text doesn't stand once in {self.file}")
-        path.write_text(text.replace(self.old, self.new))
+        return text.replace(self.old, self.new)
+
+    def make(self, folder):
+        """Makes the change in a copy of this folder."""
+        (folder / "model" / self.file).write_text(self.made(folder))
 
 
 READING = [
@@ -292,6 +297,18 @@ PRINTING = [
 CHANGES = [*READING, *MODULE, *PLACEMENT, *IMAGE, *FILES, *PRINTING]
 
 
+def check_texts(some):
+    """Each change fits the model as it stands, is Python, and has a title of its own.
+
+    Raises a ValueError or a SyntaxError.
+    """
+    titles = [change.title for change in some]
+    for change in some:
+        compile(change.made(), f"{change.file}: {change.title}", "exec")
+        if titles.count(change.title) != 1:
+            raise ValueError(f"{change.title}: another change has this title")
+
+
 def seeds_until_found(kind, program, change):
     """In how many seeds a change makes its first difference, and the difference; 0 for none.
 
@@ -314,13 +331,18 @@ def seeds_until_found(kind, program, change):
 
 
 def try_all(kind, program, chosen, jobs):
-    """Tries each of some changes; answers how many made no difference."""
+    """Tries each of some changes; answers how many made no difference.
+
+    Where the changed model itself fails that is told: it says little of the rule.
+    """
     missed = 0
     with concurrent.futures.ThreadPoolExecutor(jobs) as pool:
         tried = pool.map(lambda change: seeds_until_found(kind, program, change), chosen)
-        for change, (number, _) in zip(chosen, tried):
+        for change, (number, difference) in zip(chosen, tried):
+            fails = comparison.MODEL_FAILED in difference
             missed += number == 0
             answer = f"found in {number:,}" if number else f"not found in {kind.most_seeds:,}"
+            answer = f"fails in {number:,}" if fails else answer
             print(f"{answer:>20}  {change.file:16} {change.title}", flush=True)
     print(f"{len(chosen):,} changes, not found: {missed:,}")
     return missed

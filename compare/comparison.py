@@ -23,6 +23,7 @@ NO_FOLDER = "missing/"
 # what is written to it fails
 FULL_DEVICE = "/dev/full"
 DONE = "done"
+MODEL_FAILED = "the model itself failed"
 
 
 class Difference(Exception):
@@ -47,7 +48,7 @@ def asked(command, *given):
     try:
         return command(*given)
     except Exception as problem:
-        raise Difference(f"the model itself failed: {problem!r}") from problem
+        raise Difference(f"{MODEL_FAILED}: {problem!r}") from problem
 
 
 @dataclass

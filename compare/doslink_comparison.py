@@ -65,6 +65,7 @@ class Comparison(comparison.Comparison):
 
     def compare_files(self, case, wanted):
         """The files that are there; those that were given are as they were."""
+        wanted = {os.path.normpath(path): content for path, content in wanted.items()}
         given = {path for path, content in case.files.items() if content is not None}
         paths = [path for path in self.folder.rglob("*") if path.is_file()]
         found = {str(path.relative_to(self.folder)) for path in paths} - {WORDS}

@@ -106,6 +106,7 @@ def run(kind, arguments, program):
     if arguments.until_difference:
         return until_difference(kind, program, seeds)
     kind.check_worked()
+    changes.check_texts(kind.changes)
     if arguments.changed is not None:
         chosen = [change for change in kind.changes if arguments.changed in change.title]
         return changes.try_all(kind, program, chosen, arguments.jobs)

@@ -35,6 +35,11 @@ LIMITS = [
     [(32_767, 65_536), (0, 1)], [(32_768, 65_536), (13_108, 5)], [(1, 1), (2, 2), 1, (3, 3)],
     [(0x8000, 2), (0x8000, 2), (0x8001, 2)]]
 
+# fix-ups of four bytes: their places there, and their locations
+LOCATIONS = [
+    [(0, Location.POINTER)], [(0, Location.POINTER)], [(0, Location.OFFSET)], [(2, Location.BASE)],
+    [(0, Location.OFFSET), (2, Location.BASE)], [(0, Location.LOADER_OFFSET)]]
+
 
 @dataclass
 class Declared:
@@ -86,42 +91,58 @@ def usual_entry(random, name, index=b"\0"):
     return made
 
 
-def module_of_communals(random, title, variables):
-    """A module that declares variables with these names, and has the address of each.
+def module_of_communals(random, title, variables, locations):
+    """A module that declares variables with these names, and has the address of each, or a part.
 
-    It has `_BSS` too, which at times is of DGROUP or of another group.
+    It has `_BSS` too, which at times is of DGROUP or of another group, and at times the offset of a
+    local public that is called like the first variable.
     """
     spelling = RandomSpelling(random)
     names = [b"", b"_DATA", b"DATA", b"DGROUP", b"_BSS", b"BSS", b"AUTO"]
     groups = random.choice([[[1], []], [[1, 2], []], [[1], [2]]])
     itself = [
-        Fixup(True, Location.POINTER, 4 * number, Reference(
+        Fixup(True, location, 4 * number + place, Reference(
             Direct(Method.TARGET), Direct(Method.EXTERNAL, number + 1), None))
-        for number in range(len(variables))]
+        for number in range(len(variables)) for place, location in locations]
+    length, local = 4 * len(variables), []
+    if variables and random.random() < 0.2:
+        name, length = variables[0][0], length + 4
+        local = [
+            records.LocalPublicNames(0, 1, None, [PublicName(name, 0, 0)]),
+            records.LocalExternalNames([name], [0])]
+        itself.append(Fixup(True, Location.OFFSET, length - 4, Reference(
+            Direct(Method.TARGET), Direct(Method.EXTERNAL, len(variables) + 1), None)))
     made = [records.Header(title), records.NameList(names)]
-    made.append(records.SegmentDefinition(2, 2, 4 * len(variables), 2, 3, 1))
-    made.append(records.SegmentDefinition(2, 2, 0, 5, 6, 1))
+    made.append(records.SegmentDefinition(2, 2, length, 2, 3, 1))
+    # mostly as compilers have it, or private, or of another class
+    combination, class_name = random.choice([*4 * [(2, 6)], (0, 6), (2, 3)])
+    made.append(records.SegmentDefinition(2, combination, 0, 5, class_name, 1))
     made += [records.GroupDefinition(4, groups[0]), records.GroupDefinition(7, groups[1])]
     pieces = list(map(spelling.record, made))
     entries = [entry(random, name, declared) for name, declared in variables]
     pieces.append(spelling.framed(COMDEF, b"".join(entries)))
-    made = [records.Data(1, 0, bytes(4 * len(variables))), records.FixupRecord(itself)]
+    made = [*local, records.Data(1, 0, bytes(length)), records.FixupRecord(itself)]
     pieces += map(spelling.record, [*made, records.ModuleEnd(False, None)])
     return b"".join(pieces)
 
 
-def module_of_local_variables(public=None, start=None):
+def module_of_local_variables(public=None, start=None, group=None, grouped=1):
     """A module with three variables that are local to it, near and far, and the address of each.
 
-    It has a local public of a name, or starts at a local external that it doesn't define.
+    It has a local public of a name, or starts at a local external that it doesn't define, or has a
+    group of a name with its data or `_BSS` in it.
     """
     spelling = records.Spelling()
     variables = [
         (b"near", Declared(False, 2)), (b"far", Declared(True, 3, 4)), (b"other", Declared(True, 1, 2))]
     targets = [Reference(
         Direct(Method.TARGET), Direct(Method.EXTERNAL, number), None) for number in range(1, 5)]
-    made = [records.Header(b"LOCAL"), records.NameList([b"", b"_DATA", b"DATA"])]
+    names = [b"", b"_DATA", b"DATA", b"_BSS", b"BSS", group or b""]
+    made = [records.Header(b"LOCAL"), records.NameList(names)]
     made.append(records.SegmentDefinition(2, 2, 12, 2, 3, 1))
+    if group is not None:
+        made.append(records.SegmentDefinition(2, 2, 0, 4, 5, 1))
+        made.append(records.GroupDefinition(6, [grouped]))
     pieces = list(map(spelling.record, made))
     entries = [entry(Random(0), name, declared) for name, declared in variables]
     pieces.append(spelling.framed(LCOMDEF, b"".join(entries)))

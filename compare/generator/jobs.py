@@ -1,31 +1,37 @@
 """Jobs of `doslink`: files, libraries, what is asked for, and the words or directives for it."""
 
-from dataclasses import dataclass, field
+from dataclasses import dataclass, field, replace
 from itertools import groupby
 
 from generator.communals import (
-    NO_NUMBERS, at_limit, module_of_communals, module_of_local_variables, module_of_no_number)
+    LOCATIONS, NO_NUMBERS, Declared, at_limit, module_of_communals, module_of_local_variables,
+    module_of_no_number)
 from generator.libraries import SMALL_PAGES, archive, damaged, library
 from generator.objects import (
     CLASSES, LAZY, MARKS, NAMES, SEGMENTS, TITLES, WEAK, ObjectMaker, any_plan, module_of_alias,
-    module_of_default, module_of_external, module_of_far_data, module_of_links,
-    module_of_long_aliases, module_of_long_externals, module_of_many_parts, module_of_no_alignment,
+    module_of_code, module_of_cut_public, module_of_default, module_of_external,
+    module_of_far_data, module_of_flat, module_of_links, module_of_long_aliases,
+    module_of_long_externals, module_of_many_parts, module_of_marks, module_of_no_alignment,
     module_of_publics, module_of_shared_word, module_of_stack, module_of_start, module_of_sum,
-    segments_called)
+    module_of_wide_record, module_of_wide_segment, segments_called)
 from model import ordering
 from model.directives import Input, Job, Stack
 from model.placement import folded
+from model.records import Location
 
 OUT, MAP, RESPONSE, NO_FOLDER = "out.exe", "out.map", "response", "missing/"
 FOLDER, OTHER_FOLDER, LAST_FOLDER = "parts", "more/", "last"
 MOST_PARTS, MANY_EVERY = 16_383, 500
-# alignments and lengths of far data, which fits in a frame or not once it is in whole paragraphs
-FAR_DATA = [
+# alignments and lengths of far data, which fits in a frame or not once it is in whole paragraphs;
+# public far data stands beside it, and absolute one, which has no alignment
+FAR_DATA_EVERY, FAR_DATA = 25, [
     [(3, 0xFFF0), (3, 16)], [(3, 0xFFF0), (3, 17)], [(3, 0xFFF1), (3, 5)], [(3, 0xFFE1), (3, 15)],
     [(3, 0x8000), (3, 0x8000)], [(1, 0xFFE0), (3, 16)], [(1, 0xFFE0), (3, 17)],
-    [(3, 0xFFC0), (2, 16), (5, 16)], [(3, 0xFFC0), (5, 17), (1, 16)], [(4, 0xFE00), (3, 0x110)],
-    [(3, 0x110), (4, 0xFE00)], [(4, 0xFE00), (3, 0x111)]]
-# one seed in so many has such lengths, one a list of segments, and one BSS outside of DGROUP
+    [(0, 0x10), (3, 0x10)], [(3, 0xFFC0), (2, 16), (5, 16)], [(3, 0xFFC0), (5, 17), (1, 16)],
+    [(4, 0xFE00), (3, 0x110)],
+    [(3, 0x110), (4, 0xFE00)], [(4, 0xFE00), (3, 0x111)], [(3, 0xFFF0), (3, 0x100, 2)],
+    [(3, 0x10), (3, 0x10, 2, b"FAR_DATA")]]
+# one seed in so many has a list of segments, and one BSS outside of DGROUP
 RARE_EVERY = 100
 # one job in so many has a line that is wrong, each in its turn, and one tells faults alone
 WRONG_EVERY, QUIET_EVERY = 25, 250
@@ -36,10 +42,15 @@ COMMUNALS_EVERY = 15
 DEFAULTS_EVERY = 50
 # and one an alias that records of one of these types name: EXTDEF, COMDEF, LCOMDEF, CEXTDEF
 RENAMED_EVERY, RENAMED = 50, [0x8C, 0xB0, 0xB8, 0xBC]
+# one has aliases of four names, of which some are used and some members of a library offer
+ALIASES_EVERY, ALIASED = 25, [b"a", b"b", b"c", b"d"]
 # and one has variables that are local to modules, and what is in their way
-LOCAL_EVERY, LOCAL = 50, [{}, {"public": b"NEAR"}, {"start": b"start"}]
-# one job in so many has a default library that names another one, and one a public in two cases
-CHAIN_EVERY, TWICE_EVERY = 250, 250
+LOCAL_EVERY, LOCAL = 50, [
+    {}, {"public": b"NEAR"}, {"start": b"start"}, {"group": b"AUTO"},
+    {"group": b"DGROUP", "grouped": 2}]
+# one job in so many has default libraries behind each other, one a public in two cases, and one
+# libraries alone
+CHAIN_EVERY, TWICE_EVERY, ALONE_EVERY = 250, 250, 250
 # one job in so many has a segment of no alignment, which is lowered or not; one a number of no form
 AMISS_EVERY, NO_NUMBER_EVERY = 200, 250
 # one has an offset, of 32 bits or 16, with a sum of the most or one more
@@ -51,9 +62,42 @@ SHARED_EVERY, SHARED = 50, [
 # one a start by this type of MODEND with such a sum, alone or beside another one
 START_EVERY, STARTS = 50, [(0x8B, 1), (0x8A, 1), (0x8B, 2), (0x8B, 1)]
 # one job in so many has stacks of these lengths, and asks for one of about their sum
-STACKS_EVERY, STACKS = 40, [[], [0], [1], [33], [3, 5], [16, 0, 17], [0x8000, 0x7FFF, 1], [0x100]]
+STACKS_EVERY, STACKS = 20, [
+    [], [1], [33], [3, 5], [16, 0, 17], [0x8000, 0x7FFF, 1], [7, 9, 11], [0x10000]]
 # of a stack that is asked for
 STACK_LENGTHS = [1, 2, 0x10, 0x80, 0x100, 0x101, 0x400, 0x1000, 0x8000, 0xFFFF, 0x10000]
+# one job in so many has a group FLAT, and what names it; one code in a private segment or in DGROUP
+FLAT_EVERY, CODE_EVERY, CODES = 50, 250, [(0, False), (2, True)]
+# one has fix-ups of 32 bits, a thread and its use or a displacement that is too great, or a line of
+# 32 bits; one a negative number at the last place or behind it; and one a public that is cut
+WIDE_EVERY, WIDE = 250, [
+    (0x9D, b"\x44\1\xC4\0\x84\1"), (0x9D, b"\xC4\0\x50\1\0\0\1\0"), (0x95, b"\0\1\1\0\2\0\0\0")]
+NEGATIVE_EVERY, LAST_PLACES, CUT_EVERY = 250, [1021, 1022], 250
+# one has a segment of 32 bits with this length, or as long as offsets of 32 bits reach
+WHOLE_EVERY, WHOLE = 125, [b"\x29\0\0\1\0", b"\x2B\0\0\0\0", b"\x29\1\0\1\0"]
+FLAT = [
+    "frame", "target", "frame thread", "target thread", "start", "kept out", "nothing",
+    "other group", "other case"]
+# one wants some marks, and has so many bytes in its data, its BSS or its stack
+MARKS_EVERY, CLEARED = 50, [
+    (MARKS, 2, 1), (MARKS, 2, 0), (MARKS, 1, 1), (MARKS, 3, 1), (MARKS[:1], 2, 1),
+    (MARKS[-1:], 2, 1)]
+# one has a file that is no module, or one that is and is cut
+FOREIGN_EVERY, FOREIGN = 50, [
+    b"", b"\x7FELF\1\1\1\0", b"\x4C\1\0\0", b"\x64\x86\1\0", b"\xCE\xFA\xED\xFE\7\0",
+    b"\xCF\xFA\xED\xFE\7\0", b"MZ\x90\0", b"!<thin>\n/ 0", b"\tmov ax,1\r\n\f\x1A", b"x\0y",
+    255 * b"a" + b"\0", 256 * b"a" + b"\0", b"ab\x7F", b"caf\xC3\xA9\n", b"\x80\3", b"\x82\3\0",
+    b"\x88\3\0\0\0\0\x8C\4\0\1q\0\0\x99\2\0\x28\0"]
+# one has a file, which isn't read, where it writes, or asks for a program of another form
+WRITTEN_EVERY, THERE = 25, "there.exe"
+WRITTEN = [
+    b"\x80\3\0\1A\x3B", b"\x80\3\0", b"\x80\4\0\1A\0\0", b"\x82\3\0\1A\0", b"\xF0\x0D\0",
+    b"\xF0\x0E\0\0", b"\xF0\x0D", b"!<arch>\n", b"!<thin>\n", b"MZ"]
+OTHER_OUTS = [
+    "out.com", "OUT.SYS", "a.Bin", "out.img", "com", "out.com.exe", "./0.obj", "././/0.obj",
+    RESPONSE, "./" + OUT]
+# one has about so many lines of a kind as are told
+LINES_EVERY, LINE_COUNTS = 25, [20, 21, 22]
 # lengths of a body that externals by indexes, or of aliases, have by their names
 LONG_BODIES, LONG_EVERY = [65_534, 65_535], 150
 MEMBER_NAMES = [b"printf.o", b"exit.o", b"system.o", b"a_long_name_of_a_member.o", b"x"]
@@ -156,9 +200,10 @@ class JobMaker:
         """One module or two with communal variables at a limit."""
         variables = at_limit(number)
         half = self.random.choice([len(variables), self.random.randrange(len(variables))])
+        locations = self.random.choice(LOCATIONS)
         for place, part in enumerate([variables[:half], variables[half:]]):
             self.files[f"{place}.obj"] = module_of_communals(
-                self.random, b"%d.C" % place, part)
+                self.random, b"%d.C" % place, part, locations)
             self.give(f"{place}.obj")
         self.folders, self.job.map = [], MAP
         self.job.order = self.random.choice([None, None, ordering.DOSSEG])
@@ -177,8 +222,9 @@ class JobMaker:
         """A name, or a mark, with a default by one module and another or none by the next."""
         name, kinds = self.random.choice([b"x", *MARKS]), [None, WEAK, LAZY]
         first, other = self.random.choice(kinds[1:]), self.random.choice(kinds)
+        again = [name] if self.happens(0.2) else []
         modules = [
-            module_of_default(name, b"a", first), module_of_default(name, b"b", other),
+            module_of_default(name, b"a", first, again), module_of_default(name, b"b", other),
             module_of_publics([b"a", b"b"])]
         return self.asked_of(modules)
 
@@ -188,6 +234,25 @@ class JobMaker:
             module_of_external(b"x", kind), module_of_alias(b"x", b"a"),
             module_of_publics([b"a", b"x"])]
         return self.asked_of(modules)
+
+    def make_aliases(self):
+        """An external, and aliases of names: of modules, and of members of a library."""
+        aliases = [
+            module_of_alias(*self.random.sample(ALIASED, 2))
+            for _ in range(self.random.choice([1, 2, 2, 3]))]
+        name, kind = self.random.choice(ALIASED), self.random.choice([0x8C, 0x8C, 0xB0, WEAK])
+        name = name.upper() if self.job.ignores_case else name
+        modules = [
+            module_of_default(name, b"default", kind) if kind == WEAK else
+            module_of_external(name, kind)]
+        part = self.random.randrange(len(aliases) + 1)
+        members = [module_of_publics([name]) for name in self.random.sample(ALIASED, 3)]
+        members += aliases[part:]
+        self.random.shuffle(members)
+        self.files["0.lib"] = library(self.random, members, SMALL_PAGES)
+        self.give_library("0.lib")
+        self.job.map, self.job.is_verbose = MAP, True
+        return self.asked_of(modules + aliases[:part])
 
     def make_local(self, given):
         """Two modules with variables that are local to them, of which one has something more."""
@@ -200,23 +265,38 @@ class JobMaker:
         self.job.ignores_case = self.happens(0.7)
         return self.asked()
 
-    def make_chain(self):
-        """A default library that names another one and wants a name of it, which names none."""
+    def make_chain(self, is_given):
+        """A default library that names another one and wants a name of it, which names none.
+
+        Or it has this name itself, as a library has that is given.
+        """
         self.files["0.obj"] = module_of_links([], [b"f"], b"FIRST")
-        for name, content in [
-                ("FIRST", module_of_links([b"f"], [b"g"], b"SECOND")),
-                ("SECOND", module_of_links([b"g"], [], b""))]:
-            self.files[f"{name}.LIB"] = library(self.random, [content], SMALL_PAGES)
+        first = module_of_links([b"f"], [b"g"], b"SECOND")
+        second = module_of_links([b"g"], [], b"")
+        for name, members in [
+                ("FIRST", [first, second] if is_given else [first]), ("SECOND", [second])]:
+            self.files[f"{name}.LIB"] = library(self.random, members, SMALL_PAGES)
         self.give("0.obj")
+        if is_given:
+            self.give("SECOND.LIB")
         self.folders, self.job.map = [], MAP
         return self.asked()
 
-    def make_twice(self):
-        """A public that two modules spell in two cases, which don't count."""
+    def make_libraries_alone(self):
+        """A library, which nothing wants anything of; words have to name a file too."""
+        self.files["0.lib"] = library(self.random, [module_of_publics([b"x"])], SMALL_PAGES)
+        self.give_library("0.lib")
+        self.folders = []
+        return self.by_directives()
+
+    def make_twice(self, are_variables):
+        """A public that two modules spell in two cases, which don't count, or variables in both."""
         for number, name in enumerate([b"x", b"X"]):
-            self.files[f"{number}.obj"] = module_of_publics([name])
+            variables = [(name, Declared(False, 2))]
+            self.files[f"{number}.obj"] = module_of_publics([name]) if not are_variables else \
+                module_of_communals(self.random, b"TWICE", variables, LOCATIONS[0])
             self.give(f"{number}.obj")
-        self.folders, self.job.ignores_case = [], True
+        self.folders, self.job.ignores_case = [], not are_variables
         return self.asked()
 
     def make_amiss(self):
@@ -227,39 +307,180 @@ class JobMaker:
         return self.asked()
 
     def make_sum(self, location, total):
-        """A module twice: the segment of the second begins at 4, and the sum there is this."""
-        word = self.random.choice([0, 1, 0xFF, 0xFF00, 0xFFFB])
-        self.files["sum.obj"] = module_of_sum(
-            location, word, total - 4 - word, self.random.choice([False, True]))
+        """A module twice: the sum in the second, whose segment begins behind the first, is this, or
+        about 0 with a negative number."""
+        is_repeated = self.random.choice([False, True])
+        place = 0 if is_repeated else self.random.choice([0, 0, 0, 1018, 1021, 1022])
+        number = self.random.choice([0, 1, 0xFF, 0xF900, 0xFBFD])
+        if location in (9, 13) and self.happens(0.5):
+            number = self.random.choice([-1, -4, -5, -0xFF00, -0x1_0000, -0x1_0001])
+            total = self.random.choice([total, total, -1, 0, 1])
+        displacement = min(max(total - place - 4 - number, 0), 65_535)
+        self.files["sum.obj"] = module_of_sum(location, place, number, displacement, is_repeated)
         self.give("sum.obj", "sum.obj")
         self.folders = []
         return self.asked()
 
+    def make_negative(self, place):
+        """The same with a negative number at a place, so that the sum is 0 in the first."""
+        self.files["sum.obj"] = module_of_sum(9, place, -4, 4, False)
+        self.give("sum.obj")
+        self.folders = []
+        return self.asked()
+
+    def make_wide(self, kind, body):
+        """A module with a record with numbers of 32 bits behind its data."""
+        self.files["wide.obj"] = module_of_wide_record(kind, body)
+        self.give("wide.obj")
+        self.folders = []
+        return self.asked()
+
+    def make_whole(self, front):
+        """A module with a segment of 32 bits, whose SEGDEF begins so."""
+        self.files["whole.obj"] = module_of_wide_segment(front)
+        self.give("whole.obj")
+        self.folders, self.job.map = [], MAP
+        return self.asked()
+
+    def make_cut_public(self):
+        """A name that a member offers, in front of which one has a public of it that is cut."""
+        members = [module_of_cut_public(b"x"), module_of_publics([b"x"])]
+        self.files["0.lib"] = library(self.random, members, SMALL_PAGES)
+        self.give_library("0.lib")
+        self.job.is_verbose, self.job.map = True, MAP
+        return self.asked_of([module_of_external(b"x", 0x8C)])
+
     def make_shared(self, location, place):
         """A module with an offset of 32 bits and another fix-up, which share a word or not."""
         relative = location in (0, 1) and self.happens(0.3)
-        self.files["shared.obj"] = module_of_shared_word(location, place, relative)
+        number = self.random.choice([0, 0, -1, -0x100, -0x101])
+        self.files["shared.obj"] = module_of_shared_word(location, place, relative, number)
         self.give("shared.obj")
         self.folders = []
         return self.asked()
 
     def make_stacks(self, lengths):
-        """Modules with stacks of these lengths, of one name or of two, and a length that is asked for."""
-        names = self.random.choice([[b"STACK"], [b"STACK"], [b"STACK", b"OTHER"]])
+        """Modules with stacks of these lengths, of one name or two, and a length that is wanted."""
+        names, classes = self.random.choice([
+            ([b"STACK"], [b"STACK"]), ([b"STACK"], [b"HEAP"]),
+            *2 * [([b"STACK", b"OTHER"], [b"STACK", b"HEAP"])]])
         for number, length in enumerate([None, *lengths]):
-            name = self.random.choice(names)
-            self.files[f"{number}.obj"] = module_of_stack(name, length, self.random)
+            called = self.random.choice(names), self.random.choice(classes)
+            self.files[f"{number}.obj"] = module_of_stack(*called, length, self.random)
             self.give(f"{number}.obj")
-        asked = sum(lengths) + self.random.choice([-sum(lengths) // 2, -1, 0, 1, 17])
+        half = -sum(lengths) // 2
+        asked = sum(lengths) + self.random.choice([half, half, -1, 0, 1, 17])
         self.job.stack = Stack(min(max(asked, 1), 0x10000), cuts=False)
-        self.job.order = self.random.choice([None, None, ordering.DOSSEG])
+        self.job.order = self.random.choice([
+            None, ordering.DOSSEG, [ordering.Class(b"HEAP")]])
         self.folders, self.job.map = [], MAP
+        is_cut = lengths == [0x10000] or self.happens(0.4)
+        return self.by_directives() if is_cut else self.asked()
+
+    def make_flat(self, use):
+        """A module with a group FLAT, and something that has its frame, or nothing."""
+        self.files["flat.obj"] = module_of_flat(use)
+        self.give("flat.obj")
+        self.job.keeps_debug = self.happens(0.2)
+        self.folders = []
+        return self.asked()
+
+    def make_code(self, combination, in_group):
+        """Code in a private segment, or in DGROUP, in the order of DOSSEG."""
+        self.files["code.obj"] = module_of_code(combination, in_group)
+        self.give("code.obj")
+        self.folders, self.job.order = [], ordering.DOSSEG
+        return self.case(self.words(), "doslink")
+
+    def make_marks(self, marks, segment, count):
+        """A module that wants marks, with bytes of its data, its BSS or its stack, in any order.
+
+        They are spelled in capitals at times, and at times the module has a local name like one.
+        """
+        marks = [mark.upper() for mark in marks] if self.happens(0.3) else marks
+        local = [self.random.choice(marks)] if self.happens(0.3) else []
+        order = self.random.choice([[1, 2, 3], [2, 1, 3]])
+        self.files["marks.obj"] = module_of_marks(
+            marks, local, order, order.index(segment) + 1, count)
+        self.give("marks.obj")
+        self.folders, self.job.map = [], MAP
+        self.job.order = self.random.choice([None, ordering.DOSSEG])
+        return self.asked()
+
+    def make_foreign(self, content):
+        """A file that is no module, or one that is cut, beside one that is."""
+        self.files["other"], self.files["0.obj"] = content, module_of_publics([b"x"])
+        self.give(*self.random.choice([["other"], ["0.obj", "other"]]))
+        self.folders = []
+        return self.asked()
+
+    def make_written(self, turn):
+        """A program, or its map, in the place of a file, or of another form."""
+        self.files["0.obj"], self.folders = module_of_publics([b"x"]), []
+        self.give("0.obj")
+        number = turn // 2
+        path = THERE if turn % 2 else OTHER_OUTS[number % len(OTHER_OUTS)]
+        if turn % 2:
+            self.files[THERE] = WRITTEN[number % len(WRITTEN)]
+        if self.happens(0.5):
+            self.job.out = path
+        else:
+            self.job.map = path
+        return self.by_directives() if path == RESPONSE else self.asked()
+
+    def make_many_lines(self, number):
+        """As many lines of a kind as are told, or more of them."""
+        kinds = [
+            self.many_missing, self.many_twice, self.many_absent, self.many_libraries,
+            self.many_wide, self.many_left_out, self.many_reached]
+        turn, which = divmod(number, len(kinds))
+        self.folders, self.job.is_verbose = [], self.happens(0.3)
+        return kinds[which](LINE_COUNTS[turn % len(LINE_COUNTS)])
+
+    def many_missing(self, count):
+        self.files["0.obj"] = module_of_links([], [b"n%d" % each for each in range(count)], b"")
+        self.give("0.obj")
+        return self.asked()
+
+    def many_twice(self, count):
+        for name in ("0.obj", "1.obj"):
+            self.files[name] = module_of_publics([b"n%d" % each for each in range(count)])
+            self.give(name)
+        return self.asked()
+
+    def many_absent(self, count):
+        self.give(*(f"{each}" for each in range(count - 1)))
+        self.give_library("nowhere")
+        return self.asked()
+
+    def many_libraries(self, count):
+        for number in range(count):
+            self.files[f"{number}.obj"] = module_of_links([], [], b"nowhere%d" % number)
+            self.give(f"{number}.obj")
+        return self.asked()
+
+    def many_wide(self, count):
+        self.files["wide.obj"] = module_of_wide_segment()
+        self.give(*count * ["wide.obj"])
+        return self.asked()
+
+    def many_left_out(self, count):
+        self.files["0.obj"] = module_of_publics([b"x"])
+        self.give("0.obj")
+        self.required_lines = [self.random.choice(LEFT_OUT[:3]) for _ in range(count)]
+        return self.by_directives()
+
+    def many_reached(self, count):
+        variables = [(b"v%d" % each, Declared(True, 1)) for each in range(count)]
+        self.files["0.obj"] = module_of_communals(
+            self.random, b"FAR", variables, [(0, Location.OFFSET)])
+        self.give("0.obj")
         return self.asked()
 
     def make_start(self, kind, count, total):
         """A module with an offset of 32 bits or without, and so many with a start, which has this
         sum in the first."""
-        self.files["sum.obj"] = module_of_sum(self.random.choice([1, 9]), 0, 0, False)
+        self.files["sum.obj"] = module_of_sum(self.random.choice([1, 9]), 0, 0, 0, False)
         self.files["start.obj"] = module_of_start(kind, total - 4)
         self.give("sum.obj", *count * ["start.obj"])
         self.folders = []
@@ -293,7 +514,9 @@ class JobMaker:
         class_name = self.random.choice(FULL_CLASSES)
         names = sorted({name for name, its_class, combines, *_ in SEGMENTS
                         if its_class == class_name and combines})
-        self.plan.segments = segments_called([b"_TEXT", *names])
+        self.plan = replace(
+            self.plan, segments=segments_called([b"_TEXT", *names]), has_others=0, is_wide=0,
+            has_communals=0, has_aliases=0, has_defaults=0)
         self.add_some_objects()
         self.random.shuffle(names)
         self.job.order = [ordering.Class(class_name), *map(ordering.Named, names)]
@@ -359,8 +582,14 @@ class JobMaker:
         if self.happens(0.01):
             content = damaged(self.random, content)
         path = f"{number}.obj"
+        if self.happens(0.05):
+            # without its ending, beside one that has it or another one
+            paths = [str(number), f"{number}.OBJ", path]
+            there = self.random.sample(paths, self.random.choice([1, 2]))
+            self.files.update({each: content for each in there})
+            return self.give(str(number))
         self.files[path] = content if not self.happens(0.003) else None
-        self.give(path)
+        return self.give(path)
 
     def members(self):
         """Modules that want each other, with the names that a librarian gives them."""
@@ -540,7 +769,7 @@ class JobMaker:
         job.has_default_libraries = True
         if job.stack is not None:
             job.stack.cuts = True
-        if self.happens(0.01):
+        if self.happens(0.02):
             job.inputs = [each for each in job.inputs if each.is_library]
         lines = list(map(self.in_any_case, self.lines()))
         if self.happens(0.8):
@@ -625,49 +854,60 @@ class JobMaker:
         return self.random.choice(["", "", "", "  "]) + word + space + rest
 
 
+def in_turn(make, cases=((),)):
+    """What makes a job of the cases in their turn; a tuple is of what a method is given."""
+    def make_case(maker, turn):
+        each = cases[turn % len(cases)]
+        return make(maker, *each) if isinstance(each, tuple) else make(maker, each)
+
+    return make_case
+
+
+# One job in so many, behind so many, is made for one rule, each time in its next turn. The first of
+# these that a number is one of counts.
+MADE = [
+    (MANY_EVERY, 0, in_turn(JobMaker.make_many_parts, [MOST_PARTS, MOST_PARTS + 1])),
+    (FAR_DATA_EVERY, 1, in_turn(JobMaker.make_far_data, FAR_DATA)),
+    (RARE_EVERY, 98, in_turn(JobMaker.make_bss_outside)),
+    (RARE_EVERY, 99, in_turn(JobMaker.make_listed)),
+    (LONG_EVERY, 3, in_turn(JobMaker.make_long_externals, [
+        (make_module, length) for make_module in (module_of_long_externals, module_of_long_aliases)
+        for length in LONG_BODIES])),
+    (WRONG_EVERY, 8, in_turn(JobMaker.make_wrong, WRONG_LINES)),
+    (QUIET_EVERY, 20, in_turn(JobMaker.make_quiet)),
+    (ALIASES_EVERY, 14, in_turn(JobMaker.make_aliases)),
+    (FLAT_EVERY, 10, in_turn(JobMaker.make_flat, FLAT)),
+    (MARKS_EVERY, 16, in_turn(JobMaker.make_marks, CLEARED)),
+    (FOREIGN_EVERY, 29, in_turn(JobMaker.make_foreign, FOREIGN)),
+    (WRITTEN_EVERY, 6, JobMaker.make_written),
+    (LINES_EVERY, 18, JobMaker.make_many_lines),
+    (CODE_EVERY, 70, in_turn(JobMaker.make_code, CODES)),
+    (WIDE_EVERY, 120, in_turn(JobMaker.make_wide, WIDE)),
+    (NEGATIVE_EVERY, 130, in_turn(JobMaker.make_negative, LAST_PLACES)),
+    (WHOLE_EVERY, 45, in_turn(JobMaker.make_whole, WHOLE)),
+    (CUT_EVERY, 195, in_turn(JobMaker.make_cut_public)),
+    (COMMUNALS_EVERY, 2, JobMaker.make_communals),
+    (DEFAULTS_EVERY, 7, in_turn(JobMaker.make_defaults)),
+    (RENAMED_EVERY, 13, in_turn(JobMaker.make_renamed, RENAMED)),
+    (LOCAL_EVERY, 36, in_turn(JobMaker.make_local, LOCAL)),
+    (CHAIN_EVERY, 44, in_turn(JobMaker.make_chain, [False, True])),
+    (ALONE_EVERY, 95, in_turn(JobMaker.make_libraries_alone)),
+    (TWICE_EVERY, 69, in_turn(JobMaker.make_twice, [False, True])),
+    (NO_NUMBER_EVERY, 24, in_turn(JobMaker.make_no_number, NO_NUMBERS)),
+    (SUM_EVERY, 38, in_turn(JobMaker.make_sum, [
+        (location, total) for location in SUM_LOCATIONS for total in SUMS])),
+    (SHARED_EVERY, 46, in_turn(JobMaker.make_shared, SHARED)),
+    (START_EVERY, 41, in_turn(JobMaker.make_start, [
+        (*start, total) for start in STARTS for total in SUMS])),
+    (STACKS_EVERY, 5, in_turn(JobMaker.make_stacks, STACKS)),
+    (AMISS_EVERY, 11, in_turn(JobMaker.make_amiss)),
+]
+
+
 def case(random, number=1):
-    """A job and its files; of some numbers one at a limit, or past it."""
+    """A job and its files; of some numbers one that is made for one rule, often at its limit."""
     maker = JobMaker(random)
-    if number % MANY_EVERY == 0:
-        return maker.make_many_parts(MOST_PARTS + number // MANY_EVERY % 2)
-    if number % RARE_EVERY == 1:
-        return maker.make_far_data(FAR_DATA[number // RARE_EVERY % len(FAR_DATA)])
-    if number % RARE_EVERY == 98:
-        return maker.make_bss_outside()
-    if number % RARE_EVERY == 99:
-        return maker.make_listed()
-    if number % LONG_EVERY == 3:
-        turn, which = divmod(number // LONG_EVERY, len(LONG_BODIES))
-        make_module = module_of_long_aliases if turn % 2 else module_of_long_externals
-        return maker.make_long_externals(make_module, LONG_BODIES[which])
-    if number % WRONG_EVERY == 8:
-        return maker.make_wrong(WRONG_LINES[number // WRONG_EVERY % len(WRONG_LINES)])
-    if number % QUIET_EVERY == 20:
-        return maker.make_quiet()
-    if number % COMMUNALS_EVERY == 2:
-        return maker.make_communals(number // COMMUNALS_EVERY)
-    if number % DEFAULTS_EVERY == 7:
-        return maker.make_defaults()
-    if number % RENAMED_EVERY == 13:
-        return maker.make_renamed(RENAMED[number // RENAMED_EVERY % len(RENAMED)])
-    if number % LOCAL_EVERY == 36:
-        return maker.make_local(LOCAL[number // LOCAL_EVERY % len(LOCAL)])
-    if number % CHAIN_EVERY == 44:
-        return maker.make_chain()
-    if number % TWICE_EVERY == 69:
-        return maker.make_twice()
-    if number % NO_NUMBER_EVERY == 24:
-        return maker.make_no_number(NO_NUMBERS[number // NO_NUMBER_EVERY % len(NO_NUMBERS)])
-    if number % SUM_EVERY == 38:
-        turn, which = divmod(number // SUM_EVERY, len(SUMS))
-        return maker.make_sum(SUM_LOCATIONS[turn % len(SUM_LOCATIONS)], SUMS[which])
-    if number % SHARED_EVERY == 46:
-        return maker.make_shared(*SHARED[number // SHARED_EVERY % len(SHARED)])
-    if number % START_EVERY == 41:
-        turn, which = divmod(number // START_EVERY, len(SUMS))
-        return maker.make_start(*STARTS[turn % len(STARTS)], SUMS[which])
-    if number % STACKS_EVERY == 5:
-        return maker.make_stacks(STACKS[number // STACKS_EVERY % len(STACKS)])
-    if number % AMISS_EVERY == 11:
-        return maker.make_amiss()
+    for every, behind, make in MADE:
+        if number % every == behind:
+            return make(maker, number // every)
     return maker.make()

@@ -481,29 +481,34 @@ def module_of_long_aliases(length):
 
 
 def module_of_many_parts(count):
-    """A module of so many segments of one class, of which none combines with another."""
+    """A module of so many segments of one class, of which none combines and the first has a byte."""
     spelling = records.Spelling()
     names = [b"", b"CODE", *(b"%d" % number for number in range(count))]
     made = [records.Header(b"MANY")]
     made += [records.NameList(names[at:at + 5000]) for at in range(0, len(names), 5000)]
-    made += [records.SegmentDefinition(1, 2, 0, number + 3, 2, 1) for number in range(count)]
+    made += [
+        records.SegmentDefinition(1, 2, int(number == 0), number + 3, 2, 1)
+        for number in range(count)]
     made.append(records.ModuleEnd(False, None))
     return b"".join(map(spelling.record, made))
 
 
-def module_of_far_data(alignment, length):
-    """A module of far data of an alignment with the number of its own frame."""
+def module_of_far_data(alignment, length, combination=0, name=b"FAR"):
+    """A module of far data of an alignment, with its own frame's number unless it is absolute."""
     itself = Reference(Direct(Method.TARGET), Direct(Method.SEGMENT, 1), None)
     made = [
-        records.Header(b"FAR"), records.NameList([b"", b"FAR_DATA", b"FAR"]),
-        records.SegmentDefinition(alignment, 0, length, 3, 2, 1), records.Data(1, 0, bytes(2)),
-        records.FixupRecord([Fixup(True, Location.BASE, 0, itself)]),
-        records.ModuleEnd(False, None)]
+        records.Header(b"FAR"), records.NameList([b"", b"FAR_DATA", name]),
+        records.SegmentDefinition(
+            alignment, combination, length, 3, 2, 1, *([] if alignment else [0xB800, 0]))]
+    if alignment:
+        made.append(records.Data(1, 0, bytes(2)))
+        made.append(records.FixupRecord([Fixup(True, Location.BASE, 0, itself)]))
+    made.append(records.ModuleEnd(False, None))
     return b"".join(map(records.Spelling().record, made))
 
 
-def module_of_stack(name, length, random):
-    """A module with a stack of this name and length, or with code and no stack."""
+def module_of_stack(name, class_name, length, random):
+    """A module with a stack of this name, class and length, or with code and no stack."""
     code = [
         records.SegmentDefinition(1, 2, 5, 3, 4, 1), records.Data(1, 0, bytes(5)),
         records.GroupDefinition(2, [])]
@@ -515,17 +520,22 @@ def module_of_stack(name, length, random):
         stack.append(records.Data(1, length - 1, b"x"))
     made = [
         records.Header(b"STACKED"),
-        records.NameList([b"", b"DGROUP", b"_TEXT", b"CODE", name, b"STACK"]),
+        records.NameList([b"", b"DGROUP", b"_TEXT", b"CODE", name, class_name]),
         *(code if length is None else stack), records.ModuleEnd(False, None)]
     return b"".join(map(records.Spelling().record, made))
 
 
-def module_of_default(name, default, kind):
-    """A module that calls a name, which by a comment of this class has a default; by None, none."""
+def module_of_default(name, default, kind, others=()):
+    """A module that calls a name, which by a comment of this class has a default; by None, none.
+
+    It has other externals behind these two.
+    """
+    names = [name, default, *others]
     target = Reference(Direct(Method.TARGET), Direct(Method.EXTERNAL, 1), None)
     made = [
         records.Header(b"CALLS"), records.NameList([b"", b"CODE"]),
-        records.SegmentDefinition(1, 2, 3, 2, 2, 1), records.ExternalNames([name, default], [0, 0]),
+        records.SegmentDefinition(1, 2, 3, 2, 2, 1),
+        records.ExternalNames(names, [0] * len(names)),
         *([] if kind is None else [records.Comment(0, kind, b"\1\2")]),
         records.Data(1, 0, b"\xE8\0\0"),
         records.FixupRecord([Fixup(False, Location.OFFSET, 1, target)]),
@@ -581,34 +591,38 @@ def module_of_publics(names):
     return b"".join(map(records.Spelling().record, made))
 
 
-def module_of_sum(location, word, displacement, is_repeated):
-    """A module of four bytes, with the offset of its segment at this location, a displacement, and
-    a word that stands there."""
+def module_of_sum(location, place, number, displacement, is_repeated):
+    """A module of so many bytes and four more, with the offset of its segment at this location there,
+    a displacement, and a number that stands there."""
     spelling = records.Spelling()
-    stored = word.to_bytes(4, "little")
+    stored = bytes(place) + (number % 2 ** 32).to_bytes(4, "little")
+    length = len(stored).to_bytes(2, "little")
     data = (0xA2, b"\1\0\0\1\0\0\0\4") if is_repeated else (0xA0, b"\1\0\0")
-    place = 5 if is_repeated else 0
+    place += 5 if is_repeated else 0
     return b"".join([
         spelling.record(records.Header(b"SUM")),
         spelling.record(records.NameList([b"", b"CODE"])),
-        spelling.framed(0x98, b"\x28\4\0\2\1\1"),
+        spelling.framed(0x98, b"\x28" + length + b"\2\1\1"),
         spelling.framed(data[0], data[1] + stored),
         spelling.framed(0x9C, (
-            bytes([0xC0 | location << 2, place, 0x50, 1]) + displacement.to_bytes(2, "little"))),
+            bytes([0xC0 | location << 2 | place >> 8, place & 0xFF, 0x50, 1])
+            + displacement.to_bytes(2, "little"))),
         spelling.record(records.ModuleEnd(False, None))])
 
 
-def module_of_shared_word(location, place, relative):
-    """A module of twelve bytes, with the offset of its segment in 32 bits at the fifth of them, and
-    a fix-up at this location and place, which is self-relative or not, before it or behind."""
+def module_of_shared_word(location, place, relative, number):
+    """A module of twelve bytes, with 256 and a number behind its segment's offset in 32 bits at the
+    fifth of them, and a fix-up at this location and place, which is self-relative or not, before it
+    or behind."""
     spelling = records.Spelling()
     first = (0x80 if relative else 0xC0) | location << 2
-    fixups = [bytes([0xE4, 4, 0x54, 1]), bytes([first, place, 0x54, 1])]
+    fixups = [bytes([0xE4, 4, 0x50, 1, 0, 1]), bytes([first, place, 0x54, 1])]
+    stored = bytes(4) + (number % 2 ** 32).to_bytes(4, "little") + bytes(4)
     return b"".join([
         spelling.record(records.Header(b"SHARED")),
         spelling.record(records.NameList([b"", b"CODE"])),
         spelling.framed(0x98, b"\x28\x0C\0\2\1\1"),
-        spelling.framed(0xA0, b"\1\0\0" + bytes(12)),
+        spelling.framed(0xA0, b"\1\0\0" + stored),
         *[spelling.framed(0x9C, body) for body in (fixups if place % 2 else reversed(fixups))],
         spelling.record(records.ModuleEnd(False, None))])
 
@@ -634,4 +648,85 @@ def module_of_no_alignment(kind):
         spelling.record(records.NameList([b"", b"CODE"])),
         spelling.framed(0x99, b"\x29\1\0\0\0\2\2\1"),
         spelling.framed(kind, b"\xE8" + length + b"\2\2\1"),
+        spelling.record(records.ModuleEnd(False, None))])
+
+
+def module_of_flat(use):
+    """A module with a group FLAT, whose frame something has, or nothing, or another group."""
+    spelling = records.Spelling()
+    group = b"flat" if use == "other case" else b"FLAT"
+    fixups = {
+        "target": b"\xC4\0\x55\1", "frame thread": b"\x44\1\xC4\0\x84\1",
+        "target thread": b"\4\1\xC4\0\x5C", "start": b"", "nothing": b"",
+        "other group": b"\xC4\0\x14\2\1"}
+    end = b"\xC1\x10\1\1\0\0" if use == "start" else b"\0"
+    return b"".join([
+        spelling.record(records.Header(b"FLAT")),
+        spelling.record(records.NameList([b"", b"CODE", group, b"DWARF", GROUP])),
+        spelling.framed(0x98, b"\x28\4\0\2\2\1"), spelling.framed(0x98, b"\x28\4\0\4\4\1"),
+        spelling.framed(0x9A, b"\3"), spelling.framed(0x9A, b"\5\xFF\1"),
+        spelling.framed(0xA0, (b"\2" if use == "kept out" else b"\1") + bytes(6)),
+        spelling.framed(0x9C, fixups.get(use, b"\xC4\0\x14\1\1")), spelling.framed(0x8A, end)])
+
+
+def module_of_code(combination, in_group):
+    """A module with data and behind it code of the usual name, which are in DGROUP or not."""
+    group = [records.GroupDefinition(6, [1, 2])] if in_group else []
+    made = [
+        records.Header(b"CODE"),
+        records.NameList([b"", b"_TEXT", b"CODE", b"_DATA", b"DATA", GROUP]),
+        records.SegmentDefinition(1, 2, 4, 4, 5, 1),
+        records.SegmentDefinition(1, combination, 4, 2, 3, 1), *group,
+        records.Data(2, 0, bytes(4)), records.ModuleEnd(False, None)]
+    return b"".join(map(records.Spelling().record, made))
+
+
+def module_of_marks(marks, local, order, segment, count):
+    """A module that wants marks, with data, BSS and a stack in DGROUP, and so many bytes in one.
+
+    The segments stand in an order of their numbers; it has local publics.
+    """
+    publics = [PublicName(name, 0, 0) for name in local]
+    names = [b"", GROUP, b"_DATA", b"DATA", b"_BSS", b"BSS", b"STACK"]
+    segments = [
+        records.SegmentDefinition(2, 2, 4, 3, 4, 1), records.SegmentDefinition(2, 2, 4, 5, 6, 1),
+        records.SegmentDefinition(3, 5, 16, 7, 7, 1)]
+    made = [
+        records.Header(b"MARKS"), records.NameList(names),
+        *(segments[number - 1] for number in order), records.GroupDefinition(2, [1, 2, 3]),
+        records.ExternalNames(marks, [0] * len(marks)),
+        records.LocalPublicNames(0, 1, None, publics), records.Data(segment, 0, count * b"x"),
+        records.ModuleEnd(False, None)]
+    return b"".join(map(records.Spelling().record, made))
+
+
+def module_of_wide_segment(front=b"\x29\1\0\0\0"):
+    """A module with a 32-bit segment, of a byte unless its SEGDEF begins otherwise, and a byte in it.
+    """
+    spelling = records.Spelling()
+    return b"".join([
+        spelling.record(records.Header(b"WIDE")),
+        spelling.record(records.NameList([b"", b"CODE"])),
+        spelling.framed(0x99, front + b"\2\2\1"), spelling.framed(0xA1, b"\1\0\0\0\0\x90"),
+        spelling.record(records.ModuleEnd(False, None))])
+
+
+def module_of_wide_record(kind, body):
+    """A module with this record behind its data: it has a segment, a group of it, and no external."""
+    spelling = records.Spelling()
+    return b"".join([
+        spelling.record(records.Header(b"WIDE")),
+        spelling.record(records.NameList([b"", b"CODE", GROUP])),
+        spelling.framed(0x98, b"\x28\4\0\2\2\1"), spelling.framed(0x9A, b"\3\xFF\1"),
+        spelling.framed(0xA0, b"\1\0\0" + bytes(4)), spelling.framed(kind, body),
+        spelling.record(records.ModuleEnd(False, None))])
+
+
+def module_of_cut_public(name):
+    """A module whose public has no type index."""
+    spelling = records.Spelling()
+    return b"".join([
+        spelling.record(records.Header(b"CUT")), spelling.record(records.NameList([b"", b"CODE"])),
+        spelling.framed(0x98, b"\x28\4\0\2\2\1"),
+        spelling.framed(0x90, b"\0\1" + records.name(name) + b"\0\0"),
         spelling.record(records.ModuleEnd(False, None))])

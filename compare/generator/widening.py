@@ -89,10 +89,11 @@ class Widening:
         first |= self.random.choice([0, 1])
         if self.happens(0.5):
             return SEGMENTS, bytes([first]) + standing + length + reader.rest()
-        if self.happens(0.03):
-            # as long as offsets of 32 bits reach
-            first, length = first | 2, b"\0\0"
-        return SEGMENTS + 1, bytes([first]) + standing + self.wide(length) + reader.rest()
+        length = self.wide(length)
+        if self.happens(0.05):
+            # as long as offsets of 32 bits reach, or of 16
+            first, length = self.random.choice([(first | 2, b"\0\0\0\0"), (first, b"\0\0\1\0")])
+        return SEGMENTS + 1, bytes([first]) + standing + length + reader.rest()
 
     def widen_publics(self, reader):
         front = reader.take_index()

@@ -106,6 +106,8 @@ class Linking:
         self.taken = []
         # the default libraries that were named
         self.met = set()
+        # the warnings of default libraries that aren't there, and all others
+        self.absent = []
         self.warnings = []
 
     def run(self):
@@ -118,7 +120,7 @@ class Linking:
         while self.job.has_default_libraries and self.add_default_libraries():
             self.search()
         if self.job.is_quiet:
-            self.warnings.clear()
+            self.absent.clear()
         out, map_path = self.places()
         self.tell()
         variables = communal.variables(self.taken, self.key)
@@ -142,7 +144,7 @@ class Linking:
             else:
                 self.add(path)
         if lines:
-            raise Stop(NO_DEVICE, 1, told_at_most(lines, self.job.is_verbose))
+            raise Stop(NO_DEVICE, 1, lines)
 
     def file(self, name):
         """The path of a file: it may have one of two endings that its name hasn't."""
@@ -186,7 +188,7 @@ class Linking:
         except UnicodeDecodeError:
             path = None
         if path is None:
-            self.warnings.append(
+            self.absent.append(
                 f"{PROGRAM}: warning: library {printed_name(name)} of {word} was not found\n")
         elif self.place(path) not in [self.place(known) for known, _ in self.inputs]:
             self.add(path)
@@ -549,5 +551,6 @@ def link(job, files, folders=(), can_be_made=always, also_read=()):
     except Stop as stop:
         answer.status, answer.fault = stop.status, stop.kind
         line = told(stop.lines)
-    answer.error = ("".join(linking.warnings) + line).encode()
+    warnings = limited(linking.absent, job.is_verbose) + linking.warnings
+    answer.error = ("".join(warnings) + line).encode()
     return answer
