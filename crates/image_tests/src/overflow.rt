@@ -63,6 +63,22 @@ A0 01 00 00 00 FF 00 00
 9C D4 00 50 01 00 01
 = record 37 of input 0; none
 
+# -1 below the start of the frame, and above; and what is 65,536 less
+98 28 04 00 02 01 01
+A0 01 00 00 FF FF FF FF
+9C D4 00 54 01
+= record 37 of input 0; none
+
+98 28 04 00 02 01 01
+A0 01 00 00 FF FF FF FF
+9C D4 00 50 01 01 00
+= none; none
+
+98 28 04 00 02 01 01
+A0 01 00 00 00 00 FF FF
+9C D4 00 50 01 FF FF
+= record 37 of input 0; none
+
 # the first of all that do
 98 28 04 00 02 01 01
 --

@@ -8,9 +8,8 @@ use Rattle.std.proofs.lemmas.List.Elements.{filter_map-append}
 use Rattle.std.specs.List.{filter_map, list_any, range_with_len}
 use Rattle.std.specs.Option.{option_or}
 use Rattle.omf_image.specs.declared.reference.Resolved.{Resolved}
-use Rattle.omf_image.specs.Overflow.{is_above}
+use Rattle.omf_image.specs.Overflow.{double_word_at, is_above}
 use Rattle.omf_image.specs.Records.{hits}
-use Rattle.omf_image.specs.Words.{word_at}
 use Rattle.omf_image.proofs.Meaning.{drop_more, first_of_zip, second_of_zip}
 
 or_left : (a b : Bool) → a ≡ true → (a || b) ≡ true
@@ -45,17 +44,17 @@ any_filtered p f test (x ∷ xs) = go (test x) (any_filtered p f test xs)
 
 -- a byte was stored at a place, and the sum at the word that begins with it has more than 16 bits
 abbrev pub above_at : Resolved → (offset : ℕ) → (places bytes : List ℕ) → ℕ → Bool
-above_at r offset places bytes i = eqb (get_or places i 0) offset && is_above r (word_at bytes i)
+above_at r offset places bytes i = eqb (get_or places i 0) offset && is_above r (double_word_at bytes i)
 
-pub words_above : (r : Resolved) (offset : ℕ) (places bytes : List ℕ) → length bytes ≡ length places
-    → list_any (is_above r) (map (word_at (map (λ (p : ℕ × ℕ). p.1) (zip places bytes)))
+pub numbers_above : (r : Resolved) (offset : ℕ) (places bytes : List ℕ) → length bytes ≡ length places
+    → list_any (is_above r) (map (double_word_at (map (λ (p : ℕ × ℕ). p.1) (zip places bytes)))
     (hits offset (map (λ (p : ℕ × ℕ). p.0) (zip places bytes))))
     ≡ list_any (above_at r offset places bytes) (range_with_len 0 (length places))
-words_above r offset places bytes same =
-    ap (λ bs. list_any (is_above r) (map (word_at bs) (hits offset (map (λ (p : ℕ × ℕ). p.0) (zip places bytes)))))
+numbers_above r offset places bytes same =
+    ap (λ bs. list_any (is_above r) (map (double_word_at bs) (hits offset (map (λ (p : ℕ × ℕ). p.0) (zip places bytes)))))
     (second_of_zip places bytes (sym same))
-    ∙ ap (λ ps. list_any (is_above r) (map (word_at bytes) (hits offset ps))) (first_of_zip places bytes (sym same))
-    ∙ any_filtered (is_above r) (word_at bytes) (λ i. eqb (get_or places i 0) offset)
+    ∙ ap (λ ps. list_any (is_above r) (map (double_word_at bytes) (hits offset ps))) (first_of_zip places bytes (sym same))
+    ∙ any_filtered (is_above r) (double_word_at bytes) (λ i. eqb (get_or places i 0) offset)
     (range_with_len 0 (length places))
 
 -- the positions from one on
@@ -103,26 +102,26 @@ any_from q xs i (suc n) h =
     ∙ sym (ap (list_any q) (drop_more xs i 0 (omega (arith, h))))
 
 -- a word stands where a byte was stored
-word_there : (f : ℕ → ℕ) (offset : ℕ) (places bytes : List ℕ) → length bytes ≡ length places
+number_there : (f : ℕ → ℕ) (offset : ℕ) (places bytes : List ℕ) → length bytes ≡ length places
     → list_any (λ w. true) (map f (hits offset (map (λ (p : ℕ × ℕ). p.0) (zip places bytes))))
     ≡ list_any (λ place. eqb place offset) places
-word_there f offset places bytes same =
+number_there f offset places bytes same =
     ap (λ ps. list_any (λ w. true) (map f (hits offset ps))) (first_of_zip places bytes (sym same))
     ∙ some_filtered f (λ i. eqb (get_or places i 0) offset) (range_with_len 0 (length places))
     ∙ any_from (λ place. eqb place offset) places 0 (length places) (omega arith)
 
 -- it has no room where it is shared, or where its sum is too great
 pub without_room : (r : Resolved) (offset : ℕ) (shared : Bool) (places bytes : List ℕ) → length bytes ≡ length places
-    → list_any (λ w. shared || is_above r w) (map (word_at (map (λ (p : ℕ × ℕ). p.1) (zip places bytes)))
+    → list_any (λ w. shared || is_above r w) (map (double_word_at (map (λ (p : ℕ × ℕ). p.1) (zip places bytes)))
     (hits offset (map (λ (p : ℕ × ℕ). p.0) (zip places bytes))))
     ≡ (list_any (λ place. eqb place offset) places
-    && (shared || list_any (is_above r) (map (word_at (map (λ (p : ℕ × ℕ). p.1) (zip places bytes)))
+    && (shared || list_any (is_above r) (map (double_word_at (map (λ (p : ℕ × ℕ). p.1) (zip places bytes)))
     (hits offset (map (λ (p : ℕ × ℕ). p.0) (zip places bytes))))))
 without_room r offset shared places bytes same =
-    let f = word_at (map (λ (p : ℕ × ℕ). p.1) (zip places bytes)) in
+    let f = double_word_at (map (λ (p : ℕ × ℕ). p.1) (zip places bytes)) in
     let words = map f (hits offset (map (λ (p : ℕ × ℕ). p.0) (zip places bytes))) in
     or_each (is_above r) shared words
-    ∙ ap (λ there. there && (shared || list_any (is_above r) words)) (word_there f offset places bytes same)
+    ∙ ap (λ there. there && (shared || list_any (is_above r) words)) (number_there f offset places bytes same)
 
 -- ---- what is found first
 

@@ -1,5 +1,5 @@
--- Loader-resolved offsets, location 5, that need more than the 16 bits of their word, and a start that does.
-use Rattle.std.specs.Prelude.{ℕ, ◌+◌, ◌*◌, pos, ◌+ℤ◌, int_le, nat_lt, Bool, true, false, not, ◌&&◌, ◌||◌}
+-- Loader-resolved offsets, location 5, that stand for offsets of 32 bits and need more than 16, and a start that does.
+use Rattle.std.specs.Prelude.{ℕ, ◌+◌, ◌*◌, pos, ◌+ℤ◌, nat_le, nat_lt, Bool, true, false, not, ◌&&◌, ◌||◌}
 use Rattle.std.specs.Prelude.{if◌then◌else◌, List, [], ◌∷◌, map, filter, find, length, slice_get, Option, Some, None}
 use Rattle.std.specs.List.{filter_map, list_any}
 use Rattle.std.specs.Option.{option_map, option_map_or}
@@ -14,7 +14,7 @@ use Rattle.omf_place.specs.Layout.{Layout}
 use Rattle.omf_image.specs.declared.reference.Resolved.{Resolved}
 use Rattle.omf_image.specs.Words.{word_at}
 use Rattle.omf_image.specs.Reference.{frame'}
-use Rattle.omf_image.specs.Value.{distance, real_frame}
+use Rattle.omf_image.specs.Value.{distance, modulo, real_frame}
 use Rattle.omf_image.specs.Records.{OfModule, bytes_of, entries, hits, meaning, stored_of}
 use Rattle.omf_image.specs.Faults.{both_move, is_mixed, target_in_frame}
 use Rattle.omf_image.specs.Registers.{start_meaning, starts}
@@ -28,15 +28,20 @@ is_loader_offset _ _ = false
 abbrev pub is_measured : Resolved → Bool
 is_measured reference = not (is_mixed false LoaderOffset reference) && target_in_frame reference
 
--- the sum of a word and that distance, with the displacement, is 65,536 or more
-abbrev pub is_above : Resolved → (word : ℕ) → Bool
-is_above reference word = int_le (pos 65536) (pos word +ℤ distance 0 reference (16 * real_frame 0 (frame' reference)))
+-- the sum of a number of 32 bits and that distance, with the displacement, is 65,536 or more, modulo 2 to the 32nd
+abbrev pub is_above : Resolved → (number : ℕ) → Bool
+is_above reference number = nat_le 65536
+    (modulo 4294967296 (pos number +ℤ distance 0 reference (16 * real_frame 0 (frame' reference))))
 
--- the words that stand, before any fix-up, where bytes of a data record were stored at the place offset
-abbrev pub words_at : (offset : ℕ) → DataRecord → List ℕ
-words_at offset data_record = map (word_at (bytes_of data_record)) (hits offset (stored_of data_record))
+-- the number of 32 bits at a place, low byte first
+abbrev pub double_word_at : (bytes : List ℕ) → (place : ℕ) → ℕ
+double_word_at bytes place = word_at bytes place + 65536 * word_at bytes (place + 2)
 
--- the location of a fix-up reaches into the word that was stored at the place offset
+-- the numbers of 32 bits that stand, before any fix-up, where bytes of a data record were stored at the place offset
+abbrev pub numbers_at : (offset : ℕ) → DataRecord → List ℕ
+numbers_at offset data_record = map (double_word_at (bytes_of data_record)) (hits offset (stored_of data_record))
+
+-- the location of a fix-up reaches into the lower word of the number that was stored at the place offset
 abbrev pub touches : (offset : ℕ) → ResolvedFixup → Bool
 touches offset fixup =
     nat_lt fixup.offset (offset + 2) && nat_lt offset (fixup.offset + location_width fixup.location)
@@ -45,14 +50,14 @@ touches offset fixup =
 abbrev pub is_shared : (offset : ℕ) → DataRecord → Bool
 is_shared offset data_record = nat_lt 1 (length (filter (touches offset) data_record.fixups))
 
--- A fix-up is of such an offset, its target has a distance, and a word stands for it that other fix-ups share, or where
--- its sum is too great.
+-- A fix-up is of such an offset, its target has a distance, and a number stands for it whose lower word other fix-ups
+-- share, or with which its sum is too great.
 abbrev pub overflows : Layout → OfModule DataRecord → ResolvedFixup → Bool
 overflows layout entry fixup =
     is_loader_offset fixup.self_relative fixup.location
     && option_map_or (λ r. is_measured r
-    && list_any (λ w. is_shared fixup.offset entry.item || is_above r w)
-    (words_at fixup.offset entry.item)) (result_ok (meaning layout entry fixup)) false
+    && list_any (λ n. is_shared fixup.offset entry.item || is_above r n)
+    (numbers_at fixup.offset entry.item)) (result_ok (meaning layout entry fixup)) false
 
 -- the first such fix-up of a data record: its input, and the place of its record there
 abbrev pub entry_overflow : Layout → OfModule DataRecord → Option (ℕ × ℕ)

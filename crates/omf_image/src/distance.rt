@@ -100,12 +100,13 @@ impl Resolved {
         !self.is_mixed(false, Location::LoaderOffset) && self.is_framed()
     }
 
-    /// Whether the sum of a word and the target's distance from its frame is 65,536 or more.
-    pub fn is_above(&self, word: u32) -> bool
-        ensures { result ≡ is_above self.now word }
+    /// Whether the sum of a number of 32 bits and the target's distance from its frame is 65,536 or more, modulo 2 to
+    /// the 32nd.
+    pub fn is_above(&self, number: u32) -> bool
+        ensures { result ≡ is_above self.now number }
     {
-        let to = u64::from(self.address()) + u64::from(self.displacement);
-        16 * u64::from(self.base()) + 65536 <= to + u64::from(word)
+        let to = u64::from(self.address()) + u64::from(self.displacement) + u64::from(number);
+        65536 <= (to + 0x1_0000_0000 - 16 * u64::from(self.base())) % 0x1_0000_0000
     }
 
     /// Whether the distance from the end of a byte fits a signed byte.

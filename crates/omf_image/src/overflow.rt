@@ -1,6 +1,6 @@
-//! Loader-resolved offsets that need more than the 16 bits of their word, and a start that does.
+//! Loader-resolved offsets that stand for offsets of 32 bits and need more than 16, and a start that does.
 
-ghost use Rattle.std.specs.Prelude.{◌≡◌, ◌<◌, ◌||◌, All, filter, length, nat_lt, slice_get};
+ghost use Rattle.std.specs.Prelude.{◌≡◌, ◌<◌, ◌≤◌, ◌||◌, All, filter, get_or, length, nat_lt, slice_get};
 ghost use Rattle.std.specs.List.{filter_map, list_any};
 ghost use Rattle.omf_module.specs.Seen.{data_seen};
 ghost use Rattle.omf_place.specs.Bounded.{IsBounded};
@@ -8,7 +8,6 @@ ghost use Rattle.omf_place.specs.Layout.{places_of};
 ghost use Rattle.omf_image.specs.Overflow as spec;
 ghost use Rattle.omf_image.specs.Records.{entries};
 ghost use Rattle.omf_image.specs.Registers.{starts};
-ghost use Rattle.omf_image.specs.Words as words;
 ghost use Rattle.omf_image.specs.inside.Entries.{module_entries};
 ghost use Rattle.omf_image.specs.inside.Ready.{IsEntryReady, IsFixupReady, IsStartReady};
 
@@ -19,30 +18,41 @@ use omf_place::Layout;
 use omf_record::Location;
 use std::alloc::Allocator;
 
-/// The word at a position of data. Behind the data stand zeros.
-fn word_at(bytes: &[u8], at: usize) -> u32
-    requires { at < length bytes.now }
-    ensures { result ≡ words.word_at bytes.now at }
+/// The byte at a position of data. Behind the data stand zeros.
+fn byte_at(bytes: &[u8], at: usize) -> u32
+    ensures value { result ≡ get_or bytes.now at 0 }
+    ensures small { result ≤ 255 }
 {
-    let low = bytes[at];
-    let high = bytes.get(at + 1).copied().unwrap_or(0);
-    u32::from(low) + 256 * u32::from(high)
+    match bytes.get(at) {
+        Some(byte) => u32::from(*byte),
+        None => 0,
+    }
 }
 
-/// Whether the sum at one of the words that were stored at a place of a data record needs more than 16 bits.
-fn has_word_above(resolved: &Resolved, data_record: &DataRecord<'_>, offset: u16) -> bool
+/// The number of 32 bits at a position of data.
+fn double_word_at(bytes: &[u8], at: usize) -> u32
+    requires { at < length bytes.now }
+    ensures { result ≡ spec.double_word_at bytes.now at }
+{
+    let low = byte_at(bytes, at) + 256 * byte_at(bytes, at + 1);
+    let high = byte_at(bytes, at + 2) + 256 * byte_at(bytes, at + 3);
+    low + 65536 * high
+}
+
+/// Whether the sum at one of the numbers that were stored at a place of a data record needs more than 16 bits.
+fn has_number_above(resolved: &Resolved, data_record: &DataRecord<'_>, offset: u16) -> bool
     requires { length data_record.now.bytes.now ≡ length data_record.now.places.now }
-    ensures { result ≡ list_any (spec.is_above resolved.now) (spec.words_at offset (data_seen data_record.now)) }
+    ensures { result ≡ list_any (spec.is_above resolved.now) (spec.numbers_at offset (data_seen data_record.now)) }
 {
     for (at, place) in data_record.places.iter().enumerate() {
-        if *place == offset && resolved.is_above(word_at(data_record.bytes, at)) {
+        if *place == offset && resolved.is_above(double_word_at(data_record.bytes, at)) {
             return true;
         }
     }
     false
 }
 
-/// Whether a fix-up reaches into the word that was stored at a place of a data record.
+/// Whether a fix-up reaches into the lower word of a number that was stored at a place of a data record.
 fn touches(fixup: &ResolvedFixup, offset: u16) -> bool
     ensures { result ≡ spec.touches offset fixup.now }
 {
@@ -51,7 +61,8 @@ fn touches(fixup: &ResolvedFixup, offset: u16) -> bool
     begin < u32::from(offset) + 2 && u32::from(offset) < end
 }
 
-/// Whether more than one of the fix-ups of a data record reaches into the word that was stored at a place.
+/// Whether more than one of the fix-ups of a data record reaches into the lower word of a number that was stored at a
+/// place.
 fn is_shared(fixups: &[ResolvedFixup], offset: u16) -> bool
     ensures { result ≡ nat_lt 1 (length (filter (spec.touches offset) fixups.now)) }
 {
@@ -67,15 +78,17 @@ fn is_shared(fixups: &[ResolvedFixup], offset: u16) -> bool
     false
 }
 
-/// Whether a word stands at a place of a data record that fix-ups share, or where the sum needs more than 16 bits.
+/// Whether a number stands at a place of a data record whose lower word fix-ups share, or with which the sum needs more
+/// than 16 bits.
 fn has_no_room(resolved: &Resolved, data_record: &DataRecord<'_>, offset: u16) -> bool
     requires { length data_record.now.bytes.now ≡ length data_record.now.places.now }
     ensures { result ≡ list_any
-        (λ w. spec.is_shared offset (data_seen data_record.now) || spec.is_above resolved.now w)
-        (spec.words_at offset (data_seen data_record.now)) }
+        (λ n. spec.is_shared offset (data_seen data_record.now) || spec.is_above resolved.now n)
+        (spec.numbers_at offset (data_seen data_record.now)) }
 {
     data_record.places.contains(&offset)
-        && (is_shared(data_record.fixups, offset) || has_word_above(resolved, data_record, offset))
+        && (is_shared(data_record.fixups, offset)
+            || has_number_above(resolved, data_record, offset))
 }
 
 /// Whether a fix-up of a data record needs more than the 16 bits of its word.
@@ -170,8 +183,9 @@ fn overflow_among<A: Allocator + Copy>(
 }
 
 /// The first fix-up of modules by which a loader-resolved offset is put into a word that is too small for it: its
-/// input, counted from 0, and the place of its record there. The sum of what the word holds, of the displacement and
-/// of the target's distance from its frame is 65,536 or more, or other fix-ups of its data reach into the word too.
+/// input, counted from 0, and the place of its record there. The sum of the number of 32 bits that stands there, of the
+/// displacement and of the target's distance from its frame is 65,536 or more, modulo 2 to the 32nd, or other fix-ups of
+/// its data reach into the lower word too.
 pub fn first_overflow<A: Allocator + Copy>(
     modules: &[Module<A>],
     layout: &Layout<A>,

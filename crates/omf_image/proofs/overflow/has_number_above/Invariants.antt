@@ -1,7 +1,7 @@
 use Rattle.std.proofs.Common.{◌≡◌, ◌-◌, length}
 use Rattle.std.specs.List.{list_any, range_with_len}
 use Rattle.omf_image.proofs.Overflowing.{above_at}
-use Rattle.omf_image.proofs.overflow.has_word_above.Given as goal
+use Rattle.omf_image.proofs.overflow.has_number_above.Given as goal
 
 abbrev pub invariant-loop-at : goal.invariant-loop-at
 invariant-loop-at l =
