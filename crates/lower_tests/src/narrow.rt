@@ -112,6 +112,20 @@ A0 01 00 00 05 00 00 00 FF FF 00 00
 A0 01 00 00 05 00 00 00 FF FF 00 00
 9C D4 00 54 01 D4 04 50 01 34 12
 
+# a negative one: a fix-up that makes its upper word 0 stands behind
+A0 01 10 00 FC FF FF FF 00 00
+9C E4 00 54 01 C8 04 54 01
+--
+A0 01 10 00 FC FF FF FF 00 00
+9C D4 00 54 01 84 02 50 01 15 00 C8 04 54 01
+
+# the same of 32 bits, with an index of two bytes, behind 256 bytes and at the end of its segment
+A1 80 01 FC FE 00 00 00*256 FF FF FF FF
+9D E5 00 50 01 34 12 00 00
+--
+A0 80 01 FC FE 00*256 FF FF FF FF
+9C D5 00 50 01 34 12 85 02 50 80 01 01 00
+
 # behind threads and fix-ups of 16 bits, which stay; the data of the last record counts
 A0 01 00 00 FF FF FF FF FF FF FF FF
 9C C4 04 9D 53 C8 00 54 01
@@ -148,9 +162,33 @@ A0 01 00 00 00 00 00 00
 A0 01 00 00 00 00 00 00
 9C C4 00 34 01 E4 00 54 01
 
-# one whose upper word isn't 0
+# one whose upper word is neither 0 nor FFFFH
 A0 01 00 00 00 00 01 00
 9C E4 00 54 01
+= record 3: a number has more than 16 bits
+
+A0 01 00 00 00 00 FF 00
+9C E4 00 54 01
+= record 3: a number has more than 16 bits
+
+A0 01 00 00 00 00 00 FF
+9C E4 00 54 01
+= record 3: a number has more than 16 bits
+
+# the last place at which a negative one can stand, and one where its upper word has no place
+A0 01 00 00 00*1021 FC FF FF FF
+9C E7 FD 54 01
+--
+A0 01 00 00 00*1021 FC FF FF FF
+9C D7 FD 54 01 87 FF 50 01 02 04
+
+A0 01 00 00 00*1022 FC FF FF FF
+9C E7 FE 54 01
+= record 3: a number has more than 16 bits
+
+# a negative one that is repeated
+A2 01 00 00 02 00 00 00 04 FC FF FF FF
+9C E4 05 54 01
 = record 3: a number has more than 16 bits
 
 # one that is self-relative, one that isn't in the data, and one without data

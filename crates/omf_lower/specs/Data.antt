@@ -1,18 +1,21 @@
 -- The data of LEDATA and LIDATA, and where fix-ups stand in it (TIS OMF 1.1, the section of each).
-use Rattle.std.specs.Prelude.{ℕ, zero, suc, ◌+◌, ◌-◌, ◌==◌, ◌&&◌, ◌||◌, Bool, if◌then◌else◌, nat_le, nat_lt, List}
+use Rattle.std.specs.Prelude.{ℕ, zero, suc, ◌+◌, ◌-◌, ◌*◌, ◌==◌, ◌&&◌, ◌||◌, Bool, if◌then◌else◌, nat_le, nat_lt, List}
 use Rattle.std.specs.Prelude.{[], length, drop, slice_index, None, Some}
 use Rattle.std.specs.declared.option.Option.{Option}
 use Rattle.std.specs.Option.{option_map, option_and_then, option_or}
 use Rattle.omf_library.specs.Fields.{bytes_front, name_front, index_front, behind}
+use Rattle.omf_lower.specs.Fields.{before}
 
--- a record of data: its type, and the bytes behind its segment and its offset
+-- a record of data: its type, the index of its segment as it stands, its offset there, and the bytes behind both
 pub record Data : Type 0 where
   pub kind : ℕ
+  pub segment : List ℕ
+  pub offset : ℕ
   pub bytes : List ℕ
 
 -- no data
 abbrev pub no_data : Data
-no_data = record { kind = 0xA0; bytes = [] }
+no_data = record { kind = 0xA0; segment = []; offset = 0; bytes = [] }
 
 -- A0H and A1H LEDATA, A2H and A3H LIDATA
 abbrev pub is_data : ℕ → Bool
@@ -30,10 +33,18 @@ is_repeated kind = (kind == 0xA2) || (kind == 0xA3)
 abbrev pub moves : Data → Bool
 moves d = d.kind == 0xA3
 
--- the data of a record
+-- the data of a record; of an offset the lower word counts, since one with another upper word is refused at the record
 unfoldable pub data_of : ℕ → List ℕ → Option Data
-data_of kind body = option_map (λ (offset, bytes). record { kind = kind; bytes = bytes })
-    (behind (bytes_front (width_of kind)) (index_front body))
+data_of kind body = option_and_then
+    (λ (segment, rest). option_map
+    (λ (offset, bytes). record {
+      kind = kind;
+      segment = before body rest;
+      offset = slice_index offset 0 + 256 * slice_index offset 1;
+      bytes = bytes;
+    })
+    (bytes_front (width_of kind) rest))
+    (index_front body)
 
 -- the content of a block, if it has one, and the bytes behind both; its count word is 0
 abbrev pub content_front : List ℕ × List ℕ → Option (Option (List ℕ) × List ℕ)

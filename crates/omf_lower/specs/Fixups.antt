@@ -1,5 +1,5 @@
 -- The subrecords of 9CH and 9DH FIXUPP (TIS OMF 1.1, "Fixup Record"), and how they are written.
-use Rattle.std.specs.Prelude.{ℕ, ◌+◌, ◌*◌, ◌/◌, ◌%◌, ◌==◌, ◌&&◌, Bool, true, false, ◌||◌, if◌then◌else◌, nat_le}
+use Rattle.std.specs.Prelude.{ℕ, ◌+◌, ◌*◌, ◌/◌, ◌%◌, ◌==◌, ◌&&◌, Bool, true, false, ◌||◌, not, if◌then◌else◌, nat_le}
 use Rattle.std.specs.Prelude.{nat_lt, List, [], ◌∷◌, ◌++◌, length, slice_index, None, Some, Ok, Err}
 use Rattle.std.specs.declared.option.Option.{Option}
 use Rattle.std.specs.declared.result.Result.{Result}
@@ -8,7 +8,7 @@ use Rattle.omf_library.specs.Fields.{bytes_front, index_front}
 use Rattle.omf_lower.specs.declared.fault.Obstacle.{Obstacle}
 use Rattle.omf_lower.specs.declared.fault.Obstacle.TheVariants.{Location, Above16Bits}
 use Rattle.omf_lower.specs.Fields.{◌>>=◌, field, before, narrow}
-use Rattle.omf_lower.specs.Data.{Data, located, moves}
+use Rattle.omf_lower.specs.Data.{Data, is_repeated, located, moves}
 
 -- whether an index stands for a frame by this method: F0, F1 and F2 have one, F4 and F5 none; others are refused
 abbrev pub frame_has_index : ℕ → Option Bool
@@ -125,38 +125,61 @@ narrowed displacement =
 abbrev pub locat : (first location place : ℕ) → ℕ × ℕ
 locat first location place = (first / 64 * 64 + location * 4 + place / 256 % 4, place % 256)
 
--- a place whose four bytes hold a number with an upper word of 0
-abbrev pub low_place : ℕ × List ℕ → Result ℕ Obstacle
-low_place (place, content) =
+-- whether the number of four bytes at the front is negative: its upper word is FFFFH, and else it is 0
+abbrev pub is_negative : List ℕ → Result Bool Obstacle
+is_negative content =
     if nat_lt (length content) 4 then Err Location
-    else if (slice_index content 2 == 0) && (slice_index content 3 == 0) then Ok place
+    else if (slice_index content 2 == 0) && (slice_index content 3 == 0) then Ok false
+    else if (slice_index content 2 == 0xFF) && (slice_index content 3 == 0xFF) then Ok true
     else Err Above16Bits
 
+-- Behind the fix-up of a negative number at a place of the data, which is not repeated, stands one that adds 1 to the
+-- number's upper word, so that it is 0 as that of the sum is: a self-relative distance (location 1; the fix data byte
+-- with the target's frame, F5, and a segment, T0), counted from the word's end to the byte behind that.
+abbrev pub carry_text : Data → ℕ → List ℕ
+carry_text last place =
+    let target = last.offset + place + 5 in
+    (132 + (place + 2) / 256 % 4) ∷ (place + 2) % 256 ∷ 0x50
+    ∷ (last.segment ++ (target % 256 ∷ target / 256 % 256 ∷ []))
+
+-- a fix-up can stand at the upper word of a number at a place: the data isn't repeated, and places have ten bits
+abbrev pub can_carry : Data → (to : ℕ) → Bool
+can_carry last to = not (is_repeated last.kind) && nat_lt (to + 2) 1024
+
+-- the two bytes of a fix-up, and what stands behind it
+abbrev pub with_sign : Data → (first to : ℕ) → Bool → Result ((ℕ × ℕ) × List ℕ) Obstacle
+with_sign last first to false = Ok (locat first 5 to, [])
+with_sign last first to true =
+    if can_carry last to then Ok (locat first 5 to, carry_text last to) else Err Above16Bits
+
 -- a location of 32 bits, 9 or 13, becomes one of 16, 5. Bit 6, M, is set: it isn't self-relative
-abbrev pub wide_location : Data → ℕ → ℕ → Result (ℕ × ℕ) Obstacle
+abbrev pub wide_location : Data → ℕ → ℕ → Result ((ℕ × ℕ) × List ℕ) Obstacle
 wide_location last first place =
     if first / 64 % 2 == 0 then Err Location
-    else (ok_or (located last place) Location >>= low_place >>= λ to. Ok (locat first 5 to))
+    else (ok_or (located last place) Location
+    >>= λ (to, content). (is_negative content >>= with_sign last first to))
 
 -- another location stays, but that 5 becomes 1
 abbrev pub short_location : ℕ → ℕ
 short_location location = if is_loader_offset location then 1 else location
 
--- the two bytes of a fix-up with its location, bits 5 to 2 of the first, at the place to which that of the data moves
-abbrev pub moved : Data → ℕ → ℕ → Result (ℕ × ℕ) Obstacle
+-- the two bytes of a fix-up with its location, bits 5 to 2 of the first, at the place to which that of the data moves,
+-- and what stands behind the fix-up
+abbrev pub moved : Data → ℕ → ℕ → Result ((ℕ × ℕ) × List ℕ) Obstacle
 moved last first low =
     let location = location_of first in
     let place = first % 4 * 256 + low in
     if is_wide location then wide_location last first place
-    else if moves last then (ok_or (located last place) Location >>= λ to. Ok (locat first (short_location location) to.0))
-    else Ok (locat first (short_location location) place)
+    else if moves last then (ok_or (located last place) Location
+    >>= λ to. Ok (locat first (short_location location) to.0, []))
+    else Ok (locat first (short_location location) place, [])
 
 -- the text of a fix-up
 abbrev pub fixup_text : Data → ℕ → ℕ × Reference → Result (List ℕ) Obstacle
 fixup_text last first (low, reference) = do
   locat' ← moved last first low
   displacement ← narrowed reference.displacement
-  Ok (locat'.0 ∷ locat'.1 ∷ (reference.datum ++ displacement))
+  Ok (locat'.0.0 ∷ locat'.0.1 ∷ (reference.datum ++ (displacement ++ locat'.1)))
 
 -- threads stay, and fix-ups, whose displacements have so many bytes, are written anew
 unfoldable pub fixups_front : Data → ℕ → List ℕ → Result (List ℕ × List ℕ) Obstacle

@@ -5,6 +5,7 @@ ghost use Rattle.omf_library.specs.Said.{bytes_said};
 ghost use Rattle.omf_lower.specs.Data as spec;
 ghost use Rattle.omf_lower.specs.inside.Views.{content_said, data_said, data_view, located_said};
 
+use crate::fields::before;
 use omf_library::{take_bytes, take_index, take_name};
 
 /// A record of data.
@@ -12,7 +13,11 @@ use omf_library::{take_bytes, take_index, take_name};
 pub(crate) struct Data<'a> {
     /// Its type.
     pub(crate) kind: u8,
-    /// The bytes behind its segment and its offset.
+    /// The index of its segment, as it stands.
+    pub(crate) segment: &'a [u8],
+    /// The lower word of its offset there.
+    pub(crate) offset: u16,
+    /// The bytes behind both.
     pub(crate) bytes: &'a [u8],
 }
 
@@ -22,6 +27,8 @@ pub(crate) fn no_data<'a>() -> Data<'a>
 {
     Data {
         kind: 0xA0,
+        segment: &[],
+        offset: 0,
         bytes: &[],
     }
 }
@@ -41,7 +48,7 @@ pub(crate) fn width_of(kind: u8) -> usize
 }
 
 /// Whether the data of a record of this type is repeated.
-fn is_repeated(kind: u8) -> bool
+pub(crate) fn is_repeated(kind: u8) -> bool
     ensures { result ≡ spec.is_repeated kind }
 {
     kind == 0xA2 || kind == 0xA3
@@ -53,8 +60,13 @@ pub(crate) fn data_of(kind: u8, body: &[u8]) -> Option<Data<'_>>
     ensures { data_said result ≡ spec.data_of kind body.now }
 {
     let (_, rest) = take_index(body)?;
-    let (_, bytes) = take_bytes(rest, width_of(kind))?;
-    Some(Data { kind, bytes })
+    let (offset, bytes) = take_bytes(rest, width_of(kind))?;
+    Some(Data {
+        kind,
+        segment: before(body, rest),
+        offset: u16::from(offset[0]) + 256 * u16::from(offset[1]),
+        bytes,
+    })
 }
 
 /// The content of a block with this count word, if it has one, and the bytes behind both.

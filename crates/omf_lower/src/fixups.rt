@@ -1,16 +1,16 @@
 //! The subrecords of 9CH and 9DH FIXUPP.
 
-ghost use Rattle.std.specs.Prelude.{◌≡◌, ◌<◌, ◌≤◌, IfOk, IfSome, length};
+ghost use Rattle.std.specs.Prelude.{◌≡◌, ◌<◌, ◌≤◌, ◌^◌, IfOk, IfSome, length};
 ghost use Rattle.omf_library.specs.Said.{bytes_said, name_said};
 ghost use Rattle.omf_lower.specs.Fields.{any_entry};
 ghost use Rattle.omf_lower.specs.Fixups as fixups;
 ghost use Rattle.omf_lower.specs.inside.Views.{data_view, entry_said, fixup_said, reference_said, reference_view};
-ghost use Rattle.omf_lower.specs.inside.Views.{change_said, rest_said, text_said};
+ghost use Rattle.omf_lower.specs.inside.Views.{carry_view, change_said, moved_said, rest_said, text_said};
 
-use crate::data::{Data, located};
+use crate::data::{Data, is_repeated, located};
 use crate::fault::Obstacle;
 use crate::fields::{before, narrow};
-use crate::written::Written;
+use crate::written::{Carry, Written};
 use omf_library::{take_bytes, take_index};
 
 /// The reference of a fix-up.
@@ -247,29 +247,77 @@ fn locat(first: u8, location: u8, place: usize) -> (u8, u8)
     (first / 64 * 64 + location * 4 + high, (place % 256) as u8)
 }
 
-/// The place, if the four bytes there hold a number whose upper word is 0.
-fn low_place(place: usize, content: &[u8]) -> Result<usize, Obstacle>
-    ensures { result ≡ fixups.low_place (place, content.now) }
+/// Whether the number of four bytes at the front is negative, with an upper word of FFFFH in place of 0.
+fn is_negative(content: &[u8]) -> Result<bool, Obstacle>
+    ensures { result ≡ fixups.is_negative content.now }
 {
     if content.len() < 4 {
         return Err(Obstacle::Location);
     }
-    if content[2] != 0 || content[3] != 0 {
-        return Err(Obstacle::Above16Bits);
+    match (content[2], content[3]) {
+        (0, 0) => Ok(false),
+        (0xFF, 0xFF) => Ok(true),
+        _ => Err(Obstacle::Above16Bits),
     }
-    Ok(place)
 }
 
-/// The two bytes of a fix-up of 32 bits at a place, as one of 16.
-fn wide_location(last: &Data<'_>, first: u8, place: usize) -> Result<(u8, u8), Obstacle>
-    ensures { result ≡ fixups.wide_location (data_view last.now) first place }
+/// The fix-up that makes the upper word of a negative number at a place of the data 0.
+fn carry_of<'a>(last: &Data<'a>, place: usize) -> Carry<'a>
+    requires { place < 2 ^ 63 }
+    ensures { carry_view result ≡ fixups.carry_text (data_view last.now) place }
+{
+    let target = usize::from(last.offset) + place + 5;
+    Carry {
+        first: 132 + ((place + 2) / 256 % 4) as u8,
+        low: ((place + 2) % 256) as u8,
+        segment: last.segment,
+        target_low: (target % 256) as u8,
+        target_high: (target / 256 % 256) as u8,
+    }
+}
+
+/// Whether a fix-up can stand at the upper word of a number at a place of the data: it isn't repeated, and places have
+/// ten bits.
+fn can_carry(last: &Data<'_>, to: usize) -> bool
+    requires { to < 2 ^ 63 }
+    ensures { result ≡ fixups.can_carry (data_view last.now) to }
+{
+    !is_repeated(last.kind) && to + 2 < 1024
+}
+
+/// The two bytes of a fix-up, and the one behind it.
+type Moved<'a> = ((u8, u8), Option<Carry<'a>>);
+
+/// The two bytes of a fix-up of a number of 32 bits, which is negative or not, as one of 16, and the one behind it.
+fn with_sign<'a>(
+    last: &Data<'a>,
+    first: u8,
+    to: usize,
+    is_negative: bool,
+) -> Result<Moved<'a>, Obstacle>
+    requires { to < 2 ^ 63 }
+    ensures { moved_said result ≡ fixups.with_sign (data_view last.now) first to is_negative }
+{
+    if !is_negative {
+        return Ok((locat(first, 5, to), None));
+    }
+    if !can_carry(last, to) {
+        return Err(Obstacle::Above16Bits);
+    }
+    Ok((locat(first, 5, to), Some(carry_of(last, to))))
+}
+
+/// The two bytes of a fix-up of 32 bits at a place, as one of 16, and the fix-up behind it.
+fn wide_location<'a>(last: &Data<'a>, first: u8, place: usize) -> Result<Moved<'a>, Obstacle>
+    requires { place < 2 ^ 63 }
+    ensures { moved_said result ≡ fixups.wide_location (data_view last.now) first place }
 {
     if first / 64 % 2 == 0 {
         return Err(Obstacle::Location);
     }
     let (to, content) = located(last, place).ok_or(Obstacle::Location)?;
-    let to = low_place(to, content)?;
-    Ok(locat(first, 5, to))
+    let is_negative = is_negative(content)?;
+    with_sign(last, first, to, is_negative)
 }
 
 /// The location of a fix-up that isn't of 32 bits, as it is written.
@@ -283,9 +331,9 @@ fn short_location(location: u8) -> u8
     }
 }
 
-/// The two bytes of a fix-up with its location, at the place to which that of the data moves.
-fn moved(last: &Data<'_>, first: u8, low: u8) -> Result<(u8, u8), Obstacle>
-    ensures { result ≡ fixups.moved (data_view last.now) first low }
+/// The two bytes of a fix-up with its location, at the place to which that of the data moves, and the one behind it.
+fn moved<'a>(last: &Data<'a>, first: u8, low: u8) -> Result<Moved<'a>, Obstacle>
+    ensures { moved_said result ≡ fixups.moved (data_view last.now) first low }
 {
     let location = location_of(first);
     let place = usize::from(first % 4) * 256 + usize::from(low);
@@ -293,30 +341,33 @@ fn moved(last: &Data<'_>, first: u8, low: u8) -> Result<(u8, u8), Obstacle>
         return wide_location(last, first, place);
     }
     if last.kind != 0xA3 {
-        return Ok(locat(first, short_location(location), place));
+        return Ok((locat(first, short_location(location), place), None));
     }
     let (to, _) = located(last, place).ok_or(Obstacle::Location)?;
-    Ok(locat(first, short_location(location), to))
+    Ok((locat(first, short_location(location), to), None))
 }
 
 /// What is written for a fix-up with these two bytes and this reference.
 fn fixup_text<'a>(
-    last: &Data<'_>,
+    last: &Data<'a>,
     first: u8,
     low: u8,
     reference: &Reference<'a>,
 ) -> Result<Written<'a>, Obstacle>
     ensures { text_said result ≡ fixups.fixup_text (data_view last.now) first (low, reference_view reference.now) }
 {
-    let (first, low) = moved(last, first, low)?;
+    let ((first, low), carry) = moved(last, first, low)?;
     let displacement = narrowed(reference.displacement)?;
-    Ok(Written::Located(first, low, reference.datum, displacement))
+    match carry {
+        Some(carry) => Ok(Written::Carried(first, low, reference.datum, displacement, carry)),
+        None => Ok(Written::Located(first, low, reference.datum, displacement)),
+    }
 }
 
 /// What is written for the subrecord at the front, and the bytes behind it.
 #[tactic(auto, unfolding(crate::specs::Fixups::fixups_front))]
 pub(crate) fn take_fixup<'a>(
-    last: &Data<'_>,
+    last: &Data<'a>,
     width: usize,
     bytes: &'a [u8],
 ) -> Result<(Written<'a>, &'a [u8]), Obstacle>

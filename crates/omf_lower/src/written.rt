@@ -2,9 +2,24 @@
 
 ghost use Rattle.std.specs.Prelude.{◌≡◌, ◌++◌, ◌≤◌, OnOk, length};
 ghost use Rattle.std.specs.List.{flat_map};
-ghost use Rattle.omf_lower.specs.inside.Views.{written_text};
+ghost use Rattle.omf_lower.specs.inside.Views.{carry_view, written_text};
 
 use std::alloc::{AllocError, Allocator};
+
+/// A fix-up that adds 1 to the upper word of a number: a self-relative distance to a place of a segment.
+#[derive(Clone, Copy, Debug)]
+pub(crate) struct Carry<'a> {
+    /// The first of its two bytes.
+    pub(crate) first: u8,
+    /// The second one.
+    pub(crate) low: u8,
+    /// The index of its target's segment.
+    pub(crate) segment: &'a [u8],
+    /// The low byte of its displacement.
+    pub(crate) target_low: u8,
+    /// The high byte.
+    pub(crate) target_high: u8,
+}
 
 /// What is written for a part of a body.
 #[derive(Clone, Copy, Debug)]
@@ -23,6 +38,8 @@ pub(crate) enum Written<'a> {
     Behind(u8, &'a [u8], &'a [u8], &'a [u8], &'a [u8]),
     /// The two bytes of a fix-up's location, and bytes behind them.
     Located(u8, u8, &'a [u8], &'a [u8]),
+    /// The same, with a fix-up behind them.
+    Carried(u8, u8, &'a [u8], &'a [u8], Carry<'a>),
 }
 
 /// Appends bytes, each behind those before.
@@ -33,6 +50,24 @@ fn push_parts<A: Allocator + Copy>(parts: &[&[u8]], out: &mut Vec<u8, A>) -> Res
         out.extend_from_slice(part)?;
     }
     Ok(())
+}
+
+/// Appends a fix-up that adds 1. Its fix data byte has the target's frame, and a segment as target.
+fn push_carry<A: Allocator + Copy>(
+    carry: &Carry<'_>,
+    out: &mut Vec<u8, A>,
+) -> Result<(), AllocError>
+    ensures { OnOk result (out.new.items ≡ out.old.items ++ carry_view carry.now) }
+{
+    let front = [carry.first, carry.low, 0x50];
+    push_parts(
+        &[
+            &front,
+            carry.segment,
+            &[carry.target_low, carry.target_high],
+        ],
+        out,
+    )
 }
 
 /// Appends what is written.
@@ -53,6 +88,10 @@ pub(crate) fn push_written<A: Allocator + Copy>(
         }
         Written::Located(first, low, datum, displacement) => {
             push_parts(&[&[first, low], datum, displacement], out)
+        }
+        Written::Carried(first, low, datum, displacement, carry) => {
+            push_parts(&[&[first, low], datum, displacement], out)?;
+            push_carry(&carry, out)
         }
     }
 }

@@ -6,8 +6,9 @@ use Rattle.omf_alias.specs.Said.{renaming_said}
 use Rattle.omf_library.specs.Names.{texts}
 use Rattle.omf_library.specs.Said.{bytes_said}
 use Rattle.omf_lower.specs.declared.fault.Obstacle.{Obstacle}
+use Rattle.omf_lower.specs.declared.written.Carry.{Carry}
 use Rattle.omf_lower.specs.declared.written.Written.{Written}
-use Rattle.omf_lower.specs.declared.written.Written.TheVariants.{Nothing, Same, Two, Three, Named, Behind, Located}
+use Rattle.omf_lower.specs.declared.written.Written.TheVariants.{Nothing, Same, Two, Three, Named, Behind, Located, Carried}
 use Rattle.omf_lower.specs.declared.segments.Definition as definition
 use Rattle.omf_lower.specs.declared.fixups.Reference as reference
 use Rattle.omf_lower.specs.declared.data.Data as data'
@@ -16,6 +17,21 @@ use Rattle.omf_lower.specs.Segments.{Definition}
 use Rattle.omf_lower.specs.Fixups.{Reference}
 use Rattle.omf_lower.specs.Data.{Data}
 use Rattle.omf_lower.specs.Seen.{Seen}
+
+-- the bytes of a fix-up that adds 1
+abbrev pub carry_view : Carry → List ℕ
+carry_view carry = carry.first ∷ carry.low ∷ 0x50
+    ∷ (carry.segment.now ++ (carry.target_low ∷ carry.target_high ∷ []))
+
+-- the same, if there is one
+abbrev pub carry_said : Option Carry → List ℕ
+carry_said None = []
+carry_said (Some carry) = carry_view carry
+
+-- the two bytes of a fix-up, and what stands behind it
+abbrev pub moved_said : Result ((ℕ × ℕ) × Option Carry) Obstacle → Result ((ℕ × ℕ) × List ℕ) Obstacle
+moved_said (Ok (bytes, carry)) = Ok (bytes, carry_said carry)
+moved_said (Err obstacle) = Err obstacle
 
 -- the bytes that are written
 abbrev pub written_text : Written → List ℕ
@@ -26,6 +42,7 @@ written_text (Three a b c) = a.now ++ (b.now ++ c.now)
 written_text (Named length name rest) = length ∷ (name.now ++ rest.now)
 written_text (Behind byte a b c d) = byte ∷ (a.now ++ (b.now ++ (c.now ++ d.now)))
 written_text (Located first low a b) = first ∷ low ∷ (a.now ++ b.now)
+written_text (Carried first low a b carry) = first ∷ low ∷ (a.now ++ (b.now ++ carry_view carry))
 
 -- what is written for an entry, and the bytes behind it
 abbrev pub entry_said : Result (Written × Bor (List ℕ)) Obstacle → Result (List ℕ × List ℕ) Obstacle
@@ -87,7 +104,7 @@ change_said (Some (is, rest)) = Some (is, rest.now)
 
 -- data
 abbrev pub data_view : data'.Data → Data
-data_view d = record { kind = d.kind; bytes = d.bytes.now }
+data_view d = record { kind = d.kind; segment = d.segment.now; offset = d.offset; bytes = d.bytes.now }
 
 abbrev pub data_said : Option data'.Data → Option Data
 data_said None = None
