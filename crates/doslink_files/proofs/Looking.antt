@@ -15,7 +15,7 @@ use Rattle.doslink_files.specs.declared.lookup.Found.TheVariants.{New, Known}
 use Rattle.doslink_files.specs.declared.reading.InputFile.{InputFile}
 use Rattle.doslink_files.specs.Files.{AreSought, IsFileOf, IsFoundNew, IsObjectPath, IsPathIn, IsPathOf}
 use Rattle.doslink_files.specs.inside.Looking.{IsReadNew}
-use Rattle.doslink_files.specs.Files.{IsSought, IsTold, contents, sought_name}
+use Rattle.doslink_files.specs.Files.{IsModulesPart, IsSought, contents, sought_name}
 use Rattle.doslink_files.specs.Paths as spec
 use Rattle.doslink_files.specs.Standing as spec-front
 use Rattle.doslink_files.specs.Standing.{BeginsAsInput}
@@ -71,15 +71,16 @@ AreSought-push told folders (s ∷ ss) (x ∷ xs) one bytes are is =
 pub first-of : {A E : Type 0} (told : List ℕ → Option (List ℕ)) (holds : List ℕ → Type 0) (paths : List (String A))
     (found : Result (InputFile A) E) → All (λ p. holds (string_bytes p)) paths
     → IfOk found (λ file. Contains (map string_bytes paths) (string_bytes file.path))
-    → IfOk found (λ file. IsTold (told (string_bytes file.path)) file.bytes.items)
-    → IfOk found (λ file. holds (string_bytes file.path) × IsTold (told (string_bytes file.path)) file.bytes.items)
+    → IfOk found (λ file. IsModulesPart (told (string_bytes file.path)) file.bytes.items)
+    → IfOk found (λ file. holds (string_bytes file.path)
+    × IsModulesPart (told (string_bytes file.path)) file.bytes.items)
 first-of told holds paths (Ok file) all among is = (one-of-paths holds paths (string_bytes file.path) all among, is)
 first-of told holds paths (Err fault) all among is = tt
 
 -- and a module that is named by a path
 pub named-of : {A E : Type 0} (told : List ℕ → Option (List ℕ)) (path : List ℕ) (found : Result (InputFile A) E)
     → IfOk found (λ file. IsObjectPath path (string_bytes file.path)
-    × IsTold (told (string_bytes file.path)) file.bytes.items)
+    × IsModulesPart (told (string_bytes file.path)) file.bytes.items)
     → IfOk found (λ file. IsFileOf told path file.bytes.items)
 named-of told path (Ok file) is = (string_bytes file.path, is.0, is.1)
 named-of told path (Err fault) is = tt

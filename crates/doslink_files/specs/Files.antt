@@ -3,6 +3,7 @@
 use Rattle.std.specs.Prelude.{All, ◌≡◌, ◌≢◌, ℕ, List, [], ◌∷◌, ◌++◌, map, string_bytes, Some, None}
 use Rattle.std.specs.declared.option.Option.{Option}
 use Rattle.std.specs.List.{Contains}
+use Rattle.omf_library.specs.Ending.{modules_part}
 use Rattle.doslink_files.specs.declared.fault.FilesFault.{FilesFault}
 use Rattle.doslink_files.specs.declared.fault.FilesFault.TheVariants as fault
 use Rattle.doslink_files.specs.declared.lookup.Found.{Found}
@@ -21,6 +22,11 @@ abbrev pub IsTold : Option (List ℕ) → (bytes : List ℕ) → Type 0
 IsTold None bytes = Unit {0}
 IsTold (Some told) bytes = bytes ≡ told
 
+-- these are the bytes of a file up to the end of its modules, where its bytes are told
+abbrev pub IsModulesPart : Option (List ℕ) → (bytes : List ℕ) → Type 0
+IsModulesPart None bytes = Unit {0}
+IsModulesPart (Some told) bytes = bytes ≡ modules_part told
+
 -- for each name there are bytes for which this holds, in their order
 abbrev pub Each : (List ℕ → List ℕ → Type 0) → (names files : List (List ℕ)) → Type 0
 Each holds [] [] = Unit {0}
@@ -36,9 +42,10 @@ IsPathIn folder name path =
 abbrev pub IsPathOf : (folders : List (List ℕ)) → (name path : List ℕ) → Type 0
 IsPathOf folders name path = (folder : List ℕ) × Contains ([] ∷ folders) folder × IsPathIn folder name path
 
--- this is the path of the library of this name, looked up in this folder and in the others, and these are its bytes
+-- this is the path of the library of this name, looked up in this folder and in the others, and these are its bytes, up
+-- to the end of its modules
 abbrev pub IsFound : (told : List ℕ → Option (List ℕ)) → (folders : List (List ℕ)) → (name path bytes : List ℕ) → Type 0
-IsFound told folders name path bytes = IsPathOf folders name path × IsTold (told path) bytes
+IsFound told folders name path bytes = IsPathOf folders name path × IsModulesPart (told path) bytes
 
 -- this is the library of the name, looked up in this folder and in the others, where it is new
 abbrev pub IsFoundNew : {A : Type 0} → (told : List ℕ → Option (List ℕ)) → (folders : List (List ℕ)) → (name : List ℕ)
@@ -50,9 +57,9 @@ IsFoundNew told folders name Known = Unit {0}
 abbrev pub IsObjectPath : (path found : List ℕ) → Type 0
 IsObjectPath path found = (extension : List ℕ) × Contains (object_extensions path) extension × (found ≡ path ++ extension)
 
--- these are the bytes of the module that is named by a path
+-- these are the bytes of the module that is named by a path, up to its end
 abbrev pub IsFileOf : (told : List ℕ → Option (List ℕ)) → (path bytes : List ℕ) → Type 0
-IsFileOf told path bytes = (found : List ℕ) × IsObjectPath path found × IsTold (told found) bytes
+IsFileOf told path bytes = (found : List ℕ) × IsObjectPath path found × IsModulesPart (told found) bytes
 
 -- these are the bytes of what is wanted: of the module at a path, or of the library of a name
 abbrev pub IsSought : (told : List ℕ → Option (List ℕ)) → (folders : List (List ℕ)) → Sought → (bytes : List ℕ) → Type 0

@@ -3,6 +3,7 @@
 
 mod fault;
 mod lookup;
+mod modules;
 mod paths;
 mod reading;
 mod standing;

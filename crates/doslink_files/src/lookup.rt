@@ -7,7 +7,7 @@ ghost use Rattle.doslink_files.specs.Paths as spec;
 
 use crate::fault::ReadFault;
 use crate::paths::{has_extension, path_in};
-use crate::reading::{InputFile, passed_over, read_file, read_first};
+use crate::reading::{InputFile, passed_over, read_first, read_input};
 use omf_files::{FileId, PlaceKind, World};
 use std::alloc::{AllocError, Allocator};
 use std::collections::BTreeSet;
@@ -102,7 +102,7 @@ fn read_regular<W: World, A: Allocator + Copy>(
         PlaceKind::Folder => Err(ReadFault::Folder),
         PlaceKind::Other => Err(ReadFault::Special),
         PlaceKind::Regular if known.contains(&looked.id) => Ok(Found::Known),
-        PlaceKind::Regular => Ok(Found::New(read_file(alloc, world, path)?)),
+        PlaceKind::Regular => Ok(Found::New(read_input(alloc, world, path)?)),
     }
 }
 

@@ -1,23 +1,24 @@
 //! Files that are read into memory.
 ghost use Rattle.std.specs.Prelude.{All, ◌≡◌, IfErr, IfOk, map, string_bytes};
 ghost use Rattle.std.specs.List.{Contains};
-ghost use Rattle.doslink_files.specs.Files.{AreSought, AreUnread, IsFileOf, IsObjectPath, IsSought, IsTold, contents};
-ghost use Rattle.doslink_files.specs.Files.{sought_name};
+ghost use Rattle.doslink_files.specs.Files.{AreSought, AreUnread, IsFileOf, IsModulesPart, IsObjectPath, IsSought};
+ghost use Rattle.doslink_files.specs.Files.{IsTold, contents, sought_name};
 ghost use Rattle.doslink_files.specs.Paths as spec;
 
 use crate::fault::{FilesFault, ReadFault, Unread};
 use crate::lookup::find_library;
+use crate::modules::read_modules;
 use crate::paths::{has_extension, joined};
 use omf_files::{FileId, World};
 use std::alloc::{AllocError, Allocator, Global};
 use std::io::Read;
 
-/// A file of a link that was read.
+/// A file that was read.
 #[derive(Drop)]
 pub struct InputFile<A: Allocator + Copy = Global> {
     /// Its path.
     pub path: String<A>,
-    /// Its bytes.
+    /// Its bytes: of a file that is linked those up to the end of its modules.
     pub bytes: Vec<u8, A>,
     /// Which file it is. None where the world can't tell.
     pub id: Option<FileId>,
@@ -44,6 +45,16 @@ impl<'a> Sought<'a> {
     }
 }
 
+/// The file at a path, of which no byte has been read.
+fn open<W: World>(world: &W, path: &str) -> Result<W::Input, ReadFault>
+    ensures { IfOk result (λ file. W.Input.remaining file ≡ W.bytes world.now path.now) }
+{
+    match world.open(path) {
+        Ok(file) => Ok(file),
+        Err(error) => Err(ReadFault::of_opening(&error)),
+    }
+}
+
 /// The bytes of the file at a path.
 fn read_bytes<W: World, A: Allocator + Copy>(
     alloc: A,
@@ -52,15 +63,30 @@ fn read_bytes<W: World, A: Allocator + Copy>(
 ) -> Result<Vec<u8, A>, ReadFault>
     ensures { IfOk result (λ bytes. IsTold (W.bytes world.now path.now) bytes.items) }
 {
-    let mut file = match world.open(path) {
-        Ok(file) => file,
-        Err(error) => return Err(ReadFault::of_opening(&error)),
-    };
+    let mut file = open(world, path)?;
     let mut bytes = Vec::new(alloc);
     match file.read_to_end(&mut bytes) {
         Ok(_) => Ok(bytes),
         Err(error) => Err(ReadFault::of_reading(&error)),
     }
+}
+
+/// The file at a path, of which these bytes were read.
+fn file_at<W: World, A: Allocator + Copy>(
+    alloc: A,
+    world: &W,
+    path: &str,
+    bytes: Vec<u8, A>,
+) -> Result<InputFile<A>, AllocError>
+    ensures path { IfOk result (λ file. string_bytes file.path ≡ path.now) }
+    ensures bytes { IfOk result (λ file. file.bytes ≡ bytes) }
+{
+    let id = match world.look(path) {
+        Ok(looked) => Some(looked.id),
+        Err(_) => None,
+    };
+    let path = String::from_str(alloc, path)?;
+    Ok(InputFile { path, bytes, id })
 }
 
 /// The file at a path, read to its end.
@@ -76,12 +102,23 @@ pub fn read_file<W: World, A: Allocator + Copy>(
     ensures told { IfOk result (λ file. IsTold (W.bytes world.now path.now) file.bytes.items) }
 {
     let bytes = read_bytes(alloc, world, path)?;
-    let id = match world.look(path) {
-        Ok(looked) => Some(looked.id),
-        Err(_) => None,
-    };
-    let path = String::from_str(alloc, path)?;
-    Ok(InputFile { path, bytes, id })
+    Ok(file_at(alloc, world, path, bytes)?)
+}
+
+/// The file at a path, read up to the end of its modules, and to its own where they have none.
+///
+/// # Errors
+/// As those of `read_file`.
+pub(crate) fn read_input<W: World, A: Allocator + Copy>(
+    alloc: A,
+    world: &W,
+    path: &str,
+) -> Result<InputFile<A>, ReadFault>
+    ensures path { IfOk result (λ file. string_bytes file.path ≡ path.now) }
+    ensures told { IfOk result (λ file. IsModulesPart (W.bytes world.now path.now) file.bytes.items) }
+{
+    let bytes = read_modules(alloc, open(world, path)?)?;
+    Ok(file_at(alloc, world, path, bytes)?)
 }
 
 /// What is put behind the path of a module, in turn.
@@ -130,11 +167,11 @@ pub(crate) fn read_first<W: World, A: Allocator + Copy>(
     paths: &[String<A>],
 ) -> Result<InputFile<A>, ReadFault>
     ensures path { IfOk result (λ file. Contains (map string_bytes paths.now) (string_bytes file.path)) }
-    ensures told { IfOk result (λ file. IsTold (W.bytes world.now (string_bytes file.path)) file.bytes.items) }
+    ensures told { IfOk result (λ file. IsModulesPart (W.bytes world.now (string_bytes file.path)) file.bytes.items) }
 {
     let mut why = ReadFault::Absent;
     for path in paths {
-        match read_file(alloc, world, path.as_str()) {
+        match read_input(alloc, world, path.as_str()) {
             Ok(file) => return Ok(file),
             Err(fault) => why = passed_over(why, fault)?,
         }

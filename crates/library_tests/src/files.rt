@@ -7,7 +7,7 @@
 //! `41 41 41`. A line that begins with `#` is a comment. Of places each name that is asked for stands before its own.
 
 use omf_library::{
-    Alias, Member, ModuleNames, members, module_frames, module_names, wanting_place,
+    Alias, Member, ModuleNames, members, module_frames, module_names, modules_end, wanting_place,
 };
 use rows::{bytes_of, push_text, put_record, same};
 use std::alloc::{AllocError, Allocator, Global};
@@ -230,6 +230,23 @@ pub enum What {
     Names,
     /// The places of the records that want some names first.
     Places,
+    /// How many bytes tell the modules of the file.
+    End,
+}
+
+/// How many bytes from the front of a file tell its modules: so many of each front that has them, and of none that is
+/// shorter.
+fn told_end(words: Global, file: &[u8]) -> Result<String, AllocError> {
+    let Some(end) = modules_end(file) else {
+        return format!(in words; "none");
+    };
+    for len in 0..file.len() {
+        let found = modules_end(&file[..len]);
+        if found != (end <= len).then_some(end) {
+            return format!(in words; "{end}, but not of {len}");
+        }
+    }
+    format!(in words; "{end}")
 }
 
 /// What is told of a file, for what is wanted.
@@ -244,6 +261,7 @@ pub fn told<A: Allocator + Copy>(
         What::Members => told_members(alloc, words, file),
         What::Names => told_names(alloc, words, file),
         What::Places => told_places(alloc, words, file, wanted),
+        What::End => told_end(words, file),
     }
 }
 

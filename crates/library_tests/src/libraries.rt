@@ -157,3 +157,54 @@ raw 80 02 00 00 01
 = place 22: its length word is 0",
     )
 }
+
+#[test]
+fn ends_of_modules(rt: HostRuntime) -> Result<(), Fail> {
+    run(
+        rt.alloc(),
+        What::End,
+        "\
+80 01 4D
+8A 00
+raw 41 42
+= 11
+
+# cut off, at fault, and empty
+80 01 4D
+= none
+
+raw 96 00 00
+8A 00
+= none
+
+# a library: up to the type of the record behind its last member
+lib 16
+80 01 41
+8A 00
+pad 16
+80 01 42
+8B 00
+pad 16
+raw F1 0D 00 41 42 43
+= 49
+
+lib 16
+raw F1
+= 17
+
+lib 16
+80 01 41
+8A 00
+pad 16
+= none
+
+raw F0 0E 00 00
+= none
+
+# an archive ends where its file does
+text !<arch>
+ar a.o/ 1
+raw 41
+= none",
+    )
+}

@@ -11,3 +11,6 @@ pub mod Indexes
 pub mod Unmarked
 pub mod Naming
 pub mod Lines
+pub mod Endings
+pub mod Agreeing
+pub mod Lasting

@@ -15,7 +15,7 @@ use Rattle.omf_library.specs.declared.fault.FormatFault.TheVariants.{ZeroLength,
 use Rattle.omf_library.specs.Records.{record_or_fault}
 use Rattle.omf_library.specs.inside.Views.{IsSplit}
 
-abbrev frame_with : ℕ → ℕ → List ℕ → Frame
+abbrev pub frame_with : ℕ → ℕ → List ℕ → Frame
 frame_with place kind body = record { place = place; kind = kind; body = body }
 
 -- what the bytes behind a header make it
@@ -56,7 +56,7 @@ frame_of-cut place bytes some cut =
     frame_of-framed place bytes some
     ∙ rw (ne_eqb len 0 (λ z. omega (arith, z, cut)), lt-ltb (length (drop 3 bytes)) len cut) refl
 
-frame_of-whole : (place : ℕ) (bytes : List ℕ) (t : Bool) → 3 ≤ length bytes
+pub frame_of-whole : (place : ℕ) (bytes : List ℕ) (t : Bool) → 3 ≤ length bytes
     → 0 < get_or bytes 1 0 + 256 * get_or bytes 2 0
     → get_or bytes 1 0 + 256 * get_or bytes 2 0 ≤ length (drop 3 bytes)
     → closes (get_or (drop 3 bytes) (get_or bytes 1 0 + 256 * get_or bytes 2 0 - 1) 0)

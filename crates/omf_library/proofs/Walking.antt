@@ -23,7 +23,7 @@ use Rattle.omf_frame.specs.declared.frame.Frame.{Frame as LentFrame}
 
 -- ---- the next record, and none
 
-records-next : (most : ℕ) (file : List ℕ) (place : ℕ) (f : Frame) (t : Bool) → record_at file place ≡ Ok f
+pub records-next : (most : ℕ) (file : List ℕ) (place : ℕ) (f : Frame) (t : Bool) → record_at file place ≡ Ok f
     → ends_module f.kind ≡ t
     → records_up_to (suc most) file place ≡ f ∷ cond t [] (records_up_to most file (place_behind f))
 records-next most file place f t e k =
@@ -38,7 +38,7 @@ records-none (suc most) file place e h =
     ap (λ r.
     option_map_or (λ g. g ∷ cond (ends_module g.kind) [] (records_up_to most file (place_behind g))) (result_ok r) []) h
 
-end-next : (most : ℕ) (file : List ℕ) (place : ℕ) (f : Frame) (t : Bool) → record_at file place ≡ Ok f
+pub end-next : (most : ℕ) (file : List ℕ) (place : ℕ) (f : Frame) (t : Bool) → record_at file place ≡ Ok f
     → ends_module f.kind ≡ t
     → end_within (suc most) file place ≡ cond t (Ok (place_behind f)) (end_within most file (place_behind f))
 end-next most file place f t e k =
@@ -53,7 +53,7 @@ record_at-end file place past =
     ap (λ (l : List ℕ). record_or_fault place (frame_of place l)) (ap (λ n. drop n file) past ∙ drop-length file)
 
 -- a number above another one is that of some number behind it
-pred_of : (n m : ℕ) → m < n → (k : ℕ) × (n ≡ suc k)
+pub pred_of : (n m : ℕ) → m < n → (k : ℕ) × (n ≡ suc k)
 pred_of zero m h = absurd (omega arith)
 pred_of (suc n) m h = (n, refl)
 

@@ -11,4 +11,5 @@ pub mod Members
 pub mod Library
 pub mod Archive
 pub mod Files
+pub mod Ending
 pub mod inside

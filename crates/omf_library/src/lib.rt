@@ -4,6 +4,7 @@
 mod aliases;
 mod archive;
 mod defaults;
+mod ending;
 mod entries;
 mod fault;
 mod fields;
@@ -17,6 +18,7 @@ mod wanting;
 
 pub use aliases::Alias;
 pub use defaults::{Defaulted, weak_and_lazy};
+pub use ending::modules_end;
 pub use entries::{behind_length, behind_lengths, listed_name};
 pub use fault::{FormatFault, LibraryFault};
 pub use fields::{take_bytes, take_index, take_name};

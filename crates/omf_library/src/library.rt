@@ -12,7 +12,7 @@ use crate::records::{comment_text, ends_module, header_name, record_at};
 use std::alloc::Allocator;
 
 /// The type of the record behind the last member.
-const LIBRARY_END: u8 = 0xF1;
+pub(crate) const LIBRARY_END: u8 = 0xF1;
 
 /// The class of a comment with the name of a library's member, LIBMOD.
 const LIBMOD: u8 = 0xA3;
@@ -24,7 +24,7 @@ const GREATEST_PAGE: usize = 32_768;
 
 /// The size of a page, as the length of the library's header record, F0H, gives it: all of that record.
 #[tactic(auto, unfolding(crate::specs::Library::page_size))]
-fn page_size(file: &[u8]) -> Result<usize, LibraryFault>
+pub(crate) fn page_size(file: &[u8]) -> Result<usize, LibraryFault>
     ensures size { result ≡ page_size file.now }
     ensures bounds { IfOk result (λ page. (16 ≤ page) × (page ≤ 32768)) }
 {
@@ -65,7 +65,7 @@ fn name_of<'a>(header: Option<&'a [u8]>, comment: Option<&'a [u8]>) -> &'a [u8]
 }
 
 /// The member that begins at the place.
-fn member_at(file: &[u8], place: usize) -> Result<Member<'_>, LibraryFault>
+pub(crate) fn member_at(file: &[u8], place: usize) -> Result<Member<'_>, LibraryFault>
     requires { place ≤ length file.now }
     ensures said { member_said result ≡ member_at file.now place }
     ensures part { IfOk result (IsMember file.now place) }
