@@ -191,16 +191,19 @@ fn warning_line(
     }
 }
 
-/// Appends a line for each warning.
+/// Appends a line for each of the first warnings, and how many more there are.
 pub(crate) fn push_warnings(
     alloc: Global,
     directives: &Directives<'_>,
     spoken: &Spoken<'_>,
     lines: &mut Vec<u8>,
 ) -> Result<(), AllocError> {
+    let mut warnings = Limit::new(alloc, directives.job.verbose);
     for warning in &directives.warnings {
-        let line = warning_line(alloc, warning, spoken)?;
-        lines.extend_from_slice(line.as_bytes())?;
+        if let Some(lines) = warnings.next() {
+            let line = warning_line(alloc, warning, spoken)?;
+            lines.extend_from_slice(line.as_bytes())?;
+        }
     }
-    Ok(())
+    warnings.append_to(lines)
 }

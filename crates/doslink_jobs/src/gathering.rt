@@ -78,7 +78,7 @@ fn all_sought<'a, A: Allocator + Copy>(
     Ok(sought)
 }
 
-/// The files that a job names, in their order. All that can't be read are told.
+/// The files that a job names, in their order. Those that can't be read are told.
 fn given_files<W: World, A: Allocator + Copy>(
     alloc: A,
     world: &W,
@@ -92,7 +92,7 @@ fn given_files<W: World, A: Allocator + Copy>(
     let sought = all_sought(alloc, &job.inputs)?;
     match read_sought(alloc, world, &job.folders, &sought) {
         Ok(files) => Ok(files),
-        Err(fault) => Err(stop_at_files(lines, fault)),
+        Err(fault) => Err(stop_at_files(alloc, lines, fault, job.verbose)),
     }
 }
 

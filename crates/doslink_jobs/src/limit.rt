@@ -1,12 +1,12 @@
-//! Warnings of one kind, of which the first are told.
+//! Lines of one kind, of which the first are told.
 
 use doslink_telling::push_more_line;
 use std::alloc::{AllocError, Allocator};
 
-/// How many warnings of a kind are told, where not all of them are.
+/// How many lines of a kind are told, where not all of them are.
 const MOST: usize = 20;
 
-/// Warnings of one kind.
+/// Lines of one kind.
 #[derive(Drop)]
 pub(crate) struct Limit<A: Allocator + Copy> {
     /// Their lines.

@@ -15,21 +15,57 @@ use crate::program::link_and_map;
 use crate::stop::Stop;
 use crate::taking::Taken;
 use crate::warnings::warn_of_program;
-use doslink_telling::{push_duplicate, push_fault};
+use doslink_telling::{push_duplicates, push_fault};
 use doslink_words::Job;
 use omf_commands::Options;
 use omf_communal::Variable;
 use omf_faults::{LinkFault, ProgramFault, status};
 use omf_files::{CreatedFile, World};
-use omf_module::Module;
-use omf_place::Names;
+use omf_frame::MemSource;
+use omf_module::{Module, ModuleFault, read_module};
 use std::alloc::{AllocError, Allocator};
+
+/// The modules that these bytes begin with. None where some are at fault.
+fn linked_modules<A: Allocator + Copy>(
+    alloc: A,
+    inputs: &[&[u8]],
+) -> Result<Option<Vec<Module<A>, A>>, AllocError> {
+    let mut modules = Vec::new(alloc);
+    for bytes in inputs {
+        let mut source = MemSource::over(bytes, usize::MAX, None);
+        match read_module(alloc, &mut source) {
+            Ok(one) => modules.push(one)?,
+            Err(ModuleFault::Memory) => return Err(AllocError),
+            Err(ModuleFault::Record { .. }) => return Ok(None),
+        }
+    }
+    Ok(Some(modules))
+}
+
+/// Tells that more than one public of what is linked has a name: each such name, where the link says that of one, which
+/// is this fault.
+fn tell_duplicates<A: Allocator + Copy>(
+    alloc: A,
+    job: &Job<'_>,
+    fault: &LinkFault<A>,
+    taken: &Taken<'_, '_, '_, A>,
+    inputs: &Inputs<'_, A>,
+    lines: &mut Vec<u8, A>,
+) -> Result<(), AllocError> {
+    let slices = input_slices(alloc, inputs)?;
+    let words = input_words(alloc, inputs, taken.words)?;
+    let names = options_of(job).names;
+    match linked_modules(alloc, &slices)? {
+        Some(modules) => push_duplicates(alloc, lines, names, &modules, &words, job.verbose),
+        None => push_fault(alloc, lines, fault, b""),
+    }
+}
 
 /// Tells why the link stopped, `word` being that for what is at fault.
 fn tell_fault<A: Allocator + Copy>(
     alloc: A,
+    job: &Job<'_>,
     fault: LinkFault<A>,
-    names: Names,
     taken: &Taken<'_, '_, '_, A>,
     inputs: &Inputs<'_, A>,
     word: &[u8],
@@ -37,8 +73,8 @@ fn tell_fault<A: Allocator + Copy>(
 ) -> Result<(), AllocError> {
     match &fault {
         LinkFault::Memory => Err(AllocError),
-        LinkFault::Program(ProgramFault::DuplicatePublic(name)) => {
-            push_duplicate(alloc, lines, name, names, taken.handed, taken.words)
+        LinkFault::Program(ProgramFault::DuplicatePublic(_)) => {
+            tell_duplicates(alloc, job, &fault, taken, inputs, lines)
         }
         LinkFault::Record {
             input,
@@ -121,7 +157,7 @@ pub(crate) fn write_program<W: World + Copy, A: Allocator + Copy>(
                 Stop::Device
             };
             let word = word_of(&fault, &words, written);
-            tell_fault(alloc, fault, options.names, taken, inputs, word, lines)?;
+            tell_fault(alloc, job, fault, taken, inputs, word, lines)?;
             Err(stop)
         }
     }

@@ -2,7 +2,8 @@
 ghost use Rattle.std.specs.Prelude.{◌≡◌};
 ghost use Rattle.doslink_jobs.specs.inside.Stops.{OnInput, stop_status, stop_text};
 
-use doslink_files::{FilesFault, ReadFault};
+use crate::limit::Limit;
+use doslink_files::{FilesFault, ReadFault, Unread};
 use doslink_telling::push_unread_line;
 use std::alloc::{AllocError, AllocFailed, Allocator};
 
@@ -92,20 +93,39 @@ pub(crate) fn stop_unread<A: Allocator + Copy>(
     }
 }
 
-/// Tells of each of some files why it can't be read, and stops.
+/// Appends for each of the first of some files why it can't be read, and how many more there are.
+fn push_unread_files<A: Allocator + Copy>(
+    alloc: A,
+    lines: &mut Vec<u8, A>,
+    files: &[Unread<'_>],
+    tells_all: bool,
+) -> Result<(), AllocError> {
+    let mut told = Limit::new(alloc, tells_all);
+    for file in files {
+        if matches!(file.fault, ReadFault::Memory) {
+            return Err(AllocError);
+        }
+        if let Some(lines) = told.next() {
+            push_unread_line(lines, file.name, file.fault)?;
+        }
+    }
+    told.append_to(lines)
+}
+
+/// Tells of the first of some files, or of all, why they can't be read, and stops.
 pub(crate) fn stop_at_files<A: Allocator + Copy>(
+    alloc: A,
     lines: &mut Vec<u8, A>,
     fault: FilesFault<'_, A>,
+    tells_all: bool,
 ) -> Stop
     ensures { OnInput result ⊥ }
 {
     let FilesFault::Unread(files) = fault else {
         return Stop::Memory;
     };
-    for file in &files {
-        if matches!(stop_unread(lines, file.name, file.fault), Stop::Memory) {
-            return Stop::Memory;
-        }
+    if push_unread_files(alloc, lines, &files, tells_all).is_err() {
+        return Stop::Memory;
     }
     Stop::Device
 }

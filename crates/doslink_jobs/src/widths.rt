@@ -1,5 +1,6 @@
 //! Segments of 32 bits, which are linked as ones of 16.
 
+use crate::limit::Limit;
 use crate::lowering::LoweredModule;
 use crate::taking::Taken;
 use doslink_telling::push_wide_line;
@@ -53,10 +54,13 @@ pub(crate) fn warn_of_wide_segments<A: Allocator + Copy>(
     if job.quiet {
         return Ok(());
     }
+    let mut warnings = Limit::new(alloc, job.verbose);
     for (index, module) in modules.iter().enumerate() {
-        if has_wide_segment(alloc, module)? {
+        if has_wide_segment(alloc, module)?
+            && let Some(lines) = warnings.next()
+        {
             push_wide_line(lines, taken.word(index))?;
         }
     }
-    Ok(())
+    warnings.append_to(lines)
 }

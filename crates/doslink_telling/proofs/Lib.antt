@@ -1,2 +1,3 @@
 pub mod Staying
 pub mod Texts
+pub mod Doubled

@@ -1,14 +1,12 @@
 -- Texts that are made of the items of a list, one behind the other.
-use Rattle.std.proofs.Common.{◌≡◌, ℕ, ◌+◌, ◌<◌, ◌≤◌, Bool, true, false, cond, List, [], ◌∷◌, ◌++◌, length, map, drop}
-use Rattle.std.proofs.Common.{filter, get_or, refl, sym, ap, ◌∙◌, append_assoc, append-nil, if◌then◌else◌, Ok, Err}
+use Rattle.std.proofs.Common.{◌≡◌, ℕ, ◌+◌, ◌<◌, ◌≤◌, List, [], ◌∷◌, ◌++◌, length, map, drop}
+use Rattle.std.proofs.Common.{get_or, refl, sym, ap, ◌∙◌, append_assoc, append-nil, if◌then◌else◌, Ok, Err}
 use Rattle.std.proofs.Common.{OnOk, Result, slice_get}
 use Rattle.std.specs.Result.{is_ok}
 use Rattle.std.proofs.Math.ListN.{drop_of_length-le}
 use Rattle.std.proofs.lemmas.Option.{same_Some, slice_get-get_or, slice_get-map}
-use Rattle.std.specs.Borrow.{Bor}
 use Rattle.std.specs.List.{enumerate_from, flat_map}
 use Rattle.std.specs.Option.{option_map}
-use Rattle.omf_search.specs.Results.{bytes_of}
 use Rattle.doslink_stock.proofs.Walks.{drop-one}
 
 -- ---- what is left of a list says what is still to be appended
@@ -52,29 +50,6 @@ each-more f ys i d old new goal h added before =
 pub each-done : {Y Z : Type 0} (f : ℕ × Y → List Z) (ys : List Y) (i : ℕ) (old goal : List Z) → length ys ≤ i
     → old ++ flat_map f (enumerate_from i (drop i ys)) ≡ goal → old ≡ goal
 each-done f ys i old goal h before = text-done (λ n l. flat_map f (enumerate_from n l)) ys i old goal h refl before
-
--- ---- a word as often as names pass a test
-
-abbrev repeated : (p : List ℕ → Bool) (w : List ℕ) → List (Bor (List ℕ)) → List (List ℕ)
-repeated p w names = map (λ _. w) (filter p (bytes_of names))
-
-pub repeated-more : (p : List ℕ → Bool) (w : List ℕ) (names : List (Bor (List ℕ))) (i : ℕ) (d : Bor (List ℕ))
-    (old new goal : List (List ℕ)) → i < length names → p (get_or names i d).now ≡ true → new ≡ old ++ w ∷ []
-    → old ++ map (λ _. w) (filter p (bytes_of (drop i names))) ≡ goal
-    → new ++ map (λ _. w) (filter p (bytes_of (drop (i + 1) names))) ≡ goal
-repeated-more p w names i d old new goal h passes added before =
-    let rest = filter p (bytes_of (drop (i + 1) names)) in
-    text-step (λ n l. repeated p w l) (w ∷ []) names i d old new goal h
-    (ap (λ (b : Bool). map (λ _. w) (cond b ((get_or names i d).now ∷ rest) rest)) passes) added before
-
-pub repeated-same : (p : List ℕ → Bool) (w : List ℕ) (names : List (Bor (List ℕ))) (i : ℕ) (d : Bor (List ℕ))
-    (old goal : List (List ℕ)) → i < length names → p (get_or names i d).now ≡ false
-    → old ++ map (λ _. w) (filter p (bytes_of (drop i names))) ≡ goal
-    → old ++ map (λ _. w) (filter p (bytes_of (drop (i + 1) names))) ≡ goal
-repeated-same p w names i d old goal h fails before =
-    let rest = filter p (bytes_of (drop (i + 1) names)) in
-    text-step (λ n l. repeated p w l) [] names i d old old goal h
-    (ap (λ (b : Bool). map (λ _. w) (cond b ((get_or names i d).now ∷ rest) rest)) fails) (sym (append-nil old)) before
 
 -- ---- lists that are the same once they are mapped
 

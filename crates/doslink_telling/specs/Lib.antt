@@ -4,4 +4,5 @@ pub mod Table
 pub mod Missing
 pub mod Kinds
 pub mod Warnings
+pub mod Duplicates
 pub mod inside

@@ -1,8 +1,10 @@
 -- The lines of faults and warnings. A word stands in a line for a file or a module: it is a path, and of a member its
 -- name in parentheses behind that of its library. A label is the number and the name of a fault.
-use Rattle.std.specs.Prelude.{◌≡◌, ℕ, ◌==◌, if◌then◌else◌, List, [], ◌∷◌, ◌++◌, codes, decimal, drop, filter, length}
-use Rattle.std.specs.Prelude.{take, map, slice_get, Some, None, Vec}
+use Rattle.std.specs.Prelude.{◌≡◌, ℕ, ◌==◌, if◌then◌else◌, List, [], ◌∷◌, ◌++◌, codes, decimal, drop, length}
+use Rattle.std.specs.Prelude.{take, slice_get, Some, None, Vec}
 use Rattle.std.specs.declared.option.Option.{Option}
+use Rattle.std.specs.declared.io.ErrorKind.{ErrorKind}
+use Rattle.std.specs.declared.io.ErrorKind.TheVariants as error
 use Rattle.std.specs.Borrow.{Bor}
 use Rattle.std.specs.List.{concat, enumerate_from, flat_map}
 use Rattle.std.specs.Option.{option_map_or}
@@ -20,8 +22,6 @@ use Rattle.omf_library.specs.declared.fault.FormatFault.{FormatFault}
 use Rattle.omf_library.specs.declared.fault.FormatFault.TheVariants as format
 use Rattle.omf_lower.specs.declared.fault.Obstacle.{Obstacle}
 use Rattle.omf_lower.specs.declared.fault.Obstacle.TheVariants as obstacle
-use Rattle.omf_place.specs.Names.{agrees}
-use Rattle.omf_place.specs.declared.names.Names.{Names}
 use Rattle.omf_faults.specs.declared.fault.LinkFault.{LinkFault}
 use Rattle.omf_faults.specs.FaultLines as omf
 use Rattle.omf_text.specs.Printing.{printed_name}
@@ -29,8 +29,6 @@ use Rattle.doslink_files.specs.declared.fault.ReadFault.{ReadFault}
 use Rattle.doslink_files.specs.declared.fault.ReadFault.TheVariants as read
 use Rattle.doslink_stock.specs.declared.fault.StockFault.{StockFault}
 use Rattle.doslink_stock.specs.declared.fault.StockFault.TheVariants as stock
-use Rattle.doslink_stock.specs.declared.searching.Handed.{Handed}
-use Rattle.doslink_stock.specs.Seen.{handed_held}
 use Rattle.doslink_telling.specs.Words.{cut_end, most_bytes, path_of, word_at}
 
 -- a line was appended, of what has one: want of memory has none
@@ -52,6 +50,22 @@ located word label at place =
     concat (codes "doslink: " ∷ word ∷ codes ": " ∷ decimal label.0 ∷ codes " " ∷ label.1 ∷ at ∷ decimal place
     ∷ codes "\n" ∷ [])
 
+-- what the system says of an error of this kind; else another text
+abbrev pub system_text : ErrorKind → (other : List ℕ) → List ℕ
+system_text error.WouldBlock other = codes "resource temporarily unavailable"
+system_text error.ReadOnlyFilesystem other = codes "read-only file system"
+system_text error.FilesystemLoop other = codes "too many levels of symbolic links"
+system_text error.StaleNetworkFileHandle other = codes "stale file handle"
+system_text error.InvalidInput other = codes "invalid argument"
+system_text error.TimedOut other = codes "connection timed out"
+system_text error.FileTooLarge other = codes "file too large"
+system_text error.ResourceBusy other = codes "device or resource busy"
+system_text error.ExecutableFileBusy other = codes "text file busy"
+system_text error.InvalidFilename other = codes "file name too long"
+system_text error.Interrupted other = codes "interrupted system call"
+system_text error.Unsupported other = codes "operation not supported"
+system_text kind other = other
+
 -- why a file isn't read
 abbrev pub unread_text : ReadFault → List ℕ
 unread_text read.Memory = codes "out of memory"
@@ -59,8 +73,8 @@ unread_text read.Absent = codes "no such file"
 unread_text read.Folder = codes "it is a folder"
 unread_text read.Forbidden = codes "no permission"
 unread_text read.Special = codes "it is no regular file"
-unread_text (read.Unopened kind) = codes "it can't be opened"
-unread_text (read.Device kind) = codes "it can't be read"
+unread_text (read.Unopened kind) = system_text kind (codes "it can't be opened")
+unread_text (read.Device kind) = system_text kind (codes "it can't be read")
 
 -- the line of a file or a library of this name that isn't read
 abbrev pub unread_line : (name : List ℕ) → ReadFault → List ℕ
@@ -130,16 +144,6 @@ abbrev pub named : (label : ℕ × List ℕ) (name : List ℕ) (words : List (Li
 named label name words =
     concat (codes "doslink: link: " ∷ decimal label.0 ∷ codes " " ∷ label.1 ∷ codes " " ∷ printed_name name
     ∷ listed words ∷ codes "\n" ∷ [])
-
--- the word for a module, by its index, as often as it offers a name
-abbrev pub offering_words : {A B : Type 0} → Names → (name : List ℕ) → List (Vec ℕ A) → ℕ × Handed B → List (List ℕ)
-offering_words names name words p =
-    map (λ _. word_at words p.0) (filter (λ offered. agrees names offered name) (handed_held p.1).says.offered)
-
--- the line of a name that modules publish more than once, with all that do
-abbrev pub duplicate_line : {A B : Type 0} → Names → (name : List ℕ) → List (Handed A) → List (Vec ℕ B) → List ℕ
-duplicate_line names name handed words =
-    named (25, codes "DuplicatePublic") name (flat_map (offering_words names name words) (enumerate_from 0 handed))
 
 -- the name of a communal variable, by the module that declares it and its index there
 abbrev pub name_at : List Declaring → Whose → List ℕ

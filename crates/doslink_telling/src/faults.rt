@@ -1,26 +1,41 @@
 //! The lines of faults and warnings, with people's names for what is at fault.
-ghost use Rattle.std.specs.Prelude.{◌≡◌, ◌++◌, IfOk, OnOk, drop, filter, length, codes, map};
-ghost use Rattle.std.specs.List.{enumerate_from, flat_map};
+ghost use Rattle.std.specs.Prelude.{◌≡◌, ◌++◌, IfOk, OnOk, drop, length, codes};
 ghost use Rattle.std.specs.Str.Lossy.{utf8_lossy};
-ghost use Rattle.omf_place.specs.Names.{agrees};
-ghost use Rattle.omf_search.specs.Results.{bytes_of};
 ghost use Rattle.omf_faults.specs.FaultLines as omf;
 ghost use Rattle.doslink_telling.specs.Lines as spec;
 ghost use Rattle.doslink_telling.specs.Lines.{IsTold};
 
-use crate::lines::{
-    Lines, Part, push_front, push_located, push_name, push_named, push_parts, push_place,
-};
-use crate::telling::{cut_end, path_of, told_part, word_at};
+use crate::lines::{Lines, Part, push_front, push_located, push_name, push_parts, push_place};
+use crate::telling::{cut_end, path_of, told_part};
 use doslink_files::ReadFault;
-use doslink_stock::{Handed, StockFault};
-use omf_alias::agree;
+use doslink_stock::StockFault;
 use omf_faults::{LinkFault, fault_line};
 use omf_frame::IoFault;
 use omf_library::FormatFault;
 use omf_lower::Obstacle;
-use omf_place::Names;
 use std::alloc::{AllocError, Allocator};
+use std::io::ErrorKind;
+
+/// What the system says of an error of this kind; else another text.
+fn system_text(kind: ErrorKind, other: &'static str) -> &'static str
+    ensures { result.now ≡ spec.system_text kind other.now }
+{
+    match kind {
+        ErrorKind::WouldBlock => "resource temporarily unavailable",
+        ErrorKind::ReadOnlyFilesystem => "read-only file system",
+        ErrorKind::FilesystemLoop => "too many levels of symbolic links",
+        ErrorKind::StaleNetworkFileHandle => "stale file handle",
+        ErrorKind::InvalidInput => "invalid argument",
+        ErrorKind::TimedOut => "connection timed out",
+        ErrorKind::FileTooLarge => "file too large",
+        ErrorKind::ResourceBusy => "device or resource busy",
+        ErrorKind::ExecutableFileBusy => "text file busy",
+        ErrorKind::InvalidFilename => "file name too long",
+        ErrorKind::Interrupted => "interrupted system call",
+        ErrorKind::Unsupported => "operation not supported",
+        _ => other,
+    }
+}
 
 /// Why a file isn't read.
 fn unread_text(fault: ReadFault) -> &'static str
@@ -32,8 +47,8 @@ fn unread_text(fault: ReadFault) -> &'static str
         ReadFault::Folder => "it is a folder",
         ReadFault::Forbidden => "no permission",
         ReadFault::Special => "it is no regular file",
-        ReadFault::Unopened(_) => "it can't be opened",
-        ReadFault::Device(_) => "it can't be read",
+        ReadFault::Unopened(kind) => system_text(kind, "it can't be opened"),
+        ReadFault::Device(kind) => system_text(kind, "it can't be read"),
     }
 }
 
@@ -149,61 +164,6 @@ pub fn push_fault<A: Allocator + Copy>(
     let line = omf_line(alloc, fault, word)?;
     lines.extend_from_slice(b"doslink")?;
     lines.extend_from_slice(behind_name(&line))
-}
-
-/// Appends the word for a module as often as it offers a name, these being the names that it offers.
-fn push_offering<'w, A: Allocator + Copy>(
-    found: &mut Vec<&'w [u8], A>,
-    names: Names,
-    name: &[u8],
-    offered: &[&[u8]],
-    word: &'w [u8],
-) -> Result<(), AllocError>
-    ensures { OnOk result (bytes_of found.new.items ≡ bytes_of found.old.items
-        ++ map (λ _. word.now) (filter (λ o. agrees names o name.now) (bytes_of offered.now))) }
-{
-    for each in offered {
-        if agree(names, each, name) {
-            found.push(word)?;
-        }
-    }
-    Ok(())
-}
-
-/// The words for the modules that offer a name, each as often as its module does.
-fn offering_words<'w, A: Allocator + Copy>(
-    alloc: A,
-    names: Names,
-    name: &[u8],
-    handed: &[Handed<'_, '_, A>],
-    words: &'w [Vec<u8, A>],
-) -> Result<Vec<&'w [u8], A>, AllocError>
-    ensures { IfOk result (λ found. bytes_of found.items
-        ≡ flat_map (spec.offering_words names name.now words.now) (enumerate_from 0 handed.now)) }
-{
-    let mut found = Vec::new(alloc);
-    for (index, each) in handed.iter().enumerate() {
-        let word = word_at(words, index);
-        push_offering(&mut found, names, name, &each.entry.says.offered, word)?;
-    }
-    Ok(found)
-}
-
-/// Appends the line of a name that modules publish more than once, with all that do. The words are those of the
-/// modules.
-pub fn push_duplicate<A: Allocator + Copy>(
-    alloc: A,
-    lines: &mut Vec<u8, A>,
-    name: &[u8],
-    names: Names,
-    handed: &[Handed<'_, '_, A>],
-    words: &[Vec<u8, A>],
-) -> Result<(), AllocError>
-    ensures { OnOk result (lines.new.items ≡ lines.old.items
-        ++ spec.duplicate_line names name.now handed.now words.now) }
-{
-    let found = offering_words(alloc, names, name, handed, words)?;
-    push_named(alloc, lines, (25, "DuplicatePublic"), name, &found)
 }
 
 /// The number and the name of what of a record can't be lowered.

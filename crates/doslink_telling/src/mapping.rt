@@ -83,7 +83,7 @@ fn push_module_line<A: Allocator + Copy>(
 }
 
 /// The slice with this index; empty behind the last.
-fn slice_at<'s>(slices: &[&'s [u8]], index: usize) -> &'s [u8]
+pub(crate) fn slice_at<'s>(slices: &[&'s [u8]], index: usize) -> &'s [u8]
     ensures { result.now ≡ unwrap_or (slice_get (bytes_of slices.now) index) [] }
 {
     match slices.get(index) {

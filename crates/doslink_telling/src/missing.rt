@@ -290,8 +290,8 @@ fn push_told_lines<'m, 'a, A: Allocator + Copy>(
     Ok(())
 }
 
-/// How many of so many missing names are told: all, or the first of them.
-fn told_count(count: usize, tells_all: bool) -> usize
+/// How many of so many names are told: all, or the first of them.
+pub(crate) fn told_count(count: usize, tells_all: bool) -> usize
     ensures { result ≡ spec.told_count count tells_all }
 {
     if tells_all || count <= MOST_TOLD {
@@ -302,7 +302,10 @@ fn told_count(count: usize, tells_all: bool) -> usize
 }
 
 /// Appends how many more there are, where there are more.
-fn push_rest<A: Allocator + Copy>(lines: &mut Vec<u8, A>, count: usize) -> Result<(), AllocError>
+pub(crate) fn push_rest<A: Allocator + Copy>(
+    lines: &mut Vec<u8, A>,
+    count: usize,
+) -> Result<(), AllocError>
     ensures { OnOk result (lines.new.items ≡ lines.old.items ++ spec.rest_text count) }
 {
     if count == 0 {

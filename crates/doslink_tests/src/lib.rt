@@ -6,6 +6,8 @@ mod aliasing;
 #[cfg(test)]
 mod declaring;
 #[cfg(test)]
+mod doubled;
+#[cfg(test)]
 mod modules;
 #[cfg(test)]
 mod records;

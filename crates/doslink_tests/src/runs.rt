@@ -6,6 +6,7 @@ use crate::declaring::{
     BODY, CUT_ELEMENT, END, FAR, LOCAL, LOCAL_CLASH, LOCAL_FAULTY, LOCAL_LONG, LOCAL_START,
     LOCAL_TABLE, LONG, MANY, NEAR, OTHER_SIZE, TABLE,
 };
+use crate::doubled::{CAPITAL, MANY_NAMES, SWAPPED, TWICE, TWO};
 use crate::modules::{
     AMISS, ELSEWHERE, HEADLESS, KEEPS, LIBRARY, LIKE, MARKS, NAMELESS, NAMES, OFFERS, WANTS, WIDE,
 };
@@ -51,6 +52,16 @@ order clname STACK clname CODE
 
 /// Those that ask for as many bytes as it has.
 const AS_MANY: &str = "file STARTED.OBJ,STACKED.OBJ\nname P.EXE\noption stack=272\n";
+
+/// Those that want the map sorted, 22 times.
+const SORTS: &str = "\
+file F.OBJ
+name A.EXE
+sort global\nsort global\nsort global\nsort global\nsort global\nsort global\nsort global
+sort global\nsort global\nsort global\nsort global\nsort global\nsort global\nsort global
+sort global\nsort global\nsort global\nsort global\nsort global\nsort global\nsort global
+sort global
+";
 
 /// Bytes that are no text.
 const BINARY: [u8; 4] = [0x41, 0xFF, 0xFE, 0x0A];
@@ -246,6 +257,60 @@ doslink CLEARED.OBJ|1||doslink: CLEARED.OBJ: 62 DataInBss \"_BSS\"~
 doslink --stack 8 STARTED.OBJ|1||doslink: link: 66 StackTooLong: more than 8 bytes~
 doslink A.OBJ X.OBJ Y.OBJ|3||doslink: X.OBJ: 1 Device at record 0: no such file~doslink: Y.OBJ: 1 Device at record 0: no such file~
 ";
+
+/// Runs in which more than one public has a name, in the same form.
+const DOUBLED_RUNS: &str = "\
+doslink F.OBJ F.OBJ ALIAS.OBJ|1||doslink: link: 25 DuplicatePublic \"f\" in F.OBJ and F.OBJ~
+doslink TWO.OBJ F.OBJ TWO.OBJ|1||\
+doslink: link: 25 DuplicatePublic \"f\" in TWO.OBJ and F.OBJ and TWO.OBJ~\
+doslink: link: 25 DuplicatePublic \"g\" in TWO.OBJ and TWO.OBJ~
+doslink TWO.OBJ SWAPPED.OBJ|1||\
+doslink: link: 25 DuplicatePublic \"g\" in TWO.OBJ and SWAPPED.OBJ~\
+doslink: link: 25 DuplicatePublic \"f\" in TWO.OBJ and SWAPPED.OBJ~
+doslink --order dosseg TWO.OBJ RUN.LIB SWAPPED.OBJ|1||\
+doslink: link: 25 DuplicatePublic \"g\" in TWO.OBJ and SWAPPED.OBJ~\
+doslink: link: 25 DuplicatePublic \"f\" in TWO.OBJ and SWAPPED.OBJ~
+doslink F.OBJ CAPITAL.OBJ|0||
+doslink --ignore-case F.OBJ CAPITAL.OBJ|1||doslink: link: 25 DuplicatePublic \"F\" in F.OBJ and CAPITAL.OBJ~
+doslink A.OBJ TWICE.OBJ|1||doslink: link: 25 DuplicatePublic \"h\" in TWICE.OBJ and TWICE.OBJ~
+doslink TWICE.OBJ TWICE.OBJ|1||\
+doslink: link: 25 DuplicatePublic \"h\" in TWICE.OBJ and TWICE.OBJ~\
+doslink: link: 25 DuplicatePublic \"f\" in TWICE.OBJ and TWICE.OBJ~\
+doslink: link: 25 DuplicatePublic \"h\" in TWICE.OBJ and TWICE.OBJ~
+";
+
+/// Runs of which more than 20 lines of a kind are told: the words, a word that stands 22 times behind them, how many
+/// lines are told, and the last of them.
+const LIMITED_RUNS: [(&str, &str, usize, &str); 8] = [
+    ("doslink", " WIDE.OBJ", 21, "doslink: and 2 more\n"),
+    (
+        "doslink -v",
+        " WIDE.OBJ",
+        22,
+        "doslink: warning: 32-bit segments of WIDE.OBJ are linked as 16-bit ones\n",
+    ),
+    ("doslink", " X.OBJ", 21, "doslink: and 2 more\n"),
+    (
+        "doslink -v",
+        " X.OBJ",
+        22,
+        "doslink: X.OBJ: 1 Device at record 0: no such file\n",
+    ),
+    (
+        "doslink MANY_NAMES.OBJ MANY_NAMES.OBJ",
+        "",
+        21,
+        "doslink: and 2 more\n",
+    ),
+    (
+        "doslink -v MANY_NAMES.OBJ MANY_NAMES.OBJ",
+        "",
+        22,
+        "doslink: link: 25 DuplicatePublic \"v\" in MANY_NAMES.OBJ and MANY_NAMES.OBJ\n",
+    ),
+    ("wlink @SORTS", "", 21, "doslink: and 2 more\n"),
+    ("doslink", " A.OBJ", 21, "doslink: and 2 more\n"),
+];
 
 /// Runs that are warned of what can't be run, in the same form.
 const WARNED_RUNS: &str = "\
@@ -514,7 +579,7 @@ const WRITTEN: [(&str, &str, &[u8], &str); 9] = [
 ];
 
 /// The files of the world that are modules or libraries, with two that only begin so.
-const MODULES: [(&str, &[u8]); 86] = [
+const MODULES: [(&str, &[u8]); 91] = [
     ("A.OBJ", &WANTS),
     ("F.OBJ", &OFFERS),
     ("D.OBJ", &LIKE),
@@ -601,6 +666,11 @@ const MODULES: [(&str, &[u8]); 86] = [
     ("LOADS.OBJ", &LOADS),
     ("OUTSIDE.OBJ", &OUTSIDE),
     ("CLEARED.OBJ", &CLEARED),
+    ("TWO.OBJ", &TWO),
+    ("SWAPPED.OBJ", &SWAPPED),
+    ("CAPITAL.OBJ", &CAPITAL),
+    ("TWICE.OBJ", &TWICE),
+    ("MANY_NAMES.OBJ", &MANY_NAMES),
 ];
 
 /// What a run did: its status, both streams, and the program and its map, which were `old`.
@@ -646,6 +716,7 @@ fn run_row(alloc: Global, row: &str, path: &str) -> Result<Done, AllocError> {
         ("CUT16", CUT_TO_16.as_bytes()),
         ("CUT32", CUT_TO_32.as_bytes()),
         ("UNCUT", AS_MANY.as_bytes()),
+        ("SORTS", SORTS.as_bytes()),
     ])?;
     let out = Page::new(alloc, path, b"old", ROOM)?;
     let map = Page::new(alloc, "P.MAP", b"old", ROOM)?;
@@ -763,6 +834,36 @@ fn search_runs_tell_these_lines(rt: HostRuntime) -> Result<(), Fail> {
 fn refused_runs_tell_these_lines(rt: HostRuntime) -> Result<(), Fail> {
     let wrong = first_wrong(rt.alloc(), REFUSED_RUNS)?;
     assert_eq!(rt; wrong, None);
+    Ok(())
+}
+
+#[test]
+fn doubled_runs_tell_these_lines(rt: HostRuntime) -> Result<(), Fail> {
+    let wrong = first_wrong(rt.alloc(), DOUBLED_RUNS)?;
+    assert_eq!(rt; wrong, None);
+    Ok(())
+}
+
+/// How many lines of a text aren't of what no module has.
+fn count_lines(text: &[u8]) -> usize {
+    let lines = text.split(|byte| *byte == b'\n');
+    lines
+        .filter(|line| !line.is_empty() && !line.starts_with(LACKING.as_bytes()))
+        .count()
+}
+
+#[test]
+fn limited_runs_tell_so_many_lines(rt: HostRuntime) -> Result<(), Fail> {
+    for (front, word, count, last) in &LIMITED_RUNS {
+        let mut words = String::from_str(rt.alloc(), front)?;
+        for _ in 0..22 {
+            words.push_str(word)?;
+        }
+        let done = run_row(rt.alloc(), words.as_str(), "")?;
+        assert_eq!(rt; count_lines(&done.errors), *count, "{front}{word}");
+        let told = String::from_utf8_lossy(rt.alloc(), &done.errors)?;
+        assert!(rt; told.as_str().contains(last), "{front}{word}");
+    }
     Ok(())
 }
 
