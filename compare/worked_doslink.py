@@ -411,6 +411,13 @@ def sum_module(displacement):
         (0xA0, "01 0000 00FF0000"), (0x9C, "E400 50 01" + displacement), (0x8A, "00")])
 
 
+def negative_module(data, fixups):
+    """A module of eight bytes, with this data and fix-ups."""
+    return framed([
+        (0x80, "014E"), (0x96, "00 04434F4445"), (0x98, "28 0800 020101"), (0xA0, data),
+        (0x9C, fixups), (0x8A, "00")])
+
+
 def shared_module(fixup):
     """A module with the offset of its segment in 32 bits, and a fix-up behind it."""
     return framed([
@@ -442,9 +449,13 @@ FILES = {
     "amiss.obj": wide_module("E9 11000000 020201"), "f/X.lib": LIBRARY,
     "sum.obj": sum_module("0001"), "fits.obj": sum_module("FF00"),
     "shared.obj": shared_module("C001 54 01"), "base.obj": shared_module("C802 54 01"),
+    "negative.obj": negative_module("01 0200 0000FCFFFFFF", "E402 50 01 0400"),
+    "below.obj": negative_module("01 0200 0000FCFFFFFF", "E402 50 01 0300"),
+    "carried.obj": negative_module("01 0000 0000FCFFFFFF0100", "C405 50 01 0100 E402 50 01 3412"),
     "start.obj": start_module(0x8B, "FCFF0000"), "start16.obj": start_module(0x8A, "FCFF"),
     "f/L": LIBRARY, "f/L.LIB": MAGIC, "f/Y": CALLED, "g/L.LIB": LIBRARY, "bad": b"\xFF"}
 # 17 bytes of each module; the call's end is at 3 and x at 19
+EIGHT = header("2800 0100 0000 0200 0100" + MOST + NO_REGISTERS) + NO_TABLE
 PROGRAM = header("2300 0100 0000 0200 0300" + MOST + NO_REGISTERS) + NO_TABLE + "E81000"
 
 # title, what is asked for, the folders of LIB, and the bytes of OUT or the lines on standard error,
@@ -508,6 +519,12 @@ LINKS = [
     ("a sum of 65,536", {"inputs": given(["sum.obj"])}, [],
      "doslink: sum.obj: 61 SumAbove16Bits at record 37\n", "sum.obj\n"),
     ("a sum of 65,535", {"inputs": given(["fits.obj"])}, [], "", "fits.obj\n"),
+    ("a sum of 0 with -4", {"inputs": given(["negative.obj"])}, [], EIGHT + "0000000000000000",
+     "negative.obj\n"),
+    ("a sum of -1", {"inputs": given(["below.obj"])}, [],
+     "doslink: below.obj: 61 SumAbove16Bits at record 39\n", "below.obj\n"),
+    ("a word that ends in another offset's last byte", {"inputs": given(["carried.obj"])}, [],
+     EIGHT + "0000301200010200", "carried.obj\n"),
     ("a byte in the word of an offset", {"inputs": given(["shared.obj"])}, [],
      "doslink: shared.obj: 61 SumAbove16Bits at record 39\n", "shared.obj\n"),
     ("a base behind it", {"inputs": given(["base.obj"])}, [], "", "base.obj\n"),

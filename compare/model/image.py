@@ -180,6 +180,11 @@ class Laying:
             if located is not None:
                 faults += fixup_faults(laid, fixup, located, positions)
             refuse_smallest(faults, owner, fixup.place)
+            if fixup.upper_word:
+                # a word of its own in the program, as far as offsets of its segment's frame reach
+                ends = [laid.address + position + 2 for position in positions]
+                outside = not all(is_in_frame(end, frame_of_location) for end in ends)
+                refuse_smallest([30] if outside else [], owner, fixup.place)
             laid.add_patches(fixup, located, positions)
         self.laid.append(laid)
         self.relocations += [laid.address + position for position in sorted(laid.relocated)]
@@ -206,7 +211,7 @@ def overlap_faults(laid, fixup, located, positions):
 
 def changed_positions(fixup, positions):
     """The positions of all bytes that a fix-up changes."""
-    return [position + byte for position in positions for byte in range(fixup.location.width)]
+    return [position + byte for position in positions for byte in range(fixup.reach)]
 
 
 def relocated_words(position, fixup, located):
@@ -225,7 +230,7 @@ def values(fixup, located, address, paragraph):
         return [(0, width, target - (address + width))]
     if fixup.location == Location.BASE:
         return [(0, 2, frame)]
-    offset = (0, width, target - 16 * frame)
+    offset = (0, 4 if fixup.upper_word else width, target - 16 * frame)
     return [offset, (2, 2, frame)] if fixup.location == Location.POINTER else [offset]
 
 
@@ -241,7 +246,7 @@ def is_shared(data, fixup):
     word = range(fixup.offset, fixup.offset + 2)
     return any(
         place in word for other in data.fixups if other is not fixup
-        for place in range(other.offset, other.offset + other.location.width))
+        for place in range(other.offset, other.offset + other.reach))
 
 
 def overflows(references, owner, data, fixup):
@@ -260,7 +265,8 @@ def overflows(references, owner, data, fixup):
     offset = located.target.value - 16 * located.frame.value + located.displacement
     if held and is_shared(data, fixup):
         return True
-    return any(word + offset > HIGHEST_IN_FRAME for word in held)
+    numbers = [word | fixup.upper_word << 16 for word in held]
+    return any((number + offset) % 2 ** 32 > HIGHEST_IN_FRAME for number in numbers)
 
 
 def start_overflows(references, owner, start):
@@ -272,17 +278,27 @@ def start_overflows(references, owner, start):
     return offset > HIGHEST_IN_FRAME
 
 
-def check_sums(contents, were_wide, start_was_wide, ignores_case):
+def read(contents, upper_words):
+    """The modules of some inputs, with what is known of fix-ups that had 32 bits."""
+    modules = [module.read(content, owner) for owner, content in enumerate(contents)]
+    for each, words in zip(modules, upper_words):
+        fixups = [fixup for data in each.data for fixup in data.fixups]
+        for fixup, word in zip(fixups, words):
+            fixup.upper_word = word
+    return modules
+
+
+def check_sums(contents, upper_words, start_was_wide, ignores_case):
     """Fault 61 is an offset or a start that had 32 bits in its module and needs more than 16.
 
-    `were_wide` has for each module whether each of its fix-ups had 32 bits. Of two starts neither
-    is looked at.
+    `upper_words` has for each module and each of its fix-ups that had 32 bits the upper word of the
+    number there. Of two starts neither is looked at.
     """
-    modules = [module.read(content, owner) for owner, content in enumerate(contents)]
+    modules = read(contents, upper_words)
     references = References(modules, placement.place(modules, ignores_case))
-    for owner, (each, wide) in enumerate(zip(modules, were_wide)):
-        fixups = [(data, fixup) for data in each.data for fixup in data.fixups]
-        for (data, fixup), was_wide in zip(fixups, wide):
+    for owner, each in enumerate(modules):
+        for data, fixup in [(data, fixup) for data in each.data for fixup in data.fixups]:
+            was_wide = fixup.upper_word is not None
             if was_wide and overflows(references, owner, data, fixup):
                 raise Fault(61, owner, fixup.place)
     starts = [(owner, each.start) for owner, each in enumerate(modules) if each.start is not None]
@@ -351,12 +367,12 @@ class Program:
         return bytes(image)
 
 
-def link(contents, ignores_case):
+def link(contents, ignores_case, upper_words=()):
     """The program of some inputs, or the first fault.
 
     All are read, then placed; then come the data, the start, and the number of relocations.
     """
-    modules = [module.read(content, owner) for owner, content in enumerate(contents)]
+    modules = read(contents, upper_words)
     layout = placement.place(modules, ignores_case)
     laying = Laying(modules, layout)
     laying.lay_all()

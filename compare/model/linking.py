@@ -144,7 +144,7 @@ class Linking:
             else:
                 self.add(path)
         if lines:
-            raise Stop(NO_DEVICE, 1, lines)
+            raise Stop(NO_DEVICE, 1, told_at_most(lines, self.job.is_verbose))
 
     def file(self, name):
         """The path of a file: it may have one of two endings that its name hasn't."""
@@ -317,13 +317,13 @@ class Linking:
         # the modules as they are linked, and as they were read
         self.contents = [each.content for each in before] + contents
         self.handed = before + taken + behind
-        # of each fix-up, whether it had 32 bits
-        wide = [lowering.were_wide(each.content, self.job.keeps_debug) for each in taken]
-        wide = [[] for _ in before] + wide + [[] for _ in behind]
+        # of each fix-up that had 32 bits, the upper word of the number there
+        upper_words = [lowering.upper_words(each.content, self.job.keeps_debug) for each in taken]
+        upper_words = [[] for _ in before] + upper_words + [[] for _ in behind]
         wide_start = any(lowering.has_wide_start(each.content) for each in taken)
         try:
-            image.check_sums(self.contents, wide, wide_start, self.job.ignores_case)
-            return image.link(self.contents, self.job.ignores_case)
+            image.check_sums(self.contents, upper_words, wide_start, self.job.ignores_case)
+            return image.link(self.contents, self.job.ignores_case, upper_words)
         except Fault as fault:
             raise self.with_words(fault) from None
 
@@ -360,9 +360,10 @@ class Linking:
         words = [
             each.word for each, content in zip(self.taken, contents)
             if lowering.has_wide_segments(each.content, content)]
-        self.warnings += [] if self.job.is_quiet else [
+        lines = [] if self.job.is_quiet else [
             f"{PROGRAM}: warning: 32-bit segments of {word} are linked as 16-bit ones\n"
             for word in words]
+        self.warnings += limited(lines, self.job.is_verbose)
 
     def warn_of_program(self, program, variables):
         """What a program lacks that can't be run, also where only faults are asked for, and what it
@@ -384,7 +385,7 @@ class Linking:
         """A fault with the word for its module, and its record's place in the module's file.
 
         A record that isn't one of its type as it is lowered has the fault of one that can't be
-        lowered. A name that modules define twice is told with all that offer it.
+        lowered. Where two publics have one name all such names are told.
         """
         if fault.owner is not None:
             owner, linked = self.handed[fault.owner], self.contents[fault.owner]
@@ -399,10 +400,25 @@ class Linking:
             fault.place = place
             fault.owner = owner.word
         if fault.number == DUPLICATE:
-            fault.words = [
-                each.word for each in self.handed for name in each.names.offered
-                if self.key(name) == self.key(fault.name)]
+            raise Stop(INPUT, DUPLICATE, told_at_most(
+                list(self.duplicates()), self.job.is_verbose))
         return fault
+
+    def duplicates(self):
+        """A line for each name of which a second public is met, then: all modules that have it.
+
+        A local public's name is its module's own.
+        """
+        words, seconds = {}, []
+        for owner, (handed, content) in enumerate(zip(self.handed, self.contents)):
+            for public in module.read(content, None).publics:
+                key = (owner if public.is_local else None, self.key(public.name))
+                words.setdefault(key, []).append(handed.word)
+                if len(words[key]) == 2:
+                    seconds.append((key, public.name))
+        for key, name in seconds:
+            where = " and ".join(words[key])
+            yield f"link: {DUPLICATE} DuplicatePublic {printed_name(name)} in {where}"
 
     def order_module(self, contents):
         """The order's module, or None; also where a module can't be read, so that the link says so.
@@ -472,7 +488,7 @@ def always(path):
     return True
 
 
-# how many missing names are told, and how many warnings of a kind, unless all are asked for
+# how many lines of a kind are told, unless all are asked for
 MOST_TOLD = 20
 
 
@@ -510,7 +526,7 @@ def link_by_directives(words, files, folders=(), can_be_made=always):
     spoken_files = [word[1:] for word in words if word.startswith("@")]
     answer = link(job, files, folders, can_be_made, spoken_files)
     if not job.is_quiet:
-        answer.error = told(warnings).encode() + answer.error
+        answer.error = told(told_at_most(warnings, False)).encode() + answer.error
     return answer
 
 

@@ -33,8 +33,10 @@ ALIGNMENT, COMBINATION, BIG, USE_32 = 0xE0, 0x1C, 0x02, 0x01
 BYTE_ALIGNED, PUBLIC, STACK, COMMON = 0x20, 0x08, 0x14, 0x18
 # the bit of the byte that begins a MODEND by which it has a start
 HAS_START = 0x40
-# locations: an offset of 16 bits, and those of 32
+# locations: an offset of 16 bits, and those of 32; the last place of one, and the upper word of a
+# negative number
 OFFSET, OFFSETS_32 = 1, (9, 13)
+LAST_PLACE, NEGATIVE = 1023, b"\xFF\xFF"
 # the class of comments of Easy OMF, and class and kind of those that import a name
 EASY_OMF, IMPORT = b"\xAA", b"\xA0\x01"
 # the method of a frame or a target that is a group, and the group of all memory from 0 on
@@ -248,8 +250,8 @@ class Lowering:
         self.groups = []
         # of each segment, whether it is kept out of the program
         self.kept_out = []
-        # of each fix-up that isn't, whether it has 32 bits
-        self.were_wide = []
+        # of each fix-up that isn't, the upper word of the number there, if it has 32 bits
+        self.upper_words = []
         # whether that holds of the segment of the data that came last, and that data
         self.drops_fixups = False
         self.data = Data()
@@ -485,9 +487,9 @@ class Lowering:
         if not self.drops_fixups:
             self.refuse_flat(names_of_groups(Entries(body), width_of(kind)))
         wide = [] if self.drops_fixups else list(wide_fixups(body, width_of(kind)))
-        self.were_wide += wide
         is_wide = kind % 2 == 1 or self.data.width == 4 or any(wide)
         if not self.drops_fixups and not is_wide:
+            self.upper_words += [None for _ in wide]
             return kind, body
         try:
             subrecords = Entries(body)
@@ -508,19 +510,29 @@ class Lowering:
 
     def located(self, first, low):
         """The two bytes of a fix-up that tell its location and its place."""
-        location, place = location_of(first), (first & 3) << 8 | low
+        location, place, upper_word = location_of(first), (first & 3) << 8 | low, None
         if location in OFFSETS_32:
-            # it has to be an offset in a segment, and the upper part of what is there 0
+            # it has to be an offset in a segment
             if not first & 0x40:
                 raise Obstacle(LOCATION)
             place, stored = located(self.data, place)
             if len(stored) < 4:
                 raise Obstacle(LOCATION)
-            narrowed(stored[:4])
+            upper_word = self.upper_word(place, stored)
             location = OFFSET
         elif self.data.is_repeated and self.data.width == 4:
             place, _ = located(self.data, place)
+        self.upper_words.append(upper_word)
         return bytes([first & 0xC0 | location << 2 | place >> 8, place & 0xFF])
+
+    def upper_word(self, place, stored):
+        """That of a number at a place: 0, or of a negative one, where no copies are made of it and
+        a fix-up can stand at its upper word."""
+        is_negative = stored[2:4] == NEGATIVE
+        if is_negative and not self.data.is_repeated and place + 2 <= LAST_PLACE:
+            return 0xFFFF
+        narrowed(stored[:4])
+        return 0
 
 
 def itself(name):
@@ -546,12 +558,13 @@ def lowered(content, keeps_debug, shares_far_data, owner=None, means=itself):
     return b"".join([*found, content[place:]])
 
 
-def were_wide(content, keeps_debug):
-    """Of each fix-up of a module as it is lowered, whether it had 32 bits."""
+def upper_words(content, keeps_debug):
+    """Of each fix-up of a module as it is lowered, if it had 32 bits, the upper word of the number
+    there."""
     lowering = Lowering(keeps_debug, False, itself)
     for frame in whole_frames(content):
         lowering.lower(frame.kind, frame.body)
-    return lowering.were_wide
+    return lowering.upper_words
 
 
 def has_wide_start(content):

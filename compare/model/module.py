@@ -72,13 +72,20 @@ class ResolvedReference:
 
 @dataclass
 class ResolvedFixup:
-    """A fix-up, with the place of its record."""
+    """A fix-up, with the place of its record; of an offset that doslink made of one of 32 bits also
+    the upper word of the number there."""
 
     place: int
     segment_relative: bool
     location: records.Location
     offset: int
     reference: ResolvedReference
+    upper_word: int = None
+
+    @property
+    def reach(self):
+        """How many bytes it adds to: a negative number has four."""
+        return 4 if self.upper_word else self.location.width
 
 
 @dataclass
