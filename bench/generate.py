@@ -389,6 +389,12 @@ def ordered_classes(count):
     return Inputs([header("classes") + listed + segments + filled + main_end()], count, 0, words=order)
 
 
+def bytes_behind_a_module(count):
+    """A module, and as many zeros behind the record that ends it."""
+    main = renaming_module("_main", ["_main"])
+    return Inputs([module + bytes(count) for module in main.modules], main.size, main.relocations)
+
+
 def part_module(number):
     return (
         header(f"m{number}")
