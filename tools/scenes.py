@@ -230,7 +230,8 @@ SHOWN = {
         "doslink: MAIN.O: 3 Truncated at record 0: this is an ELF file; nasm wants -f obj": Lines((
             Said("doslink MAIN.O", 1, {"MAIN.O": b"\x7FELF\1\1\1" + bytes(9)}),
             Said("doslink NOTES.TXT", 1, {"NOTES.TXT": b"int main(void) { return 0; }\n" * 2000}),
-            Said("doslink A.OBJ", 3))),
+            Said("doslink A.OBJ", 3),
+            Said("ln -s B.OBJ B.OBJ && doslink B.OBJ", 3))),
         "doslink: warning: no module has a start": Lines((
             Said("doslink MAIN.OBJ", 0, {"MAIN.OBJ": SPACE}),
             Said("wlink @LINES", 0, {
