@@ -718,6 +718,11 @@ LOCAL = [
            "    if not found or home.end is None:\n", "    if True:\n"),
     Change("local variables are known to all", "local.py",
            "return records.LocalPublicNames(", "return records.PublicNames("),
+    Change("a clash of local variables comes before their module's own fault", "local.py",
+           "    if not is_module(content):\n",
+           "    publics = {key(name) for name in home_of(content).publics}\n"
+           "    merged(list(declarations(each.content, each.word, LOCAL_VARIABLES)), publics, key)\n"
+           "    if not is_module(content):\n"),
     Change("a local public doesn't win", "local.py",
            "{key(name) for name in home.publics}", "set()"),
     Change("a public wins over a local variable", "local.py",

@@ -126,11 +126,13 @@ def module_of_communals(random, title, variables, locations):
     return b"".join(pieces)
 
 
-def module_of_local_variables(public=None, start=None, group=None, grouped=1):
+def module_of_local_variables(
+        public=None, start=None, group=None, grouped=1, clashes=False, data_segment=1):
     """A module with three variables that are local to it, near and far, and the address of each.
 
     It has a local public of a name, or starts at a local external that it doesn't define, or has a
-    group of a name with its data or `_BSS` in it.
+    group of a name with its data or `_BSS` in it. The near variable is at times far too, and the
+    data in a segment that isn't there.
     """
     spelling = records.Spelling()
     variables = [
@@ -144,12 +146,13 @@ def module_of_local_variables(public=None, start=None, group=None, grouped=1):
         made.append(records.SegmentDefinition(2, 2, 0, 4, 5, 1))
         made.append(records.GroupDefinition(6, [grouped]))
     pieces = list(map(spelling.record, made))
+    variables += [(b"near", Declared(True, 1, 2))] if clashes else []
     entries = [entry(Random(0), name, declared) for name, declared in variables]
     pieces.append(spelling.framed(LCOMDEF, b"".join(entries)))
     made = [] if start is None else [records.LocalExternalNames([start], [0])]
     if public is not None:
         made.append(records.LocalPublicNames(0, 1, None, [PublicName(public, 0, 0)]))
-    made.append(records.Data(1, 0, bytes(12)))
+    made.append(records.Data(data_segment, 0, bytes(12)))
     made.append(records.FixupRecord([
         Fixup(True, Location.POINTER, 4 * place, target) for place, target in enumerate(targets[:3])]))
     made.append(records.ModuleEnd(False, None if start is None else targets[3]))

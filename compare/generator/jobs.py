@@ -47,7 +47,7 @@ ALIASES_EVERY, ALIASED = 25, [b"a", b"b", b"c", b"d"]
 # and one has variables that are local to modules, and what is in their way
 LOCAL_EVERY, LOCAL = 50, [
     {}, {"public": b"NEAR"}, {"start": b"start"}, {"group": b"AUTO"},
-    {"group": b"DGROUP", "grouped": 2}]
+    {"group": b"DGROUP", "grouped": 2}, {"clashes": True}, {"clashes": True, "data_segment": 2}]
 # one job in so many has default libraries behind each other, one a public in two cases, and one
 # libraries alone
 CHAIN_EVERY, TWICE_EVERY, ALONE_EVERY = 250, 250, 250

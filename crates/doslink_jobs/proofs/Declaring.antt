@@ -38,8 +38,8 @@ pub declaring-one : {A : Type 0} (d : Declared A) (cs : List lent.Communal) → 
     → said_with (bytes_of d.offered.now) (map plain_communal cs) ≡ declared_said d
 declaring-one d cs same = ap (λ l. said_with (bytes_of d.offered.now) (map plain_communal l)) same
 
-none-declared : {X : Type 0} (xs : List X) → (length xs == 0) ≡ true → xs ≡ []
-none-declared xs none = nil_from_length xs (grind arith)
+pub none-declared-by : {X : Type 0} (xs : List X) → (length xs == 0) ≡ true → xs ≡ []
+none-declared-by xs none = nil_from_length xs (grind arith)
 
 -- one module more that declares none
 pub declare-more : {A : Type 0} (modules : List (LoweredModule A)) (i : ℕ) (one : LoweredModule A)
@@ -49,7 +49,7 @@ pub declare-more : {A : Type 0} (modules : List (LoweredModule A)) (i : ℕ) (on
     → DeclareNone (map own_bytes (take (i + 1) modules))
 declare-more modules i one declared h same is none before =
     let here : communals_of scope.Module (module_records (own_bytes one) 0) ≡ Ok [] =
-    is ∙ ap (λ l. Ok (map plain_communal l)) (none-declared declared none) in
+    is ∙ ap (λ l. Ok (map plain_communal l)) (none-declared-by declared none) in
     subst DeclareNone (sym (map_more own_bytes modules i one h))
     (All-push (λ bytes. communals_of scope.Module (module_records bytes 0) ≡ Ok []) (map own_bytes (take i modules))
     (own_bytes (get_or modules i one)) before

@@ -1,20 +1,22 @@
 -- The variables that are local to modules, one module after the other.
-use Rattle.std.proofs.Common.{◌≡◌, ℕ, Bool, List, [], ◌∷◌, ◌++◌, map, Ok}
-use Rattle.std.proofs.Common.{inl, inr, refl, sym, ap, ◌∙◌, is_some, MatchOption, None, Option, Some}
+use Rattle.std.proofs.Common.{◌≡◌, ℕ, Bool, true, ◌==◌, List, [], ◌∷◌, ◌++◌, length, map, Ok}
+use Rattle.std.proofs.Common.{inl, inr, refl, subst, sym, ap, ◌∙◌, is_some, MatchOption, None, Option, Some}
 use Rattle.omf_module.specs.Module.{Module}
 use Rattle.omf_module.specs.Tables.{module_of}
 use Rattle.doslink_jobs.specs.inside.Reading.{IsNoModule, IsRead, TellsModule}
 use Rattle.std.specs.List.{AllByRecursion}
 use Rattle.omf_communal.specs.Deciding.{Variable}
-use Rattle.omf_communal.specs.Locals.{local_module}
+use Rattle.omf_communal.specs.Locals.{local_module, local_variables}
+use Rattle.omf_communal.specs.Reading.{Communal, plain_communal}
+use Rattle.omf_communal.specs.declared.declarations.Communal as lent
 use Rattle.omf_place.specs.declared.names.Names.{Names}
 use Rattle.doslink_jobs.specs.declared.communals.Declared.{Declared}
 use Rattle.doslink_jobs.specs.declared.lowering.LoweredModule.{LoweredModule}
 use Rattle.doslink_jobs.specs.Communals.{TellsBss}
 use Rattle.doslink_jobs.specs.Locals.{EachHasLocals, HasLocals, HasModule, IsPlaced}
-use Rattle.doslink_jobs.specs.Refusals.{HasNoLocals}
-use Rattle.doslink_jobs.specs.inside.Declaring.{AreNotLocal, DeclareNone, declared_said}
+use Rattle.doslink_jobs.specs.inside.Declaring.{DeclareNone, declared_said}
 use Rattle.doslink_jobs.specs.inside.Inputs.{lowered_bytes, own_bytes}
+use Rattle.doslink_jobs.proofs.Declaring.{none-declared-by}
 
 -- one module more
 pub each-more : (names : Names) (all os ls bs : List (List ℕ)) (o l b : List ℕ) → EachHasLocals names all os ls bs
@@ -33,27 +35,32 @@ pub none-declared : {A : Type 0} (names : Names) (all : List (List ℕ)) (module
 none-declared names all [] none = tt
 none-declared names all (m ∷ ms) none =
     let here : HasLocals names all (own_bytes m) (lowered_bytes m) (lowered_bytes m) =
-    record { declared = []; variables = []; are_declared = none.0; agreed = refl; placed = refl } in
+    record { declared = []; are_declared = none.0; placed = refl } in
     (here, none-declared names all ms none.1)
 
--- where variables stand, where there are some
-pub is-placed : (all : List (List ℕ)) (in_bss : Bool) (vs : List Variable) (lowered linked : List ℕ)
-    → HasModule lowered → TellsBss all in_bss → local_module in_bss vs lowered ≡ Ok linked
-    → IsPlaced all vs lowered linked
-is-placed all in_bss [] lowered linked has tells e = let is : lowered ≡ linked = cc in sym is
-is-placed all in_bss (v ∷ vs) lowered linked has tells e = inr (has, in_bss, tells, e)
+-- where variables stand, where a sound module has them
+pub all-placed : (names : Names) (all : List (List ℕ)) (declared : List Communal) (vs : List Variable) (in_bss : Bool)
+    (lowered linked : List ℕ) → HasModule lowered → local_variables names declared lowered ≡ Ok vs
+    → TellsBss all in_bss → local_module in_bss vs lowered ≡ Ok linked → IsPlaced names all declared lowered linked
+all-placed names all [] vs in_bss lowered linked has agreed tells placed =
+    let none : vs ≡ [] = let e : Ok [] ≡ Ok vs = agreed in cc in
+    let is : lowered ≡ linked =
+    let e : Ok lowered ≡ Ok linked = subst (λ l. local_module in_bss l lowered ≡ Ok linked) none placed in cc in
+    sym is
+all-placed names all (c ∷ cs) vs in_bss lowered linked has agreed tells placed =
+    inr (has, (vs, in_bss, agreed, tells, placed))
+
+-- where nothing is declared
+pub undeclared-placed : (names : Names) (all : List (List ℕ)) (declared : List lent.Communal) (lowered : List ℕ)
+    → (length declared == 0) ≡ true → IsPlaced names all (map plain_communal declared) lowered lowered
+undeclared-placed names all declared lowered none =
+    subst (λ l. IsPlaced names all (map plain_communal l) lowered lowered) (sym (none-declared-by declared none)) refl
 
 -- a module at fault has none
-pub none-placed : (all : List (List ℕ)) (vs : List Variable) (lowered : List ℕ) → (HasModule lowered → ⊥)
-    → IsPlaced all vs lowered lowered
-none-placed all [] lowered none = refl
-none-placed all (v ∷ vs) lowered none = inl (none, refl)
-
--- variables that can't be agreed on are none of the module's
-pub none-agreed : (names : Names) (all : List (List ℕ)) (own lowered : List ℕ) → AreNotLocal names own lowered
-    → HasNoLocals names all own lowered
-none-agreed names all own lowered (inl fault) = inl fault
-none-agreed names all own lowered (inr (declared, are, clash)) = inr (declared, are, inl clash)
+pub none-placed : (names : Names) (all : List (List ℕ)) (declared : List Communal) (lowered : List ℕ)
+    → (HasModule lowered → ⊥) → IsPlaced names all declared lowered lowered
+none-placed names all [] lowered none = refl
+none-placed names all (c ∷ cs) lowered none = inl (none, refl)
 
 All-push : {X : Type 0} (P : X → Type 0) (xs : List X) (x : X) → AllByRecursion P xs → P x
     → AllByRecursion P (xs ++ x ∷ [])

@@ -14,23 +14,27 @@ use Rattle.doslink_jobs.specs.Communals.{TellsBss}
 abbrev pub HasModule : (bytes : List ℕ) → Type 0
 HasModule bytes = (records : List Placed) × BeginsWith records bytes
 
--- A lowered module, one of these, with variables that are local to it: the same, where there are none. Near ones stand
--- in `_BSS` where one of the lowered modules has that in DGROUP. A module at fault is the same too, since the link names
--- its fault: an index of it would mean a segment of the variables.
-abbrev pub IsPlaced : (all : List (List ℕ)) → List Variable → (lowered linked : List ℕ) → Type 0
-IsPlaced all [] lowered linked = linked ≡ lowered
-IsPlaced all (v ∷ vs) lowered linked =
+-- A sound lowered module, one of these, with the variables that it declares so as local to it. Near ones stand in `_BSS`
+-- where one of the lowered modules has that in DGROUP.
+abbrev pub StandIn : Names → (all : List (List ℕ)) → List Communal → (lowered linked : List ℕ) → Type 0
+StandIn names all declared lowered linked =
+    (variables : List Variable) × (in_bss : Bool) × (local_variables names declared lowered ≡ Ok variables)
+    × TellsBss all in_bss × (local_module in_bss variables lowered ≡ Ok linked)
+
+-- A lowered module, one of these, with what is declared as local to it: the same, where that is nothing. A module at
+-- fault is the same too, whatever it declares, since the link names its fault: an index of it would mean a segment of
+-- the variables.
+abbrev pub IsPlaced : Names → (all : List (List ℕ)) → List Communal → (lowered linked : List ℕ) → Type 0
+IsPlaced names all [] lowered linked = linked ≡ lowered
+IsPlaced names all (c ∷ cs) lowered linked =
     ((HasModule lowered → ⊥) × (linked ≡ lowered))
-    ⊎ (HasModule lowered × (in_bss : Bool) × TellsBss all in_bss
-    × (local_module in_bss (v ∷ vs) lowered ≡ Ok linked))
+    ⊎ (HasModule lowered × StandIn names all (c ∷ cs) lowered linked)
 
 -- a lowered module, one of these, with the variables that the module itself declares as local to it
 pub record HasLocals (names : Names) (all : List (List ℕ)) (own lowered linked : List ℕ) : Type 0 where
   pub declared : List Communal
-  pub variables : List Variable
   pub are_declared : communals_of scope.Module (module_records own 0) ≡ Ok declared
-  pub agreed : local_variables names declared lowered ≡ Ok variables
-  pub placed : IsPlaced all variables lowered linked
+  pub placed : IsPlaced names all declared lowered linked
 
 -- so has each
 abbrev pub EachHasLocals : Names → (all own lowered linked : List (List ℕ)) → Type 0

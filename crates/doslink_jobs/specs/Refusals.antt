@@ -55,13 +55,14 @@ IsNotLowered job says modules bytes =
     × IsErr (lowered lowering (renaming_of job says modules bytes) bytes))
 
 -- of a lowered module, one of these, the variables that the module itself declares as local to it aren't declared as
--- they should be, clash, or have no place, the module being whole and sound
+-- they should be, or they clash or have no place, the module being whole and sound
 abbrev pub HasNoLocals : Names → (all : List (List ℕ)) → (own lowered : List ℕ) → Type 0
 HasNoLocals names all own lowered =
     IsErr (communals_of scope.Module (module_records own 0))
     ⊎ ((declared : List Communal) × (communals_of scope.Module (module_records own 0) ≡ Ok declared)
+    × HasModule lowered
     × (IsErr (local_variables names declared lowered)
-    ⊎ ((vs : List Variable) × (in_bss : Bool) × (local_variables names declared lowered ≡ Ok vs) × HasModule lowered
+    ⊎ ((vs : List Variable) × (in_bss : Bool) × (local_variables names declared lowered ≡ Ok vs)
     × TellsBss all in_bss × IsErr (local_module in_bss vs lowered))))
 
 -- some communal variable has no place in the module for them

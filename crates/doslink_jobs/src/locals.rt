@@ -6,12 +6,12 @@ ghost use Rattle.omf_communal.specs.Deciding.{variable_said};
 ghost use Rattle.omf_communal.specs.Reading.{communals_of, plain_communal};
 ghost use Rattle.omf_library.specs.Records.{module_records};
 ghost use Rattle.omf_communal.specs.Locals as place;
-ghost use Rattle.doslink_jobs.specs.Locals.{HasLocals, HasModule, HaveLocals, IsPlaced};
+ghost use Rattle.doslink_jobs.specs.Locals.{HasLocals, HaveLocals};
 ghost use Rattle.doslink_jobs.specs.Communals.{TellsBss};
 ghost use Rattle.doslink_jobs.specs.Refusals.{HasNoLocals};
 ghost use Rattle.doslink_jobs.specs.inside.Inputs.{lowered_bytes, own_bytes};
 ghost use Rattle.doslink_jobs.specs.inside.Stops.{OnInput};
-ghost use Rattle.doslink_jobs.specs.inside.Declaring.{AreLocal, AreNotLocal, DeclareNone};
+ghost use Rattle.doslink_jobs.specs.inside.Declaring.{DeclareNone};
 ghost use Rattle.doslink_jobs.specs.inside.Reading.{TellsModule};
 
 use crate::communals::{Declared, agreed_variables, is_in_bss, stop_at_entry, stop_unplaced};
@@ -70,24 +70,26 @@ fn first_word<'w, A: Allocator + Copy>(words: &'w [Vec<u8, A>]) -> &'w [u8] {
     }
 }
 
-/// The variables that a lowered module itself declares as local to it. Its first record at fault is told, and
-/// declarations that clash. The words are those of this module and others behind it.
+/// The variables of a lowered module that declares these as local to it. Declarations that clash are told. The words are
+/// those of this module and others behind it.
 fn variables_in<'o, A: Allocator + Copy>(
     alloc: A,
     names: Names,
     one: &'o LoweredModule<'_, A>,
+    communals: Vec<Communal<'o>, A>,
     words: &[Vec<u8, A>],
     lines: &mut Vec<u8, A>,
 ) -> Result<Vec<Variable<'o>, A>, Stop>
     ensures { MatchResult result
-        (λ v. AreLocal names (own_bytes one.now) (lowered_bytes one.now) (map variable_said v.items))
-        (λ stop. OnInput stop (AreNotLocal names (own_bytes one.now) (lowered_bytes one.now))) }
+        (λ v. place.local_variables names (map plain_communal communals.entry.items) (lowered_bytes one.now)
+        ≡ Ok (map variable_said v.items))
+        (λ stop. OnInput stop (IsErr
+        (place.local_variables names (map plain_communal communals.entry.items) (lowered_bytes one.now)))) }
 {
-    let word = first_word(words);
     let publics = local_names(alloc, one.bytes())?;
     let mut declared = Vec::new(alloc);
     declared.push(Declared {
-        communals: declared_in(alloc, one.own, word, lines)?,
+        communals,
         offered: publics.as_slice(),
     })?;
     agreed_variables(alloc, names, &declared, words, lines)
@@ -106,9 +108,8 @@ fn has_module<A: Allocator + Copy>(
     Ok(read_bytes(alloc, bytes, word, lines)?.is_some())
 }
 
-/// The bytes that are linked of a lowered module with these variables, where they are others than it has: not where it
-/// is at fault, which the link names. A variable that has no place is told. The words are those of this module and
-/// others behind it.
+/// The bytes of a lowered module with these variables, where they are others than it has. A variable that has no place is
+/// told. The words are those of this module and others behind it.
 fn placed_bytes<A: Allocator + Copy>(
     alloc: A,
     in_bss: bool,
@@ -117,24 +118,21 @@ fn placed_bytes<A: Allocator + Copy>(
     words: &[Vec<u8, A>],
     lines: &mut Vec<u8, A>,
 ) -> Result<Option<Vec<u8, A>>, Stop>
-    ensures { MatchResult result (λ o. (all : List (List ℕ)) → TellsBss all in_bss →
-        IsPlaced all (map variable_said variables.now) (lowered_bytes one.now)
-        (option_map_or (λ v. v.items) o (lowered_bytes one.now)))
-        (λ stop. OnInput stop (HasModule (lowered_bytes one.now) ×
-        IsErr (place.local_module in_bss (map variable_said variables.now) (lowered_bytes one.now)))) }
+    ensures { MatchResult result
+        (λ o. place.local_module in_bss (map variable_said variables.now) (lowered_bytes one.now)
+        ≡ Ok (option_map_or (λ v. v.items) o (lowered_bytes one.now)))
+        (λ stop. OnInput stop (IsErr
+        (place.local_module in_bss (map variable_said variables.now) (lowered_bytes one.now)))) }
 {
-    let has = has_module(alloc, one.bytes(), first_word(words), lines)?;
-    if !has {
-        return Ok(None);
-    }
     match local_module(alloc, one.bytes(), variables, in_bss) {
         Ok(bytes) => Ok(bytes),
         Err(fault) => Err(stop_unplaced(alloc, fault, variables, words, lines)),
     }
 }
 
-/// The bytes that are linked of a lowered module, where those with the variables that are local to it are others. A
-/// variable that has no place is told. The words are those of this module and others behind it.
+/// The bytes that are linked of a lowered module, where those with the variables that are local to it are others: not
+/// where it is at fault, which the link names. Declarations that clash are told, and a variable that has no place. The
+/// words are those of this module and others behind it.
 fn linked_bytes<A: Allocator + Copy>(
     alloc: A,
     names: Names,
@@ -149,7 +147,16 @@ fn linked_bytes<A: Allocator + Copy>(
         (λ stop. OnInput stop ((all : List (List ℕ)) → TellsBss all in_bss →
         HasNoLocals names all (own_bytes one.now) (lowered_bytes one.now))) }
 {
-    let variables = variables_in(alloc, names, one, words, lines)?;
+    let word = first_word(words);
+    let declared = declared_in(alloc, one.own, word, lines)?;
+    if declared.is_empty() {
+        return Ok(None);
+    }
+    let has = has_module(alloc, one.bytes(), word, lines)?;
+    if !has {
+        return Ok(None);
+    }
+    let variables = variables_in(alloc, names, one, declared, words, lines)?;
     placed_bytes(alloc, in_bss, one, &variables, words, lines)
 }
 

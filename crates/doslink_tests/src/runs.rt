@@ -3,8 +3,8 @@ use crate::aliasing::{
     ALIAS, BACK, BEHIND, CALLS, CASE, ITSELF, LAZILY, NOWHERE, OTHERWISE, ROUND, WEAKLY,
 };
 use crate::declaring::{
-    BODY, CUT_ELEMENT, END, FAR, LOCAL, LOCAL_CLASH, LOCAL_FAULTY, LOCAL_LONG, LOCAL_START,
-    LOCAL_TABLE, LONG, MANY, NEAR, OTHER_SIZE, TABLE,
+    BODY, CUT_ELEMENT, END, FAR, LOCAL, LOCAL_CLASH, LOCAL_CLASH_OUTSIDE, LOCAL_FAULTY, LOCAL_LONG,
+    LOCAL_START, LOCAL_TABLE, LONG, MANY, NEAR, OTHER_SIZE, TABLE,
 };
 use crate::doubled::{CAPITAL, MANY_NAMES, SWAPPED, TWICE, TWO};
 use crate::modules::{
@@ -157,6 +157,8 @@ doslink LOCAL.OBJ A.OBJ|1||doslink: A.OBJ: \"f\" is missing: record 28 (0000001C
 doslink LSTART.OBJ|1||doslink: LSTART.OBJ: 27 Unresolved at record 24~
 doslink LFAULTY.OBJ|1||doslink: LFAULTY.OBJ: 11 SegmentIndex at record 46~
 doslink LOCAL.OBJ LCLASH.OBJ|1||doslink: link: 55 NearAndFar \"f\" in LCLASH.OBJ and LCLASH.OBJ~
+doslink LOUTSIDE.OBJ|1||doslink: LOUTSIDE.OBJ: 11 SegmentIndex at record 23~
+doslink LOUTSIDE.OBJ LCLASH.OBJ|1||doslink: link: 55 NearAndFar \"f\" in LCLASH.OBJ and LCLASH.OBJ~
 doslink LOCAL.OBJ LLONG.OBJ|1||doslink: link: 57 NearTooLong \"g\" in LLONG.OBJ~
 doslink LOCAL.OBJ LTABLE.OBJ|1||doslink: LTABLE.OBJ: 48 DataType at record 8~
 ";
@@ -579,7 +581,7 @@ const WRITTEN: [(&str, &str, &[u8], &str); 9] = [
 ];
 
 /// The files of the world that are modules or libraries, with two that only begin so.
-const MODULES: [(&str, &[u8]); 91] = [
+const MODULES: [(&str, &[u8]); 92] = [
     ("A.OBJ", &WANTS),
     ("F.OBJ", &OFFERS),
     ("D.OBJ", &LIKE),
@@ -612,6 +614,7 @@ const MODULES: [(&str, &[u8]); 91] = [
     ("LSTART.OBJ", &LOCAL_START),
     ("LFAULTY.OBJ", &LOCAL_FAULTY),
     ("LCLASH.OBJ", &LOCAL_CLASH),
+    ("LOUTSIDE.OBJ", &LOCAL_CLASH_OUTSIDE),
     ("LLONG.OBJ", &LOCAL_LONG),
     ("LTABLE.OBJ", &LOCAL_TABLE),
     ("BACK.OBJ", &BACK),

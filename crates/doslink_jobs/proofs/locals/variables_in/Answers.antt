@@ -1,4 +1,4 @@
-use Rattle.std.proofs.Common.{◌≡◌, [], ◌∷◌, IsErr, inl, inr, map, ap, sym, subst, ◌∙◌}
+use Rattle.std.proofs.Common.{◌≡◌, [], ◌∷◌, IsErr, map, ap, sym, subst, ◌∙◌}
 use Rattle.omf_communal.specs.Deciding.{variables}
 use Rattle.omf_communal.specs.Locals.{local_names}
 use Rattle.omf_communal.specs.Modules.{Module, bytes_of}
@@ -7,13 +7,13 @@ use Rattle.omf_library.specs.Records.{module_records}
 use Rattle.doslink_jobs.specs.inside.Declaring.{declared_said}
 use Rattle.doslink_jobs.specs.inside.Inputs.{lowered_bytes}
 use Rattle.doslink_jobs.proofs.LocalModules.{said-alone}
-use Rattle.doslink_jobs.proofs.Refused.{refused-exit, steps-weaker}
+use Rattle.doslink_jobs.proofs.Refused.{steps-weaker}
 use Rattle.doslink_jobs.proofs.locals.variables_in.Goals as goal
 
 pub returns : goal.returns
 returns g c =
     let lowered = lowered_bytes c.args.one.now in
-    let cs = map plain_communal c.in_ok-declared_in.field-0.items in
+    let cs = map plain_communal c.args.communals.items in
     let publics : bytes_of c.as_slice.result.now ≡ local_names (module_records lowered 0) =
     ap bytes_of c.as_slice.ensures.value ∙ c.in_ok-publics.ensures
     ∙ ap (λ b. local_names (module_records b 0)) c.bytes.ensures in
@@ -22,13 +22,5 @@ returns g c =
     ap (map declared_said) c.deref.ensures.value
     ∙ said-alone _ _ _ c.in_ok-push.ensures.items c.new-declared.ensures.items
     ∙ ap (λ ns. (let m : Module = record { communals = cs; offered = ns } in m) ∷ []) publics in
-    steps-weaker c.agreed_variables.result
-    (λ v agreed. (cs, c.in_ok-declared_in.ensures, ap (variables c.args.names) (sym alone) ∙ agreed))
-    (λ clash. inr
-    (cs, c.in_ok-declared_in.ensures, subst (λ ms. IsErr (variables c.args.names ms)) alone clash))
-    c.agreed_variables.ensures
-
-pub returns-in_err-declared_in : goal.returns-in_err-declared_in
-returns-in_err-declared_in g c =
-    refused-exit _ c.from_residual-in_err-declared_in.result _ c.from_residual-in_err-declared_in.ensures.1
-    (λ fault. inl fault) c.in_err-declared_in.ensures
+    steps-weaker c.agreed_variables.result (λ v agreed. ap (variables c.args.names) (sym alone) ∙ agreed)
+    (λ clash. subst (λ ms. IsErr (variables c.args.names ms)) alone clash) c.agreed_variables.ensures
