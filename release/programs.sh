@@ -1,6 +1,7 @@
 # What ./omf, ./doslink, ./install, release/make, tools/package and the gate know of this repository's programs: which
-# sources each is made of, where the released one stands and where the one that was built. Read by bash with the
-# repository's folder in `top`.
+# sources each is made of, where the released one stands and where the one that was built. Read by any POSIX shell that
+# knows `local` (bash, dash, busybox) with the repository's folder in `top`.
+# shellcheck shell=dash
 
 unpacked=$top/out/released
 
@@ -34,6 +35,8 @@ crates_of() {
 sum_of() {
     (
         cd "$top" || exit 3
+        LC_ALL=C # each place sorts as the others do
+        export LC_ALL
         crates=$(crates_of "$1" | sort)
         {
             for crate in $crates; do grep "^$crate:" crates.txt; done
@@ -50,10 +53,13 @@ said_of() {
     sed -n "s/^$1 $2 //p" "$top/release/${3-RELEASE}" 2>/dev/null
 }
 
-# The first source that was touched after a file, or with WORDS also the first folder of them: touched FILE [WORDS]
+# The first source that was touched after a file, or with WORDS also the first folder of them; it fails where find can't
+# tell, as that of busybox: touched FILE [WORDS]
 touched() {
+    local after="$1"
+    shift
     find "$top/crates.txt" "$top/crates" -path '*/out' -prune \
-        -o \( -name crates.txt -o -name '*.rt' -o -name '*.antt' "${@:2}" \) -cnewer "$1" -print -quit
+        -o \( -name crates.txt -o -name '*.rt' -o -name '*.antt' "$@" \) -cnewer "$after" -print -quit 2>/dev/null
 }
 
 # All that `touched FILE -o -type d` looks at, for a run that reads no folder: watched
@@ -67,13 +73,16 @@ watched() {
 # Whether a program stands there that was seen to be made of the sources, of which none was touched, added or taken
 # away since; each run waits for this. Where find can't take its paths from a file it reads the folders: is_seen PROGRAM
 is_seen() {
-    local seen=$1 found
+    local seen="$1" found
     [ -x "$1" ] && [ -f "$1.watched" ] && [ -f "$1.sources" ] && [ ! "$1" -nt "$1.sources" ] || return
-    [[ $seen == /* ]] || seen=$PWD/$seen
+    case $seen in
+        /*) ;;
+        *) seen=$PWD/$seen ;;
+    esac
     found=$(
         cd "$top" &&
             exec find -files0-from "$seen.watched" -maxdepth 0 -cnewer "$seen.sources" -print -quit 2>/dev/null
-    ) || found=$(touched "$1.sources" -o -type d)
+    ) || found=$(touched "$1.sources" -o -type d) || return
     [ -z "$found" ]
 }
 
@@ -123,22 +132,25 @@ unpack() {
     return 1
 }
 
-# Has the static program for this processor stand where the released one was unpacked, if it is of sources with this sum:
-# take_static PROGRAM SUM
-take_static() {
+# Has the program for this system and processor stand where the released one was unpacked, if it is of sources with this
+# sum: take_port PROGRAM SUM
+take_port() {
     local port
-    port=linux-$(uname -m)
+    case $(uname -s) in
+        Darwin) port=macos ;;
+        *) port=linux-$(uname -m) ;;
+    esac
     [ "$(said_of "$1" sources ports/PORTS)" = "$2" ] && [ -n "$(said_of "$1" "$port" ports/PORTS)" ] &&
         unpack "$1" "ports/$1-$port.xz" "$(said_of "$1" "$port" ports/PORTS)"
 }
 
 # Unpacks the released program if it is of sources with this sum, and says so. Where it doesn't run here, since the C
-# library is older or the processor another, the static one is taken, which is made of the same module:
-# take_released PROGRAM SUM
+# library is older, or the processor or the system another, the port is taken, which is made of the same module; on Linux
+# it is a static program: take_released PROGRAM SUM
 take_released() {
     [ "$(said_of "$1" sources)" = "$2" ] && unpack "$1" "$1.xz" "$(said_of "$1" sha256)" || return
-    if ! "$unpacked/$1" --version >/dev/null 2>&1 && take_static "$1" "$2"; then
-        echo "$1: this is the static program, made of the module of the released one (docs/PORTS.md)," \
+    if ! "$unpacked/$1" --version >/dev/null 2>&1 && take_port "$1" "$2"; then
+        echo "$1: this is the port for this system, made of the module of the released program (docs/PORTS.md)," \
             "which doesn't run here" >&2
     else
         echo "$1: this is the released program, which was built of these very sources and proved" >&2
@@ -164,48 +176,55 @@ build() {
     }
     log=$(mktemp)
     # help ends with status 0, so any other status is a build that failed
-    (cd "$top/crates/$1" && rt run --jobs 2 -- --help 2>&1 </dev/null) | tee "$log" | progress "$1"
-    if [ "${PIPESTATUS[0]}" -ne 0 ] || [ ! -x "$top/crates/$1/out/$1" ]; then
+    {
+        (cd "$top/crates/$1" && rt run --jobs 2 -- --help 2>&1 </dev/null)
+        echo $? >"$log.status"
+    } | tee "$log" | progress "$1"
+    if [ "$(cat "$log.status")" != 0 ] || [ ! -x "$top/crates/$1/out/$1" ]; then
         cat "$log" >&2
-        rm -f "$log"
+        rm -f "$log" "$log.status"
         echo "$1: the program couldn't be built" >&2
         return 1
     fi
-    rm -f "$log"
+    rm -f "$log" "$log.status"
 }
 
 # Whether rt made the program after each source of it was written: is_newer PROGRAM
 is_newer() {
-    [ -x "$top/crates/$1/out/$1" ] && [ -z "$(touched "$top/crates/$1/out/$1")" ]
+    local found
+    [ -x "$top/crates/$1/out/$1" ] && found=$(touched "$top/crates/$1/out/$1") && [ -z "$found" ]
 }
 
 # Has `program` name the one to run, which is unpacked or built where it has to be: choose PROGRAM
 choose() {
-    local built=$top/crates/$1/out/$1
-    local made=("$built") begun now status
-    [ -n "${OMF_BUILD-}" ] || made+=("$unpacked/$1")
-    [ -n "${OMF_BUILD-}" ] || [ -w "$top" ] || ! is_own "$set_aside" || made+=("$set_aside/$1")
-    for program in "${made[@]}"; do
+    local name="$1" begun now status
+    set -- "$top/crates/$name/out/$name"
+    [ -n "${OMF_BUILD-}" ] || set -- "$@" "$unpacked/$name"
+    [ -n "${OMF_BUILD-}" ] || [ -w "$top" ] || ! is_own "$set_aside" || set -- "$@" "$set_aside/$name"
+    for program in "$@"; do
         is_seen "$program" && return
     done
     begun=$(mktemp)
-    now=$(sum_of "$1")
-    make_or_find "$1" "$now" && watched >"$program.watched" && echo "$now" >"$program.sources" &&
+    now=$(sum_of "$name")
+    make_or_find "$name" "$now" "$@" && watched >"$program.watched" && echo "$now" >"$program.sources" &&
         touch -r "$begun" "$program.sources"
     status=$?
     rm -f "$begun"
     return $status
 }
 
-# Has `program` name one that is made of the sources with this sum: make_or_find PROGRAM SUM
+# Has `program` name one that is made of the sources with this sum, of those that were made before or a new one:
+# make_or_find PROGRAM SUM MADE
 make_or_find() {
-    for program in "${made[@]}"; do
-        [ -x "$program" ] && [ "$(cat "$program.sources" 2>/dev/null)" = "$2" ] && return
+    local name="$1" now="$2"
+    shift 2
+    for program in "$@"; do
+        [ -x "$program" ] && [ "$(cat "$program.sources" 2>/dev/null)" = "$now" ] && return
     done
-    if [ -z "${OMF_BUILD-}" ] && ! is_newer "$1" && take_released "$1" "$2"; then
-        program=$unpacked/$1
+    if [ -z "${OMF_BUILD-}" ] && ! is_newer "$name" && take_released "$name" "$now"; then
+        program=$unpacked/$name
         return
     fi
-    program=$built
-    is_newer "$1" || build "$1"
+    program=$top/crates/$name/out/$name
+    is_newer "$name" || build "$name"
 }
