@@ -1,0 +1,67 @@
+"""The processor time of ports beside that of the programs that were proved, for some links."""
+
+import os
+import subprocess
+import sys
+from pathlib import Path
+
+import cases
+
+sys.path.insert(0, str(cases.TOP / "bench"))
+import generate  # noqa: E402
+
+TIMES = 8  # runs, of which the shortest counts
+LINKS = [  # a title, the program, what makes its inputs, and how many
+    ("2,001 modules", "omf", generate.calling_modules, 2001),
+    ("200,000 fix-ups", "omf", generate.fixups_to_names, 200_000),
+    ("50,000 publics and externals", "omf", generate.many_names, 50_000),
+    ("300 self-relative fix-ups to 32,767 copies", "omf", generate.self_relative_fixups, 300),
+    ("a library of 2,400 members", "doslink", generate.library_of_callers, 2400),
+]
+
+
+def seconds(words, folder):
+    """The least processor time of some runs, that of the system for them included."""
+    least = float("inf")
+    for _ in range(TIMES):
+        child = subprocess.Popen(words, cwd=folder, stdout=subprocess.DEVNULL, stderr=subprocess.DEVNULL)
+        _, status, used = os.wait4(child.pid, 0)
+        child.returncode = os.waitstatus_to_exitcode(status)
+        if child.returncode != 0:
+            sys.exit(f"speed: {words[0]} ended with status {child.returncode}")
+        least = min(least, used.ru_utime + used.ru_stime)
+    return least
+
+
+def put_inputs(make, count, folder):
+    """Writes the inputs of a link to a new folder, and answers its words."""
+    inputs = make(count)
+    folder.mkdir(parents=True)
+    modules = {f"{number:05}": content for number, content in enumerate(inputs.modules)}
+    for name, content in {**modules, **dict(inputs.files)}.items():
+        (folder / name).write_bytes(content)
+    return [*inputs.words, *modules]
+
+
+def table(folders, room):
+    """Prints a row for each link: the time of a run that only starts, and of that link without it, for the programs of
+    each folder by its title, the first of which are those that were proved."""
+    starts = {}
+    print(f"| What | {' | '.join(folders)} |\n|---{'|---' * len(folders)}|")
+    for title, name, make, count in LINKS:
+        folder = Path(room) / title.replace(" ", "-")
+        words = put_inputs(make, count, folder)
+        cells, first = [], None
+        for port, programs in folders.items():
+            if not (programs / name).exists():
+                cells.append("")
+                continue
+            if (port, name) not in starts:
+                starts[port, name] = seconds([programs / name, "--version"], folder)
+            link = ["link"] if name == "omf" else []
+            took = seconds([programs / name, *link, "-o", "out", *words], folder) - starts[port, name]
+            first = first or took
+            cells.append(f"{took:.3f} ({took / first:.2f})")
+        print(f"| {name}: {title} | {' | '.join(cells)} |", flush=True)
+    cells = [f"{starts[port, 'omf']:.3f}" if (port, "omf") in starts else "" for port in folders]
+    print(f"| its start, which isn't in the rows above | {' | '.join(cells)} |")
