@@ -9,6 +9,7 @@ output=surface
 nosound=true
 [cpu]
 cycles=max
+{settings}
 [autoexec]
 @echo off
 {mounts}
@@ -20,11 +21,12 @@ TAKEN = 100  # kilobytes that LOADFIX takes before it runs a program, which is t
 AROUND = (f"{TAKEN} kb allocated.\r\n".encode(), f"{TAKEN} kb freed.\r\n".encode())  # what LOADFIX prints
 
 
-def run(folder, lines, seconds, others=None):
-    """Runs these lines with a folder as C: and others by their letters, and answers whether they ended in time."""
+def run(folder, lines, seconds, others=None, settings=""):
+    """Runs these lines with a folder as C: and others by their letters, and answers whether they ended in time. Settings
+    are lines more of DOSBox's own."""
     mounts = "\n".join(f'mount {letter} "{path}"' for letter, path in {"c": ".", **(others or {})}.items())
     (folder / "RUN.BAT").write_bytes("\r\n".join([*lines, "c:", "cd \\", "echo ended > ENDED.TXT", ""]).encode())
-    (folder / "dosbox.conf").write_text(SETTINGS.format(mounts=mounts))
+    (folder / "dosbox.conf").write_text(SETTINGS.format(mounts=mounts, settings=settings))
     quiet = {**os.environ, "SDL_VIDEODRIVER": "dummy", "SDL_AUDIODRIVER": "dummy"}
     try:
         subprocess.run(

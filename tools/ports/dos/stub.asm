@@ -40,14 +40,7 @@ real:   mov     ax, cs
         sti
         cmp     byte [r_ax + 1], 4Ch
         jne     .call
-        mov     dx, [move.to_handle]
-        mov     ah, 0Dh                 ; unlock
-        call    far [xms]
-        mov     dx, [move.to_handle]
-        mov     ah, 0Ah                 ; free
-        call    far [xms]
-        mov     ah, 6                   ; A20
-        call    far [xms]
+        call    give_back
 .call:  push    ds                      ; what DI points to is in this segment too
         pop     es
         mov     si, [r_si]
@@ -165,8 +158,13 @@ start:  mov     ax, cs
         mov     si, move
         mov     ah, 0Bh
         call    far [xms]
+        cmp     ax, 1
+        jne     .small
         add     dword [move.to], 8000h
         jmp     .read
+.small: call    give_back
+        mov     dx, no_room
+        jmp     fail
 .whole: mov     ah, 3Eh
         int     21h
         mov     eax, [base]             ; descriptors of the program's memory and of this segment
@@ -205,6 +203,17 @@ first:  mov     ax, 30h
         jmp     8:1000h
         bits 16
 
+; gives the extended memory back, and the line A20
+give_back: mov  dx, [move.to_handle]
+        mov     ah, 0Dh                 ; unlock
+        call    far [xms]
+        mov     dx, [move.to_handle]
+        mov     ah, 0Ah                 ; free
+        call    far [xms]
+        mov     ah, 6                   ; A20
+        call    far [xms]
+        ret
+
 set_base: mov   [di + 2], ax
         ror     eax, 16
         mov     [di + 4], al
@@ -240,6 +249,7 @@ here:   dd      0
 xms:    dd      0
 no_real: db     "this needs DOS without EMM386, and not in a window", 13, 10, "$"
 no_xms: db      "this needs HIMEM.SYS", 13, 10, "$"
+no_room: db     "this needs more extended memory", 13, 10, "$"
 no_file: db     "the program's file can't be read", 13, 10, "$"
         times 800h - ($ - $$) db 0
 regs:                                   ; at 800h

@@ -10,7 +10,12 @@ import cases
 sys.path.insert(0, str(cases.TOP / "tools"))
 import dosbox  # noqa: E402
 
-SECONDS = 300  # of all runs in DOSBox
+SECONDS = 600  # of all runs in DOSBox
+# settings under which the program can't run, and what it says
+REFUSED = (
+    ("without HIMEM.SYS", "[dos]\nxms=false", b"this needs HIMEM.SYS\r\n"),
+    ("with 2 MB", "[dosbox]\nmemsize=2", b"this needs more extended memory\r\n"),
+)
 
 
 def jobs(names):
@@ -65,3 +70,11 @@ def test(programs, outcome, check):
             # DOSBox makes the file in any case, and the line writes into it
             status = max([each for each in (1, 2, 3) if (folder / f"{number}.{each}").read_bytes()], default=0)
             check(f"{title}: the status", status == ended.status, f"{status} for {ended.status}")
+    for title, settings, told in REFUSED:
+        with tempfile.TemporaryDirectory(prefix="omf-dos-") as folder:
+            folder = Path(folder)
+            shutil.copy(next(iter(programs.values())), folder / "PROGRAM.EXE")
+            lines = ["PROGRAM help > TOLD.TXT", "if errorlevel 3 echo refused >> TOLD.TXT"]
+            check(f"{title}: it ends", dosbox.run(folder, lines, SECONDS, settings=settings))
+            found = (folder / "TOLD.TXT").read_bytes()
+            check(f"{title}: it says so", found == told + b"refused\r\n", f"{found}")
