@@ -53,8 +53,8 @@ said_of() {
     sed -n "s/^$1 $2 //p" "$top/release/${3-RELEASE}" 2>/dev/null
 }
 
-# The first source that was touched after a file, or with WORDS also the first folder of them; it fails where find can't
-# tell, as that of busybox: touched FILE [WORDS]
+# The first source that was touched after a file, or with WORDS also the first folder of them; it fails where find
+# can't tell, as that of busybox: touched FILE [WORDS]
 touched() {
     local after="$1"
     shift

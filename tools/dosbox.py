@@ -22,8 +22,8 @@ AROUND = (f"{TAKEN} kb allocated.\r\n".encode(), f"{TAKEN} kb freed.\r\n".encode
 
 
 def run(folder, lines, seconds, others=None, settings=""):
-    """Runs these lines with a folder as C: and others by their letters, and answers whether they ended in time. Settings
-    are lines more of DOSBox's own."""
+    """Runs these lines with a folder as C: and others by their letters, and answers whether they ended in time.
+    Settings are lines more of DOSBox's own."""
     mounts = "\n".join(f'mount {letter} "{path}"' for letter, path in {"c": ".", **(others or {})}.items())
     (folder / "RUN.BAT").write_bytes("\r\n".join([*lines, "c:", "cd \\", "echo ended > ENDED.TXT", ""]).encode())
     (folder / "dosbox.conf").write_text(SETTINGS.format(mounts=mounts, settings=settings))
