@@ -7,6 +7,7 @@ pub mod Joining
 pub mod Slack
 pub mod Results
 pub mod ChoiceSteps
+pub mod GoingBack
 pub mod ChoiceLaws
 pub mod LikeSteps
 pub mod Distinct

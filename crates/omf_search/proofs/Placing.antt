@@ -50,7 +50,7 @@ found_at n p (x ∷ xs) (suc m) e =
       | false ↦ λ u. let k : n + suc m ≡ (n + 1) + m = omega arith in found_at (n + 1) p xs m (u ∙ ap (λ j. Some j) k)
     ]) e
 
-not_found : {X : Type 0} (n : ℕ) (p : X → Bool) (xs : List X) → place_from n p xs ≡ None → find p xs ≡ None
+pub not_found : {X : Type 0} (n : ℕ) (p : X → Bool) (xs : List X) → place_from n p xs ≡ None → find p xs ≡ None
 not_found n p [] e = refl
 not_found n p (x ∷ xs) e =
     (elim (p x) as (λ b. cond b (Some n) (place_from (n + 1) p xs) ≡ None → cond b (Some x) (find p xs) ≡ None) [

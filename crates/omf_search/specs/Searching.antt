@@ -4,19 +4,27 @@ use Rattle.std.specs.declared.option.Option.{Option}
 use Rattle.std.specs.Borrow.{Bor}
 use Rattle.std.specs.Option.{option_and_then, option_map}
 use Rattle.omf_place.specs.declared.names.Names.{Names}
+use Rattle.omf_place.specs.Names.{agrees}
+use Rattle.omf_search.specs.declared.name_map.NameMap.{NameMap}
 use Rattle.omf_search.specs.declared.searching.Found.{Found}
 use Rattle.omf_search.specs.declared.searching.Search.{Search}
 use Rattle.omf_search.specs.Keys.{value_of}
 use Rattle.omf_search.specs.Places.{place_from}
 use Rattle.omf_search.specs.Taken.{IsTaken}
-use Rattle.omf_search.specs.Said.{Module, offers}
+use Rattle.omf_search.specs.Said.{Module, Wanted, offers}
 use Rattle.omf_search.specs.Search.{Choice, Member, takes}
 use Rattle.omf_search.specs.Wanted.{wanted_names}
+
+-- a map has for each name the place of the first of these wanted names that is it
+abbrev pub HasPlaces : {A : Type 0} → Names → List Wanted → NameMap ℕ A → Type 0
+HasPlaces names ws places =
+    (q : Bor (List ℕ)) → value_of names places q ≡ place_from 0 (λ w. agrees names q.now w.name) ws
 
 -- these modules are linked, and these members may be taken, in the order in which they were added
 pub record IsSearch {A : Type 0} (names : Names) (ms : List Module) (bs : List Member) (s : Search A) : Type 0 where
   pub by : s.names ≡ names
   pub taken : IsTaken names ms s.taken
+  pub places : HasPlaces names (wanted_names names ms) s.places
   pub offered : (q : Bor (List ℕ)) → value_of names s.offers q ≡ place_from 0 (λ b. offers names q.now b.says) bs
   pub within : s.next ≤ length (wanted_names names ms)
   pub settled : find (takes names bs ms) (take s.next (wanted_names names ms)) ≡ None

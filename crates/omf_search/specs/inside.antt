@@ -3,3 +3,4 @@ pub mod Likeness
 pub mod Met
 pub mod Asking
 pub mod Same
+pub mod Back

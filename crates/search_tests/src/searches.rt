@@ -298,3 +298,42 @@ library
 fn rounds(rt: HostRuntime) -> Result<(), Fail> {
     answers(rt.alloc(), ROUNDS, &[2, 5, 6])
 }
+
+/// Links whose later libraries offer what was wanted before, and what is defined by then.
+const GOING_BACK: &str = "\
++main -a -b -c -d
+library
++d
+library
++b -e
++d +c
+library
++a
++e
+=
+0.0 d 0
+1.0 b 0
+1.1 c 0
+2.0 a 0
+2.1 e 2
+
+folded
++main -A -b -C
+library
++c
+library
++B -a -d
++x
+library
++D
++a
+=
+0.0 C 0
+1.0 b 0
+2.1 A 0
+2.0 d 2";
+
+#[test]
+fn going_back(rt: HostRuntime) -> Result<(), Fail> {
+    answers(rt.alloc(), GOING_BACK, &[1, 3, 5])
+}

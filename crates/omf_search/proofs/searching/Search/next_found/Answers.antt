@@ -36,6 +36,7 @@ loop-self-preserved g c = λ names ms bs was.
     record {
       by = is.by;
       taken = is.taken;
+      places = is.places;
       offered = is.offered;
       within = omega (arith, within);
       settled =
