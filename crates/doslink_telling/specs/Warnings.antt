@@ -1,6 +1,10 @@
 -- The lines of refusals and warnings of a whole program, and how many of a kind are told.
-use Rattle.std.specs.Prelude.{ℕ, ◌+◌, ◌/◌, ◌%◌, nat_lt, if◌then◌else◌, List, [], ◌∷◌, codes, decimal}
+use Rattle.std.specs.Prelude.{ℕ, ◌+◌, ◌/◌, ◌%◌, ◌==◌, nat_lt, if◌then◌else◌, List, [], ◌∷◌, ◌++◌, codes, decimal}
+use Rattle.std.specs.declared.option.Option.{Option}
 use Rattle.std.specs.List.{concat}
+use Rattle.std.specs.Option.{option_map_or}
+use Rattle.omf_faults.specs.FaultLines.{name_at_fault, program_label}
+use Rattle.omf_faults.specs.declared.fault.ProgramFault.{ProgramFault}
 use Rattle.omf_text.specs.Printing.{printed_name}
 
 -- ---- numbers
@@ -36,6 +40,21 @@ no_program_line = codes "doslink: link: 67 NoProgram\n"
 abbrev pub data_in_bss_line : (segment word : List ℕ) → List ℕ
 data_in_bss_line segment word =
     concat (codes "doslink: " ∷ word ∷ codes ": 62 DataInBss " ∷ printed_name segment ∷ codes "\n" ∷ [])
+
+-- what is at fault, by its name where it has one
+abbrev pub name_text : Option (List ℕ) → List ℕ
+name_text name = option_map_or (λ n. codes " " ++ printed_name n) name []
+
+-- what stands behind a number of bytes that are too many
+abbrev pub over_end : ℕ → List ℕ
+over_end bytes = if bytes == 1 then codes " byte over\n" else codes " bytes over\n"
+
+-- a segment, the program or a group is so many bytes too long
+abbrev pub excess_line : {A : Type 0} → ProgramFault A → (bytes : ℕ) → List ℕ
+excess_line fault bytes =
+    let label = program_label fault in
+    concat (codes "doslink: link: " ∷ decimal label.0 ∷ codes " " ∷ label.1 ∷ name_text (name_at_fault fault)
+    ∷ codes ": " ∷ grouped bytes ∷ over_end bytes ∷ [])
 
 -- the modules ask for a longer stack than is asked for
 abbrev pub long_stack_line : (bytes : ℕ) → List ℕ

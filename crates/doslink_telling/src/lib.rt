@@ -10,6 +10,7 @@ mod lines;
 mod mapping;
 mod missing;
 mod telling;
+mod wanting;
 mod warnings;
 
 pub use communals::{push_clash, push_entry_fault, push_unplaced};
@@ -23,6 +24,6 @@ pub use mapping::table;
 pub use missing::{Unmet, push_missing_lines, unmet_names};
 pub use telling::{handed_saids, handed_text, module_word, module_words, word_at};
 pub use warnings::{
-    push_cut_stack, push_data_in_bss, push_long_stack, push_more_line, push_no_code,
+    push_cut_stack, push_data_in_bss, push_excess, push_long_stack, push_more_line, push_no_code,
     push_no_program, push_no_stack, push_no_start, push_reached,
 };

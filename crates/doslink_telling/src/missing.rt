@@ -2,20 +2,19 @@
 ghost use Rattle.std.specs.Prelude.{◌≡◌, ◌++◌, [], IfOk, OnOk, map, slice_get};
 ghost use Rattle.std.specs.List.{flat_map};
 ghost use Rattle.std.specs.Option.{option_copied, option_map, option_map_or};
-ghost use Rattle.omf_library.specs.Records.{module_records};
-ghost use Rattle.omf_library.specs.Wanting.{wanting_place};
 ghost use Rattle.omf_search.specs.Results.{bytes_of, module_said, offered_said, wanted_said};
 ghost use Rattle.doslink_stock.specs.Seen.{entry_held, handed_held};
 ghost use Rattle.doslink_telling.specs.Missing as spec;
 ghost use Rattle.doslink_telling.specs.Missing.{like_offered, unmet, wants_marks};
 ghost use Rattle.doslink_telling.specs.Table.{header_name};
+ghost use Rattle.doslink_telling.specs.inside.Wanters.{wanter_held};
 
 use crate::lines::{Part, push_front, push_name, push_parts};
 use crate::telling::{handed_saids, module_word};
+use crate::wanting::{Wanter, wanters_of};
 use crate::warnings::push_more_line;
 use doslink_stock::{Entry, Handed, Stock, members_of};
 use omf_alias::agree;
-use omf_library::{module_frames, wanting_place};
 use omf_place::Names;
 use omf_search::{Offered, Said, Wanted, Whose, likes, missing};
 use std::alloc::{AllocError, Allocator};
@@ -82,14 +81,14 @@ pub(crate) fn header_name(bytes: &[u8]) -> Option<&[u8]>
 /// The module that offers a name.
 fn offering_entry<'m, 'a, A: Allocator + Copy>(
     stock: &'m Stock<'a, A>,
-    handed: &[Handed<'m, 'a, A>],
+    wanters: &[Wanter<'m, 'a, A>],
     whose: Whose,
 ) -> Option<&'m Entry<'a, A>>
     ensures { option_map (λ e. entry_held e.now) result
-        ≡ spec.whose_module (map handed_held handed.now) (map entry_held stock.now.members.items) whose }
+        ≡ spec.whose_module (map wanter_held wanters.now) (map entry_held stock.now.members.items) whose }
 {
     match whose {
-        Whose::Module(index) => match handed.get(index) {
+        Whose::Module(index) => match wanters.get(index) {
             Some(each) => Some(each.entry),
             None => None,
         },
@@ -121,35 +120,30 @@ fn push_like<'m, 'a, A: Allocator + Copy>(
     lines: &mut Vec<u8, A>,
     paths: &[&str],
     stock: &'m Stock<'a, A>,
-    handed: &[Handed<'m, 'a, A>],
+    wanters: &[Wanter<'m, 'a, A>],
     like: Option<Offered<'a>>,
 ) -> Result<(), AllocError>
     ensures { OnOk result (lines.new.items ≡ lines.old.items
-        ++ spec.like_text paths.now (map handed_held handed.now) (map entry_held stock.now.members.items)
+        ++ spec.like_text paths.now (map wanter_held wanters.now) (map entry_held stock.now.members.items)
         (option_map offered_said like.entry)) }
 {
     let Some(like) = like else {
         return Ok(());
     };
-    match offering_entry(stock, handed, like.whose) {
+    match offering_entry(stock, wanters, like.whose) {
         Some(entry) => push_offering(alloc, lines, paths, entry, like.name),
         None => Ok(()),
     }
 }
 
-/// Appends the record of a module that wants a name first, by its place in the module, as faults have it and as `show`
-/// prints it.
+/// Appends the record that wants a name first, by its place in its module, as faults have it and as `show` prints it.
 fn push_record<A: Allocator + Copy>(
-    alloc: A,
     lines: &mut Vec<u8, A>,
-    bytes: &[u8],
-    name: &[u8],
+    place: Option<u64>,
 ) -> Result<(), AllocError>
-    ensures { OnOk result (lines.new.items ≡ lines.old.items
-        ++ spec.record_text (wanting_place name.now (module_records bytes.now 0))) }
+    ensures { OnOk result (lines.new.items ≡ lines.old.items ++ spec.record_text place) }
 {
-    let frames = module_frames(alloc, bytes)?;
-    match wanting_place(alloc, &frames, name)? {
+    match place {
         Some(place) => {
             let parts = [
                 Part::Text(": record "),
@@ -182,38 +176,38 @@ fn push_header<A: Allocator + Copy>(
 }
 
 /// Appends that a module wants a name that is missing.
-fn push_wanting<A: Allocator + Copy>(
+fn push_wanting<'a, A: Allocator + Copy>(
     alloc: A,
     lines: &mut Vec<u8, A>,
     paths: &[&str],
-    wanter: &Entry<'_, A>,
-    name: &[u8],
+    wanter: &Wanter<'_, 'a, A>,
+    name: &'a [u8],
 ) -> Result<(), AllocError>
     ensures { OnOk result (lines.new.items ≡ lines.old.items
-        ++ spec.wanting_text paths.now name.now (entry_held wanter.now)) }
+        ++ spec.wanting_text paths.now name.now (wanter_held wanter.now)) }
 {
-    let word = module_word(alloc, paths, wanter)?;
+    let word = module_word(alloc, paths, wanter.entry)?;
     push_front(lines, &word, ": ")?;
     push_name(alloc, lines, name)?;
     lines.extend_from_slice(b" is missing")?;
-    push_record(alloc, lines, wanter.bytes, name)?;
-    push_header(alloc, lines, wanter.bytes)
+    push_record(lines, wanter.place(name))?;
+    push_header(alloc, lines, wanter.entry.bytes)
 }
 
 /// Appends that the module with this index wants a name that is missing.
-fn push_wanted<A: Allocator + Copy>(
+fn push_wanted<'a, A: Allocator + Copy>(
     alloc: A,
     lines: &mut Vec<u8, A>,
     paths: &[&str],
-    handed: &[Handed<'_, '_, A>],
-    wanted: &Wanted<'_>,
+    wanters: &[Wanter<'_, 'a, A>],
+    wanted: &Wanted<'a>,
 ) -> Result<(), AllocError>
     ensures { OnOk result (lines.new.items ≡ lines.old.items
         ++ option_map_or (spec.wanting_text paths.now wanted.now.name.now)
-        (slice_get (map handed_held handed.now) wanted.now.wanted_by) []) }
+        (slice_get (map wanter_held wanters.now) wanted.now.wanted_by) []) }
 {
-    match handed.get(wanted.wanted_by) {
-        Some(wanter) => push_wanting(alloc, lines, paths, wanter.entry, wanted.name),
+    match wanters.get(wanted.wanted_by) {
+        Some(wanter) => push_wanting(alloc, lines, paths, wanter, wanted.name),
         None => Ok(()),
     }
 }
@@ -224,18 +218,18 @@ fn push_missing_line<'m, 'a, A: Allocator + Copy>(
     lines: &mut Vec<u8, A>,
     paths: &[&str],
     stock: &'m Stock<'a, A>,
-    handed: &[Handed<'m, 'a, A>],
+    wanters: &[Wanter<'m, 'a, A>],
     wanted: &Wanted<'a>,
     like: Option<Offered<'a>>,
 ) -> Result<(), AllocError>
-    requires { option_map offered_said like ≡ like_offered (map handed_held handed.now)
+    requires { option_map offered_said like ≡ like_offered (map wanter_held wanters.now)
         (map entry_held stock.now.members.items) wanted.now.name.now }
     ensures { OnOk result (lines.new.items ≡ lines.old.items
-        ++ spec.missing_line paths.now (map handed_held handed.now) (map entry_held stock.now.members.items)
+        ++ spec.missing_line paths.now (map wanter_held wanters.now) (map entry_held stock.now.members.items)
         (wanted_said wanted.now)) }
 {
-    push_wanted(alloc, lines, paths, handed, wanted)?;
-    push_like(alloc, lines, paths, stock, handed, like)?;
+    push_wanted(alloc, lines, paths, wanters, wanted)?;
+    push_like(alloc, lines, paths, stock, wanters, like)?;
     lines.extend_from_slice(b"\n")
 }
 
@@ -283,9 +277,11 @@ fn push_told_lines<'m, 'a, A: Allocator + Copy>(
         ++ flat_map (spec.missing_line paths.now (map handed_held handed.now) (map entry_held stock.now.members.items))
         (map wanted_said missing.now)) }
 {
+    let all = wanters_of(alloc, handed)?;
+    let wanters = all.as_slice();
     let likes = likes_of(alloc, stock, handed, missing)?;
     for (each, like) in missing.iter().zip(&likes) {
-        push_missing_line(alloc, lines, paths, stock, handed, each, *like)?;
+        push_missing_line(alloc, lines, paths, stock, wanters, each, *like)?;
     }
     Ok(())
 }

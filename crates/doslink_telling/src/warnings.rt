@@ -1,9 +1,11 @@
 //! The lines of refusals and warnings of a whole program, and how many of a kind are told.
-ghost use Rattle.std.specs.Prelude.{◌≡◌, ◌+◌, ◌++◌, ◌∷◌, ◌<◌, [], OnOk};
+ghost use Rattle.std.specs.Prelude.{◌≡◌, ◌+◌, ◌++◌, ◌∷◌, ◌<◌, [], OnOk, codes, decimal};
 ghost use Rattle.std.specs.List.{concat};
+ghost use Rattle.omf_faults.specs.FaultLines.{program_label, text_of};
 ghost use Rattle.doslink_telling.specs.Warnings as spec;
 
 use crate::lines::{Part, push_front, push_name, push_parts};
+use omf_faults::ProgramFault;
 use std::alloc::{AllocError, Allocator};
 
 /// The digit that a number below ten is.
@@ -97,6 +99,66 @@ pub fn push_data_in_bss<A: Allocator + Copy>(
     push_front(lines, word, ": 62 DataInBss ")?;
     push_name(alloc, lines, segment)?;
     lines.extend_from_slice(b"\n")
+}
+
+/// Appends the number and the name of a fault of modules together.
+fn push_program_label<A: Allocator + Copy>(
+    lines: &mut Vec<u8, A>,
+    fault: &ProgramFault<A>,
+) -> Result<(), AllocError>
+    ensures { OnOk result (lines.new.items ≡ lines.old.items ++ concat (codes "doslink: link: "
+        ∷ decimal (program_label fault.now).0 ∷ codes " " ∷ (program_label fault.now).1 ∷ [])) }
+{
+    let (number, name) = fault.label();
+    let parts = [
+        Part::Text("doslink: link: "),
+        Part::Count(u64::from(number)),
+        Part::Text(" "),
+        Part::Text(name),
+    ];
+    push_parts(lines, parts.as_slice())
+}
+
+/// Appends the name of what is at fault, where it has one.
+fn push_name_at_fault<A: Allocator + Copy>(
+    alloc: A,
+    lines: &mut Vec<u8, A>,
+    name: Option<&[u8]>,
+) -> Result<(), AllocError>
+    ensures { OnOk result (lines.new.items ≡ lines.old.items ++ spec.name_text (text_of name.entry)) }
+{
+    match name {
+        None => Ok(()),
+        Some(name) => {
+            lines.extend_from_slice(b" ")?;
+            push_name(alloc, lines, name)
+        }
+    }
+}
+
+/// What stands behind a number of bytes that are too many.
+fn over_end(bytes: u64) -> &'static str
+    ensures { result.now ≡ spec.over_end bytes }
+{
+    if bytes == 1 {
+        " byte over\n"
+    } else {
+        " bytes over\n"
+    }
+}
+
+/// Appends the line of a segment, a program or a group that is too long, which is this fault, and by how many bytes.
+pub fn push_excess<A: Allocator + Copy>(
+    alloc: A,
+    lines: &mut Vec<u8, A>,
+    fault: &ProgramFault<A>,
+    bytes: u64,
+) -> Result<(), AllocError>
+    ensures { OnOk result (lines.new.items ≡ lines.old.items ++ spec.excess_line fault.now bytes) }
+{
+    push_program_label(lines, fault)?;
+    push_name_at_fault(alloc, lines, fault.name_at_fault())?;
+    push_counted(lines, ": ", bytes, over_end(bytes))
 }
 
 /// Appends that the modules ask for a longer stack than one of so many bytes.

@@ -7,7 +7,7 @@
 //! `41 41 41`. A line that begins with `#` is a comment. Of places each name that is asked for stands before its own.
 
 use omf_library::{
-    Alias, Member, ModuleNames, members, module_frames, module_names, modules_end, wanting_place,
+    Alias, Member, ModuleNames, members, module_frames, module_names, modules_end, wanting_places,
 };
 use rows::{bytes_of, push_text, put_record, same};
 use std::alloc::{AllocError, Allocator, Global};
@@ -184,11 +184,12 @@ fn push_places<A: Allocator + Copy>(
     names: &[&str],
 ) -> Result<(), AllocError> {
     let frames = module_frames(alloc, file)?;
+    let places = wanting_places(alloc, &frames)?;
     for (number, name) in names.iter().enumerate() {
         if number > 0 {
             text.push_str(", ")?;
         }
-        match wanting_place(alloc, &frames, name.as_bytes())? {
+        match places.get(name.as_bytes()) {
             Some(place) => write!(text, "{name} {place}")?,
             None => write!(text, "{name} -")?,
         }

@@ -19,18 +19,6 @@ use Rattle.omf_library.specs.Said.{aliases_said}
 use Rattle.omf_library.specs.Defaults.{is_among}
 use Rattle.omf_library.specs.Wanting.{asks, first_wanting, is_asked, is_meant, wanting_place}
 
--- a name is one of some texts
-pub among-texts : (name : List ℕ) (names : List (Bor (List ℕ)))
-    → list_any (λ (x : Bor (List ℕ)). bytes_eq name x.now) names ≡ is_among name (texts names)
-among-texts name [] = refl
-among-texts name (x ∷ xs) = ap (λ b. bytes_eq name x.now || b) (among-texts name xs)
-
--- an alias stands for it
-pub meant-said : (name : List ℕ) (aliases : List lent.Alias)
-    → list_any (λ (a : lent.Alias). bytes_eq name a.meaning.now) aliases ≡ is_meant name (aliases_said aliases)
-meant-said name [] = refl
-meant-said name (a ∷ as') = ap (λ b. bytes_eq name a.meaning.now || b) (meant-said name as')
-
 -- ---- some record asks for a name exactly where the module does
 
 some-first : (wants : Bool) (f : Frame) (later : Option Frame) (among : Bool) → is_some later ≡ among
@@ -70,12 +58,8 @@ some-wanted name records place is =
 
 -- ---- the records that are left
 
--- what the records from one on ask for first, by the names listed before, is what all ask for first
-abbrev pub IsLeft : (name : List ℕ) → (frames : List LentFrame) → (i : ℕ) → (listed : List (List ℕ)) → Type 0
-IsLeft name frames i listed =
-    first_wanting name listed (map plain_frame (drop i frames)) ≡ first_wanting name [] (map plain_frame frames)
-
-left-next : (name : List ℕ) (frames : List LentFrame) (i : ℕ) (listed : List (List ℕ)) (f : LentFrame) (wants : Bool)
+-- the records from one on ask first, by the names listed before, for what that one or those behind it do
+pub left-next : (name : List ℕ) (frames : List LentFrame) (i : ℕ) (listed : List (List ℕ)) (f : LentFrame) (wants : Bool)
     → i < length frames → f ≡ get_or frames i f → asks name listed (plain_frame f) ≡ wants
     → first_wanting name listed (map plain_frame (drop i frames))
     ≡ cond wants (Some (plain_frame f))
@@ -88,35 +72,3 @@ left-next name frames i listed f wants within is e =
     (λ (b : Bool).
     cond b (Some (plain_frame f))
     (first_wanting name (listed ++ listed_in (plain_frame f)) (map plain_frame (drop (i + 1) frames)))) e
-
--- the record asks for it
-pub left-found : (name : List ℕ) (frames : List LentFrame) (i : ℕ) (listed : List (List ℕ)) (f : LentFrame)
-    → IsLeft name frames i listed → i < length frames → f ≡ get_or frames i f
-    → asks name listed (plain_frame f) ≡ true
-    → Some f.place ≡ wanting_place name (map plain_frame frames)
-unfolding wanting_place
-left-found name frames i listed f left within is e =
-    ap (option_map (λ (g : Frame). g.place)) (sym (left-next name frames i listed f true within is e) ∙ left)
-
--- it doesn't
-pub left-more : (name : List ℕ) (frames : List LentFrame) (i : ℕ) (listed more : List (List ℕ)) (f : LentFrame)
-    → IsLeft name frames i listed → i < length frames → f ≡ get_or frames i f
-    → asks name listed (plain_frame f) ≡ false → more ≡ listed ++ listed_in (plain_frame f)
-    → IsLeft name frames (i + 1) more
-left-more name frames i listed more f left within is e added =
-    ap (λ (l : List (List ℕ)). first_wanting name l (map plain_frame (drop (i + 1) frames))) added
-    ∙ sym (left-next name frames i listed f false within is e) ∙ left
-
--- no record is left
-pub left-none : (name : List ℕ) (frames : List LentFrame) (i : ℕ) (listed : List (List ℕ))
-    → IsLeft name frames i listed → length frames ≤ i → None ≡ wanting_place name (map plain_frame frames)
-unfolding wanting_place
-left-none name frames i listed left past =
-    ap (option_map (λ (g : Frame). g.place))
-    (sym (at_drop_all (λ (fs : List LentFrame). first_wanting name listed (map plain_frame fs)) frames i past) ∙ left)
-
--- before the first record
-pub left-first : (name : List ℕ) (frames : List LentFrame) (listed : List (Bor (List ℕ))) → listed ≡ []
-    → IsLeft name frames 0 (texts listed)
-left-first name frames listed none =
-    ap (λ (l : List (Bor (List ℕ))). first_wanting name (texts l) (map plain_frame frames)) none

@@ -7,6 +7,7 @@ pub mod Digits
 pub mod Told
 pub mod Gathering
 pub mod Asking
+pub mod Wanted
 pub mod Indexes
 pub mod Unmarked
 pub mod Naming

@@ -25,4 +25,4 @@ pub use fields::{take_bytes, take_index, take_name};
 pub use files::{FileKind, Member, file_kind, members};
 pub use names::{ModuleNames, module_names, push_listed, push_publics};
 pub use records::{ends_module, module_frames, record_at};
-pub use wanting::wanting_place;
+pub use wanting::{WantingPlaces, wanting_places};

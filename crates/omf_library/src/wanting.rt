@@ -1,78 +1,124 @@
-//! The record of a module that asks for a name first.
+//! The records of a module that ask for names first.
 
-ghost use Rattle.std.specs.Prelude.{◌≡◌, IfOk, is_some, map};
-ghost use Rattle.std.specs.List.{list_any};
+ghost use Rattle.std.specs.Prelude.{◌≡◌, ℕ, List, None, Some, IfOk, OnOk, cond, is_some, map};
+ghost use Rattle.std.specs.Borrow.{Bor};
+ghost use Rattle.std.specs.Option.{option_or};
 ghost use Rattle.std.specs.Str.{bytes_eq};
 ghost use Rattle.omf_frame.specs.Lending.{plain_frame};
+ghost use Rattle.omf_library.specs.Defaults.{is_among};
 ghost use Rattle.omf_library.specs.Names.{texts};
-ghost use Rattle.omf_library.specs.Wanting as spec;
-ghost use Rattle.omf_library.specs.Wanting.{asks, is_asked};
+ghost use Rattle.omf_library.specs.Said.{aliases_said};
+ghost use Rattle.omf_library.specs.Wanting.{HasWanting, asks, is_asked, is_meant, place_of};
 
 use crate::aliases::{Alias, push_aliases};
 use crate::names::{push_listed, push_wanted};
 use omf_frame::Frame;
-use std::alloc::{AllocError, Allocator};
+use std::alloc::{AllocError, Allocator, Global};
+use std::collections::BTreeMap;
 
-/// Whether a name is one of these.
-pub(crate) fn is_among(name: &[u8], names: &[&[u8]]) -> bool
-    ensures { result ≡ list_any (λ each. bytes_eq name.now each.now) names.now }
-{
-    for each in names {
-        if name == *each {
-            return true;
+/// For each name that a module asks for, the place of the first of its records that does: wants it, or has an alias that
+/// stands for it.
+#[derive(Drop)]
+pub struct WantingPlaces<'a, A: Allocator + Copy = Global> {
+    places: BTreeMap<&'a [u8], u64, A>,
+}
+
+impl<'a, A: Allocator + Copy> WantingPlaces<'a, A> {
+    /// No names.
+    #[tactic(auto, unfolding(crate::specs::Wanting::place_of))]
+    fn new(alloc: A) -> Self
+        ensures { (q : Bor (List ℕ)) → place_of result q ≡ None }
+    {
+        WantingPlaces {
+            places: BTreeMap::new(alloc),
         }
     }
-    false
-}
 
-/// Whether one of these aliases stands for a name.
-fn is_meant(name: &[u8], aliases: &[Alias<'_>]) -> bool
-    ensures { result ≡ list_any (λ alias. bytes_eq name.now alias.meaning.now) aliases.now }
-{
-    for alias in aliases {
-        if name == alias.meaning {
-            return true;
-        }
+    /// The place of the first record that asks for a name; none, where none does. It takes no memory.
+    #[tactic(auto, unfolding(crate::specs::Wanting::place_of))]
+    pub fn get(&self, name: &'a [u8]) -> Option<u64>
+        ensures { result ≡ place_of self.now name.entry }
+    {
+        self.places.get(&name).copied()
     }
-    false
+
+    /// Whether a name has a place. It takes no memory.
+    fn contains(&self, name: &'a [u8]) -> bool
+        ensures { result ≡ is_some (place_of self.now name.entry) }
+    {
+        self.get(name).is_some()
+    }
+
+    /// Gives a name a place, unless it has one.
+    #[tactic(auto, unfolding(crate::specs::Wanting::place_of))]
+    fn add(&mut self, name: &'a [u8], place: u64) -> Result<(), AllocError>
+        ensures { OnOk result ((q : Bor (List ℕ)) → place_of self.new q
+            ≡ option_or (place_of self.old q) (cond (bytes_eq q.now name.entry.now) (Some place) None)) }
+    {
+        if self.contains(name) {
+            return Ok(());
+        }
+        self.places.insert(name, place)?;
+        Ok(())
+    }
+
+    /// Gives each of some names a place, unless it has one.
+    fn add_each(&mut self, names: &[&'a [u8]], place: u64) -> Result<(), AllocError>
+        ensures { OnOk result ((q : Bor (List ℕ)) → place_of self.new q
+            ≡ option_or (place_of self.old q) (cond (is_among q.now (texts names.now)) (Some place) None)) }
+    {
+        for name in names {
+            self.add(name, place)?;
+        }
+        Ok(())
+    }
+
+    /// The same of what some aliases stand for.
+    fn add_meanings(&mut self, aliases: &[Alias<'a>], place: u64) -> Result<(), AllocError>
+        ensures { OnOk result ((q : Bor (List ℕ)) → place_of self.new q
+            ≡ option_or (place_of self.old q) (cond (is_meant q.now (aliases_said aliases.now)) (Some place) None)) }
+    {
+        for alias in aliases {
+            self.add(alias.meaning, place)?;
+        }
+        Ok(())
+    }
+
+    /// Gives the names that a record asks for its place, unless they have one. The names are those that are listed
+    /// before it.
+    fn add_record(
+        &mut self,
+        alloc: A,
+        frame: &Frame<'a>,
+        listed: &[&'a [u8]],
+    ) -> Result<(), AllocError>
+        ensures { OnOk result ((q : Bor (List ℕ)) → place_of self.new q ≡ option_or (place_of self.old q)
+            (cond (asks q.now (texts listed.now) (plain_frame frame.now)) (Some frame.now.place) None)) }
+    {
+        let mut wanted = Vec::new(alloc);
+        let mut aliases = Vec::new(alloc);
+        push_wanted(frame, listed, &mut wanted)?;
+        push_aliases(frame, &mut aliases)?;
+        self.add_each(&wanted, frame.place)?;
+        self.add_meanings(&aliases, frame.place)
+    }
 }
 
-/// Whether a record asks for a name, by the names that are listed before it: wants it, or has an alias that stands for
-/// it.
-fn asks<'a, A: Allocator + Copy>(
+/// For each name that a module asks for, the place of the first of its records that does.
+pub fn wanting_places<'a, A: Allocator + Copy>(
     alloc: A,
-    frame: &Frame<'a>,
-    listed: &[&'a [u8]],
-    name: &[u8],
-) -> Result<bool, AllocError>
-    ensures { IfOk result (λ asks_it. asks_it ≡ asks name.now (texts listed.now) (plain_frame frame.now)) }
-{
-    let mut wanted = Vec::new(alloc);
-    let mut aliases = Vec::new(alloc);
-    push_wanted(frame, listed, &mut wanted)?;
-    push_aliases(frame, &mut aliases)?;
-    let is_wanted = is_among(name, &wanted);
-    let is_meant = is_meant(name, &aliases);
-    Ok(is_wanted || is_meant)
-}
-
-/// The place of the first of a module's records that asks for a name: wants it, or has an alias that stands for it.
-/// None where none does.
-pub fn wanting_place<A: Allocator + Copy>(
-    alloc: A,
-    frames: &[Frame<'_>],
-    name: &[u8],
-) -> Result<Option<u64>, AllocError>
-    ensures first { IfOk result (λ place. place ≡ spec.wanting_place name.now (map plain_frame frames.now)) }
+    frames: &[Frame<'a>],
+) -> Result<WantingPlaces<'a, A>, AllocError>
+    ensures first { IfOk result (HasWanting (map plain_frame frames.now)) }
     // One does exactly where the name is that of an external, or an alias stands for it.
-    ensures exact { IfOk result (λ place. is_some place ≡ is_asked name.now (map plain_frame frames.now)) }
+    ensures exact { IfOk result (λ places. (q : Bor (List ℕ)) →
+        is_some (place_of places q) ≡ is_asked q.now (map plain_frame frames.now)) }
 {
+    let mut places = WantingPlaces::new(alloc);
     let mut listed = Vec::new(alloc);
     for frame in frames {
-        if asks(alloc, frame, &listed, name)? {
-            return Ok(Some(frame.place));
-        }
+        places.add_record(alloc, frame, &listed)?;
         push_listed(frame, &mut listed)?;
     }
-    Ok(None)
+    Ok(places)
 }

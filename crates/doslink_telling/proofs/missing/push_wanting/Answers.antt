@@ -19,7 +19,7 @@ returns g c =
     let s5 = c.push_header.new.lines.items in
     let word = c.deref.result.now in
     let name = printed_name c.args.name.now in
-    let bytes = c.args.wanter.now.bytes.now in
+    let bytes = c.args.wanter.now.entry.now.bytes.now in
     let place = record_text (wanting_place c.args.name.now (module_records bytes 0)) in
     let header = header_text (header_name bytes) in
     let behind = place ++ (header ++ []) in
@@ -30,5 +30,6 @@ returns g c =
     (then-ok r s0 s1 s5 (concat (codes "doslink: " ∷ word ∷ codes ": " ∷ [])) rest c.in_ok-push_front.ensures
     (then-ok r s1 s2 s5 name (codes " is missing" ++ behind) c.in_ok-push_name.ensures
     (then-ok r s2 s3 s5 (codes " is missing") behind c.in_ok-extend_from_slice.ensures.items
-    (then-ok r s3 s4 s5 place (header ++ []) c.in_ok-push_record.ensures
+    (then-ok r s3 s4 s5 place (header ++ [])
+    (c.in_ok-push_record.ensures ∙ ap (λ o. s3 ++ record_text o) c.place.ensures)
     (subst (λ l. OnOk r (s5 ≡ s4 ++ l)) (sym (append-nil header)) c.push_header.ensures)))))
