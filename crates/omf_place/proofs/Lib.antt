@@ -34,3 +34,5 @@ pub mod Ended
 pub mod Bounding
 pub mod Worked
 pub mod Turns
+pub mod Excessive
+pub mod WorkedExcess

@@ -6,6 +6,7 @@ pub mod Tables
 pub mod Layout
 pub mod Bounded
 pub mod Faults
+pub mod Excess
 pub mod Said
 pub mod Rows
 pub mod inside

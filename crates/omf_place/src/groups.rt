@@ -1,10 +1,11 @@
 //! Groups: all GRPDEFs of one name are one group.
 
 ghost use Rattle.std.specs.Prelude.{◌≡◌, ◌+◌, ◌*◌, ◌++◌, ◌<◌, ℕ, List, Some, IfOk, OnOk, if◌then◌else◌, length, map};
-ghost use Rattle.std.specs.Prelude.{nat_lt};
+ghost use Rattle.std.specs.Prelude.{find, nat_lt};
 ghost use Rattle.std.specs.List.{AllByRecursion};
 ghost use Rattle.std.specs.Str.{bytes_eq};
 ghost use Rattle.std.specs.Option.{option_map};
+ghost use Rattle.omf_place.specs.Excess.{excess_in, group_excess, group_excesses};
 ghost use Rattle.omf_place.specs.Faults.{GroupTooLong, group_fault};
 ghost use Rattle.omf_place.specs.Parts.{Site, sites};
 ghost use Rattle.omf_place.specs.Tables.{frame_of_group, group_span, grpdefs as program_grpdefs, grpdefs_of};
@@ -35,6 +36,13 @@ impl Reach {
         ensures { result ≡ nat_lt (16 * self.frame + 65536) self.end }
     {
         16 * u32::from(self.frame) + 65536 < self.end
+    }
+
+    /// By how many bytes the end is more than 65,536 above the frame.
+    fn excess(self) -> u32
+        ensures { result ≡ excess_in self.frame self.end }
+    {
+        self.end.saturating_sub(16 * u32::from(self.frame) + 65536)
     }
 }
 
@@ -258,6 +266,26 @@ impl<'a, A: Allocator + Copy> Groups<'a, A> {
             }
         }
         None
+    }
+
+    /// By how many bytes a group ends more than 65,536 above its frame.
+    fn excess(&self, name: &[u8]) -> u32
+        ensures { result ≡ of_program group_excess self.now.program.now name.now }
+    {
+        match self.reach(name) {
+            None => 0,
+            Some(reach) => reach.excess(),
+        }
+    }
+
+    /// By how many bytes the first group, in order of first meeting, is too long that is.
+    pub(crate) fn first_excess(&self) -> Option<u32>
+        ensures { result ≡ find (nat_lt 0) (of_program group_excesses self.now.program.now) }
+    {
+        match self.first_long() {
+            None => None,
+            Some(first) => Some(self.excess(first.name)),
+        }
     }
 }
 

@@ -28,4 +28,4 @@ pub use laws::combining;
 pub use layout::{Combined, GroupPlace, Position};
 pub use lookups::Layout;
 pub use names::Names;
-pub use placing::place;
+pub use placing::{excess, place};

@@ -6,6 +6,7 @@ ghost use Rattle.std.specs.Option.{option_map};
 ghost use Rattle.omf_place.specs.inside.Steps.{is_long_segment};
 ghost use Rattle.omf_place.specs.inside.Keys.{segment_place};
 ghost use Rattle.omf_place.specs.inside.Numbered.{IsNumberedFrom};
+ghost use Rattle.omf_place.specs.Excess.{excess_in, segment_excesses};
 ghost use Rattle.omf_place.specs.Parts.{placement_order};
 ghost use Rattle.omf_place.specs.inside.Ranks.{rank};
 ghost use Rattle.omf_place.specs.inside.Sites.{site, sites_view};
@@ -36,6 +37,14 @@ impl SegmentSpan {
         ensures { result ≡ nat_lt (16 * (self.start / 16) + 65536) self.end }
     {
         16 * (self.start / 16) + 65536 < self.end
+    }
+
+    /// By how many bytes the combined segment ends more than 65,536 above its frame.
+    fn excess(self) -> u128
+        requires { self.start < 2 ^ 127 }
+        ensures { result ≡ excess_in (self.start / 16) self.end }
+    {
+        self.end.saturating_sub(16 * (self.start / 16) + 65536)
     }
 }
 
@@ -112,6 +121,24 @@ pub(crate) fn first_long_segment<'s, 'a>(
         }
     }
     None
+}
+
+/// By how many bytes the first combined segment, in the order of placement, is too long that is.
+pub(crate) fn first_segment_excess(
+    sites: &[Site<'_>],
+    ranks: &[Rank],
+    spans: &[SegmentSpan],
+) -> Option<u128>
+    requires order { ranks.now ≡ map (rank (sites_view sites.now)) (placement_order (sites_view sites.now)) }
+    requires numbered { IsNumberedFrom 0 (sites_view sites.now) }
+    requires spans { AreSpans (sites_view sites.now) spans.now }
+    requires small { IsSmall (addresses_in spans.now) }
+    ensures { result ≡ find (nat_lt 0) (segment_excesses (sites_view sites.now) (addresses_in spans.now)) }
+{
+    match first_long_segment(sites, ranks, spans) {
+        None => None,
+        Some(first) => Some(spans[first.position].excess()),
+    }
 }
 
 /// The combined segments, in the order of placement.

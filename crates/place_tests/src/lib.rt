@@ -10,4 +10,6 @@ mod laid;
 #[cfg(test)]
 mod large;
 #[cfg(test)]
+mod lengths;
+#[cfg(test)]
 mod names;
