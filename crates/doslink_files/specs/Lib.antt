@@ -1,4 +1,5 @@
 pub mod Files
 pub mod Paths
 pub mod Standing
+pub mod Written
 pub mod inside

@@ -21,9 +21,10 @@ use Rattle.omf_search.specs.Said.{Module, Wanted}
 use Rattle.doslink_telling.specs.Missing.{unmet, wants_marks}
 
 -- a link of modules is one of what takes them
-pub link-of : (A : Type 0) (job : Job) (modules : List Held) (takes : List Held → Type 0) → takes modules
-    → IsLinkOf A job (λ ms. ms ≡ modules) → IsLinkOf A job takes
-link-of A job modules takes taken linked = record {
+pub link-of : (A : Type 0) (job : Job) (Written Other : List (List ℕ) → Type 0) (modules : List Held)
+    (takes : List Held → Type 0) → takes modules → ((inputs : List (List ℕ)) → Written inputs → Other inputs)
+    → IsLinkOf A job Written (λ ms. ms ≡ modules) → IsLinkOf A job Other takes
+link-of A job Written Other modules takes taken written linked = record {
   modules = linked.modules;
   variables = linked.variables;
   linked = linked.linked;
@@ -32,6 +33,7 @@ link-of A job modules takes taken linked = record {
   met = linked.met;
   are_inputs = linked.are_inputs;
   faultless = linked.faultless;
+  written = written linked.linked linked.written;
 }
 
 -- modules that can't be linked are such of what takes them
@@ -40,12 +42,12 @@ pub link-refused : (A : Type 0) (job : Job) (modules : List Held) (takes : List 
 link-refused A job modules takes taken (ms, same, refused) = (ms, subst takes (sym same) taken, refused)
 
 -- modules that say so of names are linked with their communal variables
-pub linked-with : (A : Type 0) (job : Job) (names : Names) (marks : Bool) (modules : List Held) (vs : List Variable)
-    (says : List Module) → names ≡ names_of job.ignore_case → says ≡ map needs modules
-    → AreVariablesOf names modules vs
+pub linked-with : (A : Type 0) (job : Job) (Written : List (List ℕ) → Type 0) (names : Names)
+    (marks : Bool) (modules : List Held) (vs : List Variable) (says : List Module)
+    → names ≡ names_of job.ignore_case → says ≡ map needs modules → AreVariablesOf names modules vs
     → (unmet (names_of job.ignore_case) says ≡ []) × (marks ≡ wants_marks (names_of job.ignore_case) says)
-    → IsLinkedWith A job says marks modules vs → IsLinkOf A job (λ ms. ms ≡ modules)
-linked-with A job names marks modules vs says same all are (met, wants) (linked, inputs, faultless) =
+    → IsLinkedWith A job Written says marks modules vs → IsLinkOf A job Written (λ ms. ms ≡ modules)
+linked-with A job Written names marks modules vs says same all are (met, wants) (linked, inputs, faultless, written) =
     let those = names_of job.ignore_case in
     let mine = map needs modules in
     record {
@@ -58,6 +60,7 @@ linked-with A job names marks modules vs says same all are (met, wants) (linked,
       are_inputs = subst (λ m. AreInputsOf job mine m modules vs linked) (wants ∙ ap (wants_marks those) all)
           (subst (λ s. AreInputsOf job s marks modules vs linked) all inputs);
       faultless = faultless;
+      written = written;
     }
 
 -- nothing is linked where a name is missing
@@ -101,41 +104,48 @@ EndsWith-weaker P Q R S tells status does refuses (told, inr (inl (one, refused)
 EndsWith-weaker P Q R S tells status does refuses (told, inr (inr other)) = (told, inr (inr other))
 
 -- what holds of one run holds of another one
-pub EndsBy-weaker : (A : Type 0) (told : Text → Option (List ℕ)) (folders : List Text)
+pub EndsBy-weaker : (A : Type 0) (told : Text → Option (List ℕ)) (Writes : (path bytes : List ℕ) → Type 0)
+    (folders : List Text)
     (Run Other : (Job → Type 0) → (List Text → Type 0) → Type 0) (tells : List ℕ → Type 0) (status : ℕ)
     → ((does : Job → Type 0) (helps : List Text → Type 0) → Run does helps → Other does helps)
-    → EndsBy A told folders Run tells status → EndsBy A told folders Other tells status
-EndsBy-weaker A told folders Run Other tells status step =
-    let done = IsDone A told folders in
+    → EndsBy A told Writes folders Run tells status → EndsBy A told Writes folders Other tells status
+EndsBy-weaker A told Writes folders Run Other tells status step =
+    let done = IsDone A told Writes folders in
     let refused = IsRefusedJob A told folders in
     let never = λ (words : List Text). ⊥ in
     EndsWith-weaker (Run done AskForNone) (Other done AskForNone) (Run refused never) (Other refused never) tells status
     (step done AskForNone) (step refused never)
 
 -- the same of a job
-pub EndsBy-done : (A : Type 0) (told : Text → Option (List ℕ)) (folders : List Text)
+pub EndsBy-done : (A : Type 0) (told : Text → Option (List ℕ)) (Writes : (path bytes : List ℕ) → Type 0)
+    (folders : List Text)
     (Run : (Job → Type 0) → (List Text → Type 0) → Type 0) (job : Job) (tells : List ℕ → Type 0) (status : ℕ)
     → ((does : Job → Type 0) (helps : List Text → Type 0) → does job → Run does helps)
-    → EndsWith (IsDone A told folders job) (IsRefusedJob A told folders job) tells status
-    → EndsBy A told folders Run tells status
-EndsBy-done A told folders Run job tells status = EndsBy-weaker A told folders (λ does helps. does job) Run tells status
+    → EndsWith (IsDone A told Writes folders job) (IsRefusedJob A told folders job) tells status
+    → EndsBy A told Writes folders Run tells status
+EndsBy-done A told Writes folders Run job tells status =
+    EndsBy-weaker A told Writes folders (λ does helps. does job) Run tells status
 
 -- a run that does no job
-pub EndsBy-none : (A : Type 0) (told : Text → Option (List ℕ)) (folders : List Text)
+pub EndsBy-none : (A : Type 0) (told : Text → Option (List ℕ)) (Writes : (path bytes : List ℕ) → Type 0)
+    (folders : List Text)
     (Run : (Job → Type 0) → (List Text → Type 0) → Type 0) (P : Type 0) (tells : List ℕ → Type 0) (status : ℕ)
-    → (P → Run (IsDone A told folders) AskForNone) → EndsWith P ⊥ tells status → EndsBy A told folders Run tells status
-EndsBy-none A told folders Run P tells status helps =
-    EndsWith-weaker P (Run (IsDone A told folders) AskForNone) ⊥ (Run (IsRefusedJob A told folders) (λ words. ⊥)) tells
+    → (P → Run (IsDone A told Writes folders) AskForNone) → EndsWith P ⊥ tells status
+    → EndsBy A told Writes folders Run tells status
+EndsBy-none A told Writes folders Run P tells status helps =
+    EndsWith-weaker P (Run (IsDone A told Writes folders) AskForNone) ⊥ (Run (IsRefusedJob A told folders) (λ words. ⊥)) tells
     status helps (λ none. absurd none)
 
 -- a run that stops before it does a job, for no input
-pub EndsBy-stopped : (A : Type 0) (told : Text → Option (List ℕ)) (folders : List Text)
+pub EndsBy-stopped : (A : Type 0) (told : Text → Option (List ℕ)) (Writes : (path bytes : List ℕ) → Type 0)
+    (folders : List Text)
     (Run : (Job → Type 0) → (List Text → Type 0) → Type 0) (tells : List ℕ → Type 0) (stop : Stop) (status : ℕ)
-    (text : List ℕ) → status ≡ stop_status stop → OnInput stop ⊥ → tells text → EndsBy A told folders Run tells status
-EndsBy-stopped A told folders Run tells Input status text is none tell = absurd none
-EndsBy-stopped A told folders Run tells Words status text is none tell = ((text, tell), inr (inr (inl is)))
-EndsBy-stopped A told folders Run tells Device status text is none tell = ((text, tell), inr (inr (inr is)))
-EndsBy-stopped A told folders Run tells Memory status text is none tell = ((text, tell), inr (inr (inr is)))
+    (text : List ℕ) → status ≡ stop_status stop → OnInput stop ⊥ → tells text
+    → EndsBy A told Writes folders Run tells status
+EndsBy-stopped A told Writes folders Run tells Input status text is none tell = absurd none
+EndsBy-stopped A told Writes folders Run tells Words status text is none tell = ((text, tell), inr (inr (inl is)))
+EndsBy-stopped A told Writes folders Run tells Device status text is none tell = ((text, tell), inr (inr (inr is)))
+EndsBy-stopped A told Writes folders Run tells Memory status text is none tell = ((text, tell), inr (inr (inr is)))
 
 -- a run ends by why it stopped
 pub ends : (Done Refused : Type 0) (tells : List ℕ → Type 0) (done : Result (Unit {0}) Stop) (status : ℕ)

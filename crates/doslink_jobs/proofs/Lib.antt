@@ -6,7 +6,6 @@ pub mod Declaring
 pub mod Defaulting
 mod Held
 pub mod Doing
-pub mod Failures
 pub mod FaultyModules
 pub mod FarData
 pub mod Lists
@@ -17,5 +16,5 @@ pub mod Lowered
 pub mod Reading
 pub mod Overflowing
 pub mod Refused
+mod Splitting
 pub mod Texts
-pub mod Writing

@@ -32,6 +32,8 @@ use Rattle.doslink_jobs.specs.Joined.{AreJoined}
 use Rattle.doslink_jobs.specs.Locals.{HaveLocals}
 use Rattle.doslink_jobs.specs.Orders.{Asking}
 use Rattle.doslink_jobs.specs.Overflow.{HaveOverflow, NarrowFixups, NarrowStart}
+use Rattle.doslink_jobs.specs.Places.{map_path, out_path}
+use Rattle.doslink_jobs.specs.Written.{IsWritten}
 use Rattle.doslink_files.specs.declared.reading.Sought.{Sought}
 use Rattle.doslink_files.specs.declared.reading.Sought.TheVariants as sought
 use Rattle.doslink_files.specs.Files.{AreSought, IsFound}
@@ -97,8 +99,9 @@ pub record AreInputsOf (job : Job) (says : List Module) (marks : Bool) (modules 
       → HaveOverflow start_overflow (names_of job.ignore_case) linked → ⊥
 
 -- A link was done of the modules that it takes: none of their names is missing, and what is linked for them has no
--- fault.
-pub record IsLinkOf (A : Type 0) (job : Job) (takes : List Held → Type 0) : Type 0 where
+-- fault, and was written.
+pub record IsLinkOf (A : Type 0) (job : Job) (Written : (inputs : List (List ℕ)) → Type 0) (takes : List Held → Type 0)
+    : Type 0 where
   pub modules : List Held
   pub variables : List Variable
   pub linked : List (List ℕ)
@@ -108,6 +111,7 @@ pub record IsLinkOf (A : Type 0) (job : Job) (takes : List Held → Type 0) : Ty
   pub are_inputs : AreInputsOf job (map needs modules) (wants_marks (names_of job.ignore_case) (map needs modules))
       modules variables linked
   pub faultless : IsFaultless A (names_of job.ignore_case) linked
+  pub written : Written linked
 
 -- ---- a job
 
@@ -150,11 +154,14 @@ pub record AreFilesOf (told : Text → Option (List ℕ)) (folders : List Text) 
   pub none : job.default_libraries ≡ false → defaults ≡ []
   pub together : rounds ≡ given ∷ defaults
 
--- a job was done: its files were read and linked
-abbrev pub IsDone : (A : Type 0) → (told : Text → Option (List ℕ)) → (folders : List Text) → Job → Type 0
-IsDone A told folders job =
+-- A job was done: its files were read and linked, and the program and its map stand where the job says. `Writes` says
+-- that the file at a path holds some bytes.
+abbrev pub IsDone : (A : Type 0) → (told : Text → Option (List ℕ)) → (Writes : (path bytes : List ℕ) → Type 0)
+    → (folders : List Text) → Job → Type 0
+IsDone A told Writes folders job =
     (rounds : List (List (List ℕ))) × AreFilesOf told folders job rounds
-    × IsLinkOf A job (Takes (names_of job.ignore_case) rounds)
+    × IsLinkOf A job (IsWritten A Writes (out_path job) (map_path job) (names_of job.ignore_case))
+    (Takes (names_of job.ignore_case) rounds)
 
 -- ---- a run
 

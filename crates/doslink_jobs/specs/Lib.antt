@@ -7,7 +7,9 @@ pub mod Locals
 pub mod Maps
 pub mod Orders
 pub mod Overflow
+pub mod Places
 pub mod Refusals
 pub mod Runs
 pub mod Stacks
+pub mod Written
 pub mod inside

@@ -80,7 +80,9 @@ module _ (told : Text → Option (List ℕ)) (Does : Job → Type 0) (Helps : Li
 
 -- A run ends with status 0 only where the job that words ask for was done, or they ask for none, and with 1 only where
 -- it was refused.
-abbrev pub EndsBy : (A : Type 0) → (told : Text → Option (List ℕ)) → (folders : List Text)
-    → (Run : (Job → Type 0) → (List Text → Type 0) → Type 0) → (tells : List ℕ → Type 0) → (status : ℕ) → Type 0
-EndsBy A told folders Run tells status =
-    EndsWith (Run (IsDone A told folders) AskForNone) (Run (IsRefusedJob A told folders) (λ words. ⊥)) tells status
+abbrev pub EndsBy : (A : Type 0) → (told : Text → Option (List ℕ)) → (Writes : (path bytes : List ℕ) → Type 0)
+    → (folders : List Text) → (Run : (Job → Type 0) → (List Text → Type 0) → Type 0)
+    → (tells : List ℕ → Type 0) → (status : ℕ) → Type 0
+EndsBy A told Writes folders Run tells status =
+    EndsWith (Run (IsDone A told Writes folders) AskForNone) (Run (IsRefusedJob A told folders) (λ words. ⊥))
+    tells status

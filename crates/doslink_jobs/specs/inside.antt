@@ -1,7 +1,6 @@
 -- How the code sees what it works on: no public contract cites any of it.
 pub mod Changes
 pub mod Declaring
-pub mod Flushed
 pub mod Gathering
 pub mod Inputs
 pub mod Listed

@@ -28,7 +28,7 @@ mod warnings;
 mod widths;
 mod words;
 
-pub use program::{link_into, map_into};
+pub use program::map_bytes;
 pub use running::run_job;
 pub use words::{
     Besides, Language, language_of, library_folders, out_of_memory, run_words, wrong_words,

@@ -1,10 +1,14 @@
 //! Paths of what is written, made of others.
+ghost use Rattle.std.specs.Prelude.{◌≡◌, IfOk, string_bytes};
+ghost use Rattle.doslink_jobs.specs.Places as spec;
 
 use doslink_files::has_extension;
 use std::alloc::{AllocError, Allocator};
 
 /// The path without the last dot in its last part, and what stands behind that.
-fn without_extension(path: &str) -> &str {
+fn without_extension(path: &str) -> &str
+    ensures { result.now ≡ spec.without_extension path.now }
+{
     if !has_extension(path.as_bytes()) {
         return path;
     }
@@ -30,7 +34,9 @@ pub(crate) fn with_extension<A: Allocator + Copy>(
     alloc: A,
     path: &str,
     extension: &str,
-) -> Result<String<A>, AllocError> {
+) -> Result<String<A>, AllocError>
+    ensures { IfOk result (λ s. string_bytes s ≡ spec.with_extension path.now extension.now) }
+{
     let mut made = String::from_str(alloc, without_extension(path))?;
     made.push_str(extension)?;
     Ok(made)

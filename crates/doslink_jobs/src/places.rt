@@ -1,5 +1,7 @@
 //! Where the program and its map are written.
-ghost use Rattle.std.specs.Prelude.{IfErr};
+ghost use Rattle.std.specs.Prelude.{◌≡◌, IfErr, IfOk, MatchResult, string_bytes};
+ghost use Rattle.std.specs.Option.{option_map, option_or};
+ghost use Rattle.doslink_jobs.specs.Places as spec;
 ghost use Rattle.doslink_jobs.specs.inside.Stops.{OnInput};
 
 use crate::paths::{extension_of, with_extension};
@@ -23,34 +25,68 @@ pub(crate) struct Places<A: Allocator + Copy> {
 /// The extensions of programs of other forms, in small letters.
 const OTHER_FORMS: [&str; 4] = ["com", "sys", "bin", "img"];
 
-/// The name after which the program is called: that of the first file, or else of the first library.
-fn first_name<'a>(inputs: &[Input<'a>]) -> Option<&'a str> {
-    let mut library = None;
-    for input in inputs {
-        match input {
-            Input::File(path) => return Some(path),
-            Input::Library(name) => library = library.or(Some(*name)),
-        }
+/// The path of the first file.
+fn first_file<'a>(inputs: &[Input<'a>]) -> Option<&'a str>
+    ensures { option_map (λ path. path.now) result ≡ spec.first_file inputs.now }
+{
+    match inputs {
+        [] => None,
+        [Input::File(path), ..] => Some(path),
+        [Input::Library(_), rest @ ..] => first_file(rest),
     }
-    library
+}
+
+/// The name of the first library.
+fn first_library<'a>(inputs: &[Input<'a>]) -> Option<&'a str>
+    ensures { option_map (λ name. name.now) result ≡ spec.first_library inputs.now }
+{
+    match inputs {
+        [] => None,
+        [Input::Library(name), ..] => Some(name),
+        [Input::File(_), rest @ ..] => first_library(rest),
+    }
+}
+
+/// The name after which the program is called: that of the first file, or else of the first library.
+fn first_name<'a>(inputs: &[Input<'a>]) -> Option<&'a str>
+    ensures { option_map (λ name. name.now) result
+        ≡ option_or (spec.first_file inputs.now) (spec.first_library inputs.now) }
+{
+    match first_file(inputs) {
+        Some(path) => Some(path),
+        None => first_library(inputs),
+    }
+}
+
+/// The path of a program that is called after this file or library.
+fn path_after<A: Allocator + Copy>(alloc: A, name: Option<&str>) -> Result<String<A>, AllocError>
+    ensures { IfOk result (λ path. string_bytes path ≡ spec.path_after (option_map (λ n. n.now) name.entry)) }
+{
+    match name {
+        Some(name) if name != "-" => with_extension(alloc, name, ".EXE"),
+        _ => String::from_str(alloc, "OUT.EXE"),
+    }
 }
 
 /// The path of the program: the one that is given, or that of the first file with `.EXE` in place of its extension.
-fn out_path<A: Allocator + Copy>(alloc: A, job: &Job<'_>) -> Result<String<A>, AllocError> {
-    match (job.out, first_name(&job.inputs)) {
-        (Some(out), _) => String::from_str(alloc, out),
-        (None, None | Some("-")) => String::from_str(alloc, "OUT.EXE"),
-        (None, Some(name)) => with_extension(alloc, name, ".EXE"),
+fn out_path<A: Allocator + Copy>(alloc: A, job: &Job<'_>) -> Result<String<A>, AllocError>
+    ensures { IfOk result (λ path. string_bytes path ≡ spec.out_path job.now) }
+{
+    match job.out {
+        Some(out) => String::from_str(alloc, out),
+        None => path_after(alloc, first_name(&job.inputs)),
     }
 }
 
 /// The path of the map, where one is asked for.
 fn map_path<A: Allocator + Copy>(
     alloc: A,
-    job: &Job<'_>,
+    map: Option<MapFile<'_>>,
     out: &str,
-) -> Result<Option<String<A>>, AllocError> {
-    match job.map {
+) -> Result<Option<String<A>>, AllocError>
+    ensures { IfOk result (λ path. option_map string_bytes path ≡ spec.map_beside out.now map.entry) }
+{
+    match map {
         Some(MapFile::At(path)) => Ok(Some(String::from_str(alloc, path)?)),
         Some(MapFile::Beside) => Ok(Some(with_extension(alloc, out, ".MAP")?)),
         None => Ok(None),
@@ -127,11 +163,12 @@ pub(crate) fn places_of<W: World, A: Allocator + Copy>(
     read: &BTreeSet<FileId, A>,
     lines: &mut Vec<u8, A>,
 ) -> Result<Places<A>, Stop>
-    ensures { IfErr result (λ stop. OnInput stop ⊥) }
+    ensures { MatchResult result (λ places. (string_bytes places.out ≡ spec.out_path job.now)
+        × (option_map string_bytes places.map ≡ spec.map_path job.now)) (λ stop. OnInput stop ⊥) }
 {
     let out = out_path(alloc, job)?;
     check_place(world, out.as_str(), read, lines)?;
-    let map = map_path(alloc, job, out.as_str())?;
+    let map = map_path(alloc, job.map, out.as_str())?;
     if let Some(path) = &map {
         check_place(world, path.as_str(), read, lines)?;
         check_map(world, path.as_str(), out.as_str(), lines)?;

@@ -1,5 +1,6 @@
 //! A job of `doslink`, done with files and the two streams.
-ghost use Rattle.std.specs.Prelude.{◌≡◌, ◌-◌, ◌^◌, ◌<◌, ℕ, IfErr, List, map, MatchResult};
+ghost use Rattle.std.specs.Prelude.{◌≡◌, ◌-◌, ◌^◌, ◌<◌, ℕ, IfErr, List, map, MatchResult, string_bytes};
+ghost use Rattle.std.specs.Option.{option_map};
 ghost use Rattle.omf_communal.specs.Deciding.{variable_said};
 ghost use Rattle.omf_files.specs.Files.{sink_failures};
 ghost use Rattle.omf_search.specs.Results.{module_said};
@@ -7,8 +8,11 @@ ghost use Rattle.doslink_stock.specs.Search.{Takes};
 ghost use Rattle.doslink_stock.specs.Searched.{Searched};
 ghost use Rattle.doslink_stock.specs.Seen.{handed_held};
 ghost use Rattle.doslink_words.specs.Tokens.{texts};
+ghost use Rattle.doslink_files.specs.Written.{StandsAt};
 ghost use Rattle.doslink_jobs.specs.Jobs.{EndsWith, IsDone, IsLinkOf, Tells, names_of};
+ghost use Rattle.doslink_jobs.specs.Places.{map_path, out_path};
 ghost use Rattle.doslink_jobs.specs.Refusals.{IsRefusedJob, IsRefusedOf};
+ghost use Rattle.doslink_jobs.specs.Written.{IsWritten};
 ghost use Rattle.doslink_jobs.specs.inside.Inputs.{IsLinkedWith, IsRefusedWith};
 ghost use Rattle.doslink_jobs.specs.inside.Stops as stops;
 ghost use Rattle.doslink_jobs.specs.inside.Stops.{OnInput, told_text};
@@ -44,7 +48,10 @@ fn link_checked<'a, W: World + Copy, A: Allocator + Copy>(
     marks: bool,
     lines: &mut Vec<u8, A>,
 ) -> Result<(), Stop>
-    ensures { MatchResult result (λ done. IsLinkedWith A job.now (map module_said says.now) marks
+    ensures { MatchResult result (λ done. IsLinkedWith A job.now
+        (IsWritten A (StandsAt (W.blank world) (W.Puts world)) (string_bytes places.now.out)
+        (option_map string_bytes places.now.map) (names_of job.now.ignore_case))
+        (map module_said says.now) marks
         (map handed_held taken.now.handed.now) (map variable_said variables.now))
         (λ stop. OnInput stop (IsRefusedWith A job.now (map module_said says.now) marks
         (map handed_held taken.now.handed.now) (map variable_said variables.now))) }
@@ -63,7 +70,10 @@ fn link_taken<'m, 'a, W: World + Copy, A: Allocator + Copy>(
     taken: &Taken<'_, 'm, 'a, A>,
     lines: &mut Vec<u8, A>,
 ) -> Result<(), Stop>
-    ensures { MatchResult result (λ done. IsLinkOf A job.now (λ ms. ms ≡ map handed_held taken.now.handed.now))
+    ensures { MatchResult result (λ done. IsLinkOf A job.now
+        (IsWritten A (StandsAt (W.blank world) (W.Puts world)) (string_bytes places.now.out)
+        (option_map string_bytes places.now.map) (names_of job.now.ignore_case))
+        (λ ms. ms ≡ map handed_held taken.now.handed.now))
         (λ stop. OnInput stop (IsRefusedOf A job.now (λ ms. ms ≡ map handed_held taken.now.handed.now))) }
 {
     let variables = variables_of(alloc, options_of(job).names, taken, lines)?;
@@ -87,7 +97,10 @@ fn link_handed<'m, 'a, W: World + Copy, O: Write + Drop, A: Allocator + Copy>(
     lines: &mut Vec<u8, A>,
 ) -> Result<(), Stop>
     requires { sink_failures output.old ≡ 0 }
-    ensures { MatchResult result (λ done. IsLinkOf A job.now (λ ms. ms ≡ map handed_held handed.now))
+    ensures { MatchResult result (λ done. IsLinkOf A job.now
+        (IsWritten A (StandsAt (W.blank world) (W.Puts world)) (string_bytes places.now.out)
+        (option_map string_bytes places.now.map) (names_of job.now.ignore_case))
+        (λ ms. ms ≡ map handed_held handed.now))
         (λ stop. OnInput stop (IsRefusedOf A job.now (λ ms. ms ≡ map handed_held handed.now))) }
 {
     let words = module_words(alloc, &gathered.paths, handed)?;
@@ -110,7 +123,10 @@ fn link_gathered<W: World + Copy, O: Write + Drop, A: Allocator + Copy>(
 ) -> Result<(), Stop>
     requires { sink_failures output.old ≡ 0 }
     ensures { (rounds : List (List (List ℕ))) → Searched (names_of job.now.ignore_case) rounds gathered.now.stock
-        → MatchResult result (λ done. IsLinkOf A job.now (Takes (names_of job.now.ignore_case) rounds))
+        → MatchResult result (λ done. IsLinkOf A job.now
+        (IsWritten A (StandsAt (W.blank world) (W.Puts world)) (out_path job.now) (map_path job.now)
+        (names_of job.now.ignore_case))
+        (Takes (names_of job.now.ignore_case) rounds))
         (λ stop. OnInput stop (IsRefusedOf A job.now (Takes (names_of job.now.ignore_case) rounds))) }
 {
     let places = places_of(alloc, &world, job, &gathered.read, lines)?;
@@ -139,7 +155,8 @@ fn do_job<W: World + Copy, O: Write + Drop, A: Allocator + Copy>(
     lines: &mut Vec<u8, A>,
 ) -> Result<(), Stop>
     requires { sink_failures output.old ≡ 0 }
-    ensures { MatchResult result (λ done. IsDone A (W.bytes world) (texts besides.now.folders.now) job.now)
+    ensures { MatchResult result (λ done. IsDone A (W.bytes world) (StandsAt (W.blank world) (W.Puts world))
+        (texts besides.now.folders.now) job.now)
         (λ stop. OnInput stop
         (IsRefusedJob A (W.bytes world) (texts besides.now.folders.now) job.now)) }
 {
@@ -163,7 +180,8 @@ pub fn run_job<W: World + Copy, O: Write + Drop, E: Sink, A: Allocator + Copy>(
 ) -> u8
     requires output { sink_failures output.old ≡ 0 }
     requires errors { E.failures errors.old < 2 ^ 64 - 1 }
-    ensures { EndsWith (IsDone A (W.bytes world) (texts besides.now.folders.now) job.now)
+    ensures { EndsWith (IsDone A (W.bytes world) (StandsAt (W.blank world) (W.Puts world))
+        (texts besides.now.folders.now) job.now)
         (IsRefusedJob A (W.bytes world) (texts besides.now.folders.now) job.now)
         (Tells E.written E.failures errors.old errors.new) result }
 {
@@ -182,7 +200,8 @@ pub(crate) fn run_lines<W: World + Copy, O: Write + Drop, E: Sink, A: Allocator 
 ) -> u8
     requires output { sink_failures output.old ≡ 0 }
     requires errors { E.failures errors.old < 2 ^ 64 - 1 }
-    ensures { EndsWith (IsDone A (W.bytes world) (texts besides.now.folders.now) job.now)
+    ensures { EndsWith (IsDone A (W.bytes world) (StandsAt (W.blank world) (W.Puts world))
+        (texts besides.now.folders.now) job.now)
         (IsRefusedJob A (W.bytes world) (texts besides.now.folders.now) job.now)
         (Tells E.written E.failures errors.old errors.new) result }
 {

@@ -6,6 +6,7 @@ ghost use Rattle.omf_files.specs.Files.{sink_failures};
 ghost use Rattle.doslink_words.specs.Keywords.{is_keyword};
 ghost use Rattle.doslink_words.specs.Responses.{response_words};
 ghost use Rattle.doslink_words.specs.Tokens.{texts};
+ghost use Rattle.doslink_files.specs.Written.{StandsAt};
 ghost use Rattle.doslink_jobs.specs.Jobs.{EndsWith, IsDone, Tells};
 ghost use Rattle.doslink_jobs.specs.Runs as spec;
 ghost use Rattle.doslink_jobs.specs.Refusals.{IsRefusedJob};
@@ -106,7 +107,8 @@ fn run_parsed<W: World + Copy, O: Write + Drop, E: Sink>(
 ) -> u8
     requires output { sink_failures output.old ≡ 0 }
     requires errors { E.failures errors.old < 2 ^ 64 - 1 }
-    ensures { EndsWith (IsDone Global (W.bytes world) (texts folders.now) directives.now.job)
+    ensures { EndsWith (IsDone Global (W.bytes world) (StandsAt (W.blank world) (W.Puts world))
+        (texts folders.now) directives.now.job)
         (IsRefusedJob Global (W.bytes world) (texts folders.now) directives.now.job)
         (Tells E.written E.failures errors.old errors.new) result }
 {
@@ -133,7 +135,7 @@ fn run_spoken<W: World + Copy, O: Write + Drop, E: Sink>(
 ) -> u8
     requires output { sink_failures output.old ≡ 0 }
     requires errors { E.failures errors.old < 2 ^ 64 - 1 }
-    ensures { EndsBy Global (W.bytes world) (texts folders.now)
+    ensures { EndsBy Global (W.bytes world) (StandsAt (W.blank world) (W.Puts world)) (texts folders.now)
         (λ does helps. RunsText (W.bytes world) does helps (string_bytes spoken.now.text))
         (Tells E.written E.failures errors.old errors.new) result }
 {
@@ -173,7 +175,7 @@ fn run_given<W: World + Copy, O: Write + Drop, E: Sink>(
 ) -> u8
     requires output { sink_failures output.old ≡ 0 }
     requires errors { E.failures errors.old < 2 ^ 64 - 1 }
-    ensures { EndsBy Global (W.bytes world) (texts folders.now)
+    ensures { EndsBy Global (W.bytes world) (StandsAt (W.blank world) (W.Puts world)) (texts folders.now)
         (λ does helps. RunsGiven (W.bytes world) does helps (texts words.now))
         (Tells E.written E.failures errors.old errors.new) result }
 {
@@ -195,7 +197,7 @@ fn run_joined<W: World + Copy, O: Write + Drop, E: Sink>(
 ) -> u8
     requires output { sink_failures output.old ≡ 0 }
     requires errors { E.failures errors.old < 2 ^ 64 - 1 }
-    ensures { EndsBy Global (W.bytes world) (texts folders.now)
+    ensures { EndsBy Global (W.bytes world) (StandsAt (W.blank world) (W.Puts world)) (texts folders.now)
         (λ does helps. RunsGiven (W.bytes world) does helps (response_words (texts words.now)))
         (Tells E.written E.failures errors.old errors.new) result }
 {
@@ -220,7 +222,7 @@ fn run_directives<W: World + Copy, O: Write + Drop, E: Sink>(
 ) -> u8
     requires output { sink_failures output.old ≡ 0 }
     requires errors { E.failures errors.old < 2 ^ 64 - 1 }
-    ensures { EndsBy Global (W.bytes world) (texts folders.now)
+    ensures { EndsBy Global (W.bytes world) (StandsAt (W.blank world) (W.Puts world)) (texts folders.now)
         (λ does helps. Runs (W.bytes world) does helps Language.Directives (texts words.now))
         (Tells E.written E.failures errors.old errors.new) result }
 {
@@ -241,7 +243,7 @@ fn run_plain<W: World + Copy, O: Write + Drop, E: Sink>(
 ) -> u8
     requires output { sink_failures output.old ≡ 0 }
     requires errors { E.failures errors.old < 2 ^ 64 - 1 }
-    ensures { EndsBy Global (W.bytes world) (texts besides.now.folders.now)
+    ensures { EndsBy Global (W.bytes world) (StandsAt (W.blank world) (W.Puts world)) (texts besides.now.folders.now)
         (λ does helps. RunsWords (W.bytes world) does helps (texts words.now))
         (Tells E.written E.failures errors.old errors.new) result }
 {
@@ -300,7 +302,7 @@ fn run_list<W: World + Copy, O: Write + Drop, E: Sink>(
 ) -> u8
     requires output { sink_failures output.old ≡ 0 }
     requires errors { E.failures errors.old < 2 ^ 64 - 1 }
-    ensures { EndsBy Global (W.bytes world) (texts besides.now.folders.now)
+    ensures { EndsBy Global (W.bytes world) (StandsAt (W.blank world) (W.Puts world)) (texts besides.now.folders.now)
         (λ does helps. RunsList (W.bytes world) does helps text.now)
         (Tells E.written E.failures errors.old errors.new) result }
 {
@@ -322,7 +324,7 @@ fn run_response<W: World + Copy, O: Write + Drop, E: Sink>(
 ) -> u8
     requires output { sink_failures output.old ≡ 0 }
     requires errors { E.failures errors.old < 2 ^ 64 - 1 }
-    ensures { EndsBy Global (W.bytes world) (texts folders.now)
+    ensures { EndsBy Global (W.bytes world) (StandsAt (W.blank world) (W.Puts world)) (texts folders.now)
         (λ does helps. RunsResponse (W.bytes world) does helps path.now)
         (Tells E.written E.failures errors.old errors.new) result }
 {
@@ -361,7 +363,7 @@ fn run_command<W: World + Copy, O: Write + Drop, E: Sink>(
 ) -> u8
     requires output { sink_failures output.old ≡ 0 }
     requires errors { E.failures errors.old < 2 ^ 64 - 1 }
-    ensures { EndsBy Global (W.bytes world) (texts folders.now)
+    ensures { EndsBy Global (W.bytes world) (StandsAt (W.blank world) (W.Puts world)) (texts folders.now)
         (λ does helps. Runs (W.bytes world) does helps Language.Words (texts words.now))
         (Tells E.written E.failures errors.old errors.new) result }
 {
@@ -388,7 +390,7 @@ pub fn run_words<W: World + Copy, O: Write + Drop, E: Sink>(
 ) -> u8
     requires output { sink_failures output.old ≡ 0 }
     requires errors { E.failures errors.old < 2 ^ 64 - 1 }
-    ensures { EndsBy Global (W.bytes world) (texts folders.now)
+    ensures { EndsBy Global (W.bytes world) (StandsAt (W.blank world) (W.Puts world)) (texts folders.now)
         (λ does helps. Runs (W.bytes world) does helps language (texts words.now))
         (Tells E.written E.failures errors.old errors.new) result }
 {

@@ -1,15 +1,16 @@
 -- Sources that tell their bytes, and what is told of them holds of these bytes.
-use Rattle.std.proofs.Common.{ℕ, List, [], ◌∷◌, map, ap, refl, Result, Ok, Err, OnOk, Some}
-use Rattle.std.specs.declared.option.Option.{Option}
+use Rattle.std.proofs.Common.{◌≡◌, ℕ, List, [], ◌∷◌, ◌++◌, ◌∙◌, map, ap, refl, subst, sym, Ok, Err, Some}
 use Rattle.omf_record.specs.Records.{Placed}
+use Rattle.omf_module.specs.Tables.{module_of}
 use Rattle.omf_place.specs.declared.names.Names.{Names}
+use Rattle.mz.specs.File.{Mz}
 use Rattle.omf_faults.specs.declared.fault.LinkFault.{LinkFault}
 use Rattle.omf_faults.specs.declared.fault.LinkFault.TheVariants as link
 use Rattle.omf_commands.specs.declared.linking.Report.{Report}
 use Rattle.omf_commands.specs.Inputs.{AreInputs}
-use Rattle.omf_commands.specs.Linking.{Links, WritesProgram}
-use Rattle.omf_commands.specs.Outcome.{AreTold}
-use Rattle.doslink_link.specs.Linking.{AllBeginWith, WritesBy, WritesProgramOf}
+use Rattle.omf_commands.specs.Linking.{HoldsAtEachParagraph, Links, WritesProgram}
+use Rattle.omf_commands.specs.Outcome.{AreTold, Outcome}
+use Rattle.doslink_link.specs.Linking.{AllBeginWith, HoldsProgramOf, IsLinkedAs}
 
 module _ {S : Type 0} (rest : S → List ℕ) (failures : S → ℕ) where
   pub told_all : (sources : List S) → AreTold (λ s. Some (rest s)) sources (map rest sources)
@@ -26,25 +27,31 @@ module _ {S : Type 0} (rest : S → List ℕ) (failures : S → ℕ) where
   begin_with (records ∷ lists) (old ∷ olds) (new ∷ news) are =
       ((are.0.0, rest new, are.0.2, are.0.1), begin_with lists olds news are.1)
 
-  pub writes_program : (names : Names) (olds news : List S) (wold wnew : Option (List ℕ))
-      → WritesProgram (λ s. Some (rest s)) failures names olds news wold wnew
-      → WritesProgramOf names (map rest olds) wold wnew
-  writes_program names olds news wold wnew (lists, inputs, holds) = (lists, begin_with lists olds news inputs, holds)
+  -- a file that is all that was written holds the program of the inputs
+  pub holds_program : (names : Names) (olds news : List S) (old new : List ℕ) → old ≡ []
+      → WritesProgram (λ s. Some (rest s)) failures names olds news (Some old) (Some new)
+      → HoldsProgramOf names (map rest olds) new
+  holds_program names olds news old new none (lists, inputs, (file, appended, holds)) =
+      let is : new ≡ file = appended ∙ ap (λ l. l ++ file) none in (
+        lists,
+        begin_with lists olds news inputs,
+        subst (HoldsAtEachParagraph names (map module_of lists)) (sym is) holds,
+      )
 
-  -- what was written, by the answer
-  pub written_by : {A : Type 0} (names : Names) (olds news : List S) (wold wnew : Option (List ℕ))
-      (r : Result (Report A) (LinkFault A)) → Links (λ s. Some (rest s)) failures names olds news wold wnew r
-      → WritesBy names (map rest olds) wold wnew r
-  written_by names olds news wold wnew (Ok report) (lists, inputs, (is, (file, format, appended))) =
-      (file, (lists, begin_with lists olds news inputs, (report.layout, report.program, is.linked, format)), appended)
-  written_by names olds news wold wnew (Err link.Output) (lists, inputs, (file, made, front)) =
-      (file, (lists, begin_with lists olds news inputs, made), front)
-  written_by names olds news wold wnew (Err link.Memory) (stops, kept) = kept
-  written_by names olds news wold wnew (Err (link.Device input place)) (stops, kept) = kept
-  written_by names olds news wold wnew (Err (link.Record input place fault)) (stops, kept) = kept
-  written_by names olds news wold wnew (Err (link.Program fault)) (stops, kept) = kept
-  written_by names olds news wold wnew (Err (link.File fault)) (stops, kept) = kept
+  -- it is the file of what was linked
+  pub linked_as : {A : Type 0} (names : Names) (olds news : List S) (old new : List ℕ) (report : Report A) → old ≡ []
+      → Links (λ s. Some (rest s)) failures names olds news (Some old) (Some new) (Ok report)
+      → IsLinkedAs names (map rest olds) report new
+  linked_as names olds news old new report none (lists, inputs, (is, (file, format, appended))) =
+      let same : new ≡ file = appended ∙ ap (λ l. l ++ file) none in
+      (lists, begin_with lists olds news inputs, is, subst (Mz report.program) (sym same) format)
 
-pub OnOk-weaker : {T E : Type 0} (P Q : Type 0) → (P → Q) → (r : Result T E) → OnOk r P → OnOk r Q
-OnOk-weaker P Q weaker (Ok done) p = weaker p
-OnOk-weaker P Q weaker (Err fault) p = tt
+-- a fault is the outcome of whatever was to be linked
+pub same_fault : (R S : Type 0) {A : Type 0} (names : Names) (inputs : List (List ℕ)) (fault : LinkFault A)
+    → Outcome {R = R} names inputs (Err fault) → Outcome {R = S} names inputs (Err fault)
+same_fault R S names inputs link.Output outcome = outcome
+same_fault R S names inputs link.Memory outcome = outcome
+same_fault R S names inputs (link.Device input place) outcome = outcome
+same_fault R S names inputs (link.Record input place fault) outcome = outcome
+same_fault R S names inputs (link.Program fault) outcome = outcome
+same_fault R S names inputs (link.File fault) outcome = outcome

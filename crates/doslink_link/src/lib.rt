@@ -2,5 +2,7 @@
 #![tactic(auto)]
 
 mod linking;
+mod page;
 
-pub use linking::link_bytes;
+pub use linking::{Linked, link_bytes};
+pub use page::Page;

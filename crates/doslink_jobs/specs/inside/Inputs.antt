@@ -58,12 +58,12 @@ asking_said a = record {
   null_bytes = a.null_bytes;
 }
 
--- modules were linked with their communal variables, where all say so of names
-abbrev pub IsLinkedWith : (A : Type 0) → Job → (says : List Module) → (marks : Bool) → (modules : List Held)
-    → List Variable → Type 0
-IsLinkedWith A job says marks modules vs =
+-- modules were linked with their communal variables, where all say so of names, and written
+abbrev pub IsLinkedWith : (A : Type 0) → Job → (Written : (inputs : List (List ℕ)) → Type 0) → (says : List Module)
+    → (marks : Bool) → (modules : List Held) → List Variable → Type 0
+IsLinkedWith A job Written says marks modules vs =
     (linked : List (List ℕ)) × AreInputsOf job says marks modules vs linked
-    × IsFaultless A (names_of job.ignore_case) linked
+    × IsFaultless A (names_of job.ignore_case) linked × Written linked
 
 -- they can't be linked with these
 abbrev pub IsRefusedWith : (A : Type 0) → Job → (says : List Module) → (marks : Bool) → (modules : List Held)

@@ -7,7 +7,7 @@ pub returns : goal.returns
 returns g c =
     let linked = input_list c.in_ok-inputs.inputs in
     steps-weaker c.write_program.result
-    (λ done faultless. (linked, c.in_ok-inputs.ensures, faultless))
+    (λ done written. (linked, c.in_ok-inputs.ensures, written.0, written.1))
     (λ fault. inr (linked, c.in_ok-inputs.ensures, fault))
     c.write_program.ensures
 

@@ -1,7 +1,11 @@
-use Rattle.std.proofs.Common.{map, subst, sym}
+use Rattle.std.proofs.Common.{map, string_bytes, subst, sym}
+use Rattle.std.specs.Option.{option_map}
+use Rattle.doslink_files.specs.Written.{StandsAt}
 use Rattle.doslink_stock.specs.Search.{Takes}
 use Rattle.doslink_stock.specs.Seen.{handed_held, handed_taken}
 use Rattle.doslink_jobs.specs.Jobs.{names_of}
+use Rattle.doslink_jobs.specs.Places.{map_path, out_path}
+use Rattle.doslink_jobs.specs.Written.{IsWritten}
 use Rattle.doslink_jobs.proofs.Doing.{link-of, link-refused}
 use Rattle.doslink_jobs.proofs.Refused.{refused-exit, steps-weaker}
 use Rattle.doslink_jobs.proofs.Rounds.{handed-all}
@@ -23,6 +27,14 @@ returns g c =
       c.in_ok-handed.ensures names rounds searched,
       handed-all c.in_ok-handed.handed.items,
     ) in
+    let A = g.row.A.Denot in
+    let Writes = StandsAt (g.W.World.blank c.args.world) (g.W.World.Puts c.args.world) in
+    let places = c.in_ok-places.places in
+    let (out, mapped) = c.in_ok-places.ensures in
     steps-weaker c.link_handed.result
-    (λ done. link-of g.row.A.Denot job (map handed_held handed) (Takes names rounds) takes)
+    (λ done. link-of A job
+    (IsWritten A Writes (string_bytes places.out) (option_map string_bytes places.map) names)
+    (IsWritten A Writes (out_path job) (map_path job) names) (map handed_held handed) (Takes names rounds) takes
+    (λ inputs written. subst (λ o. IsWritten A Writes o (map_path job) names inputs) out
+    (subst (λ m. IsWritten A Writes (string_bytes places.out) m names inputs) mapped written)))
     (link-refused g.row.A.Denot job (map handed_held handed) (Takes names rounds) takes) c.link_handed.ensures

@@ -49,7 +49,7 @@ returns g c =
     let met = subst (λ s. unmet those s ≡ []) same c.in_ok-marks.ensures.0 in
     let wants = c.in_ok-marks.ensures.1 ∙ ap (wants_marks those) same in
     steps-weaker c.link_checked.result
-    (λ done. linked-with _ c.args.job.now named c.in_ok-marks.marks modules (map variable_said variables) says
+    (λ done. linked-with _ c.args.job.now _ named c.in_ok-marks.marks modules (map variable_said variables) says
     c.options_of.ensures all are (met, wants))
     (refused-with _ c.args.job.now named c.in_ok-marks.marks modules (map variable_said variables) says
     c.options_of.ensures all are wants) c.link_checked.ensures

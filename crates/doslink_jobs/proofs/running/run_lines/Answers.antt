@@ -1,4 +1,5 @@
 use Rattle.doslink_words.specs.Tokens.{texts}
+use Rattle.doslink_files.specs.Written.{StandsAt}
 use Rattle.doslink_jobs.specs.Jobs.{IsDone}
 use Rattle.doslink_jobs.specs.Refusals.{IsRefusedJob}
 use Rattle.doslink_jobs.proofs.Doing.{ends}
@@ -7,6 +8,8 @@ use Rattle.doslink_jobs.proofs.running.run_lines.Goals as goal
 pub returns : goal.returns
 returns g c =
     let told = g.W.World.bytes c.args.world in
+    let Writes = StandsAt (g.W.World.blank c.args.world) (g.W.World.Puts c.args.world) in
     let folders = texts c.args.besides.now.folders.now in
-    ends (IsDone g.row.A.Denot told folders c.args.job.now) (IsRefusedJob g.row.A.Denot told folders c.args.job.now) _
+    ends (IsDone g.row.A.Denot told Writes folders c.args.job.now)
+    (IsRefusedJob g.row.A.Denot told folders c.args.job.now) _
     c.do_job-done.result c.finish.result _ c.finish.ensures.status c.do_job-done.ensures c.finish.ensures.told

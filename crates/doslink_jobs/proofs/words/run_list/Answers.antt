@@ -1,6 +1,7 @@
 use Rattle.std.proofs.Common.{subst}
 use Rattle.std.specs.declared.alloc.Global.{Global}
 use Rattle.doslink_words.specs.Tokens.{texts}
+use Rattle.doslink_files.specs.Written.{StandsAt}
 use Rattle.doslink_jobs.specs.Runs.{RunsList, RunsWords}
 use Rattle.doslink_jobs.proofs.Doing.{EndsBy-weaker}
 use Rattle.doslink_jobs.proofs.words.run_list.Goals as goal
@@ -8,7 +9,8 @@ use Rattle.doslink_jobs.proofs.words.run_list.Goals as goal
 pub returns-in-Ok : goal.returns-in-Ok
 returns-in-Ok g c =
     let told = g.W.World.bytes c.args.world in
-    EndsBy-weaker Global told (texts c.args.besides.now.folders.now)
+    let Writes = StandsAt (g.W.World.blank c.args.world) (g.W.World.Puts c.args.world) in
+    EndsBy-weaker Global told Writes (texts c.args.besides.now.folders.now)
     (λ does helps. RunsWords told does helps (texts c.deref.result.now))
     (λ does helps. RunsList told does helps c.args.text.now) _
     c.run_plain.result

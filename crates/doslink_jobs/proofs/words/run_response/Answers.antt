@@ -1,6 +1,7 @@
 use Rattle.std.proofs.Common.{string_bytes, subst}
 use Rattle.std.specs.declared.alloc.Global.{Global}
 use Rattle.doslink_words.specs.Tokens.{texts}
+use Rattle.doslink_files.specs.Written.{StandsAt}
 use Rattle.doslink_jobs.specs.Runs.{RunsList, RunsResponse}
 use Rattle.doslink_jobs.proofs.Doing.{EndsBy-stopped, EndsBy-weaker}
 use Rattle.doslink_jobs.proofs.words.run_response.Goals as goal
@@ -8,7 +9,8 @@ use Rattle.doslink_jobs.proofs.words.run_response.Goals as goal
 pub returns-in-Ok : goal.returns-in-Ok
 returns-in-Ok g c =
     let told = g.W.World.bytes c.args.world in
-    EndsBy-weaker Global told (texts c.args.folders.now)
+    let Writes = StandsAt (g.W.World.blank c.args.world) (g.W.World.Puts c.args.world) in
+    EndsBy-weaker Global told Writes (texts c.args.folders.now)
     (λ does helps. RunsList told does helps c.as_str.result.now)
     (λ does helps. RunsResponse told does helps c.args.path.now) _
     c.run_list.result
@@ -22,6 +24,7 @@ returns-in-Ok g c =
 pub returns : goal.returns
 returns g c =
     let told = g.W.World.bytes c.args.world in
-    EndsBy-stopped Global told (texts c.args.folders.now) (λ does helps. RunsResponse told does helps c.args.path.now) _
-    c.in-Err.stop
+    let Writes = StandsAt (g.W.World.blank c.args.world) (g.W.World.Puts c.args.world) in
+    EndsBy-stopped Global told Writes (texts c.args.folders.now)
+    (λ does helps. RunsResponse told does helps c.args.path.now) _ c.in-Err.stop
     c.finish.result _ c.finish.ensures.status c.in-Err.ensures c.finish.ensures.told

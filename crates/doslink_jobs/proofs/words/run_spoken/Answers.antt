@@ -2,6 +2,7 @@ use Rattle.std.proofs.Common.{Ok, string_bytes, subst}
 use Rattle.std.specs.declared.alloc.Global.{Global}
 use Rattle.doslink_words.specs.Directives.{Means, meaning}
 use Rattle.doslink_words.specs.Tokens.{texts}
+use Rattle.doslink_files.specs.Written.{StandsAt}
 use Rattle.doslink_jobs.specs.Runs.{RunsText}
 use Rattle.doslink_jobs.proofs.Doing.{EndsBy-done, EndsBy-none}
 use Rattle.doslink_jobs.proofs.words.run_spoken.Goals as goal
@@ -9,8 +10,9 @@ use Rattle.doslink_jobs.proofs.words.run_spoken.Goals as goal
 pub returns-in-Ok : goal.returns-in-Ok
 returns-in-Ok g c =
     let told = g.W.World.bytes c.args.world in
+    let Writes = StandsAt (g.W.World.blank c.args.world) (g.W.World.Puts c.args.world) in
     let directives = c.in-Ok.directives in
-    EndsBy-done Global told (texts c.args.folders.now)
+    EndsBy-done Global told Writes (texts c.args.folders.now)
     (λ does helps. RunsText told does helps (string_bytes c.args.spoken.now.text)) directives.job _
     c.run_parsed.result
     (λ does helps done. (
@@ -23,6 +25,7 @@ returns-in-Ok g c =
 pub returns-in-Err : goal.returns-in-Err
 returns-in-Err g c =
     let told = g.W.World.bytes c.args.world in
-    EndsBy-none Global told (texts c.args.folders.now)
+    let Writes = StandsAt (g.W.World.blank c.args.world) (g.W.World.Puts c.args.world) in
+    EndsBy-none Global told Writes (texts c.args.folders.now)
     (λ does helps. RunsText told does helps (string_bytes c.args.spoken.now.text)) ⊥ _
     c.refuse_directives.result (λ none. absurd none) c.refuse_directives.ensures

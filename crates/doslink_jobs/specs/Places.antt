@@ -1,0 +1,56 @@
+-- Where the program and its map are written.
+use Rattle.std.specs.Prelude.{ℕ, List, [], ◌∷◌, ◌++◌, bytes_eq, codes, None, Some, if◌then◌else◌}
+use Rattle.std.specs.declared.option.Option.{Option}
+use Rattle.std.specs.Option.{option_map_or, option_or}
+use Rattle.std.specs.Path.{rsplit_once}
+use Rattle.clap.specs.Words.{Text}
+use Rattle.doslink_words.specs.declared.job.Input.{Input}
+use Rattle.doslink_words.specs.declared.job.Input.TheVariants as input
+use Rattle.doslink_words.specs.declared.job.Job.{Job}
+use Rattle.doslink_words.specs.declared.job.MapFile.{MapFile}
+use Rattle.doslink_words.specs.declared.job.MapFile.TheVariants.{At, Beside}
+use Rattle.doslink_files.specs.Paths.{has_extension}
+
+-- a path without the last dot in its last part, and what stands behind that
+abbrev pub without_extension : Text → Text
+without_extension path =
+    if has_extension path then option_map_or (λ parts. parts.0) (rsplit_once 46 path) path else path
+
+-- a path with an extension in place of its own
+abbrev pub with_extension : (path extension : Text) → Text
+with_extension path extension = without_extension path ++ extension
+
+-- the path of the first file among what is linked
+abbrev pub first_file : List Input → Option Text
+first_file [] = None
+first_file (input.File path ∷ inputs) = Some path.now
+first_file (input.Library name ∷ inputs) = first_file inputs
+
+-- the name of the first library
+abbrev pub first_library : List Input → Option Text
+first_library [] = None
+first_library (input.File path ∷ inputs) = first_library inputs
+first_library (input.Library name ∷ inputs) = Some name.now
+
+-- the path of a program that is called after this file: none, and standard input, have no name
+abbrev pub path_after : Option Text → Text
+path_after None = codes "OUT.EXE"
+path_after (Some name) =
+    if bytes_eq name (codes "-") then codes "OUT.EXE" else with_extension name (codes ".EXE")
+
+-- the path of the program: the one that is given, or that of the first file, or else of the first library, with `.EXE`
+-- in place of its extension
+abbrev pub out_path : Job → Text
+out_path job =
+    option_map_or (λ out. out.now) job.out
+    (path_after (option_or (first_file job.inputs.items) (first_library job.inputs.items)))
+
+-- the path of the map, beside a program at this path
+abbrev pub map_beside : (out : Text) → Option MapFile → Option Text
+map_beside out None = None
+map_beside out (Some (At path)) = Some path.now
+map_beside out (Some Beside) = Some (with_extension out (codes ".MAP"))
+
+-- the path of the map, where one is asked for
+abbrev pub map_path : Job → Option Text
+map_path job = map_beside (out_path job) job.map
