@@ -8,6 +8,8 @@ mod declaring;
 #[cfg(test)]
 mod doubled;
 #[cfg(test)]
+mod lengths;
+#[cfg(test)]
 mod modules;
 #[cfg(test)]
 mod records;
@@ -17,3 +19,9 @@ mod runs;
 mod searching;
 #[cfg(test)]
 mod sums;
+#[cfg(test)]
+mod tables;
+#[cfg(test)]
+mod world;
+#[cfg(test)]
+mod written;
