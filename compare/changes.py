@@ -158,7 +158,7 @@ PLACEMENT = [
            "        found = found or self.definitions.get((None, external.name))\n"
            "        return None if found is None else found.meaning\n"),
     Change("fault 22 is counted from the start", "placement.py",
-           "if each.end - 16 * each.frame > FRAME_REACH", "if each.end - each.start > FRAME_REACH"),
+           "each.end - 16 * each.frame, FRAME_REACH", "each.end - each.start, FRAME_REACH"),
     Change("a frame reaches a byte farther", "placement.py",
            "FRAME_REACH = 65536", "FRAME_REACH = 65537"),
     Change("fault 23 stands a paragraph later", "placement.py", "1_048_560", "1_048_576"),

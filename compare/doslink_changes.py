@@ -758,6 +758,12 @@ LOCAL = [
 
 
 LINKING = [
+    Change("of what is too long its length is told", "placement.py",
+           "fault.excess = length - most", "fault.excess = length"),
+    Change("what is too long is a byte longer", "placement.py",
+           "fault.excess = length - most", "fault.excess = length - most + 1"),
+    Change("of what is too long no number is told", "linking.py",
+           "if fault.excess is not None:", "if False:"),
     Change("libraries of -l come behind FILES", "linking.py",
            "for each in self.job.inputs:",
            "for each in sorted(self.job.inputs, key=lambda each: each.is_library):"),

@@ -432,6 +432,14 @@ def start_module(kind, displacement):
         (0xA0, "01 0000 90909090"), (kind, "C1 50 01" + displacement)])
 
 
+def long_module(*segments):
+    """A module of these segments, all of them in one group."""
+    members = "".join(f"FF{number:02X}" for number in range(1, len(segments) + 1))
+    return framed([
+        (0x80, "014C"), (0x96, "00 04434F4445"), *[(0x98, each) for each in segments],
+        (0x9A, "02" + members), (0x8A, "00")])
+
+
 CALLING = code_module(b"M", records.ExternalNames([b"x"], [0]), *NEAR_CALL)
 CALLED = code_module(b"X", records.PublicNames(0, 1, None, [PublicName(b"x", 2, 0)]))
 NAMING = code_module(b"N", records.Comment(0, 0x9F, b"X"))
@@ -453,6 +461,9 @@ FILES = {
     "below.obj": negative_module("01 0200 0000FCFFFFFF", "E402 50 01 0300"),
     "carried.obj": negative_module("01 0000 0000FCFFFFFF0100", "C405 50 01 0100 E402 50 01 3412"),
     "start.obj": start_module(0x8B, "FCFF0000"), "start16.obj": start_module(0x8A, "FCFF"),
+    "half.obj": long_module("28 0080 020101"), "over.obj": long_module("28 0180 020101"),
+    "group.obj": long_module("28 50C3 020101", "28 50C3 010101"),
+    "large.obj": long_module(*15 * ["22 0000 020101"], "20 D5FF 020101"),
     "f/L": LIBRARY, "f/L.LIB": MAGIC, "f/Y": CALLED, "g/L.LIB": LIBRARY, "bad": b"\xFF"}
 # 17 bytes of each module; the call's end is at 3 and x at 19
 EIGHT = header("2800 0100 0000 0200 0100" + MOST + NO_REGISTERS) + NO_TABLE
@@ -495,6 +506,14 @@ LINKS = [
      "two.obj\nm.obj\nf/Y\n"),
     ("a name twice", {"inputs": given(["x.obj", "x.obj"])}, [],
      'doslink: link: 25 DuplicatePublic "x" in x.obj and x.obj\n', "x.obj\nx.obj\n"),
+    ("a segment of 65,536 bytes", {"inputs": given(["half.obj", "half.obj"])}, [], "",
+     "half.obj\nhalf.obj\n"),
+    ("and of one more", {"inputs": given(["half.obj", "over.obj"])}, [],
+     'doslink: link: 22 SegmentTooLong "CODE": 1 byte over\n', "half.obj\nover.obj\n"),
+    ("a group of 100,000 bytes", {"inputs": given(["group.obj"])}, [],
+     'doslink: link: 24 GroupTooLong "CODE": 34,464 bytes over\n', "group.obj\n"),
+    ("a program of 1,148,533 bytes", {"inputs": given(["large.obj", "group.obj"])}, [],
+     "doslink: link: 23 ProgramTooLarge: 99,973 bytes over\n", "large.obj\ngroup.obj\n"),
     ("a segment that is none as it is lowered", {"inputs": given(["amiss.obj"])}, [],
      "doslink: warning: 32-bit segments of amiss.obj are linked as 16-bit ones\n"
      "doslink: amiss.obj: 51 Body at record 16\n", "amiss.obj\n"),

@@ -10,7 +10,7 @@ from generator.libraries import SMALL_PAGES, archive, damaged, library
 from generator.objects import (
     CLASSES, LAZY, MARKS, NAMES, SEGMENTS, TITLES, WEAK, ObjectMaker, any_plan, module_of_alias,
     module_of_code, module_of_cut_public, module_of_default, module_of_external,
-    module_of_far_data, module_of_flat, module_of_links, module_of_long_aliases,
+    module_of_far_data, module_of_flat, module_of_lengths, module_of_links, module_of_long_aliases,
     module_of_long_externals, module_of_many_parts, module_of_marks, module_of_no_alignment,
     module_of_publics, module_of_shared_word, module_of_stack, module_of_start, module_of_sum,
     module_of_wide_record, module_of_wide_segment, segments_called)
@@ -61,6 +61,13 @@ SHARED_EVERY, SHARED = 50, [
     (0, 5), (2, 3), (3, 4), (2, 2)]
 # one a start by this type of MODEND with such a sum, alone or beside another one
 START_EVERY, STARTS = 50, [(0x8B, 1), (0x8A, 1), (0x8B, 2), (0x8B, 1)]
+# one has segments that combine or not, of these lengths and in a group or not: they, the group or
+# the program are as long as they may be, or too long by some bytes
+LENGTHS_EVERY, LENGTHS = 50, [
+    (2, [0x8000, 0x8000], False), (2, [0xFFFF, 2], False), (2, 3 * [0xC350], False),
+    (5, [0x10000, 0, 1], False), (6, [15, 0x10000], False), (0, [0xFFFF, 1], True),
+    (0, [0x10000, 1], True), (0, [5, 0xC350, 0x8000], True), (0, 15 * [0x10000] + [0xFFF0], False),
+    (0, 15 * [0x10000] + [0xFFF1], True), (0, 33 * [0x10000], False)]
 # one job in so many has stacks of these lengths, and asks for one of about their sum
 STACKS_EVERY, STACKS = 20, [
     [], [1], [33], [3, 5], [16, 0, 17], [0x8000, 0x7FFF, 1], [7, 9, 11], [0x10000]]
@@ -376,6 +383,18 @@ class JobMaker:
         self.folders, self.job.map = [], MAP
         is_cut = lengths == [0x10000] or self.happens(0.4)
         return self.by_directives() if is_cut else self.asked()
+
+    def make_lengths(self, combination, lengths, is_grouped):
+        """Two modules of segments of these lengths, behind one of another length or not."""
+        part = self.random.randrange(len(lengths) + 1)
+        names = [[b"S"] * len(lengths), [b"%d" % number for number in range(len(lengths))]]
+        names = self.random.choice(names[:1] if combination else names)
+        modules = [
+            module_of_lengths(names[:part], combination, lengths[:part], is_grouped),
+            module_of_lengths(names[part:], combination, lengths[part:], is_grouped)]
+        if self.happens(0.3):
+            modules.append(module_of_lengths([b"T"], 2, [self.random.randrange(1, 20)], False))
+        return self.asked_of(modules)
 
     def make_flat(self, use):
         """A module with a group FLAT, and something that has its frame, or nothing."""
@@ -900,6 +919,7 @@ MADE = [
     (START_EVERY, 41, in_turn(JobMaker.make_start, [
         (*start, total) for start in STARTS for total in SUMS])),
     (STACKS_EVERY, 5, in_turn(JobMaker.make_stacks, STACKS)),
+    (LENGTHS_EVERY, 9, in_turn(JobMaker.make_lengths, LENGTHS)),
     (AMISS_EVERY, 11, in_turn(JobMaker.make_amiss)),
 ]
 

@@ -507,6 +507,18 @@ def module_of_far_data(alignment, length, combination=0, name=b"FAR"):
     return b"".join(map(records.Spelling().record, made))
 
 
+def module_of_lengths(names, combination, lengths, is_grouped):
+    """A module of segments of these names and lengths, which are in one group or not."""
+    made = [
+        records.Header(b"LENGTHS"), records.NameList([b"", b"CODE", b"GROUP", *names]),
+        *[records.SegmentDefinition(1, combination, length, number, 2, 1)
+          for number, length in enumerate(lengths, 4)]]
+    if is_grouped:
+        made.append(records.GroupDefinition(3, list(range(1, len(lengths) + 1))))
+    made.append(records.ModuleEnd(False, None))
+    return b"".join(map(records.Spelling().record, made))
+
+
 def module_of_stack(name, class_name, length, random):
     """A module with a stack of this name, class and length, or with code and no stack."""
     code = [

@@ -60,6 +60,8 @@ class Fault(Exception):
         self.kind = None
         # the words for modules that define or declare a name
         self.words = []
+        # by how many bytes what is at fault is too long
+        self.excess = None
         # what else is said of it
         self.why = None
 

@@ -385,7 +385,8 @@ class Linking:
         """A fault with the word for its module, and its record's place in the module's file.
 
         A record that isn't one of its type as it is lowered has the fault of one that can't be
-        lowered. Where two publics have one name all such names are told.
+        lowered. Where two publics have one name all such names are told. Of what is too long it
+        says by how many bytes.
         """
         if fault.owner is not None:
             owner, linked = self.handed[fault.owner], self.contents[fault.owner]
@@ -399,6 +400,8 @@ class Linking:
                 fault.why = foreign.kind_of(owner.content)
             fault.place = place
             fault.owner = owner.word
+        if fault.excess is not None:
+            fault.why = f"{grouped(fault.excess)} {'byte' if fault.excess == 1 else 'bytes'} over"
         if fault.number == DUPLICATE:
             raise Stop(INPUT, DUPLICATE, told_at_most(
                 list(self.duplicates()), self.job.is_verbose))
@@ -486,6 +489,13 @@ def title_of(content):
 def always(path):
     """Each file can be made."""
     return True
+
+
+def grouped(number):
+    """A number with a comma before its last three digits and before the three in front of these, and no more."""
+    if number < 1_000_000_000:
+        return f"{number:,}"
+    return f"{number // 1_000_000},{number // 1_000 % 1_000:03},{number % 1_000:03}"
 
 
 # how many lines of a kind are told, unless all are asked for

@@ -230,17 +230,23 @@ def meaning_of_public(modules, layout, owner, public):
     return Meaning(address, layout.group_frame(modules[owner].groups[public.group - 1].name))
 
 
+def check_length(number, length, most, name=None):
+    """A fault is of what has more bytes than it may have, and by how many."""
+    if length > most:
+        fault = Fault(number, name=name)
+        fault.excess = length - most
+        raise fault
+
+
 def check_lengths(layout):
     """Faults 22 to 24: a combined segment, the program, or a group is too long."""
     for each in layout.combined:
-        if each.end - 16 * each.frame > FRAME_REACH:
-            raise Fault(22, name=each.name)
-    if layout.size > LARGEST_PROGRAM:
-        raise Fault(23)
+        check_length(22, each.end - 16 * each.frame, FRAME_REACH, each.name)
+    check_length(23, layout.size, LARGEST_PROGRAM)
     for name, members in layout.groups.items():
         end = max([each.end for each in members], default=0)
-        if members and end - 16 * layout.group_frame(name).value > FRAME_REACH:
-            raise Fault(24, name=name)
+        if members:
+            check_length(24, end - 16 * layout.group_frame(name).value, FRAME_REACH, name)
 
 
 def define_publics(modules, layout):
