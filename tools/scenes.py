@@ -131,6 +131,8 @@ DEFINES_X = module(b"x.c", publics(b"x"))
 UNRESOLVED = placed(b"main.c", {100: externals(b"_prinft"), 136: uses(1)})  # whose fix-ups stand at 145
 LARGE = record(THEADR, name(b"x.c")) + names(b"", b"CODE") + segment(0x28, 60_000, 2, 2) + data(bytes(60_000)) + record(
     MODEND, b"\0")
+HALF_OF_TEXT = record(THEADR, name(b"x.c")) + names(b"", b"CODE", b"_TEXT") + segment(0x28, 33_385, 3, 2) + record(
+    MODEND, b"\0")
 WRONG_SUM = HELLO[:10] + bytes([HELLO[10] ^ 1]) + HELLO[11:]
 # communal variables that clash, and one that is too long
 WANTS_BUFFER = module(b"main.c", near(b"_buffer", 2), externals(b"_flush"))
@@ -216,6 +218,7 @@ SHOWN = {
         "doslink: CLIB.LIB(printf): 5 Type at record 312 (C2 COMDAT)": Lines((
             Said("doslink HELLO.OBJ CLIB.LIB", 1, {"HELLO.OBJ": HELLO, "CLIB.LIB": library(16, COMDAT_MEMBER)}),
             Said("doslink HELLO.OBJ CLIB.LIB", 1, {"HELLO.OBJ": HELLO, "CLIB.LIB": CUT_LIBRARY}),
+            Said("doslink A.OBJ B.OBJ", 1, {"A.OBJ": HALF_OF_TEXT, "B.OBJ": HALF_OF_TEXT}),
             Said("doslink HELLO.OBJ CLIB.LIB", 1, {"HELLO.OBJ": HELLO, "CLIB.LIB": MAIN_TWICE}))),
         'doslink: link: 55 NearAndFar "_buffer" in MAIN.OBJ and CLIB.LIB(buffer)': Lines((
             Said("doslink MAIN.OBJ CLIB.LIB", 1, {"MAIN.OBJ": WANTS_BUFFER, "CLIB.LIB": FAR_BUFFER}),
