@@ -401,7 +401,7 @@ class Linking:
             fault.place = place
             fault.owner = owner.word
         if fault.excess is not None:
-            fault.why = f"{grouped(fault.excess)} {'byte' if fault.excess == 1 else 'bytes'} over"
+            fault.why = f"{fault.excess:,} {'byte' if fault.excess == 1 else 'bytes'} over"
         if fault.number == DUPLICATE:
             raise Stop(INPUT, DUPLICATE, told_at_most(
                 list(self.duplicates()), self.job.is_verbose))
@@ -489,13 +489,6 @@ def title_of(content):
 def always(path):
     """Each file can be made."""
     return True
-
-
-def grouped(number):
-    """A number with a comma before its last three digits and before the three in front of these, and no more."""
-    if number < 1_000_000_000:
-        return f"{number:,}"
-    return f"{number // 1_000_000},{number // 1_000 % 1_000:03},{number % 1_000:03}"
 
 
 # how many lines of a kind are told, unless all are asked for
