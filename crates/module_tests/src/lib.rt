@@ -2,4 +2,10 @@
 #![tactic(auto)]
 
 #[cfg(test)]
+mod defaulted;
+#[cfg(test)]
+mod grouped;
+#[cfg(test)]
 mod modules;
+#[cfg(test)]
+mod told;

@@ -13,7 +13,12 @@ pub mod Answering
 pub mod Once
 pub mod Together
 pub mod Fitting
+pub mod InPlace
+pub mod DefaultedSound
 pub mod Promises
 pub mod Promised
 pub mod Only
 pub mod InOrder
+pub mod Joining
+pub mod GroupedSound
+pub mod GroupedIs

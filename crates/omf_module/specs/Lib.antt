@@ -6,5 +6,7 @@ pub mod Faults
 pub mod Seen
 pub mod Bytes
 pub mod Sound
+pub mod Grouped
 pub mod Reading
+pub mod Defaulted
 pub mod inside

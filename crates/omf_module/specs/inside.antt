@@ -9,3 +9,4 @@ pub mod Contents
 pub mod Building
 pub mod Reading
 pub mod ModuleFaults
+pub mod Grouping

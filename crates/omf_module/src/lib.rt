@@ -4,15 +4,19 @@
 mod builder;
 mod checks;
 mod contents;
+mod defaulting;
 mod entries;
 mod fault;
+mod grouping;
 mod laws;
 mod lookups;
 mod pieces;
 mod reading;
 mod store;
 
+pub use defaulting::{are_externals, redirect_externals};
 pub use fault::{CheckFault, FaultKind, ModuleFault};
+pub use grouping::group_class;
 pub use laws::{no_fault, one_fault, one_module};
 pub use lookups::{
     DataRecord, DataRecords, ExternalSymbol, Externals, Group, Groups, Module, PublicSymbol,

@@ -113,6 +113,21 @@ impl<A: Allocator + Copy> Module<A> {
         Module { store, start }
     }
 
+    pub(crate) fn into_parts(self) -> (Store<A>, Option<Start>)
+        ensures parts { self ≡ record {
+          segments = result.0.segments;
+          groups = result.0.groups;
+          externals = result.0.externals;
+          publics = result.0.publics;
+          data_records = result.0.data_records;
+          start = result.1;
+        } }
+        ensures sound { IsSound self }
+    {
+        let Module { store, start } = self;
+        (store, start)
+    }
+
     /// Every index means something, names are short, data lies in its segment, and fix-ups in their data.
     pub fn promises(&self)
         ensures { IsSound self.now }

@@ -23,18 +23,22 @@ ghost use Rattle.omf_record.specs.Expansion.{capped, expansion, blocks_len};
 ghost use Rattle.omf_record.specs.inside.Fields.{stored_from};
 ghost use Rattle.omf_record.specs.Numbers.{segment_len};
 ghost use Rattle.omf_module.specs.Before.{first, entry};
+ghost use Rattle.omf_module.specs.Defaulted as defaulted;
 ghost use Rattle.omf_module.specs.inside.Entries as defined;
 ghost use Rattle.omf_module.specs.Faults as faults;
+ghost use Rattle.omf_module.specs.Grouped as grouped;
 ghost use Rattle.omf_module.specs.Seen.{segment_seen, group_seen, external_seen, public_seen, data_seen};
 ghost use Rattle.omf_module.specs.inside.Running.{add_to_last};
 
 use crate::ResolvedFixup;
 use crate::checks::{entry, is_absolute, when};
+use crate::defaulting::redirect_data;
 use crate::entries::{
     DataEntry, ExternalEntry, GroupEntry, PublicEntry, SegmentEntry, fix_last, group_entry,
     last_places, segment_entry,
 };
 use crate::fault::CheckFault;
+use crate::grouping::{group_data, group_publics};
 use crate::lookups::{DataRecord, ExternalSymbol, Group, PublicSymbol, Segment};
 use crate::pieces::{Piece, keep, keep_expansion, keep_once, lend, rising_piece};
 use omf_record::{Block, PublicBase, SegmentDefinition, SegmentLength};
@@ -254,6 +258,28 @@ impl<A: Allocator + Copy> Store<A> {
         Ok(())
     }
 
+    /// One more part of a group, by its name and its members, counted from 0.
+    pub fn push_members(&mut self, name: &[u8], members: Vec<u16, A>) -> Result<(), AllocError>
+        ensures { OnOk result (self.new ≡ record self.old {
+          groups = self.old.groups ++ record { name = name.now; members = members.items } ∷ [];
+        }) }
+    {
+        let name = keep(&mut self.bytes, name)?;
+        self.groups.push(GroupEntry { name, members })?;
+        Ok(())
+    }
+
+    /// Counts from a group, by its index, what counted from segments that are its members.
+    pub fn count_from_group(&mut self, joined: &[bool], group: u16)
+        ensures { self.new ≡ record self.old {
+          publics = map (grouped.public_in joined.now group) self.old.publics;
+          data_records = map (grouped.data_in joined.now group) self.old.data_records;
+        } }
+    {
+        group_publics(&mut self.publics, joined, group);
+        group_data(&mut self.data_records, joined, group);
+    }
+
     /// One more external name.
     pub fn push_external(&mut self, name: &[u8], local: bool) -> Result<(), AllocError>
         ensures { OnOk result
@@ -360,6 +386,15 @@ impl<A: Allocator + Copy> Store<A> {
             fixups: Vec::new(alloc),
         })?;
         Ok(())
+    }
+
+    /// Makes each reference to an external on data one to that which it means.
+    pub fn redirect_externals(&mut self, meanings: &[u16])
+        ensures { self.new ≡ record self.old {
+          data_records = map (defaulted.data_in meanings.now) self.old.data_records;
+        } }
+    {
+        redirect_data(&mut self.data_records, meanings);
     }
 
     /// One more fix-up on the last data record, where there is one.

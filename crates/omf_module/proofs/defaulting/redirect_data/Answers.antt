@@ -1,0 +1,45 @@
+use Rattle.std.proofs.Common.{◌<◌, length, get_or, ap, arith}
+use Rattle.std.specs.Vec.{with_items}
+use Rattle.std.proofs.lemmas.List.{get_or_default}
+use Rattle.std.proofs.lemmas.List.Elements.{All-from_recursion}
+use Rattle.omf_module.specs.declared.entries.DataEntry.{DataEntry}
+use Rattle.omf_module.specs.Defaulted.{fixup_in, data_in}
+use Rattle.omf_module.specs.inside.Store.{data_record, DataIsIn}
+use Rattle.omf_module.proofs.InPlace.{changed_written, seen_more, all_set}
+use Rattle.omf_module.proofs.defaulting.redirect_data.Goals as goal
+
+pub loop-index-preserved : goal.loop-index-preserved
+loop-index-preserved g c =
+    let old = c.args.data_records.now in
+    let now = c.loop-index.data_records in
+    let i = c.loop-index.index in
+    let read = c.index-data_records-index.result in
+    let x = get_or now i read in
+    let new = c.redirect_fixups.new.fixups in
+    let within : i < length old = omega arith in
+    let within_now : i < length now = omega arith in
+    let items =
+    changed_written x.fixups c.deref_mut.result.now new c.deref_mut.ensures.value
+    (omega (arith, c.redirect_fixups.auto.fixups, c.deref_mut.ensures.len)) (fixup_in c.args.meanings.now)
+    c.redirect_fixups.ensures in
+    let written : DataEntry g.row.A.Denot =
+    record {
+      place = x.place;
+      segment = x.segment;
+      offset = x.offset;
+      bytes = x.bytes;
+      places_from = x.places_from;
+      fixups = with_items x.fixups new;
+    } in
+    record {
+      says =
+          λ bytes places.
+          seen_more (data_record bytes places) (data_in c.args.meanings.now) old now i x written within
+          within_now (get_or_default now i read x within_now) (c.loop-index.invariant.says bytes places)
+          (ap (λ fs. record (data_record bytes places x) { fixups = fs }) items);
+      inside =
+          λ bytes places h.
+          let all = c.loop-index.invariant.inside bytes places h in
+          all_set (DataIsIn bytes places) now i written all
+          (All-from_recursion (DataIsIn bytes places) now all i read within_now);
+    }

@@ -1,0 +1,8 @@
+use Rattle.std.proofs.Common.{◌≡◌, ◌++◌, map, take, drop}
+use Rattle.omf_module.specs.Defaulted.{fixup_in}
+use Rattle.omf_module.proofs.defaulting.redirect_fixups.Given as goal
+
+-- those before the index are changed
+abbrev pub invariant-loop-index : goal.invariant-loop-index
+invariant-loop-index l =
+    l.fixups ≡ map (fixup_in l.meanings) (take l.index l.fn.fixups) ++ drop l.index l.fn.fixups
