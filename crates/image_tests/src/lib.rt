@@ -4,6 +4,8 @@
 #[cfg(test)]
 mod fixups;
 #[cfg(test)]
+mod grouped;
+#[cfg(test)]
 mod overflow;
 #[cfg(test)]
 mod programs;

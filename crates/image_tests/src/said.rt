@@ -93,7 +93,8 @@ fn built<A: Allocator + Copy>(
     }
 }
 
-fn placed<A: Allocator + Copy>(
+/// What is said of the program of modules, or why there is none.
+pub fn placed<A: Allocator + Copy>(
     alloc: A,
     words: Global,
     modules: &[Module<A>],

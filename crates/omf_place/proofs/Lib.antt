@@ -36,3 +36,4 @@ pub mod Worked
 pub mod Turns
 pub mod Excessive
 pub mod WorkedExcess
+pub mod ClassSpans

@@ -7,6 +7,7 @@ pub mod Layout
 pub mod Bounded
 pub mod Faults
 pub mod Excess
+pub mod Classes
 pub mod Said
 pub mod Rows
 pub mod inside

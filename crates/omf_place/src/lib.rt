@@ -1,6 +1,7 @@
 //! Placement of the segments, groups and publics of a program.
 #![tactic(auto)]
 
+mod classes;
 mod faults;
 mod firsts;
 mod folded;
@@ -23,6 +24,7 @@ mod spans;
 mod stands;
 mod starts;
 
+pub use classes::class_fits;
 pub use faults::PlaceFault;
 pub use laws::combining;
 pub use layout::{Combined, GroupPlace, Position};

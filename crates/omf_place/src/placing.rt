@@ -42,14 +42,17 @@ const GREATEST_SIZE: u128 = 1_048_560;
 
 /// The order of the parts, where the segments stand, and the size of the program.
 #[derive(Drop)]
-struct Started<A: Allocator + Copy> {
+pub(crate) struct Started<A: Allocator + Copy> {
     ranks: Vec<Rank, A>,
-    spans: Vec<SegmentSpan, A>,
+    pub spans: Vec<SegmentSpan, A>,
     size: u128,
 }
 
 /// Orders the parts and gives every segment its address.
-fn start_parts<A: Allocator + Copy>(alloc: A, sites: &[Site<'_>]) -> Result<Started<A>, AllocError>
+pub(crate) fn start_parts<A: Allocator + Copy>(
+    alloc: A,
+    sites: &[Site<'_>],
+) -> Result<Started<A>, AllocError>
     requires numbered { IsNumberedFrom 0 (sites_view sites.now) }
     requires sound { AllByRecursion (λ a. SegmentFits a.segment) (sites_view sites.now) }
     ensures order { IfOk result

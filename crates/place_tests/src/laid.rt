@@ -155,7 +155,7 @@ pub fn describe_fault<A: Allocator + Copy>(
 }
 
 /// What is said of the layout of modules, or the fault.
-fn placed<A: Allocator + Copy>(
+pub fn placed<A: Allocator + Copy>(
     alloc: A,
     words: Global,
     names: Names,

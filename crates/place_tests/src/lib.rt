@@ -4,6 +4,10 @@
 #[cfg(test)]
 mod cases;
 #[cfg(test)]
+mod classes;
+#[cfg(test)]
+mod grouped;
+#[cfg(test)]
 mod growths;
 #[cfg(test)]
 mod laid;
