@@ -154,10 +154,26 @@ B4 01 6D 00
 88 00 A8 03 04
 = wants g, externals f g, offers, libraries
 
-# no pairs: an index behind the last, none, a local name, and a comment that is cut off
+# a default that is local to the module, by each type of record
+8C 01 66 00
+B4 01 67 00
+88 00 A8 01 02
+= wants, externals f, offers, libraries
+
+B5 01 67 00
+8C 01 66 00
+88 00 A8 02 01
+= wants, externals f, offers, libraries
+
+8C 01 66 00 01 68 00
+B8 01 67 00 62 02
+88 00 A8 01 03
+= wants h, externals f h, offers, libraries
+
+# no pairs: an index behind the last, none, a local name before its default, and a comment that is cut off
 8C 01 66 00 01 67 00
 B4 01 6C 00
-88 00 A8 01 04 00 02 02 00 01 03 03 01 01
+88 00 A8 01 04 00 02 02 00 03 01 01
 88 00 A8 01 80
 88 00 A8
 = wants f g, offers, libraries
@@ -185,6 +201,12 @@ fn lazy_externals_are_wanted_and_not_needed(rt: HostRuntime) -> Result<(), Fail>
 8C 01 66 00 01 67 00
 88 00 A9 01 02
 = wants f g, needs g, offers, libraries
+
+# a default that is local to the module
+8C 01 66 00
+B4 01 67 00
+88 00 A9 01 02
+= wants f, needs, offers, libraries
 
 # weak ones are neither
 8C 01 61 00 01 62 00 01 63 00

@@ -13,13 +13,13 @@ use Rattle.std.proofs.Common.{arith}
 use Rattle.std.specs.declared.option.Option.{Option}
 use Rattle.std.specs.Borrow.{Bor}
 use Rattle.std.specs.List.{list_any}
-use Rattle.std.specs.Option.{option_and_then, option_map_or}
+use Rattle.std.specs.Option.{option_map, option_map_or}
 use Rattle.std.specs.Slice.{IsItemAt}
 use Rattle.std.specs.Str.{bytes_eq}
 use Rattle.omf_library.specs.declared.defaults.Defaulted.{Defaulted}
 use Rattle.omf_library.specs.Said.{all_defaulted, bytes_said}
-use Rattle.omf_library.specs.inside.Views.{externals_said}
-use Rattle.omf_library.specs.Defaults.{external_name, has_other, is_index_of, is_name_of, is_named}
+use Rattle.omf_library.specs.Said.{externals_said}
+use Rattle.omf_library.specs.Defaults.{external_at, has_other, is_index_of, is_name_of, is_named}
 use Rattle.omf_library.specs.Defaults.{is_theirs}
 
 -- a name is that of one of them
@@ -37,13 +37,13 @@ index-said (d ∷ ds) index = ap (λ b. (d.index == index) || b) (index-said ds 
 -- ---- the external of an index
 
 at-some : (externals : List (Option (Bor (List ℕ)))) (k : ℕ) (x : Option (Bor (List ℕ))) → k < length externals
-    → x ≡ get_or externals k x → option_and_then (λ name. name) (slice_get (externals_said externals) k) ≡ bytes_said x
+    → x ≡ get_or externals k x → slice_get (externals_said externals) k ≡ Some (bytes_said x)
 at-some [] k x within e = absurd (omega arith)
-at-some (y ∷ ys) zero x within e = ap bytes_said (sym e)
+at-some (y ∷ ys) zero x within e = ap (λ o. Some (bytes_said o)) (sym e)
 at-some (y ∷ ys) (suc k) x within e = at-some ys k x (omega arith) e
 
 at-none : (externals : List (Option (Bor (List ℕ)))) (k : ℕ) → length externals ≤ k
-    → option_and_then (λ name. name) (slice_get (externals_said externals) k) ≡ None
+    → slice_get (externals_said externals) k ≡ None
 at-none [] k past = refl
 at-none (y ∷ ys) zero past = absurd (omega arith)
 at-none (y ∷ ys) (suc k) past = at-none ys k (omega arith)
@@ -51,19 +51,18 @@ at-none (y ∷ ys) (suc k) past = at-none ys k (omega arith)
 -- what a look-up finds
 pub at-item : (externals : List (Option (Bor (List ℕ)))) (k : ℕ) (r : Option (Bor (Option (Bor (List ℕ)))))
     → IsItemAt externals k r
-    → option_and_then (λ name. name) (slice_get (externals_said externals) k)
-    ≡ option_and_then (λ (x : Bor (Option (Bor (List ℕ)))). bytes_said x.now) r
+    → slice_get (externals_said externals) k
+    ≡ option_map (λ (x : Bor (Option (Bor (List ℕ)))). bytes_said x.now) r
 at-item externals k None item = at-none externals k item.3
 at-item externals k (Some x) item = at-some externals k x.now item.3.0 item.1
 
 -- an index counts from 1 on
 pub external-is : (externals : List (Option (Bor (List ℕ)))) (i k : ℕ) → i ≢ 0 → k ≡ i - 1
-    → external_name (externals_said externals) i
-    ≡ option_and_then (λ name. name) (slice_get (externals_said externals) k)
+    → external_at (externals_said externals) i ≡ slice_get (externals_said externals) k
 external-is externals zero k some e = absurd (some refl)
 external-is externals (suc before) k some e =
     let same : k ≡ before = omega (arith, e) in
-    ap (λ n. option_and_then (λ name. name) (slice_get (externals_said externals) n)) (sym same)
+    ap (λ n. slice_get (externals_said externals) n) (sym same)
 
 -- ---- sets of them
 

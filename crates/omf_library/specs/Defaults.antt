@@ -48,31 +48,34 @@ record_externals listed f =
 abbrev pub module_externals : List Frame → List (Option (List ℕ))
 module_externals records = said_by record_externals [] records
 
--- the name of an external with this index
-abbrev pub external_name : List (Option (List ℕ)) → ℕ → Option (List ℕ)
-external_name externals zero = None
-external_name externals (suc before) = option_and_then (λ name. name) (slice_get externals before)
+-- the external with this index: its name, or that it is local
+abbrev pub external_at : List (Option (List ℕ)) → ℕ → Option (Option (List ℕ))
+external_at externals zero = None
+external_at externals (suc before) = slice_get externals before
 
 -- ---- those that have a default
 
--- one of them, and the name of its default; the place is that of the comment
+-- one of them, and its default: the index of that, and its name, none where it is local to the module; the place is
+-- that of the comment
 pub record Defaulted : Type 0 where
   pub place : ℕ
   pub index : ℕ
   pub name : List ℕ
-  pub default_name : List ℕ
+  pub default_index : ℕ
+  pub default_name : Option (List ℕ)
 
 -- the pair of indexes at the front of the bytes
 abbrev pub pair_front : List ℕ → Option ((ℕ × ℕ) × List ℕ)
 pair_front bytes = option_and_then
     (λ (index, rest). option_map (λ (other, after). ((index, other), after)) (index_front rest)) (index_front bytes)
 
--- the external of a pair; none where one of the two has no name that other modules may define
+-- the external of a pair; none where one of the two isn't there, or where the first is local to the module
 abbrev pub defaulted_of : List (Option (List ℕ)) → (place : ℕ) → ℕ × ℕ → Option Defaulted
 defaulted_of externals place pair = option_and_then
-    (λ name. option_map (λ d. record { place = place; index = pair.0; name = name; default_name = d })
-    (external_name externals pair.1))
-    (external_name externals pair.0)
+    (λ name. option_map
+    (λ d. record { place = place; index = pair.0; name = name; default_index = pair.1; default_name = d })
+    (external_at externals pair.1))
+    (option_and_then (λ name. name) (external_at externals pair.0))
 
 -- those that a record tells, as a comment of this class
 unfoldable pub defaulted_in : (class : ℕ) → List (Option (List ℕ)) → Frame → List Defaulted

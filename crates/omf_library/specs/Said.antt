@@ -34,10 +34,20 @@ record_said (Err e) = Err e
 
 -- externals with a default
 abbrev pub defaulted_said : lent.Defaulted → Defaulted
-defaulted_said d = record { place = d.place; index = d.index; name = d.name.now; default_name = d.default_name.now }
+defaulted_said d = record {
+  place = d.place;
+  index = d.index;
+  name = d.name.now;
+  default_index = d.default_index;
+  default_name = bytes_said d.default_name;
+}
 
 abbrev pub all_defaulted : List lent.Defaulted → List Defaulted
 all_defaulted marked = map defaulted_said marked
+
+-- externals: the name of each, or that it is local
+abbrev pub externals_said : List (Option (Bor (List ℕ))) → List (Option (List ℕ))
+externals_said externals = map bytes_said externals
 
 -- aliases
 abbrev pub alias_said : lent_alias.Alias → Alias

@@ -9,10 +9,10 @@ ghost use Rattle.omf_frame.specs.Lending.{plain_frame};
 ghost use Rattle.omf_library.specs.Entries.{entries};
 ghost use Rattle.omf_library.specs.Names.{texts};
 ghost use Rattle.omf_library.specs.Records as records;
-ghost use Rattle.omf_library.specs.Said.{all_defaulted, bytes_said, name_said};
+ghost use Rattle.omf_library.specs.Said.{all_defaulted, bytes_said, externals_said, name_said};
 ghost use Rattle.omf_library.specs.Defaults as spec;
 ghost use Rattle.omf_library.specs.inside.Others.{bytes_cmp, has_name_at, other_name};
-ghost use Rattle.omf_library.specs.inside.Views.{defaulted_found, external_said, externals_said, pair_said};
+ghost use Rattle.omf_library.specs.inside.Views.{defaulted_found, external_found, external_said, pair_said};
 
 use crate::entries::{Entry, listed_name, take_communal, take_entry};
 use crate::fields::take_index;
@@ -36,8 +36,10 @@ pub struct Defaulted<'a> {
     pub index: u16,
     /// Its name.
     pub name: &'a [u8],
-    /// The name of its default.
-    pub default_name: &'a [u8],
+    /// The index of its default.
+    pub default_index: u16,
+    /// The name of its default. None where that is local to the module.
+    pub default_name: Option<&'a [u8]>,
 }
 
 /// Whether the externals of a record of this type are local to its module: LEXTDEF, by either type, and LCOMDEF.
@@ -126,8 +128,9 @@ fn push_entries<'a, A: Allocator + Copy>(
     Ok(())
 }
 
-/// The externals of records, whose indexes count them from 1 on.
-fn module_externals<'a, A: Allocator + Copy>(
+/// The externals of a module's records, whose indexes count them from 1 on: the name of each, or None where it is local
+/// to the module.
+pub fn module_externals<'a, A: Allocator + Copy>(
     alloc: A,
     frames: &[Frame<'a>],
 ) -> Result<Vec<Option<&'a [u8]>, A>, AllocError>
@@ -142,9 +145,9 @@ fn module_externals<'a, A: Allocator + Copy>(
     Ok(externals)
 }
 
-/// The name of the external with this index. None where there is none, and where it is local to its module.
-fn external_name<'a>(externals: &[Option<&'a [u8]>], index: u16) -> Option<&'a [u8]>
-    ensures { bytes_said result ≡ spec.external_name (externals_said externals.now) index }
+/// The external with this index: its name, or that it is local. None where there is none.
+fn external_at<'a>(externals: &[Option<&'a [u8]>], index: u16) -> Option<Option<&'a [u8]>>
+    ensures { external_found result ≡ spec.external_at (externals_said externals.now) index }
 {
     if index == 0 {
         return None;
@@ -152,7 +155,7 @@ fn external_name<'a>(externals: &[Option<&'a [u8]>], index: u16) -> Option<&'a [
     let Some(name) = externals.get(usize::from(index) - 1) else {
         return None;
     };
-    *name
+    Some(*name)
 }
 
 /// A pair of indexes at the front of the bytes, and the bytes behind it. None where they end inside it.
@@ -165,7 +168,8 @@ fn take_pair(bytes: &[u8]) -> Option<((u16, u16), &[u8])>
     Some(((index, other), rest))
 }
 
-/// The external of a pair, by the comment's place. None where one of the two has no name that is shared.
+/// The external of a pair, by the comment's place. None where one of the two isn't there, or where the first is local
+/// to the module.
 fn defaulted_of<'a>(
     externals: &[Option<&'a [u8]>],
     place: u64,
@@ -173,12 +177,13 @@ fn defaulted_of<'a>(
 ) -> Option<Defaulted<'a>>
     ensures { defaulted_found result ≡ spec.defaulted_of (externals_said externals.now) place pair }
 {
-    let name = external_name(externals, pair.0)?;
-    let default_name = external_name(externals, pair.1)?;
+    let name = external_at(externals, pair.0)??;
+    let default_name = external_at(externals, pair.1)?;
     Some(Defaulted {
         place,
         index: pair.0,
         name,
+        default_index: pair.1,
         default_name,
     })
 }
@@ -240,8 +245,8 @@ fn has_comments(class: u8, frames: &[Frame<'_>]) -> bool
 }
 
 /// Appends the externals that comments of this class tell, in their order. A pair of which an index is none of an
-/// external with a name that is shared, and what stands behind the last whole pair, tell none: such an external is like
-/// any other.
+/// external, or the first one that of an external that is local to the module, and what stands behind the last whole
+/// pair, tell none: such an external is like any other.
 fn push_defaulted<'a, A: Allocator + Copy>(
     alloc: A,
     class: u8,

@@ -17,7 +17,7 @@ mod records;
 mod wanting;
 
 pub use aliases::Alias;
-pub use defaults::{Defaulted, weak_and_lazy};
+pub use defaults::{Defaulted, module_externals, weak_and_lazy};
 pub use ending::modules_end;
 pub use entries::{behind_length, behind_lengths, listed_name};
 pub use fault::{FormatFault, LibraryFault};

@@ -73,9 +73,10 @@ pub record Pushed (modules : List PlainMember) (bytes : List ℕ) (place : ℕ) 
   pub own : (file : List ℕ) → All (IsPart file) old → bytes ≡ slice_range file place (place + length bytes)
       → All (IsPart file) new
 
--- externals
-abbrev pub externals_said : List (Option (Bor (List ℕ))) → List (Option (List ℕ))
-externals_said externals = map bytes_said externals
+-- an external that may be there
+abbrev pub external_found : Option (Option (Bor (List ℕ))) → Option (Option (List ℕ))
+external_found None = None
+external_found (Some name) = Some (bytes_said name)
 
 -- an external, and the bytes behind it
 abbrev pub external_said : Option (Option (Bor (List ℕ)) × Bor (List ℕ)) → Option (Option (List ℕ) × List ℕ)

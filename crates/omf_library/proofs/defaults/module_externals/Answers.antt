@@ -1,7 +1,7 @@
 use Rattle.std.proofs.Common.{arith}
 use Rattle.omf_frame.specs.Lending.{plain_frame}
 use Rattle.omf_library.specs.Names.{texts}
-use Rattle.omf_library.specs.inside.Views.{externals_said}
+use Rattle.omf_library.specs.Said.{externals_said}
 use Rattle.omf_library.specs.Defaults.{record_externals}
 use Rattle.omf_library.proofs.Gathering.{said-end, said-turn}
 use Rattle.omf_library.proofs.defaults.module_externals.Goals as goal

@@ -2,7 +2,7 @@ use Rattle.std.proofs.Common.{◌≡◌, ◌++◌, drop, map}
 use Rattle.omf_frame.specs.Lending.{plain_frame}
 use Rattle.omf_library.specs.Listed.{said_by}
 use Rattle.omf_library.specs.Names.{texts}
-use Rattle.omf_library.specs.inside.Views.{externals_said}
+use Rattle.omf_library.specs.Said.{externals_said}
 use Rattle.omf_library.specs.Defaults.{record_externals, module_externals}
 use Rattle.omf_library.proofs.defaults.module_externals.Given as goal
 

@@ -5,7 +5,7 @@ use Rattle.omf_library.specs.Defaults.{is_theirs, is_theirs_alone}
 use Rattle.omf_library.specs.Names.{texts}
 use Rattle.omf_frame.specs.Lending.{plain_frame}
 use Rattle.omf_library.specs.Said.{all_defaulted, defaulted_said}
-use Rattle.omf_library.specs.inside.Views.{externals_said}
+use Rattle.omf_library.specs.Said.{externals_said}
 use Rattle.omf_library.proofs.Unmarked.{none-of, unmarked}
 use Rattle.omf_library.proofs.defaults.names_but.Goals as goal
 

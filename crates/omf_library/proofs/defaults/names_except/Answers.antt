@@ -5,7 +5,7 @@ use Rattle.std.specs.Ordering.{nat_cmp}
 use Rattle.omf_library.specs.Defaults.{is_theirs}
 use Rattle.omf_library.specs.Names.{texts}
 use Rattle.omf_library.specs.Said.{all_defaulted}
-use Rattle.omf_library.specs.inside.Views.{externals_said}
+use Rattle.omf_library.specs.Said.{externals_said}
 use Rattle.omf_library.proofs.Gathering.{failing-turn, passing-turn}
 use Rattle.omf_library.proofs.Indexes.{others-of}
 use Rattle.omf_library.proofs.Listing.{texts-push}

@@ -4,7 +4,7 @@ use Rattle.std.specs.BTreeSet.{contains}
 use Rattle.std.specs.Ordering.{nat_cmp}
 use Rattle.omf_library.specs.Said.{bytes_said}
 use Rattle.omf_library.specs.inside.Others.{bytes_cmp, has_name_at}
-use Rattle.omf_library.specs.inside.Views.{externals_said}
+use Rattle.omf_library.specs.Said.{externals_said}
 use Rattle.omf_library.proofs.Indexes.{others-named, others-same}
 use Rattle.omf_library.proofs.defaults.other_names.Goals as goal
 use Rattle.omf_library.proofs.defaults.other_names.Goals.{in-Some+in_ok-insert, in_default}

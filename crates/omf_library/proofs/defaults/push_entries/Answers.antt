@@ -2,7 +2,7 @@ use Rattle.std.proofs.Common.{◌≡◌, [], ◌∷◌, ◌++◌, sym, refl}
 use Rattle.std.proofs.lemmas.List.{map-append}
 use Rattle.omf_library.specs.Names.{texts}
 use Rattle.omf_library.specs.Said.{bytes_said}
-use Rattle.omf_library.specs.inside.Views.{externals_said}
+use Rattle.omf_library.specs.Said.{externals_said}
 use Rattle.omf_library.specs.Defaults.{any_external_front}
 use Rattle.omf_library.proofs.Listing.{left_first, left_more}
 use Rattle.omf_library.proofs.defaults.push_entries.Goals as goal

@@ -1,6 +1,6 @@
 use Rattle.std.proofs.Common.{length}
 use Rattle.omf_library.specs.Names.{texts}
-use Rattle.omf_library.specs.inside.Views.{externals_said}
+use Rattle.omf_library.specs.Said.{externals_said}
 use Rattle.omf_library.specs.Defaults.{any_external_front}
 use Rattle.omf_library.proofs.Listing.{EntriesLeft}
 use Rattle.omf_library.proofs.defaults.push_entries.Given as goal

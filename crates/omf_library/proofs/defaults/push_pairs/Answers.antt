@@ -2,7 +2,7 @@ use Rattle.std.proofs.Common.{◌≡◌, [], ◌∷◌, ◌++◌, sym, ap}
 use Rattle.std.proofs.lemmas.List.{map-append}
 use Rattle.std.specs.List.{filter_map, cons_option}
 use Rattle.omf_library.specs.Said.{defaulted_said, all_defaulted}
-use Rattle.omf_library.specs.inside.Views.{externals_said}
+use Rattle.omf_library.specs.Said.{externals_said}
 use Rattle.omf_library.specs.Defaults.{pair_front, defaulted_of}
 use Rattle.omf_library.proofs.Listing.{left_first, left_more, left_skip}
 use Rattle.omf_library.proofs.defaults.push_pairs.Goals as goal

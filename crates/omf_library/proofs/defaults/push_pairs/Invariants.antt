@@ -1,7 +1,7 @@
 use Rattle.std.proofs.Common.{length}
 use Rattle.std.specs.List.{filter_map}
 use Rattle.omf_library.specs.Said.{all_defaulted}
-use Rattle.omf_library.specs.inside.Views.{externals_said}
+use Rattle.omf_library.specs.Said.{externals_said}
 use Rattle.omf_library.specs.Defaults.{pair_front, defaulted_of}
 use Rattle.omf_library.proofs.Listing.{EntriesLeft}
 use Rattle.omf_library.proofs.defaults.push_pairs.Given as goal

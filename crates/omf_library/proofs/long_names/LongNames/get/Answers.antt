@@ -1,6 +1,6 @@
-use Rattle.std.proofs.Common.{◌≡◌, ◌-◌, ◌<◌, ◌≤◌, ◌∙◌, None, Some, ap, arith, cond, drop, get_or, length, sym, take}
+use Rattle.std.proofs.Common.{◌≡◌, ◌-◌, ◌<◌, ◌∙◌, None, Some, ap, arith, cond, drop, get_or, length, sym, take}
 use Rattle.std.proofs.lemmas.Bool.{lt-ltb}
-use Rattle.std.proofs.lemmas.List.{length-drop, length-take-le, take_rest}
+use Rattle.std.proofs.lemmas.List.{length-take-le, take_rest}
 use Rattle.std.specs.List.{before_first, position_or_len}
 use Rattle.omf_library.specs.Archive.{long_name, without_slash}
 use Rattle.omf_library.specs.inside.Lines.{ends_line}
