@@ -1,6 +1,6 @@
 -- The steps of a link, put together from what each of them answers.
 use Rattle.std.proofs.Common.{◌≡◌, ℕ, ◌+◌, ◌*◌, ◌≤◌, List, [], ◌∷◌, length, map, None, Some, IfSome, Ok, Err, refl, sym}
-use Rattle.std.proofs.Common.{subst, ◌∙◌, append-nil, inl, inr, arith}
+use Rattle.std.proofs.Common.{subst, ◌∙◌, append-nil, inl, inr, arith, OnOk, Result}
 use Rattle.std.proofs.lemmas.List.{length-set, length-take-le, get_or-take}
 use Rattle.std.specs.declared.option.Option.{Option}
 use Rattle.std.specs.Io.KnownBytes.{Keeps}
@@ -28,14 +28,17 @@ use Rattle.omf_faults.specs.declared.fault.LinkFault.TheVariants as link
 use Rattle.omf_commands.specs.Inputs.{AreInputs, ReadsFront}
 use Rattle.omf_commands.specs.inside.Inputs.{IsInputFault}
 use Rattle.omf_commands.specs.Reading.{sink_failures}
-use Rattle.omf_commands.specs.Linking.{IsLinked, IsModulesFault, Links, HoldsProgram, HoldsAtEachParagraph}
-use Rattle.omf_commands.specs.inside.Linking.{LinksModules}
+use Rattle.omf_commands.specs.Linking.{IsFileOf, IsLinked, IsModulesFault, IsReport, Links, HoldsProgram}
+use Rattle.omf_commands.specs.Linking.{HoldsAtEachParagraph, WritesProgram}
+use Rattle.omf_commands.specs.declared.linking.Report.{Report}
+use Rattle.omf_commands.specs.Modules.{LinksModules}
+use Rattle.omf_commands.specs.inside.Linking.{BuildsModules}
 use Rattle.omf_commands.specs.inside.Faults.{place_fault, fix_fault}
 
 -- ---- the modules
 
 pub place_refused : {A : Type 0} (names : Names) (modules : List Module) (e : PlaceFault A)
-    → IfSome (said e) (IsFirstFault names modules) → LinksModules names modules (Err (place_fault e))
+    → IfSome (said e) (IsFirstFault names modules) → BuildsModules names modules (Err (place_fault e))
 place_refused names modules place.Memory h = tt
 place_refused names modules (place.SegmentTooLong name) h = h
 place_refused names modules place.ProgramTooLarge h = h
@@ -44,7 +47,7 @@ place_refused names modules (place.DuplicatePublic name) h = h
 
 pub build_refused : (A : Type 0) (names : Names) (modules : List Module) (layout : Layout) (e : FixFault)
     → IsOnlyLayout names modules layout → Builds layout modules (Err e)
-    → LinksModules {A = A} names modules (Err (fix_fault e))
+    → BuildsModules {A = A} names modules (Err (fix_fault e))
 build_refused A names modules layout (build.At k input place) only h = (layout, only, h)
 build_refused A names modules layout build.TooManyRelocations only h = (layout, only, h)
 build_refused A names modules layout build.Memory only h = tt
@@ -117,19 +120,33 @@ module _ {S : Type 0} (told : S → Option (List ℕ)) (failures : S → ℕ) wh
       → ReadsFront told failures lists olds news [] []
   all_front lists olds news inputs = (olds, news, inputs, sym (append-nil olds), sym (append-nil news))
 
-  pub not_linked : {A : Type 0} (names : Names) (olds news : List S) (w : Option (List ℕ)) (lists : List (List Placed))
-      (modules : List Module) (e : LinkFault A) → AreInputs told failures lists olds news
-      → modules ≡ map module_of lists → LinksModules {A = A} names modules (Err e)
-      → Links told failures names olds news w w (Err e)
-  not_linked names olds news w lists modules link.Memory inputs is h =
-      (inr (lists, [], all_front lists olds news inputs), kept w)
-  not_linked names olds news w lists modules (link.Device input place) inputs is h = absurd h
-  not_linked {A} names olds news w lists modules (link.Record input place f) inputs is h =
-      (inr (lists, inputs, subst (λ ms. IsModulesFault {A = A} names ms (link.Record input place f)) is h), kept w)
-  not_linked names olds news w lists modules link.Output inputs is h = absurd h
-  not_linked {A} names olds news w lists modules (link.Program f) inputs is h =
-      (inr (lists, inputs, subst (λ ms. IsModulesFault {A = A} names ms (link.Program f)) is h), kept w)
-  not_linked names olds news w lists modules (link.File f) inputs is h = absurd h
+  -- the modules that were read were linked
+  pub linked : {A : Type 0} (names : Names) (olds news : List S) (wold wnew : Option (List ℕ))
+      (lists : List (List Placed)) (modules : List Module) (r : Result (Report A) (LinkFault A))
+      → AreInputs told failures lists olds news → modules ≡ map module_of lists
+      → LinksModules names modules wold wnew r → Links told failures names olds news wold wnew r
+  linked names olds news wold wnew lists modules (Ok report) inputs is h =
+      (lists, inputs, (subst (λ ms. IsReport names ms report) is h.0, (h.1.0, h.1.1, h.1.2)))
+  linked names olds news wold wnew lists modules (Err link.Memory) inputs is h =
+      (inr (lists, [], all_front lists olds news inputs), h)
+  linked names olds news wold wnew lists modules (Err (link.Device input place)) inputs is h = absurd h.0
+  linked {A} names olds news wold wnew lists modules (Err (link.Record input place f)) inputs is h =
+      (inr (lists, inputs, subst (λ ms. IsModulesFault {A = A} names ms (link.Record input place f)) is h.0), h.1)
+  linked names olds news wold wnew lists modules (Err link.Output) inputs is h =
+      (lists, inputs, (h.0, subst (λ ms. IsFileOf names ms h.0) is h.1, h.2))
+  linked {A} names olds news wold wnew lists modules (Err (link.Program f)) inputs is h =
+      (inr (lists, inputs, subst (λ ms. IsModulesFault {A = A} names ms (link.Program f)) is h.0), h.1)
+  linked names olds news wold wnew lists modules (Err (link.File f)) inputs is h = absurd h.0
+
+  -- and the file that was written holds their program
+  pub holds_linked : {A : Type 0} (names : Names) (olds news : List S) (wold wnew : Option (List ℕ))
+      (lists : List (List Placed)) (modules : List Module) (r : Result (Report A) (LinkFault A))
+      → AreInputs told failures lists olds news → modules ≡ map module_of lists
+      → LinksModules names modules wold wnew r
+      → OnOk r (WritesProgram told failures names olds news wold wnew)
+  holds_linked names olds news wold wnew lists modules (Ok report) inputs is h =
+      (lists, inputs, (h.1.0, h.1.2, subst (λ ms. HoldsAtEachParagraph names ms h.1.0) is h.1.3))
+  holds_linked names olds news wold wnew lists modules (Err fault) inputs is h = tt
 
   -- reading writes nothing
   pub unread : (T : Type 0) {A : Type 0} (olds news : List S) (n : ℕ) (e : LinkFault A)
@@ -143,10 +160,19 @@ module _ {S : Type 0} (told : S → Option (List ℕ)) (failures : S → ℕ) wh
 
 -- placing and building write nothing
 pub unwritten : (T : Type 0) {A : Type 0} (names : Names) (modules : List Module) (n : ℕ) (e : LinkFault A)
-    → LinksModules {A = A} names modules (Err e) → n ≡ n + sink_failures {T = T} (Err e)
+    → BuildsModules {A = A} names modules (Err e) → n ≡ n + sink_failures {T = T} (Err e)
 unwritten T names modules n link.Memory h = omega arith
 unwritten T names modules n (link.Device input place) h = absurd h
 unwritten T names modules n (link.Record input place f) h = omega arith
 unwritten T names modules n link.Output h = absurd h
 unwritten T names modules n (link.Program f) h = omega arith
 unwritten T names modules n (link.File f) h = absurd h
+
+pub not_built : {A : Type 0} (names : Names) (modules : List Module) (w : Option (List ℕ)) (e : LinkFault A)
+    → BuildsModules {A = A} names modules (Err e) → LinksModules {A = A} names modules w w (Err e)
+not_built names modules w link.Memory h = kept w
+not_built names modules w (link.Device input place) h = absurd h
+not_built names modules w (link.Record input place f) h = (h, kept w)
+not_built names modules w link.Output h = absurd h
+not_built names modules w (link.Program f) h = (h, kept w)
+not_built names modules w (link.File f) h = absurd h

@@ -1,7 +1,7 @@
 -- What a link answers, by the bytes of its inputs.
 use Rattle.std.proofs.Common.{◌≡◌, ℕ, ◌+◌, Bool, true, false, List, [], ◌∷◌, ◌++◌, ◌⊎◌, length, map, None, Some, Err}
 use Rattle.std.proofs.Common.{refl, sym, ap, subst, ◌∙◌, arith, inl, inr, append_assoc, append-nil, length-append}
-use Rattle.std.proofs.Common.{true≢false}
+use Rattle.std.proofs.Common.{true≢false, Result, Ok}
 use Rattle.std.specs.declared.option.Option.{Option}
 use Rattle.std.specs.Prelude.{IfSome}
 use Rattle.std.specs.Io.KnownBytes.{Consumes}
@@ -60,8 +60,8 @@ one_standing names before (bytes ∷ inputs) fault other (inr h) (inr k) =
     one_standing names (before ++ h.0 ∷ []) inputs fault other h.5
     (subst (λ rs. StandsBehind names (before ++ rs ∷ []) inputs other) (sym same) k.5)
 
-only : {A : Type 0} (names : Names) (inputs : List (List ℕ)) (fault : LinkFault A) → StandsBehind names [] inputs fault
-    → IsOnlyFault names inputs fault
+pub only : {A : Type 0} (names : Names) (inputs : List (List ℕ)) (fault : LinkFault A)
+    → StandsBehind names [] inputs fault → IsOnlyFault names inputs fault
 only names inputs fault h = (h, λ other k. one_standing names [] inputs other fault k h)
 
 -- ---- what was read
@@ -230,3 +230,13 @@ module _ {S : Type 0} (told : S → Option (List ℕ)) (failures : S → ℕ) wh
       only_stands {A = A} names olds news inputs (link.Program f) refl h.0 told_is
   refused {A} names olds news wold wnew inputs (link.File f) h told_is =
       only_stands {A = A} names olds news inputs (link.File f) refl h.0 told_is
+
+  -- the answer of a link, by what it did
+  pub ended : {A : Type 0} (names : Names) (olds news : List S) (wold wnew : Option (List ℕ)) (inputs : List (List ℕ))
+      (r : Result (Report A) (LinkFault A)) → Links told failures {A = A} names olds news wold wnew r
+      → AreTold told olds inputs → Outcome {R = Report A} names inputs r
+  ended names olds news wold wnew inputs (Ok report) (lists, are, (is, (file, format, appended))) told_is =
+      λ fault k. none_stands names [] lists olds news inputs file fault are told_is
+      (report.layout, report.program, is.linked, format) k
+  ended names olds news wold wnew inputs (Err e) links told_is =
+      refused names olds news wold wnew inputs e links told_is

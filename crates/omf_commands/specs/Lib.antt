@@ -5,6 +5,7 @@ pub mod Checking
 pub mod Loading
 pub mod Inputs
 pub mod Linking
+pub mod Modules
 pub mod Outcome
 pub mod Mapping
 pub mod inside

@@ -12,7 +12,7 @@ mod records;
 
 pub use checking::check;
 pub use faults::module_fault;
-pub use linking::{Options, Report, file_or_fault, link, one_file};
+pub use linking::{Options, Report, file_or_fault, link, link_modules, one_file};
 pub use loading::load_file;
 pub use mapping::write_map;
 pub use records::{rewrite, show};

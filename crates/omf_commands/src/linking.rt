@@ -9,7 +9,8 @@ ghost use Rattle.omf_faults.specs.declared.fault.LinkFault.{LinkFault as Fault};
 ghost use Rattle.omf_commands.specs.Inputs.{AreModules};
 ghost use Rattle.omf_commands.specs.Records.{rewritten, says_of};
 ghost use Rattle.omf_commands.specs.Linking.{IsFileOf, IsModulesFault, Links, WritesProgram};
-ghost use Rattle.omf_commands.specs.inside.Linking.{LinksModules};
+ghost use Rattle.omf_commands.specs.Modules.{LinksModules};
+ghost use Rattle.omf_commands.specs.inside.Linking.{BuildsModules};
 ghost use Rattle.omf_commands.specs.Outcome.{AreTold, Outcome, SameFault, telling};
 ghost use Rattle.omf_commands.specs.Reading.{sink_failures};
 
@@ -62,12 +63,12 @@ pub struct Report<A: Allocator + Copy = Global> {
 }
 
 /// Places the modules and builds their program.
-fn link_modules<A: Allocator + Copy>(
+fn build_modules<A: Allocator + Copy>(
     alloc: A,
     modules: Vec<Module<A>, A>,
     names: Names,
 ) -> Result<Report<A>, LinkFault<A>>
-    ensures { LinksModules names modules.items result }
+    ensures { BuildsModules names modules.items result }
 {
     let all = modules.as_slice();
     let layout = match place(alloc, all, names) {
@@ -83,6 +84,31 @@ fn link_modules<A: Allocator + Copy>(
         layout,
         program,
     })
+}
+
+/// Links modules that were read, in their order, and writes the file of their program.
+///
+/// # Errors
+/// The first of placement; else the first of data and fix-ups, of the start, and of too many relocated words. Nothing
+/// is written before all of that succeeded. The sink's; want of memory.
+pub fn link_modules<K: Sink, A: Allocator + Copy>(
+    alloc: A,
+    modules: Vec<Module<A>, A>,
+    sink: &mut K,
+    options: &Options,
+) -> Result<Report<A>, LinkFault<A>>
+    requires { K.failures sink.old < 2 ^ 64 - 1 }
+    // The sink failed exactly where the answer says so, and then once.
+    ensures sink { K.failures sink.new ≡ K.failures sink.old + sink_failures result }
+    // What was written, which holds the program at each paragraph, and the fault where one stands.
+    ensures links { LinksModules options.now.names modules.items (K.written sink.old) (K.written sink.new) result }
+{
+    let report = build_modules(alloc, modules, options.names)?;
+    loads_as_written();
+    match write_mz(&report.program, sink) {
+        Ok(()) => Ok(report),
+        Err(_) => Err(LinkFault::Output),
+    }
 }
 
 /// Links the modules of the inputs, in their order, and writes the file of the program.
@@ -114,12 +140,7 @@ pub fn link<S: Source, K: Sink, A: Allocator + Copy>(
         (K.written sink.new)) }
 {
     let modules = read_inputs(alloc, sources)?;
-    let report = link_modules(alloc, modules, options.names)?;
-    loads_as_written();
-    match write_mz(&report.program, sink) {
-        Ok(()) => Ok(report),
-        Err(_) => Err(LinkFault::Output),
-    }
+    link_modules(alloc, modules, sink, options)
 }
 
 /// Modules that have a file have no fault, and others one, so that an answer is the only one.

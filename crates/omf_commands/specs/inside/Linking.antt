@@ -1,4 +1,4 @@
--- The steps of a link: placing, building and writing what was read.
+-- The steps of a link: placing and building what was read.
 use Rattle.std.specs.Prelude.{List, Ok, Err}
 use Rattle.std.specs.declared.result.Result.{Result}
 use Rattle.omf_module.specs.Module.{Module}
@@ -9,7 +9,7 @@ use Rattle.omf_commands.specs.declared.linking.Report.{Report}
 use Rattle.omf_commands.specs.Linking.{IsModulesFault, IsReport}
 
 -- what placing modules and building their program answers
-abbrev pub LinksModules : {A : Type 0} → Names → List Module → Result (Report A) (LinkFault A) → Type 0
-LinksModules names modules (Ok report) = IsReport names modules report
-LinksModules names modules (Err link.Memory) = Unit {0}
-LinksModules names modules (Err fault) = IsModulesFault names modules fault
+abbrev pub BuildsModules : {A : Type 0} → Names → List Module → Result (Report A) (LinkFault A) → Type 0
+BuildsModules names modules (Ok report) = IsReport names modules report
+BuildsModules names modules (Err link.Memory) = Unit {0}
+BuildsModules names modules (Err fault) = IsModulesFault names modules fault
