@@ -1,11 +1,10 @@
 -- The layout of what was linked is bounded.
-use Rattle.std.proofs.Common.{◌≡◌, ℕ, ◌≤◌, inl, inr, nat_lt, true, List, Result, Ok, Err, IfOk, Some, None, map, refl}
+use Rattle.std.proofs.Common.{◌≡◌, ℕ, ◌≤◌, inl, inr, nat_lt, true, List, Result, Ok, Err, IfOk, Some, None, refl}
 use Rattle.std.proofs.Common.{sym, subst, ◌∙◌}
 use Rattle.std.proofs.lemmas.Bool.{cases_lt, lt-ltb}
 use Rattle.std.specs.declared.option.Option.{Option}
 use Rattle.std.specs.Option.{option_or}
 use Rattle.omf_module.specs.Module.{Module}
-use Rattle.omf_module.specs.Tables.{module_of}
 use Rattle.omf_place.specs.Bounded.{IsBounded}
 use Rattle.omf_place.specs.Faults.{ProgramTooLarge, segment_fault}
 use Rattle.omf_place.specs.inside.Placing.{IsOnlyLayout}
@@ -17,7 +16,7 @@ use Rattle.omf_place.proofs.Bounding.{bounded}
 use Rattle.omf_place.proofs.Ended.{layout_stands}
 use Rattle.omf_faults.specs.declared.fault.LinkFault.{LinkFault}
 use Rattle.omf_commands.specs.declared.linking.Report.{Report}
-use Rattle.omf_commands.specs.Linking.{Links}
+use Rattle.omf_commands.specs.Modules.{LinksModules}
 
 or_none : {X : Type 0} (a b : Option X) → option_or a b ≡ None → (a ≡ None) × (b ≡ None)
 or_none None b e = (refl, e)
@@ -41,11 +40,10 @@ bounded_layout names program layout only =
     let second = or_none (size_fault layout.size) (later_fault names program addresses) first.1 in
     bounded names program addresses layout.size placed first.0 (size_fits layout.size second.0) layout is
 
-pub bounded_report : {S A : Type 0} (told : S → Option (List ℕ)) (failures : S → ℕ) (names : Names) (olds news : List S)
-    (wold wnew : Option (List ℕ)) (r : Result (Report A) (LinkFault A))
-    → Links told failures names olds news wold wnew r
+pub bounded_report : {A : Type 0} (names : Names) (modules : List Module) (wold wnew : Option (List ℕ))
+    (r : Result (Report A) (LinkFault A)) → LinksModules names modules wold wnew r
     → IfOk r (λ report. IsBounded report.modules.items report.layout)
-bounded_report told failures names olds news wold wnew (Ok report) (lists, inputs, (is, file)) =
+bounded_report names modules wold wnew (Ok report) (is, file) =
     subst (λ ms. IsBounded ms report.layout) (sym is.read)
-    (bounded_layout names (map module_of lists) report.layout is.linked.is_layout)
-bounded_report told failures names olds news wold wnew (Err fault) links = tt
+    (bounded_layout names modules report.layout is.linked.is_layout)
+bounded_report names modules wold wnew (Err fault) links = tt

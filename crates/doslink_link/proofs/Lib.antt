@@ -1,2 +1,3 @@
+pub mod Beginning
 pub mod Bounds
-pub mod Sources
+pub mod Answers

@@ -1,8 +1,11 @@
-//! Modules in memory, linked.
+//! Modules in memory, read and linked.
 #![tactic(auto)]
 
+mod bytes;
 mod linking;
 mod page;
+mod reading;
 
-pub use linking::{Linked, link_bytes};
+pub use linking::{Linked, link_in_memory};
 pub use page::Page;
+pub use reading::{Read, read_all, read_in_front, read_one};

@@ -1,14 +1,13 @@
 //! Modules in memory, linked by `omf`'s link.
-ghost use Rattle.std.specs.Prelude.{◌≡◌, All, IfOk, map};
+ghost use Rattle.std.specs.Prelude.{IfOk};
 ghost use Rattle.omf_place.specs.Bounded.{IsBounded};
-ghost use Rattle.omf_commands.specs.Outcome.{Outcome};
-ghost use Rattle.doslink_link.specs.Linking.{HoldsProgramOf, IsLinkedAs, bytes_of};
+ghost use Rattle.doslink_link.specs.Linking.{LinksTo};
 
 use crate::page::Page;
-use omf_commands::{Options, Report, link};
+use omf_commands::{Options, Report, link_modules};
 use omf_faults::LinkFault;
-use omf_frame::MemSource;
-use std::alloc::{AllocError, Allocator};
+use omf_module::Module;
+use std::alloc::Allocator;
 
 /// A program that was linked.
 #[derive(Drop)]
@@ -19,45 +18,23 @@ pub struct Linked<A: Allocator + Copy> {
     pub file: Vec<u8, A>,
 }
 
-/// A source of each module's bytes.
-fn sources_over<'a, A: Allocator + Copy>(
-    alloc: A,
-    inputs: &[&'a [u8]],
-) -> Result<Vec<MemSource<'a>, A>, AllocError>
-    ensures bytes { IfOk result (λ sources. map (λ s. s.rest) sources.items ≡ bytes_of inputs.now) }
-    ensures works { IfOk result (λ sources. All (λ s. s.failures ≡ 0) sources.items) }
-{
-    let mut sources = Vec::new(alloc);
-    for bytes in inputs {
-        sources.push(MemSource::over(bytes, usize::MAX, None))?;
-    }
-    Ok(sources)
-}
-
-/// Links modules, each the bytes of an input up to its MODEND, in their order. The file of the program is made in
-/// memory.
+/// Links modules, in their order, and makes the file of their program in memory.
 ///
 /// # Errors
-/// Those of `link`: the first fault of reading, else of placement, else of data and fix-ups; want of memory.
-pub fn link_bytes<A: Allocator + Copy>(
+/// The first fault of placement, else of data and fix-ups, of the start, and of too many relocated words; want of
+/// memory.
+pub fn link_in_memory<A: Allocator + Copy>(
     alloc: A,
-    inputs: &[&[u8]],
+    modules: Vec<Module<A>, A>,
     options: &Options,
 ) -> Result<Linked<A>, LinkFault<A>>
-    // A program is answered exactly where no fault stands in the inputs, else the only one.
-    ensures outcome { Outcome options.now.names (bytes_of inputs.now) result }
-    // What was linked are the modules of the inputs' records, and the file is that of their program.
-    ensures linked { IfOk result (λ linked. IsLinkedAs options.now.names (bytes_of inputs.now) linked.report
-        linked.file.items) }
-    // The file holds the program of the inputs' records at each paragraph.
-    ensures headline { IfOk result (λ linked. HoldsProgramOf options.now.names (bytes_of inputs.now)
-        linked.file.items) }
+    // The program of these modules, which its file holds at each paragraph, exactly where no fault stands in them.
+    ensures links { LinksTo options.now.names modules.items result }
     // No number of the layout is out of range.
     ensures bounded { IfOk result (λ linked. IsBounded linked.report.modules.items linked.report.layout) }
 {
-    let mut sources = sources_over(alloc, inputs)?;
     let mut page = Page::new(alloc);
-    match link(alloc, &mut sources, &mut page, options) {
+    match link_modules(alloc, modules, &mut page, options) {
         Ok(report) => Ok(Linked {
             report,
             file: page.bytes,
