@@ -1,4 +1,4 @@
-//! What debuggers read, and data that shares a frame.
+//! What debuggers read, and far data.
 
 use crate::lowered::{PLAIN, run};
 use omf_lower::Lowering;
@@ -111,10 +111,7 @@ C2 00 00 01 00 00 00 00 01 02
 /// They are kept where that is asked.
 #[test]
 fn kept(rt: HostRuntime) -> Result<(), Fail> {
-    let lowering = Lowering {
-        keep_debug: true,
-        shares_far_data: false,
-    };
+    let lowering = Lowering { keep_debug: true };
     run(
         &rt,
         rt.alloc(),
@@ -128,69 +125,38 @@ A0 01 00 00 11 22
     )
 }
 
-/// Private and public segments of class FAR_DATA combine to one; stacks and common ones stay as they are.
+/// Segments of class FAR_DATA are lowered as any other: each keeps its name, and combines as it did.
 #[test]
-fn shared(rt: HostRuntime) -> Result<(), Fail> {
-    let lowering = Lowering {
-        keep_debug: false,
-        shares_far_data: true,
-    };
+fn far_data(rt: HostRuntime) -> Result<(), Fail> {
     run(
         &rt,
         rt.alloc(),
-        lowering,
+        PLAIN,
         "\
-# private ones, of 16 bits, of 65,536 bytes and of 32 bits; and data
-80 01 41
-96 00 08 46 41 52 5F 44 41 54 41 06 41 5F 44 41 54 41 05 44 57 41 52 46
-98 60 04 00 03 02 01
-98 62 00 00 03 80 02 01
-98 60 04 00 03 01 01
-98 28 04 00 03 04 01
-99 61 04 00 00 00 80 03 02 01
-99 21 00 00 01 00 03 02 01
-A0 01 00 00 11 22
---
-80 01 41
-96 00 08 46 41 52 5F 44 41 54 41 06 41 5F 44 41 54 41 05 44 57 41 52 46
-98 68 04 00 02 02 01
-98 6A 00 00 80 02 80 02 01
-98 60 04 00 03 01 01
-98 20 00 00 03 04 01
-98 68 04 00 02 02 01
-98 2A 00 00 02 02 01
-A0 01 00 00 11 22
-
-# public ones of each number, stack and common, between private ones
+# private, public, a stack and common, of 65,536 bytes, with an index of two bytes, and absolute
 80 01 41
 96 00 08 46 41 52 5F 44 41 54 41 03 54 42 4C
 98 60 04 00 03 02 01
 98 68 04 00 03 02 01
-98 70 04 00 03 02 01
-98 7C 04 00 03 02 01
 98 74 04 00 03 02 01
 98 78 04 00 03 02 01
-98 7A 00 00 03 02 01
+98 62 00 00 03 80 02 01
+98 00 00 B8 00 04 00 03 02 01
+
+# of 32 bits
+80 01 41
+96 00 08 46 41 52 5F 44 41 54 41 03 54 42 4C
+99 61 04 00 00 00 80 03 02 01
+99 21 00 00 01 00 03 02 01
 99 79 04 00 00 00 03 02 01
-98 60 04 00 03 02 01
+98 6B 00 00 03 02 01
 --
 80 01 41
 96 00 08 46 41 52 5F 44 41 54 41 03 54 42 4C
-98 68 04 00 02 02 01
-98 68 04 00 02 02 01
-98 68 04 00 02 02 01
-98 68 04 00 02 02 01
-98 74 04 00 03 02 01
+98 60 04 00 80 03 02 01
+98 22 00 00 03 02 01
 98 78 04 00 03 02 01
-98 7A 00 00 03 02 01
-98 78 04 00 03 02 01
-98 68 04 00 02 02 01
-
-# an absolute one
-80 01 41
-96 00 08 46 41 52 5F 44 41 54 41 03 54 42 4C
-98 00 00 B8 00 04 00 03 02 01
-98 08 00 B8 00 04 00 03 02 01",
+98 6A 00 00 03 02 01",
     )
 }
 

@@ -11,10 +11,7 @@ use std::process::Abort;
 use std::test::*;
 
 /// How modules are lowered where nothing else is said.
-pub const PLAIN: Lowering = Lowering {
-    keep_debug: false,
-    shares_far_data: false,
-};
+pub const PLAIN: Lowering = Lowering { keep_debug: false };
 
 /// Bytes in hexadecimal digits.
 pub fn digits_of(alloc: Global, bytes: &[u8]) -> Result<String, AllocError> {

@@ -18,8 +18,8 @@ use Rattle.omf_lower.specs.Externals.{communal_front, renamed_communal_front, na
 use Rattle.omf_lower.specs.Narrow.{public_front, line_front, block_front}
 use Rattle.omf_lower.specs.Fixups.{Reference, reference_front, narrowed, subrecord_front}
 use Rattle.omf_lower.specs.Content.{Content, Recipe, with_tail, made, of_bytes, empty_comment}
-use Rattle.omf_lower.specs.Segments.{Definition, definition, segment_recipe, is_kept_out, shares_frame, nothing_of}
-use Rattle.omf_lower.specs.Segments.{made_public, with_names, short_length}
+use Rattle.omf_lower.specs.Segments.{Definition, definition, segment_recipe, is_kept_out, nothing_of, short_length}
+use Rattle.omf_lower.specs.Segments.{short_segment}
 use Rattle.omf_lower.specs.Data.{Data, is_data}
 use Rattle.omf_lower.specs.Seen.{Seen, is_of_kept_out}
 use Rattle.omf_lower.specs.Records.{listing, stays_or, for_segment, for_publics, for_lines, for_wide_data, for_data}
@@ -69,17 +69,11 @@ segment-keeps : (lowering : Lowering) (names : List (List ℕ)) (kind : ℕ) (d 
     → Keeps kind (segment_recipe lowering names kind d)
 segment-keeps lowering names kind d e =
     choose (Keeps kind) (is_kept_out lowering names d) (Ok (Some (nothing_of d)))
-    (cond (shares_frame lowering names d) (with_names d (made_public d.acbp) (d.class_index ++ d.behind_name))
-    (cond (eqb kind 0x98 && eqb (d.acbp % 2) 0) (Ok None) (with_names d d.acbp d.names)))
+    (cond (eqb kind 0x98 && eqb (d.acbp % 2) 0) (Ok None) (short_segment d))
     (λ _. sym e)
     (λ _.
-    choose (Keeps kind) (shares_frame lowering names d)
-    (with_names d (made_public d.acbp) (d.class_index ++ d.behind_name))
-    (cond (eqb kind 0x98 && eqb (d.acbp % 2) 0) (Ok None) (with_names d d.acbp d.names))
-    (λ _. bind kind (short_length (made_public d.acbp) d.size) _ (λ size. sym e))
-    (λ _.
-    choose (Keeps kind) (eqb kind 0x98 && eqb (d.acbp % 2) 0) (Ok None) (with_names d d.acbp d.names) (λ _. tt)
-    (λ _. bind kind (short_length d.acbp d.size) _ (λ size. sym e))))
+    choose (Keeps kind) (eqb kind 0x98 && eqb (d.acbp % 2) 0) (Ok None) (short_segment d) (λ _. tt)
+    (λ _. bind kind (short_length d.acbp d.size) _ (λ size. sym e)))
 
 -- one that isn't a SEGDEF stays or is in the way
 define-keeps : (lowering : Lowering) (names : List (List ℕ)) (width kind : ℕ) (body : List ℕ)

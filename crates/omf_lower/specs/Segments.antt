@@ -1,19 +1,18 @@
 -- Segment definitions, 98H and 99H SEGDEF (TIS OMF 1.1, "Segment Definition Record"): which segments are kept out of
--- the program, and which share a frame.
-use Rattle.std.specs.Prelude.{ℕ, ◌+◌, ◌*◌, ◌/◌, ◌%◌, ◌==◌, Bool, false, not, ◌&&◌, ◌||◌, if◌then◌else◌}
-use Rattle.std.specs.Prelude.{nat_le, nat_lt, List, [], ◌∷◌, ◌++◌, length, slice_index, codes, Some, None, Ok}
-use Rattle.std.specs.Prelude.{Err}
+-- the program, and what others are with 16 bits.
+use Rattle.std.specs.Prelude.{ℕ, ◌+◌, ◌*◌, ◌/◌, ◌%◌, ◌==◌, Bool, false, not, ◌&&◌, ◌||◌, if◌then◌else◌, nat_lt, List}
+use Rattle.std.specs.Prelude.{[], ◌∷◌, ◌++◌, length, slice_index, codes, Some, None, Ok, Err}
 use Rattle.std.specs.declared.option.Option.{Option}
 use Rattle.std.specs.declared.result.Result.{Result}
 use Rattle.std.specs.Option.{option_map, option_map_or, option_and_then}
 use Rattle.std.specs.Str.{bytes_eq}
-use Rattle.omf_library.specs.Fields.{bytes_front, index_front}
+use Rattle.omf_library.specs.Fields.{bytes_front, index_front, behind}
 use Rattle.omf_library.specs.Entries.{listed_name}
 use Rattle.omf_lower.specs.declared.lowering.Lowering.{Lowering}
 use Rattle.omf_lower.specs.declared.fault.Obstacle.{Obstacle}
 use Rattle.omf_lower.specs.declared.fault.Obstacle.TheVariants.{Above16Bits}
 use Rattle.omf_lower.specs.Content.{Recipe}
-use Rattle.omf_lower.specs.Fields.{◌>>=◌, before, narrow}
+use Rattle.omf_lower.specs.Fields.{◌>>=◌, narrow}
 
 -- the fields of a SEGDEF
 pub record Definition : Type 0 where
@@ -25,38 +24,21 @@ pub record Definition : Type 0 where
   pub size : List ℕ
   -- the indexes of its name, its class and its overlay
   pub names : List ℕ
-  -- those of its class and its overlay
-  pub behind_name : List ℕ
-  -- that of its class
-  pub class_index : List ℕ
-  -- and its value
+  -- the index of its class, as a number
   pub class : ℕ
 
 -- how many bytes a frame word and an offset byte take: they stand where A, bits 7 to 5, is 0
 abbrev pub standing_len : ℕ → ℕ
 standing_len acbp = if nat_lt acbp 32 then 3 else 0
 
--- the fields, by those before the name's index, and the bytes behind that one
-abbrev pub with_class : (acbp : ℕ) (standing size names rest : List ℕ) → Option Definition
-with_class acbp standing size names rest = option_map
-    (λ (class, after). record {
-      acbp = acbp;
-      standing = standing;
-      size = size;
-      names = names;
-      behind_name = rest;
-      class_index = before rest after;
-      class = class;
-    })
-    (index_front rest)
-
 -- the fields of a body whose length has so many bytes
 unfoldable pub definition : ℕ → List ℕ → Option Definition
 definition width [] = None
 definition width (acbp ∷ rest) = option_and_then
     (λ (standing, after). option_and_then
-    (λ (size, names).
-    option_and_then (λ (name, behind). with_class acbp standing size names behind) (index_front names))
+    (λ (size, names). option_map
+    (λ (class, overlay). record { acbp = acbp; standing = standing; size = size; names = names; class = class })
+    (behind index_front (index_front names)))
     (bytes_front width after))
     (bytes_front (standing_len acbp) rest)
 
@@ -64,34 +46,13 @@ definition width (acbp ∷ rest) = option_and_then
 abbrev pub is_debug : List ℕ → Bool
 is_debug class = bytes_eq class (codes "DEBSYM") || bytes_eq class (codes "DEBTYP") || bytes_eq class (codes "DWARF")
 
--- data that is reached by far pointers has this one
-abbrev pub is_far_data : List ℕ → Bool
-is_far_data class = bytes_eq class (codes "FAR_DATA")
-
--- the segment's class is one of these, by the names so far
-abbrev pub has_class : (List ℕ → Bool) → List (List ℕ) → Definition → Bool
-has_class is names d = option_map_or is (listed_name names d.class) false
-
--- the segment is kept out
+-- the segment is kept out, by the names so far
 abbrev pub is_kept_out : Lowering → List (List ℕ) → Definition → Bool
-is_kept_out lowering names d = not lowering.keep_debug && has_class is_debug names d
-
--- a segment that is placed, A, bits 7 to 5, isn't 0, and is private or public: C, bits 4 to 2, is neither 5, a stack, nor
--- 6, common
-abbrev pub is_private_or_public : ℕ → Bool
-is_private_or_public acbp = nat_le 32 acbp && not ((acbp / 4 % 8 == 5) || (acbp / 4 % 8 == 6))
-
--- the segment shares a frame with all private and public ones of its class
-abbrev pub shares_frame : Lowering → List (List ℕ) → Definition → Bool
-shares_frame lowering names d = lowering.shares_far_data && is_private_or_public d.acbp && has_class is_far_data names d
+is_kept_out lowering names d = not lowering.keep_debug && option_map_or is_debug (listed_name names d.class) false
 
 -- what stays of a segment that is kept out: it is private, byte aligned, of length 0, and its names are the same
 abbrev pub nothing_of : Definition → Recipe
-nothing_of d = record { kind = 0x98; front = 0x20 ∷ 0 ∷ 0 ∷ d.names; tail = Ok [] }
-
--- C, bits 4 to 2, is 2: public
-abbrev pub made_public : ℕ → ℕ
-made_public acbp = acbp / 32 * 32 + 8 + acbp % 4
+nothing_of d = record { kind = 0x98; front = 0x20 ∷ 0 ∷ 0 ∷ []; tail = Ok d.names }
 
 -- P, bit 0, is 0: a segment of 16 bits
 abbrev pub of_16_bits : ℕ → ℕ
@@ -111,16 +72,14 @@ short_length acbp size =
     else if is_64_kib size then Ok (of_16_bits acbp + 2, 0 ∷ 0 ∷ [])
     else (narrow size >>= λ number. Ok (of_16_bits acbp, number.0))
 
--- a segment of 16 bits with this byte and these names
-abbrev pub with_names : Definition → ℕ → List ℕ → Result (Option Recipe) Obstacle
-with_names d acbp names = short_length acbp d.size >>= λ (byte, size).
-    Ok (Some (record { kind = 0x98; front = byte ∷ (d.standing ++ (size ++ names)); tail = Ok [] }))
+-- the same segment, of 16 bits
+abbrev pub short_segment : Definition → Result (Option Recipe) Obstacle
+short_segment d = short_length d.acbp d.size >>= λ (byte, size).
+    Ok (Some (record { kind = 0x98; front = byte ∷ (d.standing ++ size); tail = Ok d.names }))
 
--- what is written for a SEGDEF of this type; none, where it stays: it is of 16 bits. One that shares a frame is public,
--- and the name of its class is its own; all others combine as they did
+-- what is written for a SEGDEF of this type; none, where it stays: it is of 16 bits
 abbrev pub segment_recipe : Lowering → List (List ℕ) → ℕ → Definition → Result (Option Recipe) Obstacle
 segment_recipe lowering names kind d =
     if is_kept_out lowering names d then Ok (Some (nothing_of d))
-    else if shares_frame lowering names d then with_names d (made_public d.acbp) (d.class_index ++ d.behind_name)
     else if (kind == 0x98) && (d.acbp % 2 == 0) then Ok None
-    else with_names d d.acbp d.names
+    else short_segment d

@@ -63,7 +63,7 @@ fn with_meaning<'a>(
     if 255 < name.len() {
         return Err(Obstacle::TooLong);
     }
-    Ok(Written::Named(name.len() as u8, name, rest))
+    Ok(Written::Behind(name.len() as u8, name, rest))
 }
 
 /// What is written for the external at the front, and the bytes behind it.

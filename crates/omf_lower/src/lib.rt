@@ -25,5 +25,4 @@ pub use fault::{LoweringFault, Obstacle};
 pub use laws::{externals_are_renamed, records_are_kept};
 pub use lowering::{Lowering, lower};
 pub use places::record_place;
-pub use segments::is_far_data;
 pub use wide::{has_wide_fixups, has_wide_start};

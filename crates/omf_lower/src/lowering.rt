@@ -15,8 +15,6 @@ use std::alloc::Allocator;
 pub struct Lowering {
     /// Whether what debuggers read, of the classes DEBSYM, DEBTYP and DWARF, is kept in the program.
     pub keep_debug: bool,
-    /// Whether the private segments of class FAR_DATA combine to one, so that they share a frame.
-    pub shares_far_data: bool,
 }
 
 /// The module lowered, with what names mean in the place of its externals' names, or None where it is the same; else the

@@ -146,7 +146,7 @@ fn for_start<'a>(attribute: u8, start: &Reference<'a>) -> Result<Option<Recipe<'
     let displacement = narrowed(start.displacement)?;
     Ok(Some(Recipe {
         kind: 0x8A,
-        front: Written::Named(attribute, start.datum, displacement),
+        front: Written::Behind(attribute, start.datum, displacement),
         tail: Tail::Same,
         rest: start.rest,
     }))

@@ -1,17 +1,16 @@
 //! Segment definitions, 98H and 99H SEGDEF.
 
-ghost use Rattle.std.specs.Prelude.{◌≡◌, ◌++◌, ◌≤◌, length};
+ghost use Rattle.std.specs.Prelude.{◌≡◌, ◌≤◌, length};
 ghost use Rattle.omf_library.specs.Names.{texts};
 ghost use Rattle.omf_lower.specs.Records.{for_segment};
-ghost use Rattle.omf_lower.specs.Segments.{definition, is_debug, is_far_data, is_kept_out, is_private_or_public};
-ghost use Rattle.omf_lower.specs.Segments.{is_64_kib, made_public, of_16_bits, nothing_of, segment_recipe, shares_frame};
-ghost use Rattle.omf_lower.specs.Segments.{short_length, standing_len, with_names};
+ghost use Rattle.omf_lower.specs.Segments.{definition, is_64_kib, is_debug, is_kept_out, nothing_of, of_16_bits};
+ghost use Rattle.omf_lower.specs.Segments.{segment_recipe, short_length, short_segment, standing_len};
 ghost use Rattle.omf_lower.specs.inside.Recipes.{recipe_view, recipes_said};
 ghost use Rattle.omf_lower.specs.inside.Views.{definition_view, definition_said, length_said};
 
 use crate::entries::Tail;
 use crate::fault::Obstacle;
-use crate::fields::{before, narrow};
+use crate::fields::narrow;
 use crate::lowering::Lowering;
 use crate::recipe::Recipe;
 use crate::written::Written;
@@ -28,11 +27,7 @@ pub(crate) struct Definition<'a> {
     size: &'a [u8],
     /// The indexes of its name, its class and its overlay.
     names: &'a [u8],
-    /// Those of its class and its overlay.
-    behind_name: &'a [u8],
-    /// That of its class.
-    class_index: &'a [u8],
-    /// And its value.
+    /// The index of its class, as a number.
     class: u16,
 }
 
@@ -53,15 +48,13 @@ pub(crate) fn read_definition(width: usize, body: &[u8]) -> Option<Definition<'_
     };
     let (standing, rest) = take_bytes(rest, standing_len(*acbp))?;
     let (size, names) = take_bytes(rest, width)?;
-    let (_, behind_name) = take_index(names)?;
-    let (class, rest) = take_index(behind_name)?;
+    let (_, rest) = take_index(names)?;
+    let (class, _) = take_index(rest)?;
     Some(Definition {
         acbp: *acbp,
         standing,
         size,
         names,
-        behind_name,
-        class_index: before(behind_name, rest),
         class,
     })
 }
@@ -71,13 +64,6 @@ fn is_debug(class: &[u8]) -> bool
     ensures { result ≡ is_debug class.now }
 {
     class == b"DEBSYM".as_slice() || class == b"DEBTYP".as_slice() || class == b"DWARF".as_slice()
-}
-
-/// Whether data that is reached by far pointers has this class: FAR_DATA.
-pub fn is_far_data(class: &[u8]) -> bool
-    ensures { result ≡ is_far_data class.now }
-{
-    class == b"FAR_DATA".as_slice()
 }
 
 /// Whether the segment is kept out of the program, by the names so far.
@@ -91,33 +77,6 @@ pub(crate) fn is_kept_out(lowering: Lowering, names: &[&[u8]], definition: &Defi
         Some(class) => is_debug(class),
         None => false,
     }
-}
-
-/// Whether a segment with this byte A, C, B, P is placed, and private or public: neither a stack nor common.
-fn is_private_or_public(acbp: u8) -> bool
-    ensures { result ≡ is_private_or_public acbp }
-{
-    32 <= acbp && !(acbp / 4 % 8 == 5 || acbp / 4 % 8 == 6)
-}
-
-/// Whether the segment shares a frame with all private and public ones of its class.
-fn shares_frame(lowering: Lowering, names: &[&[u8]], definition: &Definition<'_>) -> bool
-    ensures { result ≡ shares_frame lowering (texts names.now) (definition_view «definition».now) }
-{
-    if !lowering.shares_far_data || !is_private_or_public(definition.acbp) {
-        return false;
-    }
-    match listed_name(names, definition.class) {
-        Some(class) => is_far_data(class),
-        None => false,
-    }
-}
-
-/// The byte A, C, B, P with C = 2.
-fn made_public(acbp: u8) -> u8
-    ensures { result ≡ made_public acbp }
-{
-    acbp / 32 * 32 + 8 + acbp % 4
 }
 
 /// The byte A, C, B, P with P = 0.
@@ -159,27 +118,22 @@ fn nothing_of<'a>(definition: &Definition<'a>) -> Recipe<'a>
 {
     Recipe {
         kind: 0x98,
-        front: Written::Behind(0x20, &[], &[0, 0], &[], definition.names),
+        front: Written::Same(&[0x20, 0, 0]),
         tail: Tail::Same,
-        rest: &[],
+        rest: definition.names,
     }
 }
 
-/// A segment of 16 bits with this byte A, C, B, P and these two parts of its names.
-fn with_names<'a>(
-    definition: &Definition<'a>,
-    acbp: u8,
-    name: &'a [u8],
-    names: &'a [u8],
-) -> Result<Option<Recipe<'a>>, Obstacle>
-    ensures { recipes_said result ≡ with_names (definition_view «definition».now) acbp (name.now ++ names.now) }
+/// The same segment, of 16 bits.
+fn short_segment<'a>(definition: &Definition<'a>) -> Result<Option<Recipe<'a>>, Obstacle>
+    ensures { recipes_said result ≡ short_segment (definition_view «definition».now) }
 {
-    let (acbp, size) = short_length(acbp, definition.size)?;
+    let (acbp, size) = short_length(definition.acbp, definition.size)?;
     Ok(Some(Recipe {
         kind: 0x98,
-        front: Written::Behind(acbp, definition.standing, size, name, names),
+        front: Written::Behind(acbp, definition.standing, size),
         tail: Tail::Same,
-        rest: &[],
+        rest: definition.names,
     }))
 }
 
@@ -196,19 +150,10 @@ fn segment_recipe<'a>(
     if is_kept_out(lowering, names, definition) {
         return Ok(Some(nothing_of(definition)));
     }
-    if shares_frame(lowering, names, definition) {
-        let acbp = made_public(definition.acbp);
-        return with_names(
-            definition,
-            acbp,
-            definition.class_index,
-            definition.behind_name,
-        );
-    }
     if kind == 0x98 && definition.acbp % 2 == 0 {
         return Ok(None);
     }
-    with_names(definition, definition.acbp, &[], definition.names)
+    short_segment(definition)
 }
 
 /// What is written for a SEGDEF of this type and body, whose length has so many bytes. None where it stays, as a 98H

@@ -32,10 +32,8 @@ pub(crate) enum Written<'a> {
     Two(&'a [u8], &'a [u8]),
     /// Those behind two others.
     Three(&'a [u8], &'a [u8], &'a [u8]),
-    /// A name behind its length, and bytes behind it.
-    Named(u8, &'a [u8], &'a [u8]),
-    /// A byte, and bytes behind it.
-    Behind(u8, &'a [u8], &'a [u8], &'a [u8], &'a [u8]),
+    /// A byte, as a name's length, and bytes behind it.
+    Behind(u8, &'a [u8], &'a [u8]),
     /// The two bytes of a fix-up's location, and bytes behind them.
     Located(u8, u8, &'a [u8], &'a [u8]),
     /// The same, with a fix-up behind them.
@@ -82,10 +80,7 @@ pub(crate) fn push_written<A: Allocator + Copy>(
         Written::Same(bytes) => out.extend_from_slice(bytes),
         Written::Two(first, second) => push_parts(&[first, second], out),
         Written::Three(first, second, third) => push_parts(&[first, second, third], out),
-        Written::Named(length, name, rest) => push_parts(&[&[length], name, rest], out),
-        Written::Behind(byte, first, second, third, fourth) => {
-            push_parts(&[&[byte], first, second, third, fourth], out)
-        }
+        Written::Behind(byte, first, second) => push_parts(&[&[byte], first, second], out),
         Written::Located(first, low, datum, displacement) => {
             push_parts(&[&[first, low], datum, displacement], out)
         }

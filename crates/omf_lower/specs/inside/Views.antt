@@ -8,7 +8,7 @@ use Rattle.omf_library.specs.Said.{bytes_said}
 use Rattle.omf_lower.specs.declared.fault.Obstacle.{Obstacle}
 use Rattle.omf_lower.specs.declared.written.Carry.{Carry}
 use Rattle.omf_lower.specs.declared.written.Written.{Written}
-use Rattle.omf_lower.specs.declared.written.Written.TheVariants.{Nothing, Same, Two, Three, Named, Behind, Located, Carried}
+use Rattle.omf_lower.specs.declared.written.Written.TheVariants.{Nothing, Same, Two, Three, Behind, Located, Carried}
 use Rattle.omf_lower.specs.declared.segments.Definition as definition
 use Rattle.omf_lower.specs.declared.fixups.Reference as reference
 use Rattle.omf_lower.specs.declared.data.Data as data'
@@ -39,8 +39,7 @@ written_text Nothing = []
 written_text (Same a) = a.now
 written_text (Two a b) = a.now ++ b.now
 written_text (Three a b c) = a.now ++ (b.now ++ c.now)
-written_text (Named length name rest) = length ∷ (name.now ++ rest.now)
-written_text (Behind byte a b c d) = byte ∷ (a.now ++ (b.now ++ (c.now ++ d.now)))
+written_text (Behind byte a b) = byte ∷ (a.now ++ b.now)
 written_text (Located first low a b) = first ∷ low ∷ (a.now ++ b.now)
 written_text (Carried first low a b carry) = first ∷ low ∷ (a.now ++ (b.now ++ carry_view carry))
 
@@ -76,8 +75,6 @@ definition_view d = record {
   standing = d.standing.now;
   size = d.size.now;
   names = d.names.now;
-  behind_name = d.behind_name.now;
-  class_index = d.class_index.now;
   class = d.class;
 }
 

@@ -2,7 +2,7 @@ use Rattle.std.proofs.Common.{◌≡◌, ◌+◌, length, sym, subst, ◌∙◌,
 use Rattle.omf_alias.specs.Said.{renaming_said}
 use Rattle.omf_frame.specs.Lending.{plain_frame}
 use Rattle.omf_library.specs.Records.{place_behind}
-use Rattle.omf_lower.specs.Module.{Answers, lowered}
+use Rattle.omf_lower.specs.Module.{lowered}
 use Rattle.omf_lower.specs.Seen.{Seen, nothing_seen, seen_after}
 use Rattle.omf_lower.specs.inside.Drafts.{Draft, draft_view, Extends}
 use Rattle.omf_lower.specs.inside.Views.{seen_view}
@@ -77,7 +77,8 @@ returns-in_err-put_lowered g c =
     let m = c.args.module.now in
     let f = plain_frame c.in-Ok.frame in
     let at : f.place ≡ c.loop-frame.place = c.in-Ok.ensures.place in
-    let fault = answers-fault g.row.A.Denot (Unit {0}) l r m c.loop-frame.place c.loop-frame.number (seen_view c.loop-frame.seen)
+    let fault =
+    answers-fault g.row.A.Denot (Unit {0}) l r m c.loop-frame.place c.loop-frame.number (seen_view c.loop-frame.seen)
     (draft_view c.loop-frame.draft) (draft_view c.put_lowered.new.self) f _ c.loop-frame.invariant
     (sym c.in-Ok.ensures.said) (omega (arith, at)) (omega (arith, at, c.in-Ok.ensures.within))
     c.in_err-put_lowered.ensures in
