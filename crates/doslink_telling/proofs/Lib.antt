@@ -1,3 +1,4 @@
 pub mod Staying
 pub mod Texts
 pub mod Doubled
+mod WorkedNumbers

@@ -1,5 +1,5 @@
 -- The lines of refusals and warnings of a whole program, and how many of a kind are told.
-use Rattle.std.specs.Prelude.{ℕ, ◌+◌, ◌/◌, ◌%◌, ◌==◌, nat_lt, if◌then◌else◌, List, [], ◌∷◌, ◌++◌, codes, decimal}
+use Rattle.std.specs.Prelude.{ℕ, ◌%◌, ◌==◌, ◌&&◌, nat_lt, if◌then◌else◌, List, [], ◌∷◌, ◌++◌, codes, decimal, length}
 use Rattle.std.specs.declared.option.Option.{Option}
 use Rattle.std.specs.List.{concat}
 use Rattle.std.specs.Option.{option_map_or}
@@ -9,16 +9,15 @@ use Rattle.omf_text.specs.Printing.{printed_name}
 
 -- ---- numbers
 
--- the last three digits of a number
-abbrev pub three_digits : ℕ → List ℕ
-three_digits n = (48 + n / 100 % 10) ∷ (48 + n / 10 % 10) ∷ (48 + n % 10) ∷ []
+-- digits, with a comma behind each that others follow, where the number of these is a multiple of three
+abbrev pub with_commas : List ℕ → List ℕ
+with_commas [] = []
+with_commas (digit ∷ more) =
+    digit ∷ (if nat_lt 0 (length more) && length more % 3 == 0 then codes "," else []) ++ with_commas more
 
--- a number with a comma before its last three digits and before those in front of them
+-- a number in decimal, its digits in groups of three from the end, with a comma between two groups
 abbrev pub grouped : ℕ → List ℕ
-grouped n =
-    if nat_lt n 1000 then decimal n
-    else (if nat_lt n 1_000_000 then concat (decimal (n / 1000) ∷ codes "," ∷ three_digits n ∷ [])
-    else concat (decimal (n / 1_000_000) ∷ codes "," ∷ three_digits (n / 1000) ∷ codes "," ∷ three_digits n ∷ []))
+grouped n = with_commas (decimal n)
 
 -- ---- what is told at most
 

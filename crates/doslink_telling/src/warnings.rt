@@ -1,57 +1,27 @@
 //! The lines of refusals and warnings of a whole program, and how many of a kind are told.
-ghost use Rattle.std.specs.Prelude.{◌≡◌, ◌+◌, ◌++◌, ◌∷◌, ◌<◌, [], OnOk, codes, decimal};
+ghost use Rattle.std.specs.Prelude.{◌≡◌, ◌++◌, ◌∷◌, [], OnOk, codes, decimal};
 ghost use Rattle.std.specs.List.{concat};
 ghost use Rattle.omf_faults.specs.FaultLines.{program_label, text_of};
 ghost use Rattle.doslink_telling.specs.Warnings as spec;
 
 use crate::lines::{Part, push_front, push_name, push_parts};
+use itoa::Buffer;
 use omf_faults::ProgramFault;
 use std::alloc::{AllocError, Allocator};
 
-/// The digit that a number below ten is.
-fn digit(value: u64) -> u8
-    requires { value < 10 }
-    ensures { result ≡ 48 + value }
-{
-    b'0' + value as u8
-}
-
-/// The last three digits of a number.
-fn three_digits(count: u64) -> [u8; 3]
-    ensures { result ≡ spec.three_digits count }
-{
-    [
-        digit(count / 100 % 10),
-        digit(count / 10 % 10),
-        digit(count % 10),
-    ]
-}
-
-/// Appends a number with a comma before its last three digits and before those in front of them.
+/// Appends a number with commas between its groups of three digits.
 fn push_grouped<A: Allocator + Copy>(lines: &mut Vec<u8, A>, count: u64) -> Result<(), AllocError>
     ensures { OnOk result (lines.new.items ≡ lines.old.items ++ spec.grouped count) }
 {
-    let last = three_digits(count);
-    if count < 1000 {
-        return push_parts(lines, [Part::Count(count)].as_slice());
+    let mut buffer = Buffer::new();
+    let digits = buffer.format(count).as_bytes();
+    for (index, digit) in digits.iter().enumerate() {
+        if index > 0 && (digits.len() - index) % 3 == 0 {
+            lines.push(b',')?;
+        }
+        lines.push(*digit)?;
     }
-    if count < 1_000_000 {
-        let parts = [
-            Part::Count(count / 1000),
-            Part::Text(","),
-            Part::Bytes(last.as_slice()),
-        ];
-        return push_parts(lines, parts.as_slice());
-    }
-    let middle = three_digits(count / 1000);
-    let parts = [
-        Part::Count(count / 1_000_000),
-        Part::Text(","),
-        Part::Bytes(middle.as_slice()),
-        Part::Text(","),
-        Part::Bytes(last.as_slice()),
-    ];
-    push_parts(lines, parts.as_slice())
+    Ok(())
 }
 
 /// Appends a number with commas between two texts.

@@ -1,6 +1,5 @@
-use Rattle.std.proofs.Common.{◌++◌, ◌∙◌, ap, append-nil, codes, sym}
+use Rattle.std.proofs.Common.{append-nil, codes, sym}
 use Rattle.omf_text.specs.Printing.{printed_name}
-use Rattle.doslink_telling.specs.Warnings.{name_text}
 use Rattle.doslink_telling.proofs.Texts.{then-ok}
 use Rattle.doslink_telling.proofs.warnings.push_name_at_fault.Goals as goal
 
