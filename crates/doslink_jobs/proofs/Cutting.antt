@@ -1,20 +1,16 @@
 -- New bytes of modules, one module behind the other.
-use Rattle.std.proofs.Common.{◌≡◌, ℕ, suc, List, [], ◌∷◌, ◌++◌, Some, None, Vec, length, map, arith, refl, sym, ap, ◌∙◌}
+use Rattle.std.proofs.Common.{◌≡◌, ℕ, List, [], ◌∷◌, ◌++◌, Some, None, Vec, length, map, arith, refl, sym, ap, ◌∙◌}
 use Rattle.std.proofs.Common.{append_assoc, false, inr, MatchResult, Result}
 use Rattle.std.proofs.lemmas.List.{map-append}
 use Rattle.std.specs.declared.option.Option.{Option}
-use Rattle.std.specs.Borrow.{Bor}
 use Rattle.std.specs.Option.{option_map_or, unwrap_or}
-use Rattle.omf_record.specs.Records.{Placed}
 use Rattle.omf_module.specs.Module.{Module}
-use Rattle.omf_module.specs.Tables.{module_of}
 use Rattle.omf_stack.specs.Cut.{handed}
-use Rattle.doslink_link.specs.Linking.{AllBeginWith, bytes_of}
+use Rattle.doslink_link.specs.Reading.{AreRead}
 use Rattle.doslink_words.specs.declared.job.Stack.{Stack}
 use Rattle.omf_stack.specs.Answer.{TooLong, answer}
 use Rattle.doslink_jobs.specs.declared.stacking.Change.{Change}
 use Rattle.doslink_jobs.specs.declared.stop.Stop.{Stop}
-use Rattle.doslink_jobs.specs.Orders.{AreRead}
 use Rattle.doslink_jobs.specs.Refusals.{IsTooLong}
 use Rattle.doslink_jobs.specs.Stacks.{HasStack, IsStacked}
 use Rattle.doslink_jobs.specs.inside.Changes.{changed}
@@ -53,18 +49,6 @@ pub bytes-or : {A : Type 0} (o : Option (Vec ℕ A)) (bytes : Vec ℕ A)
     → (unwrap_or o bytes).items ≡ option_map_or (λ v. v.items) o bytes.items
 bytes-or None bytes = refl
 bytes-or (Some v) bytes = refl
-
-begin-length : (lists : List (List Placed)) (slices : List (Bor (List ℕ))) → AllBeginWith lists (bytes_of slices)
-    → length (map module_of lists) ≡ length slices
-begin-length [] [] all = refl
-begin-length [] (s ∷ ss) all = absurd all
-begin-length (l ∷ ls) [] all = absurd all
-begin-length (l ∷ ls) (s ∷ ss) all = ap suc (begin-length ls ss all.1)
-
--- inputs begin with as many modules
-pub read-length : (slices : List (Bor (List ℕ))) (modules : List Module) → AreRead (bytes_of slices) modules
-    → length modules ≡ length slices
-read-length slices modules (lists, all, are) = ap length are ∙ begin-length lists slices all
 
 -- what gives the stack of what inputs begin with its length, by what gives it that of their modules
 pub steps-of : {A : Type 0} (stack : Stack) (order inputs slices : List (List ℕ)) (modules : List Module)

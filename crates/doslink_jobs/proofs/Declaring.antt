@@ -1,11 +1,9 @@
 -- What modules declare, as it is held.
-use Rattle.std.proofs.Common.{◌≡◌, ℕ, ◌+◌, ◌<◌, List, [], ◌∷◌, ◌++◌, length, map, Bor, Ok, subst, sym, ap, ◌∙◌}
+use Rattle.std.proofs.Common.{◌≡◌, ℕ, ◌+◌, ◌<◌, List, [], length, map, Bor, Ok, subst, sym, ap, ◌∙◌}
 use Rattle.std.proofs.Common.{◌==◌, true, get_or, take, arith}
 use Rattle.std.proofs.ByRecursion.{All-push}
-use Rattle.std.proofs.lemmas.List.{map-append, map_more, nil_from_length}
+use Rattle.std.proofs.lemmas.List.{map_more, nil_from_length}
 use Rattle.omf_communal.specs.declared.declarations.Communal as lent
-use Rattle.omf_communal.specs.declared.declarations.Variable as variable
-use Rattle.omf_communal.specs.Deciding.{variable_said}
 use Rattle.omf_communal.specs.Modules.{bytes_of}
 use Rattle.omf_communal.specs.Modules as communal
 use Rattle.omf_communal.specs.declared.declarations.Scope.TheVariants as scope
@@ -18,7 +16,6 @@ use Rattle.doslink_jobs.specs.declared.lowering.LoweredModule.{LoweredModule}
 use Rattle.doslink_jobs.specs.Communals.{declared_by}
 use Rattle.doslink_jobs.specs.inside.Declaring.{DeclareNone, declared_said}
 use Rattle.doslink_jobs.specs.inside.Inputs.{own_bytes}
-use Rattle.doslink_jobs.proofs.Lists.{map-map}
 
 -- one with these communal variables
 abbrev said_with : (offered : List (List ℕ)) → List Communal → communal.Module

@@ -1,18 +1,19 @@
 -- What was done, step by step.
-use Rattle.std.proofs.Common.{◌≡◌, ℕ, List, [], ◌∷◌, ◌++◌, length, arith, map, Result, Ok, Err}
-use Rattle.std.proofs.Common.{◌==◌, ◌≢◌, true≢false, false, MatchResult, Bool, refl, sym, subst, ap, ap₂, ◌∙◌}
+use Rattle.std.proofs.Common.{◌≡◌, ℕ, List, [], ◌∷◌, length, arith, map, Result, Ok, Err}
+use Rattle.std.proofs.Common.{◌==◌, ◌≢◌, true≢false, false, MatchResult, Bool, refl, sym, subst, ap, ◌∙◌}
 use Rattle.std.proofs.Common.{inl, inr}
 use Rattle.std.specs.declared.option.Option.{Option}
 use Rattle.omf_communal.specs.Deciding.{Variable}
+use Rattle.omf_module.specs.Module as omf
 use Rattle.omf_place.specs.declared.names.Names.{Names}
 use Rattle.clap.specs.Words.{Text}
 use Rattle.doslink_words.specs.declared.job.Job.{Job}
-use Rattle.doslink_words.specs.Tokens.{texts}
 use Rattle.doslink_jobs.specs.declared.stop.Stop.{Stop}
 use Rattle.doslink_jobs.specs.declared.stop.Stop.TheVariants.{Input, Words, Device, Memory}
 use Rattle.doslink_stock.specs.Files.{Held, needs}
 use Rattle.doslink_jobs.specs.Communals.{AreVariablesOf}
-use Rattle.doslink_jobs.specs.Jobs.{AreInputsOf, EndsWith, IsDone, IsLinkOf, names_of}
+use Rattle.doslink_jobs.specs.Jobs.{AreInputsOf, EndsWith, IsDone, IsLinkOf, names_of, taking_for}
+use Rattle.doslink_jobs.specs.Meant.{AreMeant}
 use Rattle.doslink_jobs.specs.Refusals.{AreMissingOf, IsRefusedJob, IsRefusedOf}
 use Rattle.doslink_jobs.specs.Runs.{AskForNone, EndsBy}
 use Rattle.doslink_jobs.specs.inside.Inputs.{IsLinkedWith, IsRefusedWith}
@@ -21,8 +22,9 @@ use Rattle.omf_search.specs.Said.{Module, Wanted}
 use Rattle.doslink_telling.specs.Missing.{unmet, wants_marks}
 
 -- a link of modules is one of what takes them
-pub link-of : (A : Type 0) (job : Job) (Written Other : List (List ℕ) → Type 0) (modules : List Held)
-    (takes : List Held → Type 0) → takes modules → ((inputs : List (List ℕ)) → Written inputs → Other inputs)
+pub link-of : (A : Type 0) (job : Job) (Written Other : List (List ℕ) → List omf.Module → Type 0)
+    (modules : List Held) (takes : List Held → Type 0) → takes modules
+    → ((inputs : List (List ℕ)) (meant : List omf.Module) → Written inputs meant → Other inputs meant)
     → IsLinkOf A job Written (λ ms. ms ≡ modules) → IsLinkOf A job Other takes
 link-of A job Written Other modules takes taken written linked = record {
   modules = linked.modules;
@@ -32,8 +34,10 @@ link-of A job Written Other modules takes taken written linked = record {
   are_variables = linked.are_variables;
   met = linked.met;
   are_inputs = linked.are_inputs;
+  meant = linked.meant;
+  are_meant = linked.are_meant;
   faultless = linked.faultless;
-  written = written linked.linked linked.written;
+  written = written linked.linked linked.meant linked.written;
 }
 
 -- modules that can't be linked are such of what takes them
@@ -42,12 +46,13 @@ pub link-refused : (A : Type 0) (job : Job) (modules : List Held) (takes : List 
 link-refused A job modules takes taken (ms, same, refused) = (ms, subst takes (sym same) taken, refused)
 
 -- modules that say so of names are linked with their communal variables
-pub linked-with : (A : Type 0) (job : Job) (Written : List (List ℕ) → Type 0) (names : Names)
+pub linked-with : (A : Type 0) (job : Job) (Written : List (List ℕ) → List omf.Module → Type 0) (names : Names)
     (marks : Bool) (modules : List Held) (vs : List Variable) (says : List Module)
     → names ≡ names_of job.ignore_case → says ≡ map needs modules → AreVariablesOf names modules vs
     → (unmet (names_of job.ignore_case) says ≡ []) × (marks ≡ wants_marks (names_of job.ignore_case) says)
     → IsLinkedWith A job Written says marks modules vs → IsLinkOf A job Written (λ ms. ms ≡ modules)
-linked-with A job Written names marks modules vs says same all are (met, wants) (linked, inputs, faultless, written) =
+linked-with A job Written names marks modules vs says same all are (met, wants)
+    (linked, inputs, meant, are_meant, faultless, written) =
     let those = names_of job.ignore_case in
     let mine = map needs modules in
     record {
@@ -59,6 +64,8 @@ linked-with A job Written names marks modules vs says same all are (met, wants) 
       met = ap (unmet those) (sym all) ∙ met;
       are_inputs = subst (λ m. AreInputsOf job mine m modules vs linked) (wants ∙ ap (wants_marks those) all)
           (subst (λ s. AreInputsOf job s marks modules vs linked) all inputs);
+      meant = meant;
+      are_meant = subst (λ s. AreMeant (taking_for job s) linked meant) all are_meant;
       faultless = faultless;
       written = written;
     }

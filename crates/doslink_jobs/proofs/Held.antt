@@ -1,6 +1,6 @@
 -- The names that are defined in a link, as they are held.
-use Rattle.std.proofs.Common.{◌≡◌, ℕ, Bool, true, false, cond, ◌||◌, List, [], ◌∷◌, ◌++◌, map}
-use Rattle.std.proofs.Common.{find, is_some, Option, None, Some, refl, sym, ap, ap₂, ◌∙◌}
+use Rattle.std.proofs.Common.{◌≡◌, ℕ, Bool, true, false, cond, ◌||◌, List, [], ◌∷◌, ◌++◌}
+use Rattle.std.proofs.Common.{find, is_some, Option, None, Some, refl, ap, ap₂, ◌∙◌}
 use Rattle.std.proofs.lemmas.List.Folds.{list_any-append}
 use Rattle.std.specs.Cmp.{IsEquivalence}
 use Rattle.std.specs.Cmp.Lexicographic.{on_texts_equal}
@@ -13,7 +13,7 @@ use Rattle.omf_alias.specs.declared.named.NamedValue.{NamedValue}
 use Rattle.omf_place.specs.Names.{agrees, spelled}
 use Rattle.omf_place.specs.declared.names.Names.{Names}
 use Rattle.omf_search.specs.Said.{Module}
-use Rattle.doslink_jobs.specs.Aliases.{has_name, is_defined}
+use Rattle.doslink_jobs.specs.Aliases.{is_defined}
 use Rattle.doslink_jobs.specs.inside.Defined.{defined_names, names_held}
 
 names_agree : (names : Names) → IsEquivalence (agrees names)

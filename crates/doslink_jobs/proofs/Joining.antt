@@ -9,9 +9,10 @@ use Rattle.omf_search.specs.Said.{Module}
 use Rattle.doslink_stock.specs.Files.{Held}
 use Rattle.doslink_words.specs.declared.job.Job.{Job}
 use Rattle.doslink_jobs.specs.declared.overflow.Narrowed.{Narrowed}
-use Rattle.doslink_jobs.specs.Jobs.{AreInputsOf, AreLoweredFor, asking_of, names_of}
+use Rattle.doslink_jobs.specs.Jobs.{AreInputsOf, AreLoweredFor, asking_of, names_of, taking_for}
 use Rattle.doslink_jobs.specs.Joined.{AreJoined}
 use Rattle.doslink_jobs.specs.Locals.{HaveLocals}
+use Rattle.doslink_jobs.specs.Meant.{AreMeant}
 use Rattle.doslink_jobs.specs.Overflow.{HaveOverflow, NarrowFixups}
 use Rattle.doslink_jobs.specs.Refusals.{AreNotJoined, HasNoLocals, HaveNoInputs, IsNotLowered}
 use Rattle.doslink_jobs.specs.inside.Sums.{AllFit, SomeOverflows}
@@ -37,7 +38,7 @@ pub inputs-are : (job : Job) (names : Names) (marks : Bool) (modules : List Held
     → names ≡ names_of job.ignore_case → held ≡ bytes_in modules → own ≡ held → AreLoweredFor job says held lowered
     → HaveLocals names own lowered inputs → (narrowed.fixups ≡ false → NarrowFixups own lowered → ⊥)
     → narrowed.start ≡ list_any has_wide_start own → JoinedFor job marks modules inputs vs linked
-    → AllFit narrowed names linked → AreInputsOf job says marks modules vs linked
+    → AllFit narrowed names (AreMeant (taking_for job says) linked) → AreInputsOf job says marks modules vs linked
 inputs-are job names marks modules says vs narrowed held own lowered inputs linked same is mine are have none start
     joined fits =
     let all : own ≡ bytes_in modules = mine ∙ is in
@@ -48,8 +49,9 @@ inputs-are job names marks modules says vs narrowed held own lowered inputs link
       have_locals = have-locals names (names_of job.ignore_case) own (bytes_in modules) lowered inputs same all have;
       joined = joined;
       fit = fit-of _ _ narrowed.fixups (λ no. subst (λ o. NarrowFixups o lowered → ⊥) all (none no))
-          (λ yes. subst (λ n. HaveOverflow first_overflow n linked → ⊥) same (fits.fixups yes));
-      start_fits = λ narrow. subst (λ n. HaveOverflow start_overflow n linked → ⊥) same
+          (λ yes. subst (λ n. HaveOverflow first_overflow n (AreMeant (taking_for job says) linked) → ⊥) same
+          (fits.fixups yes));
+      start_fits = λ narrow. subst (λ n. HaveOverflow start_overflow n (AreMeant (taking_for job says) linked) → ⊥) same
           (fits.start (start ∙ ap (list_any has_wide_start) all ∙ narrow));
     }
 
@@ -92,8 +94,8 @@ pub none-fits : (job : Job) (names : Names) (marks : Bool) (modules : List Held)
     (vs : List Variable) (narrowed : Narrowed) (held own lowered inputs linked : List (List ℕ))
     → names ≡ names_of job.ignore_case → held ≡ bytes_in modules → own ≡ held → AreLoweredFor job says held lowered
     → HaveLocals names own lowered inputs → narrowed.start ≡ list_any has_wide_start own
-    → JoinedFor job marks modules inputs vs linked → SomeOverflows narrowed names linked
-    → HaveNoInputs job says marks modules vs
+    → JoinedFor job marks modules inputs vs linked
+    → SomeOverflows narrowed names (AreMeant (taking_for job says) linked) → HaveNoInputs job says marks modules vs
 none-fits job names marks modules says vs narrowed held own lowered inputs linked same is mine are have start joined
     some = inr (
       lowered,
@@ -104,8 +106,8 @@ none-fits job names marks modules says vs narrowed held own lowered inputs linke
         inr (
           linked,
           joined,
-          overflows-in names (names_of job.ignore_case) narrowed own (bytes_in modules) linked same start (mine ∙ is)
-              some,
+          overflows-in names (names_of job.ignore_case) narrowed own (bytes_in modules)
+              (AreMeant (taking_for job says) linked) same start (mine ∙ is) some,
         ),
       ),
     )

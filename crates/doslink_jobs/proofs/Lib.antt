@@ -1,20 +1,22 @@
 pub mod Cutting
 pub mod Rounds
 pub mod Endless
-pub mod Bss
 pub mod Declaring
-pub mod Defaulting
 mod Held
 pub mod Doing
 pub mod FaultyModules
-pub mod FarData
+pub mod Linked
 pub mod Lists
 pub mod Joined
 pub mod Joining
 pub mod LocalModules
 pub mod Lowered
-pub mod Reading
+pub mod MeantModules
+pub mod OrderModules
+pub mod Read
 pub mod Overflowing
+pub mod Passing
 pub mod Refused
 mod Splitting
+pub mod Stacked
 pub mod Texts

@@ -1,9 +1,6 @@
 -- The variables that are local to modules, one module after the other.
 use Rattle.std.proofs.Common.{◌≡◌, ℕ, Bool, true, ◌==◌, List, [], ◌∷◌, ◌++◌, length, map, Ok}
-use Rattle.std.proofs.Common.{inl, inr, refl, subst, sym, ap, ◌∙◌, is_some, MatchOption, None, Option, Some}
-use Rattle.omf_module.specs.Module.{Module}
-use Rattle.omf_module.specs.Tables.{module_of}
-use Rattle.doslink_jobs.specs.inside.Reading.{IsNoModule, IsRead, TellsModule}
+use Rattle.std.proofs.Common.{inl, inr, refl, subst, sym, ap, ◌∙◌}
 use Rattle.std.specs.List.{AllByRecursion}
 use Rattle.omf_communal.specs.Deciding.{Variable}
 use Rattle.omf_communal.specs.Locals.{local_module, local_variables}
@@ -13,7 +10,8 @@ use Rattle.omf_place.specs.declared.names.Names.{Names}
 use Rattle.doslink_jobs.specs.declared.communals.Declared.{Declared}
 use Rattle.doslink_jobs.specs.declared.lowering.LoweredModule.{LoweredModule}
 use Rattle.doslink_jobs.specs.Communals.{TellsBss}
-use Rattle.doslink_jobs.specs.Locals.{EachHasLocals, HasLocals, HasModule, IsPlaced}
+use Rattle.doslink_link.specs.Reading.{HasModule}
+use Rattle.doslink_jobs.specs.Locals.{EachHasLocals, HasLocals, IsPlaced}
 use Rattle.doslink_jobs.specs.inside.Declaring.{DeclareNone, declared_said}
 use Rattle.doslink_jobs.specs.inside.Inputs.{lowered_bytes, own_bytes}
 use Rattle.doslink_jobs.proofs.Declaring.{none-declared-by}
@@ -71,9 +69,3 @@ All-push P (y ∷ xs) x h p = (h.0, All-push P xs x h.1 p)
 pub said-alone : {A : Type 0} (old new : List (Declared A)) (d : Declared A) → new ≡ old ++ d ∷ [] → old ≡ []
     → map declared_said new ≡ declared_said d ∷ []
 said-alone old new d pushed none = ap (map declared_said) (pushed ∙ ap (λ l. l ++ d ∷ []) none)
-
--- whether a module was read
-pub tells : (bytes : List ℕ) (o : Option Module) → MatchOption o (IsNoModule bytes) (λ one. IsRead bytes one)
-    → TellsModule bytes (is_some o)
-tells bytes None none = λ h. none (module_of h.0) (h.0, h.1, refl)
-tells bytes (Some one) read = (read.0, read.1)

@@ -17,7 +17,7 @@ use Rattle.doslink_stock.specs.declared.searching.Handed.{Handed}
 use Rattle.doslink_stock.specs.Seen.{handed_held}
 use Rattle.doslink_jobs.specs.declared.lowering.LoweredModule.{LoweredModule}
 use Rattle.doslink_jobs.specs.Aliases.{EndsIn, link_aliases, module_renaming}
-use Rattle.doslink_jobs.specs.Jobs.{AreLowered, AreLoweredFor, IsLoweringFor, names_of}
+use Rattle.doslink_jobs.specs.Jobs.{AreLowered, AreLoweredFor, lowering_of, names_of}
 use Rattle.doslink_jobs.specs.Refusals.{IsNotLowered}
 use Rattle.doslink_jobs.specs.inside.Inputs.{lowered_bytes}
 
@@ -52,52 +52,45 @@ lowered-next {A} lowering means handed i d old new one h are is pushed =
 
 -- the modules are lowered as the job asks for
 pub lowered-for : (job : Job) (says : List Module) (modules inputs : List (List ℕ)) (lowering : Lowering)
-    (names : Names) (told : List Module) (aliases : List Alias) → names ≡ names_of job.ignore_case → told ≡ says
-    → aliases ≡ link_aliases modules → IsLoweringFor job (module_renaming names told aliases) modules lowering
-    → All (EndsIn names told aliases) modules
-    → AreLowered lowering (module_renaming names told aliases) modules inputs → AreLoweredFor job says modules inputs
-lowered-for job says modules inputs lowering names told aliases agreed same gathered is ends are =
-    let moved : (P : Names → List Module → List Alias → Type 0) → P names told aliases
-    → P (names_of job.ignore_case) says (link_aliases modules) =
-    λ P p. subst (P (names_of job.ignore_case) says) gathered
-    (subst (λ s. P (names_of job.ignore_case) s aliases) same (subst (λ n. P n told aliases) agreed p)) in
+    (names : Names) (aliases : List Alias) → lowering ≡ lowering_of job → names ≡ names_of job.ignore_case
+    → aliases ≡ link_aliases modules → All (EndsIn names says aliases) modules
+    → AreLowered lowering (module_renaming names says aliases) modules inputs → AreLoweredFor job says modules inputs
+lowered-for job says modules inputs lowering names aliases is agreed gathered ends are =
+    let moved : (P : Names → List Alias → Type 0) → P names aliases
+    → P (names_of job.ignore_case) (link_aliases modules) =
+    λ P p. subst (P (names_of job.ignore_case)) gathered (subst (λ n. P n aliases) agreed p) in
     record {
-      lowering = lowering;
-      is_lowering = moved (λ n s a. IsLoweringFor job (module_renaming n s a) modules lowering) is;
-      end = moved (λ n s a. All (EndsIn n s a) modules) ends;
-      are_lowered = moved (λ n s a. AreLowered lowering (module_renaming n s a) modules inputs) are;
+      end = moved (λ n a. All (EndsIn n says a) modules) ends;
+      are_lowered = moved (λ n a. AreLowered (lowering_of job) (module_renaming n says a) modules inputs)
+          (subst (λ l. AreLowered l (module_renaming names says aliases) modules inputs) is are);
     }
 
 -- a module can't be lowered as the job asks for
 pub not-lowered : (job : Job) (says : List Module) (modules : List (List ℕ)) (lowering : Lowering) (names : Names)
-    (told : List Module) (aliases : List Alias) → names ≡ names_of job.ignore_case → told ≡ says
-    → aliases ≡ link_aliases modules → lowering.keep_debug ≡ job.keep_debug
-    → Any (λ bytes. IsErr (lowered lowering (module_renaming names told aliases bytes) bytes)) modules
+    (aliases : List Alias) → lowering ≡ lowering_of job → names ≡ names_of job.ignore_case
+    → aliases ≡ link_aliases modules
+    → Any (λ bytes. IsErr (lowered lowering (module_renaming names says aliases bytes) bytes)) modules
     → Any (IsNotLowered job says modules) modules
-not-lowered job says modules lowering names told aliases agreed same gathered debug (k, bytes, h, is, fault) = (
+not-lowered job says modules lowering names aliases is agreed gathered (k, bytes, h, at, fault) = (
   k,
   bytes,
   h,
-  is,
-  inr (
-    lowering,
-    debug,
-    subst (λ a. IsErr (lowered lowering (module_renaming (names_of job.ignore_case) says a bytes) bytes)) gathered
-        (subst (λ s. IsErr (lowered lowering (module_renaming (names_of job.ignore_case) s aliases bytes) bytes)) same
-        (subst (λ n. IsErr (lowered lowering (module_renaming n told aliases bytes) bytes)) agreed fault)),
-  ),
+  at,
+  inr (subst (λ a. IsErr (lowered (lowering_of job) (module_renaming (names_of job.ignore_case) says a bytes) bytes))
+      gathered
+      (subst (λ n. IsErr (lowered (lowering_of job) (module_renaming n says aliases bytes) bytes)) agreed
+      (subst (λ l. IsErr (lowered l (module_renaming names says aliases bytes) bytes)) is fault))),
 )
 
 -- a name of it goes round for ever
-pub endless-in : (job : Job) (says : List Module) (modules : List (List ℕ)) (names : Names) (told : List Module)
-    (aliases : List Alias) → names ≡ names_of job.ignore_case → told ≡ says → aliases ≡ link_aliases modules
-    → Any (λ bytes. EndsIn names told aliases bytes → ⊥) modules → Any (IsNotLowered job says modules) modules
-endless-in job says modules names told aliases agreed same gathered (k, bytes, h, is, endless) = (
+pub endless-in : (job : Job) (says : List Module) (modules : List (List ℕ)) (names : Names) (aliases : List Alias)
+    → names ≡ names_of job.ignore_case → aliases ≡ link_aliases modules
+    → Any (λ bytes. EndsIn names says aliases bytes → ⊥) modules → Any (IsNotLowered job says modules) modules
+endless-in job says modules names aliases agreed gathered (k, bytes, h, is, endless) = (
   k,
   bytes,
   h,
   is,
   inl (subst (λ a. EndsIn (names_of job.ignore_case) says a bytes → ⊥) gathered
-      (subst (λ s. EndsIn (names_of job.ignore_case) s aliases bytes → ⊥) same
-      (subst (λ n. EndsIn n told aliases bytes → ⊥) agreed endless))),
+      (subst (λ n. EndsIn n says aliases bytes → ⊥) agreed endless)),
 )

@@ -1,5 +1,5 @@
 -- Fix-ups and a start that were of 32 bits, and their sums.
-use Rattle.std.proofs.Common.{◌≡◌, ◌≢◌, ◌⊎◌, ℕ, ◌∷◌, [], ◌++◌, Bool, true, false, All, Any, List, map, zip}
+use Rattle.std.proofs.Common.{◌≡◌, ◌≢◌, ◌⊎◌, ℕ, ◌∷◌, [], Bool, true, false, All, Any, List, map, zip}
 use Rattle.std.proofs.Common.{Some, None, Ok, Err, IfSome, cond, is_some, inl, inr, refl, sym, subst, ap, ap₂, ◌∙◌}
 use Rattle.std.proofs.Common.{true≢false, ◌+◌, ◌<◌, length, get_or, take, Vec}
 use Rattle.std.proofs.lemmas.List.{map_more}
@@ -9,9 +9,7 @@ use Rattle.std.specs.List.{list_any}
 use Rattle.std.specs.Option.{option_map_or, option_or}
 use Rattle.omf_image.specs.Overflow.{first_overflow, start_overflow}
 use Rattle.omf_lower.specs.Wide.{has_wide_fixups, has_wide_start}
-use Rattle.omf_module.specs.Bytes.{ModuleBytes}
 use Rattle.omf_module.specs.Module.{Module}
-use Rattle.omf_module.specs.Tables.{module_of}
 use Rattle.omf_place.specs.Faults.{PlacementFault}
 use Rattle.omf_place.specs.inside.Placing.{IsFirstFault, IsOnlyLayout}
 use Rattle.omf_place.proofs.Ended.{one_answer, one_layout}
@@ -20,14 +18,14 @@ use Rattle.omf_place.specs.Said.{said}
 use Rattle.omf_place.specs.declared.faults.PlaceFault.{PlaceFault}
 use Rattle.omf_place.specs.declared.faults.PlaceFault.TheVariants as held
 use Rattle.omf_place.specs.declared.names.Names.{Names}
-use Rattle.omf_record.specs.Records.{Placed}
-use Rattle.doslink_link.specs.Linking.{AllBeginWith, BeginsWith}
+use Rattle.doslink_link.specs.Reading.{AreUnread}
 use Rattle.doslink_jobs.specs.declared.lowering.LoweredModule.{LoweredModule}
-use Rattle.doslink_jobs.specs.Orders.{AreRead, AreUnread}
 use Rattle.doslink_jobs.specs.declared.overflow.Narrowed.{Narrowed}
+use Rattle.doslink_jobs.specs.Meant.{AreMeant, Taking}
 use Rattle.doslink_jobs.specs.Overflow.{HaveOverflow, NarrowFixups, NarrowStart}
 use Rattle.doslink_jobs.specs.inside.Inputs.{lowered_bytes, own_bytes}
 use Rattle.doslink_jobs.specs.inside.Sums.{SomeOverflows, TellsSums}
+use Rattle.doslink_jobs.proofs.MeantModules.{meant-same, none-meant}
 
 -- ---- which modules have such fix-ups
 
@@ -101,67 +99,19 @@ some-above None None true at some = cc
 some-above None start false at some = cc
 
 -- the same by the names of the job, and by its modules
-pub overflows-in : (names other : Names) (narrowed : Narrowed) (own modules inputs : List (List ℕ)) → names ≡ other
-    → narrowed.start ≡ list_any has_wide_start own → own ≡ modules → SomeOverflows narrowed names inputs
-    → HaveOverflow first_overflow other inputs ⊎ (NarrowStart modules × HaveOverflow start_overflow other inputs)
-overflows-in names other narrowed own modules inputs same start are (inl over) =
-    inl (subst (λ n. HaveOverflow first_overflow n inputs) same over)
-overflows-in names other narrowed own modules inputs same start are (inr over) =
+pub overflows-in : (names other : Names) (narrowed : Narrowed) (own modules : List (List ℕ))
+    (Meant : List Module → Type 0) → names ≡ other → narrowed.start ≡ list_any has_wide_start own → own ≡ modules
+    → SomeOverflows narrowed names Meant
+    → HaveOverflow first_overflow other Meant ⊎ (NarrowStart modules × HaveOverflow start_overflow other Meant)
+overflows-in names other narrowed own modules Meant same start are (inl over) =
+    inl (subst (λ n. HaveOverflow first_overflow n Meant) same over)
+overflows-in names other narrowed own modules Meant same start are (inr over) =
     inr (
       sym (start ∙ ap (list_any has_wide_start) are) ∙ over.0,
-      subst (λ n. HaveOverflow start_overflow n inputs) same over.1,
+      subst (λ n. HaveOverflow start_overflow n Meant) same over.1,
     )
 
--- ---- what inputs begin with
-
--- bytes begin with one module at most
-abbrev pub OneModule : Type 0
-OneModule = (rs ss : List Placed) (x y r s : List ℕ) → ModuleBytes rs x → ModuleBytes ss y → x ++ r ≡ y ++ s
-    → (rs ≡ ss) × (x ≡ y) × (r ≡ s)
-
-begins-same : OneModule → (rs ss : List Placed) (bytes : List ℕ) → BeginsWith rs bytes → BeginsWith ss bytes → rs ≡ ss
-begins-same one rs ss bytes (x, r, is, sound) (y, s, same, other) = (one rs ss x y r s sound other (sym is ∙ same)).0
-
-begin-same : OneModule → (lists others : List (List Placed)) (inputs : List (List ℕ)) → AllBeginWith lists inputs
-    → AllBeginWith others inputs → lists ≡ others
-begin-same one [] [] [] all other = refl
-begin-same one [] (o ∷ os) [] all other = absurd other
-begin-same one (l ∷ ls) os [] all other = absurd all
-begin-same one [] os (i ∷ is) all other = absurd all
-begin-same one (l ∷ ls) [] (i ∷ is) all other = absurd other
-begin-same one (l ∷ ls) (o ∷ os) (i ∷ is) all other =
-    ap₂ (λ x xs. x ∷ xs) (begins-same one l o i all.0 other.0) (begin-same one ls os is all.1 other.1)
-
--- inputs begin with one list of modules at most
-read-same : OneModule → (inputs : List (List ℕ)) (read other : List Module) → AreRead inputs read → AreRead inputs other
-    → read ≡ other
-read-same one inputs read other (lists, all, are) (others, begin, same) =
-    are ∙ ap (map module_of) (begin-same one lists others inputs all begin) ∙ sym same
-
 -- ---- whether a sum is too great
-
--- not where an input begins with no module
-pub none-unread : (found : Layout → List Module → Option (ℕ × ℕ)) (names : Names) (inputs other : List (List ℕ))
-    → inputs ≡ other → AreUnread inputs → HaveOverflow found names other → ⊥
-none-unread found names inputs other same unread (modules, layout, read, is, over) =
-    unread modules (subst (λ i. AreRead i modules) (sym same) read)
-
--- one is
-pub overflow-is : (found : Layout → List Module → Option (ℕ × ℕ)) (names : Names) (inputs other : List (List ℕ))
-    (modules : List Module) (layout : Layout) → inputs ≡ other → AreRead inputs modules
-    → IsOnlyLayout names modules layout → is_some (found layout modules) ≡ true → HaveOverflow found names other
-overflow-is found names inputs other modules layout same read is over =
-    (modules, layout, subst (λ i. AreRead i modules) same read, is, over)
-
--- none is
-pub none-over : (found : Layout → List Module → Option (ℕ × ℕ)) → OneModule → (names : Names)
-    (inputs other : List (List ℕ)) (read : List Module) (layout : Layout) → inputs ≡ other → AreRead inputs read
-    → IsOnlyLayout names read layout → is_some (found layout read) ≡ false → HaveOverflow found names other → ⊥
-none-over found one names inputs other read layout same are is none (modules, placed, begin, only, over) =
-    let all : modules ≡ read = read-same one other modules read begin (subst (λ i. AreRead i read) same are) in
-    let there : placed ≡ layout =
-    one_layout names read placed layout (subst (λ ms. IsOnlyLayout names ms placed) all only) is in
-    true≢false (sym over ∙ ap₂ (λ l ms. is_some (found l ms)) there all ∙ none)
 
 first-none : (names : Names) (modules : List Module) (fault : PlacementFault) (layout : Layout)
     → IsFirstFault names modules fault → IsOnlyLayout names modules layout → ⊥
@@ -178,50 +128,63 @@ none-placed names modules (held.GroupTooLong name) layout other first is = first
 none-placed names modules (held.DuplicatePublic name) layout other first is =
     first-none names modules _ layout first is
 
--- not where modules have no layout
-pub none-laid : {A : Type 0} (found : Layout → List Module → Option (ℕ × ℕ)) → OneModule → (names : Names)
-    (inputs other : List (List ℕ)) (read : List Module) (fault : PlaceFault A) → inputs ≡ other
-    → AreRead inputs read → fault ≢ held.Memory → IfSome (said fault) (IsFirstFault names read)
-    → HaveOverflow found names other → ⊥
-none-laid found one names inputs other read fault same are failed first (modules, placed, begin, only, over) =
-    let all : modules ≡ read = read-same one other modules read begin (subst (λ i. AreRead i read) same are) in
-    none-placed names read fault placed failed first (subst (λ ms. IsOnlyLayout names ms placed) all only)
+module _ (found : Layout → List Module → Option (ℕ × ℕ)) (names : Names) (t : Taking) (inputs : List (List ℕ)) where
+  -- not where an input begins with no module
+  none-unread : AreUnread inputs → HaveOverflow found names (AreMeant t inputs) → ⊥
+  none-unread unread (modules, layout, meant, is, over) = none-meant t inputs modules unread meant
+
+  -- none is
+  none-over : (read : List Module) (layout : Layout) → AreMeant t inputs read → IsOnlyLayout names read layout
+      → is_some (found layout read) ≡ false → HaveOverflow found names (AreMeant t inputs) → ⊥
+  none-over read layout are is none (modules, placed, meant, only, over) =
+      let all : modules ≡ read = meant-same t inputs modules read meant are in
+      let there : placed ≡ layout =
+      one_layout names read placed layout (subst (λ ms. IsOnlyLayout names ms placed) all only) is in
+      true≢false (sym over ∙ ap₂ (λ l ms. is_some (found l ms)) there all ∙ none)
+
+  -- not where modules have no layout
+  none-laid : {A : Type 0} (read : List Module) (fault : PlaceFault A) → AreMeant t inputs read
+      → fault ≢ held.Memory → IfSome (said fault) (IsFirstFault names read)
+      → HaveOverflow found names (AreMeant t inputs) → ⊥
+  none-laid read fault are failed first (modules, placed, meant, only, over) =
+      let all : modules ≡ read = meant-same t inputs modules read meant are in
+      none-placed names read fault placed failed first (subst (λ ms. IsOnlyLayout names ms placed) all only)
 
 -- ---- which one is told
 
 -- none of inputs that begin with no module
-pub tells-unread : (narrowed : Narrowed) (names : Names) (inputs : List (List ℕ)) → AreUnread inputs
-    → TellsSums narrowed names inputs None
-tells-unread narrowed names inputs unread = record {
-  fixups = λ narrow. none-unread first_overflow names inputs inputs refl unread;
-  start = λ narrow. none-unread start_overflow names inputs inputs refl unread;
+pub tells-unread : (narrowed : Narrowed) (names : Names) (t : Taking) (inputs : List (List ℕ)) → AreUnread inputs
+    → TellsSums narrowed names (AreMeant t inputs) None
+tells-unread narrowed names t inputs unread = record {
+  fixups = λ narrow. none-unread first_overflow names t inputs unread;
+  start = λ narrow. none-unread start_overflow names t inputs unread;
 }
 
 -- none of modules that have no layout
-pub tells-unplaced : {A : Type 0} → OneModule → (narrowed : Narrowed) (names : Names) (read : List Module)
+pub tells-unplaced : {A : Type 0} (narrowed : Narrowed) (names : Names) (read : List Module)
     (fault : PlaceFault A) (at : Option (ℕ × ℕ)) → at ≡ None → fault ≢ held.Memory
-    → IfSome (said fault) (IsFirstFault names read) → (inputs : List (List ℕ)) → AreRead inputs read
-    → TellsSums narrowed names inputs at
-tells-unplaced one narrowed names read fault at none failed first inputs are =
-    subst (TellsSums narrowed names inputs) (sym none) (record {
-      fixups = λ narrow. none-laid first_overflow one names inputs inputs read fault refl are failed first;
-      start = λ narrow. none-laid start_overflow one names inputs inputs read fault refl are failed first;
+    → IfSome (said fault) (IsFirstFault names read) → (t : Taking) (inputs : List (List ℕ)) → AreMeant t inputs read
+    → TellsSums narrowed names (AreMeant t inputs) at
+tells-unplaced narrowed names read fault at none failed first t inputs are =
+    subst (TellsSums narrowed names (AreMeant t inputs)) (sym none) (record {
+      fixups = λ narrow. none-laid first_overflow names t inputs read fault are failed first;
+      start = λ narrow. none-laid start_overflow names t inputs read fault are failed first;
     })
 
 -- the first of modules that have a layout
-pub tells-first : OneModule → (narrowed : Narrowed) (names : Names) (read : List Module) (layout : Layout)
+pub tells-first : (narrowed : Narrowed) (names : Names) (read : List Module) (layout : Layout)
     (at : Option (ℕ × ℕ)) → IsOnlyLayout names read layout
     → at ≡ option_or (first_overflow layout read) (cond narrowed.start (start_overflow layout read) None)
-    → (inputs : List (List ℕ)) → AreRead inputs read → TellsSums narrowed names inputs at
-tells-first one narrowed names read layout None only is inputs are =
+    → (t : Taking) (inputs : List (List ℕ)) → AreMeant t inputs read → TellsSums narrowed names (AreMeant t inputs) at
+tells-first narrowed names read layout None only is t inputs are =
     let none = none-above (first_overflow layout read) (start_overflow layout read) narrowed.start is in
     record {
-      fixups = λ narrow. none-over first_overflow one names inputs inputs read layout refl are only none.0;
-      start = λ narrow. none-over start_overflow one names inputs inputs read layout refl are only (none.1 narrow);
+      fixups = λ narrow. none-over first_overflow names t inputs read layout are only none.0;
+      start = λ narrow. none-over start_overflow names t inputs read layout are only (none.1 narrow);
     }
-tells-first one narrowed names read layout (Some x) only is inputs are =
+tells-first narrowed names read layout (Some x) only is t inputs are =
     elim (some-above (first_overflow layout read) (start_overflow layout read) narrowed.start x is) as
-    (λ e. SomeOverflows narrowed names inputs) [
-      | inl over ↦ inl (overflow-is first_overflow names inputs inputs read layout refl are only over)
-      | inr over ↦ inr (over.0, overflow-is start_overflow names inputs inputs read layout refl are only over.1)
+    (λ e. SomeOverflows narrowed names (AreMeant t inputs)) [
+      | inl over ↦ inl (read, layout, are, only, over)
+      | inr over ↦ inr (over.0, (read, layout, are, only, over.1))
     ]

@@ -1,6 +1,6 @@
 -- Why a job is refused, step by step.
 use Rattle.std.proofs.Common.{◌≡◌, ◌≢◌, ℕ, ◌<◌, Any, List, [], ◌∷◌, length, map, zip, get_or, zero, suc}
-use Rattle.std.proofs.Common.{Result, Ok, Err, IsErr, IfErr, MatchResult, arith, inr, refl, sym, subst, ap, ◌∙◌}
+use Rattle.std.proofs.Common.{Result, Ok, Err, IsErr, IfErr, MatchResult, arith, refl, sym, subst, ap, ◌∙◌}
 use Rattle.std.proofs.Common.{true≢false}
 use Rattle.std.proofs.lemmas.List.{get_or-map, length-map}
 use Rattle.std.specs.Result.{IsErrAnd}

@@ -1,6 +1,6 @@
 -- Rounds of default libraries that are searched behind others.
-use Rattle.std.proofs.Common.{◌≡◌, ◌≢◌, ℕ, All, List, [], ◌∷◌, ◌++◌, map, append_assoc, append-nil, refl, sym, subst}
-use Rattle.std.proofs.Common.{ap, ◌∙◌, Result, IsErr, Ok, Err, zero, suc, ◌<◌, length, get_or, drop, false}
+use Rattle.std.proofs.Common.{◌≡◌, ◌≢◌, ℕ, List, [], ◌∷◌, ◌++◌, map, append_assoc, append-nil, refl, sym, subst}
+use Rattle.std.proofs.Common.{ap, ◌∙◌, IsErr, zero, suc, ◌<◌, length, get_or, drop, false}
 use Rattle.std.proofs.lemmas.List.{get_or-map, length-map}
 use Rattle.std.proofs.lemmas.List.Elements.{All-weaker, Contains-append_right}
 use Rattle.std.specs.Borrow.{Bor}

@@ -1,7 +1,8 @@
 -- What names mean in a module of a link: by the aliases of all modules, and by those of its own weak and lazy externals
 -- that nothing defines.
-use Rattle.std.specs.Prelude.{◌≡◌, ℕ, Bool, ◌||◌, List, ◌++◌, None, filter, map, not}
+use Rattle.std.specs.Prelude.{◌≡◌, ℕ, Bool, ◌||◌, if◌then◌else◌, List, [], ◌++◌, None}
 use Rattle.std.specs.List.{flat_map, list_any}
+use Rattle.std.specs.Option.{option_map, option_to_list}
 use Rattle.omf_alias.specs.Meaning.{Renaming, endless}
 use Rattle.omf_alias.specs.Reading.{Alias, aliases_of}
 use Rattle.omf_library.specs.Defaults.{Defaulted, weak_and_lazy}
@@ -26,13 +27,16 @@ has_name names name m = defines names name m || needs_name names name m
 abbrev pub is_defined : Names → (says : List Module) → (name : List ℕ) → Bool
 is_defined names says name = list_any (has_name names name) says
 
--- an external stands for its default
-abbrev pub default_alias : Defaulted → Alias
-default_alias d = record { place = d.place; name = d.name; meaning = d.default_name }
+-- an external that nothing defines stands for its default, where that isn't local to its module
+abbrev pub default_alias : Names → (says : List Module) → Defaulted → List Alias
+default_alias names says d =
+    if is_defined names says d.name then []
+    else option_to_list
+    (option_map (λ name. record { place = d.place; name = d.name; meaning = name }) d.default_name)
 
--- those of some externals that nothing defines
+-- those of some externals
 abbrev pub default_aliases : Names → (says : List Module) → List Defaulted → List Alias
-default_aliases names says externals = map default_alias (filter (λ d. not (is_defined names says d.name)) externals)
+default_aliases names says externals = flat_map (default_alias names says) externals
 
 -- those of a module: its weak ones, and behind them its lazy ones
 abbrev pub own_defaults : Names → (says : List Module) → (bytes : List ℕ) → List Alias

@@ -14,7 +14,7 @@ use Rattle.omf_library.specs.Records.{module_records, result_and_then}
 use Rattle.omf_module.specs.Module.{Module}
 use Rattle.omf_place.specs.declared.names.Names.{Names}
 use Rattle.doslink_stock.specs.Files.{Held}
-use Rattle.doslink_jobs.specs.Orders.{AreRead}
+use Rattle.doslink_link.specs.Reading.{AreRead}
 
 -- the communal variables that a module declares, and the names that it offers; or its first record at fault
 abbrev pub declared_by : Held → Result communal.Module CommunalFault

@@ -1,6 +1,6 @@
 -- What a job has done where it ends well, and how a run ends. `told` are the bytes of files by their paths, where the
 -- world tells them.
-use Rattle.std.specs.Prelude.{◌≡◌, ◌⊎◌, ℕ, Bool, true, false, All, List, [], ◌∷◌, ◌++◌, map, Ok}
+use Rattle.std.specs.Prelude.{◌≡◌, ◌⊎◌, ℕ, Bool, false, All, List, [], ◌∷◌, ◌++◌, map, Ok}
 use Rattle.std.specs.Prelude.{if◌then◌else◌}
 use Rattle.std.specs.declared.option.Option.{Option}
 use Rattle.std.specs.declared.result.Result.{Result}
@@ -11,11 +11,11 @@ use Rattle.omf_frame.specs.declared.device.IoFault.{IoFault}
 use Rattle.omf_frame.specs.Device.{Writes}
 use Rattle.omf_place.specs.declared.names.Names.{Names}
 use Rattle.omf_place.specs.declared.names.Names.TheVariants.{AsciiFolded, Exact}
-use Rattle.omf_commands.specs.Outcome.{IsFaultless}
 use Rattle.omf_communal.specs.Deciding.{Variable}
 use Rattle.omf_image.specs.Overflow.{first_overflow, start_overflow}
 use Rattle.omf_lower.specs.declared.lowering.Lowering.{Lowering}
 use Rattle.omf_lower.specs.Module.{lowered}
+use Rattle.omf_module.specs.Module as omf
 use Rattle.omf_search.specs.Said.{Module}
 use Rattle.doslink_words.specs.declared.job.Job.{Job}
 use Rattle.doslink_words.specs.declared.job.Input.{Input}
@@ -27,13 +27,14 @@ use Rattle.doslink_stock.specs.Files.{Held, needs}
 use Rattle.doslink_telling.specs.Missing.{unmet, wants_marks}
 use Rattle.doslink_jobs.specs.Aliases.{EndsIn, link_aliases, module_renaming}
 use Rattle.doslink_jobs.specs.Communals.{AreVariablesOf}
-use Rattle.doslink_jobs.specs.FarData.{TellsFit}
 use Rattle.doslink_jobs.specs.Joined.{AreJoined}
 use Rattle.doslink_jobs.specs.Locals.{HaveLocals}
+use Rattle.doslink_jobs.specs.Meant.{AreMeant, Taking}
 use Rattle.doslink_jobs.specs.Orders.{Asking}
 use Rattle.doslink_jobs.specs.Overflow.{HaveOverflow, NarrowFixups, NarrowStart}
 use Rattle.doslink_jobs.specs.Places.{map_path, out_path}
 use Rattle.doslink_jobs.specs.Written.{IsWritten}
+use Rattle.doslink_link.specs.Linking.{IsFaultless}
 use Rattle.doslink_files.specs.declared.reading.Sought.{Sought}
 use Rattle.doslink_files.specs.declared.reading.Sought.TheVariants as sought
 use Rattle.doslink_files.specs.Files.{AreSought, IsFound}
@@ -53,25 +54,19 @@ renaming_of job says modules bytes = module_renaming (names_of job.ignore_case) 
 abbrev pub AreLowered : Lowering → (means : List ℕ → Renaming) → (modules inputs : List (List ℕ)) → Type 0
 AreLowered lowering means modules inputs = map (λ m. lowered lowering (means m) m) modules ≡ map Ok inputs
 
--- how a job lowers modules whose far data shares no frame
-abbrev pub plain_lowering : Job → Lowering
-plain_lowering job = record { keep_debug = job.keep_debug; shares_far_data = false }
-
--- How a job lowers modules, with what names mean in them. Far data shares a frame exactly where the job packs it and
--- all of it fits in one, as it is in the modules lowered without that.
-pub record IsLoweringFor (job : Job) (means : List ℕ → Renaming) (modules : List (List ℕ)) (lowering : Lowering)
-    : Type 0 where
-  pub debug : lowering.keep_debug ≡ job.keep_debug
-  pub packed : job.packs_far_data ≡ true → (plain : List (List ℕ))
-      × AreLowered (plain_lowering job) means modules plain × TellsFit plain lowering.shares_far_data
-  pub apart : job.packs_far_data ≡ false → lowering.shares_far_data ≡ false
+-- how a job lowers modules
+abbrev pub lowering_of : Job → Lowering
+lowering_of job = record { keep_debug = job.keep_debug }
 
 -- these are the modules lowered as a job asks for, with what names mean in each; none goes round for ever
 pub record AreLoweredFor (job : Job) (says : List Module) (modules inputs : List (List ℕ)) : Type 0 where
-  pub lowering : Lowering
-  pub is_lowering : IsLoweringFor job (renaming_of job says modules) modules lowering
   pub end : All (EndsIn (names_of job.ignore_case) says (link_aliases modules)) modules
-  pub are_lowered : AreLowered lowering (renaming_of job says modules) modules inputs
+  pub are_lowered : AreLowered (lowering_of job) (renaming_of job says modules) modules inputs
+
+-- how a job takes the modules of a link that say so of names
+abbrev pub taking_for : Job → (says : List Module) → Taking
+taking_for job says =
+    record { names = names_of job.ignore_case; says = says; packs = job.packs_far_data }
 
 -- what asks for the order of a job's modules, where marks are wanted or not
 abbrev pub asking_of : Job → (marks : Bool) → (modules : List Held) → Asking
@@ -94,14 +89,14 @@ pub record AreInputsOf (job : Job) (says : List Module) (marks : Bool) (modules 
   pub have_locals : HaveLocals (names_of job.ignore_case) (map (λ m. m.bytes) modules) lowered inputs
   pub joined : AreJoined (asking_of job marks modules) job.stack inputs vs linked
   pub fit : NarrowFixups (map (λ m. m.bytes) modules) lowered
-      → HaveOverflow first_overflow (names_of job.ignore_case) linked → ⊥
+      → HaveOverflow first_overflow (names_of job.ignore_case) (AreMeant (taking_for job says) linked) → ⊥
   pub start_fits : NarrowStart (map (λ m. m.bytes) modules)
-      → HaveOverflow start_overflow (names_of job.ignore_case) linked → ⊥
+      → HaveOverflow start_overflow (names_of job.ignore_case) (AreMeant (taking_for job says) linked) → ⊥
 
--- A link was done of the modules that it takes: none of their names is missing, and what is linked for them has no
--- fault, and was written.
-pub record IsLinkOf (A : Type 0) (job : Job) (Written : (inputs : List (List ℕ)) → Type 0) (takes : List Held → Type 0)
-    : Type 0 where
+-- A link was done of the modules that it takes: none of their names is missing, and the modules that are meant by what
+-- is linked for them have no fault. `Written` says of these that their program was written.
+pub record IsLinkOf (A : Type 0) (job : Job) (Written : (inputs : List (List ℕ)) → List omf.Module → Type 0)
+    (takes : List Held → Type 0) : Type 0 where
   pub modules : List Held
   pub variables : List Variable
   pub linked : List (List ℕ)
@@ -110,8 +105,10 @@ pub record IsLinkOf (A : Type 0) (job : Job) (Written : (inputs : List (List ℕ
   pub met : unmet (names_of job.ignore_case) (map needs modules) ≡ []
   pub are_inputs : AreInputsOf job (map needs modules) (wants_marks (names_of job.ignore_case) (map needs modules))
       modules variables linked
-  pub faultless : IsFaultless A (names_of job.ignore_case) linked
-  pub written : Written linked
+  pub meant : List omf.Module
+  pub are_meant : AreMeant (taking_for job (map needs modules)) linked meant
+  pub faultless : IsFaultless A (names_of job.ignore_case) meant
+  pub written : Written linked meant
 
 -- ---- a job
 

@@ -7,7 +7,8 @@ use Rattle.omf_communal.specs.Deciding.{Variable}
 use Rattle.omf_module.specs.Module.{Module}
 use Rattle.doslink_words.specs.declared.job.Stack.{Stack}
 use Rattle.doslink_jobs.specs.Communals.{IsCommunalModule}
-use Rattle.doslink_jobs.specs.Orders.{AreRead, AreUnread, Asking, IsOrderModule}
+use Rattle.doslink_jobs.specs.Orders.{Asking, IsOrderModule}
+use Rattle.doslink_link.specs.Reading.{AreRead, AreUnread}
 use Rattle.doslink_jobs.specs.Stacks.{AreStacked}
 
 -- a segment of some module has a byte, with a value or without one

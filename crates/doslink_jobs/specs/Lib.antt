@@ -1,10 +1,10 @@
 pub mod Aliases
 pub mod Communals
-pub mod FarData
 pub mod Jobs
 pub mod Joined
 pub mod Locals
 pub mod Maps
+pub mod Meant
 pub mod Orders
 pub mod Overflow
 pub mod Places

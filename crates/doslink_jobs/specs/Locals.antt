@@ -6,13 +6,8 @@ use Rattle.omf_communal.specs.Locals.{local_module, local_variables}
 use Rattle.omf_communal.specs.Reading.{Communal, communals_of}
 use Rattle.omf_library.specs.Records.{module_records}
 use Rattle.omf_place.specs.declared.names.Names.{Names}
-use Rattle.omf_record.specs.Records.{Placed}
-use Rattle.doslink_link.specs.Linking.{BeginsWith}
+use Rattle.doslink_link.specs.Reading.{HasModule}
 use Rattle.doslink_jobs.specs.Communals.{TellsBss}
-
--- bytes begin with a whole sound module
-abbrev pub HasModule : (bytes : List ℕ) → Type 0
-HasModule bytes = (records : List Placed) × BeginsWith records bytes
 
 -- A sound lowered module, one of these, with the variables that it declares so as local to it. Near ones stand in `_BSS`
 -- where one of the lowered modules has that in DGROUP.

@@ -2,9 +2,7 @@
 use Rattle.std.specs.Prelude.{◌≡◌, ◌⊎◌, ◌&&◌, ℕ, Bool, not, true, false, List, map, None, MatchOption}
 use Rattle.std.specs.Prelude.{if◌then◌else◌}
 use Rattle.std.specs.declared.option.Option.{Option}
-use Rattle.omf_record.specs.Records.{Placed}
 use Rattle.omf_module.specs.Module.{Module}
-use Rattle.omf_module.specs.Tables.{module_of}
 use Rattle.omf_order.specs.declared.order.Item.{Item}
 use Rattle.omf_order.specs.declared.order.Item.TheVariants as item
 use Rattle.omf_order.specs.declared.order.Order.{Order}
@@ -13,20 +11,8 @@ use Rattle.omf_order.specs.Cleared.{data_in_bss}
 use Rattle.omf_order.specs.Plan.{is_needless, plan}
 use Rattle.omf_order.specs.Records.{module_bytes}
 use Rattle.omf_place.specs.declared.names.Names.{Names}
-use Rattle.doslink_link.specs.Linking.{AllBeginWith, BeginsWith}
+use Rattle.doslink_link.specs.Reading.{AreRead, AreUnread}
 use Rattle.doslink_words.specs.Said.{SaidItem, SaidOrder, Class, Segment, Meeting, Dosseg, Listed}
-
--- these are the modules that inputs begin with
-abbrev pub AreRead : (inputs : List (List ℕ)) → (modules : List Module) → Type 0
-AreRead inputs modules = (lists : List (List Placed)) × AllBeginWith lists inputs × (modules ≡ map module_of lists)
-
--- bytes begin with this module
-abbrev pub IsRead : (bytes : List ℕ) → Module → Type 0
-IsRead bytes one = (records : List Placed) × BeginsWith records bytes × (one ≡ module_of records)
-
--- bytes begin with no module
-abbrev pub IsNoModule : (bytes : List ℕ) → Type 0
-IsNoModule bytes = (one : Module) → IsRead bytes one → ⊥
 
 -- What asks for an order: which names agree, whether marks are wanted that no module defines, whether a module asks for
 -- DOSSEG, the order that the job asks for, and whether DOSSEG has null bytes in front of `_TEXT`.
@@ -81,10 +67,6 @@ IsPlanned names order modules bytes =
 abbrev pub IsOrderFor : Asking → List Module → (bytes : Option (List ℕ)) → Type 0
 IsOrderFor asking modules bytes =
     (order : Order) × IsAsked asking order × IsPlanned asking.names order modules bytes
-
--- some input begins with no module
-abbrev pub AreUnread : (inputs : List (List ℕ)) → Type 0
-AreUnread inputs = (modules : List Module) → AreRead inputs modules → ⊥
 
 -- These bytes are the order module for the modules that inputs begin with. There are none too where neither an order is
 -- asked for nor a mark wanted, and where an input begins with no module.

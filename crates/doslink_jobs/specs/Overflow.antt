@@ -7,7 +7,6 @@ use Rattle.omf_module.specs.Module.{Module}
 use Rattle.omf_place.specs.Faults.{IsPlacedAs}
 use Rattle.omf_place.specs.Layout.{Layout}
 use Rattle.omf_place.specs.declared.names.Names.{Names}
-use Rattle.doslink_jobs.specs.Orders.{AreRead}
 
 -- a module isn't linked as it stands, and has a fix-up of 32 bits
 abbrev pub NarrowFixups : (modules lowered : List (List ℕ)) → Type 0
@@ -17,8 +16,9 @@ NarrowFixups modules lowered = Any (λ m. (m.0 ≢ m.1) × (has_wide_fixups m.0 
 abbrev pub NarrowStart : (modules : List (List ℕ)) → Type 0
 NarrowStart modules = list_any has_wide_start modules ≡ true
 
--- in the program of the modules that inputs begin with this finds a sum that has more than 16 bits
-abbrev pub HaveOverflow : (found : Layout → List Module → Option (ℕ × ℕ)) → Names → (inputs : List (List ℕ)) → Type 0
-HaveOverflow found names inputs =
-    (modules : List Module) × (layout : Layout) × AreRead inputs modules × IsPlacedAs names modules (Ok layout)
+-- in the program of the modules that are meant this finds a sum that has more than 16 bits
+abbrev pub HaveOverflow : (found : Layout → List Module → Option (ℕ × ℕ)) → Names → (Meant : List Module → Type 0)
+    → Type 0
+HaveOverflow found names Meant =
+    (modules : List Module) × (layout : Layout) × Meant modules × IsPlacedAs names modules (Ok layout)
     × (is_some (found layout modules) ≡ true)

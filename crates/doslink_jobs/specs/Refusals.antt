@@ -1,5 +1,5 @@
 -- Why the files of a job can't be linked: one of these holds where a run ends with status 1.
-use Rattle.std.specs.Prelude.{◌≡◌, ◌≢◌, ◌⊎◌, ◌<◌, ℕ, Bool, true, false, All, Any, List, [], ◌∷◌, ◌++◌, length, map}
+use Rattle.std.specs.Prelude.{◌≡◌, ◌≢◌, ◌⊎◌, ◌<◌, ℕ, Bool, true, false, All, Any, List, [], ◌++◌, length, map}
 use Rattle.std.specs.Prelude.{zip, is_some, IsErr, Ok, None, Some}
 use Rattle.std.specs.declared.option.Option.{Option}
 use Rattle.std.specs.Option.{option_to_list}
@@ -10,13 +10,14 @@ use Rattle.omf_communal.specs.Deciding.{Variable, variables}
 use Rattle.omf_communal.specs.Locals.{local_module, local_variables}
 use Rattle.omf_communal.specs.Modules as communal
 use Rattle.omf_communal.specs.Reading.{Communal, communals_of}
-use Rattle.omf_commands.specs.Outcome.{IsOnlyFault}
+use Rattle.omf_commands.specs.Linking.{IsModulesFault}
 use Rattle.omf_image.specs.Overflow.{first_overflow, start_overflow}
 use Rattle.omf_alias.specs.Meaning.{Renaming}
 use Rattle.omf_library.specs.Records.{module_records}
 use Rattle.omf_lower.specs.declared.lowering.Lowering.{Lowering}
 use Rattle.omf_lower.specs.Module.{lowered}
 use Rattle.omf_module.specs.Module.{Module}
+use Rattle.omf_module.specs.declared.fault.ModuleFault.{ModuleFault}
 use Rattle.omf_order.specs.Answer.{part_limit}
 use Rattle.omf_order.specs.Cleared.{data_in_bss}
 use Rattle.omf_order.specs.declared.order.Order.{Order}
@@ -32,11 +33,13 @@ use Rattle.doslink_words.specs.declared.job.Job.{Job}
 use Rattle.doslink_words.specs.declared.job.Stack.{Stack}
 use Rattle.doslink_jobs.specs.Aliases.{EndsIn, link_aliases}
 use Rattle.doslink_jobs.specs.Communals.{AreVariablesOf, IsCommunalModule, TellsBss, declared_by}
-use Rattle.doslink_jobs.specs.Jobs.{AreFilesOf, AreInputsOf, AreLoweredFor, asking_of, names_of, plain_lowering}
-use Rattle.doslink_jobs.specs.Jobs.{renaming_of}
+use Rattle.doslink_jobs.specs.Jobs.{AreFilesOf, AreInputsOf, AreLoweredFor, asking_of, lowering_of, names_of}
+use Rattle.doslink_jobs.specs.Jobs.{renaming_of, taking_for}
 use Rattle.doslink_jobs.specs.Joined.{AreJoined, have_bytes}
-use Rattle.doslink_jobs.specs.Locals.{HasModule, HaveLocals}
-use Rattle.doslink_jobs.specs.Orders.{AreRead, Asking, IsAsked, IsNoModule, IsOrderModule}
+use Rattle.doslink_jobs.specs.Locals.{HaveLocals}
+use Rattle.doslink_jobs.specs.Meant.{AreMeant}
+use Rattle.doslink_link.specs.Reading.{AreRead, HasModule, IsNoModule, StopsAt}
+use Rattle.doslink_jobs.specs.Orders.{Asking, IsAsked, IsOrderModule}
 use Rattle.doslink_jobs.specs.Overflow.{HaveOverflow, NarrowStart}
 use Rattle.doslink_jobs.specs.Stacks.{AreStacked}
 
@@ -51,8 +54,7 @@ HaveNoVariables names modules =
 abbrev pub IsNotLowered : Job → (says : List search.Module) → (modules : List (List ℕ)) → (bytes : List ℕ) → Type 0
 IsNotLowered job says modules bytes =
     (EndsIn (names_of job.ignore_case) says (link_aliases modules) bytes → ⊥)
-    ⊎ ((lowering : Lowering) × (lowering.keep_debug ≡ job.keep_debug)
-    × IsErr (lowered lowering (renaming_of job says modules bytes) bytes))
+    ⊎ IsErr (lowered (lowering_of job) (renaming_of job says modules bytes) bytes)
 
 -- of a lowered module, one of these, the variables that the module itself declares as local to it aren't declared as
 -- they should be, or they clash or have no place, the module being whole and sound
@@ -109,15 +111,18 @@ AreNotJoined asking stack inputs vs =
     ⊎ ((stacked : List (List ℕ)) × AreStacked asking stack (inputs ++ option_to_list communal) stacked
     × HaveNoOrder asking stacked))))
 
--- a fault stands in what is linked
-abbrev pub HaveFault : (A : Type 0) → Names → (inputs : List (List ℕ)) → Type 0
-HaveFault A names inputs = (fault : LinkFault A) × IsOnlyFault names inputs fault
+-- A fault stands in what is linked: one of these inputs begins with no module, or the first fault of placement, of data
+-- and fix-ups, of the start or of relocated words stands in the modules that are meant.
+abbrev pub HaveFault : (A : Type 0) → Names → (Meant : List Module → Type 0) → (inputs : List (List ℕ)) → Type 0
+HaveFault A names Meant inputs =
+    ((input : ℕ) × (found : ModuleFault) × StopsAt inputs input found)
+    ⊎ ((modules : List Module) × Meant modules × ((fault : LinkFault A) × IsModulesFault names modules fault))
 
 -- in what is linked for modules a fix-up of 32 bits that became one of 16 doesn't fit, or the start doesn't that did
-abbrev pub HaveGreatSum : Job → (modules : List Held) → (linked : List (List ℕ)) → Type 0
-HaveGreatSum job modules linked =
-    HaveOverflow first_overflow (names_of job.ignore_case) linked
-    ⊎ (NarrowStart (map (λ m. m.bytes) modules) × HaveOverflow start_overflow (names_of job.ignore_case) linked)
+abbrev pub HaveGreatSum : Names → (modules : List Held) → (Meant : List Module → Type 0) → Type 0
+HaveGreatSum names modules Meant =
+    HaveOverflow first_overflow names Meant
+    ⊎ (NarrowStart (map (λ m. m.bytes) modules) × HaveOverflow start_overflow names Meant)
 
 -- Nothing is linked for the modules that a link takes, which say so of names with these communal variables: one of them
 -- can't be lowered, has no place for variables that are local to it, nothing can be joined to them, or a fix-up or start
@@ -132,7 +137,8 @@ HaveNoInputs job says marks modules vs =
     × (Any (λ m. HasNoLocals (names_of job.ignore_case) lowered m.0 m.1) (zip own lowered)
     ⊎ ((inputs : List (List ℕ)) × HaveLocals (names_of job.ignore_case) own lowered inputs
     × (AreNotJoined asking job.stack inputs vs
-    ⊎ ((linked : List (List ℕ)) × AreJoined asking job.stack inputs vs linked × HaveGreatSum job modules linked)))))
+    ⊎ ((linked : List (List ℕ)) × AreJoined asking job.stack inputs vs linked
+    × HaveGreatSum (names_of job.ignore_case) modules (AreMeant (taking_for job says) linked))))))
 
 -- a module can't be lowered so, with what names mean in it, or what it is lowered to is no module
 abbrev pub IsFaultyWith : Lowering → Renaming → (bytes : List ℕ) → Type 0
@@ -140,9 +146,9 @@ IsFaultyWith lowering means bytes =
     IsErr (lowered lowering means bytes)
     ⊎ ((linked : List ℕ) × (lowered lowering means bytes ≡ Ok linked) × IsNoModule linked)
 
--- the same as a job asks for, far data sharing no frame
+-- the same as a job asks for
 abbrev pub IsFaulty : Job → (says : List search.Module) → (modules : List (List ℕ)) → (bytes : List ℕ) → Type 0
-IsFaulty job says modules bytes = IsFaultyWith (plain_lowering job) (renaming_of job says modules bytes) bytes
+IsFaulty job says modules bytes = IsFaultyWith (lowering_of job) (renaming_of job says modules bytes) bytes
 
 -- Names are missing, where modules of these bytes say so of names: that is told where none of them is faulty, and else
 -- such a module, since a name may be missing alone because it can't be read.
@@ -160,7 +166,7 @@ AreRefusedWith A job modules vs =
     AreMissingOf job says (map (λ m. m.bytes) modules)
     ⊎ (HaveNoInputs job says (wants_marks names says) modules vs
     ⊎ ((linked : List (List ℕ)) × AreInputsOf job says (wants_marks names says) modules vs linked
-    × HaveFault A names linked))
+    × HaveFault A names (AreMeant (taking_for job says) linked) linked))
 
 -- the modules that a link takes can't be linked: they don't agree on communal variables, or not with these
 abbrev pub IsRefusedOf : (A : Type 0) → Job → (takes : List Held → Type 0) → Type 0

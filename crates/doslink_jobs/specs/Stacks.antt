@@ -6,7 +6,8 @@ use Rattle.omf_module.specs.Module.{Module}
 use Rattle.omf_stack.specs.Answer.{Added, Answer, Enough, TooLong, answer}
 use Rattle.omf_stack.specs.Cut.{cut_modules}
 use Rattle.doslink_words.specs.declared.job.Stack.{Stack}
-use Rattle.doslink_jobs.specs.Orders.{AreRead, AreUnread, Asking, IsOrderModule}
+use Rattle.doslink_jobs.specs.Orders.{Asking, IsOrderModule}
+use Rattle.doslink_link.specs.Reading.{AreRead, AreUnread}
 
 -- What is linked of inputs behind the order module, where the stack of all these modules has this answer: the same, or a
 -- module with what the stack lacks behind them, or they with a stack that is cut to the length, where that is asked for.

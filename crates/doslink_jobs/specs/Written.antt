@@ -2,9 +2,10 @@
 use Rattle.std.specs.Prelude.{ℕ, List, MatchOption}
 use Rattle.std.specs.declared.option.Option.{Option}
 use Rattle.clap.specs.Words.{Text}
+use Rattle.omf_module.specs.Module.{Module}
 use Rattle.omf_place.specs.declared.names.Names.{Names}
 use Rattle.omf_commands.specs.declared.linking.Report.{Report}
-use Rattle.doslink_link.specs.Linking.{HoldsProgramOf, IsLinkedAs}
+use Rattle.doslink_link.specs.Linking.{IsLinkedAs}
 use Rattle.doslink_jobs.specs.Maps.{map_bytes}
 
 -- The file OUT holds these bytes, and MAP, where a map is asked for, this text. `Writes` says that the file at a path
@@ -13,13 +14,12 @@ abbrev pub AreWritten : (Writes : (path bytes : List ℕ) → Type 0) → (out :
     → (file text : List ℕ) → Type 0
 AreWritten Writes out map file text = Writes out file × MatchOption map (Unit {0}) (λ path. Writes path text)
 
--- Of these inputs the program was written to the file OUT, which holds it at each paragraph, and where a map is asked
--- for, the map of what was linked to the file MAP, behind it the table of the modules with these words.
+-- Of modules that these inputs mean the program was written to the file OUT, which holds it at each paragraph, and where
+-- a map is asked for, the map of what was linked to the file MAP, behind it the table of the inputs with these words.
 pub record IsWritten (A : Type 0) (Writes : (path bytes : List ℕ) → Type 0) (out : Text) (map : Option Text)
-    (names : Names) (inputs : List (List ℕ)) : Type 0 where
+    (names : Names) (inputs : List (List ℕ)) (meant : List Module) : Type 0 where
   pub report : Report A
   pub file : List ℕ
   pub words : List (List ℕ)
-  pub linked : IsLinkedAs names inputs report file
-  pub holds : HoldsProgramOf names inputs file
+  pub linked : IsLinkedAs names meant report file
   pub written : AreWritten Writes out map file (map_bytes report inputs words)

@@ -5,6 +5,7 @@ pub mod Gathering
 pub mod Inputs
 pub mod Listed
 pub mod Meanings
+pub mod Passing
 pub mod Reading
 pub mod Stops
 pub mod Sums

@@ -3,7 +3,7 @@ ghost use Rattle.std.specs.Prelude.{◌≡◌, ◌++◌, All, Any, IfOk, OnOk, m
 ghost use Rattle.std.specs.Option.{option_map};
 ghost use Rattle.omf_alias.specs.Meaning as meaning;
 ghost use Rattle.omf_alias.specs.Said.{alias_said, aliases_said, own_said};
-ghost use Rattle.omf_library.specs.Said.{all_defaulted};
+ghost use Rattle.omf_library.specs.Said.{all_defaulted, defaulted_said};
 ghost use Rattle.omf_search.specs.Results.{module_said};
 ghost use Rattle.doslink_stock.specs.Seen.{handed_held};
 ghost use Rattle.doslink_jobs.specs.Aliases as spec;
@@ -18,7 +18,31 @@ use omf_alias::{Alias, OwnAliases, endless, push_module_aliases};
 use omf_library::{Defaulted, module_frames, weak_and_lazy};
 use std::alloc::{AllocError, Allocator};
 
-/// Appends those of some externals that nothing defines, as aliases of their defaults.
+/// Appends an external that nothing defines as an alias of its default, where that isn't local to its module.
+fn push_default<'a, A: Allocator + Copy>(
+    meanings: &Meanings<'_, '_, 'a, A>,
+    external: &Defaulted<'a>,
+    aliases: &mut Vec<Alias<'a>, A>,
+) -> Result<(), AllocError>
+    ensures { OnOk result (aliases_said aliases.new.items ≡ aliases_said aliases.old.items
+        ++ spec.default_alias meanings.now.names (map module_said meanings.now.says.now)
+        (defaulted_said external.now)) }
+{
+    if meanings.is_defined(external.name) {
+        return Ok(());
+    }
+    let Some(meaning) = external.default_name else {
+        return Ok(());
+    };
+    aliases.push(Alias {
+        place: external.place,
+        name: external.name,
+        meaning,
+    })?;
+    Ok(())
+}
+
+/// Appends some externals, as far as nothing defines them, as aliases of their defaults.
 fn push_defaults<'a, A: Allocator + Copy>(
     meanings: &Meanings<'_, '_, 'a, A>,
     externals: &[Defaulted<'a>],
@@ -29,14 +53,7 @@ fn push_defaults<'a, A: Allocator + Copy>(
         (all_defaulted externals.now)) }
 {
     for one in externals {
-        if meanings.is_defined(one.name) {
-            continue;
-        }
-        aliases.push(Alias {
-            place: one.place,
-            name: one.name,
-            meaning: one.default_name,
-        })?;
+        push_default(meanings, one, aliases)?;
     }
     Ok(())
 }

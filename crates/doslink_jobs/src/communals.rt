@@ -1,31 +1,27 @@
 //! The communal variables of the modules that a link takes, and the module that has them.
-ghost use Rattle.std.specs.Prelude.{◌≡◌, ◌≢◌, Any, IfOk, IsErr, Ok, map, MatchResult};
+ghost use Rattle.std.specs.Prelude.{◌≡◌, ◌≢◌, ℕ, Any, IfOk, IsErr, List, Ok, map, MatchResult};
+ghost use Rattle.std.specs.List.{list_any};
 ghost use Rattle.std.specs.Option.{option_map};
 ghost use Rattle.omf_communal.specs.Bss as bss;
 ghost use Rattle.omf_communal.specs.Deciding.{variable_said};
 ghost use Rattle.omf_communal.specs.Deciding as agreed;
 ghost use Rattle.omf_communal.specs.Modules.{module_said};
-ghost use Rattle.omf_module.specs.Module as spec;
+ghost use Rattle.doslink_link.specs.Reading.{IsReadOf};
 ghost use Rattle.doslink_stock.specs.Seen.{handed_held};
-ghost use Rattle.doslink_link.specs.Linking.{bytes_of};
 ghost use Rattle.doslink_jobs.specs.Communals.{AreVariablesOf, IsCommunalModule, TellsBss, declared_by};
 ghost use Rattle.doslink_jobs.specs.Refusals.{HaveNoPlace, HaveNoVariables};
-ghost use Rattle.doslink_jobs.specs.inside.Inputs.{lowered_bytes};
 ghost use Rattle.doslink_jobs.specs.inside.Declaring.{declared_said};
-ghost use Rattle.doslink_jobs.specs.inside.Reading.{IsRead};
 ghost use Rattle.doslink_jobs.specs.inside.Stops.{OnInput};
 
-use crate::lowering::LoweredModule;
-use crate::ordering::pass_unread;
 use crate::stop::{Stop, stop_after};
 use crate::taking::Taken;
+use doslink_link::Read;
 use doslink_telling::{push_clash, push_entry_fault, push_unplaced};
 use omf_communal::{
     ClashFault, Communal, CommunalFault, Declaring, PlanFault, Scope, Variable, communal_module,
     communals, has_bss, variables,
 };
-use omf_frame::MemSource;
-use omf_module::read_module;
+use omf_module::Module;
 use omf_place::Names;
 use std::alloc::{AllocError, Allocator};
 
@@ -163,62 +159,40 @@ pub(crate) fn variables_of<'a, A: Allocator + Copy>(
     agreed_variables(alloc, names, &declared, taken.words, lines)
 }
 
-/// Whether the module that these bytes begin with has the segment `_BSS` in DGROUP. The word is that of the module.
-fn has_bss_in<A: Allocator + Copy>(
-    alloc: A,
-    bytes: &[u8],
-    word: &[u8],
-    lines: &mut Vec<u8, A>,
-) -> Result<bool, Stop>
-    ensures { MatchResult result (λ has. (one : spec.Module) → IsRead bytes.now one → has ≡ bss.has_bss one)
-        (λ stop. OnInput stop ⊥) }
+/// Whether some module has the segment `_BSS` in DGROUP.
+fn have_bss<A: Allocator + Copy>(modules: &[Module<A>]) -> bool
+    ensures { result ≡ list_any bss.has_bss modules.now }
 {
-    let mut source = MemSource::over(bytes, usize::MAX, None);
-    match read_module(alloc, &mut source) {
-        Ok(one) => Ok(has_bss(&one)),
-        Err(fault) => {
-            pass_unread(alloc, word, fault, lines)?;
-            Ok(false)
-        }
+    modules.iter().any(|one| has_bss(one))
+}
+
+/// The same of what inputs begin with; not where one of them begins with no module.
+pub(crate) fn is_in_bss<A: Allocator + Copy>(read: &Read<A>) -> bool
+    ensures { (inputs : List (List ℕ)) → IsReadOf inputs read.now → TellsBss inputs result }
+{
+    match read {
+        Read::Modules(modules) => have_bss(modules),
+        Read::Fault { .. } => false,
     }
 }
 
-/// Whether some lowered module has the segment `_BSS` in DGROUP.
-pub(crate) fn is_in_bss<A: Allocator + Copy>(
-    alloc: A,
-    modules: &[LoweredModule<'_, A>],
-    taken: &Taken<'_, '_, '_, A>,
-    lines: &mut Vec<u8, A>,
-) -> Result<bool, Stop>
-    ensures { MatchResult result (λ in_bss. TellsBss (map lowered_bytes modules.now) in_bss)
-        (λ stop. OnInput stop ⊥) }
-{
-    let mut found = false;
-    for (index, one) in modules.iter().enumerate() {
-        let has = has_bss_in(alloc, one.bytes(), taken.word(index), lines)?;
-        found = found || has;
-    }
-    Ok(found)
-}
-
-/// The bytes of the module that has the communal variables of these lowered modules; none where there are none. A
-/// variable that has no place is told.
+/// The bytes of the module that has the communal variables of lowered modules, which are read; none where there are
+/// none. A variable that has no place is told.
 pub(crate) fn communal_bytes<A: Allocator + Copy>(
     alloc: A,
-    modules: &[LoweredModule<'_, A>],
+    read: &Read<A>,
     taken: &Taken<'_, '_, '_, A>,
     variables: &[Variable<'_>],
     lines: &mut Vec<u8, A>,
 ) -> Result<Option<Vec<u8, A>>, Stop>
-    ensures { MatchResult result (λ o. IsCommunalModule (map lowered_bytes modules.now)
-        (map variable_said variables.now) (option_map (λ v. v.items) o))
-        (λ stop. OnInput stop
-        (HaveNoPlace (map lowered_bytes modules.now) (map variable_said variables.now))) }
+    ensures { (inputs : List (List ℕ)) → IsReadOf inputs read.now → MatchResult result
+        (λ o. IsCommunalModule inputs (map variable_said variables.now) (option_map (λ v. v.items) o))
+        (λ stop. OnInput stop (HaveNoPlace inputs (map variable_said variables.now))) }
 {
     if variables.is_empty() {
         return Ok(None);
     }
-    let in_bss = is_in_bss(alloc, modules, taken, lines)?;
+    let in_bss = is_in_bss(read);
     match communal_module(alloc, variables, in_bss) {
         Ok(bytes) => Ok(bytes),
         Err(fault) => Err(stop_unplaced(alloc, fault, variables, taken.words, lines)),

@@ -2,24 +2,25 @@
 ghost use Rattle.std.specs.Prelude.{◌≡◌, All, Any, map, MatchResult};
 ghost use Rattle.omf_search.specs.Results.{module_said};
 ghost use Rattle.doslink_stock.specs.Seen.{handed_held};
-ghost use Rattle.doslink_jobs.specs.Jobs.{plain_lowering};
+ghost use Rattle.doslink_jobs.specs.Jobs.{lowering_of};
 ghost use Rattle.doslink_jobs.specs.Refusals.{IsFaulty, IsFaultyWith};
 ghost use Rattle.doslink_jobs.specs.inside.Meanings.{means};
 ghost use Rattle.doslink_jobs.specs.inside.Inputs.{lowered_bytes};
-ghost use Rattle.doslink_jobs.specs.inside.Reading.{IsNoModule, IsOfBytes};
+ghost use Rattle.doslink_jobs.specs.inside.Reading.{IsOfBytes};
+ghost use Rattle.doslink_link.specs.Reading.{IsNoModule};
 ghost use Rattle.doslink_jobs.specs.inside.Stops.{OnInput};
 
 use crate::aliases::{Meanings, aliases_of, own_aliases};
 use crate::faults::tell_record;
 use crate::inputs::options_of;
-use crate::lowering::{LoweredModule, plain_lowering, stop_at_record};
+use crate::lowering::{LoweredModule, lowering_of, stop_at_record};
 use crate::stop::{Stop, stop_after};
 use crate::taking::Taken;
+use doslink_link::read_one;
 use doslink_words::Job;
 use omf_faults::InputFault;
-use omf_frame::MemSource;
 use omf_lower::{Lowering, lower};
-use omf_module::{FaultKind, ModuleFault, read_module};
+use omf_module::{FaultKind, ModuleFault};
 use omf_search::Said;
 use std::alloc::Allocator;
 
@@ -54,8 +55,7 @@ fn check_readable<A: Allocator + Copy>(
     ensures { MatchResult result (λ done. IsNoModule (lowered_bytes one.now) → ⊥)
         (λ stop. OnInput stop (IsNoModule (lowered_bytes one.now))) }
 {
-    let mut source = MemSource::over(one.bytes(), usize::MAX, None);
-    match read_module(alloc, &mut source) {
+    match read_one(alloc, one.bytes()) {
         Ok(_) => Ok(()),
         Err(fault) => Err(stop_unreadable(alloc, one, fault, word, lines)),
     }
@@ -105,7 +105,7 @@ pub(crate) fn check_modules<'a, A: Allocator + Copy>(
 {
     let aliases = aliases_of(alloc, taken)?;
     let meanings = Meanings::new(alloc, options_of(job).names, says, aliases)?;
-    let lowering = plain_lowering(job);
+    let lowering = lowering_of(job);
     for (index, each) in taken.handed.iter().enumerate() {
         let word = taken.word(index);
         check_module(alloc, lowering, &meanings, each.entry.bytes, word, lines)?;

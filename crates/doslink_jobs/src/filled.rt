@@ -4,13 +4,12 @@ ghost use Rattle.std.specs.List.{list_any};
 ghost use Rattle.doslink_jobs.specs.Joined as spec;
 ghost use Rattle.doslink_jobs.specs.Joined.{AreFilled};
 ghost use Rattle.doslink_jobs.specs.Refusals.{AreEmpty};
-ghost use Rattle.doslink_jobs.specs.inside.Inputs.{linked_list};
+ghost use Rattle.doslink_jobs.specs.inside.Inputs.{IsLinkedRead, linked_list};
 ghost use Rattle.doslink_jobs.specs.inside.Stops.{OnInput};
 
-use crate::inputs::{Linked, linked_slices};
-use crate::ordering::read_modules;
+use crate::reading::ReadLinked;
 use crate::stop::Stop;
-use crate::taking::Taken;
+use doslink_link::Read;
 use doslink_telling::push_no_program;
 use omf_module::Module;
 use std::alloc::Allocator;
@@ -56,17 +55,15 @@ fn check_bytes<A: Allocator + Copy>(
 
 /// Stops where nothing that is linked has a byte. Where an input is at fault the link names that.
 pub(crate) fn check_filled<A: Allocator + Copy>(
-    alloc: A,
-    linked: &Linked<'_, A>,
-    taken: &Taken<'_, '_, '_, A>,
+    linked: &ReadLinked<'_, A>,
     lines: &mut Vec<u8, A>,
 ) -> Result<(), Stop>
-    ensures { MatchResult result (λ done. AreFilled (linked_list linked.now))
-        (λ stop. OnInput stop (AreEmpty (linked_list linked.now))) }
+    requires { IsLinkedRead linked.now }
+    ensures { MatchResult result (λ done. AreFilled (linked_list linked.now.linked))
+        (λ stop. OnInput stop (AreEmpty (linked_list linked.now.linked))) }
 {
-    let slices = linked_slices(alloc, linked)?;
-    match read_modules(alloc, &slices, taken, lines)? {
-        Some(read) => check_bytes(&read, lines),
-        None => Ok(()),
+    match &linked.read {
+        Read::Modules(modules) => check_bytes(modules, lines),
+        Read::Fault { .. } => Ok(()),
     }
 }

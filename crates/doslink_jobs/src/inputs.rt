@@ -1,29 +1,37 @@
 //! The modules of a link, as they are handed to it.
-ghost use Rattle.std.specs.Prelude.{◌≡◌, IfOk, map, MatchResult};
+ghost use Rattle.std.specs.Prelude.{◌≡◌, ◌++◌, ℕ, IfOk, List, map, MatchResult};
 ghost use Rattle.std.specs.List.{list_any};
 ghost use Rattle.std.specs.Option.{option_map};
 ghost use Rattle.omf_communal.specs.Deciding.{variable_said};
 ghost use Rattle.omf_search.specs.Results.{module_said};
 ghost use Rattle.doslink_link.specs.Linking.{bytes_of};
+ghost use Rattle.doslink_link.specs.Reading.{IsReadOf};
 ghost use Rattle.doslink_stock.specs.Seen.{handed_held};
-ghost use Rattle.doslink_jobs.specs.Jobs.{AreInputsOf, asking_of, names_of};
+ghost use Rattle.doslink_jobs.specs.Jobs.{AreInputsOf, asking_of, names_of, taking_for};
 ghost use Rattle.doslink_jobs.specs.Joined.{AreJoined};
 ghost use Rattle.doslink_jobs.specs.Orders.{IsOrderModule};
 ghost use Rattle.doslink_jobs.specs.Refusals.{AreNotJoined, HaveNoInputs, HaveNoOrder, HaveNoPlace};
-ghost use Rattle.doslink_jobs.specs.inside.Inputs.{HasCommunal, asking_said, input_list, linked_list, lowered_bytes};
-ghost use Rattle.doslink_jobs.specs.inside.Inputs.{made_bytes, order_list};
+ghost use Rattle.doslink_jobs.specs.inside.Inputs.{AreInputsRead, AreModulesRead, HasCommunal, IsLinkedRead};
+ghost use Rattle.doslink_jobs.specs.inside.Inputs.{IsOrderOfRead, IsOrdered, asking_said, input_list, linked_list};
+ghost use Rattle.doslink_jobs.specs.inside.Inputs.{lowered_bytes, made_bytes, order_list};
+ghost use Rattle.doslink_jobs.specs.inside.Meanings.{AreMeaningsFor};
+ghost use Rattle.doslink_jobs.specs.inside.Passing.{AreInputsMeant};
 ghost use Rattle.doslink_jobs.specs.inside.Stops.{OnInput};
 
+use crate::aliases::{Meanings, aliases_of};
 use crate::communals::communal_bytes;
 use crate::filled::check_filled;
 use crate::locals::with_locals;
 use crate::lowering::{LoweredModule, lower_for, lowered_slices};
-use crate::ordering::{Asked, is_unasked, order_bytes, read_modules};
+use crate::meant::{MeantInputs, inputs_meant};
+use crate::ordering::{Asked, is_unasked, order_bytes};
 use crate::overflow::{check_sums, find_narrowed};
+use crate::reading::{ReadInputs, ReadLinked, ReadModules, with_made};
 use crate::stacking::with_stack;
 use crate::stop::Stop;
 use crate::taking::Taken;
 use crate::widths::warn_of_wide_segments;
+use doslink_link::{Read, read_in_front};
 use doslink_stock::Handed;
 use doslink_words::Job;
 use omf_commands::Options;
@@ -75,7 +83,7 @@ pub(crate) struct Inputs<'a, A: Allocator + Copy> {
 }
 
 /// The bytes of the order module, where there is one.
-pub(crate) fn order_slices<'m, A: Allocator + Copy>(
+fn order_slices<'m, A: Allocator + Copy>(
     alloc: A,
     order: &'m Option<Vec<u8, A>>,
 ) -> Result<Vec<&'m [u8], A>, AllocError>
@@ -185,28 +193,70 @@ pub(crate) fn module_at<'m, 'a, A: Allocator + Copy>(
 
 /// The order module for what is linked behind it, where one is needed. None too where one of the modules is at fault,
 /// which the link names.
-pub(crate) fn order_of<A: Allocator + Copy>(
+fn order_of<A: Allocator + Copy>(
     alloc: A,
-    linked: &Linked<'_, A>,
+    linked: &ReadLinked<'_, A>,
     asked: &Asked<'_, '_>,
     taken: &Taken<'_, '_, '_, A>,
     lines: &mut Vec<u8, A>,
 ) -> Result<Option<Vec<u8, A>>, Stop>
-    ensures { MatchResult result
-        (λ o. IsOrderModule (asking_said asked.now) (linked_list linked.now) (option_map (λ v. v.items) o))
-        (λ stop. OnInput stop (HaveNoOrder (asking_said asked.now) (linked_list linked.now))) }
+    requires { IsLinkedRead linked.now }
+    ensures { MatchResult result (λ o.
+        IsOrderModule (asking_said asked.now) (linked_list linked.now.linked) (option_map (λ v. v.items) o))
+        (λ stop. OnInput stop (HaveNoOrder (asking_said asked.now) (linked_list linked.now.linked))) }
 {
     if is_unasked(asked) {
         return Ok(None);
     }
-    let slices = linked_slices(alloc, linked)?;
-    match read_modules(alloc, &slices, taken, lines)? {
-        Some(read) => {
-            let words = linked_words(alloc, linked, taken.words)?;
-            order_bytes(alloc, &read, asked, &words, lines)
+    match &linked.read {
+        Read::Modules(modules) => {
+            let words = linked_words(alloc, &linked.linked, taken.words)?;
+            order_bytes(alloc, modules, asked, &words, lines)
         }
-        None => Ok(None),
+        Read::Fault { .. } => Ok(None),
     }
+}
+
+/// What the order module begins with, where there is one, and inputs behind it that begin so.
+fn behind_order<A: Allocator + Copy>(
+    alloc: A,
+    order: &Option<Vec<u8, A>>,
+    read: Read<A>,
+) -> Result<Read<A>, AllocError>
+    requires { IsOrderOfRead order.now read }
+    ensures { (inputs : List (List ℕ)) → IsReadOf inputs read
+        → IfOk result (IsReadOf (order_list order.now ++ inputs)) }
+{
+    let Some(bytes) = order else {
+        return Ok(read);
+    };
+    match read {
+        Read::Modules(modules) => read_in_front(alloc, bytes, modules),
+        Read::Fault { .. } => unreachable!(),
+    }
+}
+
+/// What is linked, with the order module in front of it, where one is needed.
+pub(crate) fn ordered<'a, A: Allocator + Copy>(
+    alloc: A,
+    linked: ReadLinked<'a, A>,
+    asked: &Asked<'_, '_>,
+    taken: &Taken<'_, '_, 'a, A>,
+    lines: &mut Vec<u8, A>,
+) -> Result<ReadInputs<'a, A>, Stop>
+    requires { IsLinkedRead linked }
+    ensures { MatchResult result
+        (λ all. IsOrdered (asking_said asked.now) all.inputs
+        × (linked_list all.inputs.linked ≡ linked_list linked.entry.linked) × AreInputsRead all)
+        (λ stop. OnInput stop (HaveNoOrder (asking_said asked.now) (linked_list linked.entry.linked))) }
+{
+    let order = order_of(alloc, &linked, asked, taken, lines)?;
+    let ReadLinked { linked, read } = linked;
+    let read = behind_order(alloc, &order, read)?;
+    Ok(ReadInputs {
+        inputs: Inputs { order, linked },
+        read,
+    })
 }
 
 /// Whether a module asks for the DOSSEG order.
@@ -236,23 +286,35 @@ fn asked_by<'o, 'a, A: Allocator + Copy>(
 /// Lowered modules with the module of their communal variables behind them.
 fn with_communal<'a, A: Allocator + Copy>(
     alloc: A,
-    modules: Vec<LoweredModule<'a, A>, A>,
+    lowered: ReadModules<'a, A>,
     taken: &Taken<'_, '_, 'a, A>,
     variables: &[Variable<'a>],
     lines: &mut Vec<u8, A>,
-) -> Result<Linked<'a, A>, Stop>
-    ensures { MatchResult result (λ linked. HasCommunal (map lowered_bytes modules.entry.items)
-        (map variable_said variables.now) (linked_list linked))
-        (λ stop. OnInput stop (HaveNoPlace (map lowered_bytes modules.entry.items) (map variable_said variables.now))) }
+) -> Result<ReadLinked<'a, A>, Stop>
+    requires { AreModulesRead lowered }
+    ensures { MatchResult result (λ linked. HasCommunal (map lowered_bytes lowered.entry.modules.items)
+        (map variable_said variables.now) (linked_list linked.linked) × IsLinkedRead linked)
+        (λ stop. OnInput stop
+        (HaveNoPlace (map lowered_bytes lowered.entry.modules.items) (map variable_said variables.now))) }
 {
-    let mut made = Vec::new(alloc);
-    if let Some(bytes) = communal_bytes(alloc, &modules, taken, variables, lines)? {
-        made.push(MadeModule {
-            word: COMMUNAL_MODULE,
-            bytes,
-        })?;
+    let communal = communal_bytes(alloc, &lowered.read, taken, variables, lines)?;
+    let ReadModules { modules, read } = lowered;
+    let made = Vec::new(alloc);
+    let linked = ReadLinked {
+        linked: Linked { modules, made },
+        read,
+    };
+    match communal {
+        Some(bytes) => Ok(with_made(
+            alloc,
+            linked,
+            MadeModule {
+                word: COMMUNAL_MODULE,
+                bytes,
+            },
+        )?),
+        None => Ok(linked),
     }
-    Ok(Linked { modules, made })
 }
 
 /// Lowered modules with the module of their communal variables and what the stack lacks behind them, and the order
@@ -260,30 +322,59 @@ fn with_communal<'a, A: Allocator + Copy>(
 fn joined<'a, A: Allocator + Copy>(
     alloc: A,
     job: &Job<'_>,
-    modules: Vec<LoweredModule<'a, A>, A>,
+    lowered: ReadModules<'a, A>,
     taken: &Taken<'_, '_, 'a, A>,
     variables: &[Variable<'a>],
     marks: bool,
     lines: &mut Vec<u8, A>,
-) -> Result<Inputs<'a, A>, Stop>
-    ensures { MatchResult result (λ inputs. AreJoined
+) -> Result<ReadInputs<'a, A>, Stop>
+    requires { AreModulesRead lowered }
+    ensures { MatchResult result (λ all. AreJoined
         (asking_of job.now marks (map handed_held taken.now.handed.now)) job.now.stack
-        (map lowered_bytes modules.entry.items) (map variable_said variables.now) (input_list inputs))
+        (map lowered_bytes lowered.entry.modules.items) (map variable_said variables.now) (input_list all.inputs)
+        × AreInputsRead all)
         (λ stop. OnInput stop (AreNotJoined
         (asking_of job.now marks (map handed_held taken.now.handed.now)) job.now.stack
-        (map lowered_bytes modules.entry.items) (map variable_said variables.now))) }
+        (map lowered_bytes lowered.entry.modules.items) (map variable_said variables.now))) }
 {
-    let linked = with_communal(alloc, modules, taken, variables, lines)?;
-    check_filled(alloc, &linked, taken, lines)?;
+    let linked = with_communal(alloc, lowered, taken, variables, lines)?;
+    check_filled(&linked, lines)?;
     let asked = asked_by(job, taken, marks);
-    let linked = with_stack(alloc, job, linked, &asked, taken, lines)?;
-    let order = order_of(alloc, &linked, &asked, taken, lines)?;
-    Ok(Inputs { order, linked })
+    with_stack(alloc, job, linked, &asked, taken, lines)
 }
 
-/// The modules of a link as they are handed to it: those that it takes, lowered, with the variables that are local to
-/// each, the module of their communal variables behind them, and the order module in front of all. Segments of 32 bits
-/// are warned of, and a fix-up or start of 32 bits whose sum has more than 16 is told.
+/// The modules of a link as they are handed to it, with what names mean in them: those that it takes, lowered, with the
+/// variables that are local to each, the module of their communal variables behind them, and the order module in front
+/// of all; and what they mean. Segments of 32 bits are warned of, and a fix-up or start of 32 bits whose sum has more
+/// than 16 is told.
+fn inputs_by<'a, A: Allocator + Copy>(
+    alloc: A,
+    job: &Job<'_>,
+    taken: &Taken<'_, '_, 'a, A>,
+    variables: &[Variable<'a>],
+    meanings: &Meanings<'_, '_, 'a, A>,
+    marks: bool,
+    lines: &mut Vec<u8, A>,
+) -> Result<MeantInputs<'a, A>, Stop>
+    requires { AreMeaningsFor job.now (map (λ h. (handed_held h).bytes) taken.now.handed.now) meanings.now }
+    ensures { MatchResult result (λ all. AreInputsOf job.now (map module_said meanings.now.says.now) marks
+        (map handed_held taken.now.handed.now) (map variable_said variables.now) (input_list all.inputs)
+        × AreInputsMeant (taking_for job.now (map module_said meanings.now.says.now)) all)
+        (λ stop. OnInput stop (HaveNoInputs job.now (map module_said meanings.now.says.now) marks
+        (map handed_held taken.now.handed.now) (map variable_said variables.now))) }
+{
+    let names = options_of(job).names;
+    let lowered = lower_for(alloc, job, taken, meanings, lines)?;
+    let narrowed = find_narrowed(alloc, &lowered.modules)?;
+    let modules = with_locals(alloc, names, lowered, taken, lines)?;
+    let all = joined(alloc, job, modules, taken, variables, marks, lines)?;
+    warn_of_wide_segments(alloc, job, &all.inputs.linked.modules, taken, lines)?;
+    let meant = inputs_meant(alloc, job.packs_far_data, all, meanings)?;
+    check_sums(alloc, names, narrowed, &meant, taken, lines)?;
+    Ok(meant)
+}
+
+/// The same where the modules say so of names.
 pub(crate) fn inputs_of<'a, A: Allocator + Copy>(
     alloc: A,
     job: &Job<'_>,
@@ -292,18 +383,14 @@ pub(crate) fn inputs_of<'a, A: Allocator + Copy>(
     says: &[Said<'_, 'a>],
     marks: bool,
     lines: &mut Vec<u8, A>,
-) -> Result<Inputs<'a, A>, Stop>
-    ensures { MatchResult result (λ inputs. AreInputsOf job.now (map module_said says.now) marks
-        (map handed_held taken.now.handed.now) (map variable_said variables.now) (input_list inputs))
+) -> Result<MeantInputs<'a, A>, Stop>
+    ensures { MatchResult result (λ all. AreInputsOf job.now (map module_said says.now) marks
+        (map handed_held taken.now.handed.now) (map variable_said variables.now) (input_list all.inputs)
+        × AreInputsMeant (taking_for job.now (map module_said says.now)) all)
         (λ stop. OnInput stop (HaveNoInputs job.now (map module_said says.now) marks
         (map handed_held taken.now.handed.now) (map variable_said variables.now))) }
 {
-    let names = options_of(job).names;
-    let lowered = lower_for(alloc, job, taken, says, lines)?;
-    let narrowed = find_narrowed(alloc, &lowered)?;
-    let modules = with_locals(alloc, names, lowered, taken, lines)?;
-    let inputs = joined(alloc, job, modules, taken, variables, marks, lines)?;
-    warn_of_wide_segments(alloc, job, &inputs.linked.modules, taken, lines)?;
-    check_sums(alloc, names, narrowed, &inputs, taken, lines)?;
-    Ok(inputs)
+    let aliases = aliases_of(alloc, taken)?;
+    let meanings = Meanings::new(alloc, options_of(job).names, says, aliases)?;
+    inputs_by(alloc, job, taken, variables, &meanings, marks, lines)
 }

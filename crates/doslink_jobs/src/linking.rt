@@ -1,49 +1,35 @@
 //! The link of modules into the files of a program and its map.
-ghost use Rattle.std.specs.Prelude.{◌≡◌, MatchResult, string_bytes};
+ghost use Rattle.std.specs.Prelude.{◌≡◌, List, MatchResult, string_bytes};
 ghost use Rattle.std.specs.Option.{option_map};
-ghost use Rattle.omf_commands.specs.Outcome.{IsFaultless};
 ghost use Rattle.omf_faults.specs.FaultLines as faults;
+ghost use Rattle.omf_module.specs.Module.{Module};
 ghost use Rattle.doslink_files.specs.Written.{StandsAt};
+ghost use Rattle.doslink_link.specs.Linking.{IsFaultless};
 ghost use Rattle.doslink_jobs.specs.Jobs.{names_of};
+ghost use Rattle.doslink_jobs.specs.Meant.{AreMeant, Taking};
 ghost use Rattle.doslink_jobs.specs.Refusals.{HaveFault};
 ghost use Rattle.doslink_jobs.specs.inside.Inputs.{input_list};
+ghost use Rattle.doslink_jobs.specs.inside.Passing.{AreInputsMeant};
 ghost use Rattle.doslink_jobs.specs.Written.{IsWritten};
 ghost use Rattle.doslink_jobs.specs.inside.Stops.{OnInput};
 
 use crate::faults::tell_record;
 use crate::inputs::{Inputs, input_slices, input_words, module_at, options_of};
+use crate::meant::{MeantInputs, packed};
 use crate::places::Places;
 use crate::program::write_files;
 use crate::stop::Stop;
 use crate::taking::Taken;
 use crate::warnings::warn_of_program;
-use doslink_link::link_bytes;
+use doslink_link::{Read, link_in_memory, read_all};
 use doslink_telling::{push_duplicates, push_excess, push_fault};
 use doslink_words::Job;
+use omf_commands::module_fault;
 use omf_communal::Variable;
 use omf_faults::{LinkFault, ProgramFault, status};
 use omf_files::World;
-use omf_frame::MemSource;
-use omf_module::{Module, ModuleFault, read_module};
 use omf_place::excess;
 use std::alloc::{AllocError, Allocator};
-
-/// The modules that these bytes begin with. None where some are at fault.
-fn linked_modules<A: Allocator + Copy>(
-    alloc: A,
-    inputs: &[&[u8]],
-) -> Result<Option<Vec<Module<A>, A>>, AllocError> {
-    let mut modules = Vec::new(alloc);
-    for bytes in inputs {
-        let mut source = MemSource::over(bytes, usize::MAX, None);
-        match read_module(alloc, &mut source) {
-            Ok(one) => modules.push(one)?,
-            Err(ModuleFault::Memory) => return Err(AllocError),
-            Err(ModuleFault::Record { .. }) => return Ok(None),
-        }
-    }
-    Ok(Some(modules))
-}
 
 /// Tells that more than one public of what is linked has a name: each such name, where the link says that of one, which
 /// is this fault.
@@ -58,24 +44,31 @@ fn tell_duplicates<A: Allocator + Copy>(
     let slices = input_slices(alloc, inputs)?;
     let words = input_words(alloc, inputs, taken.words)?;
     let names = options_of(job).names;
-    match linked_modules(alloc, &slices)? {
-        Some(modules) => push_duplicates(alloc, lines, names, &modules, &words, job.verbose),
-        None => push_fault(alloc, lines, fault, b""),
+    match read_all(alloc, &slices)? {
+        Read::Modules(modules) => {
+            push_duplicates(alloc, lines, names, &modules, &words, job.verbose)
+        }
+        Read::Fault { .. } => push_fault(alloc, lines, fault, b""),
     }
 }
 
 /// Tells a fault of modules together: where a segment, the program or a group is too long, by how many bytes.
 fn tell_program_fault<A: Allocator + Copy>(
     alloc: A,
+    job: &Job<'_>,
     fault: &LinkFault<A>,
     at_fault: &ProgramFault<A>,
     inputs: &Inputs<'_, A>,
     lines: &mut Vec<u8, A>,
 ) -> Result<(), AllocError> {
     let slices = input_slices(alloc, inputs)?;
-    let bytes = match linked_modules(alloc, &slices)? {
-        Some(modules) => excess(alloc, &modules)?,
-        None => None,
+    let bytes = match read_all(alloc, &slices)? {
+        Read::Modules(modules) => {
+            // a module's own group may have the name of that of far data, and be too long with it
+            let modules = packed(alloc, job.packs_far_data, modules)?;
+            excess(alloc, &modules)?
+        }
+        Read::Fault { .. } => None,
     };
     match bytes {
         Some(bytes) if bytes <= u128::from(u64::MAX) => {
@@ -100,7 +93,9 @@ fn tell_fault<A: Allocator + Copy>(
         LinkFault::Program(ProgramFault::DuplicatePublic(_)) => {
             tell_duplicates(alloc, job, &fault, taken, inputs, lines)
         }
-        LinkFault::Program(at_fault) => tell_program_fault(alloc, &fault, at_fault, inputs, lines),
+        LinkFault::Program(at_fault) => tell_program_fault(
+            alloc, job, &fault, at_fault, inputs, lines,
+        ),
         LinkFault::Record {
             input,
             place,
@@ -154,24 +149,34 @@ pub(crate) fn write_program<W: World + Copy, A: Allocator + Copy>(
     places: &Places<A>,
     taken: &Taken<'_, '_, '_, A>,
     variables: &[Variable<'_>],
-    inputs: &Inputs<'_, A>,
+    all: MeantInputs<'_, A>,
     lines: &mut Vec<u8, A>,
 ) -> Result<(), Stop>
-    ensures { MatchResult result (λ done. IsFaultless A (names_of job.now.ignore_case) (input_list inputs.now)
+    ensures { (t : Taking) → AreInputsMeant t all.entry
+        → MatchResult result (λ done. (meant : List Module) × AreMeant t (input_list all.entry.inputs) meant
+        × IsFaultless A (names_of job.now.ignore_case) meant
         × IsWritten A (StandsAt (W.blank world) (W.Puts world)) (string_bytes places.now.out)
-        (option_map string_bytes places.now.map) (names_of job.now.ignore_case) (input_list inputs.now))
-        (λ stop. OnInput stop
-        (HaveFault A (names_of job.now.ignore_case) (input_list inputs.now))) }
+        (option_map string_bytes places.now.map) (names_of job.now.ignore_case) (input_list all.entry.inputs) meant)
+        (λ stop. OnInput stop (HaveFault A (names_of job.now.ignore_case)
+        (AreMeant t (input_list all.entry.inputs)) (input_list all.entry.inputs))) }
 {
-    let slices = input_slices(alloc, inputs)?;
-    let words = input_words(alloc, inputs, taken.words)?;
+    let MeantInputs { inputs, read } = all;
+    let slices = input_slices(alloc, &inputs)?;
+    let words = input_words(alloc, &inputs, taken.words)?;
     let options = options_of(job);
-    match link_bytes(alloc, &slices, &options) {
+    let modules = match read {
+        Read::Modules(modules) => modules,
+        Read::Fault { input, fault } => {
+            let fault = module_fault(input, fault);
+            return Err(stop_at_fault(alloc, job, fault, taken, &inputs, &words, lines));
+        }
+    };
+    match link_in_memory(alloc, modules, &options) {
         Ok(linked) => {
             write_files(alloc, &world, &linked, &slices, &words, places, lines)?;
             let modules = &linked.report.modules;
             Ok(warn_of_program(alloc, job, modules, variables, &words, lines)?)
         }
-        Err(fault) => Err(stop_at_fault(alloc, job, fault, taken, inputs, &words, lines)),
+        Err(fault) => Err(stop_at_fault(alloc, job, fault, taken, &inputs, &words, lines)),
     }
 }

@@ -9,18 +9,20 @@ ghost use Rattle.omf_communal.specs.Locals as place;
 ghost use Rattle.doslink_jobs.specs.Locals.{HasLocals, HaveLocals};
 ghost use Rattle.doslink_jobs.specs.Communals.{TellsBss};
 ghost use Rattle.doslink_jobs.specs.Refusals.{HasNoLocals};
-ghost use Rattle.doslink_jobs.specs.inside.Inputs.{lowered_bytes, own_bytes};
+ghost use Rattle.doslink_jobs.specs.inside.Inputs.{AreModulesRead, lowered_bytes, own_bytes};
 ghost use Rattle.doslink_jobs.specs.inside.Stops.{OnInput};
 ghost use Rattle.doslink_jobs.specs.inside.Declaring.{DeclareNone};
 ghost use Rattle.doslink_jobs.specs.inside.Reading.{TellsModule};
 
 use crate::communals::{Declared, agreed_variables, is_in_bss, stop_at_entry, stop_unplaced};
 use crate::lowering::LoweredModule;
-use crate::ordering::read_bytes;
+use crate::reading::{ReadModules, read_lowered};
 use crate::stop::Stop;
 use crate::taking::Taken;
+use doslink_link::read_one;
 use omf_communal::{Communal, Scope, Variable, communals, local_module, local_names};
 use omf_library::module_frames;
+use omf_module::ModuleFault;
 use omf_place::Names;
 use std::alloc::{AllocError, Allocator};
 
@@ -95,17 +97,15 @@ fn variables_in<'o, A: Allocator + Copy>(
     agreed_variables(alloc, names, &declared, words, lines)
 }
 
-/// Whether bytes begin with a whole sound module. The word is that of the module.
-fn has_module<A: Allocator + Copy>(
-    alloc: A,
-    bytes: &[u8],
-    word: &[u8],
-    lines: &mut Vec<u8, A>,
-) -> Result<bool, Stop>
-    ensures { MatchResult result (λ has. TellsModule bytes.now has)
-        (λ stop. OnInput stop ⊥) }
+/// Whether bytes begin with a whole sound module.
+fn has_module<A: Allocator + Copy>(alloc: A, bytes: &[u8]) -> Result<bool, AllocError>
+    ensures { IfOk result (TellsModule bytes.now) }
 {
-    Ok(read_bytes(alloc, bytes, word, lines)?.is_some())
+    match read_one(alloc, bytes) {
+        Ok(_) => Ok(true),
+        Err(ModuleFault::Memory) => Err(AllocError),
+        Err(ModuleFault::Record { .. }) => Ok(false),
+    }
 }
 
 /// The bytes of a lowered module with these variables, where they are others than it has. A variable that has no place is
@@ -152,7 +152,7 @@ fn linked_bytes<A: Allocator + Copy>(
     if declared.is_empty() {
         return Ok(None);
     }
-    let has = has_module(alloc, one.bytes(), word, lines)?;
+    let has = has_module(alloc, one.bytes())?;
     if !has {
         return Ok(None);
     }
@@ -180,29 +180,32 @@ fn relinked<'a, A: Allocator + Copy>(
     })
 }
 
-/// Lowered modules with the variables that each itself declares as local to it. A variable that has no place is told.
+/// Lowered modules with the variables that each itself declares as local to it, read. A variable that has no place is
+/// told.
 pub(crate) fn with_locals<'a, A: Allocator + Copy>(
     alloc: A,
     names: Names,
-    modules: Vec<LoweredModule<'a, A>, A>,
+    lowered: ReadModules<'a, A>,
     taken: &Taken<'_, '_, 'a, A>,
     lines: &mut Vec<u8, A>,
-) -> Result<Vec<LoweredModule<'a, A>, A>, Stop>
-    ensures { MatchResult result (λ v. HaveLocals names (map own_bytes modules.entry.items)
-        (map lowered_bytes modules.entry.items) (map lowered_bytes v.items))
+) -> Result<ReadModules<'a, A>, Stop>
+    requires { AreModulesRead lowered }
+    ensures { MatchResult result (λ r. HaveLocals names (map own_bytes lowered.entry.modules.items)
+        (map lowered_bytes lowered.entry.modules.items) (map lowered_bytes r.modules.items) × AreModulesRead r)
         (λ stop. OnInput stop (Any
-        (λ m. HasNoLocals names (map lowered_bytes modules.entry.items) m.0 m.1)
-        (zip (map own_bytes modules.entry.items) (map lowered_bytes modules.entry.items)))) }
+        (λ m. HasNoLocals names (map lowered_bytes lowered.entry.modules.items) m.0 m.1)
+        (zip (map own_bytes lowered.entry.modules.items) (map lowered_bytes lowered.entry.modules.items)))) }
 {
-    if !declare_some(alloc, &modules, taken, lines)? {
-        return Ok(modules);
+    if !declare_some(alloc, &lowered.modules, taken, lines)? {
+        return Ok(lowered);
     }
-    let in_bss = is_in_bss(alloc, &modules, taken, lines)?;
+    let ReadModules { modules, read } = lowered;
+    let in_bss = is_in_bss(&read);
     let mut all = Vec::new(alloc);
     for one in modules {
         let words = taken.words_from(all.len());
         let bytes = linked_bytes(alloc, names, in_bss, &one, words, lines)?;
         all.push(relinked(alloc, one, bytes)?)?;
     }
-    Ok(all)
+    Ok(read_lowered(alloc, all)?)
 }

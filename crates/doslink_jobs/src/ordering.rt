@@ -1,93 +1,22 @@
 //! The order module, where one is asked for.
-ghost use Rattle.std.specs.Prelude.{◌≡◌, ◌≢◌, IfOk, MatchOption, map, MatchResult};
+ghost use Rattle.std.specs.Prelude.{◌≡◌, ◌≢◌, IfOk, map, MatchResult};
 ghost use Rattle.std.specs.Option.{option_map};
-ghost use Rattle.doslink_link.specs.Linking.{bytes_of};
 ghost use Rattle.doslink_words.specs.Said as said;
 ghost use Rattle.doslink_words.specs.Said.{order_of};
 ghost use Rattle.doslink_jobs.specs.Orders as spec;
-ghost use Rattle.doslink_jobs.specs.Orders.{AreRead, AreUnread, IsAsked, IsOrderFor};
+ghost use Rattle.doslink_jobs.specs.Orders.{IsAsked, IsOrderFor};
 ghost use Rattle.doslink_jobs.specs.inside.Inputs.{asking_said};
 ghost use Rattle.doslink_jobs.specs.inside.Listed.{listed};
 ghost use Rattle.doslink_jobs.specs.Refusals.{HasNoPlan};
-ghost use Rattle.doslink_jobs.specs.inside.Reading.{IsOfBytes, IsRead, IsNoModule};
 ghost use Rattle.doslink_jobs.specs.inside.Stops.{OnInput};
 
 use crate::stop::{Stop, stop_after};
-use crate::taking::Taken;
-use doslink_telling::{push_data_in_bss, push_fault, push_order_line};
+use doslink_telling::{push_data_in_bss, push_order_line};
 use doslink_words::{Order, OrderItem};
-use omf_faults::LinkFault;
-use omf_frame::MemSource;
-use omf_module::{FaultKind, Module, ModuleFault, read_module};
+use omf_module::Module;
 use omf_order::{Item, OrderFault, order_module};
 use omf_place::Names;
 use std::alloc::{AllocError, Allocator};
-
-/// Goes on behind a module that can't be read, where its bytes are at fault, which the link names. That its source
-/// failed is told by its word.
-pub(crate) fn pass_unread<A: Allocator + Copy>(
-    alloc: A,
-    word: &[u8],
-    fault: ModuleFault,
-    lines: &mut Vec<u8, A>,
-) -> Result<(), Stop>
-    ensures { MatchResult result (λ done. IsOfBytes fault)
-        (λ stop. OnInput stop ⊥) }
-{
-    match fault {
-        ModuleFault::Memory => Err(Stop::Memory),
-        ModuleFault::Record {
-            place,
-            kind: FaultKind::Device,
-        } => {
-            push_fault(alloc, lines, &LinkFault::Device { input: 0, place }, word)?;
-            Err(Stop::Device)
-        }
-        ModuleFault::Record { .. } => Ok(()),
-    }
-}
-
-/// The module that these bytes begin with. None where they are at fault. The word is that of the module.
-pub(crate) fn read_bytes<A: Allocator + Copy>(
-    alloc: A,
-    bytes: &[u8],
-    word: &[u8],
-    lines: &mut Vec<u8, A>,
-) -> Result<Option<Module<A>>, Stop>
-    ensures { MatchResult result (λ o. MatchOption o (IsNoModule bytes.now) (λ one. IsRead bytes.now one))
-        (λ stop. OnInput stop ⊥) }
-{
-    let mut source = MemSource::over(bytes, usize::MAX, None);
-    match read_module(alloc, &mut source) {
-        Ok(one) => Ok(Some(one)),
-        Err(fault) => {
-            pass_unread(alloc, word, fault, lines)?;
-            Ok(None)
-        }
-    }
-}
-
-/// The modules that these bytes begin with, those of the modules that are taken being first. None where some are at
-/// fault.
-pub(crate) fn read_modules<A: Allocator + Copy>(
-    alloc: A,
-    inputs: &[&[u8]],
-    taken: &Taken<'_, '_, '_, A>,
-    lines: &mut Vec<u8, A>,
-) -> Result<Option<Vec<Module<A>, A>>, Stop>
-    ensures { MatchResult result (λ o. MatchOption o (AreUnread (bytes_of inputs.now))
-        (λ modules. AreRead (bytes_of inputs.now) modules.items))
-        (λ stop. OnInput stop ⊥) }
-{
-    let mut modules = Vec::new(alloc);
-    for bytes in inputs {
-        match read_bytes(alloc, bytes, taken.word(modules.len()), lines)? {
-            Some(one) => modules.push(one)?,
-            None => return Ok(None),
-        }
-    }
-    Ok(Some(modules))
-}
 
 /// The item of an order.
 fn item_of<'a>(item: &OrderItem<'a>) -> Item<'a>

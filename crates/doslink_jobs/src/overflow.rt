@@ -5,22 +5,23 @@ ghost use Rattle.std.specs.Option.{option_or};
 ghost use Rattle.omf_image.specs.Overflow as image;
 ghost use Rattle.omf_lower.specs.Wide as wide;
 ghost use Rattle.omf_place.specs.Bounded.{IsBounded};
-ghost use Rattle.doslink_link.specs.Linking.{bytes_of};
-ghost use Rattle.doslink_jobs.specs.Orders.{AreRead};
 ghost use Rattle.doslink_jobs.specs.Overflow.{NarrowFixups};
+ghost use Rattle.doslink_jobs.specs.Meant.{AreMeant, Taking};
 ghost use Rattle.doslink_jobs.specs.inside.Inputs.{input_list, lowered_bytes, own_bytes};
+ghost use Rattle.doslink_jobs.specs.inside.Passing.{AreInputsMeant, IsMeantBy};
 ghost use Rattle.doslink_jobs.specs.inside.Stops.{OnInput};
 ghost use Rattle.doslink_jobs.specs.inside.Sums.{AllFit, SomeOverflows, TellsSums};
 
-use crate::inputs::{Inputs, input_slices, input_words, module_at};
+use crate::inputs::{Inputs, input_words, module_at};
 use crate::lowering::LoweredModule;
-use crate::ordering::read_modules;
+use crate::meant::MeantInputs;
 use crate::stop::{Stop, stop_after};
 use crate::taking::Taken;
+use doslink_link::Read;
 use doslink_telling::push_overflow;
 use omf_image::{first_overflow, start_overflow};
 use omf_lower::{has_wide_fixups, has_wide_start};
-use omf_module::{Module, one_module};
+use omf_module::Module;
 use omf_place::{Layout, Names, PlaceFault, place};
 use std::alloc::{AllocError, Allocator};
 
@@ -134,30 +135,28 @@ fn sum_above<A: Allocator + Copy>(
     narrowed: Narrowed,
     modules: &[Module<A>],
 ) -> Result<Option<(usize, u64)>, Stop>
-    ensures { MatchResult result (λ at. (inputs : List (List ℕ)) → AreRead inputs modules.now →
-        TellsSums narrowed names inputs at) (λ stop. OnInput stop ⊥) }
+    ensures { MatchResult result (λ at. (t : Taking) (inputs : List (List ℕ)) → AreMeant t inputs modules.now →
+        TellsSums narrowed names (AreMeant t inputs) at) (λ stop. OnInput stop ⊥) }
 {
-    one_module();
     match place(alloc, modules, names) {
         Ok(layout) => Ok(first_above(narrowed, modules, &layout)),
         Err(fault) => unplaced(fault),
     }
 }
 
-/// The same of the modules that these bytes begin with; none where one of them is at fault, which the link tells.
+/// The same of what inputs mean; none where one of them begins with no module, which the link tells.
 fn input_above<A: Allocator + Copy>(
     alloc: A,
     names: Names,
     narrowed: Narrowed,
-    inputs: &[&[u8]],
-    taken: &Taken<'_, '_, '_, A>,
-    lines: &mut Vec<u8, A>,
+    read: &Read<A>,
 ) -> Result<Option<(usize, u64)>, Stop>
-    ensures { MatchResult result (TellsSums narrowed names (bytes_of inputs.now)) (λ stop. OnInput stop ⊥) }
+    ensures { (t : Taking) (inputs : List (List ℕ)) → IsMeantBy t inputs read.now
+        → MatchResult result (TellsSums narrowed names (AreMeant t inputs)) (λ stop. OnInput stop ⊥) }
 {
-    match read_modules(alloc, inputs, taken, lines)? {
-        Some(modules) => sum_above(alloc, names, narrowed, &modules),
-        None => Ok(None),
+    match read {
+        Read::Modules(modules) => sum_above(alloc, names, narrowed, modules),
+        Read::Fault { .. } => Ok(None),
     }
 }
 
@@ -166,19 +165,19 @@ pub(crate) fn check_sums<A: Allocator + Copy>(
     alloc: A,
     names: Names,
     narrowed: Narrowed,
-    inputs: &Inputs<'_, A>,
+    all: &MeantInputs<'_, A>,
     taken: &Taken<'_, '_, '_, A>,
     lines: &mut Vec<u8, A>,
 ) -> Result<(), Stop>
-    ensures { MatchResult result (λ done. AllFit narrowed names (input_list inputs.now))
-        (λ stop. OnInput stop (SomeOverflows narrowed names (input_list inputs.now))) }
+    ensures { (t : Taking) → AreInputsMeant t all.now
+        → MatchResult result (λ done. AllFit narrowed names (AreMeant t (input_list all.now.inputs)))
+        (λ stop. OnInput stop (SomeOverflows narrowed names (AreMeant t (input_list all.now.inputs)))) }
 {
     if !narrowed.fixups && !narrowed.start {
         return Ok(());
     }
-    let slices = input_slices(alloc, inputs)?;
-    match input_above(alloc, names, narrowed, &slices, taken, lines)? {
-        Some(at) => Err(stop_after(stop_at_sum(alloc, inputs, taken, at, lines))),
+    match input_above(alloc, names, narrowed, &all.read)? {
+        Some(at) => Err(stop_after(stop_at_sum(alloc, &all.inputs, taken, at, lines))),
         None => Ok(()),
     }
 }

@@ -56,8 +56,8 @@ fn link_checked<'a, W: World + Copy, A: Allocator + Copy>(
         (λ stop. OnInput stop (IsRefusedWith A job.now (map module_said says.now) marks
         (map handed_held taken.now.handed.now) (map variable_said variables.now))) }
 {
-    let inputs = inputs_of(alloc, job, taken, variables, says, marks, lines)?;
-    write_program(alloc, world, job, places, taken, variables, &inputs, lines)
+    let all = inputs_of(alloc, job, taken, variables, says, marks, lines)?;
+    write_program(alloc, world, job, places, taken, variables, all, lines)
 }
 
 /// Links the modules that a link takes. Names that are missing stop it.

@@ -1,21 +1,25 @@
 //! The stack of a link, with the length that its job asks for.
-ghost use Rattle.std.specs.Prelude.{◌≡◌, ◌∷◌, ◌++◌, ℕ, [], drop, false, length, map, IfOk, List, MatchResult};
+ghost use Rattle.std.specs.Prelude.{◌≡◌, ◌∷◌, ◌++◌, ℕ, [], drop, false, length, map, IfOk, List, MatchResult, Some};
 ghost use Rattle.std.specs.Option.{option_map_or};
 ghost use Rattle.std.specs.Vec.Iter.{into_iter_items};
 ghost use Rattle.omf_stack.specs.Answer.{TooLong, answer};
 ghost use Rattle.omf_stack.specs.Cut.{handed};
 ghost use Rattle.doslink_link.specs.Linking.{bytes_of};
-ghost use Rattle.doslink_jobs.specs.Stacks.{AreStacked, HasStack, IsStacked};
-ghost use Rattle.doslink_jobs.specs.Refusals.{HaveNoStack, IsTooLong};
+ghost use Rattle.doslink_jobs.specs.Stacks.{HasStack, IsStacked};
+ghost use Rattle.doslink_jobs.specs.Refusals.{IsTooLong};
 ghost use Rattle.doslink_jobs.specs.inside.Changes.{changed};
-ghost use Rattle.doslink_jobs.specs.inside.Inputs.{asking_said, linked_list, lowered_bytes, made_bytes, order_list};
+ghost use Rattle.doslink_jobs.specs.inside.Inputs.{AreInputsRead, IsLinkedRead, IsOrdered, NotStackedInOrder};
+ghost use Rattle.doslink_jobs.specs.inside.Inputs.{StackedInOrder, asking_said};
+ghost use Rattle.doslink_jobs.specs.inside.Inputs.{input_list, linked_list, lowered_bytes, made_bytes, order_list};
 ghost use Rattle.doslink_jobs.specs.inside.Stops.{OnInput};
 
-use crate::inputs::{Linked, MadeModule, linked_slices, order_of, order_slices};
+use crate::inputs::{Inputs, Linked, MadeModule, input_slices, ordered};
 use crate::lowering::LoweredModule;
-use crate::ordering::{Asked, read_modules};
+use crate::ordering::Asked;
+use crate::reading::{ReadInputs, ReadLinked, read_linked, with_made};
 use crate::stop::Stop;
 use crate::taking::Taken;
+use doslink_link::Read;
 use doslink_telling::{push_cut_stack, push_long_stack};
 use doslink_words::{Job, Stack};
 use omf_module::Module;
@@ -69,37 +73,22 @@ fn change_of<A: Allocator + Copy>(
 fn change_behind<A: Allocator + Copy>(
     alloc: A,
     stack: Stack,
-    order: &Option<Vec<u8, A>>,
-    linked: &Linked<'_, A>,
-    taken: &Taken<'_, '_, '_, A>,
+    all: &ReadInputs<'_, A>,
     lines: &mut Vec<u8, A>,
 ) -> Result<Change<A>, Stop>
-    ensures { MatchResult result (λ change. HasStack stack (order_list order.now) (linked_list linked.now)
-        (changed (order_list order.now) (linked_list linked.now) change))
-        (λ stop. OnInput stop (IsTooLong stack (order_list order.now ++ linked_list linked.now))) }
+    requires { AreInputsRead all.now }
+    ensures { MatchResult result
+        (λ change. HasStack stack (order_list all.now.inputs.order) (linked_list all.now.inputs.linked)
+        (changed (order_list all.now.inputs.order) (linked_list all.now.inputs.linked) change))
+        (λ stop. OnInput stop (IsTooLong stack (input_list all.now.inputs))) }
 {
-    let mut slices = order_slices(alloc, order)?;
-    let behind = linked_slices(alloc, linked)?;
-    slices.extend_from_slice(&behind)?;
-    match read_modules(alloc, &slices, taken, lines)? {
-        Some(read) => change_of(alloc, stack, &read, &slices, lines),
-        None => Ok(Change::Kept),
+    match &all.read {
+        Read::Modules(modules) => {
+            let slices = input_slices(alloc, &all.inputs)?;
+            change_of(alloc, stack, modules, &slices, lines)
+        }
+        Read::Fault { .. } => Ok(Change::Kept),
     }
-}
-
-/// What is linked, and behind it this module.
-fn with_module<'a, A: Allocator + Copy>(
-    linked: Linked<'a, A>,
-    bytes: Vec<u8, A>,
-) -> Result<Linked<'a, A>, AllocError>
-    ensures { IfOk result (λ l. linked_list l ≡ linked_list linked.entry ++ bytes.items ∷ []) }
-{
-    let Linked { modules, mut made } = linked;
-    made.push(MadeModule {
-        word: STACK_MODULE,
-        bytes,
-    })?;
-    Ok(Linked { modules, made })
 }
 
 /// The new bytes of the next module, where it has some.
@@ -183,44 +172,82 @@ fn cut_made<A: Allocator + Copy>(
     Ok(all)
 }
 
-/// What is linked, with this change behind the order module.
+/// What is linked behind the order module, with this change.
 fn with_change<'a, A: Allocator + Copy>(
     alloc: A,
-    order: &Option<Vec<u8, A>>,
-    linked: Linked<'a, A>,
+    inputs: Inputs<'a, A>,
     change: Change<A>,
-) -> Result<Linked<'a, A>, AllocError>
-    ensures { IfOk result (λ l. linked_list l ≡ changed (order_list order.now) (linked_list linked.entry) change) }
+) -> Result<ReadLinked<'a, A>, AllocError>
+    ensures list { IfOk result (λ r. linked_list r.linked
+        ≡ changed (order_list inputs.entry.order) (linked_list inputs.entry.linked) change) }
+    ensures read { IfOk result IsLinkedRead }
 {
+    let Inputs { order, linked } = inputs;
     match change {
-        Change::Kept => Ok(linked),
-        Change::Added(bytes) => with_module(linked, bytes),
+        Change::Kept => read_linked(alloc, linked),
+        Change::Added(bytes) => {
+            let linked = read_linked(alloc, linked)?;
+            with_made(
+                alloc,
+                linked,
+                MadeModule {
+                    word: STACK_MODULE,
+                    bytes,
+                },
+            )
+        }
         Change::Cut(all) => {
-            let mut new = new_behind(order, all);
+            let mut new = new_behind(&order, all);
             let modules = cut_modules(alloc, linked.modules, &mut new)?;
             let made = cut_made(alloc, linked.made, &mut new)?;
-            Ok(Linked { modules, made })
+            read_linked(alloc, Linked { modules, made })
         }
     }
 }
 
-/// What is linked behind the order module, with a stack as long as the job asks for.
-pub(crate) fn with_stack<'a, A: Allocator + Copy>(
+/// What is linked, with a stack as long as is asked for, the order module saying which segments its parts are.
+fn stacked<'a, A: Allocator + Copy>(
     alloc: A,
-    job: &Job<'_>,
-    linked: Linked<'a, A>,
+    stack: Stack,
+    all: ReadInputs<'a, A>,
     asked: &Asked<'_, '_>,
     taken: &Taken<'_, '_, 'a, A>,
     lines: &mut Vec<u8, A>,
-) -> Result<Linked<'a, A>, Stop>
-    ensures { MatchResult result
-        (λ stacked. AreStacked (asking_said asked.now) job.now.stack (linked_list linked.entry) (linked_list stacked))
-        (λ stop. OnInput stop (HaveNoStack (asking_said asked.now) job.now.stack (linked_list linked.entry))) }
+) -> Result<ReadInputs<'a, A>, Stop>
+    requires read { AreInputsRead all }
+    requires ordered { IsOrdered (asking_said asked.now) all.inputs }
+    ensures { MatchResult result (λ stacked. StackedInOrder (asking_said asked.now) (Some stack)
+        (linked_list all.entry.inputs.linked) (input_list stacked.inputs) × AreInputsRead stacked)
+        (λ stop. OnInput stop
+        (NotStackedInOrder (asking_said asked.now) (Some stack) (linked_list all.entry.inputs.linked))) }
 {
-    let Some(stack) = job.stack else {
-        return Ok(linked);
-    };
-    let order = order_of(alloc, &linked, asked, taken, lines)?;
-    let change = change_behind(alloc, stack, &order, &linked, taken, lines)?;
-    Ok(with_change(alloc, &order, linked, change)?)
+    match change_behind(alloc, stack, &all, lines)? {
+        Change::Kept => Ok(all),
+        change => {
+            let linked = with_change(alloc, all.inputs, change)?;
+            ordered(alloc, linked, asked, taken, lines)
+        }
+    }
+}
+
+/// What is linked, with a stack as long as the job asks for, and the order module in front of it.
+pub(crate) fn with_stack<'a, A: Allocator + Copy>(
+    alloc: A,
+    job: &Job<'_>,
+    linked: ReadLinked<'a, A>,
+    asked: &Asked<'_, '_>,
+    taken: &Taken<'_, '_, 'a, A>,
+    lines: &mut Vec<u8, A>,
+) -> Result<ReadInputs<'a, A>, Stop>
+    requires { IsLinkedRead linked }
+    ensures { MatchResult result (λ all. StackedInOrder (asking_said asked.now) job.now.stack
+        (linked_list linked.entry.linked) (input_list all.inputs) × AreInputsRead all)
+        (λ stop. OnInput stop
+        (NotStackedInOrder (asking_said asked.now) job.now.stack (linked_list linked.entry.linked))) }
+{
+    let all = ordered(alloc, linked, asked, taken, lines)?;
+    match job.stack {
+        Some(stack) => stacked(alloc, stack, all, asked, taken, lines),
+        None => Ok(all),
+    }
 }

@@ -3,8 +3,7 @@ use Rattle.std.specs.Prelude.{ℕ, Bool, true, false, List}
 use Rattle.omf_module.specs.declared.fault.FaultKind.TheVariants as kind
 use Rattle.omf_module.specs.declared.fault.ModuleFault.{ModuleFault}
 use Rattle.omf_module.specs.declared.fault.ModuleFault.TheVariants as fault
-use Rattle.doslink_jobs.specs.Locals.{HasModule}
-pub use Rattle.doslink_jobs.specs.Orders.{IsNoModule, IsRead}
+use Rattle.doslink_link.specs.Reading.{HasModule}
 
 -- the bytes are at fault: neither was memory refused, nor did a device fail
 abbrev pub IsOfBytes : ModuleFault → Type 0

@@ -1,6 +1,5 @@
 use Rattle.std.proofs.Common.{◌++◌, map, ap, ap₂, ◌∙◌}
 use Rattle.std.proofs.lemmas.Result.{IfOk-weaker}
-use Rattle.omf_alias.specs.Meaning.{Renaming}
 use Rattle.omf_alias.specs.Said.{aliases_said}
 use Rattle.omf_search.specs.Results.{module_said}
 use Rattle.doslink_jobs.specs.Aliases.{own_defaults}

@@ -5,26 +5,26 @@ use Rattle.std.specs.List.{list_any}
 use Rattle.omf_communal.specs.Answers.{communal_module}
 use Rattle.omf_communal.specs.Bss.{has_bss}
 use Rattle.omf_communal.specs.Deciding.{variable_said}
-use Rattle.doslink_jobs.proofs.Refused.{OnInput-weaker, plan-fault, refused-exit}
+use Rattle.doslink_jobs.proofs.Refused.{OnInput-weaker, plan-fault}
 use Rattle.doslink_jobs.proofs.communals.communal_bytes.Goals as goal
 
 pub returns-then-is_empty : goal.returns-then-is_empty
-returns-then-is_empty g c =
+returns-then-is_empty g c inputs is =
     let vs = c.args.variables.now in
     let none : vs ≡ [] = nil_from_length vs (eqb-true (length vs) 0 (sym c.is_empty.ensures ∙ c.if-is_empty.true)) in
     λ modules read. ap (λ l. communal_module (list_any has_bss modules) (map variable_said l)) none
 
-pub returns-in_err-in_bss : goal.returns-in_err-in_bss
-returns-in_err-in_bss g c =
-    refused-exit _ c.from_residual.result _ c.from_residual.ensures.1 (λ none. absurd none) c.in_err-in_bss.ensures
-
 pub returns-in-Err : goal.returns-in-Err
-returns-in-Err g c =
+returns-in-Err g c inputs is =
     OnInput-weaker c.stop_unplaced.result
-    (λ other. (c.in_ok-in_bss.in_bss, c.in_ok-in_bss.ensures, plan-fault c.in-Err.fault _ c.in-Err.ensures other))
+    (λ other. (
+      c.is_in_bss-in_bss.result,
+      c.is_in_bss-in_bss.ensures inputs is,
+      plan-fault c.in-Err.fault _ c.in-Err.ensures other,
+    ))
     c.stop_unplaced.ensures
 
 pub returns-in-Ok : goal.returns-in-Ok
-returns-in-Ok g c =
+returns-in-Ok g c inputs is =
     λ modules read. ap (λ b. communal_module b (map variable_said c.args.variables.now))
-    (sym (c.in_ok-in_bss.ensures modules read)) ∙ c.in-Ok.ensures
+    (sym (c.is_in_bss-in_bss.ensures inputs is modules read)) ∙ c.in-Ok.ensures

@@ -18,9 +18,9 @@ loop-index-preserved g c =
     all-turn (λ bytes. IsFaulty c.args.job.now says all bytes → ⊥) (λ h. (handed_held h).bytes)
     c.args.taken.now.handed.now c.loop-index.index one c.loop-index-test.true
     c.each-item.is c.loop-index.invariant
-    (by-job c.args.job.now says all c.plain_lowering-lowering.result m.names (map module_said m.says.now)
+    (by-job c.args.job.now says all c.lowering_of-lowering.result m.names (map module_said m.says.now)
     (aliases_said m.aliases.aliases.items) (handed_held one).bytes (λ faulty. faulty → ⊥)
-    c.plain_lowering-lowering.ensures (c.in_ok-meanings.ensures.parts.0 ∙ c.options_of.ensures)
+    c.lowering_of-lowering.ensures (c.in_ok-meanings.ensures.parts.0 ∙ c.options_of.ensures)
     (ap (map module_said) c.in_ok-meanings.ensures.parts.1)
     (c.in_ok-meanings.ensures.aliases ∙ c.in_ok-aliases.ensures) c.in_ok-check_module.ensures)
 
@@ -40,9 +40,9 @@ returns-in_err-check_module g c =
     refused-exit _ c.from_residual-in_err-check_module.result _ c.from_residual-in_err-check_module.ensures.1
     (λ faulty. any-seen (IsFaulty c.args.job.now says all) (λ h. (handed_held h).bytes) c.args.taken.now.handed.now
     c.loop-index.index one c.loop-index-test.true c.each-item.is
-    (by-job c.args.job.now says all c.plain_lowering-lowering.result m.names (map module_said m.says.now)
+    (by-job c.args.job.now says all c.lowering_of-lowering.result m.names (map module_said m.says.now)
     (aliases_said m.aliases.aliases.items) (handed_held one).bytes (λ f. f)
-    c.plain_lowering-lowering.ensures (c.in_ok-meanings.ensures.parts.0 ∙ c.options_of.ensures)
+    c.lowering_of-lowering.ensures (c.in_ok-meanings.ensures.parts.0 ∙ c.options_of.ensures)
     (ap (map module_said) c.in_ok-meanings.ensures.parts.1)
     (c.in_ok-meanings.ensures.aliases ∙ c.in_ok-aliases.ensures) faulty))
     c.in_err-check_module.ensures

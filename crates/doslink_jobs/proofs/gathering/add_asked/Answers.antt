@@ -1,7 +1,6 @@
-use Rattle.std.proofs.Common.{◌≡◌, ◌++◌, ◌∷◌, [], false, ap, refl, sym, ◌∙◌}
+use Rattle.std.proofs.Common.{◌≡◌, ◌++◌, ◌∷◌, [], false, true≢false, ap, refl, sym, ◌∙◌}
 use Rattle.doslink_words.specs.Tokens.{texts}
 use Rattle.doslink_jobs.specs.Jobs.{names_of}
-use Rattle.doslink_jobs.proofs.FarData.{never}
 use Rattle.doslink_jobs.proofs.Refused.{steps-weaker}
 use Rattle.doslink_jobs.proofs.Rounds.{files-found, files-none}
 use Rattle.doslink_jobs.proofs.gathering.add_asked.Goals as goal
@@ -23,7 +22,7 @@ returns g c =
     let all = texts c.deref.result.now in
     let names = names_of job.ignore_case in
     let folded : all ≡ texts job.folders.items ++ folders = ap texts c.deref.ensures.value ∙ c.in_ok-everywhere.ensures in
-    let on : job.default_libraries ≡ false → ⊥ = λ off. never (sym off ∙ c.if-not-job.false) in
+    let on : job.default_libraries ≡ false → ⊥ = λ off. true≢false (sym c.if-not-job.false ∙ off) in
     steps-weaker c.add_defaults-added.result
     (λ done adds. (
       given ∷ adds.0,

@@ -1,4 +1,4 @@
-use Rattle.std.proofs.Common.{◌≡◌, ◌++◌, ◌∷◌, [], append-nil, append_assoc, sym, subst}
+use Rattle.std.proofs.Common.{◌++◌, ◌∷◌, [], append-nil, append_assoc, sym, subst}
 use Rattle.doslink_files.specs.Files.{contents}
 use Rattle.doslink_words.specs.Tokens.{texts}
 use Rattle.doslink_jobs.specs.Refusals.{HasFaultyLibrary}

@@ -1,8 +1,8 @@
-use Rattle.std.proofs.Common.{◌++◌, ◌∷◌, [], ap, subst, sym, ◌∙◌}
+use Rattle.std.proofs.Common.{◌++◌, ap, subst, sym, ◌∙◌}
 use Rattle.doslink_files.specs.Files.{contents}
 use Rattle.doslink_link.specs.Linking.{bytes_of}
 use Rattle.doslink_stock.specs.Searched.{Searched}
-use Rattle.doslink_jobs.proofs.Rounds.{faulty-with, files-with}
+use Rattle.doslink_jobs.proofs.Rounds.{faulty-with}
 use Rattle.doslink_jobs.proofs.Refused.{OnInput-weaker, refused-exit}
 use Rattle.doslink_jobs.proofs.gathering.add_round.Goals as goal
 

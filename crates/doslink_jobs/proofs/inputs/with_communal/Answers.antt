@@ -1,39 +1,44 @@
-use Rattle.std.proofs.Common.{◌≡◌, ◌++◌, ◌∷◌, [], ap, List, map, subst, sym, ◌∙◌}
+use Rattle.std.proofs.Common.{◌++◌, ◌∷◌, [], ap, append-nil, map, subst, sym, ◌∙◌}
 use Rattle.std.specs.Option.{option_map}
-use Rattle.omf_communal.specs.Deciding.{variable_said}
-use Rattle.doslink_jobs.specs.Communals.{IsCommunalModule}
-use Rattle.doslink_jobs.specs.Refusals.{HaveNoPlace}
-use Rattle.doslink_jobs.specs.declared.inputs.MadeModule.{MadeModule}
-use Rattle.doslink_jobs.specs.inside.Inputs.{lowered_bytes, made_bytes, order_list}
+use Rattle.doslink_link.specs.Reading.{IsReadOf}
+use Rattle.doslink_jobs.specs.inside.Inputs.{lowered_bytes, order_list}
+use Rattle.doslink_jobs.proofs.Read.{made-none}
 use Rattle.doslink_jobs.proofs.Refused.{refused-exit}
 use Rattle.doslink_jobs.proofs.inputs.with_communal.Goals as goal
-use Rattle.doslink_jobs.proofs.inputs.with_communal.Goals.{in-Some+in_ok-push, in_default}
 
--- one module that is made stands behind none
-made-one : {A : Type 0} (old new : List (MadeModule A)) (one : MadeModule A) → old ≡ [] → new ≡ old ++ one ∷ []
-    → map made_bytes new ≡ one.bytes.items ∷ []
-made-one old new one none pushed = ap (map made_bytes) (pushed ∙ ap (λ l. l ++ one ∷ []) none)
+pub returns-in_err-communal : goal.returns-in_err-communal
+returns-in_err-communal g c =
+    refused-exit _ c.from_residual.result _ c.from_residual.ensures.1 (λ none. none)
+    (c.in_err-communal.ensures (map lowered_bytes c.args.lowered.modules.items) c.requires)
 
-pub returns-in_err-bytes : goal.returns-in_err-bytes
-returns-in_err-bytes g c =
-    refused-exit _ c.from_residual.result _ c.from_residual.ensures.1
-    (subst (λ ms. HaveNoPlace (map lowered_bytes ms) (map variable_said c.args.variables.now)) c.deref.ensures.value)
-    c.in_err-bytes.ensures
+pub with_made-requires : goal.with_made-requires
+with_made-requires g c =
+    subst (λ l. IsReadOf l c.args.lowered.read)
+    (sym (made-none (map lowered_bytes c.args.lowered.modules.items) c.new-made.result.items c.new-made.ensures.items))
+    c.requires
 
-pub returns : goal.returns
-returns g c =
-    let modules = c.args.modules.items in
-    let communal = option_map (λ v. v.items) c.in_ok-bytes.field-0 in
-    let is : map made_bytes c.match-branch-2.made.items ≡ order_list c.in_ok-bytes.field-0 =
-    elim c.match-branch-2.branch [
-      | in-Some+in_ok-push w ↦ ap (λ v. map made_bytes v.items) w.made-is
-          ∙ made-one c.new-made.result.items w.push.new.self.items _ c.new-made.ensures.items
-          w.in_ok-push.ensures.items ∙ ap (λ o. order_list o) (sym w.in-Some.is)
-      | in_default w ↦ ap (λ v. map made_bytes v.items) w.made-is ∙ ap (map made_bytes) c.new-made.ensures.items
-          ∙ ap (λ o. order_list o) (sym w.in_default.is)
-    ] in (
-      communal,
-      subst (λ ms. IsCommunalModule (map lowered_bytes ms) (map variable_said c.args.variables.now) communal)
-          c.deref.ensures.value c.in_ok-bytes.ensures,
-      ap (λ l. map lowered_bytes modules ++ l) is,
+pub returns-in_ok-with_made-in-Some : goal.returns-in_ok-with_made-in-Some
+returns-in_ok-with_made-in-Some g c =
+    let inputs = map lowered_bytes c.args.lowered.modules.items in (
+      (
+        option_map (λ v. v.items) c.in_ok-communal.communal,
+        c.in_ok-communal.ensures inputs c.requires,
+        c.in_ok-with_made-in-Some.ensures.list
+            ∙ ap (λ l. l ++ c.in-Some.bytes.items ∷ [])
+            (made-none inputs c.new-made.result.items c.new-made.ensures.items)
+            ∙ ap (λ o. inputs ++ order_list o) (sym c.in-Some.is),
+      ),
+      c.in_ok-with_made-in-Some.ensures.read,
+    )
+
+pub returns-in-None : goal.returns-in-None
+returns-in-None g c =
+    let inputs = map lowered_bytes c.args.lowered.modules.items in
+    let none = made-none inputs c.new-made.result.items c.new-made.ensures.items in (
+      (
+        option_map (λ v. v.items) c.in_ok-communal.communal,
+        c.in_ok-communal.ensures inputs c.requires,
+        none ∙ sym (append-nil inputs) ∙ ap (λ o. inputs ++ order_list o) (sym c.in-None.is),
+      ),
+      subst (λ l. IsReadOf l c.args.lowered.read) (sym none) c.requires,
     )

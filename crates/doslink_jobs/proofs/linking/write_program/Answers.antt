@@ -1,51 +1,70 @@
-use Rattle.std.proofs.Common.{◌≡◌, ◌∙◌, ap, string_bytes, subst}
+use Rattle.std.proofs.Common.{◌≡◌, ◌∙◌, Err, ap, inl, inr, string_bytes, subst}
 use Rattle.std.specs.Option.{option_map}
-use Rattle.omf_commands.specs.Outcome.{IsFaultless}
 use Rattle.doslink_files.specs.Written.{StandsAt}
-use Rattle.doslink_link.specs.Linking.{HoldsProgramOf, IsLinkedAs, bytes_of}
+use Rattle.doslink_link.specs.Linking.{IsFaultless, IsLinkedAs, LinksTo, bytes_of}
 use Rattle.doslink_jobs.specs.Jobs.{names_of}
 use Rattle.doslink_jobs.specs.Maps.{map_bytes}
 use Rattle.doslink_jobs.specs.Written.{AreWritten}
 use Rattle.doslink_jobs.specs.inside.Inputs.{input_list}
+use Rattle.doslink_jobs.specs.inside.Passing.{IsMeantBy}
 use Rattle.doslink_jobs.specs.declared.stop.Stop.TheVariants.{Memory}
-use Rattle.doslink_jobs.proofs.Refused.{refused-exit}
+use Rattle.doslink_jobs.proofs.Linked.{fault-of}
+use Rattle.doslink_jobs.proofs.Refused.{OnInput-holds, OnInput-weaker, refused-exit}
 use Rattle.doslink_jobs.proofs.linking.write_program.Goals as goal
 
+pub returns-in-Fault : goal.returns-in-Fault
+returns-in-Fault g c t meant =
+    OnInput-holds c.stop_at_fault.result
+    (inl (c.in-Fault.input, c.in-Fault.fault, subst (IsMeantBy t (input_list c.args.all.inputs)) c.in-Fault.is meant))
+
 pub returns-in_err-write_files-in-Ok : goal.returns-in_err-write_files-in-Ok
-returns-in_err-write_files-in-Ok g c =
+returns-in_err-write_files-in-Ok g c t meant =
     let exit = c.from_residual-in_err-write_files-in-Ok in
     refused-exit _ exit.result _ exit.ensures.1 (λ none. absurd none) c.in_err-write_files-in-Ok.ensures.refused
 
 pub returns-in_err-warn_of_program-in-Ok : goal.returns-in_err-warn_of_program-in-Ok
-returns-in_err-warn_of_program-in-Ok g c =
+returns-in_err-warn_of_program-in-Ok g c t meant =
     let exit = c.from_residual-in_err-warn_of_program-in-Ok in
     refused-exit _ exit.result Memory exit.ensures.1 (λ none. absurd none) tt
 
 pub returns-in-Ok : goal.returns-in-Ok
-returns-in-Ok g c =
+returns-in-Ok g c t meant =
     let A = g.row.A.Denot in
     let Writes = StandsAt (g.W.World.blank c.args.world) (g.W.World.Puts c.args.world) in
     let out = string_bytes c.args.places.now.out in
     let mapped = option_map string_bytes c.args.places.now.map in
-    let names = c.options_of-options.result.names in
-    let same : names ≡ names_of c.args.job.now.ignore_case = c.options_of-options.ensures in
-    let inputs = input_list c.args.inputs.now in
-    let read : bytes_of c.deref.result.now ≡ inputs = ap bytes_of c.deref.ensures.value ∙ c.in_ok-slices.ensures in
+    let same : c.options_of-options.result.names ≡ names_of c.args.job.now.ignore_case = c.options_of-options.ensures in
+    let inputs = input_list c.args.all.inputs in
     let told : bytes_of c.deref-in-Ok.result.now ≡ inputs =
     ap bytes_of c.deref-in-Ok.ensures.value ∙ c.in_ok-slices.ensures in
+    let modules = c.in-Modules.modules.items in
     let report = c.in-Ok.linked.report in
     let file = c.in-Ok.linked.file.items in
     let words = bytes_of c.deref-in-Ok-2.result.now in (
-      subst (λ n. IsFaultless A n inputs) same (subst (IsFaultless A names) read c.in-Ok.ensures.outcome),
+      modules,
+      subst (IsMeantBy t inputs) c.in-Modules.is meant,
+      subst (λ n. IsFaultless A n modules) same c.in-Ok.ensures.links.0,
       record {
         report = report;
         file = file;
         words = words;
-        linked = subst (λ n. IsLinkedAs n inputs report file) same
-            (subst (λ i. IsLinkedAs names i report file) read c.in-Ok.ensures.linked);
-        holds = subst (λ n. HoldsProgramOf n inputs file) same
-            (subst (λ i. HoldsProgramOf names i file) read c.in-Ok.ensures.headline);
+        linked = subst (λ n. IsLinkedAs n modules report file) same c.in-Ok.ensures.links.1;
         written = subst (λ i. AreWritten Writes out mapped file (map_bytes report i words)) told
             c.in_ok-write_files-in-Ok.ensures.written;
       },
     )
+
+pub returns : goal.returns
+returns g c t meant =
+    let modules = c.in-Modules.modules.items in
+    OnInput-weaker c.stop_at_fault-in-Err.result
+    (λ one. inr (
+      modules,
+      subst (IsMeantBy t (input_list c.args.all.inputs)) c.in-Modules.is meant,
+      (
+        c.in-Err.fault,
+        fault-of (names_of c.args.job.now.ignore_case) modules c.in-Err.fault one
+            (subst (λ n. LinksTo n modules (Err c.in-Err.fault)) c.options_of-options.ensures c.in-Err.ensures.links),
+      ),
+    ))
+    c.stop_at_fault-in-Err.ensures

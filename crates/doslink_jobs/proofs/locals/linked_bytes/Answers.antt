@@ -1,9 +1,9 @@
-use Rattle.std.proofs.Common.{◌≡◌, ◌==◌, ◌∙◌, IsErr, ap, inl, inr, map, subst, sym}
+use Rattle.std.proofs.Common.{◌==◌, ◌∙◌, IsErr, ap, inl, inr, map, subst, sym}
 use Rattle.std.specs.Option.{option_map_or}
 use Rattle.omf_communal.specs.Deciding.{variable_said}
 use Rattle.omf_communal.specs.Locals.{local_module}
 use Rattle.omf_communal.specs.Reading.{plain_communal}
-use Rattle.doslink_jobs.specs.Locals.{HasModule}
+use Rattle.doslink_link.specs.Reading.{HasModule}
 use Rattle.doslink_jobs.specs.inside.Inputs.{lowered_bytes}
 use Rattle.doslink_jobs.specs.inside.Reading.{TellsModule}
 use Rattle.doslink_jobs.proofs.LocalModules.{all-placed, none-placed, undeclared-placed}
@@ -25,11 +25,6 @@ returns-then-is_empty g c all tells =
           undeclared-placed c.args.names all declared.items (lowered_bytes c.args.one.now)
           (ap (λ n. n == 0) (sym declared.ok.0) ∙ sym c.is_empty.ensures ∙ c.if-is_empty.true);
     }
-
-pub returns-in_err-has : goal.returns-in_err-has
-returns-in_err-has g c =
-    refused-exit _ c.from_residual-in_err-has.result _ c.from_residual-in_err-has.ensures.1 (λ none. absurd none)
-    c.in_err-has.ensures
 
 pub returns-then-not-has : goal.returns-then-not-has
 returns-then-not-has g c all tells =

@@ -1,8 +1,7 @@
-use Rattle.std.proofs.Common.{◌≡◌, ◌∙◌, IsErr, Ok, ap, map, subst, sym}
+use Rattle.std.proofs.Common.{◌≡◌, IsErr, Ok, map, subst}
 use Rattle.std.specs.Option.{option_map_or}
 use Rattle.omf_communal.specs.Deciding.{variable_said}
 use Rattle.omf_communal.specs.Locals.{local_module}
-use Rattle.doslink_jobs.specs.inside.Inputs.{lowered_bytes}
 use Rattle.doslink_jobs.proofs.Refused.{OnInput-weaker, plan-fault}
 use Rattle.doslink_jobs.proofs.locals.placed_bytes.Goals as goal
 

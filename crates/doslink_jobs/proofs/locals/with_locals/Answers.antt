@@ -5,7 +5,6 @@ use Rattle.std.proofs.lemmas.List.{map-append, map-id}
 use Rattle.omf_communal.specs.declared.declarations.Scope.TheVariants as scope
 use Rattle.omf_communal.specs.Reading.{communals_of}
 use Rattle.omf_library.specs.Records.{module_records}
-use Rattle.doslink_jobs.specs.Communals.{TellsBss}
 use Rattle.doslink_jobs.specs.Refusals.{HasNoLocals}
 use Rattle.doslink_jobs.specs.Locals.{EachHasLocals, HasLocals}
 use Rattle.doslink_jobs.specs.inside.Declaring.{DeclareNone}
@@ -15,26 +14,27 @@ use Rattle.doslink_jobs.proofs.Refused.{any-of-both, any-pair, refused-exit}
 use Rattle.doslink_jobs.proofs.locals.with_locals.Goals as goal
 
 pub returns-then-not-branch : goal.returns-then-not-branch
-returns-then-not-branch g c =
-    none-declared c.args.names (map lowered_bytes c.args.modules.items) c.args.modules.items
-    (subst (λ ms. DeclareNone (map own_bytes ms)) c.deref.ensures.value
-    (c.in_ok-declare_some.ensures c.if-not-branch.true))
+returns-then-not-branch g c = (
+  none-declared c.args.names (map lowered_bytes c.args.lowered.modules.items) c.args.lowered.modules.items
+      (subst (λ ms. DeclareNone (map own_bytes ms)) c.deref.ensures.value
+      (c.in_ok-declare_some.ensures c.if-not-branch.true)),
+  c.requires,
+)
 
 pub loop-one-init : goal.loop-one-init
 loop-one-init g c =
-    subst (λ l. EachHasLocals c.args.names (map lowered_bytes c.args.modules.items) [] [] (map lowered_bytes l))
+    subst (λ l. EachHasLocals c.args.names (map lowered_bytes c.args.lowered.modules.items) [] [] (map lowered_bytes l))
     (sym c.new-all.ensures.items) tt
 
 pub loop-one-preserved : goal.loop-one-preserved
 loop-one-preserved g c =
     let names = c.args.names in
-    let all = map lowered_bytes c.args.modules.items in
+    let all = map lowered_bytes c.args.lowered.modules.items in
     let one = c.in-Some.one in
     let so_far = c.loop-one.yielded in
     let own = map own_bytes (so_far ++ one ∷ []) in
     let lowered = map lowered_bytes (so_far ++ one ∷ []) in
-    let tells = subst (λ ms. TellsBss (map lowered_bytes ms) c.in_ok-in_bss.in_bss) c.deref-2.ensures.value
-    c.in_ok-in_bss.ensures in
+    let tells = c.is_in_bss-in_bss.ensures all c.requires in
     let here = subst (HasLocals names all (own_bytes one) (lowered_bytes one)) (sym c.in_ok-relinked.ensures)
     (c.in_ok-bytes.ensures all tells) in
     let more = each-more names all (map own_bytes so_far) (map lowered_bytes so_far)
@@ -53,25 +53,19 @@ pub returns-in_err-declare_some : goal.returns-in_err-declare_some
 returns-in_err-declare_some g c =
     refused-exit _ c.from_residual.result _ c.from_residual.ensures.1
     (λ some. any-of-both (λ one. IsErr (communals_of scope.Module (module_records (own_bytes one) 0)))
-    (HasNoLocals c.args.names (map lowered_bytes c.args.modules.items)) own_bytes lowered_bytes c.args.modules.items
+    (HasNoLocals c.args.names (map lowered_bytes c.args.lowered.modules.items)) own_bytes lowered_bytes c.args.lowered.modules.items
     (λ one fault. inl fault)
     (subst (Any (λ one. IsErr (communals_of scope.Module (module_records (own_bytes one) 0)))) c.deref.ensures.value
     some))
     c.in_err-declare_some.ensures
 
-pub returns-in_err-in_bss : goal.returns-in_err-in_bss
-returns-in_err-in_bss g c =
-    refused-exit _ c.from_residual-in_err-in_bss.result _ c.from_residual-in_err-in_bss.ensures.1
-    (λ none. absurd none) c.in_err-in_bss.ensures
-
 pub returns-in_err-bytes : goal.returns-in_err-bytes
 returns-in_err-bytes g c =
-    let modules = c.args.modules.items in
-    let tells = subst (λ ms. TellsBss (map lowered_bytes ms) c.in_ok-in_bss.in_bss) c.deref-2.ensures.value
-    c.in_ok-in_bss.ensures in
+    let modules = c.args.lowered.modules.items in
+    let tells = c.is_in_bss-in_bss.ensures (map lowered_bytes modules) c.requires in
     let b = c.into_iter-one-iterator.ensures.into_iter_gives in
     let t = YieldsList-turn (YieldsList-from_vec {s = c.into_iter-one-iterator.result} modules b.0
-    (b.1 ∙ c.args.modules.ok.0)) c.loop-one.yielded c.loop-one.one-iterator c.loop-one.yielded_by c.next.result
+    (b.1 ∙ c.args.lowered.modules.ok.0)) c.loop-one.yielded c.loop-one.one-iterator c.loop-one.yielded_by c.next.result
     c.next.new.self c.in-Some.one c.in-Some.is c.next.ensures.steps in
     refused-exit _ c.from_residual-in_err-bytes.result _ c.from_residual-in_err-bytes.ensures.1
     (λ none. any-pair (HasNoLocals c.args.names (map lowered_bytes modules)) own_bytes lowered_bytes modules
@@ -80,11 +74,16 @@ returns-in_err-bytes g c =
 
 pub returns : goal.returns
 returns g c =
-    let modules = c.args.modules.items in
+    let modules = c.args.lowered.modules.items in
     let so_far = c.loop-one.yielded in
     let b = c.into_iter-one-iterator.ensures.into_iter_gives in
     let e = YieldsList-end (YieldsList-from_vec {s = c.into_iter-one-iterator.result} modules b.0
-    (b.1 ∙ c.args.modules.ok.0)) so_far c.loop-one.one-iterator c.loop-one.yielded_by c.next.result c.next.new.self
-    c.in-None.is c.next.ensures.steps in
-    subst (λ ms. EachHasLocals c.args.names (map lowered_bytes modules) (map own_bytes ms) (map lowered_bytes ms)
-    (map lowered_bytes c.loop-one.all.items)) (sym (map-id so_far) ∙ e.0) c.loop-one.invariant
+    (b.1 ∙ c.args.lowered.modules.ok.0)) so_far c.loop-one.one-iterator c.loop-one.yielded_by c.next.result
+    c.next.new.self c.in-None.is c.next.ensures.steps in
+    let all = subst (λ ms. EachHasLocals c.args.names (map lowered_bytes modules) (map own_bytes ms)
+    (map lowered_bytes ms) (map lowered_bytes c.loop-one.all.items)) (sym (map-id so_far) ∙ e.0)
+    c.loop-one.invariant in (
+      subst (λ v. EachHasLocals c.args.names (map lowered_bytes modules) (map own_bytes modules)
+          (map lowered_bytes modules) (map lowered_bytes v.items)) (sym c.in_ok-read_lowered.ensures.0) all,
+      c.in_ok-read_lowered.ensures.1,
+    )

@@ -1,7 +1,7 @@
 use Rattle.std.proofs.Common.{map, ap, ◌∙◌}
 use Rattle.doslink_jobs.specs.Orders.{item_said}
 use Rattle.doslink_jobs.specs.inside.Inputs.{asking_said}
-use Rattle.doslink_jobs.proofs.Reading.{in-order, no-order}
+use Rattle.doslink_jobs.proofs.OrderModules.{in-order, no-order}
 use Rattle.doslink_jobs.proofs.Refused.{OnInput-weaker}
 use Rattle.doslink_jobs.proofs.ordering.order_bytes.Goals as goal
 

@@ -1,39 +1,31 @@
-use Rattle.std.proofs.Common.{◌≡◌, ◌++◌, length, refl, ap, ap₂, inl, inr, subst, sym, ◌∙◌}
-use Rattle.std.proofs.lemmas.List.{map-append}
+use Rattle.std.proofs.Common.{length, ap, inl, refl, subst, sym, ◌∙◌}
+use Rattle.std.proofs.lemmas.List.{length-map}
 use Rattle.doslink_link.specs.Linking.{bytes_of}
-use Rattle.doslink_jobs.specs.Orders.{AreRead, AreUnread}
-use Rattle.doslink_jobs.specs.inside.Inputs.{linked_list, order_list}
-use Rattle.doslink_jobs.proofs.Cutting.{read-length, steps-of}
+use Rattle.doslink_link.specs.Reading.{AreRead}
+use Rattle.doslink_link.proofs.Beginning.{read-length, stops-unread}
+use Rattle.doslink_jobs.specs.inside.Inputs.{input_list, linked_list, order_list}
+use Rattle.doslink_jobs.proofs.Cutting.{steps-of}
+use Rattle.doslink_jobs.proofs.Read.{these-read}
 use Rattle.doslink_jobs.proofs.stacking.change_behind.Goals as goal
 
 pub change_of-requires : goal.change_of-requires
 change_of-requires g c =
-    let are = rw c.in-Some.is at c.in_ok-read.ensures in
-    ap length c.deref-in-Some.ensures.value ∙ read-length c.deref-2.result.now c.in-Some.read.items are
-    ∙ ap length (c.deref-2.ensures.value ∙ sym c.deref-in-Some-2.ensures.value)
+    let inputs = input_list c.args.all.now.inputs in
+    let are = these-read inputs _ _ c.in-Modules.is c.requires in
+    ap length c.deref.ensures.value ∙ read-length inputs c.in-Modules.modules.items are
+    ∙ ap length (sym c.in_ok-slices-in-Modules.ensures) ∙ length-map c.in_ok-slices-in-Modules.slices.items (λ s. s.now)
+    ∙ ap length (sym c.deref-in-Modules.ensures.value)
 
-pub returns-in-Some : goal.returns-in-Some
-returns-in-Some g c =
-    let order = order_list c.args.order.now in
-    let linked = linked_list c.args.linked.now in
-    let all : bytes_of c.extend_from_slice.new.self.items ≡ order ++ linked =
-    ap bytes_of c.in_ok-extend_from_slice.ensures.items
-    ∙ map-append (λ s. s.now) c.in_ok-slices.slices.items c.deref.result.now
-    ∙ ap₂ (λ l r. l ++ r) c.in_ok-slices.ensures (ap bytes_of c.deref.ensures.value ∙ c.in_ok-behind.ensures) in
-    let are = rw c.in-Some.is at c.in_ok-read.ensures in
-    steps-of c.args.stack order linked (bytes_of c.deref-in-Some-2.result.now) c.deref-in-Some.result.now
-    c.change_of.result (ap bytes_of c.deref-in-Some-2.ensures.value ∙ all)
-    (subst (λ ms. AreRead (order ++ linked) ms) (sym c.deref-in-Some.ensures.value)
-    (subst (λ l. AreRead l c.in-Some.read.items) (ap bytes_of c.deref-2.ensures.value ∙ all) are))
-    c.change_of.ensures
+pub returns-in_ok-slices-in-Modules : goal.returns-in_ok-slices-in-Modules
+returns-in_ok-slices-in-Modules g c =
+    let inputs = input_list c.args.all.now.inputs in
+    let are = these-read inputs _ _ c.in-Modules.is c.requires in
+    steps-of c.args.stack (order_list c.args.all.now.inputs.order) (linked_list c.args.all.now.inputs.linked)
+    (bytes_of c.deref-in-Modules.result.now) c.deref.result.now c.change_of.result
+    (ap bytes_of c.deref-in-Modules.ensures.value ∙ c.in_ok-slices-in-Modules.ensures)
+    (subst (AreRead inputs) (sym c.deref.ensures.value) are) c.change_of.ensures
 
-pub returns : goal.returns
-returns g c =
-    let order = order_list c.args.order.now in
-    let linked = linked_list c.args.linked.now in
-    let all : bytes_of c.extend_from_slice.new.self.items ≡ order ++ linked =
-    ap bytes_of c.in_ok-extend_from_slice.ensures.items
-    ∙ map-append (λ s. s.now) c.in_ok-slices.slices.items c.deref.result.now
-    ∙ ap₂ (λ l r. l ++ r) c.in_ok-slices.ensures (ap bytes_of c.deref.ensures.value ∙ c.in_ok-behind.ensures) in
-    let none = rw c.in-None.is at c.in_ok-read.ensures in
-    inl (subst AreUnread (ap bytes_of c.deref-2.ensures.value ∙ all) none, refl)
+pub returns-in-Fault : goal.returns-in-Fault
+returns-in-Fault g c =
+    let inputs = input_list c.args.all.now.inputs in
+    inl (stops-unread inputs _ _ (these-read inputs _ _ c.in-Fault.is c.requires), refl)

@@ -1,30 +1,46 @@
-use Rattle.std.proofs.Common.{inl, inr, subst, sym}
+use Rattle.std.proofs.Common.{None, Some, subst, sym}
 use Rattle.std.specs.Option.{option_map}
-use Rattle.doslink_jobs.specs.Refusals.{HaveNoStack}
-use Rattle.doslink_jobs.specs.Stacks.{AreStacked, HasStack}
-use Rattle.doslink_jobs.specs.inside.Inputs.{asking_said, linked_list, order_list}
-use Rattle.doslink_jobs.proofs.Refused.{refused-exit}
+use Rattle.doslink_jobs.specs.inside.Inputs.{NotStackedInOrder, StackedInOrder, asking_said, input_list, linked_list}
+use Rattle.doslink_jobs.proofs.Refused.{refused-exit, steps-weaker}
+use Rattle.doslink_jobs.proofs.Stacked.{in-order-behind, not-in-order}
 use Rattle.doslink_jobs.proofs.stacking.with_stack.Goals as goal
 
-pub returns : goal.returns
-returns g c =
-    let linked = linked_list c.args.linked in
-    let stacked = linked_list c.in_ok-with_change.field-0 in
-    subst (λ s. AreStacked (asking_said c.args.asked.now) s linked stacked) (sym c.in-Some.is) (
-      option_map (λ v. v.items) c.in_ok-order.order,
-      c.in_ok-order.ensures,
-      subst (HasStack c.in-Some.stack (order_list c.in_ok-order.order) linked) (sym c.in_ok-with_change.ensures)
-          c.in_ok-change.ensures,
+pub ordered-requires : goal.ordered-requires
+ordered-requires g c = c.requires
+
+pub stacked-requires-clause-read : goal.stacked-requires-clause-read
+stacked-requires-clause-read g c = c.in_ok-all.ensures.2
+
+pub stacked-requires-clause-ordered : goal.stacked-requires-clause-ordered
+stacked-requires-clause-ordered g c = c.in_ok-all.ensures.0
+
+pub returns-in-Some : goal.returns-in-Some
+returns-in-Some g c =
+    let asking = asking_said c.args.asked.now in
+    let inputs = linked_list c.args.linked.linked in
+    let stack = c.in-Some.stack in
+    steps-weaker c.stacked.result
+    (λ all is. (
+      subst (λ s. StackedInOrder asking s inputs (input_list all.inputs)) (sym c.in-Some.is)
+          (subst (λ l. StackedInOrder asking (Some stack) l (input_list all.inputs)) c.in_ok-all.ensures.1 is.0),
+      is.1,
+    ))
+    (λ none. subst (λ s. NotStackedInOrder asking s inputs) (sym c.in-Some.is)
+    (subst (NotStackedInOrder asking (Some stack)) c.in_ok-all.ensures.1 none)) c.stacked.ensures
+
+pub returns-in-None : goal.returns-in-None
+returns-in-None g c =
+    let asking = asking_said c.args.asked.now in
+    let inputs = linked_list c.args.linked.linked in
+    let all = c.in_ok-all.all in (
+      subst (λ s. StackedInOrder asking s inputs (input_list all.inputs)) (sym c.in-None.is)
+          (in-order-behind asking None inputs (linked_list all.inputs.linked)
+          (option_map (λ v. v.items) all.inputs.order) c.in_ok-all.ensures.1 c.in_ok-all.ensures.0),
+      c.in_ok-all.ensures.2,
     )
 
-pub returns-in_err-order : goal.returns-in_err-order
-returns-in_err-order g c =
+pub returns-in_err-all : goal.returns-in_err-all
+returns-in_err-all g c =
     refused-exit _ c.from_residual.result _ c.from_residual.ensures.1
-    (λ none. subst (λ s. HaveNoStack (asking_said c.args.asked.now) s (linked_list c.args.linked)) (sym c.in-Some.is)
-    (inl none)) c.in_err-order.ensures
-
-pub returns-in_err-change : goal.returns-in_err-change
-returns-in_err-change g c =
-    refused-exit _ c.from_residual-in_err-change.result _ c.from_residual-in_err-change.ensures.1
-    (λ long. subst (λ s. HaveNoStack (asking_said c.args.asked.now) s (linked_list c.args.linked)) (sym c.in-Some.is)
-    (inr (option_map (λ v. v.items) c.in_ok-order.order, c.in_ok-order.ensures, long))) c.in_err-change.ensures
+    (not-in-order (asking_said c.args.asked.now) c.args.job.now.stack (linked_list c.args.linked.linked))
+    c.in_err-all.ensures
