@@ -6,11 +6,15 @@ mod aliasing;
 #[cfg(test)]
 mod declaring;
 #[cfg(test)]
+mod defaulting;
+#[cfg(test)]
 mod doubled;
 #[cfg(test)]
 mod lengths;
 #[cfg(test)]
 mod modules;
+#[cfg(test)]
+mod packed;
 #[cfg(test)]
 mod records;
 #[cfg(test)]

@@ -1,11 +1,12 @@
 //! Runs over a world in memory.
 use crate::modules::LIBRARY;
 use crate::tables::{
-    ALIAS_RUNS, COMMUNAL_RUNS, DEFAULT_RUNS, DOUBLED_RUNS, LIMITED_RUNS, LONG_RUNS, MISSING_RUNS,
-    REFUSED_RUNS, RUNS, SEARCH_RUNS, SUM_RUNS, WARNED_RUNS,
+    ALIAS_RUNS, COMMUNAL_RUNS, DEFAULT_RUNS, DOUBLED_RUNS, LIMITED_RUNS, LOCAL_DEFAULT_RUNS,
+    LONG_RUNS, MISSING_RUNS, REFUSED_RUNS, RUNS, SEARCH_RUNS, SUM_RUNS, WARNED_RUNS,
 };
 use crate::world::{
-    AS_MANY, CUT, CUT_TO_16, CUT_TO_32, DIRECTIVES, MODULES, RESPONSE, SORTS, WRONG,
+    AS_MANY, CUT, CUT_TO_16, CUT_TO_32, DIRECTIVES, FAR_DATA, FAR_TOO_LONG, FURTHER_MODULES,
+    MODULES, RESPONSE, SORTS, WRONG,
 };
 use crate::written::{MAP, PROGRAMS, WRITTEN};
 use desk::{Count, Desk, Page, Pen};
@@ -50,15 +51,16 @@ fn told(alloc: Global, words: &str, lacking: bool) -> Result<Vec<u8>, AllocError
     Ok(row)
 }
 
-/// What a run of these words does that may write a program at a path, or at any if it is empty, and a map at P.MAP.
-fn run_row(alloc: Global, row: &str, path: &str) -> Result<Done, AllocError> {
-    let mut files = Vec::from_slice(alloc, &MODULES)?;
+/// Puts the texts of the world behind its modules, and what is made of others.
+fn put_others<'a>(files: &mut Vec<(&'a str, &'a [u8])>) -> Result<(), AllocError> {
     files.extend_from_slice(&[
         ("WRONG", WRONG.as_bytes()),
         ("CUT.LIB", &LIBRARY.as_slice()[..CUT]),
         ("WORDS", RESPONSE.as_bytes()),
         ("LINES", DIRECTIVES.as_bytes()),
         ("CUT16", CUT_TO_16.as_bytes()),
+        ("FARS", FAR_DATA.as_bytes()),
+        ("LONGFARS", FAR_TOO_LONG.as_bytes()),
         ("CUT32", CUT_TO_32.as_bytes()),
         ("UNCUT", AS_MANY.as_bytes()),
         ("SORTS", SORTS.as_bytes()),
@@ -66,7 +68,19 @@ fn run_row(alloc: Global, row: &str, path: &str) -> Result<Done, AllocError> {
         ("FULL.OBJ", crate::lengths::FULL.as_slice()),
         ("GROUPED.OBJ", crate::lengths::GROUPED.as_slice()),
         ("LARGE.OBJ", crate::lengths::LARGE.as_slice()),
-    ])?;
+    ])
+}
+
+/// Puts further modules and libraries behind files.
+fn put_further<'a>(files: &mut Vec<(&'a str, &'a [u8])>) -> Result<(), AllocError> {
+    files.extend_from_slice(&FURTHER_MODULES)
+}
+
+/// What a run of these words does that may write a program at a path, or at any if it is empty, and a map at P.MAP.
+fn run_row(alloc: Global, row: &str, path: &str) -> Result<Done, AllocError> {
+    let mut files = Vec::from_slice(alloc, &MODULES)?;
+    put_further(&mut files)?;
+    put_others(&mut files)?;
     let out = Page::new(alloc, path, b"old", ROOM)?;
     let map = Page::new(alloc, "P.MAP", b"old", ROOM)?;
     let output_page = Page::new(alloc, "", b"", ROOM)?;
@@ -168,6 +182,13 @@ fn sum_runs_tell_these_lines(rt: HostRuntime) -> Result<(), Fail> {
 #[test]
 fn default_runs_tell_these_lines(rt: HostRuntime) -> Result<(), Fail> {
     let wrong = first_wrong(rt.alloc(), DEFAULT_RUNS)?;
+    assert_eq!(rt; wrong, None);
+    Ok(())
+}
+
+#[test]
+fn local_default_runs_tell_these_lines(rt: HostRuntime) -> Result<(), Fail> {
+    let wrong = first_wrong(rt.alloc(), LOCAL_DEFAULT_RUNS)?;
     assert_eq!(rt; wrong, None);
     Ok(())
 }

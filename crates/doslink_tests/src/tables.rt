@@ -161,6 +161,22 @@ doslink ITSELF.OBJ F.OBJ|0||
 doslink ITSELF.OBJ|1||doslink: ITSELF.OBJ: 60 EndlessAlias \"f\" at record 35~
 ";
 
+/// Runs with weak and lazy externals whose defaults are local to their module, in the same form.
+pub(crate) const LOCAL_DEFAULT_RUNS: &str = "\
+doslink -v WLOCAL.OBJ RUN.LIB|0|WLOCAL.OBJ~|
+doslink -v LLOCAL.OBJ RUN.LIB|0|LLOCAL.OBJ~RUN.LIB(b.c) for \"f\"~RUN.LIB(c.c) for \"g\"~|
+doslink LLOCAL.OBJ WLOCAL.OBJ|0||
+doslink WLOCAL.OBJ WEAKLY.OBJ|1||doslink: WEAKLY.OBJ: \"g\" is missing: record 28 (0000001C), wanted by \"a.c\"~
+doslink A.OBJ WLOCAL.OBJ|1||doslink: A.OBJ: \"f\" is missing: record 28 (0000001C), wanted by \"a.c\"~
+doslink SFIRST.OBJ|1||doslink: SFIRST.OBJ: \"g\" is missing: record 28 (0000001C), wanted by \"a.c\"~
+doslink CHAINED.OBJ|1||doslink: CHAINED.OBJ: 27 Unresolved at record 78~
+doslink CHAINED.OBJ F.OBJ|0||
+doslink LNOWHERE.OBJ|1||doslink: LNOWHERE.OBJ: 27 Unresolved at record 62~
+doslink LNOWHERE.OBJ F.OBJ|0||
+doslink LSUM.OBJ|1||doslink: LSUM.OBJ: 61 SumAbove16Bits at record 73~
+doslink F.OBJ LSUM.OBJ|0||
+";
+
 /// Runs that search libraries in the order in which these stand, and go on with default libraries, in the same form.
 pub(crate) const SEARCH_RUNS: &str = "\
 doslink -v -l RUN A.OBJ ONLY.LIB|0|A.OBJ~RUN.LIB(b.c) for \"f\"~RUN.LIB(c.c) for \"g\"~|
@@ -217,10 +233,17 @@ doslink HALF.OBJ HALF.OBJ|1||doslink: link: 22 SegmentTooLong \"CODE\": 34,464 b
 doslink F.OBJ FULL.OBJ F.OBJ|1||doslink: link: 22 SegmentTooLong \"CODE\": 2 bytes over~
 doslink --order dosseg FULL.OBJ F.OBJ|1||doslink: link: 22 SegmentTooLong \"CODE\": 1 byte over~
 doslink GROUPED.OBJ|1||doslink: link: 24 GroupTooLong \"CODE\": 4,464 bytes over~
+wlink @LONGFARS|1||doslink: link: 24 GroupTooLong \"AUTO\": 4,097 bytes over~
 doslink GROUPED.OBJ F.OBJ F.OBJ|1||doslink: link: 24 GroupTooLong \"CODE\": 4,466 bytes over~
 doslink LARGE.OBJ GROUPED.OBJ|1||doslink: link: 23 ProgramTooLarge: 70,016 bytes over~
 doslink LARGE.OBJ LARGE.OBJ|1||doslink: link: 23 ProgramTooLarge: 1,048,592 bytes over~
 doslink LARGE.OBJ HALF.OBJ HALF.OBJ|1||doslink: link: 22 SegmentTooLong \"CODE\": 34,464 bytes over~
+doslink OVER999.OBJ|1||doslink: link: 23 ProgramTooLarge: 999 bytes over~
+doslink OVER1000.OBJ|1||doslink: link: 23 ProgramTooLarge: 1,000 bytes over~
+doslink OVER999999.OBJ|1||doslink: link: 23 ProgramTooLarge: 999,999 bytes over~
+doslink OVER1000000.OBJ|1||doslink: link: 23 ProgramTooLarge: 1,000,000 bytes over~
+doslink OVER1000000000.OBJ|1||doslink: link: 23 ProgramTooLarge: 1,000,000,000 bytes over~
+doslink FULL.OBJ HUGE.OBJ|1||doslink: link: 23 ProgramTooLarge: 2,146,369,560 bytes over~
 ";
 
 /// Runs of which more than 20 lines of a kind are told: the words, a word that stands 22 times behind them, how many

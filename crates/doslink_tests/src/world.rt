@@ -7,9 +7,11 @@ use crate::declaring::{
     LOCAL_START, LOCAL_TABLE, LONG, MANY, NEAR, OTHER_SIZE, TABLE,
 };
 use crate::doubled::{CAPITAL, MANY_NAMES, SWAPPED, TWICE, TWO};
+use crate::lengths::{HUGE, OVER_999, OVER_1000, OVER_999999, OVER_1000000, OVER_1000000000};
 use crate::modules::{
     AMISS, ELSEWHERE, HEADLESS, KEEPS, LIBRARY, LIKE, MARKS, NAMELESS, NAMES, OFFERS, WANTS, WIDE,
 };
+use crate::packed::{FAR_GROUPED, FAR_ONE, FAR_TWO};
 use crate::records::{
     BEHIND_LOWERED, BESIDE_LCOMDEF, CHOSEN, COMDAT, COMDATS, LINSYM, LOCAL_FAR, OTHER_TYPE,
     PATCHED, PATCHED_BY_NAME, REPEATS, UNLISTED, WIDELY,
@@ -44,6 +46,12 @@ option map=P.MAP,stack=32
 order clname STACK clname CODE
 ";
 
+/// Those that link modules with far data.
+pub(crate) const FAR_DATA: &str = "file FAR1.OBJ,FAR2.OBJ\nname P.EXE\noption map=P.MAP\n";
+
+/// Those that link far data with a group that is too long then.
+pub(crate) const FAR_TOO_LONG: &str = "file FARGROUP.OBJ\nname P.EXE\n";
+
 /// Those that ask for as many bytes as it has.
 pub(crate) const AS_MANY: &str = "file STARTED.OBJ,STACKED.OBJ\nname P.EXE\noption stack=272\n";
 
@@ -63,8 +71,8 @@ pub(crate) const BINARY: [u8; 4] = [0x41, 0xFF, 0xFE, 0x0A];
 /// How much of the library is left where it is cut off, inside the last record of its first member.
 pub(crate) const CUT: usize = 64;
 
-/// The files of the world that are modules or libraries, with two that only begin so.
-pub(crate) const MODULES: [(&str, &[u8]); 92] = [
+/// Files of the world that are modules or libraries, with two that only begin so.
+pub(crate) const MODULES: [(&str, &[u8]); 58] = [
     ("A.OBJ", &WANTS),
     ("F.OBJ", &OFFERS),
     ("D.OBJ", &LIKE),
@@ -107,9 +115,26 @@ pub(crate) const MODULES: [(&str, &[u8]); 92] = [
     ("OTHERWISE.OBJ", &OTHERWISE),
     ("NOWHERE.OBJ", &NOWHERE),
     ("ITSELF.OBJ", &ITSELF),
+    ("WLOCAL.OBJ", &crate::defaulting::WEAKLY_LOCAL),
+    ("LLOCAL.OBJ", &crate::defaulting::LAZILY_LOCAL),
+    ("WCOMM.OBJ", &crate::defaulting::WEAKLY_COMMUNAL),
+    ("FIRST.OBJ", &crate::defaulting::FIRST_OF_TWO),
+    ("WFIRST.OBJ", &crate::defaulting::WEAK_FIRST),
+    ("SFIRST.OBJ", &crate::defaulting::SHARED_FIRST),
+    ("LFIRST.OBJ", &crate::defaulting::LOCAL_FIRST),
+    ("CHAINED.OBJ", &crate::defaulting::BEHIND_WEAK),
+    ("LNOWHERE.OBJ", &crate::defaulting::LOCAL_NOWHERE),
+    ("LFRAME.OBJ", &crate::defaulting::LOCAL_FRAME),
+    ("LTHREADS.OBJ", &crate::defaulting::LOCAL_THREADS),
+    ("WSTART.OBJ", &crate::defaulting::STARTS_WEAKLY),
+    ("LSUM.OBJ", &crate::defaulting::LOCAL_SUM),
     ("COMDAT.OBJ", &COMDAT),
     ("COMDATS.LIB", &COMDATS),
     ("PATCHED.OBJ", &PATCHED),
+];
+
+/// Further ones.
+pub(crate) const FURTHER_MODULES: [(&str, &[u8]); 56] = [
     ("PATCHED2.OBJ", &PATCHED_BY_NAME),
     ("LINSYM.OBJ", &LINSYM),
     ("B9.OBJ", &BESIDE_LCOMDEF),
@@ -157,4 +182,13 @@ pub(crate) const MODULES: [(&str, &[u8]); 92] = [
     ("CAPITAL.OBJ", &CAPITAL),
     ("TWICE.OBJ", &TWICE),
     ("MANY_NAMES.OBJ", &MANY_NAMES),
+    ("FAR1.OBJ", &FAR_ONE),
+    ("FAR2.OBJ", &FAR_TWO),
+    ("FARGROUP.OBJ", &FAR_GROUPED),
+    ("OVER999.OBJ", &OVER_999),
+    ("OVER1000.OBJ", &OVER_1000),
+    ("OVER999999.OBJ", &OVER_999999),
+    ("OVER1000000.OBJ", &OVER_1000000),
+    ("OVER1000000000.OBJ", &OVER_1000000000),
+    ("HUGE.OBJ", &HUGE),
 ];

@@ -1,7 +1,8 @@
 //! What runs write: programs and maps.
+use crate::packed::{FAR_PACKED, FAR_PACKED_MAP};
 
 /// Runs, and the end of the file that each writes: the whole of it, or its code, which calls `f` first.
-pub(crate) const PROGRAMS: [(&str, &[u8]); 21] = [
+pub(crate) const PROGRAMS: [(&str, &[u8]); 38] = [
     // null bytes in front of `_TEXT`, and none where the job asks for none
     (
         "doslink LOADS.OBJ",
@@ -78,6 +79,79 @@ pub(crate) const PROGRAMS: [(&str, &[u8]); 21] = [
     (
         "doslink WEAKLY.OBJ OTHERWISE.OBJ D.OBJ RUN.LIB",
         &[0xE8, 0x04, 0x00, 0xE8, 0x00, 0x00, 0x90, 0x90],
+    ),
+    // its default is local to its module, which has it at 4
+    ("doslink WLOCAL.OBJ", &[0xE8, 0x01, 0x00, 0x90, 0xC3]),
+    (
+        "doslink LLOCAL.OBJ WLOCAL.OBJ",
+        &[0xE8, 0x01, 0x00, 0x90, 0xC3, 0xE8, 0x01, 0x00, 0x90, 0xC3],
+    ),
+    // behind a module that is made for the order, and another one
+    (
+        "doslink --order dosseg D.OBJ WLOCAL.OBJ",
+        &[0x90, 0xE8, 0x01, 0x00, 0x90, 0xC3],
+    ),
+    // a module defines the name, or a member that is taken for it, or an alias, with or without case
+    (
+        "doslink WLOCAL.OBJ F.OBJ",
+        &[0xE8, 0x02, 0x00, 0x90, 0xC3, 0x90],
+    ),
+    (
+        "doslink LLOCAL.OBJ RUN.LIB",
+        &[0xE8, 0x02, 0x00, 0x90, 0xC3, 0x90, 0x90],
+    ),
+    (
+        "doslink WLOCAL.OBJ ALIAS.OBJ RUN.LIB",
+        &[0xE8, 0x02, 0x00, 0x90, 0xC3, 0x90],
+    ),
+    (
+        "doslink WLOCAL.OBJ CAPITAL.OBJ",
+        &[0xE8, 0x01, 0x00, 0x90, 0xC3, 0x90],
+    ),
+    (
+        "doslink --ignore-case WLOCAL.OBJ CAPITAL.OBJ",
+        &[0xE8, 0x02, 0x00, 0x90, 0xC3, 0x90],
+    ),
+    // a communal variable that is local to the module, at 4; behind it that of the name, which counts then
+    ("doslink WCOMM.OBJ", &[0xB8, 0x04, 0x00]),
+    ("doslink WCOMM.OBJ NEAR.OBJ", &[0xB8, 0x06, 0x00]),
+    // of two the first, and a weak one's before a lazy one's: both at 4
+    ("doslink FIRST.OBJ", &[0xE8, 0x01, 0x00, 0x90, 0xC3]),
+    ("doslink WFIRST.OBJ", &[0xE8, 0x01, 0x00, 0x90, 0xC3]),
+    // a name that others define comes before a local one, wherever it stands
+    (
+        "doslink SFIRST.OBJ RUN.LIB",
+        &[0xE8, 0x02, 0x00, 0x90, 0xC3, 0x90],
+    ),
+    (
+        "doslink LFIRST.OBJ RUN.LIB",
+        &[0xE8, 0x02, 0x00, 0x90, 0xC3, 0x90],
+    ),
+    // the frame of one at 16 and the offset of what is behind it, by itself and by threads
+    (
+        "doslink LFRAME.OBJ",
+        &[
+            0x4D, 0x5A, 0x26, 0x00, 0x01, 0x00, 0x01, 0x00, 0x02, 0x00, 0x02, 0x00, 0xFF, 0xFF,
+            0x00, 0x00, 0x00, 0x00, 0x00, 0x00, 0x00, 0x00, 0x00, 0x00, 0x1C, 0x00, 0x00, 0x00,
+            0x01, 0x00, 0x00, 0x00, 0xB8, 0x01, 0x00, 0xB8, 0x04, 0x00,
+        ],
+    ),
+    (
+        "doslink LTHREADS.OBJ",
+        &[
+            0x4D, 0x5A, 0x26, 0x00, 0x01, 0x00, 0x01, 0x00, 0x02, 0x00, 0x02, 0x00, 0xFF, 0xFF,
+            0x00, 0x00, 0x00, 0x00, 0x00, 0x00, 0x00, 0x00, 0x00, 0x00, 0x1C, 0x00, 0x00, 0x00,
+            0x01, 0x00, 0x00, 0x00, 0xB8, 0x01, 0x00, 0xB8, 0x04, 0x00,
+        ],
+    ),
+    // the start at one, at 4
+    (
+        "doslink WSTART.OBJ",
+        &[
+            0x4D, 0x5A, 0x25, 0x00, 0x01, 0x00, 0x00, 0x00, 0x02, 0x00, 0x01, 0x00, 0xFF, 0xFF,
+            0x00, 0x00, 0x00, 0x00, 0x00, 0x00, 0x04, 0x00, 0x00, 0x00, 0x1C, 0x00, 0x00, 0x00,
+            0x00, 0x00, 0x00, 0x00, 0x90, 0x90, 0x90, 0x90, 0xC3,
+        ],
     ),
     // data that is repeated: the number of 32 bits has 5 and the offset 16, in both copies
     (
@@ -229,7 +303,7 @@ modules
 
 /// Runs, and what each writes: the path of its program, the program, and its map at P.MAP.
 /// What isn't written stays `old`.
-pub(crate) const WRITTEN: [(&str, &str, &[u8], &str); 9] = [
+pub(crate) const WRITTEN: [(&str, &str, &[u8], &str); 10] = [
     (
         "doslink -o P.EXE -m P.MAP A.OBJ F.OBJ",
         "P.EXE",
@@ -240,6 +314,8 @@ pub(crate) const WRITTEN: [(&str, &str, &[u8], &str); 9] = [
     ("wlink @CUT16", "P.EXE", &CUT_STACK, CUT_STACK_MAP),
     // in the order module's order
     ("wlink @CUT32", "P.EXE", &CUT_PARTS, CUT_PARTS_MAP),
+    // far data in one frame: common parts are one, public ones of a name stand together
+    ("wlink @FARS", "P.EXE", &FAR_PACKED, FAR_PACKED_MAP),
     // a name is missing, two publics have one name, and the map is read
     ("doslink -m P.MAP A.OBJ", "", b"old", "old"),
     ("doslink -m P.MAP A.OBJ F.OBJ F.OBJ", "", b"old", "old"),
