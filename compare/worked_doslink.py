@@ -8,13 +8,13 @@ variables, also local ones, of aliases, of weak and lazy externals, and of direc
 import functools
 
 from model import (
-    aliases, communal, directives, libraries, linking, local, lowering, module, names, ordering,
-    records, search, weak)
+    aliases, communal, directives, far_data, libraries, linking, local, lowering, module, names,
+    ordering, records, search, weak)
 from model.directives import Input, Job, Stack
 from model.faults import Fault
 from model.names import Names
 from model.ordering import Class, Named
-from model.records import PublicName, Spelling
+from model.records import Direct, Method, PublicName, Spelling
 from worked import MOST, NEAR_CALL, NO_REGISTERS, NO_TABLE, header
 
 # modules of a header and an end, and their bytes
@@ -440,6 +440,14 @@ def long_module(*segments):
         (0x9A, "02" + members), (0x8A, "00")])
 
 
+def far_module(segment, *made):
+    """A module of far data, by the names FAR_DATA, TBL, X and G."""
+    return framed([(0x80, "0146"), FAR_NAMES, (0x98, segment), *made, (0x8A, "00")])
+
+
+# the names FAR_DATA, TBL, X and G, and a fix-up by which data has its segment's frame
+FAR_NAMES = (0x96, "084641525F44415441 0354424C 0158 0147")
+OWN_FRAME = ((0xA0, "01 0000 0000"), (0x9C, "C800 54 01"))
 CALLING = code_module(b"M", records.ExternalNames([b"x"], [0]), *NEAR_CALL)
 CALLED = code_module(b"X", records.PublicNames(0, 1, None, [PublicName(b"x", 2, 0)]))
 NAMING = code_module(b"N", records.Comment(0, 0x9F, b"X"))
@@ -464,10 +472,20 @@ FILES = {
     "half.obj": long_module("28 0080 020101"), "over.obj": long_module("28 0180 020101"),
     "group.obj": long_module("28 50C3 020101", "28 50C3 010101"),
     "large.obj": long_module(*15 * ["22 0000 020101"], "20 D5FF 020101"),
+    "huge.obj": framed([(0x80, "0148"), (0xB0, "0178 00 61 88 F0C9AA3B 01"), (0x8A, "00")]),
+    "tbl.obj": far_module("28 0200 02 01 00", (0xA0, "01 0000 0101")),
+    "tbl2.obj": far_module("28 0200 02 01 00", (0xA0, "01 0000 0202")),
+    "far.obj": far_module("28 0200 03 01 00", (0xA0, "01 0000 0909")),
+    "own.obj": far_module("68 0200 03 01 00", *OWN_FRAME),
+    "own17.obj": far_module("68 1100 03 01 00", *OWN_FRAME), "long.obj": far_module("68 F0FF 02 01 00"),
     "f/L": LIBRARY, "f/L.LIB": MAGIC, "f/Y": CALLED, "g/L.LIB": LIBRARY, "bad": b"\xFF"}
 # 17 bytes of each module; the call's end is at 3 and x at 19
 EIGHT = header("2800 0100 0000 0200 0100" + MOST + NO_REGISTERS) + NO_TABLE
 PROGRAM = header("2300 0100 0000 0200 0300" + MOST + NO_REGISTERS) + NO_TABLE + "E81000"
+
+# 6 bytes, and 18 of which the last two are relocated
+SIX = header("2600 0100 0000 0200 0100" + MOST + NO_REGISTERS) + NO_TABLE
+EIGHTEEN = header("3200 0100 0100 0200 0100" + MOST + NO_REGISTERS) + "00000100"
 
 # title, what is asked for, the folders of LIB, and the bytes of OUT or the lines on standard error,
 # and the lines that tell the modules
@@ -514,6 +532,8 @@ LINKS = [
      'doslink: link: 24 GroupTooLong "CODE": 34,464 bytes over\n', "group.obj\n"),
     ("a program of 1,148,533 bytes", {"inputs": given(["large.obj", "group.obj"])}, [],
      "doslink: link: 23 ProgramTooLarge: 99,973 bytes over\n", "large.obj\ngroup.obj\n"),
+    ("a program of 1,001,048,560 bytes", {"inputs": given(["huge.obj"])}, [],
+     "doslink: link: 23 ProgramTooLarge: 1,000,000,000 bytes over\n", "huge.obj\n"),
     ("a segment that is none as it is lowered", {"inputs": given(["amiss.obj"])}, [],
      "doslink: warning: 32-bit segments of amiss.obj are linked as 16-bit ones\n"
      "doslink: amiss.obj: 51 Body at record 16\n", "amiss.obj\n"),
@@ -552,6 +572,15 @@ LINKS = [
     ("a start at 65,532", {"inputs": given(["start.obj"])}, [], "", "start.obj\n"),
     ("a start of 16 bits at 65,536", {"inputs": given(["fits.obj", "start16.obj"])}, [], "",
      "fits.obj\nstart16.obj\n"),
+    ("far data of two names", {
+        "inputs": given(["tbl.obj", "far.obj", "tbl2.obj"]), "packs_far_data": True}, [],
+     SIX + "010102020909", "tbl.obj\nfar.obj\ntbl2.obj\n"),
+    ("of one frame", {"inputs": given(["tbl.obj", "own.obj"]), "packs_far_data": True}, [],
+     EIGHTEEN + "0101" + "00" * 14 + "0000", "tbl.obj\nown.obj\n"),
+    ("and of two", {"inputs": given(["tbl.obj", "own.obj"])}, [],
+     EIGHTEEN + "0101" + "00" * 14 + "0100", "tbl.obj\nown.obj\n"),
+    ("that doesn't fit", {"inputs": given(["long.obj", "own17.obj"]), "packs_far_data": True}, [],
+     "", "long.obj\nown17.obj\n"),
     ("two starts", {"inputs": given(["fits.obj", "start.obj", "start.obj"])}, [],
      "doslink: start.obj: 33 TwoStarts at record 37\n", "fits.obj\nstart.obj\nstart.obj\n"),
 ]
@@ -576,125 +605,116 @@ modules
 LISTED = (0x96, "04434F4445 054457415246 084641525F44415441 055F54455854")
 DEBUG_SEGMENT, CODE_SEGMENT = (0x98, "28 0800 04 02 00"), (0x98, "28 0800 04 01 00")
 WITHOUT, NOTHING = (0x98, "20 0000 04 02 00"), (0x88, "00DA")
-FAR_SEGMENT = (0x98, "60 0800 04 03 00")
 DATA_OF_1, DATA_OF_2 = (0xA0, "01 0000 00"), (0xA0, "02 0000 00")
 FIXUPS = (0x9C, "C400 54 01")
 
-# title, whether debugging is kept and far data shares a frame, records, and the same as lowered
+# title, whether debugging is kept, records, and the same as lowered
 LOWERED = [
-    ("data for debuggers", False, False, [LISTED, DEBUG_SEGMENT, DATA_OF_1, FIXUPS],
+    ("data for debuggers", False, [LISTED, DEBUG_SEGMENT, DATA_OF_1, FIXUPS],
      [LISTED, WITHOUT, NOTHING, (0x9C, "")]),
-    ("which is kept", True, False, [LISTED, DEBUG_SEGMENT, DATA_OF_1, FIXUPS],
+    ("which is kept", True, [LISTED, DEBUG_SEGMENT, DATA_OF_1, FIXUPS],
      [LISTED, DEBUG_SEGMENT, DATA_OF_1, FIXUPS]),
-    ("fix-ups of other data", False, False,
+    ("fix-ups of other data", False,
      [LISTED, DEBUG_SEGMENT, CODE_SEGMENT, DATA_OF_1, FIXUPS, DATA_OF_2, FIXUPS],
      [LISTED, WITHOUT, CODE_SEGMENT, NOTHING, (0x9C, ""), DATA_OF_2, FIXUPS]),
-    ("threads stay", False, False, [
+    ("threads stay", False, [
         LISTED, DEBUG_SEGMENT, DATA_OF_1, (0x9C, "00 01  C400 54 01  41 01  C400 9C  53")],
      [LISTED, WITHOUT, NOTHING, (0x9C, "00 01  41 01  53")]),
-    ("by 32 bits", False, False, [
+    ("by 32 bits", False, [
         LISTED, (0x99, "A9 08000000 04 02 00"), (0xA1, "01 00000000 00"),
         (0x9D, "E400 50 01 00000000")],
      [LISTED, WITHOUT, NOTHING, (0x9C, "")]),
-    ("repeated", False, False, [LISTED, DEBUG_SEGMENT, (0xA2, "01 0000 0100 0000 01 00"), FIXUPS],
+    ("repeated", False, [LISTED, DEBUG_SEGMENT, (0xA2, "01 0000 0100 0000 01 00"), FIXUPS],
      [LISTED, WITHOUT, NOTHING, (0x9C, "")]),
-    ("an absolute one", False, False, [LISTED, (0x98, "00 00B8 00 0800 04 8002 01")],
+    ("an absolute one", False, [LISTED, (0x98, "00 00B8 00 0800 04 8002 01")],
      [LISTED, (0x98, "20 0000 04 8002 01")]),
-    ("fix-ups that are cut", False, False, [LISTED, DEBUG_SEGMENT, DATA_OF_1, (0x9C, "C400")],
+    ("fix-ups that are cut", False, [LISTED, DEBUG_SEGMENT, DATA_OF_1, (0x9C, "C400")],
      (51, 3)),
-    ("a class that is listed later", False, False, [DEBUG_SEGMENT, LISTED, DATA_OF_1],
+    ("a class that is listed later", False, [DEBUG_SEGMENT, LISTED, DATA_OF_1],
      [DEBUG_SEGMENT, LISTED, DATA_OF_1]),
-    ("far data", False, True, [LISTED, FAR_SEGMENT], [LISTED, (0x98, "68 0800 03 03 00")]),
-    ("far data that doesn't fit", False, False, [LISTED, FAR_SEGMENT], [LISTED, FAR_SEGMENT]),
-    ("an absolute one of far data", False, True, [LISTED, (0x98, "01 00B8 00 0800 04 03 01")],
-     [LISTED, (0x98, "00 00B8 00 0800 04 03 01")]),
-    ("public far data", False, True, [LISTED, (0x98, "68 0800 04 03 00")],
-     [LISTED, (0x98, "68 0800 03 03 00")]),
-    ("common far data", False, True, [LISTED, (0x98, "78 0800 04 03 00")],
-     [LISTED, (0x98, "78 0800 04 03 00")]),
-    ("behind the end", False, False, [LISTED, (0x8A, "00"), DEBUG_SEGMENT],
+    ("behind the end", False, [LISTED, (0x8A, "00"), DEBUG_SEGMENT],
      [LISTED, (0x8A, "00"), DEBUG_SEGMENT]),
-    ("another header and names", False, False, [(0x82, "0141"), (0xCA, "0141")],
+    ("another header and names", False, [(0x82, "0141"), (0xCA, "0141")],
      [(0x80, "0141"), (0x96, "0141")]),
-    ("near and far variables", False, False, [
+    ("near and far variables", False, [
         (0xB0, "0141 00 62 05  0142 8001 61 81FFFF 80  0143 01 62 84010000"
                " 0144 00 61 00 8801000000")],
      [(0x8C, "0141 00  0142 8001  0143 01  0144 00")]),
-    ("local ones", False, False, [(0xB8, "0141 00 62 05")], [(0xB4, "0141 00")]),
-    ("a variable of another type", False, False, [LISTED, (0xB0, "0141 00 05 05")], (48, 1)),
-    ("a length of no form", False, False, [(0xB0, "0141 00 62 82")], (51, 0)),
-    ("a variable that is cut", False, False, [(0xB0, "0141 00 61 01")], (51, 0)),
-    ("externals by indexes", False, False, [LISTED, (0xBC, "02 00 8001 8005")],
+    ("local ones", False, [(0xB8, "0141 00 62 05")], [(0xB4, "0141 00")]),
+    ("a variable of another type", False, [LISTED, (0xB0, "0141 00 05 05")], (48, 1)),
+    ("a length of no form", False, [(0xB0, "0141 00 62 82")], (51, 0)),
+    ("a variable that is cut", False, [(0xB0, "0141 00 61 01")], (51, 0)),
+    ("externals by indexes", False, [LISTED, (0xBC, "02 00 8001 8005")],
      [LISTED, (0x8C, "054457415246 00  04434F4445 8005")]),
-    ("an index of no name", False, False, [LISTED, (0xBC, "05 00")], (51, 1)),
-    ("the index 0", False, False, [LISTED, (0xBC, "00 00")], (51, 1)),
-    ("a segment of 32 bits", False, False, [LISTED, (0x99, "69 34120000 04 01 00")],
+    ("an index of no name", False, [LISTED, (0xBC, "05 00")], (51, 1)),
+    ("the index 0", False, [LISTED, (0xBC, "00 00")], (51, 1)),
+    ("a segment of 32 bits", False, [LISTED, (0x99, "69 34120000 04 01 00")],
      [LISTED, (0x98, "68 3412 04 01 00")]),
-    ("the bit of 32 bits alone", False, False, [LISTED, (0x98, "69 3412 04 01 00")],
+    ("the bit of 32 bits alone", False, [LISTED, (0x98, "69 3412 04 01 00")],
      [LISTED, (0x98, "68 3412 04 01 00")]),
-    ("a length of 65,536", False, False, [LISTED, (0x99, "69 00000100 04 01 00")],
+    ("a length of 65,536", False, [LISTED, (0x99, "69 00000100 04 01 00")],
      [LISTED, (0x98, "6A 0000 04 01 00")]),
-    ("a longer one", False, False, [LISTED, (0x99, "69 01000100 04 01 00")], (49, 1)),
-    ("a definition that is cut", False, False, [LISTED, (0x99, "69 010001")], (51, 1)),
-    ("local externals of the odd type", False, False, [(0xB5, "0161 00")], [(0xB4, "0161 00")]),
-    ("a group FLAT", False, False, [(0x96, "04464C4154"), (0x9A, "01")],
+    ("a longer one", False, [LISTED, (0x99, "69 01000100 04 01 00")], (49, 1)),
+    ("a definition that is cut", False, [LISTED, (0x99, "69 010001")], (51, 1)),
+    ("local externals of the odd type", False, [(0xB5, "0161 00")], [(0xB4, "0161 00")]),
+    ("a group FLAT", False, [(0x96, "04464C4154"), (0x9A, "01")],
      [(0x96, "04464C4154"), (0x9A, "01")]),
-    ("a fix-up by it", False, False, [
+    ("a fix-up by it", False, [
         (0x96, "04464C4154"), (0x9A, "01"), (0xA0, "01 0000 0000"), (0x9C, "C400 14 01 01")],
      (65, 3)),
-    ("a target thread of it", False, False, [
+    ("a target thread of it", False, [
         (0x96, "04464C4154"), (0x9A, "01"), (0xA0, "01 0000 0000"), (0x9C, "04 01")], (65, 3)),
-    ("a start by it", False, False, [(0x96, "04464C4154"), (0x9A, "01"), (0x8A, "C0 14 01 01 0000")],
+    ("a start by it", False, [(0x96, "04464C4154"), (0x9A, "01"), (0x8A, "C0 14 01 01 0000")],
      (65, 2)),
-    ("an alias that is cut", False, False, [(0xC6, "0161 02")], (51, 0)),
-    ("a comment of Easy OMF", False, False, [LISTED, (0x88, "80AA 38")], (63, 1)),
-    ("one that imports a name", False, False, [(0x88, "00A0 01 00 0161 0162 00")], (64, 0)),
-    ("one that exports a name", False, False, [(0x88, "00A0 02 00 0161 00")],
+    ("an alias that is cut", False, [(0xC6, "0161 02")], (51, 0)),
+    ("a comment of Easy OMF", False, [LISTED, (0x88, "80AA 38")], (63, 1)),
+    ("one that imports a name", False, [(0x88, "00A0 01 00 0161 0162 00")], (64, 0)),
+    ("one that exports a name", False, [(0x88, "00A0 02 00 0161 00")],
      [(0x88, "00A0 02 00 0161 00")]),
-    ("the longest segment of 32 bits", False, False, [LISTED, (0x99, "6B 00000000 04 01 00")],
+    ("the longest segment of 32 bits", False, [LISTED, (0x99, "6B 00000000 04 01 00")],
      (49, 1)),
-    ("publics of 32 bits", False, False, [(0x91, "00 01 0141 34120000 00")],
+    ("publics of 32 bits", False, [(0x91, "00 01 0141 34120000 00")],
      [(0x90, "00 01 0141 3412 00")]),
-    ("local ones of a frame", False, False, [(0xB7, "00 00 00B8 0141 34120000 8001")],
+    ("local ones of a frame", False, [(0xB7, "00 00 00B8 0141 34120000 8001")],
      [(0xB6, "00 00 00B8 0141 3412 8001")]),
-    ("an offset of more than 16 bits", False, False, [(0x91, "00 01 0141 00000100 00")], (49, 0)),
-    ("line numbers", False, False, [(0x95, "00 01 0A00 34120000")], [(0x94, "00 01 0A00 3412")]),
-    ("an end", False, False, [(0x8B, "00")], [(0x8A, "00")]),
-    ("a start", False, False, [(0x8B, "C1 00 01 01 34120000")], [(0x8A, "C1 00 01 01 3412")]),
-    ("a start without a displacement", False, False, [(0x8B, "C1 04 01 01")],
+    ("an offset of more than 16 bits", False, [(0x91, "00 01 0141 00000100 00")], (49, 0)),
+    ("line numbers", False, [(0x95, "00 01 0A00 34120000")], [(0x94, "00 01 0A00 3412")]),
+    ("an end", False, [(0x8B, "00")], [(0x8A, "00")]),
+    ("a start", False, [(0x8B, "C1 00 01 01 34120000")], [(0x8A, "C1 00 01 01 3412")]),
+    ("a start without a displacement", False, [(0x8B, "C1 04 01 01")],
      [(0x8A, "C1 04 01 01")]),
-    ("data", False, False, [(0xA1, "01 34120000 AABB")], [(0xA0, "01 3412 AABB")]),
-    ("an offset of 32 bits", False, False, [(0xA1, "01 00000000 00000000"), (0x9D, "E400 54 02")],
+    ("data", False, [(0xA1, "01 34120000 AABB")], [(0xA0, "01 3412 AABB")]),
+    ("an offset of 32 bits", False, [(0xA1, "01 00000000 00000000"), (0x9D, "E400 54 02")],
      [(0xA0, "01 0000 00000000"), (0x9C, "C400 54 02")]),
-    ("by a displacement", False, False, [
+    ("by a displacement", False, [
         (0xA1, "01 00000000 FFFF0000"), (0x9D, "F400 50 02 34120000")],
      [(0xA0, "01 0000 FFFF0000"), (0x9C, "C400 50 02 3412")]),
-    ("one whose upper word isn't 0", False, False, [
+    ("one whose upper word isn't 0", False, [
         (0xA1, "01 00000000 00000100"), (0x9D, "E400 54 02")], (49, 1)),
-    ("one that isn't whole in the data", False, False, [
+    ("one that isn't whole in the data", False, [
         (0xA1, "01 00000000 000000"), (0x9D, "E400 54 02")], (50, 1)),
-    ("one that is self-relative", False, False, [
+    ("one that is self-relative", False, [
         (0xA1, "01 00000000 00000000"), (0x9D, "A400 54 02")], (50, 1)),
-    ("an offset of 32 bits among fix-ups of 16", False, False, [
+    ("an offset of 32 bits among fix-ups of 16", False, [
         (0xA0, "01 0000 FFFF0000 0000"), (0x9C, "40 01  C404 54 02  F400 50 02 3412")],
      [(0xA0, "01 0000 FFFF0000 0000"), (0x9C, "40 01  C404 54 02  C400 50 02 3412")]),
-    ("one whose upper word isn't 0 there", False, False, [
+    ("one whose upper word isn't 0 there", False, [
         (0xA0, "01 0000 00000100"), (0x9C, "E400 54 02")], (49, 1)),
-    ("one that is self-relative there", False, False, [
+    ("one that is self-relative there", False, [
         (0xA0, "01 0000 00000000"), (0x9C, "A400 54 02")], (50, 1)),
-    ("one behind what is no fix-up", False, False, [
+    ("one behind what is no fix-up", False, [
         (0xA0, "01 0000 00000000"), (0x9C, "C400 34 02  E400 54 02")],
      [(0xA0, "01 0000 00000000"), (0x9C, "C400 34 02  E400 54 02")]),
-    ("repeated data", False, False, [
+    ("repeated data", False, [
         (0xA3, "01 00000000  02000000 0100  03000000 0000 04 AA000000"),
         (0x9D, "C40D 54 02  E40D 54 02  8411 54 02")],
      (50, 1)),
-    ("places in repeated data", False, False, [
+    ("places in repeated data", False, [
         (0xA3, "01 00000000  02000000 0100  03000000 0000 04 AA000000"),
         (0x9C, "C40D 54 02  E40D 54 02  840F 54 02")],
      [(0xA2, "01 0000  0200 0100  0300 0000 04 AA000000"),
       (0x9C, "C409 54 02  C409 54 02  840B 54 02")]),
-    ("a repeat count of more than 16 bits", False, False, [
+    ("a repeat count of more than 16 bits", False, [
         (0xA3, "01 00000000  00000100 0000 01 AA")], (49, 0)),
 ]
 # The COMDEF of the modules a, b and so on, the names that they offer, whether case is ignored, and
@@ -805,9 +825,14 @@ DEFAULTS = [
         (0x96, "0161"), (0xB0, "0163 00 62 02"), (0xB4, "0164 00"), (0xB8, "0165 00 61 02 810001"),
         (0xBC, "01 00"), (0x8C, "0162 00"), (0x88, "00A8 04 05 05 01")],
      [(47, 4, b"a", b"b"), (47, 5, b"b", b"c")], "", ""),
-    ("indexes of no name to share", [
+    ("indexes of none, and one that is local", [
         (0x8C, "0161 00 0162 00"), (0xB4, "0163 00"),
-        (0x88, "00A8 01 04 00 01 01 00 01 03 03 01 01")], [], "a b", "a b"),
+        (0x88, "00A8 01 04 00 01 01 00 03 01 01")], [], "a b", "a b"),
+    ("a default that is local",
+     [(0x8C, "0161 00 0162 00"), (0xB4, "0163 00"), (0x88, "00A8 01 03")],
+     [(17, 1, b"a", 3)], "b", "b"),
+    ("a lazy one's", [(0x8C, "0161 00"), (0xB8, "0162 00 62 02"), (0x88, "00A9 01 02")],
+     [(16, 1, b"a", 2)], "a", ""),
     ("an index that is cut", [(0x8C, "0161 00 0162 00"), (0x88, "00A8 01 02 02 80")],
      [(10, 1, b"a", b"b")], "b", "b"),
     ("no text", [(0x8C, "0161 00"), (0x88, "00A8"), (0x88, "00")], [], "a", "a"),
@@ -866,6 +891,93 @@ UNDEFINED = [
      [[(0x8C, "0161 00 0162 00 0163 00"), (0x88, "00A9 01 03"), (0x88, "00A8 01 02")]], "", False,
      "b"),
 ]
+# title, the externals and comments of the first of some modules, others, the names of communal
+# variables, whether case is ignored, and of externals of the first by their indexes the local ones
+# that they mean as it is linked
+LOCAL_DEFAULTS = [
+    ("nothing else", [(0x8C, "0161 00"), (0xB4, "0162 00"), (0x88, "00A8 01 02")], [], "", False,
+     {1: 2}),
+    ("a lazy one", [(0x8C, "0161 00"), (0xB5, "0162 00"), (0x88, "00A9 01 02")], [], "", False,
+     {1: 2}),
+    ("a variable", [(0x8C, "0161 00"), (0xB8, "0162 00 62 02"), (0x88, "00A8 01 02")], [], "",
+     False, {1: 2}),
+    ("before its externals", [(0x88, "00A8 03 8001"), (0xB4, "0162 00"), (0x8C, "0163 00 0161 00")],
+     [], "", False, {3: 1}),
+    ("one by the index of its name",
+     [(0x96, "0161"), (0xBC, "01 00"), (0xB4, "0162 00"), (0x88, "00A8 01 02")], [], "", False,
+     {1: 2}),
+    ("two that have it", [(0x8C, "0161 00 0163 00"), (0xB4, "0162 00"), (0x88, "00A8 02 03 01 03")],
+     [], "", False, {1: 3, 2: 3}),
+    ("an external", [(0x8C, "0161 00"), (0xB4, "0162 00"), (0x88, "00A8 01 02")],
+     [[(0x8C, "0161 00")]], "", False, {}),
+    ("another one of the module",
+     [(0x8C, "0161 00 0161 00"), (0xB4, "0162 00"), (0x88, "00A8 01 03")], [], "", False, {}),
+    ("which is weak too",
+     [(0x8C, "0161 00 0161 00"), (0xB4, "0162 00"), (0x88, "00A8 01 03"), (0x88, "00A9 02 03")],
+     [], "", False, {1: 3, 2: 3}),
+    ("a public", [(0x8C, "0161 00"), (0xB4, "0162 00"), (0x88, "00A8 01 02")],
+     [[(0x90, "00 01 0161 0000 00")]], "", False, {}),
+    ("a public in another case", [(0x8C, "0161 00"), (0xB4, "0162 00"), (0x88, "00A8 01 02")],
+     [[(0x90, "00 01 0141 0000 00")]], "", False, {1: 2}),
+    ("one that agrees", [(0x8C, "0161 00"), (0xB4, "0162 00"), (0x88, "00A8 01 02")],
+     [[(0x90, "00 01 0141 0000 00")]], "", True, {}),
+    ("a public of the default", [(0x8C, "0161 00"), (0xB4, "0162 00"), (0x88, "00A8 01 02")],
+     [[(0x90, "00 01 0162 0000 00")]], "", False, {1: 2}),
+    ("a communal variable", [(0x8C, "0161 00"), (0xB4, "0162 00"), (0x88, "00A8 01 02")], [], "a",
+     False, {}),
+    ("an alias of the name", [(0x8C, "0161 00"), (0xB4, "0162 00"), (0x88, "00A8 01 02")],
+     [[(0xC6, "0161 0163"), (0x90, "00 01 0163 0000 00")]], "", False, {}),
+    ("an alias of another name to it",
+     [(0x8C, "0163 00 0161 00"), (0xB4, "0162 00"), (0x88, "00A8 02 03")],
+     [[(0xC6, "0163 0161")]], "", False, {2: 3}),
+    ("of two local ones the first",
+     [(0x8C, "0161 00"), (0xB4, "0162 00 0163 00"), (0x88, "00A8 01 03 01 02")], [], "", False,
+     {1: 3}),
+    ("in two comments",
+     [(0x8C, "0161 00"), (0xB4, "0162 00 0163 00"), (0x88, "00A9 01 02"), (0x88, "00A9 01 03")],
+     [], "", False, {1: 2}),
+    ("a weak one's before a lazy one's",
+     [(0x8C, "0161 00"), (0xB4, "0162 00 0163 00"), (0x88, "00A9 01 02"), (0x88, "00A8 01 03")],
+     [], "", False, {1: 3}),
+    ("one of none before it",
+     [(0x8C, "0161 00"), (0xB4, "0162 00"), (0x88, "00A8 01 03 01 02")], [], "", False, {1: 2}),
+    # a name that is to be shared is an alias before the local one is looked for
+    ("one that is shared before it",
+     [(0x8C, "0161 00 0162 00"), (0xB4, "0163 00"), (0x88, "00A8 01 02 01 03")], [], "", False, {}),
+    ("one that is shared behind it",
+     [(0x8C, "0161 00 0162 00"), (0xB4, "0163 00"), (0x88, "00A8 01 03 01 02")], [], "", False, {}),
+    ("which nothing defines",
+     [(0x8C, "0161 00 0162 00"), (0xB4, "0163 00"), (0x88, "00A8 01 03 01 02 02 03")], [], "",
+     False, {1: 3, 2: 3}),
+    # and is looked for by the index alone
+    ("one that is shared and has a local one",
+     [(0x8C, "0161 00 0162 00"), (0xB4, "0163 00"), (0x88, "00A8 01 02 02 03")], [], "", False,
+     {2: 3}),
+    ("its own one behind that",
+     [(0x8C, "0161 00 0162 00"), (0xB4, "0163 00"), (0x88, "00A8 01 02 02 03 01 03")], [], "",
+     False, {2: 3}),
+]
+# two segments and groups, the externals a and b, and the local ones c and d; title, records behind
+# these, and the frame and the target of each fix-up and of the start where 2 means 3, and 3 means 4
+REDIRECTED_HOME = [
+    (0x96, "0147 00"), (0x98, "28 0400 02 02 02"), (0x98, "28 0400 02 02 02"), (0x9A, "01 FF01"),
+    (0x9A, "01"), (0x8C, "0161 00 0162 00"), (0xB4, "0163 00 0164 00"), (0xA0, "01 0000 00000000")]
+REDIRECTED = [
+    ("targets", [(0x9C, "C400 56 02 C401 52 02 0700 8402 56 02")], "F5 T2 3, F5 T2 3, F5 T2 3"),
+    ("frames", [(0x9C, "C400 26 02 01 C401 24 02 01 C402 25 02 02")],
+     "F2 3 T2 1, F2 3 T0 1, F2 3 T1 2"),
+    ("both", [(0x9C, "CC00 26 02 02")], "F2 3 T2 3"),
+    ("once", [(0x9C, "C400 56 03 C400 26 03 02")], "F5 T2 4, F2 4 T2 3"),
+    ("threads", [
+        (0x9C, "49 02 0A 02 C400 9E"), (0xA0, "01 0000 00000000"),
+        (0x9C, "C400 96 01 C400 5E")], "F2 3 T2 3, F2 3 T2 1, F5 T2 3"),
+    ("all data", [(0x9C, "C400 56 02"), (0xA2, "02 0000 0200 0000 02 0000"), (0x9C, "C405 56 02")],
+     "F5 T2 3, F5 T2 3"),
+    ("a start", [(0x8A, "C1 22 02 02 0506")], "F2 3 T2 3"),
+    ("a start by its target", [(0x8A, "C1 56 02")], "F5 T2 3"),
+    ("others", [(0x9C, "C400 54 02 C400 04 02 02 C400 15 02 01 C401 46 01 C402 56 04")],
+     "F5 T0 2, F0 2 T0 2, F1 2 T1 1, F4 T2 1, F5 T2 4"),
+]
 # bodies of records of modules, and the fault
 ENDLESS_DEFAULTS = [
     ("its own default", [[(0x8C, "0161 00"), (0x88, "00A8 01 01")]],
@@ -920,10 +1032,61 @@ LOCALS = [
      "link: 59 TooManySegments \"x\" in a"),
 ]
 
-# the lengths of segments of far data, and whether they share a frame
-FITTING = [([65_536], True), ([65_521], True), ([65_520, 16], True), ([65_520, 17], False)]
-# alignment and length of a segment, and the room that it takes
-ROOMS = [(16, 17, 32), (1, 16, 32), (4, 0, 16), (256, 16, 256)]
+# modules of far data, each the bodies of its SEGDEFs, and whether all of it fits in one frame
+FITTING = [
+    (["62 0000 04 03 00"], True), (["60 F1FF 04 03 00"], True),
+    (["60 F0FF 04 03 00", "60 1000 04 03 00"], True),
+    (["60 F0FF 04 03 00", "60 1100 04 03 00"], False),
+    # public ones are parts of one segment, and common ones lie over each other
+    (["68 0080 04 03 00", "68 0080 04 03 00"], True), (["78 00C0 04 03 00"] * 3, True),
+    (["78 00C0 04 03 00", "60 0140 04 03 00"], False), (["74 00C0 04 03 00"] * 2, False),
+    # a gap before a page counts, and so does what stands in the first paragraph before the first one
+    (["60 0100 04 03 00", "80 00FF 04 03 00"], True),
+    (["60 0100 04 03 00", "80 01FF 04 03 00"], False),
+    (["20 0700 01 01 00", "20 F9FF 04 03 00"], True),
+    (["20 0700 01 01 00", "20 FAFF 04 03 00"], False),
+    # of other classes nothing counts, and of absolute segments nothing does
+    (["62 0000 04 03 00", "62 0000 01 01 00"], True),
+    (["62 0000 04 03 00", "00 00B8 00 1000 04 03 00"], True)]
+
+# segments: of far data, private, public, a stack and common, of another class, and absolute
+PRIVATE_FAR, PUBLIC_FAR, STACK_FAR, COMMON_FAR = (
+    (0x98, f"{first} 0800 02 01 00") for first in ("60", "68", "74", "78"))
+OTHER_SEGMENT, ABSOLUTE_FAR = (0x98, "68 0800 02 02 00"), (0x98, "00 00B8 00 0800 02 01 00")
+BYTES_OF_1, BYTES_OF_2 = (0xA0, "01 0000 00000000"), (0xA0, "02 0000 00000000")
+
+# title, records behind the names, and what the module has then: its groups with their members, the
+# group and the segment of each public, and the frame and the target of each fix-up and of the start
+GROUPED = [
+    ("each kind", [PRIVATE_FAR, PUBLIC_FAR, STACK_FAR, COMMON_FAR], "AUTO 1 2 3 4"),
+    ("neither another class nor an absolute one", [OTHER_SEGMENT, ABSOLUTE_FAR, PUBLIC_FAR],
+     "AUTO 3"),
+    ("nothing", [OTHER_SEGMENT, BYTES_OF_1, (0x9C, "C400 04 01 01")], "F0 1 T0 1"),
+    ("what is in a group", [PUBLIC_FAR, PUBLIC_FAR, PUBLIC_FAR, (0x9A, "04"), (0x9A, "02 FF01 FF03")],
+     "G, TBL 1 3, AUTO 2"),
+    ("the frame of a segment", [
+        PUBLIC_FAR, OTHER_SEGMENT, BYTES_OF_2, (0x9C, "C400 04 01 02  C400 04 02 01")],
+     "AUTO 1, F1 1 T0 2, F0 2 T0 1"),
+    ("that of the target", [
+        PUBLIC_FAR, OTHER_SEGMENT, BYTES_OF_2, (0x9C, "C400 54 01  C400 54 02  8400 54 01")],
+     "AUTO 1, F1 1 T0 1, F5 T0 2, F1 1 T0 1"),
+    ("that of the location", [
+        PUBLIC_FAR, OTHER_SEGMENT, BYTES_OF_1, (0x9C, "C400 44 02"), BYTES_OF_2,
+        (0x9C, "C400 44 01")], "AUTO 1, F1 1 T0 2, F4 T0 1"),
+    ("by a thread", [PUBLIC_FAR, BYTES_OF_1, (0x9C, "40 01  C400 84 01")], "AUTO 1, F1 1 T0 1"),
+    ("an external and groups", [
+        PUBLIC_FAR, OTHER_SEGMENT, (0x9A, "04 FF02"), (0x8C, "0178 00"), BYTES_OF_2,
+        (0x9C, "C400 56 01  C400 26 01 01  C400 14 01 01  C400 55 01")],
+     "G 2, AUTO 1, F5 T2 1, F2 1 T2 1, F1 1 T0 1, F5 T1 1"),
+    ("publics", [
+        PUBLIC_FAR, OTHER_SEGMENT, (0x9A, "04 FF02"), (0x90, "00 01 0161 0000 00"),
+        (0x90, "00 02 0162 0000 00"), (0x90, "01 01 0163 0000 00"),
+        (0x90, "00 00 0010 0164 0000 00"), (0xB6, "00 01 0165 0000 00")],
+     "G 2, AUTO 1, a 2 1, b 0 2, c 1 1, d 0 0, e 2 1"),
+    ("a start", [PUBLIC_FAR, (0x8A, "C1 50 01 0000")], "AUTO 1, F1 1 T0 1"),
+    ("a start elsewhere", [PUBLIC_FAR, OTHER_SEGMENT, (0x8A, "C1 00 02 01 0000")],
+     "AUTO 1, F0 2 T0 1"),
+]
 
 
 def members_of(content):
@@ -1019,28 +1182,65 @@ def check_directives():
         assert found == wanted, title
 
 
-def lowered(made, keeps_debug, shares_far_data, means=lowering.itself):
+def lowered(made, keeps_debug, means=lowering.itself):
     """The bytes of records that are lowered, or the fault and how many records stand before it."""
     try:
-        return lowering.lowered(framed(made), keeps_debug, shares_far_data, means=means)
+        return lowering.lowered(framed(made), keeps_debug, means=means)
     except Fault as fault:
         places = [len(framed(made[:count])) for count in range(len(made))]
         return fault.number, places.index(fault.place)
 
 
 def check_lowering():
-    for title, keeps_debug, shares_far_data, made, wanted in LOWERED:
+    for title, keeps_debug, made, wanted in LOWERED:
         wanted = wanted if isinstance(wanted, tuple) else framed(wanted)
-        assert lowered(made, keeps_debug, shares_far_data) == wanted, title
-    for lengths, wanted in FITTING:
-        far_data = [module_of_bytes(length) for length in lengths]
-        assert lowering.fits_a_frame(far_data) == wanted, lengths
-    for alignment, length, wanted in ROOMS:
-        far = module.Segment(b"A", b"FAR_DATA", "private", length, alignment, None, None)
-        assert lowering.room_of(far) == wanted, (alignment, length)
-    _, _, _, made, wanted = LOWERED[0]
+        assert lowered(made, keeps_debug) == wanted, title
+    _, _, made, wanted = LOWERED[0]
     place = lowering.own_place(framed(made), framed(wanted), len(framed(wanted[:3])))
     assert place == len(framed(made[:3]))
+
+
+def module_of(made):
+    """The module of records, with a header before them and an end behind them where they have none."""
+    end = [] if made[-1][0] == 0x8A else [END]
+    return module.read(framed([(0x80, "0141"), *made, *end]), None)
+
+
+def told_reference(reference):
+    """The methods of a frame and a target, with their indexes."""
+    sides = [("F", reference.frame), ("T", reference.target)]
+    return " ".join(
+        f"{letter}{side.method:d}" + (f" {side.index}" if side.method.has_index else "")
+        for letter, side in sides)
+
+
+def told_references(found):
+    """Those of the fix-ups of a module, and of its start."""
+    references = [fixup.reference for data in found.data for fixup in data.fixups]
+    references += [] if found.start is None else [found.start.reference]
+    return list(map(told_reference, references))
+
+
+def grouped(made):
+    """What a module of records has with far data in a group."""
+    found = module_of([FAR_NAMES, *made])
+    far_data.put_in_group(found)
+    told = [" ".join([each.name.decode(), *map(str, each.segments)]) for each in found.groups]
+    told += [f"{each.name.decode()} {each.group} {each.segment}" for each in found.publics]
+    return ", ".join(told + told_references(found))
+
+
+def check_far_data():
+    for bodies, wanted in FITTING:
+        modules = [module_of([LISTED, (0x98, body)]) for body in bodies]
+        assert far_data.fits(modules) == wanted, bodies
+    # the last index of a group; with none left the module stays as it is
+    for taken, frame in [(32_766, Direct(Method.GROUP, 32_767)), (32_767, Direct(Method.TARGET))]:
+        found = module_of([FAR_NAMES, PUBLIC_FAR, *[(0x9A, "04")] * taken, (0x8A, "C1 50 01 0000")])
+        far_data.put_in_group(found)
+        assert (len(found.groups), found.start.reference.frame) == (32_767, frame), taken
+    for title, made, wanted in GROUPED:
+        assert grouped(made) == wanted, title
 
 
 def communal_answer(bodies, offered, ignores_case):
@@ -1092,29 +1292,51 @@ def check_aliases():
     for title, pairs, made, wanted in RENAMED:
         found = alias_list(pairs)
         means = functools.partial(aliases.meaning, found, key=search.agreed(False))
-        assert lowered(made, False, False, means) == framed(wanted), title
+        assert lowered(made, False, means) == framed(wanted), title
+
+
+def taken_of(modules):
+    """The modules of a link of these."""
+    return [
+        linking.Module("a", content, weak.names_of(content)) for content in map(framed, modules)]
+
+
+def variables_of(text):
+    """Communal variables of these names."""
+    return [communal.Variable(each.encode(), None, "a") for each in text.split()]
 
 
 def meanings_of(name, modules, variables, ignores_case):
     """What a name means in each module of a link of these."""
-    taken = [
-        linking.Module("a", content, weak.names_of(content)) for content in map(framed, modules)]
-    made = [communal.Variable(each.encode(), None, "a") for each in variables.split()]
-    found = weak.meanings(taken, made, search.agreed(ignores_case))
+    found = weak.meanings(taken_of(modules), variables_of(variables), search.agreed(ignores_case))
     return b" ".join(means(name) for means in found).decode()
+
+
+def local_ones_of(modules, variables, ignores_case):
+    """The local externals that those of the first module mean as it is linked."""
+    taken, made, key = taken_of(modules), variables_of(variables), search.agreed(ignores_case)
+    means = weak.meanings(taken, made, key)[0]
+    linked = lowering.lowered(taken[0].content, False, means=means)
+    return weak.local_ones(linked, weak.defined_names(taken, made, key), key)
 
 
 def check_defaults():
     for title, bodies, wanted, names_wanted, names_needed in DEFAULTS:
         content = framed(bodies)
         found = [
-            (one.place, index, one.name, one.substitute)
+            (one.place, index, one.name, one.substitute or one.index)
             for index, one in weak.defaults(content, [weak.WEAK, weak.LAZY])]
         assert found == wanted, title
         assert b" ".join(weak.names_of(content).wanted).decode() == names_wanted, title
         assert b" ".join(weak.names_of(content).needed).decode() == names_needed, title
     for title, modules, variables, ignores_case, wanted in UNDEFINED:
         assert meanings_of(b"a", modules, variables, ignores_case) == wanted, title
+    for title, own, others, variables, ignores_case, wanted in LOCAL_DEFAULTS:
+        assert local_ones_of([own, *others], variables, ignores_case) == wanted, title
+    for title, made, wanted in REDIRECTED:
+        found = module_of([*REDIRECTED_HOME, *made])
+        found.redirect_externals({2: 3, 3: 4})
+        assert ", ".join(told_references(found)) == wanted, title
     for title, modules, wanted in ENDLESS_DEFAULTS:
         assert endless(modules) == wanted, title
 
@@ -1145,14 +1367,6 @@ def check_locals():
     for title, body, home, wanted in LOCALS:
         wanted = wanted if isinstance(wanted, str) else framed([*home, *wanted, END])
         assert local_answer(body, home) == wanted, title
-
-
-def module_of_bytes(length):
-    """A module of far data of a length, which is big where it is 65,536."""
-    return framed([
-        (0x80, "00"), LISTED,
-        (0x98, f"6{2 * (length >> 16)} {(length & 0xFFFF).to_bytes(2, 'little').hex()} 04 03 00"),
-        (0x8A, "00")])
 
 
 LACKS = [
@@ -1186,6 +1400,7 @@ def check():
     check_search()
     check_order()
     check_lowering()
+    check_far_data()
     check_aliases()
     check_defaults()
     check_communals()

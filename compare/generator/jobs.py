@@ -10,10 +10,11 @@ from generator.libraries import SMALL_PAGES, archive, damaged, library
 from generator.objects import (
     CLASSES, LAZY, MARKS, NAMES, SEGMENTS, TITLES, WEAK, ObjectMaker, any_plan, module_of_alias,
     module_of_code, module_of_cut_public, module_of_default, module_of_external,
-    module_of_far_data, module_of_flat, module_of_lengths, module_of_links, module_of_long_aliases,
-    module_of_long_externals, module_of_many_parts, module_of_marks, module_of_no_alignment,
-    module_of_publics, module_of_shared_word, module_of_stack, module_of_start, module_of_sum,
-    module_of_wide_record, module_of_wide_segment, segments_called)
+    module_of_far_data, module_of_flat, module_of_lengths, module_of_links,
+    module_of_local_defaults, module_of_long_aliases, module_of_long_externals,
+    module_of_many_parts, module_of_marks, module_of_no_alignment, module_of_publics,
+    module_of_shared_word, module_of_stack, module_of_start, module_of_sum, module_of_wide_record,
+    module_of_wide_segment, segments_called)
 from model import ordering
 from model.directives import Input, Job, Stack
 from model.placement import folded
@@ -22,15 +23,20 @@ from model.records import Location
 OUT, MAP, RESPONSE, NO_FOLDER = "out.exe", "out.map", "response", "missing/"
 FOLDER, OTHER_FOLDER, LAST_FOLDER = "parts", "more/", "last"
 MOST_PARTS, MANY_EVERY = 16_383, 500
-# alignments and lengths of far data, which fits in a frame or not once it is in whole paragraphs;
-# public far data stands beside it, and absolute one, which has no alignment
+# alignments, lengths, combinations and names of far data, which fits in a frame or not, and whether it
+# is in a group; an absolute one has no alignment
 FAR_DATA_EVERY, FAR_DATA = 25, [
     [(3, 0xFFF0), (3, 16)], [(3, 0xFFF0), (3, 17)], [(3, 0xFFF1), (3, 5)], [(3, 0xFFE1), (3, 15)],
-    [(3, 0x8000), (3, 0x8000)], [(1, 0xFFE0), (3, 16)], [(1, 0xFFE0), (3, 17)],
-    [(0, 0x10), (3, 0x10)], [(3, 0xFFC0), (2, 16), (5, 16)], [(3, 0xFFC0), (5, 17), (1, 16)],
-    [(4, 0xFE00), (3, 0x110)],
-    [(3, 0x110), (4, 0xFE00)], [(4, 0xFE00), (3, 0x111)], [(3, 0xFFF0), (3, 0x100, 2)],
-    [(3, 0x10), (3, 0x10, 2, b"FAR_DATA")]]
+    [(3, 0x8000), (3, 0x8000)], [(1, 0xFFE1), (1, 0x1F)], [(1, 0xFFE1), (1, 0x20)],
+    [(0, 0x10), (3, 0x10)], [(3, 0xFFC1), (2, 16), (5, 0x2C)], [(3, 0xFFC1), (2, 16), (5, 0x2D)],
+    [(4, 0xFE00), (3, 0x200)], [(4, 0xFE00), (3, 0x201)],
+    [(3, 0x110), (4, 0xFE00)], [(3, 0x110), (4, 0xFE01)],
+    [(3, 0xFFF0, 2), (3, 0x10, 2, b"TBL")], [(3, 0xFFF0), (3, 0x11, 2)],
+    [(3, 0x10, 2), (3, 0x10, 2, b"TBL"), (3, 0x10, 2), (3, 0x10, 2, b"TBL")],
+    [(3, 0xC000, 6), (3, 0x4000, 6, b"TBL"), (3, 0xC000, 6)], [(3, 0xC000, 6), (3, 0x4001), (4, 0x10, 6)],
+    [(3, 0x8000, 5), (3, 0x8000, 5)], [(3, 0x8000, 5), (3, 0x8000, 5), (3, 5)],
+    [(3, 0x10, 2, b"FAR", True), (3, 0x20, 2), (3, 0x10), (3, 0x10, 2)],
+    [(3, 0xFFF0, 0, b"FAR", True), (3, 0x10), (3, 0x10)], [(3, 0x10), (3, 0x10, 2, b"FAR_DATA")]]
 # one seed in so many has a list of segments, and one BSS outside of DGROUP
 RARE_EVERY = 100
 # one job in so many has a line that is wrong, each in its turn, and one tells faults alone
@@ -40,6 +46,15 @@ FULL_CLASSES = [b"BEGDATA", b"DATA", b"BSS", b"STACK"]
 COMMUNALS_EVERY = 15
 # one job in so many has one name with a default in one module, and with another or none in the next
 DEFAULTS_EVERY = 50
+# one has defaults that are local to its module, one such a use of its first external, and one any
+# modules with such; each default is the class of a comment, and the indexes of an external and of its
+# default, which is local from 3 on
+LOCAL_DEFAULTS_EVERY, LOCAL_DEFAULTS = 50, [
+    [(WEAK, 1, 3)], [(LAZY, 1, 3)], [(WEAK, 1, 3), (WEAK, 1, 4)], [(LAZY, 1, 4), (WEAK, 1, 3)],
+    [(WEAK, 1, 2), (WEAK, 1, 3)], [(WEAK, 1, 3), (WEAK, 1, 2)], [(WEAK, 1, 2), (LAZY, 2, 4)],
+    [(WEAK, 1, 2), (WEAK, 1, 3), (WEAK, 2, 4)], [(WEAK, 1, 3), (WEAK, 1, 2), (WEAK, 2, 4)],
+    [(LAZY, 1, 2), (LAZY, 2, 3), (LAZY, 1, 4)]]
+USES = ["offset", "base", "frame", "threads", "other", "start", "sum", "start of 32 bits"]
 # and one an alias that records of one of these types name: EXTDEF, COMDEF, LCOMDEF, CEXTDEF
 RENAMED_EVERY, RENAMED = 50, [0x8C, 0xB0, 0xB8, 0xBC]
 # one has aliases of four names, of which some are used and some members of a library offer
@@ -196,9 +211,9 @@ class JobMaker:
         self.job.inputs.append(Input(name, is_library=True))
 
     def make_far_data(self, segments):
-        """Modules of far data of these alignments and lengths."""
+        """Modules of far data, each with these fields."""
         for number, segment in enumerate(segments):
-            self.files[f"{number}.obj"] = module_of_far_data(*segment)
+            self.files[f"{number}.obj"] = module_of_far_data(number, *segment)
             self.give(f"{number}.obj")
         self.folders, self.job.map = [], MAP
         return self.asked() if self.happens(0.2) else self.by_directives()
@@ -231,9 +246,35 @@ class JobMaker:
         first, other = self.random.choice(kinds[1:]), self.random.choice(kinds)
         again = [name] if self.happens(0.2) else []
         modules = [
-            module_of_default(name, b"a", first, again), module_of_default(name, b"b", other),
-            module_of_publics([b"a", b"b"])]
+            module_of_default(name, b"a", first, again, self.happens(0.5)),
+            module_of_default(name, b"b", other), module_of_publics([b"a", b"b"])]
         return self.asked_of(modules)
+
+    def make_local_defaults(self, defaults=None, use=None):
+        """A module with defaults of which some are local, and a use of the name; beside it others,
+        which define the name or want it, or nothing."""
+        defaults = defaults or self.random.choice(LOCAL_DEFAULTS)
+        use = use or self.random.choice(USES[:5])
+        self.job.ignores_case, self.job.map = self.happens(0.5), MAP
+        name = b"X" if self.job.ignores_case and self.happens(0.7) else b"x"
+        modules = [module_of_local_defaults(name, defaults, use, self.happens(0.3))]
+        if self.happens(0.2):
+            modules.append(module_of_local_defaults(
+                name, self.random.choice(LOCAL_DEFAULTS), self.random.choice(USES[:5]), True))
+        is_needed = 2 not in [index for _, index, _ in defaults]
+        offered = self.random.choice([[], [], [b"x"], [b"X"]])
+        offered += [b"a"] if is_needed or self.happens(0.2) else []
+        modules.append(module_of_publics(offered))
+        if self.happens(0.1):
+            modules.append(self.random.choice([
+                module_of_external(b"x", 0x8C), module_of_external(b"x", 0xB0),
+                module_of_alias(b"x", b"a")]))
+        return self.asked_of(modules)
+
+    def make_with_local_defaults(self):
+        """Any modules, each with such a default among the rest."""
+        self.plan.has_local_defaults = True
+        return self.make()
 
     def make_renamed(self, kind):
         """An alias that a module names by a record of a type, beside publics of both names."""
@@ -907,6 +948,11 @@ MADE = [
     (CUT_EVERY, 195, in_turn(JobMaker.make_cut_public)),
     (COMMUNALS_EVERY, 2, JobMaker.make_communals),
     (DEFAULTS_EVERY, 7, in_turn(JobMaker.make_defaults)),
+    (LOCAL_DEFAULTS_EVERY, 21, in_turn(
+        JobMaker.make_local_defaults, [(defaults, None) for defaults in LOCAL_DEFAULTS])),
+    (LOCAL_DEFAULTS_EVERY, 28, in_turn(
+        JobMaker.make_local_defaults, [(None, use) for use in USES])),
+    (LOCAL_DEFAULTS_EVERY, 23, in_turn(JobMaker.make_with_local_defaults)),
     (RENAMED_EVERY, 13, in_turn(JobMaker.make_renamed, RENAMED)),
     (LOCAL_EVERY, 36, in_turn(JobMaker.make_local, LOCAL)),
     (CHAIN_EVERY, 44, in_turn(JobMaker.make_chain, [False, True])),

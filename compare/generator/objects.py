@@ -10,7 +10,8 @@ from generator.spelling import RandomSpelling, reclosed
 from generator.widening import widened
 from model import records
 from model.ordering import BEGIN_MARKS, END_MARKS
-from model.records import ByThread, Direct, Fixup, Location, Method, PublicName, Reference
+from model.records import (
+    ByThread, Direct, Fixup, Location, Method, PublicName, Reference, ThreadSetting)
 
 GROUP, OTHER_GROUP = b"DGROUP", b"AUTO"
 # name, class, combination, whether DGROUP has it, and how often it is met
@@ -60,6 +61,7 @@ class Plan:
     has_communals: float
     has_aliases: float
     has_defaults: float
+    has_local_defaults: bool = False
     ignores_case: bool = False
     libraries: list = field(default_factory=list)
     # names of communal variables, and those that some module declares
@@ -131,6 +133,8 @@ class ObjectMaker:
             steps.append(self.define_aliases)
         if self.happens(self.plan.has_defaults):
             steps.append(self.define_defaults)
+        if self.plan.has_local_defaults:
+            steps.append(self.define_local_default)
         if self.happens(0.2):
             steps.append(self.add_lines)
         if self.happens(0.05):
@@ -392,6 +396,24 @@ class ObjectMaker:
             text = text[:-1] if self.happens(0.05) else text
             self.add_comment(self.random.choice([WEAK, LAZY]), text)
 
+    def define_local_default(self):
+        """A weak or lazy external whose default is a local public of the module, or a variable.
+
+        Mostly nothing defines its own name.
+        """
+        name = self.random.choice([b"_weak", b"_weak", *self.plan.names])
+        self.add(records.ExternalNames([name], [0]))
+        if self.happens(0.3):
+            self.add_other(communals.LCOMDEF, self.counted(b"_own") + b"\0\x62\2", 0)
+        else:
+            self.add(records.LocalExternalNames([b"_own"], [0]))
+            self.add(records.LocalPublicNames(
+                0, 1, None, [PublicName(b"_own", self.random.randrange(20), 0)]))
+        self.externals += 2
+        indexes = [self.externals - 1, self.externals]
+        self.add_comment(
+            self.random.choice([WEAK, LAZY]), b"".join(map(self.spelling.index, indexes)))
+
     def add_aliases(self):
         aliases = [*self.some_names(), *self.some_names()]
         pairs = [(alias, self.random.choice(self.plan.names)) for alias in aliases]
@@ -493,16 +515,28 @@ def module_of_many_parts(count):
     return b"".join(map(spelling.record, made))
 
 
-def module_of_far_data(alignment, length, combination=0, name=b"FAR"):
-    """A module of far data of an alignment, with its own frame's number unless it is absolute."""
-    itself = Reference(Direct(Method.TARGET), Direct(Method.SEGMENT, 1), None)
+def module_of_far_data(number, alignment, length, combination=0, name=b"FAR", in_group=False):
+    """A module of far data of an alignment, with its own frame's number unless it is absolute.
+
+    That is said by the segment, by the target, by the location or by a public, in turn.
+    """
+    segment, frame = Direct(Method.SEGMENT, 1), Direct(Method.TARGET)
+    itself = [
+        Reference(segment, segment, None), Reference(frame, segment, None),
+        Reference(Direct(Method.LOCATION), segment, None),
+        Reference(frame, Direct(Method.EXTERNAL, 1), None)][number % 4]
+    public = b"far%d" % number
     made = [
-        records.Header(b"FAR"), records.NameList([b"", b"FAR_DATA", name]),
+        records.Header(b"FAR"), records.NameList([b"", b"FAR_DATA", name, b"FARS"]),
         records.SegmentDefinition(
             alignment, combination, length, 3, 2, 1, *([] if alignment else [0xB800, 0]))]
     if alignment:
-        made.append(records.Data(1, 0, bytes(2)))
-        made.append(records.FixupRecord([Fixup(True, Location.BASE, 0, itself)]))
+        made += [records.GroupDefinition(4, [1])] if in_group else []
+        made += [
+            records.ExternalNames([public], [0]),
+            records.PublicNames(0, 1, None, [records.PublicName(public, 1, 0)]),
+            records.Data(1, 2 * number if length > 8 else 0, bytes(2)),
+            records.FixupRecord([Fixup(True, Location.BASE, 0, itself)])]
     made.append(records.ModuleEnd(False, None))
     return b"".join(map(records.Spelling().record, made))
 
@@ -537,22 +571,65 @@ def module_of_stack(name, class_name, length, random):
     return b"".join(map(records.Spelling().record, made))
 
 
-def module_of_default(name, default, kind, others=()):
+def module_of_default(name, default, kind, others=(), is_local=False):
     """A module that calls a name, which by a comment of this class has a default; by None, none.
 
-    It has other externals behind these two.
+    It has other externals behind these two. Where the default is local, the module has a public of
+    its own of that name.
     """
     names = [name, default, *others]
+    externals = [records.ExternalNames(names, [0] * len(names))]
+    if is_local:
+        externals = [
+            records.ExternalNames([name], [0]), records.LocalExternalNames([default], [0]),
+            records.ExternalNames(list(others), [0] * len(others)),
+            records.LocalPublicNames(0, 1, None, [PublicName(default, 2, 0)])]
     target = Reference(Direct(Method.TARGET), Direct(Method.EXTERNAL, 1), None)
     made = [
         records.Header(b"CALLS"), records.NameList([b"", b"CODE"]),
-        records.SegmentDefinition(1, 2, 3, 2, 2, 1),
-        records.ExternalNames(names, [0] * len(names)),
+        records.SegmentDefinition(1, 2, 3, 2, 2, 1), *externals,
         *([] if kind is None else [records.Comment(0, kind, b"\1\2")]),
         records.Data(1, 0, b"\xE8\0\0"),
         records.FixupRecord([Fixup(False, Location.OFFSET, 1, target)]),
         records.ModuleEnd(False, None)]
     return b"".join(map(records.Spelling().record, made))
+
+
+def module_of_local_defaults(name, defaults, use, are_variables):
+    """A module whose externals are a name, `a`, and two local ones: publics of its, or variables.
+
+    Each default is the class of a comment, and the indexes of an external and of its default. The
+    name is used as `use` says; at the offset 1 a sum or a start of 32 bits is 65,536.
+    """
+    spelling, external = records.Spelling(), Direct(Method.EXTERNAL, 1)
+    itself, second = Reference(Direct(Method.TARGET), external, None), Direct(Method.SEGMENT, 2)
+    fixups = {
+        "offset": [Fixup(True, Location.OFFSET, 0, itself)],
+        "base": [Fixup(True, Location.BASE, 0, itself)],
+        "frame": [Fixup(True, Location.OFFSET, 0, Reference(external, second, None))],
+        "threads": [
+            ThreadSetting(True, 1, external), ThreadSetting(False, 2, external),
+            Fixup(True, Location.POINTER, 0, Reference(ByThread(1), ByThread(2), None))],
+        "other": [Fixup(True, Location.POINTER, 0, Reference(
+            Direct(Method.TARGET), Direct(Method.EXTERNAL, 2), None))]}
+    made = [
+        records.Header(b"LOCAL"), records.NameList([b"", b"CODE", b"DATA"]),
+        records.SegmentDefinition(1, 2, 8, 2, 2, 1), records.SegmentDefinition(3, 0, 4, 3, 3, 1),
+        records.ExternalNames([name, b"a"], [0, 0])]
+    local = [spelling.framed(0xB8, b"\1l\0\x62\2\1m\0\x61\2\1")] if are_variables else [
+        spelling.record(records.LocalExternalNames([b"l", b"m"], [0, 0])),
+        spelling.record(records.LocalPublicNames(
+            0, 2, None, [PublicName(b"l", 1, 0), PublicName(b"m", 2, 0)]))]
+    stored = b"\xFF\xFF\0\0" if use == "sum" else bytes(4)
+    behind = [
+        *(records.Comment(0, kind, bytes([index, default])) for kind, index, default in defaults),
+        records.Data(1, 0, stored), records.FixupRecord(fixups.get(use, []))]
+    ends = {
+        "start": (0x8A, b"\xC1\x56\1"), "start of 32 bits": (0x8B, b"\xC1\x52\1\xFF\xFF\0\0")}
+    return b"".join([
+        *map(spelling.record, made), *local, *map(spelling.record, behind),
+        spelling.framed(0x9C, b"\xE4\0\x56\1") if use == "sum" else b"",
+        spelling.framed(*ends.get(use, (0x8A, b"\0")))])
 
 
 def module_of_external(name, kind):

@@ -21,7 +21,8 @@ The model spends no thought on speed.
 | `search` | which members a link takes, and which names it misses |
 | `ordering` | the module that fixes an order of segments and defines marks |
 | `communal` | communal variables, and the module that has them: faults 53 to 59 |
-| `lowering` | modules of records that a link takes, and with far data together: faults 48 to 52 |
+| `lowering` | modules of records that a link takes: faults 48 to 52 |
+| `far_data` | far data in one group, where it fits in a frame |
 | `directives` | what words and directives ask for |
 | `linking` | what `doslink` answers and writes |
 

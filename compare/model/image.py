@@ -2,7 +2,7 @@
 
 from dataclasses import dataclass, field
 
-from model import module, placement
+from model import far_data, module, placement
 from model.faults import Fault, refuse_smallest
 from model.placement import Address, Frame
 from model.program_file import Registers
@@ -278,23 +278,43 @@ def start_overflows(references, owner, start):
     return offset > HIGHEST_IN_FRAME
 
 
-def read(contents, upper_words):
-    """The modules of some inputs, with what is known of fix-ups that had 32 bits."""
+@dataclass
+class Known:
+    """What is known of modules that their bytes don't tell.
+
+    `upper_words` has for each module and each of its fix-ups that had 32 bits the upper word of the
+    number there, and `meanings` has of each the externals that mean others of it.
+    """
+
+    upper_words: list = ()
+    meanings: list = ()
+    packs_far_data: bool = False
+
+
+def read(contents, known):
+    """The modules of some inputs, with what is known of them.
+
+    Their far data is put in a group where that is asked for, and where it fits in a frame.
+    """
     modules = [module.read(content, owner) for owner, content in enumerate(contents)]
-    for each, words in zip(modules, upper_words):
+    for each, words in zip(modules, known.upper_words):
         fixups = [fixup for data in each.data for fixup in data.fixups]
         for fixup, word in zip(fixups, words):
             fixup.upper_word = word
+    for each, meanings in zip(modules, known.meanings):
+        each.redirect_externals(meanings)
+    if known.packs_far_data and far_data.fits(modules):
+        for each in modules:
+            far_data.put_in_group(each)
     return modules
 
 
-def check_sums(contents, upper_words, start_was_wide, ignores_case):
+def check_sums(contents, known, start_was_wide, ignores_case):
     """Fault 61 is an offset or a start that had 32 bits in its module and needs more than 16.
 
-    `upper_words` has for each module and each of its fix-ups that had 32 bits the upper word of the
-    number there. Of two starts neither is looked at.
+    Of two starts neither is looked at.
     """
-    modules = read(contents, upper_words)
+    modules = read(contents, known)
     references = References(modules, placement.place(modules, ignores_case))
     for owner, each in enumerate(modules):
         for data, fixup in [(data, fixup) for data in each.data for fixup in data.fixups]:
@@ -367,12 +387,12 @@ class Program:
         return bytes(image)
 
 
-def link(contents, ignores_case, upper_words=()):
+def link(contents, ignores_case, known=Known()):
     """The program of some inputs, or the first fault.
 
     All are read, then placed; then come the data, the start, and the number of relocations.
     """
-    modules = read(contents, upper_words)
+    modules = read(contents, known)
     layout = placement.place(modules, ignores_case)
     laying = Laying(modules, layout)
     laying.lay_all()

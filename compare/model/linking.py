@@ -15,7 +15,7 @@ from model import (
 from model.commands import Answer, Output
 from model.faults import Fault, escaped, printed_name
 from model.names import Names, wanting_places
-from model.weak import meanings, names_of, plain_meanings
+from model.weak import defined_names, local_ones, meanings, names_of, plain_meanings
 
 PROGRAM = "doslink"
 # the words for modules that are made
@@ -292,7 +292,7 @@ class Linking:
         for each, own in zip(self.taken, means):
             self.contents, self.handed = [each.content], [each]
             try:
-                content = lowering.lowered(each.content, self.job.keeps_debug, False, 0, own)
+                content = lowering.lowered(each.content, self.job.keeps_debug, 0, own)
                 self.contents = [content]
                 module.read(content, 0)
             except Fault as fault:
@@ -305,7 +305,7 @@ class Linking:
         means = meanings(taken, variables, self.key)
         lowered = lowering.lowered_modules(
             [each.content for each in taken], [each.word for each in taken],
-            self.job.keeps_debug, self.job.packs_far_data, means)
+            self.job.keeps_debug, means)
         lowered = local.with_locals(taken, lowered, self.key)
         behind = made_module(COMMUNAL, communal.communal_module(variables, lowered))
         self.check_bytes(lowered + [each.content for each in behind])
@@ -321,9 +321,13 @@ class Linking:
         upper_words = [lowering.upper_words(each.content, self.job.keeps_debug) for each in taken]
         upper_words = [[] for _ in before] + upper_words + [[] for _ in behind]
         wide_start = any(lowering.has_wide_start(each.content) for each in taken)
+        defined = defined_names(taken, variables, self.key)
+        known = image.Known(
+            upper_words, [local_ones(each, defined, self.key) for each in self.contents],
+            self.job.packs_far_data)
         try:
-            image.check_sums(self.contents, upper_words, wide_start, self.job.ignores_case)
-            return image.link(self.contents, self.job.ignores_case, upper_words)
+            image.check_sums(self.contents, known, wide_start, self.job.ignores_case)
+            return image.link(self.contents, self.job.ignores_case, known)
         except Fault as fault:
             raise self.with_words(fault) from None
 

@@ -1,4 +1,4 @@
-"""Modules as they are handed to the link: of records that it takes, and with far data together.
+"""Modules as they are handed to the link: of records that it takes.
 
 A lowered module has a record for each record. Debugging segments have nothing in it, communal
 variables are externals, names by indexes are names, and numbers of 32 bits have 16. What is no
@@ -8,7 +8,6 @@ record, and what stands behind the record that ends the module, stays as it is.
 from dataclasses import dataclass
 from itertools import repeat
 
-from model import module
 from model.communal import COMMUNAL_VARIABLES, OtherType, extent
 from model.faults import Fault
 from model.libraries import COMMENT, FRONT_OF_RECORD, whole_frames
@@ -26,11 +25,10 @@ COMMUNAL_EXTERNALS, EXTERNALS = 0xBC, 0x8C
 # a header and a list of names by the types of others that say the same
 SAME = {0x82: 0x80, LOCAL_NAME_LIST: NAME_LIST, 0xB5: LOCAL_EXTERNALS}
 DEBUG_CLASSES = (b"DEBSYM", b"DEBTYP", b"DWARF")
-FAR_DATA = b"FAR_DATA"
-# the fields of the byte that begins a SEGDEF: alignment, combination, whether it is as long as its
-# offsets reach, and whether it has 32 bits
-ALIGNMENT, COMBINATION, BIG, USE_32 = 0xE0, 0x1C, 0x02, 0x01
-BYTE_ALIGNED, PUBLIC, STACK, COMMON = 0x20, 0x08, 0x14, 0x18
+# the fields of the byte that begins a SEGDEF: alignment, whether it is as long as its offsets reach,
+# and whether it has 32 bits
+ALIGNMENT, BIG, USE_32 = 0xE0, 0x02, 0x01
+BYTE_ALIGNED = 0x20
 # the bit of the byte that begins a MODEND by which it has a start
 HAS_START = 0x40
 # locations: an offset of 16 bits, and those of 32; the last place of one, and the upper word of a
@@ -43,7 +41,7 @@ EASY_OMF, IMPORT = b"\xAA", b"\xA0\x01"
 GROUP_METHOD, FLAT, GROUPS, ENDS = 1, b"FLAT", 0x9A, (0x8A, 0x8B)
 # a comment of a class that means nothing
 NOTHING = bytes([0x00, 0xDA])
-FRAME, PARAGRAPH, PAGE = 65_536, 16, 256
+FRAME = 65_536
 # the faults
 DATA_TYPE, ABOVE_16_BITS, LOCATION, BODY, TOO_LONG = 48, 49, 50, 51, 52
 IS_EASY_OMF, IS_IMPORTED, IS_FLAT = 63, 64, 65
@@ -69,7 +67,6 @@ class Definition:
     length: bytes
     name: bytes
     behind_name: bytes
-    class_field: bytes
     class_index: int
 
 
@@ -103,10 +100,8 @@ def definition(kind, body):
     entries.index()
     at_class = entries.place
     class_index = entries.index()
-    at_overlay = entries.place
     return Definition(
-        first, standing, length, body[at_name:at_class], body[at_class:],
-        body[at_class:at_overlay], class_index)
+        first, standing, length, body[at_name:at_class], body[at_class:], class_index)
 
 
 def take_index(entries, method, with_index, without):
@@ -240,11 +235,10 @@ def located(data, place):
 class Lowering:
     """Lowers one record of a module after the other."""
 
-    def __init__(self, keeps_debug, shares_far_data, means):
+    def __init__(self, keeps_debug, means):
         # what a name means
         self.means = means
         self.keeps_debug = keeps_debug
-        self.shares_far_data = shares_far_data
         self.names = []
         # the name of each group
         self.groups = []
@@ -413,7 +407,7 @@ class Lowering:
                 raise Obstacle(IS_FLAT)
 
     def lower_segment(self, kind, body):
-        """A segment of a class for debuggers has nothing; one of far data is named by its class."""
+        """A segment of a class for debuggers has nothing; another one has a length of 16 bits."""
         try:
             found = definition(kind, body)
         except Ended:
@@ -426,13 +420,11 @@ class Lowering:
         self.kept_out.append(not self.keeps_debug and class_name in DEBUG_CLASSES)
         if self.kept_out[-1]:
             return SEGMENTS[0], bytes([BYTE_ALIGNED, 0, 0]) + found.name + found.behind_name
-        first, name, length = found.first, found.name, found.length
+        first, length = found.first, found.length
         if kind == SEGMENTS[1]:
             first, length = self.narrowed_length(first, length)
-        if self.shares_far_data and class_name == FAR_DATA and is_private_or_public(first):
-            first, name = first & ~COMBINATION | PUBLIC, found.class_field
         front = bytes([first & ~USE_32]) + found.standing + length
-        return SEGMENTS[0], front + name + found.behind_name
+        return SEGMENTS[0], front + found.name + found.behind_name
 
     def narrowed_length(self, first, length):
         """The first byte and the length of a segment of 32 bits in two bytes.
@@ -540,9 +532,9 @@ def itself(name):
     return name
 
 
-def lowered(content, keeps_debug, shares_far_data, owner=None, means=itself):
+def lowered(content, keeps_debug, owner=None, means=itself):
     """The bytes of a module that is lowered, or the fault of its first record that can't be."""
-    lowering, found, place = Lowering(keeps_debug, shares_far_data, means), [], 0
+    lowering, found, place = Lowering(keeps_debug, means), [], 0
     for frame in whole_frames(content):
         try:
             kind, body = lowering.lower(frame.kind, frame.body)
@@ -561,7 +553,7 @@ def lowered(content, keeps_debug, shares_far_data, owner=None, means=itself):
 def upper_words(content, keeps_debug):
     """Of each fix-up of a module as it is lowered, if it had 32 bits, the upper word of the number
     there."""
-    lowering = Lowering(keeps_debug, False, itself)
+    lowering = Lowering(keeps_debug, itself)
     for frame in whole_frames(content):
         lowering.lower(frame.kind, frame.body)
     return lowering.upper_words
@@ -574,45 +566,14 @@ def has_wide_start(content):
         for frame in whole_frames(content))
 
 
-def is_private_or_public(first):
-    """Whether a segment with this first byte moves with the program and is neither a stack nor common."""
-    return first & ALIGNMENT != 0 and first & COMBINATION not in (STACK, COMMON)
+def lowered_modules(contents, words, keeps_debug, means=repeat(itself)):
+    """The bytes of modules that are lowered, where `means` has what says what a name means in each.
 
-
-def fits_a_frame(contents):
-    """Whether private and public far data fits in one frame, whatever its alignments leave between.
-
-    Of modules that can't be read nothing is said.
-    """
-    try:
-        modules = [module.read(content, None) for content in contents]
-    except Fault:
-        return False
-    far_data = [
-        segment for each in modules for segment in each.segments if segment.class_name == FAR_DATA]
-    return sum(room_of(each) for each in far_data if each.kind in ("private", "public")) <= FRAME
-
-
-def room_of(segment):
-    """The bytes that a part takes at most: in whole paragraphs, and what may go before it.
-
-    That is less than a paragraph where it may begin inside of one, and 15 of them before a page.
-    """
-    gap = {PARAGRAPH: 0, PAGE: PAGE - PARAGRAPH}.get(segment.alignment, PARAGRAPH)
-    return gap + -(-segment.length // PARAGRAPH) * PARAGRAPH
-
-
-def lowered_modules(contents, words, keeps_debug, packs_far_data, means=repeat(itself)):
-    """The bytes of modules that are lowered; far data shares a frame where it fits in one.
-
-    `means` has what says what a name means in each of them.
     A fault is told by the word for its module.
     """
-    each = list(zip(contents, words, means))
-    plain = [lowered(content, keeps_debug, False, word, own) for content, word, own in each]
-    if packs_far_data and fits_a_frame(plain):
-        return [lowered(content, keeps_debug, True, word, own) for content, word, own in each]
-    return plain
+    return [
+        lowered(content, keeps_debug, word, own)
+        for content, word, own in zip(contents, words, means)]
 
 
 def is_wide_segment(own, linked):

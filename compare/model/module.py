@@ -1,6 +1,6 @@
 """What the records of an input say together, and the faults 7 and 10 to 21."""
 
-from dataclasses import dataclass, field
+from dataclasses import dataclass, field, replace
 from typing import Optional
 
 from model import records
@@ -287,6 +287,24 @@ class Module:
 
     def skip(self, record, place):
         """A later THEADR, a COMENT and a LINNUM act on nothing."""
+
+    def redirect_externals(self, meanings):
+        """Makes each reference to an external one to that which it means, by the indexes of both.
+
+        What that one means isn't looked up again.
+        """
+        for each in [*(fixup for data in self.data for fixup in data.fixups), self.start]:
+            if each is not None:
+                each.reference = replace(
+                    each.reference, frame=redirected(each.reference.frame, meanings),
+                    target=redirected(each.reference.target, meanings))
+
+
+def redirected(side, meanings):
+    """A frame or a target; an external is the one that it means."""
+    if side.method != Method.EXTERNAL:
+        return side
+    return Direct(side.method, meanings.get(side.index, side.index))
 
 
 STEPS = {

@@ -4,7 +4,9 @@ A comment has their indexes, which count the externals of all types of records f
 that ends inside an entry has the entries before that one.
 """
 
+from dataclasses import dataclass
 from functools import partial
+from typing import Optional
 
 from model import names
 from model.aliases import Alias, aliases, endless, meaning
@@ -63,16 +65,24 @@ def pairs(content, kind):
         place = frame.behind
 
 
-def defaults(content, kinds):
-    """The externals of these kinds, as aliases of their defaults, each behind its index.
+@dataclass
+class Default(Alias):
+    """A name that means its default, with the index of that; one that is local has no name."""
 
-    Each of the two has to have a name to share.
+    substitute: Optional[bytes]
+    index: int
+
+
+def defaults(content, kinds):
+    """The externals of these kinds with their defaults, each behind its index.
+
+    Both have to be there, and the external itself has to have a name to share.
     """
-    found = [None, *externals(content)]
+    found = dict(enumerate(externals(content), 1))
     for kind in kinds:
         for place, index, default in pairs(content, kind):
-            if max(index, default) < len(found) and None not in (found[index], found[default]):
-                yield index, Alias(found[index], found[default], place)
+            if found.get(index) is not None and default in found:
+                yield index, Default(found[index], found[default], place, default)
 
 
 def others(content, kinds):
@@ -93,21 +103,40 @@ def names_of(content):
     return found
 
 
+def defined_names(modules, variables, key):
+    """The names that are defined: a module offers or needs one, or a communal variable has it."""
+    defined = {key(each.name) for each in variables}
+    for each in modules:
+        defined.update(map(key, each.names.offered + each.names.needed))
+    return defined
+
+
 def undefined(content, defined, key):
-    """The externals of a module that mean their defaults, as aliases of these."""
-    found = [one for _, one in defaults(content, [WEAK, LAZY])]
+    """The externals of a module that mean their defaults by name, as aliases of these."""
+    found = [one for _, one in defaults(content, [WEAK, LAZY]) if one.substitute is not None]
     return [one for one in found if key(one.name) not in defined]
+
+
+def local_ones(content, defined, key):
+    """The externals of a module as it is linked that mean local ones of it, by the indexes of both.
+
+    It is linked with what its names mean by aliases. Of the defaults of an index the first counts:
+    where it is local, and nothing defines the external's name, the external means it.
+    """
+    first = {}
+    for index, one in defaults(content, [WEAK, LAZY]):
+        first.setdefault(index, one)
+    return {
+        index: one.index for index, one in first.items()
+        if one.substitute is None and key(one.name) not in defined}
 
 
 def means_in(modules, variables, key):
     """For each module its names that stand for others, and those of all modules in front of them.
 
-    These are the aliases of all modules, and behind them what is undefined in that one: no module
-    offers the name or needs it, and no communal variable has it.
+    These are the aliases of all modules, and behind them what is undefined in that one.
     """
-    defined = {key(each.name) for each in variables}
-    for each in modules:
-        defined.update(map(key, each.names.offered + each.names.needed))
+    defined = defined_names(modules, variables, key)
     shared = [one for each in modules for one in aliases(each.content)]
     for each in modules:
         own = undefined(each.content, defined, key)
