@@ -281,6 +281,16 @@ def different_weak_externals(count):
     return renaming_module("_default", used + ["_default"], weak_externals(pairs))
 
 
+def local_weak_externals(count):
+    """Weak externals that nothing defines, each with a default of its own that is local to the module, and used once."""
+    used, local = [f"_weak{number}" for number in range(count)], [f"_local{number}" for number in range(count)]
+    code = header("local") + names("CODE", "CODE") + segment(2 * count)
+    code += publics({text: number for number, text in enumerate(local)}, LPUBDEF)
+    code += externals(used) + externals(local, LEXTDEF)
+    code += weak_externals([(number, count + number) for number in range(1, count + 1)])
+    return Inputs([code + fixed_to_externals(count) + main_end()], 2 * count, 0)
+
+
 def alias_chain(count):
     """Aliases, each of the next one, the last of which is of a public."""
     pairs = [(f"_name{number}", f"_name{number + 1}") for number in range(count)]

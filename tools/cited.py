@@ -625,8 +625,9 @@ class Repository:
 
     def function(self, name):
         """The code and the file of a public function, the function, and its contract as it stands there, if there is
-        such a function."""
-        for code in self.code.values():
+        such a function. Its crate may stand before its name, as in `omf_commands::link`."""
+        crate, _, name = name.rpartition("::")
+        for code in [self.code[crate]] if crate in self.code else self.code.values():
             for file, source in code.sources.items():
                 for block in top_level(source):
                     for each in functions(without_comments(block, CODE_COMMENT), 0):

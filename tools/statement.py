@@ -1,6 +1,7 @@
 """docs/STATEMENT.md and the pages of docs/statement/: all on which the contract of a function rests."""
 
 import difflib
+import posixpath
 import re
 import textwrap
 import unicodedata
@@ -8,6 +9,7 @@ import unicodedata
 import cited
 
 GUIDE, READING, WORKED = "STATEMENT.md", "statement/README.md", "statement/worked.md"
+FURTHER = "statement/doslink/README.md"
 CLAUSES = "Its clauses:"
 CITED = "They cite "
 WHOLE = "Definition by definition: "
@@ -61,6 +63,8 @@ def tabled(repository, part, crate=None):
 
 class Statement:
     """All on which the contract of a function rests, in the order in which pages show it, and links to each of it."""
+
+    guide, reading = "../STATEMENT.md", "README.md"  # as its pages lead to what leads through them
 
     def __init__(self, repository, function):
         self.repository, self.found = repository, repository.of_function(function)
@@ -121,6 +125,26 @@ class Statement:
         return found
 
 
+class Further(Statement):
+    """The same of a function whose pages stand in a folder below those of another one, and have what those lack."""
+
+    guide, reading = "README.md", "../README.md"
+
+    def __init__(self, repository, function, first):
+        super().__init__(repository, function)
+        shared, self.above = [it for it in first.order if it in self.found], first.found
+        self.found = self.found - first.found
+        self.files = repository.files_of(self.found)
+        self.order = shared + [it for here in self.files.values() for it in here]
+        self.crates = [it for it in repository.crates if any(crate == it for crate, _ in self.files)]
+
+    def link(self, one, page=None):
+        """A link to a definition or a type from the page of a crate, or from another one beside it."""
+        near = "" if page == one.crate else f"{one.crate}.md"
+        target = f"../{one.crate}.md" if one in self.above else near
+        return f"[`{plain(one.name)}`]({target}#{self.anchor(one)})"
+
+
 class CratePage:
     """The page of a crate: its definitions and types as they stand in their files, in an order in which what one rests
     on comes before it."""
@@ -137,7 +161,7 @@ class CratePage:
         def with_types(one):
             shown.add(one)
             for it in self.statement.order:
-                is_type = isinstance(it, cited.Type) and it.crate == self.crate
+                is_type = isinstance(it, cited.Type) and it.crate == self.crate and it in self.statement.found
                 if is_type and it in self.repository.rests_on(one) and it not in shown:
                     yield from with_types(it)
             yield one
@@ -164,8 +188,9 @@ class CratePage:
         at = crates.index(self.crate)
         near = (("before", crates[at - 1] if at else None), ("behind", [*crates, None][at + 1]))
         beside = "".join(f"; {word} this page comes [`{it}`]({it}.md)" for word, it in near if it)
+        guide, reading = self.statement.guide, self.statement.reading
         return (f"{self.statement.size_of(self.crate)} of crates/{self.crate}, each as it stands in its file and with "
-                "what it rests on. [The statement](../STATEMENT.md) leads through them; [README.md](README.md) says "
+                f"what it rests on. [The statement]({guide}) leads through them; [README.md]({reading}) says "
                 f"how to read them{beside}. `tools/definitions --write` makes this page.")
 
     @staticmethod
@@ -268,6 +293,26 @@ class Guide:
         return part.rstrip("\n")
 
 
+class FurtherGuide:
+    """docs/statement/doslink/README.md, which is written by hand but for the contract, the counts and the links."""
+
+    def __init__(self, statement, text):
+        self.statement, self.wrong = statement, []
+        sizes = iter(f"{it:,}" for it in statement.sizes(statement.found))
+        text = re.sub(COUNTS, lambda found: re.sub(r"[\d,]+", lambda _: next(sizes), found[0]), text, count=1)
+        text = self.replaced(rf"(?<=^{CLAUSES}\n\n```rust\n).*?(?=\n```$)", statement.contract, text)
+        cites = "\n".join(wrapped(f"{CITED}{statement.links(statement.cited)}."))
+        text = self.replaced(rf"^{CITED}.*?(?=\n\n)", cites, text)
+        pages = "; ".join(f"[`{it}`]({it}.md), {statement.size_of(it)}" for it in statement.crates)
+        self.text = self.replaced(rf"^{WHOLE}.*?(?=\n\n)", "\n".join(wrapped(f"{WHOLE}{pages}.")), text)
+
+    def replaced(self, pattern, wanted, text):
+        """The text with something made in its place."""
+        text = re.sub(pattern, lambda _: wanted, text, flags=re.M | re.S)
+        self.wrong += [] if wanted in text else [f"docs/{FURTHER} leaves out `{wanted}`"]
+        return text
+
+
 class Reading:
     """docs/statement/README.md, which is written by hand but for the links of names of more than one thing. Each such
     name has to stand there, and each word of the library."""
@@ -298,14 +343,25 @@ class Reading:
 
 
 class Pages:
-    """All pages of the statement of a function: what they should be, and what is wrong with those that there are."""
+    """All pages of the statement of a function, and of a further one where there is such: what they should be, and what
+    is wrong with those that there are."""
 
-    def __init__(self, repository, function):
+    def __init__(self, repository, function, further):
         self.docs, statement = repository.root / "docs", Statement(repository, function)
         guide, reading = Guide(statement, self.read(GUIDE)), Reading(statement, self.read(READING))
         self.wanted = {f"statement/{it}.md": CratePage(statement, it).text() for it in statement.crates}
         self.wanted |= {WORKED: worked_page(statement), GUIDE: guide.text, READING: reading.text}
-        self.wrong = [*guide.wrong, *reading.wrong, *self.dangling()]
+        self.wrong = [*guide.wrong, *reading.wrong]
+        if repository.function(further):
+            self.add(Further(repository, further, statement))
+        self.wrong += self.dangling()
+
+    def add(self, further):
+        """Adds the pages of a further function."""
+        guide = FurtherGuide(further, self.read(FURTHER))
+        self.wanted |= {f"statement/doslink/{it}.md": CratePage(further, it).text() for it in further.crates}
+        self.wanted |= {FURTHER: guide.text}
+        self.wrong += guide.wrong
 
     def read(self, page):
         path = self.docs / page
@@ -315,14 +371,14 @@ class Pages:
         """The links to a place of a page that the page doesn't have."""
         places = {page: set(re.findall(r'<a id="([^"]+)"', text)) for page, text in self.wanted.items()}
         for page, text in self.wanted.items():
-            for other, place in re.findall(r"\]\(([\w/]+\.md)?#([^)]+)\)", text):
-                target = (page.rpartition("/")[0] + "/" + other).lstrip("/") if other else page
+            for other, place in re.findall(r"\]\(([\w/.]+\.md)?#([^)]+)\)", text):
+                target = posixpath.normpath(posixpath.join(posixpath.dirname(page), other)) if other else page
                 if place not in places.get(target, ()):
                     yield f"docs/{page} leads to {other}#{place}, which isn't there"
 
     def other(self):
         """Pages beside them that are none of theirs."""
-        pages = (f"statement/{it.name}" for it in (self.docs / "statement").glob("*.md"))
+        pages = (str(it.relative_to(self.docs)) for it in (self.docs / "statement").rglob("*.md"))
         return sorted(it for it in pages if it not in self.wanted)
 
     def faults(self):
@@ -333,7 +389,7 @@ class Pages:
         return wrong + [f"docs/{it} is no page of the statement" for it in self.other()]
 
     def write(self):
-        (self.docs / "statement").mkdir(exist_ok=True)
+        (self.docs / FURTHER).parent.mkdir(parents=True, exist_ok=True)
         for page in self.other():
             (self.docs / page).unlink()
         for page, text in self.wanted.items():
