@@ -511,6 +511,14 @@ class Code:
         code = self.repository.code.get(crate)
         return Type(crate, word) if code and word in code.types else None
 
+    def inner_in(self, file):
+        """The words of a file for types and traits that aren't handed out: the crate's own, and those of inner modules
+        of others."""
+        taken = re.findall(r"^(?:pub )?use \w[\w:]*::(\{[^}]*\}|\w+);", self.plain[file], re.M)
+        named = {it: self.type_named(it, file) for it in re.findall(r"[A-Z]\w*", " ".join(taken))}
+        found = {it for it, type_ in named.items() if type_ and it not in self.repository.code[type_.crate].public}
+        return set(self.types) - self.public | found
+
     def types_in(self, text, file):
         """The types that the code declares and a text of a file names."""
         return {self.type_named(it, file) for it in re.findall(r"\b[A-Z]\w*", text)} - {None}
@@ -540,10 +548,10 @@ class Code:
 
     def cited_by_contracts(self):
         """What the public contracts cite: those of functions, of types and traits, and of what is done for types."""
-        found, inner = set(), set(self.types) - self.public
+        found = set()
         for file, block in self.blocks:
             line = head_of(block)
-            if owner_of(line, inner) in self.public:
+            if owner_of(line, self.inner_in(file)) in self.public:
                 takes_all = " trait " in line or re.match(r"(?:unsafe )?impl\b.* for ", line)
                 fields = set(re.findall(r"^    (?:pub )?(\w+):", block, re.M))
                 found |= self.cited_by_block(block, file, takes_all, fields)

@@ -4,25 +4,25 @@ use Rattle.std.proofs.Common.{Some, None, Bor, refl, sym, ap, subst, substâ‚‚, â
 use Rattle.std.specs.Prelude.{replicate, Ok, Err}
 use Rattle.std.specs.List.{flat_map}
 use Rattle.std.proofs.lemmas.List.{length-append, length-map}
-use Rattle.omf_record.specs.declared.codec.ReadError.{ReadError}
-use Rattle.omf_record.specs.declared.codec.ReadError.TheVariants as errors
+use Rattle.omf_codec.specs.declared.codec.ReadError.{ReadError}
+use Rattle.omf_codec.specs.declared.codec.ReadError.TheVariants as errors
 use Rattle.omf_record.specs.declared.blocks.Block as code
 use Rattle.omf_record.specs.Language.{each, Where, Byte, Word}
 use Rattle.omf_record.specs.Record.{Block, Content, Nested, blocks_of}
 use Rattle.omf_record.specs.View.{block_view}
 use Rattle.omf_record.specs.Body.{BlockText}
 use Rattle.omf_record.specs.Canonical as canon
-use Rattle.omf_record.specs.inside.Format.{join, Format, IsFree, Lawful, NoneBegins, Completes, Found, Fails, Splits}
-use Rattle.omf_record.specs.inside.Format.{IsOutput, Writes, Written, WritesItem}
-use Rattle.omf_record.specs.inside.FormatLaws.{both}
-use Rattle.omf_record.specs.inside.PrimitiveLaws.{fact_byte}
-use Rattle.omf_record.specs.inside.Segments.{IsZero}
+use Rattle.omf_codec.specs.inside.Format.{join, Format, IsFree, Lawful, NoneBegins, Completes, Found, Fails, Splits}
+use Rattle.omf_codec.specs.inside.Format.{IsOutput, Writes, Written, WritesItem}
+use Rattle.omf_codec.specs.inside.FormatLaws.{both}
+use Rattle.omf_codec.specs.inside.PrimitiveLaws.{fact_byte}
+use Rattle.omf_codec.specs.inside.PrimitiveLaws.{IsZero}
 use Rattle.omf_record.specs.inside.Blocks.{times, times_begun, times_blank, head, head_lawful, leaf, list_blocks, block}
 use Rattle.omf_record.specs.inside.Blocks.{inner, Parts, content_to, block_to, is_block, nested_splits, content_splits}
 use Rattle.omf_record.specs.inside.Blocks.{inner_lawful, inner_is, inner_blank}
-use Rattle.omf_record.proofs.Parts.{first_err, second_err, both_found, carried, made_err, made_found, second_written}
-use Rattle.omf_record.proofs.Parts.{made_written}
-use Rattle.omf_record.proofs.Lists.{SoFar, each_both, none_each}
+use Rattle.omf_codec.proofs.Parts.{first_err, second_err, both_found, carried, made_err, made_found, second_written}
+use Rattle.omf_codec.proofs.Parts.{made_written}
+use Rattle.omf_codec.proofs.Lists.{SoFar, each_both, none_each}
 
 -- ---- so many texts
 

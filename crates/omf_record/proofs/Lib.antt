@@ -1,6 +1,3 @@
-pub mod Parts
-pub mod Missing
-pub mod Lists
 pub mod RecordLaws
 pub mod Faults
 pub mod BlockParts

@@ -9,20 +9,21 @@ use Rattle.omf_record.specs.View.{view}
 use Rattle.omf_record.specs.Language.{IsBytes}
 use Rattle.omf_record.specs.Record.{Record, Theadr, Coment, Extdef, Pubdef, Linnum, Lnames, Grpdef, Fixupp, Ledata}
 use Rattle.omf_record.specs.Record.{Lidata, Segdef, Modend}
-use Rattle.omf_record.specs.Body.{Body, BodyOf, kind_of}
-use Rattle.omf_record.specs.Canonical.{canonical, FitsFrame}
+use Rattle.omf_record.specs.Body.{Body, BodyOf, kind_of, ReferenceText}
+use Rattle.omf_record.specs.Canonical.{canonical, FitsFrame, reference}
 use Rattle.omf_record.specs.Expansion.{data_len}
 use Rattle.omf_record.proofs.Stored.{data_within}
-use Rattle.omf_record.specs.inside.Format.{Format, Lawful, IsFree, IsFilled}
-use Rattle.omf_record.specs.inside.FormatLaws.{both, both_lawful, each_lawful}
-use Rattle.omf_record.specs.inside.PrimitiveLaws.{byte, byte_lawful, word, word_lawful, index, index_lawful, name}
-use Rattle.omf_record.specs.inside.PrimitiveLaws.{name_lawful, name_filled, rest_of, rest_lawful}
+use Rattle.omf_codec.specs.inside.Format.{Format, Lawful, IsFree, IsFilled}
+use Rattle.omf_codec.specs.inside.FormatLaws.{both, both_lawful, each_lawful}
+use Rattle.omf_codec.specs.inside.PrimitiveLaws.{byte, byte_lawful, word, word_lawful, index, index_lawful, name}
+use Rattle.omf_codec.specs.inside.PrimitiveLaws.{name_lawful, name_filled, rest_of, rest_lawful}
 use Rattle.omf_record.specs.inside.Shapes.{external, external_lawful, external_filled, public, public_lawful}
 use Rattle.omf_record.specs.inside.Shapes.{public_filled, base, base_lawful, line, line_lawful, line_filled, component}
 use Rattle.omf_record.specs.inside.Shapes.{component_lawful, component_filled}
 use Rattle.omf_record.specs.inside.Subrecords.{subrecord, subrecord_lawful, subrecord_filled}
 use Rattle.omf_record.specs.inside.Segments.{segment_lawful}
 use Rattle.omf_record.specs.inside.Ends.{end_lawful}
+use Rattle.omf_record.specs.inside.References.{reference_lawful}
 use Rattle.omf_record.specs.inside.Blocks.{block, block_lawful, block_filled}
 use Rattle.omf_record.specs.inside.Kinds.{layout_of, list, body}
 
@@ -34,7 +35,7 @@ lawful (Theadr _) = name_lawful
 lawful (Coment _ _ _) =
     both_lawful byte byte_lawful (λ r. tt) (both byte rest_of)
     (both_lawful byte byte_lawful (λ r. tt) rest_of rest_lawful)
-lawful (Modend _ _) = end_lawful
+lawful (Modend _ _) = end_lawful ReferenceText reference reference_lawful
 lawful (Extdef _ _) = list_lawful external external_lawful external_filled (λ r. tt)
 lawful (Pubdef _ _ _) =
     both_lawful base base_lawful (λ r. tt) (list ℕ public) (list_lawful public public_lawful public_filled (λ r. tt))
@@ -61,7 +62,7 @@ one_of kind text r s l m =
     let of = body ℕ r (kind_of r) refl in
     let (x, x-is, xl) = of.from r text (refl, l.1) in
     let (y, y-is, yl) = of.from s text (m.0 ∙ sym l.0, m.1) in
-    sym x-is ∙ ap of.made ((lawful r).one x y text text [] [] xl yl of.ended of.ended refl).0 ∙ y-is
+    sym x-is ∙ ap of.made ((lawful r).one x y text text [] [] xl yl of.ending.ended of.ending.ended refl).0 ∙ y-is
 
 -- the canonical body is one, and none is shorter
 pub canonical_shortest : (r : Record) (text : List ℕ) → Body r text

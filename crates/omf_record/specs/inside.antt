@@ -1,11 +1,6 @@
 -- How the code sees what it works on: no public contract cites any of it.
 pub mod Fields
-pub mod Format
-pub mod FormatLaws
-pub mod OutputLaws
-pub mod PrimitiveLaws
 pub mod Shapes
-pub mod Heads
 pub mod References
 pub mod Subrecords
 pub mod Segments

@@ -3,13 +3,12 @@
 ghost use Rattle.std.specs.Prelude.{◌≡◌, ◌≤◌};
 ghost use Rattle.omf_record.specs.Record as says;
 ghost use Rattle.omf_record.specs.inside.Blocks as blocks;
-ghost use Rattle.omf_record.specs.inside.Format.{Reads, WritesItem};
+ghost use Rattle.omf_codec.specs.inside.Format.{Reads, WritesItem};
 
-use crate::choice::{Then, When};
-use crate::codec::{Codec, Field, Filled, Free, Read};
-use crate::output::{Output, Unwritten, Written};
-use crate::primitives::{First, Name, Word};
-use crate::segments::Zero;
+use omf_codec::choice::{Then, When};
+use omf_codec::codec::{Codec, Field, Filled, Free, Read};
+use omf_codec::output::{Output, Unwritten, Written};
+use omf_codec::primitives::{First, Name, Word, Zero};
 use std::alloc::{Allocator, Global};
 use std::marker::PhantomData;
 

@@ -1,12 +1,12 @@
 //! The body of each type, by its fields (TIS OMF 1.1, the section of each record).
 
 use crate::blocks::BlockField;
-use crate::codec::Of;
 use crate::externals::{BaseParts, ExternalField, Line, PublicBase, PublicField};
-use crate::fixups::{End, EndParts, Subrecord, SubrecordParts};
-use crate::primitives::{Byte, First, Index, Name, Rest, Word};
-use crate::segments::{Mark, SegmentDefinition, SegmentParts};
-use crate::whole::ToEnd;
+use crate::fixups::{Attribute, EndParts, Subrecord, SubrecordParts};
+use crate::segments::{Component, Mark, SegmentDefinition, SegmentParts};
+use omf_codec::codec::Of;
+use omf_codec::primitives::{Byte, First, Index, Name, Rest, Word};
+use omf_codec::whole::ToEnd;
 
 /// 80H THEADR, Translator Header Record: a name.
 pub type Theadr<'a> = Name<'a>;
@@ -15,7 +15,7 @@ pub type Theadr<'a> = Name<'a>;
 pub type Coment<'a> = (Byte, (Byte, Rest<'a>));
 
 /// 8AH MODEND, Module End Record: whether the module is the main one, and its start.
-pub type Modend = Of<EndParts, End>;
+pub type Modend = Of<EndParts, Attribute>;
 
 /// 8CH EXTDEF, External Names Definition Record, and B4H LEXTDEF, of names that are local: the names.
 pub type Extdef<'a, A> = ToEnd<A, ExternalField<'a>>;
@@ -45,7 +45,7 @@ pub type Segdef = Of<SegmentParts, SegmentDefinition>;
 pub type Grpdef<A> = (Index, Components<A>);
 
 /// The components of a GRPDEF.
-pub type Components<A> = ToEnd<A, Of<(First<Mark>, Index), u16>>;
+pub type Components<A> = ToEnd<A, Of<(First<Mark>, Index), Component>>;
 
 /// 9CH FIXUPP, Fixup Record: threads and fix-ups.
 pub type Fixupp<A> = ToEnd<A, Of<SubrecordParts, Subrecord>>;

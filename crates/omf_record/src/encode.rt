@@ -1,7 +1,7 @@
 //! The canonical body of a record, written or only measured.
 
 ghost use Rattle.std.specs.Prelude.{◌≡◌, ◌++◌, ◌↔◌, IsTrue, OnOk, OnErr};
-ghost use Rattle.omf_record.specs.inside.Format.{Writes};
+ghost use Rattle.omf_codec.specs.inside.Format.{Writes};
 ghost use Rattle.omf_record.specs.View.{view};
 ghost use Rattle.omf_record.specs.Body.{Body};
 ghost use Rattle.omf_record.specs.Canonical.{canonical, FitsFrame};
@@ -10,11 +10,11 @@ use crate::bodies::{
     Base, Blocks, Coment, Components, Extdef, Fixupp, Ledata, Lines, Lnames, Modend, Publics,
     Segdef, Theadr,
 };
-use crate::codec::Codec;
-use crate::output::{Output, Room, Written};
-use crate::primitives::{Index, Word};
 use crate::record::Record;
-use crate::whole::put_both;
+use omf_codec::codec::Codec;
+use omf_codec::output::{Output, Room, Written};
+use omf_codec::primitives::{Index, Word};
+use omf_codec::whole::put_both;
 use std::alloc::{AllocError, Allocator};
 
 /// The longest body of a frame.

@@ -4,10 +4,10 @@ ghost use Rattle.omf_record.specs.Record as says;
 ghost use Rattle.omf_record.specs.Types.{Line, PublicBase};
 ghost use Rattle.omf_record.specs.inside.Shapes as shapes;
 
-use crate::choice::{Then, When};
-use crate::codec::{Codec, Field, Filled, Free, Made, Of, Read};
-use crate::output::{Output, Written};
-use crate::primitives::{Index, Name, Word};
+use omf_codec::choice::{Then, When};
+use omf_codec::codec::{Codec, Field, Filled, Free, Made, Of, Read};
+use omf_codec::output::{Output, Written};
+use omf_codec::primitives::{Index, Name, Word};
 use std::alloc::Allocator;
 use std::marker::PhantomData;
 
@@ -43,6 +43,8 @@ pub struct Public<'a> {
 }
 
 impl<'a> Made<(Name<'a>, Index)> for External<'a> {
+    type Item = External<'a>;
+
     ghost Value = { says.External };
 
     ghost format = { λ _. shapes.external };
@@ -53,12 +55,14 @@ impl<'a> Made<(Name<'a>, Index)> for External<'a> {
         External { name, type_index }
     }
 
-    fn parts(&self) -> (&'a [u8], u16) {
-        (self.name, self.type_index)
+    fn parts(item: &External<'a>) -> (&'a [u8], u16) {
+        (item.name, item.type_index)
     }
 }
 
 impl<'a> Made<(Name<'a>, (Word, Index))> for Public<'a> {
+    type Item = Public<'a>;
+
     ghost Value = { says.Public };
 
     ghost format = { λ _. shapes.public };
@@ -73,12 +77,14 @@ impl<'a> Made<(Name<'a>, (Word, Index))> for Public<'a> {
         }
     }
 
-    fn parts(&self) -> (&'a [u8], (u16, u16)) {
-        (self.name, (self.offset, self.type_index))
+    fn parts(item: &Public<'a>) -> (&'a [u8], (u16, u16)) {
+        (item.name, (item.offset, item.type_index))
     }
 }
 
 impl Made<(Word, Word)> for Line {
+    type Item = Line;
+
     ghost Value = { Line };
 
     ghost format = { λ _. shapes.line };
@@ -89,8 +95,8 @@ impl Made<(Word, Word)> for Line {
         Line { number, offset }
     }
 
-    fn parts(&self) -> (u16, u16) {
-        (self.number, self.offset)
+    fn parts(item: &Line) -> (u16, u16) {
+        (item.number, item.offset)
     }
 }
 
@@ -98,6 +104,8 @@ impl Made<(Word, Word)> for Line {
 pub type BaseParts = (Index, Then<Index, When<1, 65_536, 0, Word>>);
 
 impl Made<BaseParts> for PublicBase {
+    type Item = PublicBase;
+
     ghost Value = { PublicBase };
 
     ghost format = { λ _. shapes.base };
@@ -112,8 +120,8 @@ impl Made<BaseParts> for PublicBase {
         }
     }
 
-    fn parts(&self) -> (u16, (u16, Option<u16>)) {
-        match *self {
+    fn parts(item: &PublicBase) -> (u16, (u16, Option<u16>)) {
+        match *item {
             PublicBase::AtFrame { group, frame } => (group, (0, Some(frame))),
             PublicBase::InSegment { group, segment } => (group, (segment, None)),
         }

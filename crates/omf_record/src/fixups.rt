@@ -1,6 +1,7 @@
 //! Threads, references and fix-ups: FIXUPP, and the end of a module, MODEND.
 
 ghost use Rattle.std.specs.Prelude.{◌≡◌, ◌≢◌, ◌<◌, ◌≤◌, ◌↔◌, ◌/◌, ◌%◌, Bool, ℕ, List, IsTrue, Option};
+ghost use Rattle.omf_record.specs.Body.{ReferenceText};
 ghost use Rattle.omf_record.specs.Canonical as canon;
 ghost use Rattle.omf_record.specs.Numbers.{location_width, thread_number};
 ghost use Rattle.omf_record.specs.inside.Fields.{frame_number, target_number, absent};
@@ -10,10 +11,10 @@ ghost use Rattle.omf_record.specs.inside.Ends as ends;
 ghost use Rattle.omf_record.specs.inside.References as refs;
 ghost use Rattle.omf_record.specs.inside.Subrecords as subs;
 
-use crate::choice::{Then, When};
-use crate::codec::{Blank, Codec, Field, Free, Made, Of, Read};
-use crate::output::{Output, Written};
-use crate::primitives::{Byte, First, Head, Index, Word};
+use omf_codec::choice::{Then, When};
+use omf_codec::codec::{Blank, Codec, Field, Free, Made, Of, Read};
+use omf_codec::output::{Output, Written};
+use omf_codec::primitives::{Byte, First, Head, Index, Word, ZeroHead};
 use std::alloc::Allocator;
 
 /// The number of one of four frame threads, or of one of four target threads.
@@ -114,7 +115,7 @@ pub enum Subrecord {
 }
 
 /// The thread of this number.
-fn thread_of(number: u64) -> ThreadNumber
+pub fn thread_of(number: u64) -> ThreadNumber
     ensures { result ≡ refs.thread_of number }
 {
     match number {
@@ -126,7 +127,7 @@ fn thread_of(number: u64) -> ThreadNumber
 }
 
 /// The location of this number, where one has it.
-fn location_of(number: u64) -> Location
+pub fn location_of(number: u64) -> Location
     ensures { result ≡ subs.location_of number }
 {
     match number {
@@ -152,7 +153,7 @@ pub fn thread_number(thread: ThreadNumber) -> u8
 }
 
 /// The number of a frame's method, F0 to F5.
-fn frame_number(method: FrameMethod) -> u8
+pub fn frame_number(method: FrameMethod) -> u8
     ensures number { result ≡ frame_number method }
     ensures small { result < 6 }
 {
@@ -164,7 +165,7 @@ fn frame_number(method: FrameMethod) -> u8
 }
 
 /// The number of a target's method, T0 to T2.
-fn target_number(method: TargetMethod) -> u8
+pub fn target_number(method: TargetMethod) -> u8
     ensures number { result ≡ target_number method }
     ensures small { result < 3 }
 {
@@ -201,7 +202,7 @@ pub fn location_number(location: Location) -> u8
 }
 
 /// The frame's method of this number, with the index behind it.
-fn frame_method_of(number: u64, index: Option<u16>) -> FrameMethod
+pub fn frame_method_of(number: u64, index: Option<u16>) -> FrameMethod
     ensures { result ≡ refs.frame_method_of number index }
 {
     match index {
@@ -214,7 +215,7 @@ fn frame_method_of(number: u64, index: Option<u16>) -> FrameMethod
 }
 
 /// The index behind a frame's method, where one stands there.
-fn frame_method_index(method: FrameMethod) -> Option<u16>
+pub fn frame_method_index(method: FrameMethod) -> Option<u16>
     ensures { result ≡ refs.frame_method_index method }
 {
     match method {
@@ -224,7 +225,7 @@ fn frame_method_index(method: FrameMethod) -> Option<u16>
 }
 
 /// The target's method of this number, with the index behind it.
-fn target_method_of(number: u64, index: u16) -> TargetMethod
+pub fn target_method_of(number: u64, index: u16) -> TargetMethod
     ensures { result ≡ refs.target_method_of number index }
 {
     match number {
@@ -235,7 +236,7 @@ fn target_method_of(number: u64, index: u16) -> TargetMethod
 }
 
 /// The index behind a target's method.
-fn target_method_index(method: TargetMethod) -> u16
+pub fn target_method_index(method: TargetMethod) -> u16
     ensures { result ≡ refs.target_method_index method }
 {
     match method {
@@ -299,7 +300,7 @@ pub type ReferenceParts = Then<
 >;
 
 /// The indexes and the displacement behind it.
-type ReferenceTail = (Option<u16>, (Option<u16>, Option<u16>));
+pub type ReferenceTail = (Option<u16>, (Option<u16>, Option<u16>));
 
 impl Head for Reference {
     ghost Begins = { refs.IsFixData };
@@ -311,6 +312,8 @@ impl Head for Reference {
 }
 
 impl Made<ReferenceParts> for Reference {
+    type Item = Reference;
+
     ghost Value = { Reference };
 
     ghost format = { λ _. refs.reference };
@@ -321,13 +324,13 @@ impl Made<ReferenceParts> for Reference {
         reference_of(parts.0, parts.1)
     }
 
-    fn parts(&self) -> (u64, ReferenceTail) {
-        reference_parts(*self)
+    fn parts(item: &Reference) -> (u64, ReferenceTail) {
+        reference_parts(*item)
     }
 }
 
 /// The reference that a fix data byte and what stands behind it say.
-fn reference_of(byte: u64, tail: ReferenceTail) -> Reference
+pub fn reference_of(byte: u64, tail: ReferenceTail) -> Reference
     ensures { result ≡ refs.reference_of byte tail }
 {
     Reference {
@@ -338,7 +341,7 @@ fn reference_of(byte: u64, tail: ReferenceTail) -> Reference
 }
 
 /// The fix data byte of a reference, and what stands behind it.
-fn reference_parts(reference: Reference) -> (u64, ReferenceTail)
+pub fn reference_parts(reference: Reference) -> (u64, ReferenceTail)
     ensures { result ≡ (canon.fix_data reference, refs.reference_tail reference) }
 {
     let (frame, frame_index) = frame_bits(reference.frame);
@@ -438,6 +441,8 @@ impl Head for Subrecord {
 }
 
 impl Made<SubrecordParts> for Subrecord {
+    type Item = Subrecord;
+
     ghost Value = { Subrecord };
 
     ghost format = { λ _. subs.subrecord };
@@ -448,8 +453,8 @@ impl Made<SubrecordParts> for Subrecord {
         subrecord_of(parts.0, parts.1)
     }
 
-    fn parts(&self) -> (u64, SubrecordTail) {
-        subrecord_parts(*self)
+    fn parts(item: &Subrecord) -> (u64, SubrecordTail) {
+        subrecord_parts(*item)
     }
 }
 
@@ -516,8 +521,8 @@ impl Head for Attribute {
     }
 }
 
-impl Blank for First<Attribute> {
-    ghost blank = { λ _. ends.attribute_blank };
+impl ZeroHead for Attribute {
+    ghost zero = { ends.attribute_zero };
 }
 
 /// The attribute byte, and a start where that says so.
@@ -526,19 +531,21 @@ pub type EndParts = Then<First<Attribute>, When<64, 2, 1, ReferenceField>>;
 /// Whether the module is the main one, and its start.
 pub type End = (bool, Option<Reference>);
 
-impl Made<EndParts> for End {
+impl Made<EndParts> for Attribute {
+    type Item = End;
+
     ghost Value = { Bool × Option Reference };
 
-    ghost format = { λ _. ends.module_end };
+    ghost format = { λ _. ends.module_end ReferenceText canon.reference };
 
-    ghost is_made = { λ _. ends.end_made };
+    ghost is_made = { λ _. ends.end_made ReferenceText canon.reference };
 
     fn make(_number: u64, parts: (u64, Option<Reference>)) -> End {
         end_of(parts.0, parts.1)
     }
 
-    fn parts(&self) -> (u64, Option<Reference>) {
-        (end_byte(*self), self.1)
+    fn parts(item: &End) -> (u64, Option<Reference>) {
+        (end_byte(*item), item.1)
     }
 }
 

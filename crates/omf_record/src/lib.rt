@@ -3,22 +3,17 @@
 
 mod blocks;
 mod bodies;
-mod choice;
-mod codec;
 mod content;
 mod encode;
 mod expand;
-mod externals;
+pub mod externals;
 mod fault;
-mod fixups;
+pub mod fixups;
 mod grammar;
-mod output;
 mod parse;
-mod primitives;
 mod record;
 mod repeated;
-mod segments;
-mod whole;
+pub mod segments;
 
 pub use blocks::Block;
 pub use content::place_in_content;

@@ -11,8 +11,9 @@ ghost use Rattle.omf_record.specs.inside.Kinds.{IsBody, ReadsParts};
 use crate::bodies::{
     Coment, Extdef, Fixupp, Grpdef, Ledata, Lidata, Linnum, Lnames, Modend, Pubdef, Segdef, Theadr,
 };
-use crate::codec::{Blank, Field, ReadError};
 use crate::record::Record;
+use omf_codec::codec::{Blank, Field};
+use omf_codec::whole::{WholeFault, read_whole};
 use omf_frame::Frame;
 use std::alloc::Allocator;
 use thiserror::Error;
@@ -39,15 +40,10 @@ fn parts<'a, A: Allocator + Copy, P: Field<'a, A> + Blank>(
     requires { IsBody (P.format 0) kind }
     ensures { ReadsParts (P.format 0) kind bytes.now result }
 {
-    match P::read(alloc, 0, bytes) {
-        Ok((parts, [])) => Ok(parts),
-        Ok((_, rest)) => Err(RecordFault::Body {
-            at: bytes.len() - rest.len(),
-        }),
-        Err(ReadError::Memory) => Err(RecordFault::Memory),
-        Err(ReadError::Refused(bad)) => Err(RecordFault::Body {
-            at: bytes.len() - bad.len(),
-        }),
+    match read_whole::<A, P>(alloc, bytes) {
+        Ok(parts) => Ok(parts),
+        Err(WholeFault::Memory) => Err(RecordFault::Memory),
+        Err(WholeFault::Text { at }) => Err(RecordFault::Body { at }),
     }
 }
 

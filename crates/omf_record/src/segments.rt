@@ -7,10 +7,10 @@ ghost use Rattle.omf_record.specs.declared.segments.SegmentDefinition.{SegmentDe
 ghost use Rattle.omf_record.specs.inside.Segments as segs;
 ghost use Rattle.omf_record.specs.inside.Shapes as shapes;
 
-use crate::choice::{Then, When};
-use crate::codec::{Blank, Codec, Field, Free, Made, Of, Read};
-use crate::output::{Output, Written};
-use crate::primitives::{Byte, First, Head, Index, Word};
+use omf_codec::choice::{Then, When};
+use omf_codec::codec::{Blank, Codec, Field, Free, Made, Of, Read};
+use omf_codec::output::{Output, Written};
+use omf_codec::primitives::{Byte, First, Head, Index, Word, Zero, ZeroHead};
 use std::alloc::Allocator;
 
 /// Where a segment may begin: the field A of a SEGDEF (TIS OMF 1.1, SEGDEF).
@@ -75,7 +75,7 @@ pub struct SegmentDefinition {
 }
 
 /// The alignment of this number, of a segment that isn't absolute.
-fn alignment_of(number: u64) -> Alignment
+pub fn alignment_of(number: u64) -> Alignment
     ensures { result ≡ segs.alignment_of number }
 {
     match number {
@@ -88,7 +88,7 @@ fn alignment_of(number: u64) -> Alignment
 }
 
 /// The combination of this number, where one has it.
-fn combination_of(number: u64) -> Combination
+pub fn combination_of(number: u64) -> Combination
     ensures { result ≡ segs.combination_of number }
 {
     match number {
@@ -145,21 +145,6 @@ fn big(length: SegmentLength) -> u8
     }
 }
 
-/// The byte 00.
-pub struct Zero;
-
-impl Head for Zero {
-    ghost Begins = { segs.IsZero };
-
-    fn begins(byte: u8) -> bool {
-        byte == 0
-    }
-}
-
-impl Blank for First<Zero> {
-    ghost blank = { λ _. segs.zero_blank };
-}
-
 /// The byte A, C, B, P; the place of an absolute segment; its length, two bytes 00 for 65,536; its three names.
 pub type SegmentParts = Then<First<SegmentDefinition>, SegmentTailField>;
 
@@ -208,8 +193,8 @@ impl Free for SegmentTailField {
     ghost free = { λ _ _. tt };
 }
 
-impl Blank for First<SegmentDefinition> {
-    ghost blank = { λ _. segs.acbp_blank };
+impl ZeroHead for SegmentDefinition {
+    ghost zero = { segs.acbp_zero };
 }
 
 impl Blank for SegmentTailField {
@@ -228,6 +213,8 @@ impl Head for SegmentDefinition {
 }
 
 impl Made<SegmentParts> for SegmentDefinition {
+    type Item = SegmentDefinition;
+
     ghost Value = { SegmentDefinition };
 
     ghost format = { λ _. segs.segment };
@@ -238,8 +225,8 @@ impl Made<SegmentParts> for SegmentDefinition {
         segment_of(parts.0, parts.1)
     }
 
-    fn parts(&self) -> (u64, SegmentTail) {
-        segment_parts(*self)
+    fn parts(item: &SegmentDefinition) -> (u64, SegmentTail) {
+        segment_parts(*item)
     }
 }
 
@@ -299,8 +286,12 @@ impl Head for Mark {
     }
 }
 
-/// A component of a group: its segment.
-impl Made<(First<Mark>, Index)> for u16 {
+/// Components of groups: the segment of each.
+pub struct Component;
+
+impl Made<(First<Mark>, Index)> for Component {
+    type Item = u16;
+
     ghost Value = { ℕ };
 
     ghost format = { λ _. shapes.component };
@@ -312,7 +303,7 @@ impl Made<(First<Mark>, Index)> for u16 {
         segment
     }
 
-    fn parts(&self) -> (u64, u16) {
-        (0xFF, *self)
+    fn parts(item: &u16) -> (u64, u16) {
+        (0xFF, *item)
     }
 }

@@ -11,12 +11,12 @@ use Rattle.omf_record.specs.Record.{Block, Content, Nested, Blocks, End, More, b
 use Rattle.omf_record.specs.View.{block_view}
 use Rattle.omf_record.specs.Body.{BlockText}
 use Rattle.omf_record.specs.Canonical as canon
-use Rattle.omf_record.specs.inside.Format.{join, Format, IsFree, Lawful, Completes, IsFilled, IsMade, Splits, free}
-use Rattle.omf_record.specs.inside.FormatLaws.{both, both_lawful, both_filled, behind, behind_lawful, behind_filled}
-use Rattle.omf_record.specs.inside.FormatLaws.{when, when_lawful, bits_at, made_lawful, made_filled, exact}
-use Rattle.omf_record.specs.inside.FormatLaws.{exact_splits, same, each_shortest, each_bytes}
-use Rattle.omf_record.specs.inside.PrimitiveLaws.{word, word_lawful, word_filled, name, name_lawful, fact_byte}
-use Rattle.omf_record.specs.inside.Segments.{IsZero}
+use Rattle.omf_codec.specs.inside.Format.{join, Format, IsFree, Lawful, Completes, IsFilled, IsMade, Splits, free}
+use Rattle.omf_codec.specs.inside.FormatLaws.{both, both_lawful, both_filled, behind, behind_lawful, behind_filled}
+use Rattle.omf_codec.specs.inside.FormatLaws.{when, when_lawful, bits_at, made_lawful, made_filled, exact}
+use Rattle.omf_codec.specs.inside.FormatLaws.{exact_splits, same, each_shortest, each_bytes}
+use Rattle.omf_codec.specs.inside.PrimitiveLaws.{word, word_lawful, word_filled, name, name_lawful, fact_byte}
+use Rattle.omf_codec.specs.inside.PrimitiveLaws.{IsZero}
 
 -- ---- so many texts, one behind the other
 

@@ -6,11 +6,12 @@ use Rattle.omf_record.specs.Answer.{Answers}
 use Rattle.omf_record.specs.declared.parse.RecordFault.{RecordFault}
 use Rattle.omf_record.specs.Record.{Record, Theadr, Coment, Modend, Extdef, Pubdef, Linnum, Lnames, Segdef, Grpdef}
 use Rattle.omf_record.specs.Record.{Fixupp, Ledata, Lidata}
-use Rattle.omf_record.specs.Body.{Body, BodyOf, kind_of}
-use Rattle.omf_record.specs.Canonical.{canonical}
-use Rattle.omf_record.specs.inside.Format.{Format}
-use Rattle.omf_record.specs.inside.FormatLaws.{both, to_end}
-use Rattle.omf_record.specs.inside.PrimitiveLaws.{byte, word, index, name, rest_of}
+use Rattle.omf_record.specs.Body.{Body, BodyOf, kind_of, ReferenceText}
+use Rattle.omf_record.specs.Canonical.{canonical, reference}
+use Rattle.omf_codec.specs.inside.Format.{Format}
+use Rattle.omf_codec.specs.inside.Wholes.{IsEnding}
+use Rattle.omf_codec.specs.inside.FormatLaws.{both, to_end}
+use Rattle.omf_codec.specs.inside.PrimitiveLaws.{byte, word, index, name, rest_of}
 use Rattle.omf_record.specs.inside.Shapes.{external, public, base, line, component}
 use Rattle.omf_record.specs.inside.Subrecords.{subrecord}
 use Rattle.omf_record.specs.inside.Segments.{segment, segment_of}
@@ -36,7 +37,7 @@ layout {I} {P} F made = record { I = I; P = P; parts = F; made = made }
 abbrev pub layout_of : (A : Type 0) → Record → Layout
 layout_of A (Theadr _) = layout name Theadr
 layout_of A (Coment _ _ _) = layout (both byte (both byte rest_of)) (λ x. Coment x.0 x.1.0 x.1.1)
-layout_of A (Modend _ _) = layout module_end (λ x. Modend x.0 x.1)
+layout_of A (Modend _ _) = layout (module_end ReferenceText reference) (λ x. Modend x.0 x.1)
 layout_of A (Extdef local _) = layout (list A external) (Extdef local)
 layout_of A (Pubdef local _ _) = layout (both base (list A public)) (λ x. Pubdef local x.0 x.1)
 layout_of A (Linnum _ _ _) = layout (both index (both index (list A line))) (λ x. Linnum x.0 x.1.0 x.1.1)
@@ -70,12 +71,12 @@ from A _ (Extdef true _) text e l = absurd (omega (arith, e))
 from A _ (Pubdef true _ _) text e l = absurd (omega (arith, e))
 from A _ _ text e l = absurd (omega (arith, e))
 
-end_to : (x : Bool × Option Reference) (text : List ℕ) → EndText x text → Body (Modend x.0 x.1) text
+end_to : (x : Bool × Option Reference) (text : List ℕ) → EndText ReferenceText reference x text → Body (Modend x.0 x.1) text
 unfolding Body
 end_to (main, None) text l = l
 end_to (main, Some r) text l = l
 
-end_same : (x : Bool × Option Reference) → end_text x ≡ canonical (Modend x.0 x.1)
+end_same : (x : Bool × Option Reference) → end_text ReferenceText reference x ≡ canonical (Modend x.0 x.1)
 unfolding canonical
 end_same (main, None) = refl
 end_same (main, Some r) = refl
@@ -86,8 +87,7 @@ pub record IsBody {I P : Type 0} (F : Format I P) (kind : ℕ) : Type 0 where
   pub to : (x : P) (text : List ℕ) → F.Text x text → BodyOf kind (made x) text
   pub from : (r : Record) (text : List ℕ) → BodyOf kind r text → (x : P) × (made x ≡ r) × F.Text x text
   pub same : (x : P) → F.canonical x ≡ canonical (made x)
-  pub ended : F.Ends []
-  pub goes_on : (a b : ℕ) (s t : List ℕ) → F.Ends (a ∷ s) → F.Ends (b ∷ t)
+  pub ending : IsEnding F
 
 -- the bodies of the type of this record
 pub body : (A : Type 0) (r : Record) (kind : ℕ) → kind ≡ kind_of r → IsBody (layout_of A r).parts kind
@@ -97,16 +97,14 @@ body A (Modend m t) kind k = record {
   to = λ x text l. (sym k, end_to x text l);
   from = λ s text b. from A (Modend m t) s text (b.0 ∙ k) b.1;
   same = end_same;
-  ended = tt;
-  goes_on = λ a b s t e. tt;
+  ending = record { ended = tt; goes_on = λ a b s t e. tt };
 }
 body A r kind k = record {
   made = (layout_of A r).made;
   to = λ x text l. (sym k, l);
   from = λ s text b. from A r s text (b.0 ∙ k) b.1;
   same = λ x. refl;
-  ended = grind arith;
-  goes_on = λ a b s t e. grind (arith, e);
+  ending = record { ended = grind arith; goes_on = λ a b s t e. grind (arith, e) };
 }
 
 -- the body of each type whose parts name no allocator, or name it first
@@ -116,7 +114,7 @@ theadr_body = body ℕ (Theadr []) 0x80 refl
 pub coment_body : IsBody (both byte (both byte rest_of)) 0x88
 coment_body = body ℕ (Coment 0 0 []) 0x88 refl
 
-pub modend_body : IsBody module_end 0x8A
+pub modend_body : IsBody (module_end ReferenceText reference) 0x8A
 modend_body = body ℕ (Modend true None) 0x8A refl
 
 pub lnames_body : {A : Type 0} → IsBody (list A name) 0x96

@@ -8,12 +8,12 @@ use Rattle.omf_record.specs.inside.Fields.{FrameBits, TargetBits, FrameText, Tar
 use Rattle.omf_record.specs.inside.Fields.{FixData}
 use Rattle.omf_record.specs.inside.Fields.{absent}
 use Rattle.omf_record.specs.Canonical as canon
-use Rattle.omf_record.specs.inside.Format.{Format, IsMade, Lawful, Completes, free}
-use Rattle.omf_record.specs.inside.FormatLaws.{both, both_lawful, both_blank, behind, when, when_lawful, when_blank}
-use Rattle.omf_record.specs.inside.FormatLaws.{when_canonical, WhenText, bits_at, map_same}
-use Rattle.omf_record.specs.inside.PrimitiveLaws.{index, index_lawful, index_blank, word, word_lawful, word_blank}
-use Rattle.omf_record.specs.inside.PrimitiveLaws.{fact_byte}
-use Rattle.omf_record.specs.inside.Heads.{ByHead, joined, by_head, by_head_lawful, by_head_blank}
+use Rattle.omf_codec.specs.inside.Format.{Format, IsMade, Lawful, Completes, free}
+use Rattle.omf_codec.specs.inside.FormatLaws.{both, both_lawful, both_blank, behind, when, when_lawful, when_blank}
+use Rattle.omf_codec.specs.inside.FormatLaws.{when_canonical, WhenText, bits_at, map_same}
+use Rattle.omf_codec.specs.inside.PrimitiveLaws.{index, index_lawful, index_blank, word, word_lawful, word_blank}
+use Rattle.omf_codec.specs.inside.PrimitiveLaws.{fact_byte}
+use Rattle.omf_codec.specs.inside.Heads.{ByHead, joined, by_head, by_head_lawful, by_head_blank}
 use Rattle.omf_record.specs.Types.{ThreadNumber, FrameMethod, TargetMethod, Datum, Reference}
 use Rattle.omf_record.specs.declared.fixups.ThreadNumber.TheVariants.{Zero, One, Two, Three}
 use Rattle.omf_record.specs.declared.fixups.FrameMethod.TheVariants as frame
@@ -73,11 +73,11 @@ abbrev pub target_datum_index : Datum TargetMethod → Option ℕ
 target_datum_index (datum.Thread n) = None
 target_datum_index (datum.By m) = Some (target_method_index m)
 
-frame_to : (b : ℕ) (x : Option ℕ) (text : List ℕ) → b < 256 → IsFixData b → WhenText (b / 64 % 4 ≡ 0) Index x text
+pub frame_to : (b : ℕ) (x : Option ℕ) (text : List ℕ) → b < 256 → IsFixData b → WhenText (b / 64 % 4 ≡ 0) Index x text
     → FrameBits (frame_datum_of b x) b × FrameText (frame_datum_of b x) text
 frame_to b x text lt h l = grind (arith, eqb-true, eqb-false, h, l)
 
-target_to : (b : ℕ) (x : Option ℕ) (text : List ℕ) → IsFixData b → WhenText (b / 8 % 2 ≡ 0) Index x text
+pub target_to : (b : ℕ) (x : Option ℕ) (text : List ℕ) → IsFixData b → WhenText (b / 8 % 2 ≡ 0) Index x text
     → TargetBits (target_datum_of b x) b × TargetText (target_datum_of b x) text
 target_to b x text h l = grind (arith, eqb-true, eqb-false, h, l)
 
@@ -85,11 +85,11 @@ displacement_to : (x : Option ℕ) (b : ℕ) (text : List ℕ) → WhenText (b /
     → (bits 2 2 b ≡ absent x) × optional Word x text
 displacement_to x b text l = grind (arith, l)
 
-frame_from : (f : Datum FrameMethod) (b : ℕ) (text : List ℕ) → b < 256 → FrameBits f b → FrameText f text
+pub frame_from : (f : Datum FrameMethod) (b : ℕ) (text : List ℕ) → b < 256 → FrameBits f b → FrameText f text
     → WhenText (b / 64 % 4 ≡ 0) Index (frame_datum_index f) text
 frame_from f b text lt h l = grind (arith, h, l)
 
-target_from : (t : Datum TargetMethod) (b : ℕ) (text : List ℕ) → TargetBits t b → TargetText t text
+pub target_from : (t : Datum TargetMethod) (b : ℕ) (text : List ℕ) → TargetBits t b → TargetText t text
     → WhenText (b / 8 % 2 ≡ 0) Index (target_datum_index t) text
 target_from t b text h l = grind (arith, h, l)
 
@@ -97,11 +97,11 @@ displacement_from : (x : Option ℕ) (b : ℕ) (text : List ℕ) → bits 2 2 b 
     → WhenText (b / 4 % 2 ≡ 0) Word x text
 displacement_from x b text h l = grind (arith, h, l)
 
-frame_in : (f : Datum FrameMethod) (b : ℕ) → b < 256 → FrameBits f b → (b / 16 ≢ 3) × (b / 16 ≢ 6) × (b / 16 ≢ 7)
+pub frame_in : (f : Datum FrameMethod) (b : ℕ) → b < 256 → FrameBits f b → (b / 16 ≢ 3) × (b / 16 ≢ 6) × (b / 16 ≢ 7)
     × (frame_datum_of b (frame_datum_index f) ≡ f)
 frame_in f b lt h = grind (arith, h)
 
-target_in : (t : Datum TargetMethod) (b : ℕ) → TargetBits t b → (b % 16 ≢ 3) × (b % 16 ≢ 7)
+pub target_in : (t : Datum TargetMethod) (b : ℕ) → TargetBits t b → (b % 16 ≢ 3) × (b % 16 ≢ 7)
     × (target_datum_of b (target_datum_index t) ≡ t)
 target_in t b h = grind (arith, h)
 
@@ -116,16 +116,16 @@ target_bits : (t : Datum TargetMethod) (p q : ℕ) → p < 2 → TargetBits t (1
     × (canon.target_bits t < 12) × (canon.target_bits t % 8 < 4)
 target_bits t p q lt = grind arith
 
-frame_same : (f : Datum FrameMethod) → when_canonical canon.index (frame_datum_index f) ≡ canon.frame_text f
+pub frame_same : (f : Datum FrameMethod) → when_canonical canon.index (frame_datum_index f) ≡ canon.frame_text f
 frame_same f = grind arith
 
-target_same : (t : Datum TargetMethod) → when_canonical canon.index (target_datum_index t) ≡ canon.target_text t
+pub target_same : (t : Datum TargetMethod) → when_canonical canon.index (target_datum_index t) ≡ canon.target_text t
 target_same t = grind arith
 
 displacement_same : (x : Option ℕ) → when_canonical canon.word x ≡ canon.displacement_text x
 displacement_same x = grind arith
 
-fits : (r : Reference) → (canon.fix_data r < 256) × FixData r (canon.fix_data r)
+pub fits : (r : Reference) → (canon.fix_data r < 256) × FixData r (canon.fix_data r)
 fits r =
     let p : absent r.displacement < 2 = grind arith in
     let t = target_bits r.target (absent r.displacement) (canon.frame_bits r.frame / 16) p in

@@ -7,13 +7,13 @@ use Rattle.omf_record.specs.Body.{bits, AbsoluteText, Acbp}
 use Rattle.omf_record.specs.inside.Fields.{SegmentText}
 use Rattle.omf_record.specs.Numbers.{alignment_number, combination_number, length_code}
 use Rattle.omf_record.specs.Canonical as canon
-use Rattle.omf_record.specs.inside.Format.{join, Format, Lawful, Completes, IsMade, free}
-use Rattle.omf_record.specs.inside.FormatLaws.{both, both_lawful, both_blank, behind, when, when_lawful, when_blank}
-use Rattle.omf_record.specs.inside.FormatLaws.{when_canonical, WhenText, bits_at, map_same}
-use Rattle.omf_record.specs.inside.PrimitiveLaws.{byte, byte_lawful, byte_blank, word, word_lawful, word_blank, index}
-use Rattle.omf_record.specs.inside.PrimitiveLaws.{index_lawful, index_blank, fact_byte, fact_byte_lawful}
-use Rattle.omf_record.specs.inside.PrimitiveLaws.{fact_byte_blank}
-use Rattle.omf_record.specs.inside.Heads.{ByHead, joined, by_head, by_head_lawful}
+use Rattle.omf_codec.specs.inside.Format.{join, Format, Lawful, Completes, IsMade, free}
+use Rattle.omf_codec.specs.inside.FormatLaws.{both, both_lawful, both_blank, behind, when, when_lawful, when_blank}
+use Rattle.omf_codec.specs.inside.FormatLaws.{when_canonical, WhenText, bits_at, map_same}
+use Rattle.omf_codec.specs.inside.PrimitiveLaws.{byte, byte_lawful, byte_blank, word, word_lawful, word_blank, index}
+use Rattle.omf_codec.specs.inside.PrimitiveLaws.{index_lawful, index_blank, fact_byte, fact_byte_lawful}
+use Rattle.omf_codec.specs.inside.PrimitiveLaws.{fact_byte_blank, IsZero}
+use Rattle.omf_codec.specs.inside.Heads.{ByHead, joined, by_head, by_head_lawful}
 use Rattle.omf_record.specs.Types.{Alignment, Combination, SegmentLength, SegmentDefinition}
 use Rattle.omf_record.specs.declared.segments.Alignment.TheVariants as align
 use Rattle.omf_record.specs.declared.segments.Combination.TheVariants as combine
@@ -36,22 +36,22 @@ abbrev pub absolute_of : Alignment → Option (ℕ × ℕ)
 absolute_of (align.Absolute frame offset) = Some (frame, offset)
 absolute_of _ = None
 
-alignment_to : (b : ℕ) (x : Option (ℕ × ℕ)) (text : List ℕ) → b < 256 → b / 32 < 6
+pub alignment_to : (b : ℕ) (x : Option (ℕ × ℕ)) (text : List ℕ) → b < 256 → b / 32 < 6
     → WhenText (bits_at 32 8 b ≡ 0) (both word byte).Text x text
     → (bits 7 5 b ≡ alignment_number (alignment_in (b / 32) x)) × AbsoluteText (alignment_in (b / 32) x) text
 alignment_to b (Some x) text lt h l = (omega (arith, l.0, lt), l.1)
 alignment_to b None text lt h l = grind (arith, eqb-true, eqb-false, l)
 
-alignment_from : (a : Alignment) (b : ℕ) (text : List ℕ) → bits 7 5 b ≡ alignment_number a → AbsoluteText a text
+pub alignment_from : (a : Alignment) (b : ℕ) (text : List ℕ) → bits 7 5 b ≡ alignment_number a → AbsoluteText a text
     → WhenText (bits_at 32 8 b ≡ 0) (both word byte).Text (absolute_of a) text
 alignment_from (align.Absolute f o) b text e l = (omega (arith, e), l)
 alignment_from _ b text e l = ((λ k. omega (arith, k, e)), l)
 
-alignment_back : (a : Alignment) (b : ℕ) → b < 256 → bits 7 5 b ≡ alignment_number a → (b / 32 < 6)
+pub alignment_back : (a : Alignment) (b : ℕ) → b < 256 → bits 7 5 b ≡ alignment_number a → (b / 32 < 6)
     × (alignment_in (b / 32) (absolute_of a) ≡ a)
 alignment_back a b lt e = grind (arith, e)
 
-alignment_same : (a : Alignment) → (when_canonical (both word byte).canonical (absolute_of a) ≡ canon.absolute_text a)
+pub alignment_same : (a : Alignment) → (when_canonical (both word byte).canonical (absolute_of a) ≡ canon.absolute_text a)
     × (alignment_number a < 6)
 alignment_same a = grind arith
 
@@ -61,13 +61,9 @@ combination_of c = cond (eqb c 0) combine.Private
     (cond (eqb c 2) combine.Public2 (cond (eqb c 4) combine.Public4
     (cond (eqb c 5) combine.Stack (cond (eqb c 6) combine.Common combine.Public7))))
 
-combination_back : (c : Combination) (n : ℕ) → n ≡ combination_number c → (combination_of n ≡ c)
+pub combination_back : (c : Combination) (n : ℕ) → n ≡ combination_number c → (combination_of n ≡ c)
     × (combination_number c < 8)
 combination_back c n e = grind (arith, e)
-
--- the byte 00
-abbrev pub IsZero : ℕ → Type 0
-IsZero b = b ≡ 0
 
 pub zero_blank : Completes (fact_byte IsZero) []
 zero_blank = fact_byte_blank IsZero refl
@@ -196,8 +192,8 @@ segment = free (λ x. x) SegmentText canon.segment
 pub segment_made : IsMade (behind (fact_byte IsAcbp) Behind (λ rest. Unit {0})) segment
 segment_made = by_head ByAcbp
 
-pub acbp_blank : Completes (fact_byte IsAcbp) []
-acbp_blank = fact_byte_blank IsAcbp (omega arith, refl, refl)
+pub acbp_zero : IsAcbp 0
+acbp_zero = (omega arith, refl, refl)
 
 pub behind_lawful : (b : ℕ) → Lawful (Behind b)
 behind_lawful b = both_lawful _

@@ -7,13 +7,13 @@ use Rattle.omf_record.specs.View.{external_view, public_view}
 use Rattle.omf_record.specs.Body.{BaseText}
 use Rattle.omf_record.specs.inside.Fields.{ExternalText, PublicText, LineText, ComponentText}
 use Rattle.omf_record.specs.Canonical as canon
-use Rattle.omf_record.specs.inside.Format.{join, Format, Lawful, IsFilled, IsMade, Splits, free}
-use Rattle.omf_record.specs.inside.FormatLaws.{both, both_lawful, both_filled, made_lawful, made_filled, behind}
-use Rattle.omf_record.specs.inside.FormatLaws.{behind_lawful, when, when_lawful, bits_at, exact, exact_splits}
-use Rattle.omf_record.specs.inside.PrimitiveLaws.{name, name_lawful, name_filled, index, index_lawful, word}
-use Rattle.omf_record.specs.inside.PrimitiveLaws.{word_lawful, word_filled, fact_byte_lawful, fact_byte_filled}
-use Rattle.omf_record.specs.inside.PrimitiveLaws.{fact_byte, index_small}
-use Rattle.omf_record.specs.inside.Heads.{joined}
+use Rattle.omf_codec.specs.inside.Format.{join, Format, Lawful, IsFilled, IsMade, Splits, free}
+use Rattle.omf_codec.specs.inside.FormatLaws.{both, both_lawful, both_filled, made_lawful, made_filled, behind}
+use Rattle.omf_codec.specs.inside.FormatLaws.{behind_lawful, when, when_lawful, bits_at, exact, exact_splits}
+use Rattle.omf_codec.specs.inside.PrimitiveLaws.{name, name_lawful, name_filled, index, index_lawful, word}
+use Rattle.omf_codec.specs.inside.PrimitiveLaws.{word_lawful, word_filled, fact_byte_lawful, fact_byte_filled}
+use Rattle.omf_codec.specs.inside.PrimitiveLaws.{fact_byte, index_small}
+use Rattle.omf_codec.specs.inside.Heads.{joined}
 use Rattle.omf_record.specs.declared.externals.External.{External}
 use Rattle.omf_record.specs.declared.externals.Public.{Public}
 use Rattle.omf_record.specs.Types.{Line, PublicBase}

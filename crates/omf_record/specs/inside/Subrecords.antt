@@ -8,12 +8,12 @@ use Rattle.omf_record.specs.inside.Fields.{FrameIndex, TargetIndex}
 use Rattle.omf_record.specs.Numbers.{bit, thread_number, location_number}
 use Rattle.omf_record.specs.inside.Fields.{frame_number, target_number}
 use Rattle.omf_record.specs.Canonical as canon
-use Rattle.omf_record.specs.inside.Format.{join, Format, Lawful, Completes, IsFilled, IsMade, free}
-use Rattle.omf_record.specs.inside.FormatLaws.{both, both_lawful, both_blank, behind, when_lawful, when_blank}
-use Rattle.omf_record.specs.inside.FormatLaws.{when, when_canonical, WhenText, bits_at, map_option, map_same}
-use Rattle.omf_record.specs.inside.PrimitiveLaws.{byte, byte_lawful, byte_blank, index, index_lawful, index_blank}
-use Rattle.omf_record.specs.inside.PrimitiveLaws.{fact_byte}
-use Rattle.omf_record.specs.inside.Heads.{ByHead, joined, by_head, by_head_lawful, by_head_filled}
+use Rattle.omf_codec.specs.inside.Format.{join, Format, Lawful, Completes, IsFilled, IsMade, free}
+use Rattle.omf_codec.specs.inside.FormatLaws.{both, both_lawful, both_blank, behind, when_lawful, when_blank}
+use Rattle.omf_codec.specs.inside.FormatLaws.{when, when_canonical, WhenText, bits_at, map_option, map_same}
+use Rattle.omf_codec.specs.inside.PrimitiveLaws.{byte, byte_lawful, byte_blank, index, index_lawful, index_blank}
+use Rattle.omf_codec.specs.inside.PrimitiveLaws.{fact_byte}
+use Rattle.omf_codec.specs.inside.Heads.{ByHead, joined, by_head, by_head_lawful, by_head_filled}
 use Rattle.omf_record.specs.inside.References.{thread_of, frame_method_of, frame_method_index, target_method_of}
 use Rattle.omf_record.specs.inside.References.{target_method_index, reference, reference_lawful, reference_blank}
 use Rattle.omf_record.specs.Types.{Location, FrameMethod, TargetMethod, Reference, Subrecord}
@@ -82,26 +82,26 @@ behind_first (sub.SetFrame n m) = (None, (Some (frame_method_index m), None))
 behind_first (sub.SetTarget n m) = (Some (target_method_index m), (None, None))
 behind_first (sub.Fixup f) = (None, (None, Some (f.offset % 256, f.reference)))
 
-frame_to : (n high : ℕ) (x : Option ℕ) (text : List ℕ) → (n ≢ 3) × (n < 6) → high ≡ n / 4
+pub frame_to : (n high : ℕ) (x : Option ℕ) (text : List ℕ) → (n ≢ 3) × (n < 6) → high ≡ n / 4
     → WhenText (high ≡ 0) Index x text → (n ≡ frame_number (frame_method_of n x))
     × FrameIndex (frame_method_of n x) text
 frame_to n high x text h e l = grind (arith, eqb-true, eqb-false, h, l)
 
-target_to : (n i : ℕ) (text : List ℕ) → n < 3 → Index i text → (n ≡ target_number (target_method_of n i))
+pub target_to : (n i : ℕ) (text : List ℕ) → n < 3 → Index i text → (n ≡ target_number (target_method_of n i))
     × TargetIndex (target_method_of n i) text
 target_to n i text lt l = grind (arith, eqb-true, eqb-false, l)
 
-frame_from : (m : FrameMethod) (b : ℕ) (text : List ℕ) → b < 256 → bits 7 6 b ≡ 1 → bits 4 2 b ≡ frame_number m
+pub frame_from : (m : FrameMethod) (b : ℕ) (text : List ℕ) → b < 256 → bits 7 6 b ≡ 1 → bits 4 2 b ≡ frame_number m
     → FrameIndex m text → WhenText (bits_at 16 2 b ≡ 0) Index (frame_method_index m) text
 frame_from m b text lt h e l = grind (arith, h, e, l)
 
-target_from : (m : TargetMethod) (text : List ℕ) → TargetIndex m text → Index (target_method_index m) text
+pub target_from : (m : TargetMethod) (text : List ℕ) → TargetIndex m text → Index (target_method_index m) text
 target_from m text l = grind (arith, l)
 
-frame_same : (m : FrameMethod) → when_canonical canon.index (frame_method_index m) ≡ canon.frame_index m
+pub frame_same : (m : FrameMethod) → when_canonical canon.index (frame_method_index m) ≡ canon.frame_index m
 frame_same m = grind arith
 
-target_same : (m : TargetMethod) → canon.index (target_method_index m) ≡ canon.target_index m
+pub target_same : (m : TargetMethod) → canon.index (target_method_index m) ≡ canon.target_index m
 target_same m = grind arith
 
 to : (b : ℕ) (x : Parts) (text : List ℕ) → b < 256 → IsFirst b

@@ -2,7 +2,7 @@ use Rattle.std.proofs.Common.{◌≡◌, ◌-◌, length, map, Ok, Err, arith, r
 use Rattle.std.proofs.lemmas.List.{length-map}
 use Rattle.omf_record.specs.View.{block_view}
 use Rattle.omf_record.specs.inside.Blocks.{block, block_lawful}
-use Rattle.omf_record.proofs.Lists.{left_more, left_fails, left_done}
+use Rattle.omf_codec.proofs.Lists.{left_more, left_fails, left_done}
 use Rattle.omf_record.proofs.BlockParts.{view_content, view_nested}
 use Rattle.omf_record.proofs.BlockTexts.{content_written, head_fails, nested_written, nested_fits}
 use Rattle.omf_record.proofs.blocks.+put_block.Goals as goal

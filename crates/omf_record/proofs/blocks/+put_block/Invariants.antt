@@ -1,6 +1,6 @@
 use Rattle.std.proofs.Common.{◌-◌}
 use Rattle.omf_record.specs.inside.Blocks.{block, block_lawful}
-use Rattle.omf_record.proofs.Lists.{Left}
+use Rattle.omf_codec.proofs.Lists.{Left}
 use Rattle.omf_record.proofs.blocks.+put_block.Given as goal
 
 abbrev pub decreases-put_block : goal.decreases-put_block

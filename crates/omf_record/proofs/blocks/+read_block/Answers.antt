@@ -3,7 +3,7 @@ use Rattle.std.proofs.lemmas.Result.{err_from_is_err_and}
 use Rattle.std.proofs.lemmas.List.{map_push, length-map}
 use Rattle.omf_record.specs.View.{block_view}
 use Rattle.omf_record.specs.inside.Blocks.{head, block}
-use Rattle.omf_record.proofs.Lists.{so_far_more}
+use Rattle.omf_codec.proofs.Lists.{so_far_more}
 use Rattle.omf_record.proofs.BlockParts.{view_content, view_nested}
 use Rattle.omf_record.proofs.BlockTexts.{leaf_found, leaf_err, head_err, inner_err, content_found, nested_found}
 use Rattle.omf_record.proofs.blocks.+read_block.Goals as goal

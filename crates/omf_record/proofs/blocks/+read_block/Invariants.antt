@@ -1,7 +1,7 @@
 use Rattle.std.proofs.Common.{◌≡◌, ◌-◌, length, map}
 use Rattle.omf_record.specs.View.{block_view}
 use Rattle.omf_record.specs.inside.Blocks.{block}
-use Rattle.omf_record.proofs.Lists.{SoFar}
+use Rattle.omf_codec.proofs.Lists.{SoFar}
 use Rattle.omf_record.proofs.blocks.+read_block.Given as goal
 
 abbrev pub decreases-read_block : goal.decreases-read_block

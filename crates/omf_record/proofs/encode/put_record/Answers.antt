@@ -1,7 +1,7 @@
 use Rattle.std.proofs.lemmas.List.{map-id}
 use Rattle.std.proofs.lemmas.Result.{err_from_is_err_and}
-use Rattle.omf_record.specs.inside.PrimitiveLaws.{index, index_lawful}
-use Rattle.omf_record.proofs.Parts.{first_fails, second_written}
+use Rattle.omf_codec.specs.inside.PrimitiveLaws.{index, index_lawful}
+use Rattle.omf_codec.proofs.Parts.{first_fails, second_written}
 use Rattle.omf_record.proofs.encode.put_record.Goals as goal
 
 pub returns-in-Extdef : goal.returns-in-Extdef

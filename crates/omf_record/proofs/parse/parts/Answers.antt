@@ -1,12 +1,7 @@
-use Rattle.omf_record.proofs.Faults.{refused, left_over}
+use Rattle.omf_record.proofs.Faults.{body_fault}
 use Rattle.omf_record.proofs.parse.parts.Goals as goal
 
-pub returns-in-Ok : goal.returns-in-Ok
-returns-in-Ok g c =
-    left_over c.args.kind (g.P.Codec.format 0) c.requires (g.met.P.Codec.lawful 0) c.args.bytes.now _ c.in-Ok.rest.now
-    c.in-Ok.len_at_least c.in-Ok.ensures
-
-pub returns-in-Err-Refused : goal.returns-in-Err-Refused
-returns-in-Err-Refused g c =
-    refused c.args.kind (g.P.Codec.format 0) c.requires (g.met.P.Blank.blank 0) c.args.bytes.now
-    c.in-Err-Refused.bad.now (rw c.in-Err-Refused.field-0-is at c.in-Err-Refused.ensures)
+pub returns-in-Err-Text : goal.returns-in-Err-Text
+returns-in-Err-Text g c =
+    body_fault c.args.kind (g.P.Codec.format 0) c.requires c.args.bytes.now c.in-Err-Text.at
+    (rw c.in-Err-Text.field-0-is at c.in-Err-Text.ensures)

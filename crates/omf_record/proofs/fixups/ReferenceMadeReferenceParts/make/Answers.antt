@@ -1,4 +1,4 @@
-use Rattle.omf_record.specs.inside.Heads.{by_head_make}
+use Rattle.omf_codec.specs.inside.Heads.{by_head_make}
 use Rattle.omf_record.specs.inside.References.{ByFixData}
 use Rattle.omf_record.proofs.fixups.ReferenceMadeReferenceParts.make.Goals as goal
 

@@ -1,7 +1,0 @@
-use Rattle.std.proofs.Common.{subst, sym}
-use Rattle.omf_record.specs.inside.Ends.{EndText, ByAttribute}
-use Rattle.omf_record.specs.inside.Heads.{by_head_make}
-use Rattle.omf_record.proofs.fixups.EndMadeEndParts.make.Goals as goal
-
-pub returns : goal.returns
-returns c = λ text l. subst (λ y. EndText y text) (sym c.end_of.ensures) (by_head_make ByAttribute c.args.parts text l)

@@ -1,5 +1,0 @@
-use Rattle.omf_record.specs.inside.Shapes.{component_splits}
-use Rattle.omf_record.proofs.segments.U16MadeTuple2FirstMarkIndex.parts.Goals as goal
-
-pub returns : goal.returns
-returns c = λ n. component_splits c.args.self.now
