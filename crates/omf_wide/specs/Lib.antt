@@ -1,0 +1,7 @@
+pub mod Numbers
+pub mod Said
+pub mod Body
+pub mod Widened
+pub mod View
+pub mod Answer
+pub mod inside

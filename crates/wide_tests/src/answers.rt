@@ -1,0 +1,42 @@
+//! What is answered for a record, as text.
+
+use hex::FromHexError;
+use omf_frame::Frame;
+use omf_wide::{Said, WideFault, parse_wide};
+use std::alloc::{Allocator, Global};
+use std::process::Abort;
+
+/// What the record with this type and body says.
+pub fn read<'a, A: Allocator + Copy + 'a>(
+    alloc: A,
+    kind: u8,
+    body: &'a [u8],
+) -> Result<Said<'a, A>, WideFault> {
+    parse_wide(alloc, &Frame::new(0, kind, &body[..body.len().min(65_534)]))
+}
+
+/// The answer for a record, which is the hexadecimal digits of its type and its body.
+fn answer(alloc: Global, record: &str) -> Result<String, FromHexError> {
+    let bytes = hex::decode(alloc, record)?;
+    let (kind, body) = bytes
+        .split_first()
+        .ok_or(FromHexError::InvalidStringLength)?;
+    Ok(match read(alloc, *kind, body) {
+        Ok(said) => format!(in alloc; "{said:?}"),
+        Err(fault) => format!(in alloc; "{fault:?}"),
+    }?)
+}
+
+/// What is told is what is wanted.
+fn is_told<R: Abort>(rt: &R, told: &str, wanted: &str) {
+    assert_eq!(rt; told, wanted);
+}
+
+/// Each line of a table is a record and the answer for it.
+pub fn hold<R: Abort>(rt: &R, alloc: Global, table: &str) {
+    for row in table.split('\n') {
+        let (record, wanted) = row.split_once(" => ").unwrap_or((row, "no answer"));
+        let told = answer(alloc, record).expect(rt, "an answer");
+        is_told(rt, &told, wanted);
+    }
+}

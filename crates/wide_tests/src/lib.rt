@@ -1,0 +1,9 @@
+//! Records of 32 bits read by their bytes, and each growth on the way refused in turn.
+#![tactic(auto)]
+
+#[cfg(test)]
+mod answers;
+#[cfg(test)]
+mod bodies;
+#[cfg(test)]
+mod growths;
