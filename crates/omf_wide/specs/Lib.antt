@@ -1,6 +1,7 @@
 pub mod Numbers
 pub mod Said
 pub mod Body
+pub mod Communals
 pub mod Widened
 pub mod View
 pub mod Answer

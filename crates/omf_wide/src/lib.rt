@@ -2,6 +2,7 @@
 #![tactic(auto)]
 
 mod bodies;
+mod communals;
 mod ends;
 mod externals;
 mod fault;
@@ -12,6 +13,7 @@ mod reading;
 mod said;
 mod segments;
 
+pub use communals::{Communal, Extent, read_communal};
 pub use externals::ListedExternal;
 pub use fault::WideFault;
 pub use fixups::{WideFixup, WideLocation, WideReference, WideSubrecord};

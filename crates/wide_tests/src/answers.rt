@@ -2,8 +2,8 @@
 
 use hex::FromHexError;
 use omf_frame::Frame;
-use omf_wide::{Said, WideFault, parse_wide};
-use std::alloc::{Allocator, Global};
+use omf_wide::{Said, WideFault, parse_wide, read_communal};
+use std::alloc::{AllocError, Allocator, Global};
 use std::process::Abort;
 
 /// What the record with this type and body says.
@@ -15,15 +15,29 @@ pub fn read<'a, A: Allocator + Copy + 'a>(
     parse_wide(alloc, &Frame::new(0, kind, &body[..body.len().min(65_534)]))
 }
 
+/// What the record says, or its fault.
+fn said(alloc: Global, kind: u8, body: &[u8]) -> Result<String, AllocError> {
+    match read(alloc, kind, body) {
+        Ok(said) => format!(in alloc; "{said:?}"),
+        Err(fault) => format!(in alloc; "{fault:?}"),
+    }
+}
+
+/// The first entry of COMDEF or LCOMDEF, and the bytes behind it.
+fn entry(alloc: Global, body: &[u8]) -> Result<String, AllocError> {
+    let told = read_communal(alloc, body)?;
+    format!(in alloc; "{told:?}")
+}
+
 /// The answer for a record, which is the hexadecimal digits of its type and its body.
 fn answer(alloc: Global, record: &str) -> Result<String, FromHexError> {
     let bytes = hex::decode(alloc, record)?;
     let (kind, body) = bytes
         .split_first()
         .ok_or(FromHexError::InvalidStringLength)?;
-    Ok(match read(alloc, *kind, body) {
-        Ok(said) => format!(in alloc; "{said:?}"),
-        Err(fault) => format!(in alloc; "{fault:?}"),
+    Ok(match *kind {
+        0xB0 | 0xB8 => entry(alloc, body),
+        kind => said(alloc, kind, body),
     }?)
 }
 

@@ -133,3 +133,21 @@ combination: Private, big: false, use32: false, length: 0, name: 1, class: 1, ov
 99 => Body { at: 0 }";
     hold(&rt, rt.alloc(), rows);
 }
+
+/// The first entry of COMDEF: numbers of one byte up to 80H, and of two, three or four behind 81H, 84H and 88H.
+#[test]
+fn communals(rt: HostRuntime) {
+    let rows = "\
+B00141006280FF => Some((Communal { name: [65], type_index: 0, extent: Near { length: 128 } }, [255]))
+B002414281806281FFFF => Some((Communal { name: [65, 66], type_index: 384, extent: Near { length: 65535 } }, []))
+B000076103840000010161 => Some((Communal { name: [], type_index: 7, extent: Far { elements: 3, size: 65536 } }, [1, 97]))
+B801410061880000000100 => Some((Communal { name: [65], type_index: 0, extent: Far { elements: 16777216, size: 0 } }, []))
+B00141005F0102 => Some((Communal { name: [65], type_index: 0, extent: Other { data_type: 95 } }, [1, 2]))
+B00141006282 => None
+B00141006281FF => None
+B00141006105 => None
+B0014100 => None
+B00241 => None
+B0 => None";
+    hold(&rt, rt.alloc(), rows);
+}
