@@ -81,12 +81,10 @@ impl Write for NewFile<'_> {
     }
 }
 
-/// The path of the file with this number beside a file.
+/// The path of the file with this number beside a file: `/`, `\` and `:` end the path of a folder. Where a system has
+/// these in names the new name is another one in the same folder.
 fn path_beside(alloc: Global, path: &str, number: u32) -> Result<String, AllocError> {
-    let folder = match path.rfind('/') {
-        Some(last) => &path[..last + 1],
-        None => "",
-    };
+    let folder = path.trim_end_matches(|letter: char| !matches!(letter, '/' | '\\' | ':'));
     format!(in alloc; "{folder}omf-{number}.tmp")
 }
 
