@@ -61,8 +61,9 @@ def opened(output, folder):
     return open(folder / output, "wb")
 
 
-def run(programs, case, folder):
-    """Runs a case in an empty folder by the programs of a folder."""
+def put_files(case, folder):
+    """Makes a folder with the files of a case, where it isn't there yet."""
+    folder.mkdir(exist_ok=True)
     for path, content in case.files.items():
         place = folder / path
         if content is None:
@@ -70,6 +71,11 @@ def run(programs, case, folder):
         else:
             place.parent.mkdir(parents=True, exist_ok=True)
             place.write_bytes(content)
+
+
+def run(programs, case, folder):
+    """Runs a case in an empty folder by the programs of a folder."""
+    put_files(case, folder)
     words = [str(programs / case.program), *case.words]
     if case.output == "closed":
         words = ["/bin/sh", "-c", 'exec "$@" >&-', "sh", *words]
@@ -206,6 +212,47 @@ def of_doslink():
     yield Case("doslink: to standard output", "doslink", ["-o", "-", main, "LETTERS.A"], files, variables={"LIB": ""})
     yield Case("doslink: of standard input", "doslink", ["-o", "OUT.EXE", "-", "LETTERS.A"], files,
                variables={"LIB": ""}, input=letters[main])
+
+
+def of_windows(own):
+    """Runs that have words of Windows or DOS, where this is the path of the folder of the run, and the same with words
+    of Linux: pairs of cases, which have to end alike."""
+    letters = modules_of(EXAMPLES / "letters")
+    members, main = list(letters)[1:], list(letters)[0]
+    library = archive({name: letters[name] for name in members})
+    one, none = {"A.OBJ": HELLO}, {"A.OBJ": HELLO, "a/b": None}
+    folders = {main: with_default_library(letters[main], b"LETTERS"), "lib/LETTERS.LIB": library, "none": None}
+    by_library = ["-o", "OUT.EXE", main]
+    for title, program, words, same, files, variables in (
+            ("`\\` in OUT", "omf", ["link", "-o", "a\\b\\OUT.EXE", "A.OBJ"],
+             ["link", "-o", "a/b/OUT.EXE", "A.OBJ"], none, ("", "")),
+            ("a drive in OUT", "omf", ["link", "-o", "{folder}\\a\\OUT.EXE", "{folder}\\A.OBJ"],
+             ["link", "-o", "{folder}/a/OUT.EXE", "A.OBJ"], none, ("", "")),
+            ("an older file behind `\\`", "omf", ["rewrite", "A.OBJ", "a\\b\\B.OBJ"], ["rewrite", "A.OBJ", "a/b/B.OBJ"],
+             {**one, "a/b/B.OBJ": b"old"}, ("", "")),
+            ("another case", "omf", [*LINK, "a.obj"], [*LINK, "A.OBJ"], one, ("", "")),
+            ("the device NUL", "omf", ["link", "-o", "NUL", "A.OBJ"], ["link", "-o", "/dev/null", "A.OBJ"], one,
+             ("", "")),
+            ("*.OBJ", "omf", [*LINK, "*.OBJ"], [*LINK, "A.OBJ", "B.OBJ"], {**one, "B.OBJ": EMPTY}, ("", "")),
+            ("a folder's ?.OBJ", "omf", [*LINK, "a\\?.OBJ"], [*LINK, "a/X.OBJ"], {"a/X.OBJ": HELLO}, ("", "")),
+            ("a drive in LIB", "doslink", by_library, by_library, folders, ("{folder}\\lib", "{folder}/lib")),
+            ("two folders with drives in LIB", "doslink", by_library, by_library, folders,
+             ("{folder}\\none;{folder}/lib", "{folder}/none:{folder}/lib")),
+            ("a drive behind -L", "doslink", ["-L", "{folder}\\lib", *by_library], ["-L", "lib", *by_library], folders,
+             ("{folder}\\none", "none")),
+            ("a long line in a file", "doslink", ["@WORDS.RSP"], ["@WORDS.RSP"],
+             {**folders, "WORDS.RSP": " ".join(["-L lib", *["-L none"] * 9000, *by_library]).encode()}, ("", ""))):
+        yield tuple(
+            Case(f"words of Windows: {title}", program, [word.replace("{folder}", folder) for word in given], files,
+                 variables={"LIB": value.replace("{folder}", folder)})
+            for given, value, folder in ((words, variables[0], own), (same, variables[1], ".")))
+
+
+def with_default_library(module, name):
+    """A module with a comment that names a default library behind its first record."""
+    record = bytes([0x88, len(name) + 3, 0, 0, 0x9F]) + name
+    first = 3 + int.from_bytes(module[1:3], "little")
+    return module[:first] + record + bytes([-sum(record) % 256]) + module[first:]
 
 
 def archive(members):

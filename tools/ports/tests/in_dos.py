@@ -19,7 +19,17 @@ REFUSED = (
 
 
 def jobs(names):
-    """What is done: a title, the program, its words and the files that are there."""
+    """What is done, each in the folder of its number on C: a run there, and one of Linux that ends alike."""
+    made = [(case, case) for case in (cases.Case(*job) for job in plain_jobs(names))]
+    for at in range(len(list(cases.of_windows("")))):
+        case, same = list(cases.of_windows(f"C:\\{len(made)}"))[at]
+        if case.program in names:
+            made.append((case, same))
+    return made
+
+
+def plain_jobs(names):
+    """Those with the same words: a title, the program, its words and the files that are there."""
     for example in sorted(path for path in cases.EXAMPLES.iterdir() if path.is_dir()):
         files = cases.modules_of(example)
         yield f"{example.name} is linked", "omf", ["link", "-o", "OUT.EXE", "-m", "OUT.MAP", *files], files
@@ -50,13 +60,11 @@ def test(programs, outcome, check):
         folder, lines, wanted = Path(folder), [], {}
         for name, file in programs.items():
             shutil.copy(file, folder / f"{name.upper()}.EXE")
-        for number, (title, program, words, files) in enumerate(jobs(programs)):
-            wanted[number] = title, outcome(cases.Case(title, program, words, files))
-            (folder / str(number)).mkdir()
-            for path, content in files.items():
-                (folder / str(number) / path).parent.mkdir(exist_ok=True)
-                (folder / str(number) / path).write_bytes(content)
-            lines += [f"cd \\{number}", f"\\{program.upper()} {' '.join(words)} > \\{number}.TXT"]
+        for number, (case, same) in enumerate(jobs(programs)):
+            wanted[number] = case.title, outcome(same)
+            cases.put_files(case, folder / str(number))
+            lines += [f"set LIB={case.variables.get('LIB', '')}", f"cd \\{number}"]
+            lines.append(f"\\{case.program.upper()} {' '.join(case.words)} > \\{number}.TXT")
             for status in (1, 2, 3):
                 lines.append(f"if errorlevel {status} echo {status} > \\{number}.{status}")
         check("all runs end in DOSBox", dosbox.run(folder, lines, SECONDS))
