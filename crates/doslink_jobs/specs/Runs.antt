@@ -1,8 +1,9 @@
 -- What a run has done that ends with status 0.
-use Rattle.std.specs.Prelude.{◌≡◌, ◌⊎◌, ◌==◌, ◌||◌, ℕ, List, [], ◌∷◌, ◌++◌, codes, true, if◌then◌else◌}
+use Rattle.std.specs.Prelude.{◌≡◌, ◌⊎◌, ◌==◌, ◌||◌, ◌&&◌, ℕ, Bool, List, [], ◌∷◌, ◌++◌, codes, true, false, if◌then◌else◌}
 use Rattle.std.specs.Prelude.{Ok, None, Some, MatchOption}
 use Rattle.std.specs.declared.option.Option.{Option}
 use Rattle.std.specs.List.{flat_map, slice_split}
+use Rattle.std.specs.Char.{is_ascii_alphabetic}
 use Rattle.clap.specs.Words.{Text}
 use Rattle.doslink_words.specs.declared.job.Directives.{Directives}
 use Rattle.doslink_words.specs.declared.job.Job.{Job}
@@ -29,9 +30,20 @@ only_response [] = None
 only_response (word ∷ []) = response_path word
 only_response _ = None
 
--- the folders of the environment's LIB: `;` or `:` stands between them
+-- a path begins with a drive: a letter, `:`, and `\` or `/`
+abbrev pub begins_with_drive : Text → Bool
+begins_with_drive (letter ∷ colon ∷ slash ∷ _) =
+    is_ascii_alphabetic letter && (colon == 58 && (slash == 92 || slash == 47))
+begins_with_drive _ = false
+
+-- the folders between `:`, which a drive's doesn't part: what begins with a drive is one
+abbrev pub folders_between_colons : Text → List Text
+folders_between_colons list =
+    if begins_with_drive list then list ∷ [] else slice_split (λ byte. byte == 58) list
+
+-- the folders of the environment's LIB: `;` stands between them, or `:` where it isn't behind a drive
 abbrev pub library_folders : Text → List Text
-library_folders list = flat_map (slice_split (λ byte. byte == 58)) (slice_split (λ byte. byte == 59) list)
+library_folders list = flat_map folders_between_colons (slice_split (λ byte. byte == 59) list)
 
 -- how the words of a program of this name are read: as directives where its last part is `wlink` or `wlink.exe`
 abbrev pub language_of : Text → Language

@@ -82,14 +82,33 @@ fn at_colons<'a>(alloc: Global, list: &'a str) -> Result<Vec<&'a str>, AllocErro
     list.split(':').collect(alloc)
 }
 
-/// The folders that the environment's LIB names: `;` or `:` stands between them.
+/// Whether a path begins with a drive: a letter, `:`, and `\` or `/`.
+fn begins_with_drive(path: &[u8]) -> bool
+    ensures { result ≡ spec.begins_with_drive path.now }
+{
+    matches!(path, [letter, b':', b'\\' | b'/', ..] if letter.is_ascii_alphabetic())
+}
+
+/// The folders that colons separate; what begins with a drive is one.
+fn between_colons<'a>(alloc: Global, list: &'a str) -> Result<Vec<&'a str>, AllocError>
+    ensures { IfOk result (λ folders. texts folders.items ≡ spec.folders_between_colons list.now) }
+{
+    if begins_with_drive(list.as_bytes()) {
+        Ok(vec![in alloc; list]?)
+    } else {
+        at_colons(alloc, list)
+    }
+}
+
+/// The folders that the environment's LIB names. `;` stands between them, or `:`, which doesn't part what begins with a
+/// drive, as `C:\LIB`.
 pub fn library_folders<'a>(alloc: Global, list: &'a str) -> Result<Vec<&'a str>, AllocError>
     ensures { IfOk result (λ folders. texts folders.items ≡ spec.library_folders list.now) }
 {
     let parts = at_semicolons(alloc, list)?;
     let mut folders = Vec::new(alloc);
     for part in &parts {
-        let more = at_colons(alloc, part)?;
+        let more = between_colons(alloc, part)?;
         folders.extend_from_slice(&more)?;
     }
     Ok(folders)

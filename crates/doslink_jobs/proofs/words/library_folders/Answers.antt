@@ -1,12 +1,12 @@
-use Rattle.std.proofs.Common.{◌==◌, ap, ◌∙◌}
-use Rattle.std.specs.List.{slice_split}
+use Rattle.std.proofs.Common.{ap, ◌∙◌}
+use Rattle.doslink_jobs.specs.Runs.{folders_between_colons}
 use Rattle.doslink_words.specs.Tokens.{texts}
 use Rattle.doslink_jobs.proofs.Texts.{flat-next}
 use Rattle.doslink_jobs.proofs.words.library_folders.Goals as goal
 
 pub loop-part-preserved : goal.loop-part-preserved
 loop-part-preserved c =
-    flat-next (slice_split (λ byte. byte == 58)) _ c.loop-part.part-index _
+    flat-next folders_between_colons _ c.loop-part.part-index _
     c.loop-part.folders.items c.extend_from_slice.new.self.items c.deref.result.now c.loop-part-test.true
     (ap texts c.deref.ensures.value ∙ c.in_ok-more.ensures) c.in_ok-extend_from_slice.ensures.items
     c.loop-part.invariant
