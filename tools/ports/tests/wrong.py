@@ -26,6 +26,23 @@ def build_surroundings(shims, port, made):
         subprocess.run([linker, "-static", "-o", made, thing], check=True)
 
 
+def build_for_windows(source, used, made):
+    """Builds a file of C for Windows, which uses these functions of kernel32."""
+    clang = KIT / "toolchain" / "bin" / "clang"
+    with tempfile.TemporaryDirectory(prefix="omf-port-") as folder:
+        tool = {name: Path(folder) / name for name in ("lld-link", "llvm-dlltool")}
+        for path in tool.values():
+            path.symlink_to(clang)
+        names, library, thing = (Path(folder) / name for name in ("kernel32.def", "kernel32.lib", "thing.o"))
+        names.write_text("LIBRARY kernel32.dll\nEXPORTS\n" + "".join(f"{each}\n" for each in used))
+        for words in (
+                [tool["llvm-dlltool"], "-m", "i386:x86-64", "-d", names, "-l", library],
+                [clang, "--target=x86_64-w64-windows-gnu", "--no-default-config", "-O1", "-ffreestanding",
+                 "-fno-stack-protector", "-c", source, "-o", thing],
+                [tool["lld-link"], "-lldmingw", "-entry:begin", "-subsystem:console", f"-out:{made}", thing, library]):
+            subprocess.run(words, check=True)
+
+
 def new_paths(folder):
     """Makes files, folders and links in a folder, and answers paths over them."""
     (folder / "a" / "b").mkdir(parents=True)
