@@ -1,6 +1,8 @@
 //! What the program takes of its surroundings.
 ghost use Rattle.std.specs.Prelude.{◌≡◌, ℕ, List, IfOk, IfSome, OnOk, None};
 ghost use Rattle.std.specs.declared.option.Option.{Option};
+ghost use Rattle.std.specs.Result.{result_ok};
+ghost use Rattle.omf_files.specs.declared.world.Looked as looking;
 
 use std::io::{self, Read, Write};
 
@@ -44,6 +46,9 @@ pub trait World {
     // The bytes of the file at a path, where the world tells them.
     ghost bytes: { Self → List ℕ → Option (List ℕ) } = { λ _ _. None };
 
+    // What stands at each path, and none where nothing does, where the world tells it.
+    ghost looks: { Self → Option (List ℕ → Option looking.Looked) } = { λ _. None };
+
     // The bytes of a file that was just created: none, where the world tells what files that are written hold.
     ghost blank: { Self → Option (List ℕ) } = { λ _. None };
 
@@ -55,7 +60,8 @@ pub trait World {
         ensures { IfOk result (λ file. Self.Input.remaining file ≡ bytes self.now path.now) };
 
     /// What stands at the path. Where that is a link, what it leads to.
-    fn look(&self, path: &str) -> io::Result<Looked>;
+    fn look(&self, path: &str) -> io::Result<Looked>
+        ensures { IfSome (looks self.now) (λ told. result_ok result ≡ told path.now) };
 
     /// A file without bytes that can be put at the path.
     fn create(&self, path: &str) -> io::Result<Self::Created>
