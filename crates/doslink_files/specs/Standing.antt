@@ -1,6 +1,18 @@
--- What a file begins as, by its first bytes.
-use Rattle.std.specs.Prelude.{ℕ, ◌+◌, ◌*◌, ◌==◌, ◌||◌, ◌&&◌, Bool, IsTrue, false, nat_eq, take, List, [], ◌∷◌, ◌++◌, codes}
+-- What stands where a file is to be written, and what a file begins as, by its first bytes. `looks` is what stands at
+-- each path, and none where nothing does.
+use Rattle.std.specs.Prelude.{ℕ, ◌+◌, ◌*◌, ◌==◌, ◌||◌, ◌&&◌, Bool, IsTrue, true, false, nat_eq, take, drop, length}
+use Rattle.std.specs.Prelude.{List, [], ◌∷◌, ◌++◌, codes, bytes_eq, Some, None}
+use Rattle.std.specs.declared.option.Option.{Option}
+use Rattle.std.specs.declared.cmp.Ordering.{Ordering}
+use Rattle.std.specs.BTreeSet.{BTreeSet, contains}
 use Rattle.std.specs.List.{list_any, starts_with}
+use Rattle.std.specs.Option.{option_map_or}
+use Rattle.std.specs.Ordering.{nat_cmp, ordering_then}
+use Rattle.std.specs.Path.{rfind_below}
+use Rattle.omf_files.specs.declared.world.FileId.{FileId}
+use Rattle.omf_files.specs.declared.world.Looked.{Looked}
+use Rattle.omf_files.specs.declared.world.PlaceKind.{PlaceKind}
+use Rattle.omf_files.specs.declared.world.PlaceKind.TheVariants.{Regular, Folder, Other}
 
 -- A module begins with a header record, THEADR 80H or LHEADR 82H, which holds one name: its length counts the name's
 -- length byte, the name and the closing byte.
@@ -32,3 +44,60 @@ begins_as_input front = begins_as_module front || begins_as_library front || beg
 -- a file with these bytes begins as one of them
 abbrev pub BeginsAsInput : List ℕ → Type 0
 BeginsAsInput file = (n : ℕ) × IsTrue (begins_as_input (take n file))
+
+-- two are one file
+abbrev pub is_same_file : FileId → FileId → Bool
+is_same_file x y = x.device == y.device && x.number == y.number
+
+-- bytes that stay
+abbrev pub is_regular : PlaceKind → Bool
+is_regular Regular = true
+is_regular Folder = false
+is_regular Other = false
+
+-- a regular file stands at the path
+abbrev pub stands_regular : (looks : List ℕ → Option Looked) → (path : List ℕ) → Bool
+stands_regular looks path = option_map_or (λ found. is_regular found.kind) (looks path) false
+
+-- the order of files in a set
+abbrev pub file_order : FileId → FileId → Ordering
+file_order x y = ordering_then (nat_cmp x.device y.device) (nat_cmp x.number y.number)
+
+-- a set has a file
+abbrev pub has_file : BTreeSet FileId → FileId → Bool
+has_file files id = contains file_order files id
+
+-- a regular file stands at the path that is one of some files, whatever the paths that led to them
+abbrev pub is_one_of : (looks : List ℕ → Option Looked) → (path : List ℕ) → (is_read : FileId → Bool) → Bool
+is_one_of looks path is_read =
+    option_map_or (λ found. is_regular found.kind && is_read found.id) (looks path) false
+
+-- the folder in which the file at a path stands: what stands up to the last `/`, and else `.`
+abbrev pub folder_of : List ℕ → List ℕ
+folder_of path = option_map_or (λ last. take (last + 1) path) (rfind_below 47 path (length path)) (codes ".")
+
+-- the name of the file at a path: what stands behind the last `/`
+abbrev pub name_of : List ℕ → List ℕ
+name_of path = option_map_or (λ last. drop (last + 1) path) (rfind_below 47 path (length path)) path
+
+-- the same stands at two places
+abbrev pub are_same : Option Looked → Option Looked → Bool
+are_same (Some first) (Some second) = is_same_file first.id second.id
+are_same _ _ = false
+
+-- two paths are those of one name in one folder
+abbrev pub is_one_name : (looks : List ℕ → Option Looked) → (one other : List ℕ) → Bool
+is_one_name looks one other =
+    are_same (looks (folder_of one)) (looks (folder_of other)) && bytes_eq (name_of one) (name_of other)
+
+-- one regular file stands at two places, or nothing at either, and they have one name in one folder
+abbrev pub are_one : (is_name : Bool) → Option Looked → Option Looked → Bool
+are_one is_name (Some first) (Some second) = is_regular first.kind && is_same_file first.id second.id
+are_one is_name None None = is_name
+are_one is_name _ _ = false
+
+-- Two files that are written at these paths would be one: the paths are the same, a regular file stands at both, or
+-- nothing stands at either, and they have one name in one folder.
+abbrev pub is_one_place : (looks : List ℕ → Option Looked) → (one other : List ℕ) → Bool
+is_one_place looks one other =
+    bytes_eq one other || are_one (is_one_name looks one other) (looks one) (looks other)

@@ -1,5 +1,5 @@
 //! What stands where a file is to be written.
-ghost use Rattle.std.specs.Prelude.{◌≡◌, IfSome, IsTrue};
+ghost use Rattle.std.specs.Prelude.{◌≡◌, ◌&&◌, bytes_eq, IfSome, IsTrue, true};
 ghost use Rattle.doslink_files.specs.Standing as spec;
 
 use omf_files::{FileId, PlaceKind, World};
@@ -65,7 +65,8 @@ pub fn begins_as_input(front: &[u8]) -> bool
 /// Whether a regular file stands at the path that begins as a module does, or as a library or an archive. What can't be
 /// read doesn't.
 pub fn stands_as_input<W: World>(world: &W, path: &str) -> bool
-    ensures { IsTrue result → IfSome (W.bytes world.now path.now) spec.BeginsAsInput }
+    ensures begins { IsTrue result → IfSome (W.bytes world.now path.now) spec.BeginsAsInput }
+    ensures regular { IsTrue result → IfSome (W.looks world.now) (λ looks. spec.stands_regular looks path.now ≡ true) }
 {
     match world.look(path) {
         Ok(looked) if looked.kind == PlaceKind::Regular => {}
@@ -82,11 +83,9 @@ pub fn stands_as_input<W: World>(world: &W, path: &str) -> bool
 }
 
 /// Whether a regular file stands at the path that is one of these, whatever the paths that led to them.
-pub fn is_one_of<W: World, A: Allocator>(
-    world: &W,
-    path: &str,
-    files: &BTreeSet<FileId, A>,
-) -> bool {
+pub fn is_one_of<W: World, A: Allocator>(world: &W, path: &str, files: &BTreeSet<FileId, A>) -> bool
+    ensures { IfSome (W.looks world.now) (λ looks. result ≡ spec.is_one_of looks path.now (spec.has_file files.now)) }
+{
     match world.look(path) {
         Ok(looked) => looked.kind == PlaceKind::Regular && files.contains(&looked.id),
         Err(_) => false,
@@ -94,7 +93,10 @@ pub fn is_one_of<W: World, A: Allocator>(
 }
 
 /// A path as a folder, in which the file stands, and the name of the file.
-fn parts(path: &str) -> (&str, &str) {
+fn parts(path: &str) -> (&str, &str)
+    ensures folder { result.0.now ≡ spec.folder_of path.now }
+    ensures name { result.1.now ≡ spec.name_of path.now }
+{
     match path.rfind('/') {
         Some(last) => (&path[..last + 1], &path[last + 1..]),
         None => (".", path),
@@ -103,7 +105,9 @@ fn parts(path: &str) -> (&str, &str) {
 
 /// Whether two files that are written at these paths would be one: the paths are the same, a regular file stands at
 /// both, or nothing stands at either, and they have one name in one folder.
-pub fn is_one_place<W: World>(world: &W, one: &str, other: &str) -> bool {
+pub fn is_one_place<W: World>(world: &W, one: &str, other: &str) -> bool
+    ensures { IfSome (W.looks world.now) (λ looks. result ≡ spec.is_one_place looks one.now other.now) }
+{
     if one == other {
         return true;
     }
@@ -115,7 +119,10 @@ pub fn is_one_place<W: World>(world: &W, one: &str, other: &str) -> bool {
 }
 
 /// Whether two names, each behind its folder, are one in one folder.
-fn is_one_name<W: World>(world: &W, one: (&str, &str), other: (&str, &str)) -> bool {
+fn is_one_name<W: World>(world: &W, one: (&str, &str), other: (&str, &str)) -> bool
+    ensures { IfSome (W.looks world.now) (λ looks. result ≡ (spec.are_same (looks one.entry.0.now)
+        (looks other.entry.0.now) && bytes_eq one.entry.1.now other.entry.1.now)) }
+{
     match (world.look(one.0), world.look(other.0)) {
         (Ok(first), Ok(second)) => first.id == second.id && one.1 == other.1,
         _ => false,
