@@ -1,0 +1,45 @@
+-- The forms of a program's file beside the EXE file: bytes of the program and no header. What stands at an address of
+-- the program depends on the paragraph that it is loaded at, where its words are relocated.
+use Rattle.std.specs.Prelude.{ℕ, Bool, ◌==◌, ◌&&◌, not, nat_lt, is_some, List, [], ◌∷◌, take, drop, length, Option}
+use Rattle.std.specs.Bool.{then_some}
+use Rattle.omf_module.specs.Before.{first}
+use Rattle.omf_module.specs.Module.{Module}
+use Rattle.omf_place.specs.Layout.{Layout}
+use Rattle.omf_image.specs.Program.{Program}
+use Rattle.omf_image.specs.Registers.{stack}
+use Rattle.omf_image.specs.Words.{add_words}
+use Rattle.flat_file.specs.declared.fault.FormFault.{FormFault}
+use Rattle.flat_file.specs.declared.fault.FormFault.TheVariants.{Relocated, StackSegment, OtherStart, DataBelow, TooLong}
+use Rattle.flat_file.specs.Covered.{first_covered}
+
+-- .BIN: the program at a paragraph, from an address on to the end of its written part
+abbrev pub bin_bytes : (paragraph from : ℕ) → Program → List ℕ
+bin_bytes paragraph from program =
+    drop from (take program.written (add_words paragraph program.relocations program.image))
+
+-- .COM: the written part of the program from 100H on
+abbrev pub com_bytes : Program → List ℕ
+com_bytes program = drop 256 (take program.written program.image)
+
+-- .SYS, a device driver: the written part of the program
+abbrev pub sys_bytes : Program → List ℕ
+sys_bytes program = take program.written program.image
+
+-- a word that is relocated, which only the loader of EXE files does
+abbrev pub has_relocations : Program → Bool
+has_relocations program = nat_lt 0 (length program.relocations)
+
+-- what keeps a program from being a .COM file, the first by its number: a relocated word; a stack segment, for the
+-- loader sets SS and SP; a start that isn't at 100H of the program's first frame; data below 100H, where the PSP
+-- stands; and a program that ends behind its first 65,536 bytes, so has more than 65,280 from 100H on
+unfoldable pub com_fault : Layout → List Module → Program → Option FormFault
+com_fault layout modules program =
+    first (then_some (has_relocations program) Relocated
+    ∷ then_some (is_some (stack layout modules)) StackSegment
+    ∷ then_some (not (program.registers.cs == 0 && program.registers.ip == 256)) OtherStart
+    ∷ then_some (nat_lt (first_covered layout modules) 256) DataBelow
+    ∷ then_some (nat_lt 65536 (length program.image)) TooLong ∷ [])
+
+-- what keeps it from being a driver: a relocated word
+abbrev pub sys_fault : Program → Option FormFault
+sys_fault program = then_some (has_relocations program) Relocated

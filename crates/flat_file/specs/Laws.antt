@@ -1,0 +1,57 @@
+-- What a file of each form is, of the program that linked modules stand for.
+use Rattle.std.specs.Prelude.{◌≡◌, ℕ, ◌+◌, ◌-◌, ◌*◌, ◌<◌, ◌≤◌, List, IsTrue, length, slice_get, Some, None, Ok}
+use Rattle.omf_module.specs.Module.{Module}
+use Rattle.omf_place.specs.Layout.{Layout}
+use Rattle.omf_image.specs.Building.{IsProgramOf}
+use Rattle.omf_image.specs.Program.{Program, IsProgram}
+use Rattle.omf_image.specs.Records.{program_byte, written}
+use Rattle.omf_image.specs.Registers.{registers}
+use Rattle.flat_file.specs.Covered.{is_covered, first_covered, memory_len}
+use Rattle.flat_file.specs.Forms.{bin_bytes, com_bytes, com_fault, sys_bytes, sys_fault}
+use Rattle.flat_file.specs.Com.{LoadedCom, loading}
+
+-- what data covers begins at the first address that it covers, and lies in the written part
+abbrev pub CoversWritten : Type 0
+CoversWritten =
+    (layout : Layout) (modules : List Module) (program : Program) → IsProgramOf layout modules program
+    → (address : ℕ) → IsTrue (is_covered layout modules address)
+    → (first_covered layout modules ≤ address) × (address < program.written)
+
+-- These bytes are, from an address on to the end of the written part, those of the located program at a paragraph, and
+-- no more.
+pub record IsLocatedFrom (paragraph from : ℕ) (layout : Layout) (modules : List Module) (file : List ℕ) : Type 0 where
+  pub size : length file ≡ written layout modules - from
+  pub bytes : (address : ℕ) → from ≤ address → address < written layout modules
+      → slice_get file (address - from) ≡ Some (program_byte paragraph layout modules address)
+
+-- a .BIN file, byte for byte, is the located program at its paragraph
+abbrev pub BinIsLocated : Type 0
+BinIsLocated =
+    (layout : Layout) (modules : List Module) (program : Program) → IsProgramOf layout modules program
+    → IsProgram program → (paragraph from : ℕ)
+    → IsLocatedFrom paragraph from layout modules (bin_bytes paragraph from program)
+
+-- a driver's file is the located program at each paragraph
+abbrev pub SysIsLocated : Type 0
+SysIsLocated =
+    (layout : Layout) (modules : List Module) (program : Program) → IsProgramOf layout modules program
+    → IsProgram program → sys_fault program ≡ None → (paragraph : ℕ)
+    → IsLocatedFrom paragraph 0 layout modules (sys_bytes program)
+
+-- What a .COM program is in memory: data covers no address below 100H, at each address of the written part from there
+-- on, but for those of the word that is pushed at the segment's end, stands the byte of the located program at the
+-- paragraph of the PSP, and CS, IP and SS are the program's there.
+pub record IsLocatedCom (psp : ℕ) (layout : Layout) (modules : List Module) (memory : LoadedCom) : Type 0 where
+  pub above : (address : ℕ) → IsTrue (is_covered layout modules address) → 256 ≤ address
+  pub bytes : (address : ℕ) → 256 ≤ address → address < written layout modules → address < 65534
+      → slice_get memory.bytes (address - 256) ≡ Some (program_byte psp layout modules address)
+  pub cs : memory.registers.cs ≡ (registers psp layout modules).cs
+  pub ip : memory.registers.ip ≡ (registers psp layout modules).ip
+  pub ss : memory.registers.ss ≡ (registers psp layout modules).ss
+
+-- so is the file of a program in which no fault stands, wherever its segment fits
+abbrev pub ComLoadsAsWritten : Type 0
+ComLoadsAsWritten =
+    (layout : Layout) (modules : List Module) (program : Program) → IsProgramOf layout modules program
+    → IsProgram program → com_fault layout modules program ≡ None → (psp : ℕ) → 16 * psp + 65536 ≤ memory_len
+    → (memory : LoadedCom) × (loading psp (com_bytes program) ≡ Ok memory) × IsLocatedCom psp layout modules memory

@@ -1,0 +1,21 @@
+//! What a file of each form is, of the program that modules stand for.
+ghost use Rattle.flat_file.specs.Laws.{BinIsLocated, ComLoadsAsWritten, CoversWritten, SysIsLocated};
+
+/// What DOS makes of the .COM file of a program, wherever its segment fits: at each address of its written part the byte
+/// of the located program at the paragraph of the program segment prefix, but for the last word of the segment, which
+/// DOS pushes; and data covers no address below 100H.
+pub fn com_loads_as_written()
+    ensures { ComLoadsAsWritten }
+{}
+
+/// A .BIN file at a paragraph is, byte for byte, the located program there; from the first address that data covers on
+/// it has all that data covers.
+pub fn bin_is_located()
+    ensures bytes { BinIsLocated }
+    ensures covered { CoversWritten }
+{}
+
+/// A driver's file is the located program at each paragraph.
+pub fn sys_is_located()
+    ensures { SysIsLocated }
+{}

@@ -1,0 +1,19 @@
+//! The files of programs without a header: .COM, .BIN and .SYS, written, and .COM loaded.
+#![tactic(auto)]
+
+mod bin;
+mod com;
+mod covered;
+mod fault;
+mod laws;
+mod loading;
+mod stack;
+mod sys;
+
+pub use bin::write_bin;
+pub use com::write_com;
+pub use covered::first_covered;
+pub use fault::{FlatFault, FormFault};
+pub use laws::{bin_is_located, com_loads_as_written, sys_is_located};
+pub use loading::{ComFault, LoadedCom, load_com};
+pub use sys::write_sys;

@@ -1,0 +1,9 @@
+//! Files of programs without a header, written and loaded.
+#![tactic(auto)]
+
+#[cfg(test)]
+mod forms;
+#[cfg(test)]
+mod loading;
+#[cfg(test)]
+mod said;

@@ -1,0 +1,145 @@
+//! What a test links, writes and writes down.
+
+ghost use Rattle.omf_place.specs.Bounded.{IsBounded};
+
+use flat_file::{FlatFault, first_covered, write_bin, write_com, write_sys};
+use omf_frame::{IoFault, MemSink};
+use omf_image::{Program, build};
+use omf_module::Module;
+use omf_place::{Layout, Names, place};
+use rows::{push_bytes, read_modules, read_row, same};
+use std::alloc::{AllocError, Allocator, Global};
+use std::test::*;
+
+/// Room for each file of these tests.
+const ROOM: usize = 70_000;
+
+/// How many bytes a sink takes at once, at most.
+const PIECE: usize = 7;
+
+/// Appends the bytes of a file that was written, or the fault and the bytes.
+fn push_answer(
+    text: &mut String,
+    answer: Result<(), FlatFault>,
+    file: &[u8],
+) -> Result<(), AllocError> {
+    match answer {
+        Ok(()) => {}
+        Err(FlatFault::Form(fault)) => {
+            let (number, name) = fault.label();
+            write!(text, " {number} {name}")?;
+        }
+        Err(FlatFault::Device) => text.push_str(" failed")?,
+    }
+    push_bytes(text, file)
+}
+
+/// An answer that only a failing sink makes a fault.
+fn of_device(answer: Result<(), IoFault>) -> Result<(), FlatFault> {
+    match answer {
+        Ok(()) => Ok(()),
+        Err(IoFault) => Err(FlatFault::Device),
+    }
+}
+
+/// Room for a file.
+fn room(alloc: Global, len: usize) -> Result<Vec<u8>, AllocError> {
+    let mut bytes = Vec::new(alloc);
+    bytes.resize(len, 0)?;
+    Ok(bytes)
+}
+
+fn push_com<A: Allocator + Copy>(
+    alloc: Global,
+    text: &mut String,
+    modules: &[Module<A>],
+    layout: &Layout<A>,
+    program: &Program<A>,
+) -> Result<(), AllocError>
+    requires { IsBounded modules.now layout.now }
+{
+    let mut bytes = room(alloc, ROOM)?;
+    let mut sink = MemSink::over(&mut bytes, PIECE);
+    let answer = write_com(modules, layout, program, &mut sink);
+    text.push_str("com:")?;
+    push_answer(text, answer, sink.written())
+}
+
+fn push_sys<A: Allocator + Copy>(
+    alloc: Global,
+    text: &mut String,
+    program: &Program<A>,
+) -> Result<(), AllocError> {
+    let mut bytes = room(alloc, ROOM)?;
+    let mut sink = MemSink::over(&mut bytes, PIECE);
+    let answer = write_sys(program, &mut sink);
+    text.push_str("; sys:")?;
+    push_answer(text, answer, sink.written())
+}
+
+/// Appends the .BIN file at a paragraph, from an address on, in a sink with so much room.
+pub fn push_bin<A: Allocator + Copy>(
+    alloc: Global,
+    text: &mut String,
+    program: &Program<A>,
+    at: (u16, u32),
+    len: usize,
+) -> Result<(), AllocError> {
+    let (paragraph, from) = at;
+    let mut bytes = room(alloc, len)?;
+    let mut sink = MemSink::over(&mut bytes, PIECE);
+    let answer = of_device(write_bin(program, paragraph, from, &mut sink));
+    write!(text, "; {paragraph:04X} from {from:X}:")?;
+    push_answer(text, answer, sink.written())
+}
+
+/// The files of a program in each form: .COM, .SYS, and .BIN at paragraph 07C0H from the first byte that data covers.
+fn forms<A: Allocator + Copy>(
+    alloc: Global,
+    modules: &[Module<A>],
+    layout: &Layout<A>,
+    program: &Program<A>,
+) -> Result<String, AllocError>
+    requires { IsBounded modules.now layout.now }
+{
+    let mut text = String::new(alloc);
+    push_com(alloc, &mut text, modules, layout, program)?;
+    push_sys(alloc, &mut text, program)?;
+    let from = first_covered(modules, layout);
+    push_bin(alloc, &mut text, program, (0x07C0, from), ROOM)?;
+    Ok(text)
+}
+
+fn built(alloc: Global, modules: &[Module], layout: &Layout) -> Result<String, AllocError>
+    requires { IsBounded modules.now layout.now }
+{
+    match build(alloc, modules, layout) {
+        Ok(program) => forms(alloc, modules, layout, &program),
+        Err(fault) => format!(in alloc; "{fault}"),
+    }
+}
+
+fn placed(alloc: Global, modules: &[Module]) -> Result<String, AllocError> {
+    match place(alloc, modules, Names::Exact) {
+        Ok(layout) => built(alloc, modules, &layout),
+        Err(fault) => format!(in alloc; "{fault}"),
+    }
+}
+
+/// What is said of the program that inputs give, or why they give none.
+fn outcome(alloc: Global, inputs: &[Vec<u8>]) -> Result<String, AllocError> {
+    match read_modules(alloc, inputs) {
+        Ok(modules) => placed(alloc, &modules),
+        Err(fault) => format!(in alloc; "{fault}"),
+    }
+}
+
+/// The inputs of each row of a table give what is wanted of them.
+pub fn run(alloc: Global, table: &str) -> Result<(), Fail> {
+    for row in table.split("\n\n") {
+        let row = read_row(alloc, row)?;
+        let said = outcome(alloc, &row.inputs)?;
+        same(said.as_str(), row.wanted)?;
+    }
+    Ok(())
+}
