@@ -1,0 +1,5 @@
+pub mod InOrder
+pub mod Orders
+pub mod Stable
+pub mod Lines
+pub mod Puts

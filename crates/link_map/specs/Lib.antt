@@ -1,0 +1,5 @@
+pub mod Ordered
+pub mod Public
+pub mod Publics
+pub mod Map
+pub mod inside

@@ -1,0 +1,13 @@
+-- The map by its parts.
+use Rattle.std.specs.Prelude.{List, ℕ, ◌++◌}
+use Rattle.omf_module.specs.Module.{Module}
+use Rattle.omf_place.specs.Layout.{Layout}
+use Rattle.omf_image.specs.Program.{Program}
+use Rattle.link_map.specs.Map.{group_lines, order_lines, segment_lines, start_line}
+use Rattle.link_map.specs.Public.{Public}
+use Rattle.link_map.specs.declared.form.MapForm.{MapForm}
+
+-- the map with its publics in two orders, whichever they are
+abbrev pub map_with : MapForm → List Module → Layout → Program → (names values : List Public) → List ℕ
+map_with form modules layout program names values = segment_lines form modules layout
+    ++ (group_lines form modules layout ++ (order_lines names values ++ start_line program.registers))
