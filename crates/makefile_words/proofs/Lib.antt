@@ -1,0 +1,4 @@
+pub mod CutLemmas
+pub mod LinesLemmas
+pub mod Splitting
+pub mod TokensLemmas

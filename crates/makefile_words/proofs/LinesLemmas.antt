@@ -1,0 +1,161 @@
+-- What holds of the loops over options and tokens.
+use Rattle.std.proofs.Common.{◌≡◌, ◌∙◌, ◌+◌, ◌<◌, ◌≤◌, ℕ, Bool, true, false, cond, List, [], ◌∷◌}
+use Rattle.std.proofs.Common.{length, drop, get_or, Result, Ok, Err, ap, subst, sym}
+use Rattle.std.specs.Borrow.{Bor}
+use Rattle.std.proofs.lemmas.List.{at_drop_all, at_drop_more, get_or-map}
+use Rattle.clap.specs.Words.{Text}
+use Rattle.doslink_words.specs.Directives.{and_then}
+use Rattle.doslink_words.specs.Tokens.{texts}
+use Rattle.makefile_words.specs.Lines.{SaidLine, WrongWord, has_object, if_said, meaning, nothing_said, on_token}
+use Rattle.makefile_words.specs.Lines.{option_meaning, token_meaning, tokens_meaning, with_object, with_options}
+use Rattle.makefile_words.specs.Jobs.{IsJobOf, Means}
+use Rattle.makefile_words.specs.Tokens.{PlacedPiece, text_of, tokens}
+use Rattle.makefile_words.specs.inside.Follows.{Follows}
+use Rattle.makefile_words.specs.inside.Lines.{IsFaultAt, Says}
+use Rattle.makefile_words.specs.inside.Tokens.{pieces, placed_of}
+use Rattle.makefile_words.specs.declared.faults.FaultKind.{FaultKind}
+use Rattle.makefile_words.specs.declared.faults.FaultKind.TheVariants.{NoObject}
+use Rattle.makefile_words.specs.declared.faults.LineFault.{LineFault}
+use Rattle.makefile_words.specs.declared.faults.LineFault.TheVariants as line_fault
+use Rattle.makefile_words.specs.declared.job.MakefileJob.{MakefileJob}
+use Rattle.makefile_words.specs.declared.line.Line.{Line}
+use Rattle.makefile_words.specs.declared.faults.WordFault.{WordFault}
+use Rattle.makefile_words.specs.declared.faults.WordFault.TheVariants.{Memory, Wrong}
+use Rattle.makefile_words.specs.declared.tokens.Language.{Language}
+use Rattle.makefile_words.specs.declared.tokens.Placed.{Placed}
+
+-- what is at fault is so with all that would have followed
+pub then_fault : {A B : Type 0} (meant : Result A FaultKind) (next : A → Result B FaultKind) (after : A)
+    (last : B) (r : Result Unit WordFault) (f : WordFault) (whole : Result B FaultKind)
+    → Follows (Err f) meant after → r ≡ Err f → whole ≡ and_then meant next → Follows r whole last
+then_fault meant next after last r Memory whole follows e same = rw e tt
+then_fault meant next after last r (Wrong kind) whole follows e same = rw e (same ∙ ap (λ m. and_then m next) follows)
+
+-- ---- options
+
+options_step : (place : ℕ) (language : Language) (said : SaidLine) (all : List Text) (i : ℕ) (text : Text)
+    → i < length all → get_or all i text ≡ text
+    → with_options place language (drop i all) said
+    ≡ and_then (option_meaning place language text said) (with_options place language (drop (i + 1) all))
+options_step place language said all i text inside here =
+    at_drop_more (λ (ls : List Text). with_options place language ls said) all i text inside
+    ∙ ap (λ (t : Text). with_options place language (t ∷ drop (i + 1) all) said) here
+
+pub options_more : (place : ℕ) (language : Language) (said next : SaidLine) (all : List Text) (i : ℕ) (text : Text)
+    → i < length all → get_or all i text ≡ text → option_meaning place language text said ≡ Ok next
+    → with_options place language (drop i all) said ≡ with_options place language (drop (i + 1) all) next
+options_more place language said next all i text inside here means =
+    options_step place language said all i text inside here
+    ∙ ap (λ (r : Result SaidLine FaultKind). and_then r (with_options place language (drop (i + 1) all))) means
+
+pub options_fault : (place : ℕ) (language : Language) (said after last : SaidLine) (all : List Text) (i : ℕ)
+    (text : Text) (r : Result Unit WordFault) (f : WordFault) (whole : Result SaidLine FaultKind)
+    → i < length all → get_or all i text ≡ text
+    → Follows (Err f) (option_meaning place language text said) after → r ≡ Err f
+    → whole ≡ with_options place language (drop i all) said → Follows r whole last
+options_fault place language said after last all i text r f whole inside here follows e same =
+    then_fault (option_meaning place language text said) (with_options place language (drop (i + 1) all)) after last r
+    f whole follows e (same ∙ options_step place language said all i text inside here)
+
+pub options_end : (place : ℕ) (language : Language) (said : SaidLine) (all : List Text) (i : ℕ) → length all ≤ i
+    → with_options place language (drop i all) said ≡ Ok said
+options_end place language said all i done =
+    at_drop_all (λ (ls : List Text). with_options place language ls said) all i done
+
+-- ---- tokens
+
+tokens_step : (language : Language) (said : SaidLine) (all : List PlacedPiece) (i : ℕ) (token : PlacedPiece)
+    → i < length all → get_or all i token ≡ token
+    → tokens_meaning language (drop i all) said
+    ≡ on_token token (token_meaning language token said) (tokens_meaning language (drop (i + 1) all))
+tokens_step language said all i token inside here =
+    at_drop_more (λ (ts : List PlacedPiece). tokens_meaning language ts said) all i token inside
+    ∙ ap (λ (t : PlacedPiece). tokens_meaning language (t ∷ drop (i + 1) all) said) here
+
+pub tokens_more : (language : Language) (said next : SaidLine) (all : List PlacedPiece) (i : ℕ) (token : PlacedPiece)
+    → i < length all → get_or all i token ≡ token → token_meaning language token said ≡ Ok next
+    → tokens_meaning language (drop i all) said ≡ tokens_meaning language (drop (i + 1) all) next
+tokens_more language said next all i token inside here means =
+    tokens_step language said all i token inside here
+    ∙ ap (λ (r : Result SaidLine FaultKind). on_token token r (tokens_meaning language (drop (i + 1) all))) means
+
+tokens_wrong : (language : Language) (said : SaidLine) (all : List PlacedPiece) (i : ℕ) (token : PlacedPiece)
+    (kind : FaultKind) → i < length all → get_or all i token ≡ token → token_meaning language token said ≡ Err kind
+    → tokens_meaning language (drop i all) said
+    ≡ Err (record { place = token.place; word = text_of token.piece; kind = kind })
+tokens_wrong language said all i token kind inside here means =
+    tokens_step language said all i token inside here
+    ∙ ap (λ (r : Result SaidLine FaultKind). on_token token r (tokens_meaning language (drop (i + 1) all))) means
+
+pub tokens_stop : (language : Language) (said after : SaidLine) (all : List PlacedPiece) (i : ℕ) (token : PlacedPiece)
+    (f : WordFault) (fault : LineFault) (whole : Result SaidLine WrongWord) → i < length all
+    → get_or all i token ≡ token → Follows (Err f) (token_meaning language token said) after → IsFaultAt token f fault
+    → whole ≡ tokens_meaning language (drop i all) said → Says (Err fault) whole
+tokens_stop language said after all i token Memory fault whole inside here follows fits is = rw fits tt
+tokens_stop language said after all i token (Wrong kind) fault whole inside here follows fits is =
+    let P : Result SaidLine WrongWord → Type 0 = λ w. Says (Err fault) w in
+    subst P (sym (is ∙ tokens_wrong language said all i token kind inside here follows)) fits
+
+pub tokens_end : (language : Language) (said : SaidLine) (all : List PlacedPiece) (i : ℕ) → length all ≤ i
+    → tokens_meaning language (drop i all) said ≡ Ok said
+tokens_end language said all i done =
+    at_drop_all (λ (ts : List PlacedPiece). tokens_meaning language ts said) all i done
+
+-- a token and an option that are read at their places
+pub token_here : (ts : List Placed) (i : ℕ) (d : Placed) → i < length ts
+    → get_or (pieces ts) i (placed_of (get_or ts i d)) ≡ placed_of (get_or ts i d)
+token_here ts i d inside = get_or-map placed_of ts i d (placed_of (get_or ts i d)) inside
+
+pub text_here : (ls : List (Bor Text)) (i : ℕ) (d : Bor Text) → i < length ls
+    → get_or (texts ls) i (get_or ls i d).now ≡ (get_or ls i d).now
+text_here ls i d inside = get_or-map (λ s. s.now) ls i d ((get_or ls i d).now) inside
+
+-- ---- the line
+
+said_fault : (total : ℕ) (meant : Result SaidLine WrongWord) (f : LineFault) → Says (Err f) meant
+    → Says (Err f) (if_said meant (with_object total))
+said_fault total meant line_fault.Memory says = tt
+said_fault total meant (line_fault.Word place word kind) says = ap (λ m. if_said m (with_object total)) says
+
+pub read_fault : (language : Language) (text : Text) (ts : List PlacedPiece) (f : LineFault) (r : Result Line LineFault)
+    → r ≡ Err f → ts ≡ tokens language text → Says (Err f) (tokens_meaning language ts (nothing_said language))
+    → Says r (meaning language text)
+unfolding meaning
+read_fault language text ts f r is same says =
+    let P : List PlacedPiece → Type 0 =
+    λ t. Says (Err f) (if_said (tokens_meaning language t (nothing_said language)) (with_object (length text))) in
+    rw is
+    (subst P same (said_fault (length text) (tokens_meaning language ts (nothing_said language)) f says))
+
+read_with : (language : Language) (text : Text) (ts : List PlacedPiece) (said : SaidLine)
+    → ts ≡ tokens language text → tokens_meaning language ts (nothing_said language) ≡ Ok said
+    → meaning language text ≡ with_object (length text) said
+unfolding meaning
+read_with language text ts said same means =
+    ap (λ (t : List PlacedPiece).
+    if_said (tokens_meaning language t (nothing_said language)) (with_object (length text))) (sym same)
+    ∙ ap (λ (m : Result SaidLine WrongWord). if_said m (with_object (length text))) means
+
+pub read_ok : (language : Language) (text : Text) (ts : List PlacedPiece) (said : SaidLine)
+    → ts ≡ tokens language text → tokens_meaning language ts (nothing_said language) ≡ Ok said
+    → has_object said.inputs ≡ true → meaning language text ≡ Ok said
+read_ok language text ts said same means some =
+    read_with language text ts said same means
+    ∙ ap (λ (b : Bool). cond b (Ok said) (Err (record { place = length text; word = []; kind = NoObject }))) some
+
+pub read_none : (language : Language) (text : Text) (ts : List PlacedPiece) (said : SaidLine)
+    → ts ≡ tokens language text → tokens_meaning language ts (nothing_said language) ≡ Ok said
+    → has_object said.inputs ≡ false
+    → meaning language text ≡ Err (record { place = length text; word = []; kind = NoObject })
+read_none language text ts said same means none =
+    read_with language text ts said same means
+    ∙ ap (λ (b : Bool). cond b (Ok said) (Err (record { place = length text; word = []; kind = NoObject }))) none
+
+pub means_fault : (language : Language) (meant : Result SaidLine WrongWord) (f : LineFault)
+    (r : Result MakefileJob LineFault) → r ≡ Err f → Says (Err f) meant → Means language r meant
+means_fault language meant line_fault.Memory r is says = rw is tt
+means_fault language meant (line_fault.Word place word kind) r is says = rw is says
+
+pub means_ok : (language : Language) (meant : Result SaidLine WrongWord) (said : SaidLine) (made : MakefileJob)
+    → meant ≡ Ok said → IsJobOf language said made → Means language (Ok made) meant
+means_ok language meant said made is job = rw is job

@@ -1,0 +1,97 @@
+-- Which part of a word is a name, and which is options. `/` begins an option anywhere, `-` only at a word's start; since
+-- `/` parts folders on Unix too, a word is options only where they are whole.
+use Rattle.std.specs.Prelude.{ℕ, zero, suc, ◌+◌, ◌==◌, ◌&&◌, ◌||◌, Bool, true, false, nat_le, nat_lt, List, [], ◌∷◌}
+use Rattle.std.specs.Prelude.{length, drop, Option, Some, None, Result, Ok, Err, if◌then◌else◌, is_some, slice_index}
+use Rattle.std.specs.Option.{option_and_then, option_map_or}
+use Rattle.std.specs.List.{position_or_len, slice_split}
+use Rattle.std.specs.Path.{rsplit_once}
+use Rattle.clap.specs.Lexer.{strip_byte}
+use Rattle.clap.specs.Words.{Text}
+use Rattle.makefile_words.specs.declared.faults.FaultKind.{FaultKind}
+use Rattle.makefile_words.specs.declared.faults.FaultKind.TheVariants.{UnknownOption}
+use Rattle.makefile_words.specs.declared.settings.Setting.{Setting}
+use Rattle.makefile_words.specs.declared.tokens.Language.{Language}
+use Rattle.makefile_words.specs.declared.tokens.Language.TheVariants.{Tlink, Link}
+use Rattle.makefile_words.specs.Link.{link_option}
+use Rattle.makefile_words.specs.Tlink.{tlink_option}
+use Rattle.makefile_words.specs.Tokens.{takes_folders}
+
+-- what an option asks for, none where there is no such option
+abbrev pub option_named : Language → Text → Option Setting
+option_named Tlink option = tlink_option option
+option_named Link option = link_option option
+
+-- whether there is such an option
+abbrev pub is_option : Language → Text → Bool
+is_option language option = is_some (option_named language option)
+
+-- the options between which `/` stands: one alone where it takes folders, whose paths have `/` themselves
+abbrev pub options_in : Language → Text → List Text
+options_in language text =
+    if takes_folders language text then text ∷ [] else slice_split (λ byte. byte == 47) text
+
+-- whether these are all options
+abbrev pub are_options : Language → List Text → Bool
+are_options language [] = true
+are_options language (option ∷ more) = is_option language option && are_options language more
+
+-- whether a text is options, with `/` between them
+abbrev pub is_all_options : Language → Text → Bool
+is_all_options language text = are_options language (options_in language text)
+
+-- what a word is: a name, options, or a name with options behind it
+pub record SaidCut : Type 0 where
+  pub name : Option Text
+  pub options : Option Text
+
+-- what stands before a word's last `/`, where a whole option follows that
+abbrev pub front : Language → Text → Option Text
+front language word =
+    option_and_then (λ p. if is_option language p.1 then Some p.0 else None) (rsplit_once 47 word)
+
+-- what stands in front of the whole options at a word's end
+abbrev pub head_below : (bound : ℕ) → Language → Text → Text
+head_below zero language word = word
+head_below (suc bound) language word = option_map_or (head_below bound language) (front language word) word
+
+-- each cut leaves less, so that the bound is none
+unfoldable pub head : Language → Text → Text
+head language word = head_below (length word) language word
+
+-- a word that begins with no `/` or `-`: its longest tail of whole options is options
+abbrev pub named : Language → Text → SaidCut
+named language word = record {
+  name = Some (head language word);
+  options =
+      if nat_lt (length (head language word)) (length word) then Some (drop (length (head language word) + 1) word)
+      else None;
+}
+
+-- a word that begins as an option, with what stands behind that: options, a path where it may be one, or a fault
+abbrev pub begun : Language → (word options : Text) → (is_path : Bool) → Result SaidCut FaultKind
+begun language word options is_path =
+    if is_all_options language options then Ok (record { name = None; options = Some options })
+    else (if is_path then Ok (record { name = Some word; options = None }) else Err UnknownOption)
+
+-- whether a word begins with `./` or `../`
+abbrev pub is_dotted : Text → Bool
+is_dotted word =
+    (nat_le 2 (length word) && slice_index word 0 == 46 && slice_index word 1 == 47)
+    || (nat_le 3 (length word) && slice_index word 0 == 46 && slice_index word 1 == 46 && slice_index word 2 == 47)
+
+-- whether a text has a `/`
+abbrev pub has_slash : Text → Bool
+has_slash text = nat_lt (position_or_len (λ byte. byte == 47) text) (length text)
+
+-- a word that isn't dotted
+abbrev pub undotted : Language → Text → Result SaidCut FaultKind
+undotted language word =
+    option_map_or (λ options. begun language word options false)
+    (strip_byte 45 word)
+    (option_map_or (λ options. begun language word options (has_slash options)) (strip_byte 47 word)
+    (Ok (named language word)))
+
+-- what a word is
+unfoldable pub cut : Language → Text → Result SaidCut FaultKind
+cut language word =
+    if is_dotted word then Ok (record { name = Some word; options = None }) else undotted language word

@@ -1,0 +1,72 @@
+-- The job that a line's words ask for.
+use Rattle.std.specs.Prelude.{◌≡◌, ◌||◌, ⊤, not, Bool, true, false, ℕ, Option, Some, None, Result, Ok, Err, if◌then◌else◌}
+use Rattle.std.specs.Option.{option_map}
+use Rattle.clap.specs.Words.{Text}
+use Rattle.doslink_words.specs.Said.{SaidMap, SaidOrder, At, Beside, Dosseg, Meeting, inputs_of, map_of, order_of}
+use Rattle.doslink_words.specs.Tokens.{texts}
+use Rattle.doslink_words.specs.declared.job.Stack.{Stack}
+use Rattle.makefile_words.specs.Lines.{SaidLine, WrongWord, is_null}
+use Rattle.makefile_words.specs.declared.faults.LineFault.{LineFault}
+use Rattle.makefile_words.specs.declared.faults.LineFault.TheVariants as line_fault
+use Rattle.makefile_words.specs.declared.job.MakefileJob.{MakefileJob}
+use Rattle.makefile_words.specs.declared.settings.Ordering.{Ordering}
+use Rattle.makefile_words.specs.declared.settings.Ordering.TheVariants as ordering
+use Rattle.makefile_words.specs.declared.settings.Settings.{Settings}
+use Rattle.makefile_words.specs.declared.tokens.Language.{Language}
+use Rattle.makefile_words.specs.declared.tokens.Language.TheVariants.{Tlink, Link}
+
+-- a map that isn't named: beside the program, where one is made or its publics or line numbers are asked for
+abbrev pub map_beside : Settings → Option SaidMap
+map_beside s = if s.makes_map || s.publics || s.line_numbers then Some Beside else None
+
+-- a map of this name, which is none where that is NUL
+abbrev pub map_named : Settings → Option Text → Option SaidMap
+map_named s None = map_beside s
+map_named s (Some name) = if is_null name then None else Some (At name)
+
+-- the map, where one is made
+abbrev pub map_asked : Settings → Option Text → Option SaidMap
+map_asked s name = if s.no_map then None else map_named s name
+
+abbrev pub order_asked : Ordering → SaidOrder
+order_asked ordering.Meeting = Meeting
+order_asked ordering.Dosseg = Dosseg
+order_asked ordering.WithoutNulls = Dosseg
+
+-- whether the order DOSSEG has null bytes: not under TLINK
+abbrev pub nulls_asked : Language → Ordering → Bool
+nulls_asked Tlink order = false
+nulls_asked Link ordering.Meeting = true
+nulls_asked Link ordering.Dosseg = true
+nulls_asked Link ordering.WithoutNulls = false
+
+-- the stack, which a longer one is cut to
+abbrev pub stack_asked : Option ℕ → Option Stack
+stack_asked bytes = option_map (λ n. record { bytes = n; cuts = true }) bytes
+
+-- `made` is what is said
+pub record IsJobOf (language : Language) (said : SaidLine) (made : MakefileJob) : Type 0 where
+  pub inputs : inputs_of made.job.inputs.items ≡ said.inputs
+  pub out : option_map (λ name. name.now) made.job.out ≡ said.out
+  pub map : option_map map_of made.job.map ≡ map_asked said.settings said.map
+  pub folders : texts made.job.folders.items ≡ said.folders
+  pub ignore_case : made.job.ignore_case ≡ not said.settings.case_counts
+  pub order : order_of made.job.order ≡ order_asked said.settings.order
+  pub null_bytes : made.job.null_bytes ≡ nulls_asked language said.settings.order
+  pub stack : made.job.stack ≡ stack_asked said.settings.stack
+  pub default_libraries : made.job.default_libraries ≡ not said.settings.no_defaults
+  pub keep_debug : made.job.keep_debug ≡ false
+  pub packs_far_data : made.job.packs_far_data ≡ false
+  pub verbose : made.job.verbose ≡ said.settings.verbose
+  pub quiet : made.job.quiet ≡ false
+  pub settings : made.settings ≡ said.settings
+  pub left_out : texts made.left_out.items ≡ said.left_out
+  pub warnings : made.warnings.items ≡ said.warnings
+
+-- an answer is the job of what a line says, its first word at fault, or want of memory
+abbrev pub Means : Language → Result MakefileJob LineFault → Result SaidLine WrongWord → Type 0
+Means language (Ok made) (Ok said) = IsJobOf language said made
+Means language (Ok made) (Err wrong) = ⊥
+Means language (Err line_fault.Memory) meant = ⊤
+Means language (Err (line_fault.Word place word kind)) meant =
+    meant ≡ Err (record { place = place; word = word.now; kind = kind })

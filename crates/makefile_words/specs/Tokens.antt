@@ -1,0 +1,102 @@
+-- How a line is cut into tokens, each with its place. The manuals: fields are parted by commas, names in a field by
+-- blanks or `+`, and `;` ends the line. In a text of many lines (a response file) a line's end is a token too.
+use Rattle.std.specs.Prelude.{ℕ, zero, suc, ◌+◌, ◌-◌, ◌==◌, ◌&&◌, ◌||◌, not, Bool, false, nat_le, nat_lt, List, [], ◌∷◌}
+use Rattle.std.specs.Prelude.{length, take, drop, Option, Some, None, if◌then◌else◌, slice_index}
+use Rattle.std.specs.Option.{option_map_or}
+use Rattle.std.specs.List.{before_first, after_first, position_or_len}
+use Rattle.std.specs.Char.{is_ascii_whitespace}
+use Rattle.clap.specs.Words.{Text}
+use Rattle.makefile_words.specs.declared.tokens.Language.{Language}
+use Rattle.makefile_words.specs.declared.tokens.Language.TheVariants.{Tlink, Link}
+
+-- a token: a word, what stands between two quotes, a quote that isn't closed, or a mark
+pub data Piece : Type 0 where
+  Word : Text → Piece
+  Quoted : Text → Piece
+  Unclosed : Piece
+  Blank : Piece
+  Plus : Piece
+  Comma : Piece
+  Semicolon : Piece
+  LineEnd : Piece
+
+-- a token and its place: how many bytes of the text stand before it
+pub record PlacedPiece : Type 0 where
+  pub place : ℕ
+  pub piece : Piece
+
+-- whether a byte begins an option at a word's start: `/` and `-`
+abbrev pub begins_option : ℕ → Bool
+begins_option byte = byte == 47 || byte == 45
+
+-- the options of TLINK whose value is folders, which `;` parts: `L` (libraries) and `j` (objects)
+abbrev pub takes_folders : Language → Text → Bool
+takes_folders Tlink option = nat_le 1 (length option) && (slice_index option 0 == 76 || slice_index option 0 == 106)
+takes_folders Link option = false
+
+-- whether a text begins with such an option
+abbrev pub has_folders : Language → Text → Bool
+has_folders language text =
+    nat_le 1 (length text) && begins_option (slice_index text 0) && takes_folders language (drop 1 text)
+
+-- whether a byte stands behind a word: white space, `"`, `+`, a comma, and `;` where it parts no folders
+abbrev pub ends_word : (folders : Bool) → ℕ → Bool
+ends_word folders byte =
+    is_ascii_whitespace byte || byte == 34 || byte == 43 || byte == 44 || (byte == 59 && not folders)
+
+-- the marks: a line feed ends a line, other white space is a blank
+abbrev pub mark_of : ℕ → Option Piece
+mark_of byte =
+    if byte == 10 then Some LineEnd
+    else (if is_ascii_whitespace byte then Some Blank
+    else (if byte == 43 then Some Plus
+    else (if byte == 44 then Some Comma
+    else (if byte == 59 then Some Semicolon
+    else None))))
+
+-- whether a byte is a quote
+abbrev pub is_quote : ℕ → Bool
+is_quote byte = byte == 34
+
+-- what stands up to the next quote, and what follows that
+abbrev pub quoted : Text → Piece × Text
+quoted text =
+    if nat_lt (position_or_len is_quote text) (length text)
+    then (Quoted (before_first is_quote text), after_first is_quote text) else (Unclosed, [])
+
+-- how long the word is that a text begins with: a byte, and what follows it up to the next byte that ends a word
+abbrev pub word_len : Language → Text → ℕ
+word_len language text = 1 + position_or_len (ends_word (has_folders language text)) (drop 1 text)
+
+-- the word that a text begins with, and what follows it
+abbrev pub word : Language → Text → Piece × Text
+word language text = (Word (take (word_len language text) text), drop (word_len language text) text)
+
+-- the token that a text begins with, and what follows it
+abbrev pub token : Language → (byte : ℕ) → Text → Piece × Text
+token language byte text =
+    if is_quote byte then quoted text
+    else option_map_or (λ mark. (mark, text)) (mark_of byte) (word language (byte ∷ text))
+
+-- the tokens of a text that ends a line of `total` bytes, of which there are fewer than `bound`
+abbrev pub tokens_below : (bound : ℕ) → Language → (total : ℕ) → Text → List PlacedPiece
+tokens_below zero language total text = []
+tokens_below (suc bound) language total [] = []
+tokens_below (suc bound) language total (byte ∷ text) =
+    record { place = total - length (byte ∷ text); piece = (token language byte text).0 }
+    ∷ tokens_below bound language total (token language byte text).1
+
+-- the tokens of a text: each has a byte at least, so that the bound is none
+unfoldable pub tokens : Language → Text → List PlacedPiece
+tokens language text = tokens_below (length text + 1) language (length text) text
+
+-- the text of a token
+abbrev pub text_of : Piece → Text
+text_of (Word text) = text
+text_of (Quoted text) = text
+text_of Unclosed = 34 ∷ []
+text_of Blank = 32 ∷ []
+text_of Plus = 43 ∷ []
+text_of Comma = 44 ∷ []
+text_of Semicolon = 59 ∷ []
+text_of LineEnd = 10 ∷ []

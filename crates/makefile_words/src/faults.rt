@@ -1,0 +1,110 @@
+//! What a line can be at fault with.
+ghost use Rattle.std.specs.Prelude.{◌≡◌};
+ghost use Rattle.makefile_words.specs.declared.faults.WordFault.TheVariants as word_fault;
+ghost use Rattle.makefile_words.specs.declared.faults.LineFault.TheVariants as line_fault;
+
+use std::alloc::{AllocError, AllocFailed};
+use thiserror::Error;
+
+/// Why a line is no job.
+#[derive(Clone, Copy, Debug, PartialEq, Eq, Error)]
+pub enum LineFault<'a> {
+    /// There was no memory.
+    #[error("out of memory")]
+    Memory,
+    /// A word is at fault.
+    #[error("at byte {place}: {word}: {kind}")]
+    Word {
+        /// How many bytes of the text stand before the word, or before the token that is at fault.
+        place: usize,
+        /// The word.
+        word: &'a str,
+        /// What is wrong with it, or expected in its place.
+        kind: FaultKind,
+    },
+}
+
+impl<'a> From<AllocError> for LineFault<'a> {
+    ghost from_gives = { λ _ e. e ≡ line_fault.Memory };
+
+    fn from(_error: AllocError) -> LineFault<'a> {
+        LineFault::Memory
+    }
+}
+
+/// What is wrong with a word, or expected in its place.
+#[derive(Clone, Copy, Debug, PartialEq, Eq, Error)]
+pub enum FaultKind {
+    /// A quote isn't closed.
+    #[error("a quote isn't closed")]
+    UnclosedQuote,
+    /// The line names no object.
+    #[error("an object is expected")]
+    NoObject,
+    /// A field that has one name has a second one.
+    #[error("a comma is expected: the field has its name")]
+    SecondName,
+    /// A comma stands behind the last field.
+    #[error("no field is expected behind the definitions")]
+    TooManyFields,
+    /// Something stands behind `;`.
+    #[error("nothing is expected behind `;`")]
+    BehindEnd,
+    /// A word that begins as an option and is none.
+    #[error("unknown option")]
+    UnknownOption,
+    /// An option's value is no number, or out of its range.
+    #[error("the option's value is no number that it takes")]
+    WrongValue,
+    /// A file that has still to be read in the place of the word.
+    #[error("a response file stands in the place of a name")]
+    Response,
+    /// A device that is no file.
+    #[error("a file is expected, and no device")]
+    Device,
+    /// A file of definitions, whose statements change the program.
+    #[error("definitions aren't followed: a field that is empty or NUL is expected")]
+    Definitions,
+    /// Overlays are asked for.
+    #[error("overlays aren't made")]
+    Overlays,
+    /// An option for programs that aren't of DOS.
+    #[error("no other program is written than one for DOS")]
+    NotDos,
+    /// An option that would change the program in a way that isn't done.
+    #[error("the option would change the program, and isn't followed")]
+    Refused,
+}
+
+// Why a word can't be followed.
+#[derive(Clone, Copy)]
+pub(crate) enum WordFault {
+    // There was no memory.
+    Memory,
+    // This is wrong with it.
+    Wrong(FaultKind),
+}
+
+impl<T: Drop> From<AllocFailed<T>> for WordFault {
+    ghost from_gives = { λ _ e. e ≡ word_fault.Memory };
+
+    fn from(_error: AllocFailed<T>) -> WordFault {
+        WordFault::Memory
+    }
+}
+
+impl From<AllocError> for WordFault {
+    ghost from_gives = { λ _ e. e ≡ word_fault.Memory };
+
+    fn from(_error: AllocError) -> WordFault {
+        WordFault::Memory
+    }
+}
+
+impl From<FaultKind> for WordFault {
+    ghost from_gives = { λ kind e. e ≡ word_fault.Wrong kind };
+
+    fn from(kind: FaultKind) -> WordFault {
+        WordFault::Wrong(kind)
+    }
+}

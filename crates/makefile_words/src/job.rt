@@ -1,0 +1,100 @@
+//! The job that a line asks for.
+ghost use Rattle.std.specs.Prelude.{◌≡◌};
+ghost use Rattle.std.specs.Option.{option_map};
+ghost use Rattle.doslink_words.specs.Said.{map_of, order_of};
+ghost use Rattle.makefile_words.specs.Jobs as spec;
+ghost use Rattle.makefile_words.specs.inside.Lines.{line_of};
+
+use crate::line::{IdleAt, Line};
+use crate::names::is_null;
+use crate::settings::{Ordering, Settings};
+use crate::tokens::Language;
+use doslink_words::{Job, MapFile, Order, Stack};
+
+/// The job of a line, and what a job of `doslink` has no word for.
+#[derive(Debug, Drop)]
+pub struct MakefileJob<'a> {
+    /// What is linked, and how.
+    pub job: Job<'a>,
+    /// What the options say: among it the file's form, the header's extra paragraphs and what the map tells.
+    pub settings: Settings,
+    /// The libraries that are not searched where only a module names them.
+    pub left_out: Vec<&'a str>,
+    /// The options that have no effect, or not all that they would have, in their order.
+    pub warnings: Vec<IdleAt>,
+}
+
+// The map, where one is made.
+fn map_asked<'a>(settings: Settings, name: Option<&'a str>) -> Option<MapFile<'a>>
+    ensures { option_map map_of result ≡ spec.map_asked settings (option_map (λ s. s.now) name.entry) }
+{
+    if settings.no_map {
+        return None;
+    }
+    match name {
+        Some(name) if is_null(name) => None,
+        Some(name) => Some(MapFile::At(name)),
+        None if settings.makes_map || settings.publics || settings.line_numbers => {
+            Some(MapFile::Beside)
+        }
+        None => None,
+    }
+}
+
+// The order of segments.
+fn order_asked<'a>(ordering: Ordering) -> Order<'a>
+    ensures { order_of result ≡ spec.order_asked ordering }
+{
+    match ordering {
+        Ordering::Meeting => Order::Meeting,
+        Ordering::Dosseg | Ordering::WithoutNulls => Order::Dosseg,
+    }
+}
+
+// Whether the order DOSSEG has null bytes.
+fn nulls_asked(language: Language, ordering: Ordering) -> bool
+    ensures { result ≡ spec.nulls_asked language ordering }
+{
+    match (language, ordering) {
+        (Language::Tlink, _) | (_, Ordering::WithoutNulls) => false,
+        _ => true,
+    }
+}
+
+// The stack, which a longer one is cut to.
+fn stack_asked(bytes: Option<u32>) -> Option<Stack>
+    ensures { result ≡ spec.stack_asked bytes }
+{
+    Some(Stack {
+        bytes: bytes?,
+        cuts: true,
+    })
+}
+
+/// The job of what is said.
+pub(crate) fn job_of<'a>(language: Language, line: Line<'a>) -> MakefileJob<'a>
+    ensures { spec.IsJobOf language (line_of line.entry) result }
+{
+    let settings = line.settings;
+    let job = Job {
+        inputs: line.inputs,
+        out: line.out,
+        map: map_asked(settings, line.map),
+        folders: line.folders,
+        ignore_case: !settings.case_counts,
+        order: order_asked(settings.order),
+        null_bytes: nulls_asked(language, settings.order),
+        stack: stack_asked(settings.stack),
+        default_libraries: !settings.no_defaults,
+        keep_debug: false,
+        packs_far_data: false,
+        verbose: settings.verbose,
+        quiet: false,
+    };
+    MakefileJob {
+        job,
+        settings,
+        left_out: line.left_out,
+        warnings: line.warnings,
+    }
+}

@@ -1,0 +1,21 @@
+//! The lines of LINK and TLINK, and the job that they ask for.
+#![tactic(auto)]
+
+mod cut;
+mod faults;
+mod job;
+mod line;
+mod lines;
+mod link;
+mod names;
+mod options;
+mod settings;
+mod tlink;
+mod tokens;
+
+pub use faults::{FaultKind, LineFault};
+pub use job::MakefileJob;
+pub use line::IdleAt;
+pub use lines::parse_line;
+pub use settings::{Form, Idle, Ordering, Settings};
+pub use tokens::Language;

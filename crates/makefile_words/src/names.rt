@@ -1,0 +1,168 @@
+//! What the names of a line say in their fields.
+ghost use Rattle.std.specs.Prelude.{◌≡◌, Err, Ok, if◌then◌else◌};
+ghost use Rattle.std.specs.Option.{option_map};
+ghost use Rattle.std.specs.List.{before_first};
+ghost use Rattle.doslink_words.specs.Keywords.{is_keyword};
+ghost use Rattle.makefile_words.specs.Lines as spec;
+ghost use Rattle.makefile_words.specs.declared.faults.FaultKind.TheVariants.{Definitions};
+ghost use Rattle.makefile_words.specs.declared.faults.WordFault.TheVariants.{Wrong};
+ghost use Rattle.makefile_words.specs.inside.Follows.{Follows};
+ghost use Rattle.makefile_words.specs.inside.Lines.{line_of};
+
+use crate::faults::{FaultKind, WordFault};
+use crate::line::{Field, Line};
+use doslink_words::Input;
+
+// Whether a word is this keyword, where small and capital letters are the same.
+pub(crate) fn is(word: &str, keyword: &str) -> bool
+    ensures { result ≡ is_keyword word.now keyword.now }
+{
+    word.eq_ignore_ascii_case(keyword)
+}
+
+// A name without its extension.
+fn stem(name: &str) -> &str
+    ensures { result.now ≡ before_first spec.is_dot name.now }
+{
+    match name.split_once('.') {
+        Some((stem, _)) => stem,
+        None => name,
+    }
+}
+
+/// Whether a name is `NUL`, with any extension.
+pub(crate) fn is_null(name: &str) -> bool
+    ensures { result ≡ spec.is_null name.now }
+{
+    is(stem(name), "nul")
+}
+
+// Whether a name is a device that is no file to write.
+fn is_refused(name: &str) -> bool
+    ensures { result ≡ spec.is_refused name.now }
+{
+    let name = stem(name);
+    is(name, "con")
+        || is(name, "prn")
+        || is(name, "aux")
+        || is(name, "lpt1")
+        || is(name, "lpt2")
+        || is(name, "lpt3")
+        || is(name, "com1")
+        || is(name, "com2")
+}
+
+// Whether a name is a folder of libraries.
+fn is_folder(name: &str) -> bool
+    ensures { result ≡ spec.is_folder name.now }
+{
+    match name.as_bytes() {
+        [.., b'\\' | b'/' | b':'] => true,
+        _ => false,
+    }
+}
+
+// Whether a name begins with this byte.
+fn begins_with(byte: u8, name: &str) -> bool
+    ensures { result ≡ spec.begins_with byte name.now }
+{
+    match name.as_bytes() {
+        [first, ..] => *first == byte,
+        _ => false,
+    }
+}
+
+// Puts an object.
+fn put_object<'a>(line: &mut Line<'a>, name: &'a str) -> Result<(), WordFault>
+    ensures { Follows result (spec.object_meaning name.now (line_of line.old)) (line_of line.new) }
+{
+    if begins_with(b'(', name) {
+        return Err(WordFault::Wrong(FaultKind::Overlays));
+    }
+    line.inputs.push(Input::File(name))?;
+    Ok(())
+}
+
+// Puts the program.
+fn put_program<'a>(line: &mut Line<'a>, name: &'a str) -> Result<(), WordFault>
+    ensures { Follows result (spec.program_meaning name.now (line_of line.old)) (line_of line.new) }
+{
+    if line.out.is_some() {
+        return Err(WordFault::Wrong(FaultKind::SecondName));
+    }
+    if is_null(name) || is_refused(name) {
+        return Err(WordFault::Wrong(FaultKind::Device));
+    }
+    line.out = Some(name);
+    Ok(())
+}
+
+// Puts the map.
+fn put_map<'a>(line: &mut Line<'a>, name: &'a str) -> Result<(), WordFault>
+    ensures { Follows result (spec.map_meaning name.now (line_of line.old)) (line_of line.new) }
+{
+    if line.map.is_some() {
+        return Err(WordFault::Wrong(FaultKind::SecondName));
+    }
+    if is_refused(name) {
+        return Err(WordFault::Wrong(FaultKind::Device));
+    }
+    line.map = Some(name);
+    Ok(())
+}
+
+// Puts a library, or a folder of libraries.
+fn put_library<'a>(line: &mut Line<'a>, name: &'a str) -> Result<(), WordFault>
+    ensures { Follows result (spec.library_meaning name.now (line_of line.old)) (line_of line.new) }
+{
+    if is_null(name) {
+        return Ok(());
+    }
+    if is_folder(name) {
+        line.folders.push(name)?;
+    } else {
+        line.inputs.push(Input::Library(name))?;
+    }
+    Ok(())
+}
+
+// Takes a name of definitions, which is to be NUL.
+fn take_definitions(name: &str) -> Result<(), WordFault>
+    ensures { result ≡ (if spec.is_null name.now then Ok tt else Err (Wrong Definitions)) }
+{
+    if is_null(name) {
+        Ok(())
+    } else {
+        Err(WordFault::Wrong(FaultKind::Definitions))
+    }
+}
+
+/// Puts a name into the field that comes next.
+pub(crate) fn put_field<'a>(line: &mut Line<'a>, name: &'a str) -> Result<(), WordFault>
+    ensures { Follows result (spec.put_meaning name.now (line_of line.old)) (line_of line.new) }
+{
+    line.continued = false;
+    match line.field {
+        Field::Objects => put_object(line, name),
+        Field::Program => put_program(line, name),
+        Field::MapFile => put_map(line, name),
+        Field::Libraries => put_library(line, name),
+        Field::Definitions => take_definitions(name),
+        Field::Ended => Err(WordFault::Wrong(FaultKind::BehindEnd)),
+    }
+}
+
+/// Puts the name of a word without quotes, where it has one.
+pub(crate) fn put_name<'a>(line: &mut Line<'a>, name: Option<&'a str>) -> Result<(), WordFault>
+    ensures { Follows result (spec.named_meaning (option_map (λ s. s.now) name.entry) (line_of line.old))
+        (line_of line.new) }
+{
+    match name {
+        Some(name) if begins_with(b'@', name) => Err(WordFault::Wrong(FaultKind::Response)),
+        Some(name) => put_field(line, name),
+        None => {
+            line.continued = false;
+            Ok(())
+        }
+    }
+}

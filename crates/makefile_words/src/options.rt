@@ -1,0 +1,134 @@
+//! What the options of a word say.
+ghost use Rattle.std.specs.Prelude.{◌≡◌, ◌==◌, ◌++◌, IfOk};
+ghost use Rattle.std.specs.List.{slice_split};
+ghost use Rattle.std.specs.Option.{option_map};
+ghost use Rattle.clap.specs.Lexer.{strip_byte};
+ghost use Rattle.doslink_words.specs.Tokens.{texts};
+ghost use Rattle.makefile_words.specs.Lines as spec;
+ghost use Rattle.makefile_words.specs.inside.Follows.{Follows};
+ghost use Rattle.makefile_words.specs.inside.Lines.{line_of};
+
+use crate::cut::{option_named, options_in};
+use crate::faults::{FaultKind, WordFault};
+use crate::line::{IdleAt, Line};
+use crate::settings::Setting;
+use crate::tokens::Language;
+use std::alloc::{AllocError, AllocFailed, Global};
+
+// What follows a first `L`.
+fn after_letter(option: &str) -> Option<&str>
+    ensures { option_map (λ rest. rest.now) result ≡ strip_byte 76 option.now }
+{
+    option.strip_prefix('L')
+}
+
+// The value of `LFOLDERS`.
+fn folders_text(option: &str) -> &str
+    ensures { result.now ≡ spec.folders_text option.now }
+{
+    match after_letter(option) {
+        Some(folders) => folders,
+        None => option,
+    }
+}
+
+// The value of `NODEFAULTLIBRARYSEARCH:LIB`.
+fn library_text(option: &str) -> &str
+    ensures { result.now ≡ spec.library_text option.now }
+{
+    match option.split_once(':') {
+        Some((_, library)) => library,
+        None => option,
+    }
+}
+
+// What `;` parts.
+fn folders_in<'a>(alloc: Global, text: &'a str) -> Result<Vec<&'a str>, AllocError>
+    ensures { IfOk result (λ folders. texts folders.items ≡ slice_split (λ byte. byte == 59) text.now) }
+{
+    text.split(';').collect(alloc)
+}
+
+// Appends texts.
+fn put_texts<'a>(list: &mut Vec<&'a str>, more: &[&'a str]) -> Result<(), AllocFailed<&'a str>>
+    ensures { IfOk result (λ _. texts list.new.items ≡ texts list.old.items ++ texts more.now) }
+{
+    'more: for text in more {
+        list.push(*text)?;
+    }
+    Ok(())
+}
+
+// Follows an option that asks for this.
+fn follow_setting<'a>(
+    line: &mut Line<'a>,
+    alloc: Global,
+    place: usize,
+    setting: Setting,
+    option: &'a str,
+) -> Result<(), WordFault>
+    ensures { Follows result (spec.setting_meaning place setting option.now (line_of line.old)) (line_of line.new) }
+{
+    match setting {
+        Setting::Folders => {
+            let folders = folders_in(alloc, folders_text(option))?;
+            put_texts(&mut line.folders, &folders)?;
+        }
+        Setting::LeavesOut => line.left_out.push(library_text(option))?,
+        Setting::Warned(idle) => line.warnings.push(IdleAt { place, idle })?,
+        Setting::Refused(kind) => return Err(WordFault::Wrong(kind)),
+        _ => setting.put(&mut line.settings),
+    }
+    Ok(())
+}
+
+// Follows an option.
+fn follow_option<'a>(
+    line: &mut Line<'a>,
+    alloc: Global,
+    place: usize,
+    language: Language,
+    option: &'a str,
+) -> Result<(), WordFault>
+    ensures { Follows result (spec.option_meaning place language option.now (line_of line.old)) (line_of line.new) }
+{
+    match option_named(language, option) {
+        Some(setting) => follow_setting(line, alloc, place, setting, option),
+        None => Err(WordFault::Wrong(FaultKind::UnknownOption)),
+    }
+}
+
+/// Follows options, one behind the other.
+fn follow_options<'a>(
+    line: &mut Line<'a>,
+    alloc: Global,
+    place: usize,
+    language: Language,
+    options: &[&'a str],
+) -> Result<(), WordFault>
+    ensures { Follows result (spec.with_options place language (texts options.now) (line_of line.old))
+        (line_of line.new) }
+{
+    'options: for option in options {
+        follow_option(line, alloc, place, language, option)?;
+    }
+    Ok(())
+}
+
+/// Follows the options of a word, where it has some.
+pub(crate) fn follow_text<'a>(
+    line: &mut Line<'a>,
+    alloc: Global,
+    place: usize,
+    language: Language,
+    text: Option<&'a str>,
+) -> Result<(), WordFault>
+    ensures { Follows result (spec.options_meaning place language (option_map (λ s. s.now) text.entry)
+        (line_of line.old)) (line_of line.new) }
+{
+    let Some(text) = text else {
+        return Ok(());
+    };
+    let options = options_in(alloc, language, text)?;
+    follow_options(line, alloc, place, language, &options)
+}
