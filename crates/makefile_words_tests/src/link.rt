@@ -1,0 +1,230 @@
+//! Lines of LINK as makefiles and compilers have them.
+use crate::tlink::hold_in;
+use makefile_words::Language;
+
+#[test]
+fn reads_fields(rt: HostRuntime) {
+    let table = r#"/NOI /STACK:4096 main+util,prog,prog,slibce;
+=>
+Ok(MakefileJob { job: Job { inputs: [File("main"), File("util"), Library("slibce")], out: Some("prog"), map: Some(At("prog")), folders: [], ignore_case: false, order: Meeting, null_bytes: true, stack: Some(Stack { bytes: 4096, cuts: true }), default_libraries: true, keep_debug: false, packs_far_data: false, verbose: false, quiet: false }, settings: Settings { case_counts: true, no_defaults: false, no_map: false, makes_map: true, publics: false, line_numbers: false, detailed: false, writes_all: false, verbose: false, form: Exe, order: Meeting, stack: Some(4096), most_extra: None }, left_out: [], warnings: [] })
+---
+main;
+=>
+inputs: [File("main")], out: None, map: None
+---
+main,;
+=>
+map: None
+---
+main,,;
+=>
+map: Some(Beside)
+---
+main,,,slibce;
+=>
+inputs: [File("main"), Library("slibce")], out: None, map: Some(Beside)
+---
+main,prog,nul,slibce;
+=>
+out: Some("prog"), map: None
+---
+main,prog
+=>
+inputs: [File("main")], out: Some("prog"), map: None
+---
+main util+last , prog.exe , prog.map , c:\lib\ em+slibce ;
+=>
+inputs: [File("main"), File("util"), File("last"), Library("em"), Library("slibce")], out: Some("prog.exe"), map: Some(At("prog.map")), folders: ["c:\\lib\\"]
+---
+main,,,,nul
+=>
+inputs: [File("main")], out: None, map: Some(Beside)
+---
+/home/x/main.obj ../util/a.obj,out/prog/NOI;
+=>
+inputs: [File("/home/x/main.obj"), File("../util/a.obj")], out: Some("out/prog"), map: None, folders: [], ignore_case: false
+---
+"my main.obj","my prog.exe";
+=>
+inputs: [File("my main.obj")], out: Some("my prog.exe")
+---
+main+
+util
+prog
+
+slibce
+=>
+inputs: [File("main"), File("util"), Library("slibce")], out: Some("prog"), map: None
+---
+main
+prog
+list
+slibce;
+=>
+inputs: [File("main"), Library("slibce")], out: Some("prog"), map: Some(At("list"))"#;
+    hold_in(&rt, rt.alloc(), Language::Link, table);
+}
+
+#[test]
+fn reads_options(rt: HostRuntime) {
+    let table = r#"main/noi;
+=>
+ignore_case: false
+---
+main /NOIGNORECASE;
+=>
+ignore_case: false
+---
+/nod main;
+=>
+default_libraries: false
+---
+/NOD:llibce main;
+=>
+default_libraries: true, keep_debug: false, packs_far_data: false, verbose: false, quiet: false }, settings: Settings { case_counts: false, no_defaults: false, no_map: false, makes_map: false, publics: false, line_numbers: false, detailed: false, writes_all: false, verbose: false, form: Exe, order: Meeting, stack: None, most_extra: None }, left_out: ["llibce"]
+---
+/st:010 main;
+=>
+stack: Some(Stack { bytes: 8, cuts: true })
+---
+/stack:0x800 main;
+=>
+stack: Some(Stack { bytes: 2048, cuts: true })
+---
+/ST:65536 main;
+=>
+stack: Some(Stack { bytes: 65536, cuts: true })
+---
+/CP:1 main;
+=>
+most_extra: Some(1)
+---
+/CPARMAXALLOC:0xFFFF main;
+=>
+most_extra: Some(65535)
+---
+/DO main;
+=>
+order: Dosseg, null_bytes: true
+---
+/DOSSEG main;
+=>
+order: Dosseg, null_bytes: true
+---
+/NONULLS main;
+=>
+order: Dosseg, null_bytes: false
+---
+/M main;
+=>
+map: Some(Beside), folders: [], ignore_case: true, order: Meeting, null_bytes: true, stack: None, default_libraries: true, keep_debug: false, packs_far_data: false, verbose: false, quiet: false }, settings: Settings { case_counts: false, no_defaults: false, no_map: false, makes_map: false, publics: true
+---
+/MAP:200 main;
+=>
+publics: true
+---
+/LI main;
+=>
+map: Some(Beside), folders: []
+---
+/T main,prog.com;
+=>
+form: Com
+---
+/TINY main;
+=>
+form: Com
+---
+/INF main;
+=>
+verbose: true
+---
+/CO /E /F /PACKC main;
+=>
+warnings: [IdleAt { place: 0, idle: Debug }, IdleAt { place: 4, idle: Packing }, IdleAt { place: 7, idle: Packing }, IdleAt { place: 10, idle: Packing }]
+---
+/B /NOL /PAU /NOE /NOF /NOP /SE:256 main;
+=>
+warnings: []
+---
+/O:63 /AL:16 /PADC:2 /PM:VIO /W /M:FULL main;
+=>
+warnings: [IdleAt { place: 0, idle: Nothing }, IdleAt { place: 6, idle: Nothing }, IdleAt { place: 13, idle: Nothing }, IdleAt { place: 21, idle: Nothing }, IdleAt { place: 29, idle: Nothing }, IdleAt { place: 32, idle: Nothing }]
+---
+-noi -st:512 main/m,prog;
+=>
+map: Some(Beside), folders: [], ignore_case: false, order: Meeting, null_bytes: true, stack: Some(Stack { bytes: 512, cuts: true })"#;
+    hold_in(&rt, rt.alloc(), Language::Link, table);
+}
+
+#[test]
+fn refuses_words(rt: HostRuntime) {
+    let table = r#";
+=>
+Err(Word { place: 1, word: "", kind: NoObject })
+---
+main/STACKS;
+=>
+inputs: [File("main/STACKS")]
+---
+main /STACKS;
+=>
+Err(Word { place: 5, word: "/STACKS", kind: UnknownOption })
+---
+main /NO;
+=>
+kind: UnknownOption
+---
+main /S:4;
+=>
+kind: UnknownOption
+---
+main /ST:0;
+=>
+Err(Word { place: 5, word: "/ST:0", kind: WrongValue })
+---
+main /ST:65537;
+=>
+kind: WrongValue
+---
+main /ST:089;
+=>
+kind: WrongValue
+---
+main /ST:;
+=>
+kind: WrongValue
+---
+/CP:65536 main;
+=>
+kind: WrongValue
+---
+/DS main;
+=>
+Err(Word { place: 0, word: "/DS", kind: Refused })
+---
+/HIGH main;
+=>
+kind: Refused
+---
+/OLD main;
+=>
+kind: Overlays
+---
+main (a+b);
+=>
+kind: Overlays
+---
+main,con;
+=>
+kind: Device
+---
+main,,,,prog.def;
+=>
+kind: Definitions
+---
+main; util
+=>
+Err(Word { place: 6, word: "util", kind: BehindEnd })"#;
+    hold_in(&rt, rt.alloc(), Language::Link, table);
+}

@@ -1,0 +1,304 @@
+//! Lines of TLINK as makefiles and compilers have them.
+use makefile_words::{Language, parse_line};
+use std::alloc::{AllocError, Global};
+use std::process::Abort;
+
+/// The answer to a line, printed.
+fn answer(alloc: Global, language: Language, line: &str) -> Result<String, AllocError> {
+    format!(in alloc; "{:?}", parse_line(alloc, language, line))
+}
+
+/// The answer to each row of a table has the part that stands below its line.
+pub(crate) fn hold_in<R: Abort>(rt: &R, alloc: Global, language: Language, table: &str) {
+    for row in table.split("\n---\n") {
+        let (line, part) = row.split_once("\n=>\n").unwrap_or((row, "no part"));
+        let printed = answer(alloc, language, line).expect(rt, "text");
+        assert!(rt; printed.as_str().contains(part), "{row}: {printed}");
+    }
+}
+
+#[test]
+fn reads_fields(rt: HostRuntime) {
+    let table = r#"main
+=>
+Ok(MakefileJob { job: Job { inputs: [File("main")], out: None, map: Some(Beside), folders: [], ignore_case: true, order: Meeting, null_bytes: false, stack: None, default_libraries: true, keep_debug: false, packs_far_data: false, verbose: false, quiet: false }, settings: Settings { case_counts: false, no_defaults: false, no_map: false, makes_map: true, publics: false, line_numbers: false, detailed: false, writes_all: false, verbose: false, form: Exe, order: Meeting, stack: None, most_extra: None }, left_out: [], warnings: [] })
+---
+/c /x c0s main util, prog.exe, prog.map, emu maths cs
+=>
+inputs: [File("c0s"), File("main"), File("util"), Library("emu"), Library("maths"), Library("cs")], out: Some("prog.exe"), map: None, folders: [], ignore_case: false,
+---
+c0s+main+util,prog,prog,cs
+=>
+inputs: [File("c0s"), File("main"), File("util"), Library("cs")], out: Some("prog"), map: Some(At("prog")),
+---
+c0l main,,,cl;
+=>
+inputs: [File("c0l"), File("main"), Library("cl")], out: None, map: Some(Beside)
+---
+main;
+=>
+inputs: [File("main")], out: None, map: Some(Beside)
+---
+main,prog;
+=>
+inputs: [File("main")], out: Some("prog"), map: Some(Beside)
+---
+main,prog,list;
+=>
+out: Some("prog"), map: Some(At("list"))
+---
+main,prog,nul;
+=>
+out: Some("prog"), map: None
+---
+main,,NUL.MAP,cs;
+=>
+inputs: [File("main"), Library("cs")], out: None, map: None
+---
+main,prog,list,cs,;
+=>
+inputs: [File("main"), Library("cs")], out: Some("prog"), map: Some(At("list"))
+---
+main,prog,list,cs,nul.def
+=>
+inputs: [File("main"), Library("cs")], out: Some("prog"), map: Some(At("list"))
+---
+main , prog , list , cs mathl
+=>
+inputs: [File("main"), Library("cs"), Library("mathl")], out: Some("prog"), map: Some(At("list"))
+---
+"my main.obj" util,"my prog.exe",,"my lib.lib"
+=>
+inputs: [File("my main.obj"), File("util"), Library("my lib.lib")], out: Some("my prog.exe"), map: Some(Beside)
+---
+..\lib\c0s main,prog,,c:\tc\lib\ cs
+=>
+inputs: [File("..\\lib\\c0s"), File("main"), Library("cs")], out: Some("prog"), map: Some(Beside), folders: ["c:\\tc\\lib\\"]
+---
+main,,,libs/ d: cs
+=>
+inputs: [File("main"), Library("cs")], out: None, map: Some(Beside), folders: ["libs/", "d:"]
+---
+my-prog a-b,x-y
+=>
+inputs: [File("my-prog"), File("a-b")], out: Some("x-y")
+---
+/home/x/a.obj ./m ../x build/main.obj,out/prog
+=>
+inputs: [File("/home/x/a.obj"), File("./m"), File("../x"), File("build/main.obj")], out: Some("out/prog")
+---
+main,,,nul
+=>
+inputs: [File("main")], out: None, map: Some(Beside)"#;
+    hold_in(&rt, rt.alloc(), Language::Tlink, table);
+}
+
+#[test]
+fn reads_options(rt: HostRuntime) {
+    let table = r#"main/x
+=>
+inputs: [File("main")], out: None, map: None
+---
+main/x/c,prog
+=>
+inputs: [File("main")], out: Some("prog"), map: None, folders: [], ignore_case: false
+---
+-x -c main
+=>
+inputs: [File("main")], out: None, map: None, folders: [], ignore_case: false
+---
+/x/c/n main
+=>
+default_libraries: false
+---
+src/main/m
+=>
+inputs: [File("src/main")]
+---
+/m /l /s /i main
+=>
+publics: true, line_numbers: true, detailed: true, writes_all: true
+---
+/m- /c- /x- main
+=>
+map: Some(Beside), folders: [], ignore_case: true
+---
+/c /c- /c main
+=>
+ignore_case: false
+---
+main,prog/x,list,cs/n
+=>
+inputs: [File("main"), Library("cs")], out: Some("prog"), map: None, folders: [], ignore_case: true, order: Meeting, null_bytes: false, stack: None, default_libraries: false
+---
+/t main,prog.com
+=>
+form: Com
+---
+/Tdc main
+=>
+form: Com
+---
+/t /Tde main
+=>
+form: Exe
+---
+/t/t- main
+=>
+form: Exe
+---
+/L..\lib;c:\tc\lib main
+=>
+inputs: [File("main")], out: None, map: Some(Beside), folders: ["..\\lib", "c:\\tc\\lib"]
+---
+-L/usr/tc/lib main,,,more/
+=>
+folders: ["/usr/tc/lib", "more/"]
+---
+/v /3 main
+=>
+warnings: [IdleAt { place: 0, idle: Debug }]
+---
+/d /e /C /E /k /P /P=4096 /A=16 /yc /ye /v- main
+=>
+warnings: []
+---
+/f main /jobjs /Ol /yx
+=>
+warnings: [IdleAt { place: 0, idle: Packing }, IdleAt { place: 8, idle: ObjectFolders }, IdleAt { place: 15, idle: Packing }, IdleAt { place: 19, idle: Nothing }]
+---
+/c/m/s main,prog,,cs /x
+=>
+map: None"#;
+    hold_in(&rt, rt.alloc(), Language::Tlink, table);
+}
+
+#[test]
+fn reads_response_files(rt: HostRuntime) {
+    let table = r#"c0s main+
+util
+prog
+prog.map
+emu maths cs
+=>
+inputs: [File("c0s"), File("main"), File("util"), Library("emu"), Library("maths"), Library("cs")], out: Some("prog"), map: Some(At("prog.map"))
+---
+/c /x
+
+c0s+
+main +
+util
+prog
+=>
+inputs: [File("c0s"), File("main"), File("util")], out: Some("prog"), map: None, folders: [], ignore_case: false
+---
+main
+
+list
+cs;
+=>
+inputs: [File("main"), Library("cs")], out: None, map: Some(At("list"))
+---
+main,prog
+list
+cs
+=>
+inputs: [File("main"), Library("cs")], out: Some("prog"), map: Some(At("list"))
+---
+main
+prog
+
+
+=>
+inputs: [File("main")], out: Some("prog"), map: Some(Beside)
+---
+main;
+
+=>
+inputs: [File("main")], out: None"#;
+    hold_in(&rt, rt.alloc(), Language::Tlink, table);
+}
+
+#[test]
+fn refuses_words(rt: HostRuntime) {
+    let table = r#"
+=>
+Err(Word { place: 0, word: "", kind: NoObject })
+---
+/c /x
+=>
+Err(Word { place: 5, word: "", kind: NoObject })
+---
+,prog
+=>
+kind: NoObject
+---
+main,prog other
+=>
+Err(Word { place: 10, word: "other", kind: SecondName })
+---
+main,,list other
+=>
+Err(Word { place: 11, word: "other", kind: SecondName })
+---
+main,,,,nul,more
+=>
+Err(Word { place: 11, word: ",", kind: TooManyFields })
+---
+main;util
+=>
+Err(Word { place: 5, word: "util", kind: BehindEnd })
+---
+main;,prog
+=>
+Err(Word { place: 5, word: ",", kind: BehindEnd })
+---
+/q main
+=>
+Err(Word { place: 0, word: "/q", kind: UnknownOption })
+---
+main -q
+=>
+Err(Word { place: 5, word: "-q", kind: UnknownOption })
+---
+main "util
+=>
+Err(Word { place: 5, word: "\"", kind: UnclosedQuote })
+---
+main @more
+=>
+Err(Word { place: 5, word: "@more", kind: Response })
+---
+main,nul
+=>
+Err(Word { place: 5, word: "nul", kind: Device })
+---
+main,,prn
+=>
+kind: Device
+---
+main,,,,prog.def
+=>
+kind: Definitions
+---
+main (a+b)
+=>
+Err(Word { place: 5, word: "(a", kind: Overlays })
+---
+/o main
+=>
+kind: Overlays
+---
+/Twe main
+=>
+kind: NotDos
+---
+main /Rk
+=>
+Err(Word { place: 5, word: "/Rk", kind: Refused })
+---
+/L main
+=>
+kind: UnknownOption"#;
+    hold_in(&rt, rt.alloc(), Language::Tlink, table);
+}
