@@ -18,5 +18,6 @@ pub mod Overflowing
 pub mod Passing
 pub mod Refused
 mod Splitting
+mod Warning
 pub mod Stacked
 pub mod Texts

@@ -11,5 +11,7 @@ pub mod Places
 pub mod Refusals
 pub mod Runs
 pub mod Stacks
+pub mod Warnings
+pub mod Widths
 pub mod Written
 pub mod inside

@@ -10,3 +10,4 @@ pub mod Reading
 pub mod Stops
 pub mod Sums
 pub mod Defined
+pub mod Widths

@@ -1,10 +1,37 @@
 //! Lines of one kind, of which the first are told.
+ghost use Rattle.std.specs.Prelude.{◌≡◌, ◌≤◌, ◌++◌, OnOk};
+ghost use Rattle.doslink_telling.specs.Missing as spec;
 
 use doslink_telling::push_more_line;
 use std::alloc::{AllocError, Allocator};
 
 /// How many lines of a kind are told, where not all of them are.
 const MOST: usize = 20;
+
+/// How many of so many are told: all, or the first of them.
+pub(crate) fn told_count(count: usize, tells_all: bool) -> usize
+    ensures told { result ≡ spec.told_count count tells_all }
+    ensures within { result ≤ count }
+{
+    if tells_all || count <= MOST {
+        count
+    } else {
+        MOST
+    }
+}
+
+/// Appends how many more there are, where there are more.
+pub(crate) fn push_rest<A: Allocator + Copy>(
+    lines: &mut Vec<u8, A>,
+    count: usize,
+) -> Result<(), AllocError>
+    ensures { OnOk result (lines.new.items ≡ lines.old.items ++ spec.rest_text count) }
+{
+    if count == 0 {
+        return Ok(());
+    }
+    push_more_line(lines, count)
+}
 
 /// Lines of one kind.
 #[derive(Drop)]
@@ -39,9 +66,6 @@ impl<A: Allocator + Copy> Limit<A> {
     /// Appends the lines, and how many more there are.
     pub(crate) fn append_to(&self, lines: &mut Vec<u8, A>) -> Result<(), AllocError> {
         lines.extend_from_slice(&self.lines)?;
-        if self.most < self.count {
-            push_more_line(lines, self.count - self.most)?;
-        }
-        Ok(())
+        push_rest(lines, self.count.saturating_sub(self.most))
     }
 }

@@ -3,6 +3,7 @@ ghost use Rattle.std.specs.Prelude.{◌≡◌, [], IfErr, map, MatchResult};
 ghost use Rattle.omf_search.specs.Results.{module_said};
 ghost use Rattle.doslink_stock.specs.Seen.{handed_held};
 ghost use Rattle.doslink_telling.specs.Missing.{unmet, wants_marks};
+ghost use Rattle.doslink_telling.specs.Words.{word_at};
 ghost use Rattle.doslink_jobs.specs.Jobs.{names_of};
 ghost use Rattle.doslink_jobs.specs.Refusals.{AreMissingOf};
 ghost use Rattle.doslink_jobs.specs.inside.Stops.{OnInput};
@@ -35,7 +36,9 @@ pub(crate) struct Taken<'t, 'm, 'a, A: Allocator + Copy> {
 
 impl<'t, A: Allocator + Copy> Taken<'t, '_, '_, A> {
     /// The word for the module with this index; none behind the last.
-    pub(crate) fn word(&self, index: usize) -> &'t [u8] {
+    pub(crate) fn word(&self, index: usize) -> &'t [u8]
+        ensures { result.now ≡ word_at self.now.words.now index }
+    {
         match self.words.get(index) {
             Some(word) => word.as_slice(),
             None => b"",

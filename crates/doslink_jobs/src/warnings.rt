@@ -1,44 +1,180 @@
 //! Warnings of a program that was linked, and can't be run as it is meant.
+ghost use Rattle.std.specs.Prelude.{◌≡◌, ◌++◌, [], OnOk, map, slice_get};
+ghost use Rattle.std.specs.List.{flat_map, list_any};
+ghost use Rattle.std.specs.Option.{unwrap_or};
+ghost use Rattle.omf_communal.specs.Deciding.{variable_said};
+ghost use Rattle.omf_communal.specs.Far.{reached_said};
+ghost use Rattle.omf_place.specs.Parts.{is_kind};
+ghost use Rattle.doslink_link.specs.Linking.{bytes_of};
+ghost use Rattle.doslink_jobs.specs.Warnings as spec;
 
 use crate::inputs::options_of;
-use crate::limit::Limit;
+use crate::limit::{push_rest, told_count};
 use doslink_telling::{push_no_code, push_no_stack, push_no_start, push_reached};
 use doslink_words::Job;
-use omf_communal::{Variable, far_by_offset};
+use omf_communal::{Reached, Variable, far_by_offset};
 use omf_module::{Kind, Module, Standing};
 use std::alloc::{AllocError, Allocator};
 
+/// Whether what stands so is a part of the stack.
+fn is_stack(standing: Standing) -> bool
+    ensures { result ≡ is_kind Kind.Stack standing }
+{
+    match standing {
+        Standing::Relocatable {
+            kind: Kind::Stack,
+            ..
+        } => true,
+        _ => false,
+    }
+}
+
 /// Whether a module has a part of the stack.
-fn has_stack<A: Allocator + Copy>(one: &Module<A>) -> bool {
-    one.segments().any(|segment| {
-        matches!(
-            segment.standing,
-            Standing::Relocatable {
-                kind: Kind::Stack,
-                ..
-            }
-        )
-    })
+fn has_stack<A: Allocator + Copy>(one: &Module<A>) -> bool
+    ensures { result ≡ spec.has_stack one.now }
+{
+    for index in 0..one.segment_count() {
+        if is_stack(one.segment(index).standing) {
+            return true;
+        }
+    }
+    false
 }
 
 /// Whether a module has a byte of code or data.
-fn has_data<A: Allocator + Copy>(one: &Module<A>) -> bool {
-    one.data_records().any(|record| !record.bytes.is_empty())
+fn has_data<A: Allocator + Copy>(one: &Module<A>) -> bool
+    ensures { result ≡ spec.has_data one.now }
+{
+    for index in 0..one.data_record_count() {
+        if !one.data_record(index).bytes.is_empty() {
+            return true;
+        }
+    }
+    false
+}
+
+/// Whether some module has a start.
+fn have_start<A: Allocator + Copy>(modules: &[Module<A>]) -> bool
+    ensures { result ≡ list_any spec.has_start modules.now }
+{
+    for one in modules {
+        if one.start().is_some() {
+            return true;
+        }
+    }
+    false
+}
+
+/// Whether some module has a part of the stack.
+fn have_stack<A: Allocator + Copy>(modules: &[Module<A>]) -> bool
+    ensures { result ≡ list_any spec.has_stack modules.now }
+{
+    for one in modules {
+        if has_stack(one) {
+            return true;
+        }
+    }
+    false
+}
+
+/// Whether some module has a byte of code or data.
+fn have_data<A: Allocator + Copy>(modules: &[Module<A>]) -> bool
+    ensures { result ≡ list_any spec.has_data modules.now }
+{
+    for one in modules {
+        if has_data(one) {
+            return true;
+        }
+    }
+    false
+}
+
+/// Warns where no module has a start.
+fn warn_of_start<A: Allocator + Copy>(
+    modules: &[Module<A>],
+    lines: &mut Vec<u8, A>,
+) -> Result<(), AllocError>
+    ensures { OnOk result (lines.new.items ≡ lines.old.items ++ spec.start_warning modules.now) }
+{
+    if have_start(modules) {
+        return Ok(());
+    }
+    push_no_start(lines)
+}
+
+/// Warns where no module has a stack.
+fn warn_of_stack<A: Allocator + Copy>(
+    modules: &[Module<A>],
+    lines: &mut Vec<u8, A>,
+) -> Result<(), AllocError>
+    ensures { OnOk result (lines.new.items ≡ lines.old.items ++ spec.stack_warning modules.now) }
+{
+    if have_stack(modules) {
+        return Ok(());
+    }
+    push_no_stack(lines)
+}
+
+/// Warns where no module has a byte of code or data.
+fn warn_of_code<A: Allocator + Copy>(
+    modules: &[Module<A>],
+    lines: &mut Vec<u8, A>,
+) -> Result<(), AllocError>
+    ensures { OnOk result (lines.new.items ≡ lines.old.items ++ spec.code_warning modules.now) }
+{
+    if have_data(modules) {
+        return Ok(());
+    }
+    push_no_code(lines)
 }
 
 /// Warns where no module has a start, a stack or a byte of code.
 fn warn_of_what_lacks<A: Allocator + Copy>(
     modules: &[Module<A>],
     lines: &mut Vec<u8, A>,
-) -> Result<(), AllocError> {
-    if !modules.iter().any(|one| one.start().is_some()) {
-        push_no_start(lines)?;
+) -> Result<(), AllocError>
+    ensures { OnOk result (lines.new.items ≡ lines.old.items ++ spec.lacking_warnings modules.now) }
+{
+    warn_of_start(modules, lines)?;
+    warn_of_stack(modules, lines)?;
+    warn_of_code(modules, lines)
+}
+
+/// The word for the module with this index; empty behind the last.
+fn word_of<'w>(words: &[&'w [u8]], index: usize) -> &'w [u8]
+    ensures { result.now ≡ unwrap_or (slice_get (bytes_of words.now) index) [] }
+{
+    match words.get(index) {
+        Some(word) => word,
+        None => b"",
     }
-    if !modules.iter().any(|one| has_stack(one)) {
-        push_no_stack(lines)?;
-    }
-    if !modules.iter().any(|one| has_data(one)) {
-        push_no_code(lines)?;
+}
+
+/// Warns of a far communal variable. The words are those of the modules.
+fn push_one<A: Allocator + Copy>(
+    alloc: A,
+    one: &Reached<'_>,
+    words: &[&[u8]],
+    lines: &mut Vec<u8, A>,
+) -> Result<(), AllocError>
+    ensures { OnOk result (lines.new.items ≡ lines.old.items
+        ++ spec.reached_warning (bytes_of words.now) (reached_said one.now)) }
+{
+    push_reached(alloc, lines, one.name, word_of(words, one.module))
+}
+
+/// Warns of each of these far communal variables. The words are those of the modules.
+fn push_told<A: Allocator + Copy>(
+    alloc: A,
+    told: &[Reached<'_>],
+    words: &[&[u8]],
+    lines: &mut Vec<u8, A>,
+) -> Result<(), AllocError>
+    ensures { OnOk result (lines.new.items ≡ lines.old.items
+        ++ flat_map (λ r. spec.reached_warning (bytes_of words.now) (reached_said r)) told.now) }
+{
+    for each in told {
+        push_one(alloc, each, words, lines)?;
     }
     Ok(())
 }
@@ -51,15 +187,15 @@ fn warn_of_reached<A: Allocator + Copy>(
     variables: &[Variable<'_>],
     words: &[&[u8]],
     lines: &mut Vec<u8, A>,
-) -> Result<(), AllocError> {
-    let mut warnings = Limit::new(alloc, job.verbose);
-    for each in &far_by_offset(alloc, options_of(job).names, modules, variables)? {
-        if let Some(lines) = warnings.next() {
-            let word = words.get(each.module).copied().unwrap_or(b"");
-            push_reached(alloc, lines, each.name, word)?;
-        }
-    }
-    warnings.append_to(lines)
+) -> Result<(), AllocError>
+    ensures { OnOk result (lines.new.items ≡ lines.old.items ++ spec.reached_warnings job.now modules.now
+        (map variable_said variables.now) (bytes_of words.now)) }
+{
+    let reached = far_by_offset(alloc, options_of(job).names, modules, variables)?;
+    let reached = reached.as_slice();
+    let told = told_count(reached.len(), job.verbose);
+    push_told(alloc, &reached[..told], words, lines)?;
+    push_rest(lines, reached.len() - told)
 }
 
 /// Warns of what of a program that was linked can't be run as it is meant. The words are those of its modules.
@@ -70,7 +206,10 @@ pub(crate) fn warn_of_program<A: Allocator + Copy>(
     variables: &[Variable<'_>],
     words: &[&[u8]],
     lines: &mut Vec<u8, A>,
-) -> Result<(), AllocError> {
+) -> Result<(), AllocError>
+    ensures { OnOk result (lines.new.items ≡ lines.old.items ++ spec.program_warnings job.now modules.now
+        (map variable_said variables.now) (bytes_of words.now)) }
+{
     warn_of_what_lacks(modules, lines)?;
     warn_of_reached(alloc, job, modules, variables, words, lines)
 }
