@@ -8,7 +8,7 @@ use Rattle.omf_frame.specs.Frame as plain
 use Rattle.omf_frame.specs.Lending.{plain_frame}
 use Rattle.omf_frame.specs.declared.frame.Frame.{Frame}
 use Rattle.doslink_stock.proofs.Walks.{drop-one}
-use Rattle.doslink_jobs.specs.Widths.{is_wide, some_wide}
+use Rattle.doslink_jobs.specs.inside.Widths.{is_wide, some_wide}
 
 pub has-some : (places bytes : List ℕ) (b : Bool) → length bytes ≡ length places → b ≡ (length bytes == 0)
     → b ≡ false → nat_lt 0 (length (zip places bytes)) ≡ true

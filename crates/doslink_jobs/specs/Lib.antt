@@ -11,7 +11,5 @@ pub mod Places
 pub mod Refusals
 pub mod Runs
 pub mod Stacks
-pub mod Warnings
-pub mod Widths
 pub mod Written
 pub mod inside

@@ -10,4 +10,5 @@ pub mod Reading
 pub mod Stops
 pub mod Sums
 pub mod Defined
+pub mod Warnings
 pub mod Widths

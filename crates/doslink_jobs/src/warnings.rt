@@ -6,7 +6,7 @@ ghost use Rattle.omf_communal.specs.Deciding.{variable_said};
 ghost use Rattle.omf_communal.specs.Far.{reached_said};
 ghost use Rattle.omf_place.specs.Parts.{is_kind};
 ghost use Rattle.doslink_link.specs.Linking.{bytes_of};
-ghost use Rattle.doslink_jobs.specs.Warnings as spec;
+ghost use Rattle.doslink_jobs.specs.inside.Warnings as spec;
 
 use crate::inputs::options_of;
 use crate::limit::{push_rest, told_count};

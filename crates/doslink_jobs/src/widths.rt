@@ -5,7 +5,7 @@ ghost use Rattle.omf_frame.specs.Lending.{plain_frame};
 ghost use Rattle.doslink_link.specs.Linking.{bytes_of};
 ghost use Rattle.doslink_telling.specs.Lines.{wide_line};
 ghost use Rattle.doslink_telling.specs.Words.{word_at};
-ghost use Rattle.doslink_jobs.specs.Widths as spec;
+ghost use Rattle.doslink_jobs.specs.inside.Widths as spec;
 ghost use Rattle.doslink_jobs.specs.inside.Widths.{lowering_said};
 
 use crate::limit::{push_rest, told_count};

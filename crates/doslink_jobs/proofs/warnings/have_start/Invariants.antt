@@ -1,6 +1,6 @@
 use Rattle.std.proofs.Common.{◌≡◌, false, take}
 use Rattle.std.specs.List.{list_any}
-use Rattle.doslink_jobs.specs.Warnings.{has_start}
+use Rattle.doslink_jobs.specs.inside.Warnings.{has_start}
 use Rattle.doslink_jobs.proofs.warnings.have_start.Given as goal
 
 abbrev pub invariant-loop-one : goal.invariant-loop-one

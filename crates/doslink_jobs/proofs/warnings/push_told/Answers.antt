@@ -1,7 +1,7 @@
 use Rattle.omf_communal.specs.Far.{reached_said}
 use Rattle.doslink_link.specs.Linking.{bytes_of}
 use Rattle.doslink_telling.proofs.Texts.{all-more}
-use Rattle.doslink_jobs.specs.Warnings.{reached_warning}
+use Rattle.doslink_jobs.specs.inside.Warnings.{reached_warning}
 use Rattle.doslink_jobs.proofs.warnings.push_told.Goals as goal
 
 pub loop-each-preserved : goal.loop-each-preserved

@@ -2,7 +2,7 @@ use Rattle.std.proofs.Common.{◌≡◌, ◌++◌, drop, map}
 use Rattle.std.specs.List.{enumerate_from, flat_map}
 use Rattle.doslink_link.specs.Linking.{bytes_of}
 use Rattle.doslink_telling.specs.Words.{word_at}
-use Rattle.doslink_jobs.specs.Widths as spec
+use Rattle.doslink_jobs.specs.inside.Widths as spec
 use Rattle.doslink_jobs.specs.inside.Widths.{lowering_said}
 use Rattle.doslink_jobs.proofs.widths.wide_words.Given as goal
 
