@@ -289,9 +289,8 @@ PRINTING = [
     Change("rewriting stops before a faulty module", "commands.py",
            "        first_fault = fault\n", "        first_fault, canonical = fault, b\"\"\n"),
     Change("showing stops before a faulty module", "commands.py",
-           "            answer.output += printing.show(read)\n    except Fault as fault:\n",
-           "            answer.output += printing.show(read)\n    except Fault as fault:\n"
-           "        answer.output = b\"\"\n"),
+           "        for read in read_records(content, 0):\n            answer.output += printing.show(read)\n",
+           "        answer.output = b\"\".join([printing.show(read) for read in read_records(content, 0)])\n"),
 ]
 
 CHANGES = [*READING, *MODULE, *PLACEMENT, *IMAGE, *FILES, *PRINTING]

@@ -4,6 +4,7 @@ An input is a pair of the path and the bytes, which are None where there is no s
 is the path and whether it can be made; a file is made when the first byte is written to it.
 """
 
+from contextlib import contextmanager
 from dataclasses import dataclass, field
 
 from model import image, module, printing, program_file
@@ -27,6 +28,14 @@ class Answer:
         """Ends with a fault."""
         self.status, self.error = fault.status, fault.line(paths).encode()
         self.fault = fault.number
+
+    @contextmanager
+    def told_until_a_fault(self, path):
+        """What is done within goes up to the first fault, which is told of the path."""
+        try:
+            yield
+        except Fault as fault:
+            self.refuse(fault, [path])
 
     def at_failing_output(self):
         """The same command where standard output fails: fault 40 comes first, if it prints."""
@@ -86,32 +95,26 @@ def load_linked(path, program, paragraph):
 
 def load_by(path, loading):
     answer = Answer()
-    try:
+    with answer.told_until_a_fault(path):
         answer.output = printing.listing(loading())
-    except Fault as fault:
-        answer.refuse(fault, [path])
     return answer
 
 
 def show(path, content):
     """The lines of all records before the first fault."""
     answer = Answer()
-    try:
+    with answer.told_until_a_fault(path):
         for read in read_records(content, 0):
             answer.output += printing.show(read)
-    except Fault as fault:
-        answer.refuse(fault, [path])
     return answer
 
 
 def check(path, content):
     """Whether the input begins with a whole sound module."""
     answer = Answer()
-    try:
+    with answer.told_until_a_fault(path):
         module.read(content, 0)
         answer.output = b"ok\n"
-    except Fault as fault:
-        answer.refuse(fault, [path])
     return answer
 
 
