@@ -282,7 +282,7 @@ def different_weak_externals(count):
 
 
 def local_weak_externals(count):
-    """Weak externals that nothing defines, each with a default of its own that is local to the module, and used once."""
+    """Weak externals that nothing defines, each with a default of its own, local to the module, and used once."""
     used, local = [f"_weak{number}" for number in range(count)], [f"_local{number}" for number in range(count)]
     code = header("local") + names("CODE", "CODE") + segment(2 * count)
     code += publics({text: number for number, text in enumerate(local)}, LPUBDEF)
