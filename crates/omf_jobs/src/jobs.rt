@@ -116,7 +116,8 @@ fn answer_job<'a, W: World + Copy, O: Write + Drop, A: Allocator + Copy>(
             files,
         } => {
             let options = options_of(*ignore_case);
-            let (answer, written) = link_and_map(alloc, world, &options, out, *map, files);
+            let paths = LinkPaths { out, map: *map };
+            let (answer, written) = link_and_map(alloc, world, &options, paths, files);
             let input = input_at_fault(&answer, files);
             with_word(answer, input, written)
         }
@@ -213,6 +214,15 @@ fn options_of(ignore_case: bool) -> Options
     }
 }
 
+// The paths of the files that a link writes.
+#[derive(Clone, Copy)]
+struct LinkPaths<'a> {
+    // That of the program.
+    out: &'a str,
+    // That of the map that is written after it, where one is asked for.
+    map: Option<&'a str>,
+}
+
 // Links the files into the program, and then writes the map where one is asked for. Beside the answer
 // stands the path of the file that was written last, which a failure of writing is one of.
 #[tactic(auto, using(crate::proofs::Failures::at_most_one))]
@@ -220,25 +230,24 @@ fn link_and_map<'a, W: World + Copy, A: Allocator + Copy>(
     alloc: A,
     world: W,
     options: &Options,
-    out: &'a str,
-    map: Option<&'a str>,
+    paths: LinkPaths<'a>,
     files: &[&str],
 ) -> (Result<(), LinkFault<A>>, &'a str)
     ensures { Settled (λ a. (inputs : List (List ℕ)) → AreTold (λ file. W.bytes world file.now) files.now inputs
         → Outcome options.now.names inputs a) result.0 }
 {
     let Ok(mut sources) = open_sources(alloc, world, files) else {
-        return (Err(LinkFault::Memory), out);
+        return (Err(LinkFault::Memory), paths.out);
     };
-    let program = CreatedFile::new(world, out);
-    let map_file = match map {
+    let program = CreatedFile::new(world, paths.out);
+    let map_file = match paths.map {
         Some(path) => Some(CreatedFile::new(world, path)),
         None => None,
     };
     let (answer, is_of_map) = link_files(alloc, options, &mut sources, program, map_file);
-    let written = match map {
+    let written = match paths.map {
         Some(path) if is_of_map => path,
-        _ => out,
+        _ => paths.out,
     };
     let lacks_memory = sources.iter().any(|source| source.lacks_memory());
     (by_memory(lacks_memory, answer), written)
