@@ -1,4 +1,6 @@
 pub mod Staying
 pub mod Texts
 pub mod Doubled
+mod SymbolTables
+mod Sets
 mod WorkedNumbers

@@ -5,4 +5,6 @@ pub mod Missing
 pub mod Kinds
 pub mod Warnings
 pub mod Duplicates
+pub mod Symbols
+pub mod Offering
 pub mod inside

@@ -2,3 +2,4 @@
 pub mod Parts
 pub mod Duplicates
 pub mod Wanters
+pub mod Tables

@@ -55,7 +55,7 @@ struct Duplicate<'p, 'm, A: Allocator + Copy> {
 type Places<'p, A> = BTreeMap<PublicKey<'p>, Vec<Occurrence, A>, A>;
 
 /// What of a name counts.
-fn spelled_name<A: Allocator + Copy>(
+pub(crate) fn spelled_name<A: Allocator + Copy>(
     alloc: A,
     names: Names,
     name: &[u8],

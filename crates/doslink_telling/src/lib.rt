@@ -9,6 +9,8 @@ mod kinds;
 mod lines;
 mod mapping;
 mod missing;
+mod offering;
+mod symbols;
 mod telling;
 mod wanting;
 mod warnings;
@@ -22,7 +24,8 @@ pub use faults::{
 pub use kinds::{Foreign, foreign_kind, push_foreign};
 pub use mapping::table;
 pub use missing::{Unmet, push_missing_lines, unmet_names};
-pub use telling::{handed_saids, handed_text, module_word, module_words, word_at};
+pub use offering::{Offering, offering_members};
+pub use telling::{handed_saids, handed_text, member_word, module_word, module_words, word_at};
 pub use warnings::{
     push_cut_stack, push_data_in_bss, push_excess, push_long_stack, push_more_line, push_no_code,
     push_no_program, push_no_stack, push_no_start, push_reached,

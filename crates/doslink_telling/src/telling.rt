@@ -82,6 +82,20 @@ pub fn module_word<A: Allocator + Copy>(
     Ok(word)
 }
 
+/// The word for a member with this name of the file with this index.
+pub fn member_word<A: Allocator + Copy>(
+    alloc: A,
+    paths: &[&str],
+    file: usize,
+    name: &[u8],
+) -> Result<Vec<u8, A>, AllocError>
+    ensures { IfOk result (λ word. word.items ≡ spec.path_of paths.now file ++ spec.member_end (Some name.now)) }
+{
+    let mut word = Vec::from_slice(alloc, path_of(paths, file).as_bytes())?;
+    push_member(alloc, &mut word, name)?;
+    Ok(word)
+}
+
 /// The words for the modules of a link.
 pub fn module_words<A: Allocator + Copy>(
     alloc: A,
