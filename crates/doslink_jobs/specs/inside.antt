@@ -8,6 +8,7 @@ pub mod Meanings
 pub mod Passing
 pub mod Reading
 pub mod Stops
+pub mod Suspects
 pub mod Sums
 pub mod Defined
 pub mod Warnings

@@ -17,6 +17,7 @@ use crate::lowering::{LoweredModule, lowering_of, stop_at_record};
 use crate::stop::{Stop, stop_after};
 use crate::taking::Taken;
 use doslink_link::read_one;
+use doslink_telling::{Offering, member_word};
 use doslink_words::Job;
 use omf_faults::InputFault;
 use omf_lower::{Lowering, lower};
@@ -109,6 +110,32 @@ pub(crate) fn check_modules<'a, A: Allocator + Copy>(
     for (index, each) in taken.handed.iter().enumerate() {
         let word = taken.word(index);
         check_module(alloc, lowering, &meanings, each.entry.bytes, word, lines)?;
+    }
+    Ok(())
+}
+
+/// Stops at the first of some members that can't be lowered, far data sharing no frame, or read, and tells why.
+pub(crate) fn check_offering<'a, A: Allocator + Copy>(
+    alloc: A,
+    job: &Job<'_>,
+    paths: &[&str],
+    taken: &Taken<'_, '_, 'a, A>,
+    says: &[Said<'_, 'a>],
+    offering: &[Offering<'a>],
+    lines: &mut Vec<u8, A>,
+) -> Result<(), Stop>
+    ensures { MatchResult result
+        (λ done. All (λ bytes. IsFaulty job.now (map module_said says.now)
+        (map (λ h. (handed_held h).bytes) taken.now.handed.now) bytes → ⊥) (map (λ o. o.bytes.now) offering.now))
+        (λ stop. OnInput stop (Any (IsFaulty job.now (map module_said says.now)
+        (map (λ h. (handed_held h).bytes) taken.now.handed.now)) (map (λ o. o.bytes.now) offering.now))) }
+{
+    let aliases = aliases_of(alloc, taken)?;
+    let meanings = Meanings::new(alloc, options_of(job).names, says, aliases)?;
+    let lowering = lowering_of(job);
+    for each in offering {
+        let word = member_word(alloc, paths, each.file, each.name)?;
+        check_module(alloc, lowering, &meanings, each.bytes, &word, lines)?;
     }
     Ok(())
 }

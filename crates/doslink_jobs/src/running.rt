@@ -78,8 +78,7 @@ fn link_taken<'m, 'a, W: World + Copy, A: Allocator + Copy>(
 {
     let variables = variables_of(alloc, options_of(job).names, taken, lines)?;
     let says = handed_saids(alloc, taken.handed)?;
-    let paths = &gathered.paths;
-    let marks = check_names(alloc, job, paths, &gathered.stock, taken, &says, lines)?;
+    let marks = check_names(alloc, job, gathered, taken, &says, lines)?;
     link_checked(
         alloc, world, job, places, taken, &variables, &says, marks, lines,
     )

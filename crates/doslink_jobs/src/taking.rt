@@ -2,23 +2,27 @@
 ghost use Rattle.std.specs.Prelude.{◌≡◌, [], IfErr, map, MatchResult};
 ghost use Rattle.omf_search.specs.Results.{module_said};
 ghost use Rattle.doslink_stock.specs.Seen.{handed_held};
+ghost use Rattle.doslink_link.specs.Linking.{bytes_of};
 ghost use Rattle.doslink_telling.specs.Missing.{unmet, wants_marks};
 ghost use Rattle.doslink_telling.specs.Words.{word_at};
+ghost use Rattle.doslink_telling.specs.Offering.{all_offering};
 ghost use Rattle.doslink_jobs.specs.Jobs.{names_of};
 ghost use Rattle.doslink_jobs.specs.Refusals.{AreMissingOf};
+ghost use Rattle.doslink_jobs.specs.inside.Suspects.{HaveNoSuspect, HaveSuspect};
 ghost use Rattle.doslink_jobs.specs.inside.Stops.{OnInput};
 ghost use Rattle.omf_files.specs.Files.{sink_failures};
 
-use crate::faulty::check_modules;
+use crate::faulty::{check_modules, check_offering};
+use crate::gathering::Gathered;
 use crate::inputs::options_of;
 use crate::stop::Stop;
-use doslink_stock::{Handed, Stock};
-use doslink_telling::{handed_text, push_fault, push_missing_lines, unmet_names};
+use doslink_stock::Handed;
+use doslink_telling::{handed_text, offering_members, push_fault, push_missing_lines, unmet_names};
 use doslink_words::Job;
 use omf_faults::LinkFault;
 use omf_files::BufferedSink;
 use omf_frame::{IoFault, put_all};
-use omf_search::Said;
+use omf_search::{Said, Wanted};
 use std::alloc::{AllocError, Allocator};
 use std::io::Write;
 
@@ -97,13 +101,47 @@ pub(crate) fn tell_taken<O: Write + Drop, A: Allocator + Copy>(
     tell_text(alloc, output, &text, lines)
 }
 
-/// Tells the names that are missing, and stops; else hands out whether marks are wanted. Where a module can't be read
-/// names may be missing for that, which is told in their place.
+/// Tells the names that are missing. Where a module can't be read names may be missing for that, and so where a member
+/// can't be read by which the symbol table of its archive offers one: that is told in their place, and stops.
+fn tell_missing<'m, 'a, A: Allocator + Copy>(
+    alloc: A,
+    job: &Job<'_>,
+    gathered: &'m Gathered<'a, A>,
+    taken: &Taken<'_, 'm, 'a, A>,
+    says: &[Said<'_, 'a>],
+    missing: &[Wanted<'a>],
+    lines: &mut Vec<u8, A>,
+) -> Result<(), Stop>
+    ensures { MatchResult result
+        (λ done. HaveNoSuspect job.now (map module_said says.now) (map (λ h. (handed_held h).bytes) taken.now.handed.now)
+        (all_offering (names_of job.now.ignore_case) (map (λ w. w.name.now) missing.now) (bytes_of gathered.now.bytes.items)))
+        (λ stop. OnInput stop (HaveSuspect job.now (map module_said says.now)
+        (map (λ h. (handed_held h).bytes) taken.now.handed.now)
+        (all_offering (names_of job.now.ignore_case) (map (λ w. w.name.now) missing.now)
+        (bytes_of gathered.now.bytes.items)))) }
+{
+    check_modules(alloc, job, taken, says, lines)?;
+    let names = options_of(job).names;
+    let paths = gathered.paths.as_slice();
+    let offering = offering_members(alloc, names, missing, &gathered.bytes)?;
+    check_offering(alloc, job, paths, taken, says, &offering, lines)?;
+    push_missing_lines(
+        alloc,
+        lines,
+        paths,
+        &gathered.stock,
+        taken.handed,
+        missing,
+        job.verbose,
+    )?;
+    Ok(())
+}
+
+/// Tells the names that are missing, or why they are, and stops; else hands out whether marks are wanted.
 pub(crate) fn check_names<'m, 'a, A: Allocator + Copy>(
     alloc: A,
     job: &Job<'_>,
-    paths: &[&str],
-    stock: &'m Stock<'a, A>,
+    gathered: &'m Gathered<'a, A>,
     taken: &Taken<'_, 'm, 'a, A>,
     says: &[Said<'_, 'a>],
     lines: &mut Vec<u8, A>,
@@ -114,22 +152,10 @@ pub(crate) fn check_names<'m, 'a, A: Allocator + Copy>(
         (λ stop. OnInput stop (AreMissingOf job.now (map module_said says.now)
         (map (λ h. (handed_held h).bytes) taken.now.handed.now))) }
 {
-    let names = options_of(job).names;
-    let unmet = unmet_names(alloc, names, says)?;
+    let unmet = unmet_names(alloc, options_of(job).names, says)?;
     if unmet.missing.as_slice().is_empty() {
         return Ok(unmet.marks);
     }
-    check_modules(alloc, job, taken, says, lines)?;
-    let handed = taken.handed;
-    let tells_all = job.verbose;
-    push_missing_lines(
-        alloc,
-        lines,
-        paths,
-        stock,
-        handed,
-        &unmet.missing,
-        tells_all,
-    )?;
+    tell_missing(alloc, job, gathered, taken, says, &unmet.missing, lines)?;
     Err(Stop::Input)
 }

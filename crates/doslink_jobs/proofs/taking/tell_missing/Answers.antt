@@ -1,0 +1,42 @@
+use Rattle.std.proofs.Common.{All, Any, inl, inr, map, subst}
+use Rattle.omf_search.specs.Results.{module_said}
+use Rattle.doslink_stock.specs.Seen.{handed_held}
+use Rattle.doslink_jobs.specs.Jobs.{names_of}
+use Rattle.doslink_jobs.specs.Refusals.{IsFaulty}
+use Rattle.doslink_jobs.proofs.FaultyModules.{offered-bytes}
+use Rattle.doslink_jobs.proofs.Refused.{refused-exit}
+use Rattle.doslink_jobs.proofs.taking.tell_missing.Goals as goal
+
+pub returns : goal.returns
+returns g c =
+    let says = map module_said c.args.says.now in
+    let all = map (λ h. (handed_held h).bytes) c.args.taken.now.handed.now in (
+      c.in_ok-check_modules.ensures,
+      subst (All (λ bytes. IsFaulty c.args.job.now says all bytes → ⊥))
+          (offered-bytes c.deref-2.result.now c.in_ok-offering.offering.items c.options_of-names.result.names
+          (names_of c.args.job.now.ignore_case) (map (λ w. w.name.now) c.args.missing.now) c.deref.result.now
+          c.args.gathered.now.bytes.items c.deref-2.ensures.value c.in_ok-offering.ensures c.options_of-names.ensures
+          c.deref.ensures.value)
+          c.in_ok-check_offering.ensures,
+    )
+
+pub returns-in_err-check_modules : goal.returns-in_err-check_modules
+returns-in_err-check_modules g c =
+    refused-exit _ c.from_residual.result _ c.from_residual.ensures.1
+    (λ some. inl some) c.in_err-check_modules.ensures
+
+pub returns-in_err-check_offering : goal.returns-in_err-check_offering
+returns-in_err-check_offering g c =
+    let says = map module_said c.args.says.now in
+    let all = map (λ h. (handed_held h).bytes) c.args.taken.now.handed.now in
+    refused-exit _ c.from_residual-in_err-check_offering.result _ c.from_residual-in_err-check_offering.ensures.1
+    (λ some. inr (
+      c.in_ok-check_modules.ensures,
+      subst (Any (IsFaulty c.args.job.now says all))
+          (offered-bytes c.deref-2.result.now c.in_ok-offering.offering.items c.options_of-names.result.names
+          (names_of c.args.job.now.ignore_case) (map (λ w. w.name.now) c.args.missing.now) c.deref.result.now
+          c.args.gathered.now.bytes.items c.deref-2.ensures.value c.in_ok-offering.ensures c.options_of-names.ensures
+          c.deref.ensures.value)
+          some,
+    ))
+    c.in_err-check_offering.ensures
