@@ -24,6 +24,8 @@ mod searching;
 #[cfg(test)]
 mod sums;
 #[cfg(test)]
+mod symbols;
+#[cfg(test)]
 mod tables;
 #[cfg(test)]
 mod world;

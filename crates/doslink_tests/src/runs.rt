@@ -2,11 +2,11 @@
 use crate::modules::LIBRARY;
 use crate::tables::{
     ALIAS_RUNS, COMMUNAL_RUNS, DEFAULT_RUNS, DOUBLED_RUNS, LIMITED_RUNS, LOCAL_DEFAULT_RUNS,
-    LONG_RUNS, MISSING_RUNS, REFUSED_RUNS, RUNS, SEARCH_RUNS, SUM_RUNS, WARNED_RUNS,
+    LONG_RUNS, MISSING_RUNS, REFUSED_RUNS, RUNS, SEARCH_RUNS, SUM_RUNS, SYMBOL_RUNS, WARNED_RUNS,
 };
 use crate::world::{
-    AS_MANY, CUT, CUT_TO_16, CUT_TO_32, DIRECTIVES, FAR_DATA, FAR_TOO_LONG, FURTHER_MODULES,
-    MODULES, RESPONSE, SORTS, WRONG,
+    ARCHIVES, AS_MANY, CUT, CUT_TO_16, CUT_TO_32, DIRECTIVES, FAR_DATA, FAR_TOO_LONG,
+    FURTHER_MODULES, MODULES, RESPONSE, SORTS, WRONG,
 };
 use crate::written::{MAP, PROGRAMS, WRITTEN};
 use desk::{Count, Desk, Page, Pen};
@@ -73,7 +73,8 @@ fn put_others<'a>(files: &mut Vec<(&'a str, &'a [u8])>) -> Result<(), AllocError
 
 /// Puts further modules and libraries behind files.
 fn put_further<'a>(files: &mut Vec<(&'a str, &'a [u8])>) -> Result<(), AllocError> {
-    files.extend_from_slice(&FURTHER_MODULES)
+    files.extend_from_slice(&FURTHER_MODULES)?;
+    files.extend_from_slice(&ARCHIVES)
 }
 
 /// What a run of these words does that may write a program at a path, or at any if it is empty, and a map at P.MAP.
@@ -196,6 +197,13 @@ fn local_default_runs_tell_these_lines(rt: HostRuntime) -> Result<(), Fail> {
 #[test]
 fn search_runs_tell_these_lines(rt: HostRuntime) -> Result<(), Fail> {
     let wrong = first_wrong(rt.alloc(), SEARCH_RUNS)?;
+    assert_eq!(rt; wrong, None);
+    Ok(())
+}
+
+#[test]
+fn symbol_runs_tell_these_lines(rt: HostRuntime) -> Result<(), Fail> {
+    let wrong = first_wrong(rt.alloc(), SYMBOL_RUNS)?;
     assert_eq!(rt; wrong, None);
     Ok(())
 }

@@ -59,6 +59,26 @@ doslink K.OBJ F.OBJ|1||doslink: K.OBJ: \"kept\" is missing: record 33 (00000021)
 doslink N.OBJ|1||doslink: N.OBJ: 7 NotHeader at record 0: this is no object module~
 ";
 
+/// Runs in which names are missing that symbol tables of archives offer, in the same form.
+pub(crate) const SYMBOL_RUNS: &str = "\
+doslink K.OBJ SYSV.A|1||doslink: SYSV.A(print.o): 3 Truncated at record 0: this is an ELF file; nasm wants -f obj~
+doslink K.OBJ SYM64.A|1||doslink: SYM64.A(print.o): 3 Truncated at record 0: this is a text; assemble or compile it first~
+doslink K.OBJ RANLIB.A|1||doslink: RANLIB.A(b.o): 8 NoEnd at record 0: the file is empty~
+doslink K.OBJ SORTED.A|1||doslink: SORTED.A(b.o): 3 Truncated at record 0: this is an ELF file; nasm wants -f obj~
+doslink K.OBJ OTHER.A SORTED.A SYSV.A|1||doslink: SORTED.A(b.o): 3 Truncated at record 0: this is an ELF file; nasm wants -f obj~
+doslink K.OBJ OTHER.A|1||\
+doslink: K.OBJ: \"kept\" is missing: record 33 (00000021), wanted by \"k.c\"~\
+doslink: K.OBJ: \"f\" is missing: record 39 (00000027), wanted by \"k.c\"~
+doslink K.OBJ ASTRAY.A|1||\
+doslink: K.OBJ: \"kept\" is missing: record 33 (00000021), wanted by \"k.c\"~\
+doslink: K.OBJ: \"f\" is missing: record 39 (00000027), wanted by \"k.c\"~
+doslink K.OBJ UPPER.A|1||\
+doslink: K.OBJ: \"kept\" is missing: record 33 (00000021), wanted by \"k.c\"~\
+doslink: K.OBJ: \"f\" is missing: record 39 (00000027), wanted by \"k.c\"~
+doslink --ignore-case K.OBJ UPPER.A|1||doslink: UPPER.A(print.o): 3 Truncated at record 0: this is an ELF file; nasm wants -f obj~
+doslink N.OBJ SYSV.A|1||doslink: N.OBJ: 7 NotHeader at record 0: this is no object module~
+";
+
 /// Runs with communal variables, in the same form.
 pub(crate) const COMMUNAL_RUNS: &str = "\
 doslink A.OBJ NEAR.OBJ|0||

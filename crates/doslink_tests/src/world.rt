@@ -133,6 +133,17 @@ pub(crate) const MODULES: [(&str, &[u8]); 58] = [
     ("PATCHED.OBJ", &PATCHED),
 ];
 
+/// Archives with tables of symbols.
+pub(crate) const ARCHIVES: [(&str, &[u8]); 7] = [
+    ("SYSV.A", &crate::symbols::SYSV),
+    ("SYM64.A", &crate::symbols::SYM64),
+    ("RANLIB.A", &crate::symbols::RANLIB),
+    ("SORTED.A", &crate::symbols::SORTED),
+    ("OTHER.A", &crate::symbols::OTHER),
+    ("UPPER.A", &crate::symbols::UPPER),
+    ("ASTRAY.A", &crate::symbols::ASTRAY),
+];
+
 /// Further ones.
 pub(crate) const FURTHER_MODULES: [(&str, &[u8]); 56] = [
     ("PATCHED2.OBJ", &PATCHED_BY_NAME),
