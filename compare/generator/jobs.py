@@ -6,7 +6,9 @@ from itertools import groupby
 from generator.communals import (
     LOCATIONS, NO_NUMBERS, Declared, at_limit, module_of_communals, module_of_local_variables,
     module_of_no_number)
-from generator.libraries import SMALL_PAGES, archive, damaged, library
+from generator.libraries import (
+    ARCHIVE, SMALL_PAGES, SYMBOL_TABLES, archive, archive_of_symbols, archive_with_symbols, damaged,
+    foreign, library, with_header)
 from generator.objects import (
     CLASSES, LAZY, MARKS, NAMES, SEGMENTS, TITLES, WEAK, ObjectMaker, any_plan, module_of_alias,
     module_of_code, module_of_cut_public, module_of_default, module_of_external,
@@ -110,6 +112,9 @@ FOREIGN_EVERY, FOREIGN = 50, [
     b"\xCF\xFA\xED\xFE\7\0", b"MZ\x90\0", b"!<thin>\n/ 0", b"\tmov ax,1\r\n\f\x1A", b"x\0y",
     255 * b"a" + b"\0", 256 * b"a" + b"\0", b"ab\x7F", b"caf\xC3\xA9\n", b"\x80\3", b"\x82\3\0",
     b"\x88\3\0\0\0\0\x8C\4\0\1q\0\0\x99\2\0\x28\0"]
+# one has an archive of members that are no modules, of which one has a missing name by the table of
+# symbols, or none
+SYMBOLS_EVERY, SYMBOLS = 50, [(form, at) for at in (0, 1, None) for form in SYMBOL_TABLES]
 # one has a file, which isn't read, where it writes, or asks for a program of another form
 WRITTEN_EVERY, THERE = 25, "there.exe"
 WRITTEN = [
@@ -474,6 +479,18 @@ class JobMaker:
         self.folders = []
         return self.asked()
 
+    def make_symbols(self, form, at):
+        """A missing name, by a table of symbols in the member at this place, or in none."""
+        offered = [[b"q"], [b"r"], [b"y"]]
+        if at is not None:
+            offered[at].append(b"x")
+        members = [foreign(self.random), foreign(self.random), module_of_publics([b"y"])]
+        table, rest = archive_of_symbols(form, members, [b"one", b"two", b"three"], offered)
+        self.files["0.obj"] = module_of_external(b"x", 0x8C)
+        self.files["lib"], self.folders = ARCHIVE + with_header(*table) + rest, []
+        self.give("0.obj", "lib")
+        return self.asked()
+
     def make_written(self, turn):
         """A program, or its map, in the place of a file, or of another form."""
         self.files["0.obj"], self.folders = module_of_publics([b"x"]), []
@@ -655,18 +672,21 @@ class JobMaker:
         """Modules that want each other, with the names that a librarian gives them."""
         count = self.random.choice([0, 1, 2, 3, 4])
         names = self.random.sample(MEMBER_NAMES, count)
-        contents = []
+        contents, offered = [], []
         for name in names:
-            maker = ObjectMaker(self.random, self.plan, self.wanted(2), self.offered(1, 2))
+            offered.append(self.offered(1, 2))
+            maker = ObjectMaker(self.random, self.plan, self.wanted(2), offered[-1])
             kept = self.random.choice([None, name])
             content = maker.make(self.random.choice(TITLES), library_name=kept)
             contents.append(content)
-        return contents, names
+        return contents, names, offered
 
     def library_content(self):
-        contents, names = self.members()
+        contents, names, offered = self.members()
         if self.happens(0.6):
             content = library(self.random, contents)
+        elif self.happens(0.2):
+            content = archive_with_symbols(self.random, contents, names, offered)
         else:
             content = archive(self.random, contents, names)
         return damaged(self.random, content) if self.happens(0.1) else content
@@ -939,6 +959,7 @@ MADE = [
     (FLAT_EVERY, 10, in_turn(JobMaker.make_flat, FLAT)),
     (MARKS_EVERY, 16, in_turn(JobMaker.make_marks, CLEARED)),
     (FOREIGN_EVERY, 29, in_turn(JobMaker.make_foreign, FOREIGN)),
+    (SYMBOLS_EVERY, 37, in_turn(JobMaker.make_symbols, SYMBOLS)),
     (WRITTEN_EVERY, 6, JobMaker.make_written),
     (LINES_EVERY, 18, JobMaker.make_many_lines),
     (CODE_EVERY, 70, in_turn(JobMaker.make_code, CODES)),

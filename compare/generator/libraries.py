@@ -73,6 +73,57 @@ def archive(random, members, names):
     return content[:-1] if random.random() < 0.1 and content[-1:] == b"\n" else content
 
 
+def foreign(random):
+    """What is no object module."""
+    return random.choice([
+        b"\x7FELF\1\1\1" + bytes(9), b"\x4C\x01" + bytes(18), b"\xCF\xFA\xED\xFE" + bytes(4),
+        b"a text\n", b"", b"MZ" + bytes(26)])
+
+
+# the names of tables of symbols
+SYMBOL_TABLES = [b"/", b"/SYM64/", b"__.SYMDEF", b"__.SYMDEF SORTED"]
+
+
+def symbol_table(form, symbols):
+    """The name and the content of a table of symbols: of names, each with the place of a header."""
+    names = b"".join(name + b"\0" for name, _ in symbols)
+    if form.startswith(b"/"):
+        width = 8 if form == b"/SYM64/" else 4
+        numbers = [len(symbols), *(place for _, place in symbols)]
+        return form, b"".join(number.to_bytes(width, "big") for number in numbers) + names
+    at, pairs = 0, b""
+    for name, place in symbols:
+        pairs += at.to_bytes(4, "little") + place.to_bytes(4, "little")
+        at += len(name) + 1
+    lengths = [each.to_bytes(4, "little") for each in (len(pairs), len(names))]
+    return form, lengths[0] + pairs + lengths[1] + names
+
+
+def archive_of_symbols(form, members, names, offered, moved=0):
+    """An archive of members, in front of which stands a table of the names that each offers."""
+    table = form, b""
+    for _ in range(2):
+        # the places hang on the table's length, which they don't change
+        place, symbols = len(ARCHIVE) + len(with_header(*table)), []
+        for name, member, offers in zip(names, members, offered):
+            symbols += [(each, place + moved) for each in offers]
+            place += len(with_header(name, member))
+        table = symbol_table(form, symbols)
+    return table, b"".join(map(with_header, names, members))
+
+
+def archive_with_symbols(random, members, names, offered):
+    """Such an archive, of which some members are no modules; at times its table is damaged."""
+    names = [name[:LONGEST_SHORT_NAME] for name in names]
+    members = [foreign(random) if random.random() < 0.5 else each for each in members]
+    form = random.choice([b"/", b"/", *SYMBOL_TABLES])
+    moved = random.choice([-60, 2]) if random.random() < 0.1 else 0
+    (name, table), rest = archive_of_symbols(form, members, names, offered, moved)
+    if random.random() < 0.1:
+        table = table[:random.randrange(len(table) + 1)]
+    return ARCHIVE + with_header(name, table) + rest
+
+
 def with_header(name, content):
     """A member, up to the next even place."""
     return header(name, len(content)) + content + b"\n" * (len(content) % 2)

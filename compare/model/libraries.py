@@ -171,6 +171,38 @@ def archive_members(content, owner=None):
     return members
 
 
+def symbols(content):
+    """The names in an archive's symbol table, its first member, each with the place of a header.
+
+    Of `/` and `/SYM64/` a count stands before so many places, the highest byte first, and behind
+    these the names; of `__.SYMDEF` pairs of a name's place and a header's, the lowest byte first,
+    between their length and that of the names. What a damaged table has beyond its bytes is left out.
+    """
+    if not content.startswith(ARCHIVE):
+        return []
+    name, table = content[8:24], content[len(ARCHIVE) + LENGTH_OF_HEADER:]
+    if name in (b"/".ljust(16), b"/SYM64/".ljust(16)):
+        width = 8 if name.startswith(b"/S") else 4
+        count = int.from_bytes(table[:width], "big") if len(table) >= width else 0
+        places, names = table[width:], table[width * (1 + count):]
+        count = min(count, len(places) // width)
+        names = names.split(b"\0")
+        # behind the last byte 0 there is a name only where some byte is left
+        names = names[:-1] if names[-1] == b"" else names
+        return list(zip(names, (
+            int.from_bytes(places[at:at + width], "big") for at in range(0, width * count, width))))
+    if name in (b"__.SYMDEF".ljust(16), b"__.SYMDEF SORTED"):
+        size, pairs = int.from_bytes(table[:4], "little"), table[4:]
+        names = pairs[size + 4:]
+        if len(pairs) < size + 4:
+            return []
+        pairs = [pairs[at:at + 8] for at in range(0, size - size % 8, 8)]
+        return [
+            (names[int.from_bytes(each[:4], "little"):].split(b"\0")[0],
+             int.from_bytes(each[4:], "little")) for each in pairs]
+    return []
+
+
 def member_name(name, long_names):
     """The name that a header says: itself, or a line of the table of long names; without its `/`.
 

@@ -258,7 +258,8 @@ class Linking:
     def check_names(self, variables):
         """No name may be missing, but for those that the order's module defines.
 
-        A module that can't be read is told before: it may have lost the names that are missing.
+        A module that can't be read is told before: it may have lost the names that are missing. And
+        so is a member that can't be read, by which the symbol table of its archive offers one.
         """
         missing = list(self.missing())
         marks = [self.key(mark) for mark in MARKS]
@@ -266,6 +267,8 @@ class Linking:
         self.wants_marks = any(self.key(name) in marks for name, _ in missing)
         if lines:
             self.check_modules(variables)
+            self.check_offering(variables, {
+                self.key(name) for name, _ in missing if self.key(name) not in marks})
             raise Stop(INPUT, faults.MISSING, told_at_most(lines, self.job.is_verbose))
 
     def missing(self):
@@ -290,13 +293,29 @@ class Linking:
         """The first module that can't be lowered or read has its own fault."""
         means = plain_meanings(self.taken, variables, self.key)
         for each, own in zip(self.taken, means):
-            self.contents, self.handed = [each.content], [each]
-            try:
-                content = lowering.lowered(each.content, self.job.keeps_debug, 0, own)
-                self.contents = [content]
-                module.read(content, 0)
-            except Fault as fault:
-                raise self.with_words(fault) from None
+            self.check_module(each, own)
+
+    def check_offering(self, variables, missing):
+        """The first member with a fault that a symbol table says to have one of these names."""
+        for path, content in self.inputs:
+            places = {
+                place for name, place in libraries.symbols(content) if self.key(name) in missing}
+            for member in libraries.members(content, path) if places else []:
+                if member.place - libraries.LENGTH_OF_HEADER in places:
+                    each = Module(
+                        f"{path}({escaped(member.name)})", member.content, names_of(member.content))
+                    *_, own = plain_meanings([*self.taken, each], variables, self.key)
+                    self.check_module(each, own)
+
+    def check_module(self, each, own):
+        """A module that can't be lowered or read has its own fault."""
+        self.contents, self.handed = [each.content], [each]
+        try:
+            content = lowering.lowered(each.content, self.job.keeps_debug, 0, own)
+            self.contents = [content]
+            module.read(content, 0)
+        except Fault as fault:
+            raise self.with_words(fault) from None
 
     def linked(self, variables):
         """The program of the modules as they are lowered, with what is local to each, between those
