@@ -117,6 +117,10 @@ SOURCES = {"PRINT.ASM": PRINT_ASM, "PUT.ASM": PUT_ASM, "MAIN.ASM": MAIN_ASM}
 
 # names that are missing: one that is like another, and many of them
 MISSES = placed(b"main.c", {145: externals(b"_prinft")})
+WANTS_PRINT = module(b"main.c", externals(b"print"), uses(1))
+# the table of symbols of an archive: one name, whose member's header stands behind the table's 14 bytes
+OF_ELF = archive(
+    member(b"/", struct.pack(">2I", 1, 8 + 60 + 14) + b"print\0"), member(b"print.o/", b"\x7FELF\1\1\1" + bytes(9)))
 MISSES_TWO = placed(b"main.c", {145: externals(b"_prinft"), 167: externals(b"strlen")})
 STRLEN = library(16, module(b"strlen", publics(b"_strlen")))
 MANY = module(b"main.c", externals(*(b"n%d" % number for number in range(2_000))))
@@ -237,6 +241,8 @@ SHOWN = {
             Said("doslink NOTES.TXT", 1, {"NOTES.TXT": b"int main(void) { return 0; }\n" * 2000}),
             Said("doslink A.OBJ", 3),
             Said("ln -s B.OBJ B.OBJ && doslink B.OBJ", 3))),
+        "doslink: RUN.A(print.o): 3 Truncated at record 0: this is an ELF file; nasm wants -f obj": Lines((
+            Said("doslink MAIN.OBJ RUN.A", 1, {"MAIN.OBJ": WANTS_PRINT, "RUN.A": OF_ELF}),)),
         "doslink: warning: no module has a start": Lines((
             Said("doslink MAIN.OBJ", 0, {"MAIN.OBJ": SPACE}),
             Said("wlink @LINES", 0, {
