@@ -12,7 +12,7 @@ use Rattle.std.proofs.lemmas.List.Sums.{prefix_len-le-length, prefix_len_passes}
 use Rattle.clap.specs.Words.{Text}
 use Rattle.doslink_words.specs.declared.faults.DirectiveFault.{DirectiveFault}
 use Rattle.doslink_words.specs.declared.faults.DirectiveFaultKind.{DirectiveFaultKind}
-use Rattle.doslink_words.specs.declared.faults.DirectiveFaultKind.TheVariants.{UnclosedQuote}
+use Rattle.doslink_words.specs.declared.faults.DirectiveFaultKind.TheVariants.{UnclosedQuote, WrongOperands}
 use Rattle.doslink_words.specs.declared.faults.LineFault.{LineFault}
 use Rattle.doslink_words.specs.declared.faults.LineFault.TheVariants.{Memory, Wrong}
 use Rattle.doslink_words.specs.declared.faults.SplitFault.{SplitFault}
@@ -20,8 +20,8 @@ use Rattle.doslink_words.specs.declared.faults.SplitFault.TheVariants as split_f
 use Rattle.doslink_words.specs.declared.tokens.Syntax.TheVariants.{Directives}
 use Rattle.doslink_words.specs.declared.tokens.Token.{Token}
 use Rattle.doslink_words.specs.Directives.{and_then, is_comma, one_name, option_meaning, option_of, parts, with_names}
-use Rattle.doslink_words.specs.Directives.{with_options, line_meaning, lines_meaning, on_line, order_item, says_nothing}
-use Rattle.doslink_words.specs.Directives.{tokens_meaning, with_items, FaultyLine, Means}
+use Rattle.doslink_words.specs.Directives.{with_options, line_meaning, lines_meaning, offset_meaning, on_line, order_item}
+use Rattle.doslink_words.specs.Directives.{says_nothing, tokens_meaning, with_items, FaultyLine, Means}
 use Rattle.doslink_words.specs.Said.{Said, SaidItem}
 use Rattle.doslink_words.specs.Tokens.{Piece, Comma, texts, tokens}
 use Rattle.doslink_words.specs.inside.Faults.{IsFaultAt}
@@ -269,3 +269,18 @@ lines_stop said after all i text (Wrong kind) fault whole inside here follows fi
 pub line_here : (ls : List (Bor Text)) (i : ℕ) (d : Bor Text) → i < length ls
     → get_or (texts ls) i (get_or ls i d).now ≡ (get_or ls i d).now
 line_here ls i d inside = get_or-map (λ s. s.now) ls i d ((get_or ls i d).now) inside
+
+-- ---- where no offset is
+
+pub no_offset_short : (tokens : List Piece) → length tokens < 3 → Err WrongOperands ≡ offset_meaning tokens
+no_offset_short [] h = refl
+no_offset_short (a ∷ []) h = refl
+no_offset_short (a ∷ b ∷ []) h = refl
+no_offset_short (a ∷ b ∷ c ∷ more) h = absurd (omega (arith, h))
+
+pub no_offset_long : (tokens : List Piece) → 4 ≤ length tokens → Err WrongOperands ≡ offset_meaning tokens
+no_offset_long [] h = refl
+no_offset_long (a ∷ []) h = refl
+no_offset_long (a ∷ b ∷ []) h = refl
+no_offset_long (a ∷ b ∷ c ∷ []) h = absurd (omega (arith, h))
+no_offset_long (a ∷ b ∷ c ∷ d ∷ more) h = refl

@@ -1,5 +1,5 @@
 -- What the directives of a response file mean: a fold over its lines.
-use Rattle.std.specs.Prelude.{◌≡◌, ℕ, ◌+◌, ◌==◌, ◌||◌, ⊤, Bool, true, false, List, [], ◌∷◌, ◌++◌, length, codes, map}
+use Rattle.std.specs.Prelude.{◌≡◌, ℕ, ◌+◌, ◌==◌, ◌&&◌, ◌||◌, ⊤, Bool, true, false, List, [], ◌∷◌, ◌++◌, length, codes, map}
 use Rattle.std.specs.Prelude.{Option, Some, None, Result, Ok, Err, if◌then◌else◌, slice_index}
 use Rattle.std.specs.Option.{option_and_then, option_map_or}
 use Rattle.std.specs.List.{slice_split}
@@ -10,6 +10,8 @@ use Rattle.doslink_words.specs.declared.faults.DirectiveFault.TheVariants as dir
 use Rattle.doslink_words.specs.declared.faults.DirectiveFaultKind.{DirectiveFaultKind}
 use Rattle.doslink_words.specs.declared.faults.DirectiveFaultKind.TheVariants as kind
 use Rattle.doslink_words.specs.declared.job.Directives.{Directives}
+use Rattle.doslink_words.specs.declared.job.Form.{Form}
+use Rattle.doslink_words.specs.declared.job.Form.TheVariants as form
 use Rattle.doslink_words.specs.declared.job.WarningKind.{WarningKind}
 use Rattle.doslink_words.specs.declared.job.WarningKind.TheVariants as warning
 use Rattle.doslink_words.specs.declared.keywords.Directive.{Directive}
@@ -22,7 +24,7 @@ use Rattle.doslink_words.specs.declared.tokens.Syntax.TheVariants.{Directives as
 use Rattle.doslink_words.specs.Keywords.{is_keyword, directive_named, switch_named}
 use Rattle.doslink_words.specs.Said.{Said, SaidItem, nothing, said_of}
 use Rattle.doslink_words.specs.Said.{File, Library, Class, Segment, Beside, At, Dosseg, Listed}
-use Rattle.doslink_words.specs.Sizes.{stack_bytes}
+use Rattle.doslink_words.specs.Sizes.{size, stack_bytes}
 use Rattle.doslink_words.specs.Tokens.{Piece, Word, Quoted, Comma, Equals, after_space, tokens}
 
 -- what is done with a value, where there is one, and else the fault that there is
@@ -128,15 +130,47 @@ with_options line [] said = Ok said
 with_options line (part ∷ more) said =
     and_then (option_of part) (λ o. and_then (option_meaning line o.0 o.1 said) (with_options line more))
 
--- `dos [exe]`, and no other
-abbrev pub format_meaning : List Piece → Line Unit
-format_meaning (system ∷ []) = if is_word system (codes "dos") then Ok tt else Err kind.NotDos
+-- the form `exe` or `com`, and no other
+abbrev pub kind_meaning : Piece → Line (Option Form)
+kind_meaning what =
+    if is_word what (codes "exe") then Ok (Some form.Exe)
+    else (if is_word what (codes "com") then Ok (Some form.Com) else Err kind.NotDos)
+
+-- `dos [exe|com]`, and no other: `dos` alone says no form
+abbrev pub format_meaning : List Piece → Line (Option Form)
+format_meaning (system ∷ []) = if is_word system (codes "dos") then Ok None else Err kind.NotDos
 format_meaning (system ∷ what ∷ []) =
-    if is_word system (codes "dos") then
-    (if is_word what (codes "exe") then Ok tt
-    else Err (if is_word what (codes "com") then kind.NoCom else kind.NotDos))
-    else Err kind.NotDos
+    if is_word system (codes "dos") then kind_meaning what else Err kind.NotDos
 format_meaning _ = Err kind.NotDos
+
+-- `dos` or `com`, and no other: `dos` says no form
+abbrev pub system_meaning : List Piece → Line (Option Form)
+system_meaning (system ∷ []) =
+    if is_word system (codes "dos") then Ok None
+    else (if is_word system (codes "com") then Ok (Some form.Com) else Err kind.NotDos)
+system_meaning _ = Err kind.NotDos
+
+-- a raw image at paragraph 0, from this address on
+abbrev pub raw_from : ℕ → Option Form
+raw_from address = Some (form.Raw 0 address)
+
+-- `offset=N`: a raw image that begins at this address
+abbrev pub offset_meaning : List Piece → Line (Option Form)
+offset_meaning (name ∷ mark ∷ value ∷ []) =
+    if is_word name (codes "offset") && is_equals mark
+    then and_then (name_of value) (λ text. option_map_or (λ n. Ok (raw_from n)) (size text) (Err kind.WrongOperands))
+    else Err kind.WrongOperands
+offset_meaning _ = Err kind.WrongOperands
+
+-- `raw [offset=N]`, and no other
+abbrev pub output_meaning : List Piece → Line (Option Form)
+output_meaning [] = Err kind.WrongOperands
+output_meaning (what ∷ []) = if is_word what (codes "raw") then Ok (raw_from 0) else Err kind.WrongOperands
+output_meaning (what ∷ more) = if is_word what (codes "raw") then offset_meaning more else Err kind.WrongOperands
+
+-- a line that says a form, or none
+abbrev pub form_meaning : Line (Option Form) → Said → Line Said
+form_meaning said_form said = and_then said_form (λ f. Ok (record said { form = f }))
 
 -- `clname CLASS` or `segment SEGMENT`
 abbrev pub order_item : (keyword name : Piece) → Line SaidItem
@@ -169,7 +203,9 @@ directive_meaning line directive.Folder operands said =
     and_then (with_names said.folders (parts operands)) (λ names. Ok (record said { folders = names }))
 directive_meaning line directive.Name operands said =
     and_then (one_name operands) (λ name. Ok (record said { out = Some name }))
-directive_meaning line directive.Format operands said = and_then (format_meaning operands) (λ _. Ok said)
+directive_meaning line directive.Format operands said = form_meaning (format_meaning operands) said
+directive_meaning line directive.System operands said = form_meaning (system_meaning operands) said
+directive_meaning line directive.Output operands said = form_meaning (output_meaning operands) said
 directive_meaning line directive.Option operands said = with_options line (parts operands) said
 directive_meaning line directive.Order operands said = order_meaning operands said
 directive_meaning line directive.Debug operands said = Ok said

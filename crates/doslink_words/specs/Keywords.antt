@@ -27,7 +27,9 @@ directive_named word =
     else (if is_keyword word (codes "debug") then Some directive.Debug
     else (if is_keyword word (codes "sort") then Some directive.Sort
     else (if is_keyword word (codes "disable") then Some directive.Disable
-    else None)))))))))
+    else (if is_keyword word (codes "system") then Some directive.System
+    else (if is_keyword word (codes "output") then Some directive.Output
+    else None)))))))))))
 
 -- whether an option changes nothing of a DOS program
 abbrev pub is_harmless : Text → Bool

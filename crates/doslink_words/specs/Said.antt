@@ -4,6 +4,7 @@ use Rattle.std.specs.Option.{option_map}
 use Rattle.clap.specs.Words.{Text}
 use Rattle.doslink_words.specs.Tokens.{texts}
 use Rattle.doslink_words.specs.declared.job.Directives.{Directives}
+use Rattle.doslink_words.specs.declared.job.Form.{Form}
 use Rattle.doslink_words.specs.declared.job.Input.{Input}
 use Rattle.doslink_words.specs.declared.job.Input.TheVariants as input
 use Rattle.doslink_words.specs.declared.job.MapFile.{MapFile}
@@ -46,6 +47,7 @@ pub record Said : Type 0 where
   pub order : SaidOrder
   pub null_bytes : Bool
   pub stack : Option Stack
+  pub form : Option Form
   pub default_libraries : Bool
   pub keep_debug : Bool
   pub packs_far_data : Bool
@@ -64,6 +66,7 @@ nothing = record {
   order = Meeting;
   null_bytes = false;
   stack = None;
+  form = None;
   default_libraries = true;
   keep_debug = false;
   packs_far_data = true;
@@ -106,6 +109,7 @@ said_of directives = record {
   order = order_of directives.job.order;
   null_bytes = directives.job.null_bytes;
   stack = directives.job.stack;
+  form = directives.job.form;
   default_libraries = directives.job.default_libraries;
   keep_debug = directives.job.keep_debug;
   packs_far_data = directives.job.packs_far_data;

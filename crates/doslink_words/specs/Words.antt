@@ -1,7 +1,7 @@
 -- The command line: what it takes, and which job its values are.
 use Rattle.std.specs.Prelude.{◌≡◌, ◌==◌, ℕ, true, false, not, List, [], Option, Some, None, map, codes}
 use Rattle.std.specs.Prelude.{◌∷◌, ◌||◌, Bool, if◌then◌else◌, is_some}
-use Rattle.std.specs.Option.{option_map, unwrap_or}
+use Rattle.std.specs.Option.{option_and_then, option_map, unwrap_or}
 use Rattle.std.specs.List.{slice_split}
 use Rattle.std.specs.Str.{bytes_eq}
 use Rattle.clap.specs.Words.{App, Row, Rule, Text, all_of, fault_of, first_of, matches_of, new_app, new_rule}
@@ -9,13 +9,15 @@ use Rattle.clap.specs.Words.{with_rule}
 use Rattle.clap.specs.declared.builder.action.ArgAction.TheVariants.{Append, SetTrue}
 use Rattle.command_line.specs.Rules.{case_rule, files_rule, flag_rule, map_rule}
 pub use Rattle.command_line.specs.Values.{IsFlag}
+use Rattle.doslink_words.specs.declared.job.Form.{Form}
+use Rattle.doslink_words.specs.declared.job.Form.TheVariants as form
 use Rattle.doslink_words.specs.declared.job.Job.{Job}
 use Rattle.doslink_words.specs.declared.job.Stack.{Stack}
 use Rattle.doslink_words.specs.declared.named.Expected.TheVariants.{Any}
 use Rattle.doslink_words.specs.Keywords.{is_keyword}
 use Rattle.doslink_words.specs.Named.{in_order, kinds_named}
 use Rattle.doslink_words.specs.Said.{SaidOrder, Meeting, Dosseg, Listed, Class, At, inputs_of, map_of, order_of}
-use Rattle.doslink_words.specs.Sizes.{stack_bytes}
+use Rattle.doslink_words.specs.Sizes.{paragraph, stack_bytes}
 use Rattle.doslink_words.specs.Tokens.{texts}
 
 -- the program that is written: `-o OUT`
@@ -41,6 +43,14 @@ order_rule = record (new_rule (codes "ORDER")) { long = Some (codes "order") }
 -- the length of the stack: `--stack N`
 abbrev pub stack_rule : Rule
 stack_rule = record (new_rule (codes "N")) { long = Some (codes "stack") }
+
+-- the form of the file: `--form FORM`
+abbrev pub form_rule : Rule
+form_rule = record (new_rule (codes "FORM")) { long = Some (codes "form") }
+
+-- the paragraph at which a raw image is located: `--at PARAGRAPH`
+abbrev pub at_rule : Rule
+at_rule = record (new_rule (codes "PARAGRAPH")) { long = Some (codes "at") }
 
 -- `--no-default-libs`, a flag
 abbrev pub no_defaults_rule : Rule
@@ -69,8 +79,8 @@ files_command =
 -- the command `doslink`
 unfoldable pub doslink_command : App
 doslink_command =
-    with_rule (with_rule (with_rule (with_rule (with_rule (with_rule files_command case_rule) order_rule) stack_rule)
-    no_defaults_rule) debug_rule) verbose_rule
+    with_rule (with_rule (with_rule (with_rule (with_rule (with_rule (with_rule (with_rule files_command case_rule)
+    order_rule) stack_rule) form_rule) at_rule) no_defaults_rule) debug_rule) verbose_rule
 
 -- whether the only word is `help`
 abbrev pub is_help : List Text → Bool
@@ -94,10 +104,11 @@ abbrev pub order_asked : Option Text → SaidOrder
 order_asked None = Meeting
 order_asked (Some word) = if is_dosseg word then Dosseg else Listed (map Class (slice_split (λ byte. byte == 44) word))
 
--- whether the order DOSSEG has null bytes: wherever nothing asks for none
-abbrev pub nulls_asked : Option Text → Bool
-nulls_asked None = true
-nulls_asked (Some word) = not (is_keyword word (codes "dosseg-nonulls"))
+-- whether the order DOSSEG has null bytes: wherever nothing asks for none, but in a .COM file
+abbrev pub nulls_asked : Option Text → Option Form → Bool
+nulls_asked word (Some form.Com) = false
+nulls_asked None _ = true
+nulls_asked (Some word) _ = not (is_keyword word (codes "dosseg-nonulls"))
 
 -- the stack as a word: a longer one is a fault
 abbrev pub stack_asked : Option Text → Option Stack
@@ -109,6 +120,42 @@ abbrev pub is_no_stack : Option Text → Bool
 is_no_stack None = false
 is_no_stack (Some word) = not (is_some (stack_bytes word))
 
+-- the form of a name; of a raw image that at a paragraph, from its first byte on
+abbrev pub form_named : Text → (paragraph : ℕ) → Option Form
+form_named word paragraph =
+    if is_keyword word (codes "exe") then Some form.Exe
+    else (if is_keyword word (codes "com") then Some form.Com
+    else (if is_keyword word (codes "bin") then Some (form.Raw paragraph 0)
+    else (if is_keyword word (codes "sys") then Some form.Driver
+    else None)))
+
+-- the form as words: its name, and a paragraph, which is 0 where none is given
+abbrev pub form_asked : (word at : Option Text) → Option Form
+form_asked None at = None
+form_asked (Some word) at = form_named word (unwrap_or (option_and_then paragraph at) 0)
+
+-- whether a form is a raw image
+abbrev pub is_raw : Option Form → Bool
+is_raw (Some (form.Raw paragraph from)) = true
+is_raw _ = false
+
+-- whether a paragraph is none, or is given where no raw image is asked for
+abbrev pub is_no_place : (form : Option Form) → (at : Option Text) → Bool
+is_no_place asked None = false
+is_no_place asked (Some word) = not (is_raw asked) || not (is_some (paragraph word))
+
+-- whether words are no form: a name that is none, or a paragraph that it doesn't take
+abbrev pub is_no_form : (word at : Option Text) → Bool
+is_no_form None at = is_no_place None at
+is_no_form (Some word) at =
+    not (is_some (form_asked (Some word) at)) || is_no_place (form_asked (Some word) at) at
+
+-- whether some value is none that its option takes
+abbrev pub has_wrong_value : List Row → Bool
+has_wrong_value rows =
+    is_no_stack (first_of (codes "N") rows)
+    || is_no_form (first_of (codes "FORM") rows) (first_of (codes "PARAGRAPH") rows)
+
 -- `job` is what these values, which words give, ask for
 pub record IsJobOf (words : List Text) (rows : List Row) (job : Job) : Type 0 where
   pub inputs : inputs_of job.inputs.items
@@ -118,8 +165,9 @@ pub record IsJobOf (words : List Text) (rows : List Row) (job : Job) : Type 0 wh
   pub folders : texts job.folders.items ≡ values_of (codes "FOLDER") rows
   pub ignore_case : IsFlag (codes "ignore-case") rows job.ignore_case
   pub order : order_of job.order ≡ order_asked (first_of (codes "ORDER") rows)
-  pub null_bytes : job.null_bytes ≡ nulls_asked (first_of (codes "ORDER") rows)
+  pub null_bytes : job.null_bytes ≡ nulls_asked (first_of (codes "ORDER") rows) job.form
   pub stack : job.stack ≡ stack_asked (first_of (codes "N") rows)
+  pub form : job.form ≡ form_asked (first_of (codes "FORM") rows) (first_of (codes "PARAGRAPH") rows)
   pub default_libraries : IsFlag (codes "no-default-libs") rows (not job.default_libraries)
   pub keep_debug : IsFlag (codes "keep-debug") rows job.keep_debug
   pub packs_far_data : job.packs_far_data ≡ false
@@ -130,10 +178,9 @@ pub record IsJobOf (words : List Text) (rows : List Row) (job : Job) : Type 0 wh
 abbrev pub values_in : List Text → List Row
 values_in words = matches_of doslink_command (asked words)
 
--- the command has no fault at the words, and the stack is a length
+-- the command has no fault at the words, and no value is wrong
 unfoldable pub AreTaken : List Text → Type 0
-AreTaken words =
-    (fault_of doslink_command (asked words) ≡ []) × (is_no_stack (first_of (codes "N") (values_in words)) ≡ false)
+AreTaken words = (fault_of doslink_command (asked words) ≡ []) × (has_wrong_value (values_in words) ≡ false)
 
 -- the words are taken, and `job` is what their values ask for
 unfoldable pub IsJobFor : List Text → Job → Type 0

@@ -1,10 +1,12 @@
 //! The directives of a response file.
-ghost use Rattle.std.specs.Prelude.{◌≡◌, Err, IfOk, Ok, codes, if◌then◌else◌};
+ghost use Rattle.std.specs.Prelude.{◌≡◌, Err, IfOk, Ok};
+ghost use Rattle.std.specs.Option.{option_map_or};
 ghost use Rattle.std.specs.Str.Lines.{lines};
 ghost use Rattle.doslink_words.specs.Directives as spec;
-ghost use Rattle.doslink_words.specs.Said.{Said, nothing, said_of};
-ghost use Rattle.doslink_words.specs.declared.faults.DirectiveFaultKind.TheVariants.{NoCom, NotDos};
+ghost use Rattle.doslink_words.specs.Said.{nothing, said_of};
+ghost use Rattle.doslink_words.specs.declared.faults.DirectiveFaultKind.TheVariants.{WrongOperands};
 ghost use Rattle.doslink_words.specs.declared.keywords.Directive.TheVariants as directive;
+ghost use Rattle.doslink_words.specs.Sizes.{size};
 ghost use Rattle.doslink_words.specs.Tokens.{texts};
 ghost use Rattle.doslink_words.specs.inside.Tokens.{piece_of, pieces};
 ghost use Rattle.doslink_words.specs.Directives.{Means};
@@ -12,45 +14,98 @@ ghost use Rattle.doslink_words.specs.inside.Follows.{Follows, Gives};
 ghost use Rattle.doslink_words.specs.inside.Faults.{IsFaultAt};
 
 use crate::faults::{DirectiveFault, DirectiveFaultKind, LineFault};
-use crate::job::{Directives, Order, WarningKind};
+use crate::job::{Directives, Form, Order, WarningKind};
 use crate::keywords::{Directive, directive_named};
 use crate::named::{put_files, put_libraries};
 use crate::operands::{one_name, put_items, put_names};
 use crate::options::{follow_options, warn};
+use crate::sizes::size;
 use crate::tokens::{Syntax, Token, after_space, tokens};
 use std::alloc::{AllocError, Global};
 
-// Whether `format dos` asks for the kind .EXE.
-fn check_kind(kind: Token) -> Result<(), DirectiveFaultKind>
-    ensures { result ≡ (if spec.is_word (piece_of kind.entry) (codes "exe") then Ok tt
-        else Err (if spec.is_word (piece_of kind.entry) (codes "com") then NoCom else NotDos)) }
+// The form that `format dos` asks for by a word behind it.
+fn kind_of(kind: Token) -> Result<Option<Form>, DirectiveFaultKind>
+    ensures { result ≡ spec.kind_meaning (piece_of kind.entry) }
 {
     if kind.is_word("exe") {
-        Ok(())
+        Ok(Some(Form::Exe))
     } else if kind.is_word("com") {
-        Err(DirectiveFaultKind::NoCom)
+        Ok(Some(Form::Com))
     } else {
         Err(DirectiveFaultKind::NotDos)
     }
 }
 
-// Whether `format` asks for a DOS program of the kind .EXE.
-fn check_format(operands: &[Token]) -> Result<(), DirectiveFaultKind>
+// The form that `format` asks for.
+fn format_of(operands: &[Token]) -> Result<Option<Form>, DirectiveFaultKind>
     ensures { result ≡ spec.format_meaning (pieces operands.now) }
 {
     match operands {
-        [system] if system.is_word("dos") => Ok(()),
-        [system, kind] if system.is_word("dos") => check_kind(*kind),
+        [system] if system.is_word("dos") => Ok(None),
+        [system, kind] if system.is_word("dos") => kind_of(*kind),
         _ => Err(DirectiveFaultKind::NotDos),
     }
 }
 
-// Follows `format`, which changes nothing.
-fn follow_format(operands: &[Token]) -> Result<(), LineFault>
-    ensures { (said : Said) → Follows result (spec.and_then (spec.format_meaning (pieces operands.now)) (λ _. Ok said))
-        said }
+// The form that `system` asks for.
+fn system_of(operands: &[Token]) -> Result<Option<Form>, DirectiveFaultKind>
+    ensures { result ≡ spec.system_meaning (pieces operands.now) }
 {
-    Ok(check_format(operands)?)
+    match operands {
+        [system] if system.is_word("dos") => Ok(None),
+        [system] if system.is_word("com") => Ok(Some(Form::Com)),
+        _ => Err(DirectiveFaultKind::NotDos),
+    }
+}
+
+// A raw image at paragraph 0, from this address on.
+fn raw_from(from: u32) -> Option<Form>
+    ensures { result ≡ spec.raw_from from }
+{
+    Some(Form::Raw { paragraph: 0, from })
+}
+
+// The raw image that begins at the address that a token writes.
+fn raw_at(value: Token) -> Result<Option<Form>, DirectiveFaultKind>
+    ensures { result ≡ spec.and_then (spec.name_of (piece_of value.entry))
+        (λ text. option_map_or (λ n. Ok (spec.raw_from n)) (size text) (Err WrongOperands)) }
+{
+    match size(value.name()?.as_bytes()) {
+        Some(from) => Ok(raw_from(from)),
+        None => Err(DirectiveFaultKind::WrongOperands),
+    }
+}
+
+// The raw image that `offset=N` asks for.
+fn offset_of(operands: &[Token]) -> Result<Option<Form>, DirectiveFaultKind>
+    ensures { result ≡ spec.offset_meaning (pieces operands.now) }
+{
+    match operands {
+        [name, mark, value] if name.is_word("offset") && mark.is_equals() => raw_at(*value),
+        _ => Err(DirectiveFaultKind::WrongOperands),
+    }
+}
+
+// The form that `output` asks for.
+fn output_of(operands: &[Token]) -> Result<Option<Form>, DirectiveFaultKind>
+    ensures { result ≡ spec.output_meaning (pieces operands.now) }
+{
+    match operands {
+        [what] if what.is_word("raw") => Ok(raw_from(0)),
+        [what, more @ ..] if what.is_word("raw") => offset_of(more),
+        _ => Err(DirectiveFaultKind::WrongOperands),
+    }
+}
+
+// Follows a line that says a form, or none.
+fn follow_form(
+    directives: &mut Directives,
+    form: Result<Option<Form>, DirectiveFaultKind>,
+) -> Result<(), LineFault>
+    ensures { Follows result (spec.form_meaning form (said_of directives.old)) (said_of directives.new) }
+{
+    directives.job.form = form?;
+    Ok(())
 }
 
 // Follows `name`.
@@ -126,7 +181,9 @@ fn follow_directive<'a>(
         Directive::Library => follow_library(alloc, directives, operands),
         Directive::Folder => put_names(&mut directives.job.folders, operands),
         Directive::Name => follow_name(directives, operands),
-        Directive::Format => follow_format(operands),
+        Directive::Format => follow_form(directives, format_of(operands)),
+        Directive::System => follow_form(directives, system_of(operands)),
+        Directive::Output => follow_form(directives, output_of(operands)),
         Directive::Option => follow_options(directives, line, operands),
         Directive::Order => follow_order(alloc, directives, operands),
         Directive::Debug => Ok(()),
@@ -225,7 +282,8 @@ fn follow_lines<'a>(alloc: Global, lines: &[&'a str]) -> Result<Directives<'a>, 
 ///
 /// - `file A[,B..]`, `library A[,B..]` (`lib`), `libpath A[,B..]`: modules, libraries and folders, in order.
 /// - `name FILE`: the program. Of several the last counts, as of orders and of options that exclude each other.
-/// - `format dos [exe]`: nothing; of `com` and other systems it is a fault.
+/// - `format dos [exe|com]`, `system dos|com`: the form of the program's file; of other systems it is a fault.
+/// - `output raw [offset=N]`: a raw image at paragraph 0, from this address on.
 /// - `option X[=VALUE][,..]` (`op`): `quiet`, `map[=FILE]`, `stack=BYTES`, `dosseg`, `caseexact`, `ignorecase`,
 ///   `nodefaultlibs`. Of `symfile` and what changes no DOS program (`verbose`, `statics`, `artificial`, `showdead`, `cache`,
 ///   `nocache`, `farcalls`, `nofarcalls`, `maxerrors`) a warning is told; any other is a fault.

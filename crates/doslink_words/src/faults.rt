@@ -67,9 +67,6 @@ pub enum DirectiveFaultKind {
     /// What follows a directive or an option isn't what it takes.
     #[error("wrong operands")]
     WrongOperands,
-    /// A .COM program is asked for.
-    #[error("no .COM program is written, only .EXE")]
-    NoCom,
     /// A program that isn't for DOS is asked for.
     #[error("no other program is written than one for DOS")]
     NotDos,

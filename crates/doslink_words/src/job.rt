@@ -23,6 +23,8 @@ pub struct Job<'a> {
     pub null_bytes: bool,
     /// How long the stack is to be, where that is asked for.
     pub stack: Option<Stack>,
+    /// The form of the program's file, where one is said; else it is an EXE file.
+    pub form: Option<Form>,
     /// Whether the libraries that modules name are searched too.
     pub default_libraries: bool,
     /// Whether segments of debugging stay in the program.
@@ -51,6 +53,19 @@ pub struct Stack {
     pub bytes: u32,
     /// Whether a longer one, made by the modules, is cut to it; else that is a fault.
     pub cuts: bool,
+}
+
+/// The form of a program's file.
+#[derive(Clone, Copy, Debug, PartialEq, Eq)]
+pub enum Form {
+    /// An EXE file, which DOS loads at any paragraph.
+    Exe,
+    /// A .COM file: the program from 100H on, which DOS loads behind a program segment prefix.
+    Com,
+    /// The bytes of the program as it is located at a paragraph, from an address of it on.
+    Raw { paragraph: u16, from: u32 },
+    /// The file of a device driver, .SYS: the bytes of a program without relocated words.
+    Driver,
 }
 
 /// Where a map is written.
@@ -128,6 +143,7 @@ impl<'a> Directives<'a> {
             order: Order::Meeting,
             null_bytes: false,
             stack: None,
+            form: None,
             default_libraries: true,
             keep_debug: false,
             packs_far_data: true,

@@ -15,8 +15,12 @@ pub(crate) enum Directive {
     Folder,
     /// `name`: the program.
     Name,
-    /// `format`: the kind of program.
+    /// `format`: the form of the program's file.
     Format,
+    /// `system`: the same.
+    System,
+    /// `output`: a raw image.
+    Output,
     /// `option`, `op`: options.
     Option,
     /// `order`: the order of classes and segments.
@@ -89,6 +93,10 @@ pub(crate) fn directive_named(word: &str) -> Option<Directive>
         Some(Directive::Sort)
     } else if is(word, "disable") {
         Some(Directive::Disable)
+    } else if is(word, "system") {
+        Some(Directive::System)
+    } else if is(word, "output") {
+        Some(Directive::Output)
     } else {
         None
     }

@@ -1,22 +1,23 @@
 //! The words of the command line.
-ghost use Rattle.std.specs.Prelude.{◌≡◌, ◌==◌, IfErr, IfOk, [], codes, false, map, true};
+ghost use Rattle.std.specs.Prelude.{◌≡◌, ◌==◌, ◌&&◌, IfErr, IfOk, [], codes, false, is_some, map, not, true};
 ghost use Rattle.std.specs.List.{slice_split};
-ghost use Rattle.std.specs.Option.{option_map};
-ghost use Rattle.clap.specs.Words.{app_of, first_of, found_of, is_simple_and_free, kind_of, rows_of, rule_of};
+ghost use Rattle.std.specs.Option.{option_and_then, option_map};
+ghost use Rattle.clap.specs.Words.{app_of, found_of, is_simple_and_free, kind_of, rows_of, rule_of};
 ghost use Rattle.clap.specs.declared.Command.{out-Command as fields_of};
 ghost use Rattle.clap.specs.declared.error.ErrorKind.TheVariants.{OutOfMemory};
 ghost use Rattle.doslink_words.specs.Named as named;
 ghost use Rattle.doslink_words.specs.Said.{At, Class, items_of, inputs_of, map_of, order_of};
+ghost use Rattle.doslink_words.specs.Sizes as size;
 ghost use Rattle.doslink_words.specs.Tokens.{texts};
 ghost use Rattle.doslink_words.specs.declared.named.Expected.TheVariants.{Any};
 ghost use Rattle.doslink_words.specs.Words as spec;
 ghost use Rattle.doslink_words.specs.Words.{AreTaken, IsJobFor, IsJobOf};
 ghost use Rattle.doslink_words.specs.declared.words.WordsFault.TheVariants.{Memory};
 
-use crate::job::{Input, Job, MapFile, Order, OrderItem, Stack};
+use crate::job::{Form, Input, Job, MapFile, Order, OrderItem, Stack};
 use crate::keywords::is;
 use crate::named::{in_order, kinds_named};
-use crate::sizes::stack_bytes;
+use crate::sizes::{paragraph, stack_bytes};
 use clap::error::ErrorKind;
 use clap::{Arg, ArgAction, ArgMatches, Command};
 use command_line::{VERSION, case_flag, files, flag, map_option, with_arg};
@@ -94,6 +95,26 @@ fn stack_option<'a>(alloc: Global) -> Arg<'a>
     )
 }
 
+// The form of the file.
+fn form_option<'a>(alloc: Global) -> Arg<'a>
+    ensures rule { rule_of result ≡ spec.form_rule }
+    ensures local { result.global ≡ false }
+{
+    Arg::new(alloc, "FORM").long("form").help(
+        "exe, com, bin (a raw image: a boot sector, a ROM) or sys (a driver); else exe",
+    )
+}
+
+// The paragraph at which a raw image is located.
+fn at_option<'a>(alloc: Global) -> Arg<'a>
+    ensures rule { rule_of result ≡ spec.at_rule }
+    ensures local { result.global ≡ false }
+{
+    Arg::new(alloc, "PARAGRAPH").long("at").help(
+        "The paragraph that a raw image is loaded at, hexadecimal, such as 07C0 (else 0)",
+    )
+}
+
 // Whether what is done is told.
 fn verbose_flag<'a>(alloc: Global) -> Arg<'a>
     ensures rule { rule_of result ≡ spec.verbose_rule }
@@ -143,6 +164,8 @@ fn doslink_command<'a>(alloc: Global) -> Result<Command<'a>, AllocError>
     let command = with_arg(files_command(alloc), case_flag(alloc));
     let command = with_arg(command, order_option(alloc));
     let command = with_arg(command, stack_option(alloc));
+    let command = with_arg(command, form_option(alloc));
+    let command = with_arg(command, at_option(alloc));
     let command = with_arg(command, flag(alloc, "no-default-libs", no_defaults));
     let command = with_arg(command, flag(alloc, "keep-debug", debug));
     with_arg(command, verbose_flag(alloc))
@@ -215,10 +238,13 @@ fn order_asked<'a>(alloc: Global, value: Option<&'a str>) -> Result<Order<'a>, A
     Ok(Order::Listed(classes_of(alloc, names.as_slice())?))
 }
 
-// Whether the order DOSSEG has null bytes.
-fn nulls_asked(value: Option<&str>) -> bool
-    ensures { result ≡ spec.nulls_asked (option_map (λ s. s.now) value.entry) }
+// Whether the order DOSSEG has null bytes, of which a .COM file has none.
+fn nulls_asked(value: Option<&str>, form: Option<Form>) -> bool
+    ensures { result ≡ spec.nulls_asked (option_map (λ s. s.now) value.entry) form }
 {
+    if form == Some(Form::Com) {
+        return false;
+    }
     match value {
         Some(word) => !is(word, "dosseg-nonulls"),
         None => true,
@@ -231,6 +257,54 @@ fn stack_asked(value: Option<&str>) -> Option<Stack>
 {
     let bytes = stack_bytes(value?)?;
     Some(Stack { bytes, cuts: false })
+}
+
+// The form of a name.
+fn form_named(word: &str, paragraph: u16) -> Option<Form>
+    ensures { result ≡ spec.form_named word.now paragraph }
+{
+    if is(word, "exe") {
+        Some(Form::Exe)
+    } else if is(word, "com") {
+        Some(Form::Com)
+    } else if is(word, "bin") {
+        Some(Form::Raw { paragraph, from: 0 })
+    } else if is(word, "sys") {
+        Some(Form::Driver)
+    } else {
+        None
+    }
+}
+
+// The paragraph that a value names.
+fn paragraph_asked(value: Option<&str>) -> Option<u16>
+    ensures { result ≡ option_and_then size.paragraph (option_map (λ s. s.now) value.entry) }
+{
+    paragraph(value?)
+}
+
+// The form that a name and a paragraph ask for.
+fn form_asked(value: Option<&str>, at: Option<&str>) -> Option<Form>
+    ensures { result ≡ spec.form_asked (option_map (λ s. s.now) value.entry) (option_map (λ s. s.now) at.entry) }
+{
+    form_named(value?, paragraph_asked(at).unwrap_or(0))
+}
+
+// Whether a form is a raw image.
+fn is_raw(form: Option<Form>) -> bool
+    ensures { result ≡ spec.is_raw form }
+{
+    matches!(form, Some(Form::Raw { .. }))
+}
+
+// Whether a value is no paragraph, or is given where no raw image is asked for.
+fn is_no_place(form: Option<Form>, at: Option<&str>) -> bool
+    ensures { result ≡ spec.is_no_place form (option_map (λ s. s.now) at.entry) }
+{
+    match at {
+        Some(word) => !is_raw(form) || paragraph(word).is_none(),
+        None => false,
+    }
 }
 
 // The map that a value asks for.
@@ -263,6 +337,7 @@ fn inputs_asked<'a>(
 fn job_of<'a>(alloc: Global, words: &[&str], values: &ArgMatches<'a>) -> Result<Job<'a>, AllocError>
     ensures { IfOk result (IsJobOf (texts words.now) (rows_of (found_of values.now))) }
 {
+    let form = form_asked(values.get_str("FORM"), values.get_str("PARAGRAPH"));
     Ok(Job {
         inputs: inputs_asked(alloc, words, values)?,
         out: values.get_str("OUT"),
@@ -270,8 +345,9 @@ fn job_of<'a>(alloc: Global, words: &[&str], values: &ArgMatches<'a>) -> Result<
         folders: values_of(alloc, values, "FOLDER")?,
         ignore_case: values.get_flag("ignore-case"),
         order: order_asked(alloc, values.get_str("ORDER"))?,
-        null_bytes: nulls_asked(values.get_str("ORDER")),
+        null_bytes: nulls_asked(values.get_str("ORDER"), form),
         stack: stack_asked(values.get_str("N")),
+        form,
         default_libraries: !values.get_flag("no-default-libs"),
         keep_debug: values.get_flag("keep-debug"),
         packs_far_data: false,
@@ -290,10 +366,10 @@ fn asked<'a>(words: &'a [&'a str]) -> &'a [&'a str]
     }
 }
 
-// Says that a value is no length of a stack.
-fn stack_refused(alloc: Global, word: &str) -> WordsFault {
+// Says that a value is none that an option takes.
+fn refused(alloc: Global, word: &str, option: &str, why: &str) -> WordsFault {
     let text = format!(in alloc;
-        "error: invalid value '{word}' for '--stack <N>': a stack has 1 to 65,536 bytes\n\n\
+        "error: invalid value '{word}' for '{option}': {why}\n\n\
         For more information, try '--help'.\n"
     );
     match text {
@@ -308,28 +384,80 @@ fn check_stack(alloc: Global, value: Option<&str>) -> Result<(), WordsFault>
     ensures err { IfErr result (λ _. spec.is_no_stack (option_map (λ s. s.now) value.entry) ≡ true) }
 {
     match value {
-        Some(word) if stack_bytes(word).is_none() => Err(stack_refused(alloc, word)),
+        Some(word) if stack_bytes(word).is_none() => {
+            let why = "a stack has 1 to 65,536 bytes";
+            Err(refused(alloc, word, "--stack <N>", why))
+        }
         _ => Ok(()),
     }
 }
 
-// The job that values ask for, which words give, where the stack is a length.
+// Refuses a name that is no form.
+fn check_name(alloc: Global, value: Option<&str>, form: Option<Form>) -> Result<(), WordsFault>
+    ensures ok { IfOk result (λ _. is_some value.entry && not (is_some form) ≡ false) }
+    ensures err { IfErr result (λ _. is_some value.entry && not (is_some form) ≡ true) }
+{
+    match value {
+        Some(word) if form.is_none() => {
+            let why = "a form is exe, com, bin or sys";
+            Err(refused(alloc, word, "--form <FORM>", why))
+        }
+        _ => Ok(()),
+    }
+}
+
+// Refuses a value that is no paragraph, or is given where no raw image is asked for.
+fn check_place(alloc: Global, form: Option<Form>, at: Option<&str>) -> Result<(), WordsFault>
+    ensures ok { IfOk result (λ _. spec.is_no_place form (option_map (λ s. s.now) at.entry) ≡ false) }
+    ensures err { IfErr result (λ _. spec.is_no_place form (option_map (λ s. s.now) at.entry) ≡ true) }
+{
+    match at {
+        Some(word) if is_no_place(form, at) => {
+            let why = "with '--form bin' a hexadecimal number from 0 to FFFF";
+            Err(refused(alloc, word, "--at <PARAGRAPH>", why))
+        }
+        _ => Ok(()),
+    }
+}
+
+// Refuses a name that is no form, and a paragraph that it doesn't take.
+fn check_form(alloc: Global, value: Option<&str>, at: Option<&str>) -> Result<(), WordsFault>
+    ensures ok { IfOk result (λ _. spec.is_no_form (option_map (λ s. s.now) value.entry)
+        (option_map (λ s. s.now) at.entry) ≡ false) }
+    ensures err { IfErr result (λ _. spec.is_no_form (option_map (λ s. s.now) value.entry)
+        (option_map (λ s. s.now) at.entry) ≡ true) }
+{
+    let form = form_asked(value, at);
+    check_name(alloc, value, form)?;
+    check_place(alloc, form, at)
+}
+
+// Refuses a value that its option doesn't take.
+fn check_values(alloc: Global, values: &ArgMatches<'_>) -> Result<(), WordsFault>
+    ensures ok { IfOk result (λ _. spec.has_wrong_value (rows_of (found_of values.now)) ≡ false) }
+    ensures err { IfErr result (λ _. spec.has_wrong_value (rows_of (found_of values.now)) ≡ true) }
+{
+    check_stack(alloc, values.get_str("N"))?;
+    check_form(alloc, values.get_str("FORM"), values.get_str("PARAGRAPH"))
+}
+
+// The job that values ask for, which words give, where its options take them.
 fn checked_job<'a>(
     alloc: Global,
     words: &[&str],
     values: &ArgMatches<'a>,
 ) -> Result<Job<'a>, WordsFault>
-    ensures job { IfOk result (λ job. (spec.is_no_stack (first_of (codes "N") (rows_of (found_of values.now))) ≡ false)
+    ensures job { IfOk result (λ job. (spec.has_wrong_value (rows_of (found_of values.now)) ≡ false)
         × IsJobOf (texts words.now) (rows_of (found_of values.now)) job) }
-    ensures refused { spec.is_no_stack (first_of (codes "N") (rows_of (found_of values.now))) ≡ false
+    ensures refused { spec.has_wrong_value (rows_of (found_of values.now)) ≡ false
         → IfErr result (λ fault. fault ≡ Memory) }
 {
-    check_stack(alloc, values.get_str("N"))?;
+    check_values(alloc, values)?;
     Ok(job_of(alloc, words, values)?)
 }
 
 /// The job that the words after the program's name ask for. Words that are taken, by a command that has no fault in
-/// them and with a stack of a length that there is, are refused for nothing but want of memory.
+/// them, with a stack of a length that there is and a form that there is, are refused for nothing but want of memory.
 pub fn parse_words<'a>(alloc: Global, words: &'a [&'a str]) -> Result<Job<'a>, WordsFault>
     ensures job { IfOk result (IsJobFor (texts words.entry.now)) }
     ensures refused { AreTaken (texts words.entry.now) → IfErr result (λ fault. fault ≡ Memory) }

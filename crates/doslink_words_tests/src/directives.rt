@@ -31,7 +31,7 @@ format dos
 order clname CODE clname FAR_DATA clname BEGDATA segment _NULL segment _AFTERNULL clname DATA clname BSS clname STACK clname HEAP
 name hello.exe
 =>
-Ok(Directives { job: Job { inputs: [File("rtl/large/prt0l.o"), Library("hello.a"), Library("rtl/large/system.a")], out: Some("hello.exe"), map: None, folders: [], ignore_case: false, order: Listed([Class("CODE"), Class("FAR_DATA"), Class("BEGDATA"), Segment("_NULL"), Segment("_AFTERNULL"), Class("DATA"), Class("BSS"), Class("STACK"), Class("HEAP")]), null_bytes: false, stack: None, default_libraries: true, keep_debug: false, packs_far_data: true, verbose: false, quiet: true }, warnings: [] })
+Ok(Directives { job: Job { inputs: [File("rtl/large/prt0l.o"), Library("hello.a"), Library("rtl/large/system.a")], out: Some("hello.exe"), map: None, folders: [], ignore_case: false, order: Listed([Class("CODE"), Class("FAR_DATA"), Class("BEGDATA"), Segment("_NULL"), Segment("_AFTERNULL"), Class("DATA"), Class("BSS"), Class("STACK"), Class("HEAP")]), null_bytes: false, stack: None, form: None, default_libraries: true, keep_debug: false, packs_far_data: true, verbose: false, quiet: true }, warnings: [] })
 
 
 # a comment with "a quote
@@ -58,7 +58,7 @@ map: Some(Beside)
 
 op quiet, map = "a b.map", dosseg, NODEFAULTLIBS
 =>
-map: Some(At("a b.map")), folders: [], ignore_case: false, order: Dosseg, null_bytes: false, stack: None, default_libraries: false, keep_debug: false, packs_far_data: true, verbose: false, quiet: true
+map: Some(At("a b.map")), folders: [], ignore_case: false, order: Dosseg, null_bytes: false, stack: None, form: None, default_libraries: false, keep_debug: false, packs_far_data: true, verbose: false, quiet: true
 
 
 option ignorecase
@@ -245,7 +245,126 @@ kind: UnknownOption
 
 format dos com
 =>
-kind: NoCom
+form: Some(Com), default_libraries: true
+
+
+format dos exe
+=>
+form: Some(Exe), default_libraries: true
+
+
+Format DOS
+system Com
+=>
+form: Some(Com), default_libraries: true
+
+
+format dos com
+format dos
+=>
+form: None, default_libraries: true
+
+
+system com
+system dos
+=>
+form: None, default_libraries: true
+
+
+output raw
+=>
+form: Some(Raw { paragraph: 0, from: 0 })
+
+
+OUTPUT Raw offset=0x7C00
+=>
+form: Some(Raw { paragraph: 0, from: 31744 })
+
+
+output raw Offset = '31k'
+=>
+form: Some(Raw { paragraph: 0, from: 31744 })
+
+
+output raw offset=1048576
+=>
+form: Some(Raw { paragraph: 0, from: 1048576 })
+
+
+output raw
+format dos com
+=>
+form: Some(Com), default_libraries: true
+
+
+output raw offset=1048577
+=>
+kind: WrongOperands
+
+
+output
+=>
+kind: WrongOperands
+
+
+output hex
+=>
+kind: WrongOperands
+
+
+output raw offset
+=>
+kind: WrongOperands
+
+
+output raw, offset=1
+=>
+kind: WrongOperands
+
+
+output raw offset=1 startrec
+=>
+kind: WrongOperands
+
+
+output raw offset 1 2
+=>
+kind: WrongOperands
+
+
+output raw start=1
+=>
+kind: WrongOperands
+
+
+output raw offset=x
+=>
+kind: WrongOperands
+
+
+system
+=>
+kind: NotDos
+
+
+system os2
+=>
+kind: NotDos
+
+
+system dos com
+=>
+kind: NotDos
+
+
+format dos sys
+=>
+kind: NotDos
+
+
+format com
+=>
+kind: NotDos
 
 
 format os2

@@ -21,7 +21,7 @@ fn hold<R: Abort>(rt: &R, alloc: Global, table: &str) {
 #[test]
 fn reads_words(rt: HostRuntime) {
     let table = r#"doslink A.OBJ =>
-Ok(Job { inputs: [File("A.OBJ")], out: None, map: None, folders: [], ignore_case: false, order: Meeting, null_bytes: true, stack: None, default_libraries: true, keep_debug: false, packs_far_data: false, verbose: false, quiet: false })
+Ok(Job { inputs: [File("A.OBJ")], out: None, map: None, folders: [], ignore_case: false, order: Meeting, null_bytes: true, stack: None, form: None, default_libraries: true, keep_debug: false, packs_far_data: false, verbose: false, quiet: false })
 
 doslink -o P -m M A B =>
 inputs: [File("A"), File("B")], out: Some("P"), map: Some(At("M"))
@@ -30,7 +30,7 @@ doslink -L X A -L Y -lC -l D.LIB B =>
 inputs: [File("A"), Library("C"), Library("D.LIB"), File("B")], out: None, map: None, folders: ["X", "Y"],
 
 doslink --ignore-case -v A --no-default-libs =>
-ignore_case: true, order: Meeting, null_bytes: true, stack: None, default_libraries: false, keep_debug: false, packs_far_data: false, verbose: true, quiet: false
+ignore_case: true, order: Meeting, null_bytes: true, stack: None, form: None, default_libraries: false, keep_debug: false, packs_far_data: false, verbose: true, quiet: false
 
 doslink --keep-debug A =>
 keep_debug: true, packs_far_data: false
@@ -70,6 +70,54 @@ invalid value '65537'
 
 doslink --stack=-1 A =>
 invalid value '-1'
+
+doslink --form com A =>
+order: Meeting, null_bytes: false, stack: None, form: Some(Com)
+
+doslink A --form=EXE =>
+null_bytes: true, stack: None, form: Some(Exe)
+
+doslink --form Sys --order dosseg A =>
+order: Dosseg, null_bytes: true, stack: None, form: Some(Driver)
+
+doslink --order dosseg --form com A =>
+order: Dosseg, null_bytes: false, stack: None, form: Some(Com)
+
+doslink --form bin A =>
+form: Some(Raw { paragraph: 0, from: 0 })
+
+doslink --at 07C0 --form bin A =>
+form: Some(Raw { paragraph: 1984, from: 0 })
+
+doslink --form bin --at 0xffFF A =>
+form: Some(Raw { paragraph: 65535, from: 0 })
+
+doslink --form bin --at 00000001 A =>
+form: Some(Raw { paragraph: 1, from: 0 })
+
+doslink --form bin --at 10000 A =>
+Err(Wrong("error: invalid value '10000' for '--at <PARAGRAPH>': with '--form bin' a hexadecimal number from 0 to FFFF\n\nFor more information, try '--help'.\n"))
+
+doslink --form bin --at 7C0H A =>
+invalid value '7C0H' for '--at <PARAGRAPH>'
+
+doslink --form bin --at 0x A =>
+invalid value '0x' for '--at <PARAGRAPH>'
+
+doslink --at 0 A =>
+invalid value '0' for '--at <PARAGRAPH>'
+
+doslink --form com --at 0 A =>
+invalid value '0' for '--at <PARAGRAPH>'
+
+doslink --form hex A =>
+Err(Wrong("error: invalid value 'hex' for '--form <FORM>': a form is exe, com, bin or sys\n\nFor more information, try '--help'.\n"))
+
+doslink --form hex --at x A =>
+invalid value 'hex' for '--form <FORM>'
+
+doslink --form hex --stack 0 A =>
+invalid value '0' for '--stack <N>'
 
 doslink --version =>
 Err(Help("doslink 1.0\n"))

@@ -1,7 +1,7 @@
 use Rattle.std.proofs.lemmas.Result.{IfOk-weaker}
 use Rattle.clap.specs.Words.{app_of}
 use Rattle.doslink_words.specs.Tokens.{texts}
-use Rattle.doslink_words.proofs.WordsLemmas.{doslink_is_free, job_for, taken_fails, taken_length}
+use Rattle.doslink_words.proofs.WordsLemmas.{doslink_is_free, job_for, taken_fails, taken_values}
 use Rattle.doslink_words.proofs.words.parse_words.Goals as goal
 
 pub returns-in-Ok-clause-job : goal.returns-in-Ok-clause-job
@@ -15,7 +15,7 @@ returns-in-Ok-clause-job c =
 pub returns-in-Ok-clause-refused : goal.returns-in-Ok-clause-refused
 returns-in-Ok-clause-refused c = λ taken.
     c.checked_job.ensures.refused
-    (taken_length (app_of c.in_ok-command.command) (texts c.args.words.now) (texts c.asked-words.result.now)
+    (taken_values (app_of c.in_ok-command.command) (texts c.args.words.now) (texts c.asked-words.result.now)
     c.in-Ok.values c.asked-words.ensures c.in_ok-command.ensures.app c.in-Ok.ensures.matches taken)
 
 pub returns-in-Err-clause-refused : goal.returns-in-Err-clause-refused
