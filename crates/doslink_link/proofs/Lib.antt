@@ -1,3 +1,4 @@
 pub mod Beginning
 pub mod Bounds
 pub mod Answers
+pub mod Forming

@@ -2,10 +2,12 @@
 #![tactic(auto)]
 
 mod bytes;
+mod forms;
 mod linking;
 mod page;
 mod reading;
 
+pub use forms::in_form;
 pub use linking::{Linked, link_in_memory};
 pub use page::Page;
 pub use reading::{Read, read_all, read_in_front, read_one};

@@ -1,0 +1,18 @@
+use Rattle.std.proofs.Common.{Some, ap, refl}
+use Rattle.flat_file.specs.Forms.{com_bytes, com_fault}
+use Rattle.doslink_link.proofs.Forming.{made_err, made_ok}
+use Rattle.doslink_link.proofs.forms.com_file.Goals as goal
+
+pub returns-in-Ok : goal.returns-in-Ok
+returns-in-Ok g c =
+    let r = c.args.report.now in
+    made_ok (λ s. Some s.bytes.items) (λ s. s.failures) c.new-page.result c.write_com.new.sink (com_bytes r.program)
+    (λ file. file.items) (com_fault r.layout r.modules.items r.program) c.write_com.new.sink.bytes (tt {0})
+    (ap Some c.new-page.ensures.empty) refl c.in-Ok.ensures
+
+pub returns-in-Err : goal.returns-in-Err
+returns-in-Err g c =
+    let r = c.args.report.now in
+    made_err {X = Unit {0}} (λ s. Some s.bytes.items) (λ s. s.failures) c.new-page.result c.write_com.new.sink
+    (com_bytes r.program) (λ file. file.items) (com_fault r.layout r.modules.items r.program) c.in-Err.fault
+    c.in-Err.ensures

@@ -1,0 +1,23 @@
+use Rattle.std.proofs.Common.{subst, sym}
+use Rattle.doslink_link.specs.Forms.{Forms}
+use Rattle.doslink_link.proofs.Forming.{as_com, as_driver, as_exe, as_linked, as_raw}
+use Rattle.doslink_link.proofs.forms.file_of.Goals as goal
+
+pub returns-in-Some-Com : goal.returns-in-Some-Com
+returns-in-Some-Com g c names modules linked =
+    subst (λ f. Forms (λ file. file.items) f names modules c.args.report.now c.com_file.result) (sym c.in-Some-Com.is)
+    (as_com names modules c.args.report.now c.args.exe.items linked c.size-size.ensures.limits (λ file. file.items)
+    c.com_loads_as_written.ensures c.com_file.result c.com_file.ensures)
+
+pub returns-in-Some-Raw : goal.returns-in-Some-Raw
+returns-in-Some-Raw g c names modules linked =
+    subst (λ f. Forms (λ file. file.items) f names modules c.args.report.now c.raw_file.result) (sym c.in-Some-Raw.is)
+    (as_raw names modules c.args.report.now c.args.exe.items linked c.size-size.ensures.limits (λ file. file.items)
+    c.in-Some-Raw.paragraph c.in-Some-Raw.from c.bin_is_located.ensures.bytes c.raw_file.result c.raw_file.ensures)
+
+pub returns-in-Some-Driver : goal.returns-in-Some-Driver
+returns-in-Some-Driver g c names modules linked =
+    subst (λ f. Forms (λ file. file.items) f names modules c.args.report.now c.driver_file.result)
+    (sym c.in-Some-Driver.is)
+    (as_driver names modules c.args.report.now c.args.exe.items linked c.size-size.ensures.limits (λ file. file.items)
+    c.sys_is_located.ensures c.driver_file.result c.driver_file.ensures)

@@ -1,0 +1,74 @@
+-- The file of a linked program in a form.
+use Rattle.std.specs.Prelude.{◌≡◌, ℕ, ◌+◌, ◌*◌, ◌≤◌, List, Option, Some, None, Ok, Err}
+use Rattle.std.specs.declared.result.Result.{Result}
+use Rattle.omf_module.specs.Module.{Module}
+use Rattle.omf_place.specs.Layout.{Layout}
+use Rattle.omf_place.specs.declared.names.Names.{Names}
+use Rattle.omf_image.specs.Program.{Program}
+use Rattle.omf_commands.specs.declared.linking.Report.{Report}
+use Rattle.omf_commands.specs.Linking.{IsLinked, IsReport}
+use Rattle.flat_file.specs.Com.{LoadedCom, loading}
+use Rattle.flat_file.specs.Covered.{memory_len}
+use Rattle.flat_file.specs.Forms.{com_fault, sys_fault}
+use Rattle.flat_file.specs.Laws.{IsLocatedCom, IsLocatedFrom}
+use Rattle.flat_file.specs.declared.fault.FlatFault.{FlatFault}
+use Rattle.flat_file.specs.declared.fault.FlatFault.TheVariants as flat
+use Rattle.flat_file.specs.declared.fault.FormFault.{FormFault}
+use Rattle.doslink_words.specs.declared.job.Form.{Form}
+use Rattle.doslink_words.specs.declared.job.Form.TheVariants.{Exe, Com, Raw, Driver}
+use Rattle.doslink_link.specs.Linking.{IsLinkedAs}
+
+-- DOS loads this file as a .COM program, which is the located program wherever its segment fits
+abbrev pub LoadsAtEachPsp : Layout → List Module → (file : List ℕ) → Type 0
+LoadsAtEachPsp layout modules file =
+    (psp : ℕ) → 16 * psp + 65536 ≤ memory_len
+    → (memory : LoadedCom) × (loading psp file ≡ Ok memory) × IsLocatedCom psp layout modules memory
+
+-- what keeps the program of modules from being a file of a form: nothing of an EXE file and of a raw image
+abbrev pub form_fault : Option Form → Layout → List Module → Program → Option FormFault
+form_fault None layout modules program = None
+form_fault (Some Exe) layout modules program = None
+form_fault (Some Com) layout modules program = com_fault layout modules program
+form_fault (Some (Raw paragraph from)) layout modules program = None
+form_fault (Some Driver) layout modules program = sys_fault program
+
+-- This file is that of linked modules in a form: where none is said, and of an EXE file, the one that holds the program
+-- at each paragraph; a .COM file that DOS loads as the located program; a raw image, byte for byte the program located
+-- at its paragraph; a driver, byte for byte the program located at any.
+abbrev pub HasForm : {A : Type 0} → Option Form → Names → List Module → Report A → (file : List ℕ) → Type 0
+HasForm None names modules report file = IsLinkedAs names modules report file
+HasForm (Some Exe) names modules report file = IsLinkedAs names modules report file
+HasForm (Some Com) names modules report file = LoadsAtEachPsp report.layout modules file
+HasForm (Some (Raw paragraph from)) names modules report file =
+    IsLocatedFrom paragraph from report.layout modules file
+HasForm (Some Driver) names modules report file =
+    (paragraph : ℕ) → IsLocatedFrom paragraph 0 report.layout modules file
+
+-- the file in a form of these modules, which are linked so; nothing keeps their program from being one
+pub record IsFormed {A : Type 0} (form : Option Form) (names : Names) (modules : List Module) (report : Report A)
+    (file : List ℕ) : Type 0 where
+  pub reported : IsReport names modules report
+  pub allowed : form_fault form report.layout modules report.program ≡ None
+  pub formed : HasForm form names modules report file
+
+-- this is the first that keeps the program of modules, whose only layout and program these are, from being a file of a
+-- form
+abbrev pub IsFormFault : Option Form → Names → List Module → FormFault → Type 0
+IsFormFault form names modules fault =
+    (layout : Layout) × (made : Program) × IsLinked names modules layout made
+    × (form_fault form layout modules made ≡ Some fault)
+
+-- What bringing a linked program into a form answers: its file, or the first that keeps it from being one, unless there
+-- was no memory.
+abbrev pub Forms : {A V : Type 0} → (items : V → List ℕ) → Option Form → Names → List Module → Report A
+    → Result V FlatFault → Type 0
+Forms items form names modules report (Ok file) = IsFormed form names modules report (items file)
+Forms items form names modules report (Err (flat.Form fault)) = IsFormFault form names modules fault
+Forms items form names modules report (Err flat.Device) = Unit {0}
+
+-- what writing bytes in memory answers, where a fault keeps them from being written or none does
+abbrev pub Makes : {V : Type 0} → (items : V → List ℕ) → Option FormFault → (bytes : List ℕ) → Result V FlatFault
+    → Type 0
+Makes items fault bytes (Ok file) = (fault ≡ None) × (items file ≡ bytes)
+Makes items fault bytes (Err (flat.Form first)) = fault ≡ Some first
+Makes items fault bytes (Err flat.Device) = Unit {0}

@@ -1,0 +1,108 @@
+//! The files of linked programs in other forms than EXE, made in memory.
+ghost use Rattle.std.specs.Prelude.{◌≡◌, IfOk, List, None};
+ghost use Rattle.omf_module.specs.Module.{Module};
+ghost use Rattle.omf_place.specs.declared.names.Names.{Names};
+ghost use Rattle.omf_place.specs.Bounded.{IsBounded};
+ghost use Rattle.flat_file.specs.Forms.{bin_bytes, com_bytes, com_fault, sys_bytes, sys_fault};
+ghost use Rattle.doslink_link.specs.Forms.{Forms, Makes};
+ghost use Rattle.doslink_link.specs.Linking.{IsLinkedAs};
+
+use crate::linking::Linked;
+use crate::page::Page;
+use doslink_words::Form;
+use flat_file::{
+    FlatFault, bin_is_located, com_loads_as_written, sys_is_located, write_bin, write_com,
+    write_sys,
+};
+use omf_commands::Report;
+use omf_frame::IoFault;
+use omf_image::Program;
+use std::alloc::Allocator;
+
+/// The bytes of a .COM file of what was linked.
+fn com_file<A: Allocator + Copy>(alloc: A, report: &Report<A>) -> Result<Vec<u8, A>, FlatFault>
+    requires { IsBounded report.now.modules.items report.now.layout }
+    ensures { Makes (λ file. file.items) (com_fault report.now.layout report.now.modules.items report.now.program)
+        (com_bytes report.now.program) result }
+{
+    let mut page = Page::new(alloc);
+    match write_com(&report.modules, &report.layout, &report.program, &mut page) {
+        Ok(()) => Ok(page.bytes),
+        Err(fault) => Err(fault),
+    }
+}
+
+/// The bytes of a program at a paragraph, from an address on.
+fn raw_file<A: Allocator + Copy>(
+    alloc: A,
+    program: &Program<A>,
+    paragraph: u16,
+    from: u32,
+) -> Result<Vec<u8, A>, FlatFault>
+    ensures { Makes (λ file. file.items) None (bin_bytes paragraph from program.now) result }
+{
+    let mut page = Page::new(alloc);
+    match write_bin(program, paragraph, from, &mut page) {
+        Ok(()) => Ok(page.bytes),
+        Err(IoFault) => Err(FlatFault::Device),
+    }
+}
+
+/// The bytes of a driver's file.
+fn driver_file<A: Allocator + Copy>(alloc: A, program: &Program<A>) -> Result<Vec<u8, A>, FlatFault>
+    ensures { Makes (λ file. file.items) (sys_fault program.now) (sys_bytes program.now) result }
+{
+    let mut page = Page::new(alloc);
+    match write_sys(program, &mut page) {
+        Ok(()) => Ok(page.bytes),
+        Err(fault) => Err(fault),
+    }
+}
+
+/// The file of what was linked in a form; `exe` is its EXE file.
+fn file_of<A: Allocator + Copy>(
+    alloc: A,
+    report: &Report<A>,
+    form: Option<Form>,
+    exe: Vec<u8, A>,
+) -> Result<Vec<u8, A>, FlatFault>
+    requires { IsBounded report.now.modules.items report.now.layout }
+    ensures { (names : Names) (modules : List Module) → IsLinkedAs names modules report.now exe.items
+        → Forms (λ file. file.items) form names modules report.now result }
+{
+    // what the file of each form is, of a program within the limits that its size is bounded by
+    com_loads_as_written();
+    bin_is_located();
+    sys_is_located();
+    let _size = report.program.size();
+    match form {
+        None | Some(Form::Exe) => Ok(exe),
+        Some(Form::Com) => com_file(alloc, report),
+        Some(Form::Raw { paragraph, from }) => raw_file(alloc, &report.program, paragraph, from),
+        Some(Form::Driver) => driver_file(alloc, &report.program),
+    }
+}
+
+/// What was linked, with its file in a form.
+///
+/// # Errors
+/// `Form`: the first that keeps the program from being a file of that form. `Device`: want of memory.
+pub fn in_form<A: Allocator + Copy>(
+    alloc: A,
+    linked: Linked<A>,
+    form: Option<Form>,
+) -> Result<Linked<A>, FlatFault>
+    requires { IsBounded linked.report.modules.items linked.report.layout }
+    // A file of that form, exactly where nothing keeps the program from being one.
+    ensures forms { (names : Names) (modules : List Module)
+        → IsLinkedAs names modules linked.report linked.file.items
+        → Forms (λ l. l.file.items) form names modules linked.report result }
+    // What was linked is the same.
+    ensures same { IfOk result (λ l. l.report ≡ linked.report) }
+{
+    let Linked { report, file } = linked;
+    match file_of(alloc, &report, form, file) {
+        Ok(file) => Ok(Linked { report, file }),
+        Err(fault) => Err(fault),
+    }
+}
