@@ -4,6 +4,8 @@ use Rattle.std.specs.declared.option.Option.{Option}
 use Rattle.std.specs.Option.{option_map_or, option_or}
 use Rattle.std.specs.Path.{rsplit_once}
 use Rattle.clap.specs.Words.{Text}
+use Rattle.doslink_words.specs.declared.job.Form.{Form}
+use Rattle.doslink_words.specs.declared.job.Form.TheVariants as form
 use Rattle.doslink_words.specs.declared.job.Input.{Input}
 use Rattle.doslink_words.specs.declared.job.Input.TheVariants as input
 use Rattle.doslink_words.specs.declared.job.Job.{Job}
@@ -32,18 +34,26 @@ first_library [] = None
 first_library (input.File path ∷ inputs) = first_library inputs
 first_library (input.Library name ∷ inputs) = Some name.now
 
--- the path of a program that is called after this file: none, and standard input, have no name
-abbrev pub path_after : Option Text → Text
-path_after None = codes "OUT.EXE"
-path_after (Some name) =
-    if bytes_eq name (codes "-") then codes "OUT.EXE" else with_extension name (codes ".EXE")
+-- the extension of a file of a form
+abbrev pub extension_for : Option Form → Text
+extension_for None = codes ".EXE"
+extension_for (Some form.Exe) = codes ".EXE"
+extension_for (Some form.Com) = codes ".COM"
+extension_for (Some (form.Raw paragraph from)) = codes ".BIN"
+extension_for (Some form.Driver) = codes ".SYS"
 
--- the path of the program: the one that is given, or that of the first file, or else of the first library, with `.EXE`
--- in place of its extension
+-- the path of a program that is called after this file: none, and standard input, have no name
+abbrev pub path_after : Option Text → (extension : Text) → Text
+path_after None extension = with_extension (codes "OUT") extension
+path_after (Some name) extension =
+    if bytes_eq name (codes "-") then with_extension (codes "OUT") extension else with_extension name extension
+
+-- the path of the program: the one that is given, or that of the first file, or else of the first library, with the
+-- extension of the form in place of its own
 abbrev pub out_path : Job → Text
 out_path job =
     option_map_or (λ out. out.now) job.out
-    (path_after (option_or (first_file job.inputs.items) (first_library job.inputs.items)))
+    (path_after (option_or (first_file job.inputs.items) (first_library job.inputs.items)) (extension_for job.form))
 
 -- the path of the map, beside a program at this path
 abbrev pub map_beside : (out : Text) → Option MapFile → Option Text

@@ -29,6 +29,7 @@ use Rattle.omf_faults.specs.declared.fault.LinkFault.{LinkFault}
 use Rattle.doslink_stock.specs.Files.{Held, members, needs}
 use Rattle.doslink_stock.specs.Search.{Takes, all_files}
 use Rattle.doslink_telling.specs.Missing.{unmet, wants_marks}
+use Rattle.doslink_words.specs.declared.job.Form.{Form}
 use Rattle.doslink_words.specs.declared.job.Job.{Job}
 use Rattle.doslink_words.specs.declared.job.Stack.{Stack}
 use Rattle.doslink_jobs.specs.Aliases.{EndsIn, link_aliases}
@@ -42,6 +43,7 @@ use Rattle.doslink_link.specs.Reading.{AreRead, HasModule, IsNoModule, StopsAt}
 use Rattle.doslink_jobs.specs.Orders.{Asking, IsAsked, IsOrderModule}
 use Rattle.doslink_jobs.specs.Overflow.{HaveOverflow, NarrowStart}
 use Rattle.doslink_jobs.specs.Stacks.{AreStacked}
+use Rattle.doslink_jobs.specs.Written.{HasFormFault}
 
 -- a record of some module declares no communal variables as it should, or declarations of modules clash
 abbrev pub HaveNoVariables : Names → (modules : List Held) → Type 0
@@ -112,11 +114,14 @@ AreNotJoined asking stack inputs vs =
     × HaveNoOrder asking stacked))))
 
 -- A fault stands in what is linked: one of these inputs begins with no module, or the first fault of placement, of data
--- and fix-ups, of the start or of relocated words stands in the modules that are meant.
-abbrev pub HaveFault : (A : Type 0) → Names → (Meant : List Module → Type 0) → (inputs : List (List ℕ)) → Type 0
-HaveFault A names Meant inputs =
+-- and fix-ups, of the start or of relocated words stands in the modules that are meant, or their program has no file of
+-- the form that is said.
+abbrev pub HaveFault : (A : Type 0) → Option Form → Names → (Meant : List Module → Type 0) → (inputs : List (List ℕ))
+    → Type 0
+HaveFault A form names Meant inputs =
     ((input : ℕ) × (found : ModuleFault) × StopsAt inputs input found)
-    ⊎ ((modules : List Module) × Meant modules × ((fault : LinkFault A) × IsModulesFault names modules fault))
+    ⊎ ((modules : List Module) × Meant modules
+    × (((fault : LinkFault A) × IsModulesFault names modules fault) ⊎ HasFormFault form names modules))
 
 -- in what is linked for modules a fix-up of 32 bits that became one of 16 doesn't fit, or the start doesn't that did
 abbrev pub HaveGreatSum : Names → (modules : List Held) → (Meant : List Module → Type 0) → Type 0
@@ -166,7 +171,7 @@ AreRefusedWith A job modules vs =
     AreMissingOf job says (map (λ m. m.bytes) modules)
     ⊎ (HaveNoInputs job says (wants_marks names says) modules vs
     ⊎ ((linked : List (List ℕ)) × AreInputsOf job says (wants_marks names says) modules vs linked
-    × HaveFault A names (AreMeant (taking_for job says) linked) linked))
+    × HaveFault A job.form names (AreMeant (taking_for job says) linked) linked))
 
 -- the modules that a link takes can't be linked: they don't agree on communal variables, or not with these
 abbrev pub IsRefusedOf : (A : Type 0) → Job → (takes : List Held → Type 0) → Type 0

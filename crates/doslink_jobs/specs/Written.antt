@@ -5,7 +5,9 @@ use Rattle.clap.specs.Words.{Text}
 use Rattle.omf_module.specs.Module.{Module}
 use Rattle.omf_place.specs.declared.names.Names.{Names}
 use Rattle.omf_commands.specs.declared.linking.Report.{Report}
-use Rattle.doslink_link.specs.Linking.{IsLinkedAs}
+use Rattle.flat_file.specs.declared.fault.FormFault.{FormFault}
+use Rattle.doslink_words.specs.declared.job.Form.{Form}
+use Rattle.doslink_link.specs.Forms.{IsFormed, IsFormFault}
 use Rattle.doslink_jobs.specs.Maps.{map_bytes}
 
 -- The file OUT holds these bytes, and MAP, where a map is asked for, this text. `Writes` says that the file at a path
@@ -14,12 +16,16 @@ abbrev pub AreWritten : (Writes : (path bytes : List ℕ) → Type 0) → (out :
     → (file text : List ℕ) → Type 0
 AreWritten Writes out map file text = Writes out file × MatchOption map (Unit {0}) (λ path. Writes path text)
 
--- Of modules that these inputs mean the program was written to the file OUT, which holds it at each paragraph, and where
--- a map is asked for, the map of what was linked to the file MAP, behind it the table of the inputs with these words.
-pub record IsWritten (A : Type 0) (Writes : (path bytes : List ℕ) → Type 0) (out : Text) (map : Option Text)
-    (names : Names) (inputs : List (List ℕ)) (meant : List Module) : Type 0 where
+-- Of modules that these inputs mean the program was written to the file OUT, in the form that is said, and where a map
+-- is asked for, the map of what was linked to the file MAP, behind it the table of the inputs with these words.
+pub record IsWritten (A : Type 0) (form : Option Form) (Writes : (path bytes : List ℕ) → Type 0) (out : Text)
+    (map : Option Text) (names : Names) (inputs : List (List ℕ)) (meant : List Module) : Type 0 where
   pub report : Report A
   pub file : List ℕ
   pub words : List (List ℕ)
-  pub linked : IsLinkedAs names meant report file
+  pub formed : IsFormed form names meant report file
   pub written : AreWritten Writes out map file (map_bytes report inputs words)
+
+-- the program of modules has no file of the form that is said
+abbrev pub HasFormFault : Option Form → Names → List Module → Type 0
+HasFormFault form names modules = (fault : FormFault) × IsFormFault form names modules fault

@@ -1,5 +1,6 @@
-//! Types of records that no module may have.
+//! Types of records that no module may have, and forms of a file that a program can't have.
 
+use flat_file::FormFault;
 use omf_text::Hexadecimal;
 use std::alloc::{AllocError, Allocator};
 
@@ -33,4 +34,17 @@ pub(crate) fn push_type<A: Allocator + Copy>(
     lines.extend_from_slice(type_name(kind))?;
     lines.extend_from_slice(b")\n")?;
     Ok(())
+}
+
+/// Tells what keeps the program from being a file of the form that is asked for.
+pub(crate) fn push_form_fault<A: Allocator + Copy>(
+    lines: &mut Vec<u8, A>,
+    fault: FormFault,
+) -> Result<(), AllocError> {
+    let (number, name) = fault.label();
+    lines.extend_from_slice(b"doslink: link: ")?;
+    // the numbers are 68 to 72
+    lines.extend_from_slice(&[b'0' + number / 10 % 10, b'0' + number % 10, b' '])?;
+    lines.extend_from_slice(name.as_bytes())?;
+    lines.extend_from_slice(b"\n")
 }

@@ -1,29 +1,34 @@
 //! The link of modules into the files of a program and its map.
-ghost use Rattle.std.specs.Prelude.{◌≡◌, List, MatchResult, string_bytes};
+ghost use Rattle.std.specs.Prelude.{◌≡◌, IfOk, List, MatchResult, string_bytes};
 ghost use Rattle.std.specs.Option.{option_map};
 ghost use Rattle.omf_faults.specs.FaultLines as faults;
-ghost use Rattle.omf_module.specs.Module.{Module};
+ghost use Rattle.omf_module.specs.Module.{Module as Says};
+ghost use Rattle.omf_place.specs.Bounded.{IsBounded};
+ghost use Rattle.omf_place.specs.declared.names.Names.{Names};
 ghost use Rattle.doslink_files.specs.Written.{StandsAt};
-ghost use Rattle.doslink_link.specs.Linking.{IsFaultless};
+ghost use Rattle.doslink_link.specs.Forms.{IsFormed};
+ghost use Rattle.doslink_link.specs.Linking.{IsFaultless, IsLinkedAs};
 ghost use Rattle.doslink_jobs.specs.Jobs.{names_of};
 ghost use Rattle.doslink_jobs.specs.Meant.{AreMeant, Taking};
 ghost use Rattle.doslink_jobs.specs.Refusals.{HaveFault};
 ghost use Rattle.doslink_jobs.specs.inside.Inputs.{input_list};
 ghost use Rattle.doslink_jobs.specs.inside.Passing.{AreInputsMeant};
-ghost use Rattle.doslink_jobs.specs.Written.{IsWritten};
+ghost use Rattle.doslink_jobs.specs.Written.{HasFormFault, IsWritten};
 ghost use Rattle.doslink_jobs.specs.inside.Stops.{OnInput};
 
 use crate::faults::tell_record;
 use crate::inputs::{Inputs, input_slices, input_words, module_at, options_of};
+use crate::kinds::push_form_fault;
 use crate::meant::{MeantInputs, packed};
 use crate::places::Places;
 use crate::program::write_files;
 use crate::stop::Stop;
 use crate::taking::Taken;
 use crate::warnings::warn_of_program;
-use doslink_link::{Read, link_in_memory, read_all};
+use doslink_link::{Linked, Read, in_form, link_in_memory, read_all};
 use doslink_telling::{push_duplicates, push_excess, push_fault};
 use doslink_words::Job;
+use flat_file::FlatFault;
 use omf_commands::module_fault;
 use omf_communal::Variable;
 use omf_faults::{LinkFault, ProgramFault, status};
@@ -140,6 +145,31 @@ fn stop_at_fault<A: Allocator + Copy>(
     }
 }
 
+/// What was linked, with its file in the form that the job says. What keeps it from being one is told.
+fn formed<A: Allocator + Copy>(
+    alloc: A,
+    job: &Job<'_>,
+    linked: Linked<A>,
+    lines: &mut Vec<u8, A>,
+) -> Result<Linked<A>, Stop>
+    requires { IsBounded linked.report.modules.items linked.report.layout }
+    ensures same { IfOk result (λ l. l.report ≡ linked.report) }
+    ensures formed { (names : Names) (modules : List Says)
+        → IsLinkedAs names modules linked.report linked.file.items
+        → MatchResult result (λ l. IsFormed job.now.form names modules l.report l.file.items)
+        (λ stop. OnInput stop (HasFormFault job.now.form names modules)) }
+{
+    match in_form(alloc, linked, job.form) {
+        Ok(linked) => Ok(linked),
+        Err(FlatFault::Form(fault)) => {
+            push_form_fault(lines, fault)?;
+            Err(Stop::Input)
+        }
+        // a page fails where it can't grow
+        Err(FlatFault::Device) => Err(Stop::Memory),
+    }
+}
+
 /// Links the modules with these communal variables, and writes the program and the map. What can't be run as it is
 /// meant is warned of.
 pub(crate) fn write_program<W: World + Copy, A: Allocator + Copy>(
@@ -153,11 +183,11 @@ pub(crate) fn write_program<W: World + Copy, A: Allocator + Copy>(
     lines: &mut Vec<u8, A>,
 ) -> Result<(), Stop>
     ensures { (t : Taking) → AreInputsMeant t all.entry
-        → MatchResult result (λ done. (meant : List Module) × AreMeant t (input_list all.entry.inputs) meant
+        → MatchResult result (λ done. (meant : List Says) × AreMeant t (input_list all.entry.inputs) meant
         × IsFaultless A (names_of job.now.ignore_case) meant
-        × IsWritten A (StandsAt (W.blank world) (W.Puts world)) (string_bytes places.now.out)
+        × IsWritten A job.now.form (StandsAt (W.blank world) (W.Puts world)) (string_bytes places.now.out)
         (option_map string_bytes places.now.map) (names_of job.now.ignore_case) (input_list all.entry.inputs) meant)
-        (λ stop. OnInput stop (HaveFault A (names_of job.now.ignore_case)
+        (λ stop. OnInput stop (HaveFault A job.now.form (names_of job.now.ignore_case)
         (AreMeant t (input_list all.entry.inputs)) (input_list all.entry.inputs))) }
 {
     let MeantInputs { inputs, read } = all;
@@ -173,6 +203,7 @@ pub(crate) fn write_program<W: World + Copy, A: Allocator + Copy>(
     };
     match link_in_memory(alloc, modules, &options) {
         Ok(linked) => {
+            let linked = formed(alloc, job, linked, lines)?;
             write_files(alloc, &world, &linked, &slices, &words, places, lines)?;
             let modules = &linked.report.modules;
             Ok(warn_of_program(alloc, job, modules, variables, &words, lines)?)

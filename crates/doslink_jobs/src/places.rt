@@ -8,7 +8,7 @@ use crate::paths::{extension_of, with_extension};
 use crate::stop::Stop;
 use doslink_files::{is_one_of, is_one_place, stands_as_input};
 use doslink_telling::push_path_line;
-use doslink_words::{Input, Job, MapFile};
+use doslink_words::{Form, Input, Job, MapFile};
 use omf_files::{FileId, World};
 use std::alloc::{AllocError, Allocator};
 use std::collections::BTreeSet;
@@ -22,8 +22,25 @@ pub(crate) struct Places<A: Allocator + Copy> {
     pub map: Option<String<A>>,
 }
 
-/// The extensions of programs of other forms, in small letters.
-const OTHER_FORMS: [&str; 4] = ["com", "sys", "bin", "img"];
+/// The extensions of files of other forms, in small letters, and what is told of one where no form is said.
+const OTHER_FORMS: [(&str, &str); 4] = [
+    (
+        "com",
+        "without a form an EXE file is written: say --form com, or --form exe",
+    ),
+    (
+        "sys",
+        "without a form an EXE file is written: say --form sys, or --form exe",
+    ),
+    (
+        "bin",
+        "without a form an EXE file is written: say --form bin, or --form exe",
+    ),
+    (
+        "img",
+        "without a form an EXE file is written: say --form bin, or --form exe",
+    ),
+];
 
 /// The path of the first file.
 fn first_file<'a>(inputs: &[Input<'a>]) -> Option<&'a str>
@@ -59,22 +76,40 @@ fn first_name<'a>(inputs: &[Input<'a>]) -> Option<&'a str>
 }
 
 /// The path of a program that is called after this file or library.
-fn path_after<A: Allocator + Copy>(alloc: A, name: Option<&str>) -> Result<String<A>, AllocError>
-    ensures { IfOk result (λ path. string_bytes path ≡ spec.path_after (option_map (λ n. n.now) name.entry)) }
+fn path_after<A: Allocator + Copy>(
+    alloc: A,
+    name: Option<&str>,
+    extension: &str,
+) -> Result<String<A>, AllocError>
+    ensures { IfOk result (λ path. string_bytes path
+        ≡ spec.path_after (option_map (λ n. n.now) name.entry) extension.now) }
 {
     match name {
-        Some(name) if name != "-" => with_extension(alloc, name, ".EXE"),
-        _ => String::from_str(alloc, "OUT.EXE"),
+        Some(name) if name != "-" => with_extension(alloc, name, extension),
+        _ => with_extension(alloc, "OUT", extension),
     }
 }
 
-/// The path of the program: the one that is given, or that of the first file with `.EXE` in place of its extension.
+/// The extension of a file of a form.
+fn extension_for(form: Option<Form>) -> &'static str
+    ensures { result.now ≡ spec.extension_for form }
+{
+    match form {
+        None | Some(Form::Exe) => ".EXE",
+        Some(Form::Com) => ".COM",
+        Some(Form::Raw { .. }) => ".BIN",
+        Some(Form::Driver) => ".SYS",
+    }
+}
+
+/// The path of the program: the one that is given, or that of the first file with that of the form in place of its
+/// extension.
 fn out_path<A: Allocator + Copy>(alloc: A, job: &Job<'_>) -> Result<String<A>, AllocError>
     ensures { IfOk result (λ path. string_bytes path ≡ spec.out_path job.now) }
 {
     match job.out {
         Some(out) => String::from_str(alloc, out),
-        None => path_after(alloc, first_name(&job.inputs)),
+        None => path_after(alloc, first_name(&job.inputs), extension_for(job.form)),
     }
 }
 
@@ -103,18 +138,21 @@ fn stop_at_path<A: Allocator + Copy>(path: &str, why: &str, lines: &mut Vec<u8, 
     }
 }
 
-/// Stops where a program of another form is asked for.
+/// Stops where the name of the program is that of another form, and none is said.
 pub(crate) fn check_form<A: Allocator + Copy>(
     job: &Job<'_>,
     lines: &mut Vec<u8, A>,
 ) -> Result<(), Stop>
     ensures { IfErr result (λ stop. OnInput stop ⊥) }
 {
+    if job.form.is_some() {
+        return Ok(());
+    }
     let out = job.out.unwrap_or("");
     let extension = extension_of(out);
-    for other in OTHER_FORMS {
+    for (other, why) in OTHER_FORMS {
         if extension.eq_ignore_ascii_case(other) {
-            return Err(stop_at_path(out, "no such file is written, only .EXE", lines));
+            return Err(stop_at_path(out, why, lines));
         }
     }
     Ok(())

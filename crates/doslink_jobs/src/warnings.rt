@@ -11,7 +11,7 @@ ghost use Rattle.doslink_jobs.specs.inside.Warnings as spec;
 use crate::inputs::options_of;
 use crate::limit::{push_rest, told_count};
 use doslink_telling::{push_no_code, push_no_stack, push_no_start, push_reached};
-use doslink_words::Job;
+use doslink_words::{Form, Job};
 use omf_communal::{Reached, Variable, far_by_offset};
 use omf_module::{Kind, Module, Standing};
 use std::alloc::{AllocError, Allocator};
@@ -128,15 +128,37 @@ fn warn_of_code<A: Allocator + Copy>(
     push_no_code(lines)
 }
 
-/// Warns where no module has a start, a stack or a byte of code.
-fn warn_of_what_lacks<A: Allocator + Copy>(
+/// Whether the file has a header, which says where the program starts and where its stack is.
+fn has_header(job: &Job<'_>) -> bool
+    ensures { result ≡ spec.has_header job.now.form }
+{
+    matches!(job.form, None | Some(Form::Exe))
+}
+
+/// Warns where no module has a start or a stack, of which a file with a header tells.
+fn warn_of_header<A: Allocator + Copy>(
+    job: &Job<'_>,
     modules: &[Module<A>],
     lines: &mut Vec<u8, A>,
 ) -> Result<(), AllocError>
-    ensures { OnOk result (lines.new.items ≡ lines.old.items ++ spec.lacking_warnings modules.now) }
+    ensures { OnOk result (lines.new.items ≡ lines.old.items ++ spec.header_warnings job.now.form modules.now) }
 {
+    if !has_header(job) {
+        return Ok(());
+    }
     warn_of_start(modules, lines)?;
-    warn_of_stack(modules, lines)?;
+    warn_of_stack(modules, lines)
+}
+
+/// Warns where no module has a start or a stack, of which a file with a header tells, or a byte of code.
+fn warn_of_what_lacks<A: Allocator + Copy>(
+    job: &Job<'_>,
+    modules: &[Module<A>],
+    lines: &mut Vec<u8, A>,
+) -> Result<(), AllocError>
+    ensures { OnOk result (lines.new.items ≡ lines.old.items ++ spec.lacking_warnings job.now.form modules.now) }
+{
+    warn_of_header(job, modules, lines)?;
     warn_of_code(modules, lines)
 }
 
@@ -210,6 +232,6 @@ pub(crate) fn warn_of_program<A: Allocator + Copy>(
     ensures { OnOk result (lines.new.items ≡ lines.old.items ++ spec.program_warnings job.now modules.now
         (map variable_said variables.now) (bytes_of words.now)) }
 {
-    warn_of_what_lacks(modules, lines)?;
+    warn_of_what_lacks(job, modules, lines)?;
     warn_of_reached(alloc, job, modules, variables, words, lines)
 }

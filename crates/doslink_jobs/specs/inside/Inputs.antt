@@ -94,7 +94,7 @@ abbrev pub IsRefusedWith : (A : Type 0) → Job → (says : List Module) → (ma
 IsRefusedWith A job says marks modules vs =
     HaveNoInputs job says marks modules vs
     ⊎ ((linked : List (List ℕ)) × AreInputsOf job says marks modules vs linked
-    × HaveFault A (names_of job.ignore_case) (AreMeant (taking_for job says) linked) linked)
+    × HaveFault A job.form (names_of job.ignore_case) (AreMeant (taking_for job says) linked) linked)
 
 -- there is an order module only for inputs that begin with modules
 abbrev pub IsOrderOfRead : {A : Type 0} → Option (Vec ℕ A) → Read A → Type 0

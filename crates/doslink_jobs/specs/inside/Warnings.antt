@@ -1,5 +1,6 @@
 -- The warnings of a program that was linked and can't be run as it is meant (docs/DOSLINK.md, "Faults and statuses").
-use Rattle.std.specs.Prelude.{ℕ, ◌-◌, nat_lt, Bool, if◌then◌else◌, is_some, length, List, [], ◌++◌, slice_get, take}
+use Rattle.std.specs.Prelude.{ℕ, ◌-◌, nat_lt, Bool, true, false, if◌then◌else◌, is_some, length, List, [], ◌++◌, slice_get, take, Some, None}
+use Rattle.std.specs.declared.option.Option.{Option}
 use Rattle.std.specs.List.{flat_map, list_any}
 use Rattle.std.specs.Option.{unwrap_or}
 use Rattle.omf_communal.specs.Deciding.{Variable}
@@ -8,6 +9,8 @@ use Rattle.omf_module.specs.Module.{Module}
 use Rattle.omf_stack.specs.Stack.{is_stack}
 use Rattle.doslink_telling.specs.Missing.{rest_text, told_count}
 use Rattle.doslink_telling.specs.Warnings.{no_code_line, no_stack_line, no_start_line, reached_line}
+use Rattle.doslink_words.specs.declared.job.Form.{Form}
+use Rattle.doslink_words.specs.declared.job.Form.TheVariants.{Exe}
 use Rattle.doslink_words.specs.declared.job.Job.{Job}
 use Rattle.doslink_jobs.specs.Jobs.{names_of}
 
@@ -35,9 +38,19 @@ stack_warning modules = if list_any has_stack modules then [] else no_stack_line
 abbrev pub code_warning : List Module → List ℕ
 code_warning modules = if list_any has_data modules then [] else no_code_line
 
+-- the file has a header, which says where the program starts and where its stack is
+abbrev pub has_header : Option Form → Bool
+has_header None = true
+has_header (Some Exe) = true
+has_header (Some form) = false
+
+-- those of what a file with a header tells
+abbrev pub header_warnings : Option Form → List Module → List ℕ
+header_warnings form modules = if has_header form then start_warning modules ++ stack_warning modules else []
+
 -- all of these
-abbrev pub lacking_warnings : List Module → List ℕ
-lacking_warnings modules = start_warning modules ++ (stack_warning modules ++ code_warning modules)
+abbrev pub lacking_warnings : Option Form → List Module → List ℕ
+lacking_warnings form modules = header_warnings form modules ++ code_warning modules
 
 -- ---- far communal variables that modules reach by their offsets alone
 
@@ -59,4 +72,4 @@ reached_warnings job modules vs words =
 -- ---- all of them
 
 abbrev pub program_warnings : Job → List Module → List Variable → (words : List (List ℕ)) → List ℕ
-program_warnings job modules vs words = lacking_warnings modules ++ reached_warnings job modules vs words
+program_warnings job modules vs words = lacking_warnings job.form modules ++ reached_warnings job modules vs words

@@ -17,6 +17,18 @@ returns-in-Fault g c t meant =
     OnInput-holds c.stop_at_fault.result
     (inl (c.in-Fault.input, c.in-Fault.fault, subst (IsMeantBy t (input_list c.args.all.inputs)) c.in-Fault.is meant))
 
+pub returns-in_err-linked-in-Ok : goal.returns-in_err-linked-in-Ok
+returns-in_err-linked-in-Ok g c t meant =
+    let exit = c.from_residual-in_err-linked-in-Ok in
+    let same : c.options_of-options.result.names ≡ names_of c.args.job.now.ignore_case = c.options_of-options.ensures in
+    let modules = c.in-Modules.modules.items in
+    let report = c.in-Ok.linked.report in
+    let file = c.in-Ok.linked.file.items in
+    refused-exit _ exit.result _ exit.ensures.1
+    (λ wrong. inr (modules, subst (IsMeantBy t (input_list c.args.all.inputs)) c.in-Modules.is meant, inr wrong))
+    (c.in_err-linked-in-Ok.ensures.formed (names_of c.args.job.now.ignore_case) modules
+    (subst (λ n. IsLinkedAs n modules report file) same c.in-Ok.ensures.links.1))
+
 pub returns-in_err-write_files-in-Ok : goal.returns-in_err-write_files-in-Ok
 returns-in_err-write_files-in-Ok g c t meant =
     let exit = c.from_residual-in_err-write_files-in-Ok in
@@ -38,8 +50,10 @@ returns-in-Ok g c t meant =
     let told : bytes_of c.deref-in-Ok.result.now ≡ inputs =
     ap bytes_of c.deref-in-Ok.ensures.value ∙ c.in_ok-slices.ensures in
     let modules = c.in-Modules.modules.items in
-    let report = c.in-Ok.linked.report in
-    let file = c.in-Ok.linked.file.items in
+    let linked = subst (λ n. IsLinkedAs n modules c.in-Ok.linked.report c.in-Ok.linked.file.items) same
+    c.in-Ok.ensures.links.1 in
+    let report = c.in_ok-linked-in-Ok.linked.report in
+    let file = c.in_ok-linked-in-Ok.linked.file.items in
     let words = bytes_of c.deref-in-Ok-2.result.now in (
       modules,
       subst (IsMeantBy t inputs) c.in-Modules.is meant,
@@ -48,7 +62,7 @@ returns-in-Ok g c t meant =
         report = report;
         file = file;
         words = words;
-        linked = subst (λ n. IsLinkedAs n modules report file) same c.in-Ok.ensures.links.1;
+        formed = c.in_ok-linked-in-Ok.ensures.formed (names_of c.args.job.now.ignore_case) modules linked;
         written = subst (λ i. AreWritten Writes out mapped file (map_bytes report i words)) told
             c.in_ok-write_files-in-Ok.ensures.written;
       },
@@ -61,7 +75,7 @@ returns g c t meant =
     (λ one. inr (
       modules,
       subst (IsMeantBy t (input_list c.args.all.inputs)) c.in-Modules.is meant,
-      (
+      inl (
         c.in-Err.fault,
         fault-of (names_of c.args.job.now.ignore_case) modules c.in-Err.fault one
             (subst (λ n. LinksTo n modules (Err c.in-Err.fault)) c.options_of-options.ensures c.in-Err.ensures.links),

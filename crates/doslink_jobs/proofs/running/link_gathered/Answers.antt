@@ -33,8 +33,8 @@ returns g c =
     let (out, mapped) = c.in_ok-places.ensures in
     steps-weaker c.link_handed.result
     (λ done. link-of A job
-    (IsWritten A Writes (string_bytes places.out) (option_map string_bytes places.map) names)
-    (IsWritten A Writes (out_path job) (map_path job) names) (map handed_held handed) (Takes names rounds) takes
-    (λ inputs meant written. subst (λ o. IsWritten A Writes o (map_path job) names inputs meant) out
-    (subst (λ m. IsWritten A Writes (string_bytes places.out) m names inputs meant) mapped written)))
+    (IsWritten A job.form Writes (string_bytes places.out) (option_map string_bytes places.map) names)
+    (IsWritten A job.form Writes (out_path job) (map_path job) names) (map handed_held handed) (Takes names rounds) takes
+    (λ inputs meant written. subst (λ o. IsWritten A job.form Writes o (map_path job) names inputs meant) out
+    (subst (λ m. IsWritten A job.form Writes (string_bytes places.out) m names inputs meant) mapped written)))
     (link-refused g.row.A.Denot job (map handed_held handed) (Takes names rounds) takes) c.link_handed.ensures
