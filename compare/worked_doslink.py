@@ -10,7 +10,7 @@ import functools
 from model import (
     aliases, communal, directives, far_data, libraries, linking, local, lowering, module, names,
     ordering, records, search, weak)
-from model.directives import Input, Job, Stack
+from model.directives import Form, Input, Job, Stack
 from model.faults import Fault
 from model.names import Names
 from model.ordering import Class, Named
@@ -372,7 +372,19 @@ DIRECTIVES = [
     ("what changes nothing", "op nofarcalls",
      {"warnings": [("line 1", "the option has no effect")]}),
     ("a .COM file", "file a.o\nformat dos com",
-     "line 2: no .COM program is written, only .EXE: format dos com"),
+     {"inputs": given(["a.o"]), "form": Form("com")}),
+    ("an .EXE file", "format dos exe", {"form": Form("exe")}),
+    ("no form", "format dos com\nformat dos", {}),
+    ("a .COM file by its system", "system COM", {"form": Form("com")}),
+    ("no form by a system", "system com\nsystem dos", {}),
+    ("a raw image", "output raw", {"form": Form("bin")}),
+    ("one from an address on", "output raw offset=0x7c00", {"form": Form("bin", 0, 0x7C00)}),
+    ("one in kilobytes", "OUTPUT RAW OFFSET = 31k", {"form": Form("bin", 0, 0x7C00)}),
+    ("an address above the memory", "output raw offset=1048577",
+     "line 1: wrong operands: output raw offset=1048577"),
+    ("another output", "output hex", "line 1: wrong operands: output hex"),
+    ("another system by its name", "system os2",
+     "line 1: no other program is written than one for DOS: system os2"),
     ("another system", "format windows",
      "line 1: no other program is written than one for DOS: format windows"),
     ("no directive", "file a.o\n\nfoo bar\r\n", "line 3: unknown directive: foo bar"),

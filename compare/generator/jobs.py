@@ -12,13 +12,13 @@ from generator.libraries import (
 from generator.objects import (
     CLASSES, LAZY, MARKS, NAMES, SEGMENTS, TITLES, WEAK, ObjectMaker, any_plan, module_of_alias,
     module_of_code, module_of_cut_public, module_of_default, module_of_external,
-    module_of_far_data, module_of_flat, module_of_lengths, module_of_links,
+    module_of_far_data, module_of_flat, module_of_form, module_of_lengths, module_of_links,
     module_of_local_defaults, module_of_long_aliases, module_of_long_externals,
     module_of_many_parts, module_of_marks, module_of_no_alignment, module_of_publics,
     module_of_shared_word, module_of_stack, module_of_start, module_of_sum, module_of_wide_record,
     module_of_wide_segment, segments_called)
 from model import ordering
-from model.directives import Input, Job, Stack
+from model.directives import Form, Input, Job, Stack
 from model.placement import folded
 from model.records import Location
 
@@ -88,6 +88,10 @@ LENGTHS_EVERY, LENGTHS = 50, [
 # one job in so many has stacks of these lengths, and asks for one of about their sum
 STACKS_EVERY, STACKS = 20, [
     [], [1], [33], [3, 5], [16, 0, 17], [0x8000, 0x7FFF, 1], [7, 9, 11], [0x10000]]
+# one job in so many is a .COM program, or isn't for these reasons
+FORMS_EVERY, FORMS = 20, [
+    [], ["word"], ["stack"], ["start"], ["below"], ["whole"], ["whole", "bss"], ["bss"],
+    ["word", "stack", "start", "below"], ["stack", "start"], ["start", "below"]]
 # of a stack that is asked for
 STACK_LENGTHS = [1, 2, 0x10, 0x80, 0x100, 0x101, 0x400, 0x1000, 0x8000, 0xFFFF, 0x10000]
 # one job in so many has a group FLAT, and what names it; one code in a private segment or in DGROUP
@@ -136,7 +140,8 @@ LEFT_OUT = [
     "option symfile", "sort global", "disable 1014", "option symfile=out.sym", "op CACHE",
     "option quiet,verbose", "option map, showdead", "OPTION NoFarCalls"]
 WRONG_LINES = [
-    "format dos com", "foo", "file", "order clname", "option", "name a b", "library a b", "= x",
+    "format dos sys", "system os2", "output", "output hex", "output raw offset", "output raw offset=x",
+    "output raw offset=1048577", "output raw 0", "system", "foo", "file", "order clname", "option", "name a b", "library a b", "= x",
     "order segment _DATA", "format windows", 'file "a', "option quiet=1", "file a,", "'name' a",
     "option quiet dosseg", "format dos exe com", "format", "format com", "option foo=1",
     "order clname CODE clname", "order clname CODE name A", "sort 'a", "option quiet,", '"a" b',
@@ -429,6 +434,33 @@ class JobMaker:
         self.folders, self.job.map = [], MAP
         is_cut = lengths == [0x10000] or self.happens(0.4)
         return self.by_directives() if is_cut else self.asked()
+
+    def make_form(self, amiss):
+        """A .COM program, or one that isn't for what is amiss, in some form."""
+        most = 0xFF00
+        length = most if "whole" in amiss else self.random.choice([1, 2, 3, 0x20, 1200])
+        start = self.random.choice([None, 0x101, 0]) if "start" in amiss else 0x100
+        below = self.random.choice([1, 0x100]) if "below" in amiss else 0
+        modules = [module_of_form(below, length, start, "word" in amiss, "stack" in amiss,
+                                  1 if "bss" in amiss else 0)]
+        if self.happens(0.3) and length != most:
+            modules.append(module_of_lengths([b"T"], 2, [self.random.randrange(1, 20)], False))
+        for number, content in enumerate(modules):
+            self.files[f"{number}.obj"] = content
+            self.give(f"{number}.obj")
+        self.folders, self.job.map = [], self.random.choice([None, MAP])
+        self.job.order = self.random.choice([None, None, ordering.DOSSEG])
+        self.job.form = self.a_form()
+        self.job.out = self.random.choice([None, OUT, "out.com", "out.sys", "out.img", "o.BIN"])
+        return self.asked()
+
+    def a_form(self):
+        """Some form, mostly one without a header."""
+        kind = self.random.choice(["exe", "com", "com", "com", "bin", "bin", "sys"])
+        if kind != "bin":
+            return Form(kind)
+        paragraph = self.random.choice([0, 0, 1, 0x7C0, 0xFFFF])
+        return Form("bin", paragraph, self.random.choice([0, 0, 1, 0x100, 0x101, 0x100000]))
 
     def make_lengths(self, combination, lengths, is_grouped):
         """Two modules of segments of these lengths, behind one of another length or not."""
@@ -755,6 +787,8 @@ class JobMaker:
         if self.happens(0.1):
             # it is called like the first of FILES
             self.job.out = None
+        if self.happens(0.05):
+            self.job.form = self.a_form()
 
     def place(self, path):
         """A path to write at; rarely one in a folder that isn't there, or one that is read."""
@@ -818,10 +852,42 @@ class JobMaker:
         options += [["-v"]] if job.is_verbose else []
         options += [] if job.order is None else [["--order", self.order_word()]]
         options += [] if job.stack is None else [["--stack", self.number(job.stack.length)]]
+        options += self.form_words()
         self.random.shuffle(options)
         given = [["-l", each.name] if each.is_library else [each.name] for each in job.inputs]
         words = self.merged(self.merged(options, [["-L", folder] for folder in job.folders]), given)
         return [word for each in words for word in each]
+
+    def form_words(self):
+        """The words for a form; a raw image begins at its first byte."""
+        form = self.job.form
+        if form is None:
+            return []
+        words = [["--form", self.random.choice([form.kind, form.kind.upper()])]]
+        if form.kind == "bin":
+            form.start = 0
+            numbers = [f"{form.paragraph:04X}", f"{form.paragraph:x}", f"0x{form.paragraph:X}"]
+            if form.paragraph or self.happens(0.5):
+                words.append(["--at", self.random.choice(numbers)])
+        return words
+
+    def form_lines(self):
+        """The line for a form; what no directive says is another form then."""
+        form = self.job.form
+        if form is not None and form.kind == "sys":
+            form.kind = "com"
+        if form is None:
+            lines = ["format dos", "format dos", "system dos"]
+        elif form.kind == "exe":
+            lines = ["format dos exe"]
+        elif form.kind == "com":
+            lines = ["format dos com", "system com"]
+        else:
+            form.paragraph = 0
+            lines = ["output raw"] if form.start == 0 else []
+            lines += [f"output raw offset={self.number(form.start)}"]
+            lines += [f"output raw offset = '{self.number(form.start)}'"]
+        return [self.random.choice(lines)] if form is not None or self.happens(0.7) else []
 
     def merged(self, first, second):
         """Two lists as one, in which each has its order."""
@@ -892,7 +958,7 @@ class JobMaker:
         lines += [self.order_line()] if isinstance(job.order, list) else []
         lines += self.required_lines
         lines += self.random.sample(LINES_OF_NOTHING, self.random.randrange(3))
-        lines += ["format dos"] if self.happens(0.7) else []
+        lines += self.form_lines()
         lines += [self.random.choice(LEFT_OUT)] if self.happens(0.2) else []
         lines += [self.random.choice(WRONG_LINES)] if self.happens(0.1) else []
         self.random.shuffle(lines)
@@ -986,6 +1052,7 @@ MADE = [
     (START_EVERY, 41, in_turn(JobMaker.make_start, [
         (*start, total) for start in STARTS for total in SUMS])),
     (STACKS_EVERY, 5, in_turn(JobMaker.make_stacks, STACKS)),
+    (FORMS_EVERY, 17, in_turn(JobMaker.make_form, FORMS)),
     (LENGTHS_EVERY, 9, in_turn(JobMaker.make_lengths, LENGTHS)),
     (AMISS_EVERY, 11, in_turn(JobMaker.make_amiss)),
 ]

@@ -728,6 +728,30 @@ def module_of_start(kind, displacement):
         spelling.framed(kind, b"\xC1\x50\1" + displacement.to_bytes(width, "little"))])
 
 
+def module_of_form(below, length, start, has_word, has_stack, bss):
+    """A module that is a .COM program but for what is asked: data so far below 100H, so many bytes from
+    there on, a start, a segment address, a stack, and so many bytes that no data covers."""
+    spelling = records.Spelling()
+    begin = 0x100 - below
+    data = bytes(number % 251 for number in range(below + length))
+    end = 0x100 + length
+    word = end.to_bytes(2, "little") if end < 0x10000 else b"\0\0"
+    found = [
+        spelling.record(records.Header(b"FORM")),
+        spelling.record(records.NameList([b"", b"CODE", b"STACK", b"BSS"])),
+        spelling.framed(0x98, (b"\x28" if end < 0x10000 else b"\x2A") + word + b"\2\2\1")]
+    found += [spelling.framed(0x98, b"\x74\x10\0\3\3\1")] if has_stack else []
+    found += [spelling.framed(0x98, b"\x28" + bss.to_bytes(2, "little") + b"\4\4\1")] if bss else []
+    for place in range(0, len(data), 1000):
+        content = data[place:place + 1000]
+        found.append(spelling.framed(
+            0xA0, b"\1" + (begin + place).to_bytes(2, "little") + content))
+        if has_word and place == 0 and len(content) > 1:
+            found.append(spelling.framed(0x9C, b"\xC8\0\4\1\1"))
+    end_of = b"\0" if start is None else b"\xC1\x50\1" + start.to_bytes(2, "little")
+    return b"".join([*found, spelling.framed(0x8A, end_of)])
+
+
 def module_of_no_alignment(kind):
     """A module with a 32-bit segment, and one by this type of record whose alignment is none."""
     spelling = records.Spelling()

@@ -16,6 +16,8 @@ WORD = re.compile(rf'[{SPACE}]*(?:"([^"]*)"|([^"{SPACE}][^{SPACE}]*))')
 # a number, and its unit
 NUMBER = re.compile(r"(?:0[xX]([0-9a-fA-F]+)|([0-9]+))([kKmM]?)")
 LONGEST_STACK = 65_536
+# the end of the memory that a real-mode address reaches
+MEMORY_END = 0x100000
 # a name between quotes of either kind, a word, or a comma or an equals sign
 TOKEN = re.compile(
     rf"""[{SPACE}]*(?:("[^"]*"|'[^']*')|([,=])|([^"'{SPACE},=][^{SPACE},=]*))""")
@@ -38,6 +40,16 @@ class Stack:
 
 
 @dataclass
+class Form:
+    """What the program's file is: "exe", "com", "bin" or "sys"; of a raw image its paragraph and
+    the address of its first byte."""
+
+    kind: str
+    paragraph: int = 0
+    start: int = 0
+
+
+@dataclass
 class Job:
     """What is to be linked, how, and what is written; `order` is None where none is asked for."""
 
@@ -54,6 +66,8 @@ class Job:
     # whether the order of DOSSEG has null bytes in front of _TEXT
     has_null_bytes: bool = True
     stack: Optional[Stack] = None
+    # None is an EXE file that nobody asked for
+    form: Optional[Form] = None
     is_verbose: bool = False
     is_quiet: bool = False
     # the map is asked for, by no name of its own
@@ -164,11 +178,44 @@ def read_name(job, tokens, line):
 
 
 def read_format(job, tokens, line):
-    """A program of DOS, which is an .EXE file; no .COM file is written."""
+    """A program of DOS: an .EXE or a .COM file, where that is said."""
     if len(tokens) not in (1, 2) or not tokens[0].is_word("dos"):
         raise Refused(NOT_DOS)
-    if tokens[1:] and not tokens[1].is_word("exe"):
-        raise Refused(NO_COM if tokens[1].is_word("com") else NOT_DOS)
+    kinds = [kind for kind in ("exe", "com") if tokens[1:] and tokens[1].is_word(kind)]
+    if tokens[1:] and not kinds:
+        raise Refused(NOT_DOS)
+    job.form = Form(kinds[0]) if kinds else None
+
+
+def read_system(job, tokens, line):
+    """The same by the system's name: `dos` says no form."""
+    if len(tokens) != 1 or not (tokens[0].is_word("dos") or tokens[0].is_word("com")):
+        raise Refused(NOT_DOS)
+    job.form = Form("com") if tokens[0].is_word("com") else None
+
+
+def read_output(job, tokens, line):
+    """A raw image at paragraph 0, which may begin behind the program's first bytes."""
+    kinds = [each.kind for each in tokens]
+    if not tokens or not tokens[0].is_word("raw"):
+        raise Refused
+    start = 0
+    if tokens[1:]:
+        if kinds[1:] not in (["word", "=", "word"], ["word", "=", "quoted"]) or not tokens[1].is_word("offset"):
+            raise Refused
+        start = address(tokens[3].text)
+    job.form = Form("bin", start=start)
+
+
+def address(text):
+    """A number up to the end of memory: decimal, or hexadecimal behind 0x; of kilobytes with k."""
+    found = NUMBER.fullmatch(text)
+    if found is None or found[3] in ("m", "M"):
+        raise Refused
+    number = int(found[1], 16) if found[1] else int(found[2])
+    if number > MEMORY_END:
+        raise Refused
+    return number * (1024 if found[3] else 1)
 
 
 def read_options(job, tokens, line):
@@ -234,14 +281,14 @@ def leave_out(job, tokens, line):
 
 READERS = {
     "file": read_files, "library": read_libraries, "lib": read_libraries,
-    "libpath": read_folders, "name": read_name, "format": read_format, "option": read_options,
+    "libpath": read_folders, "name": read_name, "format": read_format, "system": read_system,
+    "output": read_output, "option": read_options,
     "op": read_options, "order": read_order, "debug": leave_out, "sort": leave_out,
     "disable": leave_out,
 }
 # of those, what has no effect where it might be missed
 WARNED = {"sort": "the map is not sorted", "disable": "no message is left out"}
 NO_EFFECT = "the option has no effect"
-NO_COM = "no .COM program is written, only .EXE"
 NOT_DOS = "no other program is written than one for DOS"
 SWITCHES = {
     "quiet": ("is_quiet", True), "dosseg": ("order", ordering.DOSSEG),

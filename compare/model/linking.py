@@ -10,8 +10,8 @@ from os.path import normpath
 from typing import Optional
 
 from model import (
-    communal, directives, faults, foreign, image, libraries, local, lowering, module, ordering, printing,
-    program_file, search, stack)
+    communal, directives, faults, foreign, forms, image, libraries, local, lowering, module, ordering,
+    printing, search, stack)
 from model.commands import Answer, Output
 from model.faults import Fault, escaped, printed_name
 from model.names import Names, wanting_places
@@ -26,8 +26,8 @@ IS_REACHED = "is far and reached by its offset alone: declare it near (NASM: com
 # what is put behind the name of a library that has no dot, in turn
 ENDINGS = ["", ".LIB", ".lib"]
 TYPE, BODY, DUPLICATE, NO_PROGRAM = 5, 6, 25, 67
-# endings of programs of other forms
-OTHER_FORMS = ("com", "sys", "bin", "img")
+# endings of files of other forms, and the form that each is
+OTHER_FORMS = {"com": "com", "sys": "sys", "bin": "bin", "img": "bin"}
 MARKS = [*ordering.BEGIN_MARKS, *ordering.END_MARKS]
 # the statuses where the job is at fault, and where what is asked for is wrong
 INPUT, WRONG_WORDS, NO_DEVICE = 1, 2, 3
@@ -126,7 +126,7 @@ class Linking:
         variables = communal.variables(self.taken, self.key)
         self.check_names(variables)
         program = self.linked(variables)
-        self.write(out, program_file.written_file(program))
+        self.write(out, forms.written_file(program, self.job.form))
         if map_path is not None:
             self.write(map_path, printing.map_of(program) + self.table_of(program))
         self.warn_of_program(program, variables)
@@ -214,10 +214,12 @@ class Linking:
             for each in choices]
 
     def check_form(self):
-        """A program of another form than an .EXE isn't written."""
+        """Where no form is said the program's name may not be that of another than an .EXE."""
         out = self.job.out or ""
-        if last_part(out).rpartition(".")[2].lower() in OTHER_FORMS and "." in last_part(out):
-            raise Stop(WRONG_WORDS, faults.OTHER_FORM, [f"{out}: no such file is written, only .EXE"])
+        kind = OTHER_FORMS.get(last_part(out).rpartition(".")[2].lower())
+        if self.job.form is None and kind is not None and "." in last_part(out):
+            raise Stop(WRONG_WORDS, faults.OTHER_FORM, [
+                f"{out}: without a form an EXE file is written: say --form {kind}, or --form exe"])
 
     def places(self):
         """The paths of the program and of the map, or None.
@@ -228,7 +230,8 @@ class Linking:
         out = self.job.out
         if out is None:
             first = min(self.job.inputs, key=lambda each: each.is_library)
-            out = with_ending(first.name, ".EXE")
+            extension = forms.EXTENSIONS[forms.kind_of(self.job.form)]
+            out = with_ending("OUT" if first.name == "-" else first.name, extension)
         map_path = with_ending(out, ".MAP") if self.job.maps_to_out else self.job.map
         self.check_place(out)
         if map_path is not None:
@@ -392,9 +395,11 @@ class Linking:
         """What a program lacks that can't be run, also where only faults are asked for, and what it
         reaches in a frame that it doesn't load."""
         segments = [segment for each in program.modules for segment in each.segments]
+        # only an .EXE file has a header, which says where the start and the stack are
+        has_header = forms.kind_of(self.job.form) == "exe"
         lacks = [
-            (NO_START, all(each.start is None for each in program.modules)),
-            (NO_STACK, all(segment.kind != "stack" for segment in segments)),
+            (NO_START, has_header and all(each.start is None for each in program.modules)),
+            (NO_STACK, has_header and all(segment.kind != "stack" for segment in segments)),
             (NO_CODE, not any(data.stored for each in program.modules for data in each.data))]
         self.warnings += [
             f"{PROGRAM}: warning: {text}\n" for text, is_lacking in lacks if is_lacking]
@@ -459,13 +464,17 @@ class Linking:
             return None
         try:
             return ordering.order_module(
-                modules, self.order(), self.job.has_null_bytes, self.key)
+                modules, self.order(), self.has_null_bytes(), self.key)
         except ordering.TooManyParts:
             raise Stop(INPUT, faults.TOO_MANY_PARTS, [
                 "order: TooManySegments: there are more than 16,383 to order"]) from None
         except Fault as fault:
             fault.owner = [*self.taken, *2 * [Module(COMMUNAL, b"", Names())]][fault.owner].word
             raise
+
+    def has_null_bytes(self):
+        """Whether the order of DOSSEG has null bytes: a .COM file has none."""
+        return self.job.has_null_bytes and forms.kind_of(self.job.form) != "com"
 
     def order(self):
         """The order asked for, or that of a comment, or that of meeting."""

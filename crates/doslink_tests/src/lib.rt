@@ -10,6 +10,8 @@ mod defaulting;
 #[cfg(test)]
 mod doubled;
 #[cfg(test)]
+mod forms;
+#[cfg(test)]
 mod lengths;
 #[cfg(test)]
 mod modules;

@@ -1,12 +1,13 @@
 //! Runs over a world in memory.
+use crate::forms::{FORM_LINES, FORM_MODULES, FORM_RUNS, FORMED};
 use crate::modules::LIBRARY;
 use crate::tables::{
     ALIAS_RUNS, COMMUNAL_RUNS, DEFAULT_RUNS, DOUBLED_RUNS, LIMITED_RUNS, LOCAL_DEFAULT_RUNS,
     LONG_RUNS, MISSING_RUNS, REFUSED_RUNS, RUNS, SEARCH_RUNS, SUM_RUNS, SYMBOL_RUNS, WARNED_RUNS,
 };
 use crate::world::{
-    ARCHIVES, AS_MANY, CUT, CUT_TO_16, CUT_TO_32, DIRECTIVES, FAR_DATA, FAR_TOO_LONG,
-    FURTHER_MODULES, MODULES, RESPONSE, SORTS, WRONG,
+    ARCHIVES, AS_MANY, CUT, CUT_TO_16, CUT_TO_32, DIRECTIVES, FAR_DATA, FAR_TOO_LONG, FURTHER_MODULES,
+    MODULES, RESPONSE, SORTS, WRONG,
 };
 use crate::written::{MAP, PROGRAMS, WRITTEN};
 use desk::{Count, Desk, Page, Pen};
@@ -74,6 +75,8 @@ fn put_others<'a>(files: &mut Vec<(&'a str, &'a [u8])>) -> Result<(), AllocError
 /// Puts further modules and libraries behind files.
 fn put_further<'a>(files: &mut Vec<(&'a str, &'a [u8])>) -> Result<(), AllocError> {
     files.extend_from_slice(&FURTHER_MODULES)?;
+    files.extend_from_slice(&FORM_MODULES)?;
+    files.extend_from_slice(&FORM_LINES)?;
     files.extend_from_slice(&ARCHIVES)
 }
 
@@ -264,6 +267,22 @@ fn programs_end_in_these_bytes(rt: HostRuntime) -> Result<(), Fail> {
     for (row, bytes) in &PROGRAMS {
         let done = run_row(rt.alloc(), row, "")?;
         assert!(rt; done.out.ends_with(bytes), "{row}");
+    }
+    Ok(())
+}
+
+#[test]
+fn runs_with_a_form_tell_these_lines(rt: HostRuntime) -> Result<(), Fail> {
+    let wrong = first_other(rt.alloc(), FORM_RUNS, true)?;
+    assert_eq!(rt; wrong, None);
+    Ok(())
+}
+
+#[test]
+fn runs_with_a_form_write_these_files(rt: HostRuntime) -> Result<(), Fail> {
+    for (row, path, bytes) in &FORMED {
+        let done = run_row(rt.alloc(), row, path)?;
+        assert!(rt; done.out.as_slice() == *bytes, "{row}");
     }
     Ok(())
 }

@@ -212,10 +212,10 @@ doslink A.OBJ ELF.OBJ|1||doslink: ELF.OBJ: 3 Truncated at record 0: this is an E
 doslink A.OBJ TEXT.OBJ|1||doslink: TEXT.OBJ: 3 Truncated at record 0: this is a text; assemble or compile it first~
 doslink RUN.LIB|1||doslink: link: 67 NoProgram~
 doslink NOTHING.OBJ|1||doslink: link: 67 NoProgram~
-doslink -o A.COM A.OBJ F.OBJ|2||doslink: A.COM: no such file is written, only .EXE~
-doslink -o a.sys A.OBJ F.OBJ|2||doslink: a.sys: no such file is written, only .EXE~
-doslink -o A.bin A.OBJ F.OBJ|2||doslink: A.bin: no such file is written, only .EXE~
-doslink -o A.IMG A.OBJ F.OBJ|2||doslink: A.IMG: no such file is written, only .EXE~
+doslink -o A.COM A.OBJ F.OBJ|2||doslink: A.COM: without a form an EXE file is written: say --form com, or --form exe~
+doslink -o a.sys A.OBJ F.OBJ|2||doslink: a.sys: without a form an EXE file is written: say --form sys, or --form exe~
+doslink -o A.bin A.OBJ F.OBJ|2||doslink: A.bin: without a form an EXE file is written: say --form bin, or --form exe~
+doslink -o A.IMG A.OBJ F.OBJ|2||doslink: A.IMG: without a form an EXE file is written: say --form bin, or --form exe~
 doslink -o LINK.EXE A.OBJ F.OBJ|2||doslink: LINK.EXE: it is read and would be written~
 doslink -m D.OBJ A.OBJ F.OBJ|2||doslink: D.OBJ: it is a module or a library and would be written~
 doslink OUTSIDE.OBJ|1||doslink: OUTSIDE.OBJ: 11 SegmentIndex at record 17~

@@ -1,0 +1,44 @@
+"""The program's file by its form: an EXE file, or bytes of the program and no header.
+
+A .COM file is what DOS puts at offset 100H of a segment; a raw image, "bin", is the program at its
+paragraph, and "sys" one that is the same at any.
+"""
+
+from model import program_file
+from model.faults import Fault
+
+# where a .COM program begins and starts, and the end of its segment
+COM_START, SEGMENT = 0x100, 0x10000
+RELOCATED, STACK_SEGMENT, OTHER_START, DATA_BELOW, TOO_LONG = range(68, 73)
+EXTENSIONS = {"exe": ".EXE", "com": ".COM", "bin": ".BIN", "sys": ".SYS"}
+
+
+def kind_of(form):
+    """The kind of a form; an EXE file where none is said."""
+    return "exe" if form is None else form.kind
+
+
+def com_faults(program):
+    """What keeps a program from being a .COM file, by its number."""
+    start = program.registers.code, program.registers.instruction
+    tests = [
+        (RELOCATED, bool(program.relocations)),
+        (STACK_SEGMENT, any(each.kind == "stack" for each in program.layout.combined)),
+        (OTHER_START, start != (0, COM_START)),
+        (DATA_BELOW, any(laid.content and laid.address < COM_START for laid in program.laid)),
+        (TOO_LONG, program.layout.size > SEGMENT)]
+    return [number for number, stands in tests if stands]
+
+
+def written_file(program, form):
+    """The bytes of the file, or the first fault that keeps the program from having one."""
+    kind = kind_of(form)
+    if kind == "exe":
+        return program_file.written_file(program)
+    if kind == "bin":
+        return program.image(form.paragraph)[form.start:]
+    found = com_faults(program)
+    found = [number for number in found if kind == "com" or number == RELOCATED]
+    if found:
+        raise Fault(found[0])
+    return program.image(0)[COM_START if kind == "com" else 0:]
