@@ -28,21 +28,21 @@ wrote_all old new file items none all wrote =
     subst (λ (o : Option (List ℕ)). Appends (Some []) o file) all
     (subst (λ (o : Option (List ℕ)). Appends o new file) none wrote)
 
-module _ {K X V : Type 0} (written : K → Option (List ℕ)) (failures : K → ℕ) (old new : K) (file : List ℕ)
+module _ {K V : Type 0} (X : Type 0) (written : K → Option (List ℕ)) (failures : K → ℕ) (old new : K) (file : List ℕ)
     (items : V → List ℕ) where
   pub made_ok : (fault : Option FormFault) (made : V) (done : X) → written old ≡ Some []
       → written new ≡ Some (items made) → WritesForm {K = K} {X = X} written failures old new fault file (Ok done)
       → Makes items fault file (Ok made)
-  made_ok (Some f) made done none all (is, rest) = cc
+  made_ok (Some f) made done none all (is, wrote, failed) = cc
   made_ok None made done none all (fine, wrote) =
       (refl, wrote_all (written old) (written new) file (items made) none all wrote.0)
 
   pub made_err : (fault : Option FormFault) (e : FlatFault)
       → WritesForm {K = K} {X = X} written failures old new fault file (Err e) → Makes items fault file (Err e)
-  made_err (Some f) (flat.Form g) (is, rest) = cc
-  made_err (Some f) flat.Device (is, rest) = tt
+  made_err (Some f) (flat.Form g) (is, wrote, failed) = cc
+  made_err (Some f) flat.Device writes = tt
   made_err None (flat.Form g) (fine, wrote) = cc
-  made_err None flat.Device (fine, wrote) = tt
+  made_err None flat.Device writes = tt
 
 -- ---- the file of linked modules
 

@@ -6,13 +6,13 @@ use Rattle.doslink_link.proofs.forms.com_file.Goals as goal
 pub returns-in-Ok : goal.returns-in-Ok
 returns-in-Ok g c =
     let r = c.args.report.now in
-    made_ok (λ s. Some s.bytes.items) (λ s. s.failures) c.new-page.result c.write_com.new.sink (com_bytes r.program)
+    made_ok (Unit {0}) (λ s. Some s.bytes.items) (λ s. s.failures) c.new-page.result c.write_com.new.sink (com_bytes r.program)
     (λ file. file.items) (com_fault r.layout r.modules.items r.program) c.write_com.new.sink.bytes (tt {0})
     (ap Some c.new-page.ensures.empty) refl c.in-Ok.ensures
 
 pub returns-in-Err : goal.returns-in-Err
 returns-in-Err g c =
     let r = c.args.report.now in
-    made_err {X = Unit {0}} (λ s. Some s.bytes.items) (λ s. s.failures) c.new-page.result c.write_com.new.sink
+    made_err (Unit {0}) (λ s. Some s.bytes.items) (λ s. s.failures) c.new-page.result c.write_com.new.sink
     (com_bytes r.program) (λ file. file.items) (com_fault r.layout r.modules.items r.program) c.in-Err.fault
     c.in-Err.ensures

@@ -6,12 +6,12 @@ use Rattle.doslink_link.proofs.forms.driver_file.Goals as goal
 pub returns-in-Ok : goal.returns-in-Ok
 returns-in-Ok g c =
     let p = c.args.program.now in
-    made_ok (λ s. Some s.bytes.items) (λ s. s.failures) c.new-page.result c.write_sys.new.sink (sys_bytes p)
+    made_ok (Unit {0}) (λ s. Some s.bytes.items) (λ s. s.failures) c.new-page.result c.write_sys.new.sink (sys_bytes p)
     (λ file. file.items) (sys_fault p) c.write_sys.new.sink.bytes (tt {0})
     (ap Some c.new-page.ensures.empty) refl c.in-Ok.ensures
 
 pub returns-in-Err : goal.returns-in-Err
 returns-in-Err g c =
     let p = c.args.program.now in
-    made_err {X = Unit {0}} (λ s. Some s.bytes.items) (λ s. s.failures) c.new-page.result c.write_sys.new.sink
+    made_err (Unit {0}) (λ s. Some s.bytes.items) (λ s. s.failures) c.new-page.result c.write_sys.new.sink
     (sys_bytes p) (λ file. file.items) (sys_fault p) c.in-Err.fault c.in-Err.ensures
