@@ -8,16 +8,20 @@ use Rattle.omf_module.specs.Module as omf
 use Rattle.omf_place.specs.declared.names.Names.{Names}
 use Rattle.clap.specs.Words.{Text}
 use Rattle.doslink_words.specs.declared.job.Job.{Job}
-use Rattle.doslink_jobs.specs.declared.stop.Stop.{Stop}
-use Rattle.doslink_jobs.specs.declared.stop.Stop.TheVariants.{Input, Words, Device, Memory}
+use Rattle.doslink_jobs.specs.declared.stop.Halt.{Halt}
+use Rattle.doslink_jobs.specs.declared.stop.Halt.TheVariants as halt
+use Rattle.doslink_jobs.specs.declared.stop.Stop.TheVariants.{Input, Device, Memory}
 use Rattle.doslink_stock.specs.Files.{Held, needs}
 use Rattle.doslink_jobs.specs.Communals.{AreVariablesOf}
 use Rattle.doslink_jobs.specs.Jobs.{AreInputsOf, EndsWith, IsDone, IsLinkOf, names_of, taking_for}
 use Rattle.doslink_jobs.specs.Meant.{AreMeant}
+use Rattle.doslink_jobs.specs.Places.{map_path, out_path}
 use Rattle.doslink_jobs.specs.Refusals.{AreMissingOf, IsRefusedJob, IsRefusedOf}
 use Rattle.doslink_jobs.specs.Runs.{AskForNone, EndsBy}
+use Rattle.doslink_jobs.specs.Wrong.{AreApart, EndsJob, IsNamedWell, IsWrongJob}
+use Rattle.omf_files.specs.declared.world.Looked.{Looked}
 use Rattle.doslink_jobs.specs.inside.Inputs.{IsLinkedWith, IsRefusedWith}
-use Rattle.doslink_jobs.specs.inside.Stops.{OnInput, status_of, stop_status}
+use Rattle.doslink_jobs.specs.inside.Stops.{OnHalt, halt_status, status_of}
 use Rattle.omf_search.specs.Said.{Module, Wanted}
 use Rattle.doslink_telling.specs.Missing.{unmet, wants_marks}
 
@@ -102,13 +106,17 @@ refused-with A job names marks modules vs says same all are wants refused = (
   ),
 )
 
--- a run ends well only where what it does holds, and refuses only where that holds by which it does
-pub EndsWith-weaker : (P Q R S : Type 0) (tells : List ℕ → Type 0) (status : ℕ) → (P → Q) → (R → S)
-    → EndsWith P R tells status → EndsWith Q S tells status
-EndsWith-weaker P Q R S tells status does refuses (told, inl (well, done)) = (told, inl (well, does done))
-EndsWith-weaker P Q R S tells status does refuses (told, inr (inl (one, refused))) =
+-- a run ends well only where what it does holds, refuses only where that holds by which it does, and says that words
+-- are wrong only where they are
+pub EndsWith-weaker : (P Q R S V W : Type 0) (tells : List ℕ → Type 0) (status : ℕ) → (P → Q) → (R → S) → (V → W)
+    → EndsWith P R V tells status → EndsWith Q S W tells status
+EndsWith-weaker P Q R S V W tells status does refuses wrongs (told, inl (well, done)) = (told, inl (well, does done))
+EndsWith-weaker P Q R S V W tells status does refuses wrongs (told, inr (inl (one, refused))) =
     (told, inr (inl (one, refuses refused)))
-EndsWith-weaker P Q R S tells status does refuses (told, inr (inr other)) = (told, inr (inr other))
+EndsWith-weaker P Q R S V W tells status does refuses wrongs (told, inr (inr (inl (two, wrong)))) =
+    (told, inr (inr (inl (two, wrongs wrong))))
+EndsWith-weaker P Q R S V W tells status does refuses wrongs (told, inr (inr (inr three))) =
+    (told, inr (inr (inr three)))
 
 -- what holds of one run holds of another one
 pub EndsBy-weaker : (A : Type 0) (told : Text → Option (List ℕ)) (Writes : (path bytes : List ℕ) → Type 0)
@@ -120,49 +128,57 @@ EndsBy-weaker A told Writes folders Run Other tells status step =
     let done = IsDone A told Writes folders in
     let refused = IsRefusedJob A told folders in
     let never = λ (words : List Text). ⊥ in
-    EndsWith-weaker (Run done AskForNone) (Other done AskForNone) (Run refused never) (Other refused never) tells status
-    (step done AskForNone) (step refused never)
+    EndsWith-weaker (Run done AskForNone) (Other done AskForNone) (Run refused never) (Other refused never) (Unit {0})
+    (Unit {0}) tells status (step done AskForNone) (step refused never) (λ wrong. wrong)
 
 -- the same of a job
-pub EndsBy-done : (A : Type 0) (told : Text → Option (List ℕ)) (Writes : (path bytes : List ℕ) → Type 0)
-    (folders : List Text)
+pub EndsBy-done : (A : Type 0) (told : Text → Option (List ℕ)) (looks : Option (Text → Option Looked))
+    (Writes : (path bytes : List ℕ) → Type 0) (folders : List Text)
     (Run : (Job → Type 0) → (List Text → Type 0) → Type 0) (job : Job) (tells : List ℕ → Type 0) (status : ℕ)
     → ((does : Job → Type 0) (helps : List Text → Type 0) → does job → Run does helps)
-    → EndsWith (IsDone A told Writes folders job) (IsRefusedJob A told folders job) tells status
-    → EndsBy A told Writes folders Run tells status
-EndsBy-done A told Writes folders Run job tells status =
-    EndsBy-weaker A told Writes folders (λ does helps. does job) Run tells status
+    → EndsJob A told looks Writes folders job tells status → EndsBy A told Writes folders Run tells status
+EndsBy-done A told looks Writes folders Run job tells status step =
+    let done = IsDone A told Writes folders in
+    let refused = IsRefusedJob A told folders in
+    let never = λ (words : List Text). ⊥ in
+    EndsWith-weaker (IsNamedWell job × AreApart looks (out_path job) (map_path job) × done job) (Run done AskForNone)
+    (IsNamedWell job × refused job) (Run refused never) (IsWrongJob told looks job) (Unit {0}) tells status
+    (λ ends. step done AskForNone ends.1.1) (λ ends. step refused never ends.1) (λ wrong. tt)
 
 -- a run that does no job
 pub EndsBy-none : (A : Type 0) (told : Text → Option (List ℕ)) (Writes : (path bytes : List ℕ) → Type 0)
     (folders : List Text)
-    (Run : (Job → Type 0) → (List Text → Type 0) → Type 0) (P : Type 0) (tells : List ℕ → Type 0) (status : ℕ)
-    → (P → Run (IsDone A told Writes folders) AskForNone) → EndsWith P ⊥ tells status
+    (Run : (Job → Type 0) → (List Text → Type 0) → Type 0) (P W : Type 0) (tells : List ℕ → Type 0) (status : ℕ)
+    → (P → Run (IsDone A told Writes folders) AskForNone) → EndsWith P ⊥ W tells status
     → EndsBy A told Writes folders Run tells status
-EndsBy-none A told Writes folders Run P tells status helps =
-    EndsWith-weaker P (Run (IsDone A told Writes folders) AskForNone) ⊥ (Run (IsRefusedJob A told folders) (λ words. ⊥)) tells
-    status helps (λ none. absurd none)
+EndsBy-none A told Writes folders Run P W tells status helps =
+    EndsWith-weaker P (Run (IsDone A told Writes folders) AskForNone) ⊥ (Run (IsRefusedJob A told folders) (λ words. ⊥))
+    W (Unit {0}) tells status helps (λ none. absurd none) (λ wrong. tt)
+
+-- a run ends by why it stopped
+pub ends : (Done Refused Wrong : Type 0) (tells : List ℕ → Type 0) (done : Result (Unit {0}) Halt) (status : ℕ)
+    (text : List ℕ) → status ≡ status_of done
+    → MatchResult done (λ well. Done) (λ why. OnHalt why Refused Wrong) → tells text
+    → EndsWith Done Refused Wrong tells status
+ends Done Refused Wrong tells (Ok well) status text is did told = ((text, told), inl (is, did))
+ends Done Refused Wrong tells (Err halt.Words) status text is did told = ((text, told), inr (inr (inl (is, did))))
+ends Done Refused Wrong tells (Err (halt.Stop Input)) status text is did told = ((text, told), inr (inl (is, did)))
+ends Done Refused Wrong tells (Err (halt.Stop Device)) status text is did told = ((text, told), inr (inr (inr is)))
+ends Done Refused Wrong tells (Err (halt.Stop Memory)) status text is did told = ((text, told), inr (inr (inr is)))
 
 -- a run that stops before it does a job, for no input
 pub EndsBy-stopped : (A : Type 0) (told : Text → Option (List ℕ)) (Writes : (path bytes : List ℕ) → Type 0)
     (folders : List Text)
-    (Run : (Job → Type 0) → (List Text → Type 0) → Type 0) (tells : List ℕ → Type 0) (stop : Stop) (status : ℕ)
-    (text : List ℕ) → status ≡ stop_status stop → OnInput stop ⊥ → tells text
+    (Run : (Job → Type 0) → (List Text → Type 0) → Type 0) (tells : List ℕ → Type 0) (why : Halt) (status : ℕ)
+    (text : List ℕ) → status ≡ halt_status why → OnHalt why ⊥ (Unit {0}) → tells text
     → EndsBy A told Writes folders Run tells status
-EndsBy-stopped A told Writes folders Run tells Input status text is none tell = absurd none
-EndsBy-stopped A told Writes folders Run tells Words status text is none tell = ((text, tell), inr (inr (inl is)))
-EndsBy-stopped A told Writes folders Run tells Device status text is none tell = ((text, tell), inr (inr (inr is)))
-EndsBy-stopped A told Writes folders Run tells Memory status text is none tell = ((text, tell), inr (inr (inr is)))
-
--- a run ends by why it stopped
-pub ends : (Done Refused : Type 0) (tells : List ℕ → Type 0) (done : Result (Unit {0}) Stop) (status : ℕ)
-    (text : List ℕ) → status ≡ status_of done → MatchResult done (λ well. Done) (λ stop. OnInput stop Refused)
-    → tells text → EndsWith Done Refused tells status
-ends Done Refused tells (Ok well) status text is did told = ((text, told), inl (is, did))
-ends Done Refused tells (Err Input) status text is did told = ((text, told), inr (inl (is, did)))
-ends Done Refused tells (Err Words) status text is did told = ((text, told), inr (inr (inl is)))
-ends Done Refused tells (Err Device) status text is did told = ((text, told), inr (inr (inr is)))
-ends Done Refused tells (Err Memory) status text is did told = ((text, told), inr (inr (inr is)))
+EndsBy-stopped A told Writes folders Run tells halt.Words status text is none tell =
+    ((text, tell), inr (inr (inl (is, tt))))
+EndsBy-stopped A told Writes folders Run tells (halt.Stop Input) status text is none tell = absurd none
+EndsBy-stopped A told Writes folders Run tells (halt.Stop Device) status text is none tell =
+    ((text, tell), inr (inr (inr is)))
+EndsBy-stopped A told Writes folders Run tells (halt.Stop Memory) status text is none tell =
+    ((text, tell), inr (inr (inr is)))
 
 -- nothing is missing where no name is told
 pub none-unmet : {X : Type 0} (names : Names) (said : X → Wanted) (items slice : List X) (says : List Module)

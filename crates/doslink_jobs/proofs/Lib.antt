@@ -16,6 +16,7 @@ pub mod OrderModules
 pub mod Read
 pub mod Overflowing
 pub mod Passing
+pub mod Placing
 pub mod Refused
 mod Splitting
 mod Warning

@@ -168,8 +168,8 @@ abbrev pub Tells : {K : Type 0} → (written : K → Option (List ℕ)) → (fai
 Tells written failures old new text = (r : Result (Unit {0}) IoFault) × Writes written failures old new text r
 
 -- A run has told a text, and ends with status 0 only where something was done, with 1 only where something was refused
--- since an input is at fault, with 2 where words are wrong, and with 3 where a file, a device or memory failed.
-abbrev pub EndsWith : (Done Refused : Type 0) → (tells : List ℕ → Type 0) → (status : ℕ) → Type 0
-EndsWith Done Refused tells status =
+-- since an input is at fault, with 2 only where words are wrong, and with 3 where a file, a device or memory failed.
+abbrev pub EndsWith : (Done Refused Wrong : Type 0) → (tells : List ℕ → Type 0) → (status : ℕ) → Type 0
+EndsWith Done Refused Wrong tells status =
     ((text : List ℕ) × tells text)
-    × (((status ≡ 0) × Done) ⊎ (((status ≡ 1) × Refused) ⊎ ((status ≡ 2) ⊎ (status ≡ 3))))
+    × (((status ≡ 0) × Done) ⊎ (((status ≡ 1) × Refused) ⊎ (((status ≡ 2) × Wrong) ⊎ (status ≡ 3))))

@@ -12,4 +12,5 @@ pub mod Refusals
 pub mod Runs
 pub mod Stacks
 pub mod Written
+pub mod Wrong
 pub mod inside

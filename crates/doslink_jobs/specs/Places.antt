@@ -18,6 +18,11 @@ abbrev pub without_extension : Text → Text
 without_extension path =
     if has_extension path then option_map_or (λ parts. parts.0) (rsplit_once 46 path) path else path
 
+-- what stands behind the last dot in the last part of a path
+abbrev pub extension_of : Text → Text
+extension_of path =
+    if has_extension path then option_map_or (λ parts. parts.1) (rsplit_once 46 path) [] else []
+
 -- a path with an extension in place of its own
 abbrev pub with_extension : (path extension : Text) → Text
 with_extension path extension = without_extension path ++ extension

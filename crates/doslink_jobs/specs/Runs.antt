@@ -97,4 +97,4 @@ abbrev pub EndsBy : (A : Type 0) → (told : Text → Option (List ℕ)) → (Wr
     → (tells : List ℕ → Type 0) → (status : ℕ) → Type 0
 EndsBy A told Writes folders Run tells status =
     EndsWith (Run (IsDone A told Writes folders) AskForNone) (Run (IsRefusedJob A told folders) (λ words. ⊥))
-    tells status
+    (Unit {0}) tells status

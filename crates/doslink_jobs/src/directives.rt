@@ -5,10 +5,10 @@ ghost use Rattle.doslink_files.specs.Files.{IsTold};
 ghost use Rattle.doslink_words.specs.Tokens.{texts};
 ghost use Rattle.doslink_jobs.specs.Runs as spec;
 ghost use Rattle.doslink_jobs.specs.Runs.{IsPart, IsTextOf};
-ghost use Rattle.doslink_jobs.specs.inside.Stops.{OnInput};
+ghost use Rattle.doslink_jobs.specs.inside.Stops.{OnHalt};
 
 use crate::limit::Limit;
-use crate::stop::{Stop, stop_unread};
+use crate::stop::{Halt, stop_unread};
 use doslink_files::read_file;
 use doslink_telling::push_path_line;
 use doslink_words::{DirectiveFault, Directives, Warning, WarningKind};
@@ -30,14 +30,14 @@ fn push_response<W: World>(
     text: &mut String,
     read: &mut Vec<FileId>,
     lines: &mut Vec<u8>,
-) -> Result<(), Stop>
+) -> Result<(), Halt>
     ensures { MatchResult result (λ done. (part : List ℕ) × IsTold (W.bytes world.now path.now) part
         × (string_bytes text.new ≡ string_bytes text.old ++ part))
-        (λ stop. OnInput stop ⊥) }
+        (λ why. OnHalt why ⊥ (Unit {0})) }
 {
     let file = match read_file(alloc, world, path) {
         Ok(file) => file,
-        Err(fault) => return Err(stop_unread(lines, path, fault)),
+        Err(fault) => return Err(Halt::Stop(stop_unread(lines, path, fault))),
     };
     if let Some(id) = file.id {
         read.push(id)?;
@@ -46,7 +46,7 @@ fn push_response<W: World>(
         Ok(part) => Ok(text.push_str(part)?),
         Err(_) => {
             push_path_line(lines, path, "it is no UTF-8 text")?;
-            Err(Stop::Words)
+            Err(Halt::Words)
         }
     }
 }
@@ -58,9 +58,9 @@ pub(crate) fn response_text<W: World>(
     path: &str,
     read: &mut Vec<FileId>,
     lines: &mut Vec<u8>,
-) -> Result<String, Stop>
+) -> Result<String, Halt>
     ensures { MatchResult result (λ text. IsTold (W.bytes world.now path.now) (string_bytes text))
-        (λ stop. OnInput stop ⊥) }
+        (λ why. OnHalt why ⊥ (Unit {0})) }
 {
     let mut text = String::new(alloc);
     push_response(alloc, world, path, &mut text, read, lines)?;
@@ -75,10 +75,10 @@ fn push_part<W: World>(
     text: &mut String,
     read: &mut Vec<FileId>,
     lines: &mut Vec<u8>,
-) -> Result<(), Stop>
+) -> Result<(), Halt>
     ensures { MatchResult result (λ done. (part : List ℕ) × IsPart (W.bytes world.now) word.now part
         × (string_bytes text.new ≡ string_bytes text.old ++ (part ++ 10 ∷ [])))
-        (λ stop. OnInput stop ⊥) }
+        (λ why. OnHalt why ⊥ (Unit {0})) }
 {
     match response_path(word) {
         Some(path) => push_response(alloc, world, path, text, read, lines)?,
@@ -116,9 +116,9 @@ pub(crate) fn directives_of<'w, W: World>(
     world: &W,
     words: &'w [&'w str],
     lines: &mut Vec<u8>,
-) -> Result<Spoken<'w>, Stop>
+) -> Result<Spoken<'w>, Halt>
     ensures { MatchResult result (λ spoken. IsTextOf (W.bytes world.now) (texts words.now) (string_bytes spoken.text))
-        (λ stop. OnInput stop ⊥) }
+        (λ why. OnHalt why ⊥ (Unit {0})) }
 {
     let mut text = String::new(alloc);
     let mut starts = Vec::new(alloc);

@@ -19,7 +19,9 @@ fn without_extension(path: &str) -> &str
 }
 
 /// What stands behind the last dot in the last part of a path; nothing where it has none.
-pub(crate) fn extension_of(path: &str) -> &str {
+pub(crate) fn extension_of(path: &str) -> &str
+    ensures { result.now ≡ spec.extension_of path.now }
+{
     if !has_extension(path.as_bytes()) {
         return "";
     }

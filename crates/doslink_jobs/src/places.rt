@@ -1,11 +1,14 @@
 //! Where the program and its map are written.
-ghost use Rattle.std.specs.Prelude.{◌≡◌, IfErr, IfOk, MatchResult, string_bytes};
+ghost use Rattle.std.specs.Prelude.{◌≡◌, IfErr, IfOk, IfSome, MatchResult, false, is_some, string_bytes, true};
 ghost use Rattle.std.specs.Option.{option_map, option_or};
 ghost use Rattle.doslink_jobs.specs.Places as spec;
-ghost use Rattle.doslink_jobs.specs.inside.Stops.{OnInput};
+ghost use Rattle.doslink_files.specs.Standing.{has_file, is_one_place as is_place};
+ghost use Rattle.doslink_jobs.specs.Wrong as wrong;
+ghost use Rattle.doslink_jobs.specs.inside.Stops.{IsWords, OnHalt};
 
 use crate::paths::{extension_of, with_extension};
-use crate::stop::Stop;
+use crate::stop::{Halt, Stop};
+use crate::words::is_named;
 use doslink_files::{is_one_of, is_one_place, stands_as_input};
 use doslink_telling::push_path_line;
 use doslink_words::{Form, Input, Job, MapFile};
@@ -21,26 +24,6 @@ pub(crate) struct Places<A: Allocator + Copy> {
     /// That of the map, where one is asked for.
     pub map: Option<String<A>>,
 }
-
-/// The extensions of files of other forms, in small letters, and what is told of one where no form is said.
-const OTHER_FORMS: [(&str, &str); 4] = [
-    (
-        "com",
-        "without a form an EXE file is written: say --form com, or --form exe",
-    ),
-    (
-        "sys",
-        "without a form an EXE file is written: say --form sys, or --form exe",
-    ),
-    (
-        "bin",
-        "without a form an EXE file is written: say --form bin, or --form exe",
-    ),
-    (
-        "img",
-        "without a form an EXE file is written: say --form bin, or --form exe",
-    ),
-];
 
 /// The path of the first file.
 fn first_file<'a>(inputs: &[Input<'a>]) -> Option<&'a str>
@@ -129,12 +112,27 @@ fn map_path<A: Allocator + Copy>(
 }
 
 /// Tells why nothing is written to a path, and stops.
-fn stop_at_path<A: Allocator + Copy>(path: &str, why: &str, lines: &mut Vec<u8, A>) -> Stop
-    ensures { OnInput result ⊥ }
+fn stop_at_path<A: Allocator + Copy>(path: &str, why: &str, lines: &mut Vec<u8, A>) -> Halt
+    ensures { IsWords result }
 {
     match push_path_line(lines, path, why) {
-        Ok(()) => Stop::Words,
-        Err(AllocError) => Stop::Memory,
+        Ok(()) => Halt::Words,
+        Err(AllocError) => Halt::Stop(Stop::Memory),
+    }
+}
+
+/// What is told of a program whose name has the extension of another form, where no form is said; none of any other.
+fn other_form(extension: &[u8]) -> Option<&'static str>
+    ensures { is_some result ≡ wrong.is_other_form extension.now }
+{
+    if is_named(extension, b"com") {
+        Some("without a form an EXE file is written: say --form com, or --form exe")
+    } else if is_named(extension, b"sys") {
+        Some("without a form an EXE file is written: say --form sys, or --form exe")
+    } else if is_named(extension, b"bin") || is_named(extension, b"img") {
+        Some("without a form an EXE file is written: say --form bin, or --form exe")
+    } else {
+        None
     }
 }
 
@@ -142,18 +140,18 @@ fn stop_at_path<A: Allocator + Copy>(path: &str, why: &str, lines: &mut Vec<u8, 
 pub(crate) fn check_form<A: Allocator + Copy>(
     job: &Job<'_>,
     lines: &mut Vec<u8, A>,
-) -> Result<(), Stop>
-    ensures { IfErr result (λ stop. OnInput stop ⊥) }
+) -> Result<(), Halt>
+    ensures { MatchResult result (λ done. wrong.asks_other_form job.now ≡ false)
+        (λ why. OnHalt why ⊥ (wrong.asks_other_form job.now ≡ true)) }
 {
     if job.form.is_some() {
         return Ok(());
     }
-    let out = job.out.unwrap_or("");
-    let extension = extension_of(out);
-    for (other, why) in OTHER_FORMS {
-        if extension.eq_ignore_ascii_case(other) {
-            return Err(stop_at_path(out, why, lines));
-        }
+    let Some(out) = job.out else {
+        return Ok(());
+    };
+    if let Some(why) = other_form(extension_of(out).as_bytes()) {
+        return Err(stop_at_path(out, why, lines));
     }
     Ok(())
 }
@@ -164,8 +162,9 @@ fn check_place<W: World, A: Allocator + Copy>(
     path: &str,
     read: &BTreeSet<FileId, A>,
     lines: &mut Vec<u8, A>,
-) -> Result<(), Stop>
-    ensures { IfErr result (λ stop. OnInput stop ⊥) }
+) -> Result<(), Halt>
+    ensures { IfErr result (λ why. OnHalt why ⊥
+        (wrong.IsOver (W.bytes world.now) (W.looks world.now) (has_file read.now) path.now)) }
 {
     if is_one_of(world, path, read) {
         return Err(stop_at_path(path, "it is read and would be written", lines));
@@ -177,19 +176,45 @@ fn check_place<W: World, A: Allocator + Copy>(
     Ok(())
 }
 
-/// Stops where the map would be written over the program.
+/// Stops where a path of the map leads to one of these, or where the map would be written over the program.
 fn check_map<W: World, A: Allocator + Copy>(
     world: &W,
     map: &str,
     out: &str,
+    read: &BTreeSet<FileId, A>,
     lines: &mut Vec<u8, A>,
-) -> Result<(), Stop>
-    ensures { IfErr result (λ stop. OnInput stop ⊥) }
+) -> Result<(), Halt>
+    ensures { MatchResult result
+        (λ done. IfSome (W.looks world.now) (λ look. is_place look map.now out.now ≡ false))
+        (λ why. OnHalt why ⊥
+        (wrong.IsMapOver (W.bytes world.now) (W.looks world.now) (has_file read.now) out.now map.now)) }
 {
+    check_place(world, map, read, lines)?;
     if is_one_place(world, map, out) {
         return Err(stop_at_path(map, "it would be the program and its map", lines));
     }
     Ok(())
+}
+
+/// Stops where what would be written would stand in the place of something else, or the map in that of the program.
+fn check_places<W: World, A: Allocator + Copy>(
+    world: &W,
+    places: &Places<A>,
+    read: &BTreeSet<FileId, A>,
+    lines: &mut Vec<u8, A>,
+) -> Result<(), Halt>
+    ensures { MatchResult result
+        (λ done. wrong.AreApart (W.looks world.now) (string_bytes places.now.out)
+        (option_map string_bytes places.now.map))
+        (λ why. OnHalt why ⊥ (wrong.WritesOver (W.bytes world.now) (W.looks world.now) (has_file read.now)
+        (string_bytes places.now.out) (option_map string_bytes places.now.map))) }
+{
+    let out = places.out.as_str();
+    check_place(world, out, read, lines)?;
+    match &places.map {
+        Some(map) => check_map(world, map.as_str(), out, read, lines),
+        None => Ok(()),
+    }
 }
 
 /// The paths of what a job writes. None of them may be one of the files that were read, or a module or a library, and
@@ -200,16 +225,16 @@ pub(crate) fn places_of<W: World, A: Allocator + Copy>(
     job: &Job<'_>,
     read: &BTreeSet<FileId, A>,
     lines: &mut Vec<u8, A>,
-) -> Result<Places<A>, Stop>
+) -> Result<Places<A>, Halt>
     ensures { MatchResult result (λ places. (string_bytes places.out ≡ spec.out_path job.now)
-        × (option_map string_bytes places.map ≡ spec.map_path job.now)) (λ stop. OnInput stop ⊥) }
+        × (option_map string_bytes places.map ≡ spec.map_path job.now)
+        × wrong.AreApart (W.looks world.now) (spec.out_path job.now) (spec.map_path job.now))
+        (λ why. OnHalt why ⊥ (wrong.WritesOver (W.bytes world.now) (W.looks world.now) (has_file read.now)
+        (spec.out_path job.now) (spec.map_path job.now))) }
 {
     let out = out_path(alloc, job)?;
-    check_place(world, out.as_str(), read, lines)?;
     let map = map_path(alloc, job.map, out.as_str())?;
-    if let Some(path) = &map {
-        check_place(world, path.as_str(), read, lines)?;
-        check_map(world, path.as_str(), out.as_str(), lines)?;
-    }
-    Ok(Places { out, map })
+    let places = Places { out, map };
+    check_places(world, &places, read, lines)?;
+    Ok(places)
 }

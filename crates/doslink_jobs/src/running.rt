@@ -1,5 +1,5 @@
 //! A job of `doslink`, done with files and the two streams.
-ghost use Rattle.std.specs.Prelude.{◌≡◌, ◌-◌, ◌^◌, ◌<◌, ℕ, IfErr, List, map, MatchResult, string_bytes};
+ghost use Rattle.std.specs.Prelude.{◌≡◌, ◌⊎◌, ◌-◌, ◌^◌, ◌<◌, ℕ, List, map, MatchResult, string_bytes, true};
 ghost use Rattle.std.specs.Option.{option_map};
 ghost use Rattle.omf_communal.specs.Deciding.{variable_said};
 ghost use Rattle.omf_files.specs.Files.{sink_failures};
@@ -8,21 +8,24 @@ ghost use Rattle.doslink_stock.specs.Search.{Takes};
 ghost use Rattle.doslink_stock.specs.Searched.{Searched};
 ghost use Rattle.doslink_stock.specs.Seen.{handed_held};
 ghost use Rattle.doslink_words.specs.Tokens.{texts};
+ghost use Rattle.doslink_files.specs.Standing.{has_file};
 ghost use Rattle.doslink_files.specs.Written.{StandsAt};
-ghost use Rattle.doslink_jobs.specs.Jobs.{EndsWith, IsDone, IsLinkOf, Tells, names_of};
+ghost use Rattle.doslink_jobs.specs.Jobs.{IsDone, IsLinkOf, Tells, names_of};
 ghost use Rattle.doslink_jobs.specs.Places.{map_path, out_path};
 ghost use Rattle.doslink_jobs.specs.Refusals.{IsRefusedJob, IsRefusedOf};
 ghost use Rattle.doslink_jobs.specs.Written.{IsWritten};
+ghost use Rattle.doslink_jobs.specs.Wrong.{AreApart, EndsJob, IsNamedWell, IsWrongJob, NamesNothing, WritesOver};
+ghost use Rattle.doslink_jobs.specs.Wrong.{asks_other_form};
 ghost use Rattle.doslink_jobs.specs.inside.Inputs.{IsLinkedWith, IsRefusedWith};
 ghost use Rattle.doslink_jobs.specs.inside.Stops as stops;
-ghost use Rattle.doslink_jobs.specs.inside.Stops.{OnInput, told_text};
+ghost use Rattle.doslink_jobs.specs.inside.Stops.{OnHalt, OnInput, told_text};
 
 use crate::communals::variables_of;
 use crate::gathering::{Gathered, gather};
 use crate::inputs::{inputs_of, options_of};
 use crate::linking::write_program;
 use crate::places::{Places, check_form, places_of};
-use crate::stop::Stop;
+use crate::stop::{Halt, Stop};
 use crate::taking::{Taken, check_names, tell_taken};
 use crate::words::Besides;
 use bumpalo::Bump;
@@ -119,27 +122,32 @@ fn link_gathered<W: World + Copy, O: Write + Drop, A: Allocator + Copy>(
     gathered: &Gathered<'_, A>,
     output: &mut BufferedSink<O, A>,
     lines: &mut Vec<u8, A>,
-) -> Result<(), Stop>
+) -> Result<(), Halt>
     requires { sink_failures output.old ≡ 0 }
     ensures { (rounds : List (List (List ℕ))) → Searched (names_of job.now.ignore_case) rounds gathered.now.stock
-        → MatchResult result (λ done. IsLinkOf A job.now
+        → MatchResult result
+        (λ done. AreApart (W.looks world) (out_path job.now) (map_path job.now) × IsLinkOf A job.now
         (IsWritten A job.now.form (StandsAt (W.blank world) (W.Puts world)) (out_path job.now) (map_path job.now)
         (names_of job.now.ignore_case))
         (Takes (names_of job.now.ignore_case) rounds))
-        (λ stop. OnInput stop (IsRefusedOf A job.now (Takes (names_of job.now.ignore_case) rounds))) }
+        (λ why. OnHalt why (IsRefusedOf A job.now (Takes (names_of job.now.ignore_case) rounds))
+        (WritesOver (W.bytes world) (W.looks world) (has_file gathered.now.read) (out_path job.now)
+        (map_path job.now))) }
 {
     let places = places_of(alloc, &world, job, &gathered.read, lines)?;
     let handed = gathered.stock.handed(alloc)?;
-    link_handed(alloc, world, job, gathered, &places, &handed, output, lines)
+    link_handed(alloc, world, job, gathered, &places, &handed, output, lines)?;
+    Ok(())
 }
 
 /// Stops where a job names nothing that could be linked, or asks for a program of another form.
-fn check_job<A: Allocator + Copy>(job: &Job<'_>, lines: &mut Vec<u8, A>) -> Result<(), Stop>
-    ensures { IfErr result (λ stop. OnInput stop ⊥) }
+fn check_job<A: Allocator + Copy>(job: &Job<'_>, lines: &mut Vec<u8, A>) -> Result<(), Halt>
+    ensures { MatchResult result (λ done. IsNamedWell job.now)
+        (λ why. OnHalt why ⊥ (NamesNothing job.now ⊎ (asks_other_form job.now ≡ true))) }
 {
     if job.inputs.is_empty() {
         lines.extend_from_slice(b"doslink: no file is named to be linked\n")?;
-        return Err(Stop::Words);
+        return Err(Halt::Words);
     }
     check_form(job, lines)
 }
@@ -152,12 +160,14 @@ fn do_job<W: World + Copy, O: Write + Drop, A: Allocator + Copy>(
     besides: &Besides<'_>,
     output: &mut BufferedSink<O, A>,
     lines: &mut Vec<u8, A>,
-) -> Result<(), Stop>
+) -> Result<(), Halt>
     requires { sink_failures output.old ≡ 0 }
-    ensures { MatchResult result (λ done. IsDone A (W.bytes world) (StandsAt (W.blank world) (W.Puts world))
-        (texts besides.now.folders.now) job.now)
-        (λ stop. OnInput stop
-        (IsRefusedJob A (W.bytes world) (texts besides.now.folders.now) job.now)) }
+    ensures { MatchResult result
+        (λ done. IsNamedWell job.now × AreApart (W.looks world) (out_path job.now) (map_path job.now)
+        × IsDone A (W.bytes world) (StandsAt (W.blank world) (W.Puts world)) (texts besides.now.folders.now) job.now)
+        (λ why. OnHalt why
+        (IsNamedWell job.now × IsRefusedJob A (W.bytes world) (texts besides.now.folders.now) job.now)
+        (IsWrongJob (W.bytes world) (W.looks world) job.now)) }
 {
     check_job(job, lines)?;
     let arena = Bump::new(alloc);
@@ -166,9 +176,10 @@ fn do_job<W: World + Copy, O: Write + Drop, A: Allocator + Copy>(
 }
 
 /// Does a job, with the memory of this allocator, and hands out the exit status: 0 where the program is written, 1
-/// where an input is at fault, 2 where what would be written is one of the files that are read, or the map the program,
-/// 3 where a file, a device or memory failed. What went wrong is told on standard error. Default libraries are looked
-/// up in `besides.folders` too, behind those of the job.
+/// where an input is at fault, 2 where nothing is named to be linked, a program of another form is asked for, or what
+/// would be written is one of the files that are read, a module or a library, or the map the program, 3 where a file, a
+/// device or memory failed. What went wrong is told on standard error. Default libraries are looked up in
+/// `besides.folders` too, behind those of the job.
 pub fn run_job<W: World + Copy, O: Write + Drop, E: Sink, A: Allocator + Copy>(
     alloc: A,
     world: W,
@@ -179,10 +190,8 @@ pub fn run_job<W: World + Copy, O: Write + Drop, E: Sink, A: Allocator + Copy>(
 ) -> u8
     requires output { sink_failures output.old ≡ 0 }
     requires errors { E.failures errors.old < 2 ^ 64 - 1 }
-    ensures { EndsWith (IsDone A (W.bytes world) (StandsAt (W.blank world) (W.Puts world))
-        (texts besides.now.folders.now) job.now)
-        (IsRefusedJob A (W.bytes world) (texts besides.now.folders.now) job.now)
-        (Tells E.written E.failures errors.old errors.new) result }
+    ensures { EndsJob A (W.bytes world) (W.looks world) (StandsAt (W.blank world) (W.Puts world))
+        (texts besides.now.folders.now) job.now (Tells E.written E.failures errors.old errors.new) result }
 {
     run_lines(alloc, world, job, besides, Vec::new(alloc), output, errors)
 }
@@ -199,10 +208,8 @@ pub(crate) fn run_lines<W: World + Copy, O: Write + Drop, E: Sink, A: Allocator 
 ) -> u8
     requires output { sink_failures output.old ≡ 0 }
     requires errors { E.failures errors.old < 2 ^ 64 - 1 }
-    ensures { EndsWith (IsDone A (W.bytes world) (StandsAt (W.blank world) (W.Puts world))
-        (texts besides.now.folders.now) job.now)
-        (IsRefusedJob A (W.bytes world) (texts besides.now.folders.now) job.now)
-        (Tells E.written E.failures errors.old errors.new) result }
+    ensures { EndsJob A (W.bytes world) (W.looks world) (StandsAt (W.blank world) (W.Puts world))
+        (texts besides.now.folders.now) job.now (Tells E.written E.failures errors.old errors.new) result }
 {
     let mut lines = first;
     let done = do_job(alloc, world, job, besides, output, &mut lines);
@@ -210,28 +217,28 @@ pub(crate) fn run_lines<W: World + Copy, O: Write + Drop, E: Sink, A: Allocator 
 }
 
 /// What is told of a run: the lines, and where there was no memory that alone.
-fn text_of<'l>(done: &Result<(), Stop>, lines: &'l [u8]) -> &'l [u8]
+fn text_of<'l>(done: &Result<(), Halt>, lines: &'l [u8]) -> &'l [u8]
     ensures { result.now ≡ told_text done.now lines.now }
 {
     match done {
         Ok(()) => lines,
-        Err(stop) => stop.text(lines),
+        Err(why) => why.text(lines),
     }
 }
 
 /// The exit status of a run.
-fn status_of(done: &Result<(), Stop>) -> u8
+fn status_of(done: &Result<(), Halt>) -> u8
     ensures { result ≡ stops.status_of done.now }
 {
     match done {
         Ok(()) => 0,
-        Err(stop) => stop.status(),
+        Err(why) => why.status(),
     }
 }
 
 /// Writes the lines to standard error, or that there was no memory, where that is why the run stops. Hands out the exit
 /// status.
-pub(crate) fn finish<E: Sink>(done: Result<(), Stop>, lines: &[u8], errors: &mut E) -> u8
+pub(crate) fn finish<E: Sink>(done: Result<(), Halt>, lines: &[u8], errors: &mut E) -> u8
     requires { E.failures errors.old < 2 ^ 64 - 1 }
     ensures told { Tells E.written E.failures errors.old errors.new (told_text done lines.now) }
     ensures status { result ≡ stops.status_of done }

@@ -1,19 +1,17 @@
 //! Why a run stops.
 ghost use Rattle.std.specs.Prelude.{◌≡◌};
-ghost use Rattle.doslink_jobs.specs.inside.Stops.{OnInput, stop_status, stop_text};
+ghost use Rattle.doslink_jobs.specs.inside.Stops.{OnInput, halt_status, halt_text, stop_status, stop_text};
 
 use crate::limit::Limit;
 use doslink_files::{FilesFault, ReadFault, Unread};
 use doslink_telling::push_unread_line;
 use std::alloc::{AllocError, AllocFailed, Allocator};
 
-/// Why a run stops before its program is written.
+/// Why the files of a job can't be linked.
 #[derive(Clone, Copy)]
 pub(crate) enum Stop {
     /// An input is at fault, which was told.
     Input,
-    /// Words are wrong, which was told.
-    Words,
     /// A file or a device failed, which was told.
     Device,
     /// There was no memory.
@@ -27,7 +25,6 @@ impl Stop {
     {
         match self {
             Stop::Input => 1,
-            Stop::Words => 2,
             Stop::Device | Stop::Memory => 3,
         }
     }
@@ -42,9 +39,72 @@ impl Stop {
         ensures { result.now ≡ stop_text self lines.now }
     {
         match self {
-            Stop::Input | Stop::Words | Stop::Device => lines,
+            Stop::Input | Stop::Device => lines,
             Stop::Memory => MEMORY,
         }
+    }
+}
+
+/// Why a run stops before its program is written.
+#[derive(Clone, Copy)]
+pub(crate) enum Halt {
+    /// Words are wrong, or the names of files, which was told.
+    Words,
+    /// The files can't be linked.
+    Stop(Stop),
+}
+
+impl Halt {
+    /// The exit status.
+    pub(crate) fn status(self) -> u8
+        ensures { result ≡ halt_status self }
+    {
+        match self {
+            Halt::Words => 2,
+            Halt::Stop(stop) => stop.status(),
+        }
+    }
+
+    /// What is told of a run that has told these lines.
+    pub(crate) fn text<'l>(self, lines: &'l [u8]) -> &'l [u8]
+        ensures { result.now ≡ halt_text self lines.now }
+    {
+        match self {
+            Halt::Words => lines,
+            Halt::Stop(stop) => stop.text(lines),
+        }
+    }
+}
+
+impl From<Stop> for Halt {
+    ghost use Rattle.doslink_jobs.specs.declared.stop.Halt.TheVariants as halt;
+
+    ghost from_gives = { λ s h. h ≡ halt.Stop s };
+
+    fn from(stop: Stop) -> Halt {
+        Halt::Stop(stop)
+    }
+}
+
+impl From<AllocError> for Halt {
+    ghost use Rattle.doslink_jobs.specs.declared.stop.Halt.TheVariants as halt;
+    ghost use Rattle.doslink_jobs.specs.declared.stop.Stop.TheVariants.{Memory};
+
+    ghost from_gives = { λ _ h. h ≡ halt.Stop Memory };
+
+    fn from(_error: AllocError) -> Halt {
+        Halt::Stop(Stop::Memory)
+    }
+}
+
+impl<T: Drop> From<AllocFailed<T>> for Halt {
+    ghost use Rattle.doslink_jobs.specs.declared.stop.Halt.TheVariants as halt;
+    ghost use Rattle.doslink_jobs.specs.declared.stop.Stop.TheVariants.{Memory};
+
+    ghost from_gives = { λ _ h. h ≡ halt.Stop Memory };
+
+    fn from(_error: AllocFailed<T>) -> Halt {
+        Halt::Stop(Stop::Memory)
     }
 }
 

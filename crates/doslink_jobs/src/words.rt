@@ -7,16 +7,16 @@ ghost use Rattle.doslink_words.specs.Keywords.{is_keyword};
 ghost use Rattle.doslink_words.specs.Responses.{response_words};
 ghost use Rattle.doslink_words.specs.Tokens.{texts};
 ghost use Rattle.doslink_files.specs.Written.{StandsAt};
-ghost use Rattle.doslink_jobs.specs.Jobs.{EndsWith, IsDone, Tells};
+ghost use Rattle.doslink_jobs.specs.Jobs.{EndsWith, Tells};
 ghost use Rattle.doslink_jobs.specs.Runs as spec;
-ghost use Rattle.doslink_jobs.specs.Refusals.{IsRefusedJob};
 ghost use Rattle.doslink_jobs.specs.Runs.{EndsBy, Runs, RunsGiven, RunsList, RunsResponse, RunsText, RunsWords};
+ghost use Rattle.doslink_jobs.specs.Wrong.{EndsJob};
 
 use crate::directives::{
     Spoken, directive_line, directives_of, push_warnings, response_path, response_text,
 };
 use crate::running::{finish, run_job, run_lines};
-use crate::stop::Stop;
+use crate::stop::{Halt, Stop};
 use doslink_files::last_part;
 use doslink_words::{
     DirectiveFault, Directives, SplitFault, WordsFault, parse_directives, parse_words,
@@ -49,7 +49,7 @@ pub enum Language {
 }
 
 /// Whether a name is this one, where small and capital letters are the same.
-fn is_named(name: &[u8], other: &[u8]) -> bool
+pub(crate) fn is_named(name: &[u8], other: &[u8]) -> bool
     ensures { result ≡ is_keyword name.now other.now }
 {
     name.eq_ignore_ascii_case(other)
@@ -126,10 +126,8 @@ fn run_parsed<W: World + Copy, O: Write + Drop, E: Sink>(
 ) -> u8
     requires output { sink_failures output.old ≡ 0 }
     requires errors { E.failures errors.old < 2 ^ 64 - 1 }
-    ensures { EndsWith (IsDone Global (W.bytes world) (StandsAt (W.blank world) (W.Puts world))
-        (texts folders.now) directives.now.job)
-        (IsRefusedJob Global (W.bytes world) (texts folders.now) directives.now.job)
-        (Tells E.written E.failures errors.old errors.new) result }
+    ensures { EndsJob Global (W.bytes world) (W.looks world) (StandsAt (W.blank world) (W.Puts world))
+        (texts folders.now) directives.now.job (Tells E.written E.failures errors.old errors.new) result }
 {
     let mut lines = Vec::new(alloc);
     if !directives.job.quiet && push_warnings(alloc, directives, spoken, &mut lines).is_err() {
@@ -172,7 +170,7 @@ fn refuse_directives<E: Sink>(
     errors: &mut E,
 ) -> u8
     requires { E.failures errors.old < 2 ^ 64 - 1 }
-    ensures { EndsWith ⊥ ⊥ (Tells E.written E.failures errors.old errors.new) result }
+    ensures { EndsWith ⊥ ⊥ (Unit {0}) (Tells E.written E.failures errors.old errors.new) result }
 {
     if matches!(fault, DirectiveFault::Memory) {
         return out_of_memory(errors);
@@ -201,7 +199,7 @@ fn run_given<W: World + Copy, O: Write + Drop, E: Sink>(
     let mut lines = Vec::new(alloc);
     match directives_of(alloc, &world, words, &mut lines) {
         Ok(spoken) => run_spoken(alloc, world, &spoken, folders, output, errors),
-        Err(stop) => finish(Err(stop), &lines, errors),
+        Err(why) => finish(Err(why), &lines, errors),
     }
 }
 
@@ -280,7 +278,7 @@ fn answer_words<O: Write + Drop, E: Sink>(
 ) -> u8
     requires output { sink_failures output.old ≡ 0 }
     requires errors { E.failures errors.old < 2 ^ 64 - 1 }
-    ensures { EndsWith (fault.now ≢ WordsFault.Memory) ⊥
+    ensures { EndsWith (fault.now ≢ WordsFault.Memory) ⊥ (fault.now ≢ WordsFault.Memory)
         (Tells E.written E.failures errors.old errors.new) result }
 {
     match fault {
@@ -298,7 +296,7 @@ fn print_help<O: Write + Drop, E: Sink>(
 ) -> u8
     requires output { sink_failures output.old ≡ 0 }
     requires errors { E.failures errors.old < 2 ^ 64 - 1 }
-    ensures { EndsWith (Unit {0}) ⊥ (Tells E.written E.failures errors.old errors.new) result }
+    ensures { EndsWith (Unit {0}) ⊥ ⊥ (Tells E.written E.failures errors.old errors.new) result }
 {
     let printed = match put_all(output, text.as_bytes()) {
         Ok(()) => output.flush(),
@@ -306,7 +304,11 @@ fn print_help<O: Write + Drop, E: Sink>(
     };
     match printed {
         Ok(()) => 0,
-        Err(_) => finish(Err(Stop::Device), b"doslink: output: 40 Device\n", errors),
+        Err(_) => finish(
+            Err(Halt::Stop(Stop::Device)),
+            b"doslink: output: 40 Device\n",
+            errors,
+        ),
     }
 }
 
@@ -357,7 +359,7 @@ fn run_response<W: World + Copy, O: Write + Drop, E: Sink>(
             };
             run_list(alloc, world, text.as_str(), &besides, output, errors)
         }
-        Err(stop) => finish(Err(stop), &lines, errors),
+        Err(why) => finish(Err(why), &lines, errors),
     }
 }
 
@@ -425,7 +427,7 @@ pub fn out_of_memory<E: Sink>(errors: &mut E) -> u8
     ensures line { Tells E.written E.failures errors.old errors.new (codes "doslink: memory\n") }
     ensures status { result ≡ 3 }
 {
-    finish(Err(Stop::Memory), b"", errors)
+    finish(Err(Halt::Stop(Stop::Memory)), b"", errors)
 }
 
 /// Says why the words are refused, and hands out the exit status.

@@ -2,35 +2,56 @@
 use Rattle.std.specs.Prelude.{ℕ, List, codes, Ok, Err}
 use Rattle.std.specs.declared.result.Result.{Result}
 use Rattle.doslink_jobs.specs.declared.stop.Stop.{Stop}
-use Rattle.doslink_jobs.specs.declared.stop.Stop.TheVariants.{Input, Words, Device, Memory}
+use Rattle.doslink_jobs.specs.declared.stop.Stop.TheVariants.{Input, Device, Memory}
+use Rattle.doslink_jobs.specs.declared.stop.Halt.{Halt}
+use Rattle.doslink_jobs.specs.declared.stop.Halt.TheVariants as halt
 
--- 1 where an input is at fault, 2 where words are wrong, 3 where a device or memory failed
+-- 1 where an input is at fault, 3 where a device or memory failed
 abbrev pub stop_status : Stop → ℕ
 stop_status Input = 1
-stop_status Words = 2
 stop_status Device = 3
 stop_status Memory = 3
 
+-- 2 where words are wrong
+abbrev pub halt_status : Halt → ℕ
+halt_status halt.Words = 2
+halt_status (halt.Stop stop) = stop_status stop
+
 -- 0 where nothing stopped it
-abbrev pub status_of : Result (Unit {0}) Stop → ℕ
+abbrev pub status_of : Result (Unit {0}) Halt → ℕ
 status_of (Ok done) = 0
-status_of (Err stop) = stop_status stop
+status_of (Err why) = halt_status why
 
 -- the lines, or that there was no memory
 abbrev pub stop_text : Stop → (lines : List ℕ) → List ℕ
 stop_text Input lines = lines
-stop_text Words lines = lines
 stop_text Device lines = lines
 stop_text Memory lines = codes "doslink: memory\n"
 
 -- where an input is at fault this holds
 abbrev pub OnInput : Stop → Type 0 → Type 0
 OnInput Input P = P
-OnInput Words P = Unit {0}
 OnInput Device P = Unit {0}
 OnInput Memory P = Unit {0}
 
+-- the lines, or that there was no memory
+abbrev pub halt_text : Halt → (lines : List ℕ) → List ℕ
+halt_text halt.Words lines = lines
+halt_text (halt.Stop stop) lines = stop_text stop lines
+
+-- words are wrong, unless there was no memory to tell it
+abbrev pub IsWords : Halt → Type 0
+IsWords halt.Words = Unit {0}
+IsWords (halt.Stop Input) = ⊥
+IsWords (halt.Stop Device) = ⊥
+IsWords (halt.Stop Memory) = Unit {0}
+
+-- where an input is at fault one of these holds, and the other one where words are wrong
+abbrev pub OnHalt : Halt → (Refused Wrong : Type 0) → Type 0
+OnHalt halt.Words Refused Wrong = Wrong
+OnHalt (halt.Stop stop) Refused Wrong = OnInput stop Refused
+
 -- what is told of a run
-abbrev pub told_text : Result (Unit {0}) Stop → (lines : List ℕ) → List ℕ
+abbrev pub told_text : Result (Unit {0}) Halt → (lines : List ℕ) → List ℕ
 told_text (Ok done) lines = lines
-told_text (Err stop) lines = stop_text stop lines
+told_text (Err why) lines = halt_text why lines

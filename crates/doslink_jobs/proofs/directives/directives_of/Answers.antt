@@ -2,7 +2,7 @@ use Rattle.std.proofs.Common.{[], arith, string_bytes, subst}
 use Rattle.std.proofs.lemmas.List.{take_all}
 use Rattle.doslink_words.specs.Tokens.{texts}
 use Rattle.doslink_jobs.specs.Runs.{IsTextOf}
-use Rattle.doslink_jobs.proofs.Refused.{refused-exit}
+use Rattle.doslink_jobs.proofs.Refused.{halt-exit}
 use Rattle.doslink_jobs.proofs.Texts.{text-next}
 use Rattle.doslink_jobs.proofs.directives.directives_of.Goals as goal
 
@@ -23,5 +23,5 @@ returns g c =
 
 pub returns-in_err-push_part : goal.returns-in_err-push_part
 returns-in_err-push_part g c =
-    refused-exit _ c.from_residual-in_err-push_part.result _ c.from_residual-in_err-push_part.ensures.1
-    (λ none. absurd none) c.in_err-push_part.ensures
+    halt-exit _ c.from_residual-in_err-push_part.result _ c.from_residual-in_err-push_part.ensures.1
+    (λ none. absurd none) (λ wrong. wrong) c.in_err-push_part.ensures

@@ -1,7 +1,9 @@
 use Rattle.doslink_words.specs.Tokens.{texts}
 use Rattle.doslink_files.specs.Written.{StandsAt}
 use Rattle.doslink_jobs.specs.Jobs.{IsDone}
+use Rattle.doslink_jobs.specs.Places.{map_path, out_path}
 use Rattle.doslink_jobs.specs.Refusals.{IsRefusedJob}
+use Rattle.doslink_jobs.specs.Wrong.{AreApart, IsNamedWell, IsWrongJob}
 use Rattle.doslink_jobs.proofs.Doing.{ends}
 use Rattle.doslink_jobs.proofs.running.run_lines.Goals as goal
 
@@ -10,6 +12,8 @@ returns g c =
     let told = g.W.World.bytes c.args.world in
     let Writes = StandsAt (g.W.World.blank c.args.world) (g.W.World.Puts c.args.world) in
     let folders = texts c.args.besides.now.folders.now in
-    ends (IsDone g.row.A.Denot told Writes folders c.args.job.now)
-    (IsRefusedJob g.row.A.Denot told folders c.args.job.now) _
+    let looks = g.W.World.looks c.args.world in
+    let job = c.args.job.now in
+    ends (IsNamedWell job × AreApart looks (out_path job) (map_path job) × IsDone g.row.A.Denot told Writes folders job)
+    (IsNamedWell job × IsRefusedJob g.row.A.Denot told folders job) (IsWrongJob told looks job) _
     c.do_job-done.result c.finish.result _ c.finish.ensures.status c.do_job-done.ensures c.finish.ensures.told

@@ -13,7 +13,7 @@ returns-in-Some g c =
     let told = g.W.World.bytes c.args.world in
     let Writes = StandsAt (g.W.World.blank c.args.world) (g.W.World.Puts c.args.world) in
     EndsBy-none Global told Writes (texts c.args.folders.now)
-    (λ does helps. Runs told does helps Directives (texts c.args.words.now)) (Unit {0}) _ c.print_help.result
+    (λ does helps. Runs told does helps Directives (texts c.args.words.now)) (Unit {0}) ⊥ _ c.print_help.result
     (λ done. let asks = sym c.text_asked.ensures ∙ ap is_some c.in-Some.is in inl (asks, inr asks)) c.print_help.ensures
 
 pub returns-in-None : goal.returns-in-None

@@ -20,5 +20,5 @@ returns g c =
     let told = g.W.World.bytes c.args.world in
     let Writes = StandsAt (g.W.World.blank c.args.world) (g.W.World.Puts c.args.world) in
     EndsBy-stopped Global told Writes (texts c.args.folders.now)
-    (λ does helps. RunsGiven told does helps (texts c.args.words.now)) _ c.in-Err.stop
+    (λ does helps. RunsGiven told does helps (texts c.args.words.now)) _ c.in-Err.why
     c.finish.result _ c.finish.ensures.status c.in-Err.ensures c.finish.ensures.told

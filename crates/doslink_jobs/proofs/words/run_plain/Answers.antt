@@ -12,7 +12,7 @@ returns-in-Ok g c =
     let told = g.W.World.bytes c.args.world in
     let Writes = StandsAt (g.W.World.blank c.args.world) (g.W.World.Puts c.args.world) in
     let job = c.in-Ok.job in
-    EndsBy-done Global told Writes (texts c.args.besides.now.folders.now)
+    EndsBy-done Global told (g.W.World.looks c.args.world) Writes (texts c.args.besides.now.folders.now)
     (λ does helps. RunsWords told does helps (texts c.args.words.now)) job _ c.run_job.result
     (λ does helps done. inl (job, c.in-Ok.ensures.job, done)) c.run_job.ensures
 
@@ -21,5 +21,6 @@ returns-in-Err g c =
     let told = g.W.World.bytes c.args.world in
     let Writes = StandsAt (g.W.World.blank c.args.world) (g.W.World.Puts c.args.world) in
     EndsBy-none Global told Writes (texts c.args.besides.now.folders.now)
-    (λ does helps. RunsWords told does helps (texts c.args.words.now)) (c.in-Err.fault ≢ Memory) _
+    (λ does helps. RunsWords told does helps (texts c.args.words.now)) (c.in-Err.fault ≢ Memory)
+    (c.in-Err.fault ≢ Memory) _
     c.answer_words.result (λ other. inr (inl (λ none. other (c.in-Err.ensures.refused none)))) c.answer_words.ensures

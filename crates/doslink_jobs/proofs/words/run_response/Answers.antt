@@ -26,5 +26,5 @@ returns g c =
     let told = g.W.World.bytes c.args.world in
     let Writes = StandsAt (g.W.World.blank c.args.world) (g.W.World.Puts c.args.world) in
     EndsBy-stopped Global told Writes (texts c.args.folders.now)
-    (λ does helps. RunsResponse told does helps c.args.path.now) _ c.in-Err.stop
+    (λ does helps. RunsResponse told does helps c.args.path.now) _ c.in-Err.why
     c.finish.result _ c.finish.ensures.status c.in-Err.ensures c.finish.ensures.told

@@ -12,7 +12,7 @@ returns-in-Ok g c =
     let told = g.W.World.bytes c.args.world in
     let Writes = StandsAt (g.W.World.blank c.args.world) (g.W.World.Puts c.args.world) in
     let directives = c.in-Ok.directives in
-    EndsBy-done Global told Writes (texts c.args.folders.now)
+    EndsBy-done Global told (g.W.World.looks c.args.world) Writes (texts c.args.folders.now)
     (λ does helps. RunsText told does helps (string_bytes c.args.spoken.now.text)) directives.job _
     c.run_parsed.result
     (λ does helps done. (
@@ -27,5 +27,5 @@ returns-in-Err g c =
     let told = g.W.World.bytes c.args.world in
     let Writes = StandsAt (g.W.World.blank c.args.world) (g.W.World.Puts c.args.world) in
     EndsBy-none Global told Writes (texts c.args.folders.now)
-    (λ does helps. RunsText told does helps (string_bytes c.args.spoken.now.text)) ⊥ _
+    (λ does helps. RunsText told does helps (string_bytes c.args.spoken.now.text)) ⊥ (Unit {0}) _
     c.refuse_directives.result (λ none. absurd none) c.refuse_directives.ensures

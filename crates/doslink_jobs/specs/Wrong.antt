@@ -1,0 +1,77 @@
+-- Why the words of a job are wrong, or its names: one of these holds where a run of it ends with status 2. `told` are
+-- the bytes of files by their paths, and `looks` is what stands at each path, and none where nothing does, where the
+-- world tells them.
+use Rattle.std.specs.Prelude.{◌≡◌, ◌≢◌, ◌⊎◌, ◌&&◌, ◌||◌, ℕ, Bool, true, false, List, [], codes, IfSome, Some, is_none}
+use Rattle.std.specs.Option.{option_map_or}
+use Rattle.std.specs.declared.option.Option.{Option}
+use Rattle.clap.specs.Words.{Text}
+use Rattle.omf_files.specs.declared.world.FileId.{FileId}
+use Rattle.omf_files.specs.declared.world.Looked.{Looked}
+use Rattle.doslink_files.specs.Standing.{BeginsAsInput, is_one_of, is_one_place, stands_regular}
+use Rattle.doslink_words.specs.declared.job.Job.{Job}
+use Rattle.doslink_words.specs.Keywords.{is_keyword}
+use Rattle.doslink_jobs.specs.Jobs.{EndsWith, IsDone}
+use Rattle.doslink_jobs.specs.Places.{extension_of, map_path, out_path}
+use Rattle.doslink_jobs.specs.Refusals.{IsRefusedJob}
+
+-- ---- what a job names
+
+-- no file is named to be linked
+abbrev pub NamesNothing : Job → Type 0
+NamesNothing job = job.inputs.items ≡ []
+
+-- the extension of a program of another form
+abbrev pub is_other_form : Text → Bool
+is_other_form extension =
+    is_keyword extension (codes "com") || is_keyword extension (codes "sys") || is_keyword extension (codes "bin")
+    || is_keyword extension (codes "img")
+
+-- the name of the program is that of another form, and no form is said
+abbrev pub asks_other_form : Job → Bool
+asks_other_form job =
+    is_none job.form && option_map_or (λ out. is_other_form (extension_of out.now)) job.out false
+
+-- a file is named, and no program of another form
+abbrev pub IsNamedWell : Job → Type 0
+IsNamedWell job = (job.inputs.items ≢ []) × (asks_other_form job ≡ false)
+
+-- ---- where it would be written
+
+module _ (told : Text → Option (List ℕ)) (looks : Option (Text → Option Looked)) where
+  -- what is written to the path would stand in the place of one of the files that were read, or of a regular file that
+  -- begins as a module or a library
+  abbrev pub IsOver : (is_read : FileId → Bool) → (path : Text) → Type 0
+  IsOver is_read path =
+      IfSome looks (λ look. is_one_of look path is_read ≡ true)
+      ⊎ (IfSome looks (λ look. stands_regular look path ≡ true) × IfSome (told path) BeginsAsInput)
+
+  -- so would a map, or it would be one file with the program
+  abbrev pub IsMapOver : (is_read : FileId → Bool) → (out map : Text) → Type 0
+  IsMapOver is_read out map = IsOver is_read map ⊎ IfSome looks (λ look. is_one_place look map out ≡ true)
+
+  -- one of them holds of a program and its map at these paths
+  abbrev pub WritesOver : (is_read : FileId → Bool) → (out : Text) → (map : Option Text) → Type 0
+  WritesOver is_read out map =
+      IsOver is_read out ⊎ ((path : Text) × (map ≡ Some path) × IsMapOver is_read out path)
+
+  -- Nothing is named to be linked, a program of another form is asked for, or what would be written would stand in the
+  -- place of something else. Which files are those that were read isn't said: some regular file is one of them.
+  abbrev pub IsWrongJob : Job → Type 0
+  IsWrongJob job =
+      NamesNothing job ⊎ ((asks_other_form job ≡ true) ⊎ ((is_read : FileId → Bool)
+      × WritesOver is_read (out_path job) (map_path job)))
+
+-- a program and its map at these paths would be two files
+abbrev pub AreApart : (looks : Option (Text → Option Looked)) → (out : Text) → (map : Option Text) → Type 0
+AreApart looks out map = IfSome map (λ path. IfSome looks (λ look. is_one_place look path out ≡ false))
+
+-- ---- how a run ends
+
+-- A run of a job ends with status 0 only where it was done, with 1 only where it was refused, and of both only where it
+-- names a file and no other form; with 2 only where its words or names are wrong.
+abbrev pub EndsJob : (A : Type 0) → (told : Text → Option (List ℕ)) → (looks : Option (Text → Option Looked))
+    → (Writes : (path bytes : List ℕ) → Type 0) → (folders : List Text) → Job → (tells : List ℕ → Type 0)
+    → (status : ℕ) → Type 0
+EndsJob A told looks Writes folders job =
+    EndsWith (IsNamedWell job × AreApart looks (out_path job) (map_path job) × IsDone A told Writes folders job)
+    (IsNamedWell job × IsRefusedJob A told folders job) (IsWrongJob told looks job)
