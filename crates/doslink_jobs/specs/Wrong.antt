@@ -1,6 +1,6 @@
--- Why the words of a job are wrong, or its names: one of these holds where a run of it ends with status 2. `told` are
--- the bytes of files by their paths, and `looks` is what stands at each path, and none where nothing does, where the
--- world tells them.
+-- Why the words of a job are wrong, or its names: one of these holds where a run of it ends with status 2. Where the
+-- world tells them, `told` are the bytes of files by their paths, and `looks` is what stands at each path, none where
+-- nothing does.
 use Rattle.std.specs.Prelude.{◌≡◌, ◌≢◌, ◌⊎◌, ◌&&◌, ◌||◌, ℕ, Bool, true, false, List, [], codes, IfSome, Some, is_none}
 use Rattle.std.specs.Option.{option_map_or}
 use Rattle.std.specs.declared.option.Option.{Option}
@@ -20,18 +20,18 @@ use Rattle.doslink_jobs.specs.Refusals.{IsRefusedJob}
 abbrev pub NamesNothing : Job → Type 0
 NamesNothing job = job.inputs.items ≡ []
 
--- the extension of a program of another form
+-- the extension of a file of another form than .EXE
 abbrev pub is_other_form : Text → Bool
 is_other_form extension =
     is_keyword extension (codes "com") || is_keyword extension (codes "sys") || is_keyword extension (codes "bin")
     || is_keyword extension (codes "img")
 
--- the name of the program is that of another form, and no form is said
+-- the program is given a name with the extension of another form, and no form is said
 abbrev pub asks_other_form : Job → Bool
 asks_other_form job =
     is_none job.form && option_map_or (λ out. is_other_form (extension_of out.now)) job.out false
 
--- a file is named, and no program of another form
+-- something is named to be linked, and no such program
 abbrev pub IsNamedWell : Job → Type 0
 IsNamedWell job = (job.inputs.items ≢ []) × (asks_other_form job ≡ false)
 
@@ -54,8 +54,9 @@ module _ (told : Text → Option (List ℕ)) (looks : Option (Text → Option Lo
   WritesOver is_read out map =
       IsOver is_read out ⊎ ((path : Text) × (map ≡ Some path) × IsMapOver is_read out path)
 
-  -- Nothing is named to be linked, a program of another form is asked for, or what would be written would stand in the
-  -- place of something else. Which files are those that were read isn't said: some regular file is one of them.
+  -- Nothing is named to be linked, the program is given the extension of a form that isn't said, or what would be
+  -- written would stand in the place of something else. Which files are those that were read isn't said: where one of
+  -- them would be written over, some regular file stands there.
   abbrev pub IsWrongJob : Job → Type 0
   IsWrongJob job =
       NamesNothing job ⊎ ((asks_other_form job ≡ true) ⊎ ((is_read : FileId → Bool)
@@ -67,8 +68,8 @@ AreApart looks out map = IfSome map (λ path. IfSome looks (λ look. is_one_plac
 
 -- ---- how a run ends
 
--- A run of a job ends with status 0 only where it was done, with 1 only where it was refused, and of both only where it
--- names a file and no other form; with 2 only where its words or names are wrong.
+-- A run of a job ends with status 0 only where it was done, with its program and its map in two files, with 1 only where
+-- it was refused, and with both only where its names are well; with 2 only where its words or names are wrong.
 abbrev pub EndsJob : (A : Type 0) → (told : Text → Option (List ℕ)) → (looks : Option (Text → Option Looked))
     → (Writes : (path bytes : List ℕ) → Type 0) → (folders : List Text) → Job → (tells : List ℕ → Type 0)
     → (status : ℕ) → Type 0

@@ -121,7 +121,8 @@ fn stop_at_path<A: Allocator + Copy>(path: &str, why: &str, lines: &mut Vec<u8, 
     }
 }
 
-/// What is told of a program whose name has the extension of another form, where no form is said; none of any other.
+/// What is told of a program whose name has this extension, where no form is said; none where it isn't that of another
+/// form than .EXE.
 fn other_form(extension: &[u8]) -> Option<&'static str>
     ensures { is_some result ≡ wrong.is_other_form extension.now }
 {
@@ -136,7 +137,7 @@ fn other_form(extension: &[u8]) -> Option<&'static str>
     }
 }
 
-/// Stops where the name of the program is that of another form, and none is said.
+/// Stops where the program is given a name with the extension of another form than .EXE, and no form is said.
 pub(crate) fn check_form<A: Allocator + Copy>(
     job: &Job<'_>,
     lines: &mut Vec<u8, A>,

@@ -140,7 +140,7 @@ fn link_gathered<W: World + Copy, O: Write + Drop, A: Allocator + Copy>(
     Ok(())
 }
 
-/// Stops where a job names nothing that could be linked, or asks for a program of another form.
+/// Stops where a job names nothing that could be linked, or the program by the extension of a form that it doesn't say.
 fn check_job<A: Allocator + Copy>(job: &Job<'_>, lines: &mut Vec<u8, A>) -> Result<(), Halt>
     ensures { MatchResult result (λ done. IsNamedWell job.now)
         (λ why. OnHalt why ⊥ (NamesNothing job.now ⊎ (asks_other_form job.now ≡ true))) }
@@ -176,10 +176,10 @@ fn do_job<W: World + Copy, O: Write + Drop, A: Allocator + Copy>(
 }
 
 /// Does a job, with the memory of this allocator, and hands out the exit status: 0 where the program is written, 1
-/// where an input is at fault, 2 where nothing is named to be linked, a program of another form is asked for, or what
-/// would be written is one of the files that are read, a module or a library, or the map the program, 3 where a file, a
-/// device or memory failed. What went wrong is told on standard error. Default libraries are looked up in
-/// `besides.folders` too, behind those of the job.
+/// where an input is at fault, 2 where nothing is named to be linked, OUT has the extension of another form than .EXE
+/// and none is said, or what would be written is one of the files that are read, a module or a library, or the map the
+/// program, 3 where a file, a device or memory failed. What went wrong is told on standard error. Default libraries are
+/// looked up in `besides.folders` too, behind those of the job.
 pub fn run_job<W: World + Copy, O: Write + Drop, E: Sink, A: Allocator + Copy>(
     alloc: A,
     world: W,
