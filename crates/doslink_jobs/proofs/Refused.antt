@@ -61,17 +61,17 @@ OnHalt-weaker halt.Words refused wrong p = wrong p
 OnHalt-weaker (halt.Stop stop) refused wrong p = OnInput-weaker stop refused p
 
 -- what holds where words are wrong
-pub OnHalt-words : {P W : Type 0} (why : Halt) → IsWords why → W → OnHalt why P W
-OnHalt-words halt.Words is wrong = wrong
-OnHalt-words (halt.Stop Input) is wrong = absurd is
-OnHalt-words (halt.Stop Device) is wrong = absurd is
-OnHalt-words (halt.Stop Memory) is wrong = tt
+pub OnHalt-words : {W : Type 0} (P : Type 0) (why : Halt) → IsWords why → W → OnHalt why P W
+OnHalt-words P halt.Words is wrong = wrong
+OnHalt-words P (halt.Stop Input) is wrong = absurd is
+OnHalt-words P (halt.Stop Device) is wrong = absurd is
+OnHalt-words P (halt.Stop Memory) is wrong = tt
 
 -- what a `?` hands on of a stop
-pub halted-exit : {T : Type 0} {P Q W : Type 0} (D : T → Type 0) (r : Result T Halt) (stop : Stop)
+pub halted-exit : {T : Type 0} {P Q : Type 0} (W : Type 0) (D : T → Type 0) (r : Result T Halt) (stop : Stop)
     → IsErrAnd r (λ e. e ≡ halt.Stop stop) → (P → Q) → OnInput stop P → MatchResult r D (λ h. OnHalt h Q W)
-halted-exit D (Ok v) stop handed weaker p = absurd handed
-halted-exit {Q = Q} {W = W} D (Err e) stop handed weaker p =
+halted-exit W D (Ok v) stop handed weaker p = absurd handed
+halted-exit {Q = Q} W D (Err e) stop handed weaker p =
     subst (λ h. OnHalt h Q W) (sym handed) (OnInput-weaker stop weaker p)
 
 -- and of why a run halts

@@ -11,7 +11,7 @@ returns-in_err-check_place g c =
 
 pub returns-then-is_one_place : goal.returns-then-is_one_place
 returns-then-is_one_place g c =
-    OnHalt-words c.stop_at_path.result c.stop_at_path.ensures
+    OnHalt-words ⊥ c.stop_at_path.result c.stop_at_path.ensures
     (inr (same-told (g.W.World.looks c.args.world.now) (λ look. is_one_place look c.args.map.now c.args.out.now) _ true
     c.is_one_place.ensures c.if-is_one_place.true))
 

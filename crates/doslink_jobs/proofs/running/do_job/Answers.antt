@@ -10,7 +10,7 @@ returns-in_err-check_job g c =
 
 pub returns-in_err-gathered : goal.returns-in_err-gathered
 returns-in_err-gathered g c =
-    halted-exit _ c.from_residual-in_err-gathered.result _ c.from_residual-in_err-gathered.ensures.1
+    halted-exit _ _ c.from_residual-in_err-gathered.result _ c.from_residual-in_err-gathered.ensures.1
     (λ faulty. (c.in_ok-check_job.ensures, faulty.0, faulty.1, inl faulty.2)) c.in_err-gathered.ensures
 
 pub returns : goal.returns

@@ -22,7 +22,7 @@ returns-in_err-link_handed g c =
     λ rounds searched.
     let handed = c.deref.result.now in
     let names = names_of c.args.job.now.ignore_case in
-    halted-exit _ c.from_residual-in_err-link_handed.result _ c.from_residual-in_err-link_handed.ensures.1
+    halted-exit _ _ c.from_residual-in_err-link_handed.result _ c.from_residual-in_err-link_handed.ensures.1
     (link-refused g.row.A.Denot c.args.job.now (map handed_held handed) (Takes names rounds)
     (subst (λ hs. Takes names rounds (map handed_held hs)) (sym c.deref.ensures.value) (
       map handed_taken c.in_ok-handed.handed.items,
