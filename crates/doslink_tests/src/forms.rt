@@ -58,7 +58,7 @@ pub(crate) const DOSSEG: [u8; 57] = [
 pub(crate) const FORM_MODULES: [(&str, &[u8]); 7] = [
     ("COMED.OBJ", &COMED),
     ("RELOC.OBJ", &RELOCATED),
-    ("STACKED.OBJ", &STACKED),
+    ("COMSTACK.OBJ", &STACKED),
     ("BEGUN.OBJ", &BEGUN),
     ("BELOW.OBJ", &BELOW),
     ("OVER.OBJ", &TOO_LONG),
@@ -73,9 +73,9 @@ doslink --form com RELOC.OBJ|1||doslink: link: 68 Relocated~
 doslink --form sys RELOC.OBJ|1||doslink: link: 68 Relocated~
 doslink --form bin RELOC.OBJ|0||
 doslink --form exe RELOC.OBJ|0||doslink: warning: no module has a stack~
-doslink --form com STACKED.OBJ|1||doslink: link: 69 StackSegment~
+doslink --form com COMSTACK.OBJ|1||doslink: link: 69 StackSegment~
 doslink --form com --stack 16 COMED.OBJ -l RUN|1||doslink: link: 69 StackSegment~
-doslink --form sys STACKED.OBJ|0||
+doslink --form sys COMSTACK.OBJ|0||
 doslink --form com BEGUN.OBJ|1||doslink: link: 70 OtherStart~
 doslink --form com F.OBJ|1||doslink: link: 70 OtherStart~
 doslink --form com BELOW.OBJ|1||doslink: link: 71 DataBelow~
