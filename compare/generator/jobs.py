@@ -89,8 +89,8 @@ LENGTHS_EVERY, LENGTHS = 50, [
 STACKS_EVERY, STACKS = 20, [
     [], [1], [33], [3, 5], [16, 0, 17], [0x8000, 0x7FFF, 1], [7, 9, 11], [0x10000]]
 # one job in so many is a .COM program, or isn't for these reasons
-FORMS_EVERY, FORMS = 20, [
-    [], ["word"], ["stack"], ["start"], ["below"], ["whole"], ["whole", "bss"], ["bss"],
+FORMS_EVERY, FORMS = 12, [
+    [], ["word"], ["stack"], ["start"], ["below"], ["whole"], ["whole", "bss"], ["bss"], ["frame"], ["empty"],
     ["word", "stack", "start", "below"], ["stack", "start"], ["start", "below"]]
 # of a stack that is asked for
 STACK_LENGTHS = [1, 2, 0x10, 0x80, 0x100, 0x101, 0x400, 0x1000, 0x8000, 0xFFFF, 0x10000]
@@ -141,7 +141,8 @@ LEFT_OUT = [
     "option quiet,verbose", "option map, showdead", "OPTION NoFarCalls"]
 WRONG_LINES = [
     "format dos sys", "system os2", "output", "output hex", "output raw offset", "output raw offset=x",
-    "output raw offset=1048577", "output raw 0", "system", "foo", "file", "order clname", "option", "name a b", "library a b", "= x",
+    "output raw offset=1048577", "output raw 0", "system",
+    "foo", "file", "order clname", "option", "name a b", "library a b", "= x",
     "order segment _DATA", "format windows", 'file "a', "option quiet=1", "file a,", "'name' a",
     "option quiet dosseg", "format dos exe com", "format", "format com", "option foo=1",
     "order clname CODE clname", "order clname CODE name A", "sort 'a", "option quiet,", '"a" b',
@@ -437,22 +438,25 @@ class JobMaker:
 
     def make_form(self, amiss):
         """A .COM program, or one that isn't for what is amiss, in some form."""
+        form = Form("com") if self.happens(0.5) else self.a_form()
+        if form.kind == "bin" and self.happens(0.6):
+            amiss = [*amiss, "word"]
         most = 0xFF00
         length = most if "whole" in amiss else self.random.choice([1, 2, 3, 0x20, 1200])
         start = self.random.choice([None, 0x101, 0]) if "start" in amiss else 0x100
         below = self.random.choice([1, 0x100]) if "below" in amiss else 0
-        modules = [module_of_form(below, length, start, "word" in amiss, "stack" in amiss,
-                                  1 if "bss" in amiss else 0)]
+        modules = [module_of_form(below, length, start, amiss)]
         if self.happens(0.3) and length != most:
             modules.append(module_of_lengths([b"T"], 2, [self.random.randrange(1, 20)], False))
         for number, content in enumerate(modules):
             self.files[f"{number}.obj"] = content
             self.give(f"{number}.obj")
         self.folders, self.job.map = [], self.random.choice([None, MAP])
-        self.job.order = self.random.choice([None, None, ordering.DOSSEG])
-        self.job.form = self.a_form()
+        self.job.order = self.random.choice([None, ordering.DOSSEG])
+        self.job.form = form
         self.job.out = self.random.choice([None, OUT, "out.com", "out.sys", "out.img", "o.BIN"])
-        return self.asked()
+        # where a raw image begins is said by directives alone
+        return self.by_directives() if form.kind == "bin" and self.happens(0.3) else self.asked()
 
     def a_form(self):
         """Some form, mostly one without a header."""
@@ -887,7 +891,13 @@ class JobMaker:
             lines = ["output raw"] if form.start == 0 else []
             lines += [f"output raw offset={self.number(form.start)}"]
             lines += [f"output raw offset = '{self.number(form.start)}'"]
-        return [self.random.choice(lines)] if form is not None or self.happens(0.7) else []
+        line = self.random.choice(lines)
+        if self.happens(0.3):
+            # the last one counts
+            line = self.random.choice(["format dos com", "system dos", "output raw"]) + "\n" + line
+        elif form is None and self.happens(0.3):
+            return []
+        return [line]
 
     def merged(self, first, second):
         """Two lists as one, in which each has its order."""
@@ -1052,7 +1062,7 @@ MADE = [
     (START_EVERY, 41, in_turn(JobMaker.make_start, [
         (*start, total) for start in STARTS for total in SUMS])),
     (STACKS_EVERY, 5, in_turn(JobMaker.make_stacks, STACKS)),
-    (FORMS_EVERY, 17, in_turn(JobMaker.make_form, FORMS)),
+    (FORMS_EVERY, 7, in_turn(JobMaker.make_form, FORMS)),
     (LENGTHS_EVERY, 9, in_turn(JobMaker.make_lengths, LENGTHS)),
     (AMISS_EVERY, 11, in_turn(JobMaker.make_amiss)),
 ]

@@ -728,27 +728,31 @@ def module_of_start(kind, displacement):
         spelling.framed(kind, b"\xC1\x50\1" + displacement.to_bytes(width, "little"))])
 
 
-def module_of_form(below, length, start, has_word, has_stack, bss):
-    """A module that is a .COM program but for what is asked: data so far below 100H, so many bytes from
-    there on, a start, a segment address, a stack, and so many bytes that no data covers."""
+def module_of_form(below, length, start, amiss):
+    """A module that is a .COM program but for what is amiss: data so far below 100H, so many bytes from
+    there on, a start; and a segment address ("word"), a stack, a byte that no data covers ("bss"), another
+    first frame. A record of data without a byte ("empty") is none of that."""
     spelling = records.Spelling()
+    index = 2 if "frame" in amiss else 1
     begin = 0x100 - below
     data = bytes(number % 251 for number in range(below + length))
     end = 0x100 + length
     word = end.to_bytes(2, "little") if end < 0x10000 else b"\0\0"
     found = [
         spelling.record(records.Header(b"FORM")),
-        spelling.record(records.NameList([b"", b"CODE", b"STACK", b"BSS"])),
-        spelling.framed(0x98, (b"\x28" if end < 0x10000 else b"\x2A") + word + b"\2\2\1")]
-    found += [spelling.framed(0x98, b"\x74\x10\0\3\3\1")] if has_stack else []
-    found += [spelling.framed(0x98, b"\x28" + bss.to_bytes(2, "little") + b"\4\4\1")] if bss else []
+        spelling.record(records.NameList([b"", b"CODE", b"STACK", b"BSS", b"_TEXT", b"FRONT"]))]
+    found += [spelling.framed(0x98, b"\x60\x10\0\6\6\1")] if index == 2 else []
+    found.append(spelling.framed(0x98, bytes([0x68 if end < 0x10000 else 0x6A]) + word + b"\5\2\1"))
+    found += [spelling.framed(0x98, b"\x74\x10\0\3\3\1")] if "stack" in amiss else []
+    found += [spelling.framed(0x98, b"\x28\1\0\4\4\1")] if "bss" in amiss else []
+    found += [spelling.framed(0xA0, bytes([index, 0, 0]))] if "empty" in amiss else []
     for place in range(0, len(data), 1000):
         content = data[place:place + 1000]
         found.append(spelling.framed(
-            0xA0, b"\1" + (begin + place).to_bytes(2, "little") + content))
-        if has_word and place == 0 and len(content) > 1:
-            found.append(spelling.framed(0x9C, b"\xC8\0\4\1\1"))
-    end_of = b"\0" if start is None else b"\xC1\x50\1" + start.to_bytes(2, "little")
+            0xA0, bytes([index]) + (begin + place).to_bytes(2, "little") + content))
+        if "word" in amiss and place == 0 and len(content) > 1:
+            found.append(spelling.framed(0x9C, bytes([0xC8, 0, 4, index, index])))
+    end_of = b"\0" if start is None else bytes([0xC1, 0x50, index]) + start.to_bytes(2, "little")
     return b"".join([*found, spelling.framed(0x8A, end_of)])
 
 
