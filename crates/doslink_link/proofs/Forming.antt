@@ -1,5 +1,5 @@
 -- What bringing a program into a form answers.
-use Rattle.std.proofs.Common.{◌≡◌, ℕ, List, [], ◌++◌, Ok, Err, Some, None, ap, refl, sym, subst, ◌∙◌}
+use Rattle.std.proofs.Common.{◌≡◌, ℕ, List, [], Ok, Err, Some, None, ap, refl, sym, subst}
 use Rattle.std.specs.declared.option.Option.{Option}
 use Rattle.std.specs.declared.result.Result.{Result}
 use Rattle.std.specs.Io.KnownBytes.{Appends}
@@ -7,7 +7,7 @@ use Rattle.omf_module.specs.Module.{Module}
 use Rattle.omf_place.specs.declared.names.Names.{Names}
 use Rattle.omf_image.specs.Program.{Program, IsProgram}
 use Rattle.omf_commands.specs.declared.linking.Report.{Report}
-use Rattle.flat_file.specs.Forms.{bin_bytes, com_bytes, sys_bytes}
+use Rattle.flat_file.specs.Forms.{bin_bytes, com_bytes, com_fault, sys_bytes}
 use Rattle.flat_file.specs.Laws.{BinIsLocated, ComLoadsAsWritten, IsLocatedCom, IsLocatedFrom, SysIsLocated}
 use Rattle.flat_file.specs.Com.{LoadedCom, loading}
 use Rattle.flat_file.specs.Writing.{WritesForm}
@@ -37,8 +37,14 @@ module _ {K V : Type 0} (X : Type 0) (written : K → Option (List ℕ)) (failur
   made_ok None made done none all (fine, wrote) =
       (refl, wrote_all (written old) (written new) file (items made) none all wrote.0)
 
+-- nothing was made, since a fault stands, or for want of memory
+abbrev pub IsUnmade : Option FormFault → FlatFault → Type 0
+IsUnmade fault (flat.Form first) = fault ≡ Some first
+IsUnmade fault flat.Device = Unit {0}
+
+module _ {K : Type 0} (X : Type 0) (written : K → Option (List ℕ)) (failures : K → ℕ) (old new : K) (file : List ℕ) where
   pub made_err : (fault : Option FormFault) (e : FlatFault)
-      → WritesForm {K = K} {X = X} written failures old new fault file (Err e) → Makes items fault file (Err e)
+      → WritesForm {K = K} {X = X} written failures old new fault file (Err e) → IsUnmade fault e
   made_err (Some f) (flat.Form g) (is, wrote, failed) = cc
   made_err (Some f) flat.Device writes = tt
   made_err None (flat.Form g) (fine, wrote) = cc
@@ -85,6 +91,12 @@ module _ {A : Type 0} (names : Names) (modules : List Module) (report : Report A
         (law report.layout modules report.program linked.reported.linked.program is
         (of_modules (Some Com) None none) psp fits))
     as_com law (Err e) wrong = is_refused items (Some Com) (com_bytes report.program) e wrong
+
+    pub formed_com : (form : Form) → form ≡ Com → ComLoadsAsWritten → (r : Result V FlatFault)
+        → Makes items (com_fault report.layout report.modules.items report.program) (com_bytes report.program) r
+        → Forms items (Some form) names modules report r
+    formed_com form same law r made =
+        subst (λ f. Forms items (Some f) names modules report r) (sym same) (as_com law r made)
 
     pub as_raw : (paragraph from : ℕ) → BinIsLocated → (r : Result V FlatFault)
         → Makes items None (bin_bytes paragraph from report.program) r

@@ -1,5 +1,5 @@
 //! The files of linked programs in other forms than EXE, made in memory.
-ghost use Rattle.std.specs.Prelude.{◌≡◌, IfOk, List, None};
+ghost use Rattle.std.specs.Prelude.{◌≡◌, IfOk, List, None, Some};
 ghost use Rattle.omf_module.specs.Module.{Module};
 ghost use Rattle.omf_place.specs.declared.names.Names.{Names};
 ghost use Rattle.omf_place.specs.Bounded.{IsBounded};
@@ -59,7 +59,31 @@ fn driver_file<A: Allocator + Copy>(alloc: A, program: &Program<A>) -> Result<Ve
     }
 }
 
-/// The file of what was linked in a form; `exe` is its EXE file.
+/// The file of what was linked in a form that is said; `exe` is its EXE file.
+fn file_in<A: Allocator + Copy>(
+    alloc: A,
+    report: &Report<A>,
+    form: Form,
+    exe: Vec<u8, A>,
+) -> Result<Vec<u8, A>, FlatFault>
+    requires { IsBounded report.now.modules.items report.now.layout }
+    ensures { (names : Names) (modules : List Module) → IsLinkedAs names modules report.now exe.items
+        → Forms (λ file. file.items) (Some form) names modules report.now result }
+{
+    // what the file of each form is, of a program within the limits that its size is bounded by
+    com_loads_as_written();
+    bin_is_located();
+    sys_is_located();
+    let _size = report.program.size();
+    match form {
+        Form::Exe => Ok(exe),
+        Form::Com => com_file(alloc, report),
+        Form::Raw { paragraph, from } => raw_file(alloc, &report.program, paragraph, from),
+        Form::Driver => driver_file(alloc, &report.program),
+    }
+}
+
+/// The file of what was linked in a form, and where none is said its EXE file, `exe`.
 fn file_of<A: Allocator + Copy>(
     alloc: A,
     report: &Report<A>,
@@ -70,16 +94,9 @@ fn file_of<A: Allocator + Copy>(
     ensures { (names : Names) (modules : List Module) → IsLinkedAs names modules report.now exe.items
         → Forms (λ file. file.items) form names modules report.now result }
 {
-    // what the file of each form is, of a program within the limits that its size is bounded by
-    com_loads_as_written();
-    bin_is_located();
-    sys_is_located();
-    let _size = report.program.size();
     match form {
-        None | Some(Form::Exe) => Ok(exe),
-        Some(Form::Com) => com_file(alloc, report),
-        Some(Form::Raw { paragraph, from }) => raw_file(alloc, &report.program, paragraph, from),
-        Some(Form::Driver) => driver_file(alloc, &report.program),
+        None => Ok(exe),
+        Some(form) => file_in(alloc, report, form, exe),
     }
 }
 

@@ -14,4 +14,4 @@ pub returns-in-Err : goal.returns-in-Err
 returns-in-Err g c =
     let p = c.args.program.now in
     made_err (Unit {0}) (λ s. Some s.bytes.items) (λ s. s.failures) c.new-page.result c.write_sys.new.sink
-    (sys_bytes p) (λ file. file.items) (sys_fault p) c.in-Err.fault c.in-Err.ensures
+    (sys_bytes p) (sys_fault p) c.in-Err.fault c.in-Err.ensures
