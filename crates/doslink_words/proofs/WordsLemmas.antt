@@ -13,7 +13,7 @@ use Rattle.clap.proofs.OnLiterals.{clap_on_literals}
 use Rattle.command_line.proofs.Parses.{memory_fails, no_fault, rows_given}
 use Rattle.doslink_words.specs.declared.job.Job.{Job}
 use Rattle.doslink_words.specs.Said.{SaidItem, Class, Dosseg, Listed}
-use Rattle.doslink_words.specs.Words.{AreTaken, IsJobFor, IsJobOf, asked, doslink_command, has_wrong_value, is_dosseg, is_no_form, is_no_stack}
+use Rattle.doslink_words.specs.Words.{AreTaken, IsJobFor, IsJobOf, asked, doslink_command, has_wrong_value, is_dosseg, is_no_form, is_no_map_form, is_no_stack}
 use Rattle.doslink_words.specs.Words.{order_asked}
 
 -- ---- the command
@@ -71,26 +71,36 @@ pub IfErr-same : {T E P : Type 0} (r : Result T E) → P → IfErr r (λ _. P)
 IfErr-same (Ok value) holds = tt
 IfErr-same (Err fault) holds = holds
 
+-- whether a form or that of the map is wrong
+abbrev rest_of : List Row → Bool
+rest_of rows =
+    is_no_form (first_of (codes "FORM") rows) (first_of (codes "PARAGRAPH") rows)
+    || is_no_map_form (first_of (codes "NAME") rows)
+
 module _ (rows : List Row) (n : Option Text) (same : n ≡ first_of (codes "N") rows) where
   -- a stack is
   pub stack_wrong : is_no_stack n ≡ true → has_wrong_value rows ≡ true
-  stack_wrong wrong =
-      ap (λ (b : Bool). b || is_no_form (first_of (codes "FORM") rows) (first_of (codes "PARAGRAPH") rows))
-      (sym (ap is_no_stack same) ∙ wrong)
+  stack_wrong wrong = ap (λ (b : Bool). b || rest_of rows) (sym (ap is_no_stack same) ∙ wrong)
 
   module _ (f p : Option Text) (form : f ≡ first_of (codes "FORM") rows) (at : p ≡ first_of (codes "PARAGRAPH") rows)
       (stack : is_no_stack n ≡ false) where
-    by_form : has_wrong_value rows ≡ is_no_form f p
-    by_form =
-        ap (λ (b : Bool). b || is_no_form (first_of (codes "FORM") rows) (first_of (codes "PARAGRAPH") rows))
-        (sym (ap is_no_stack same) ∙ stack)
-        ∙ (sym (ap (λ (x : Option Text). is_no_form x (first_of (codes "PARAGRAPH") rows)) form)
-        ∙ sym (ap (is_no_form f) at))
+    same_form : is_no_form (first_of (codes "FORM") rows) (first_of (codes "PARAGRAPH") rows) ≡ is_no_form f p
+    same_form =
+        sym (ap (λ (x : Option Text). is_no_form x (first_of (codes "PARAGRAPH") rows)) form) ∙ sym (ap (is_no_form f) at)
 
-    -- none is
-    pub none_wrong : is_no_form f p ≡ false → has_wrong_value rows ≡ false
-    none_wrong fine = by_form ∙ fine
+    by_form : has_wrong_value rows ≡ (is_no_form f p || is_no_map_form (first_of (codes "NAME") rows))
+    by_form =
+        ap (λ (b : Bool). b || rest_of rows) (sym (ap is_no_stack same) ∙ stack)
+        ∙ ap (λ (b : Bool). b || is_no_map_form (first_of (codes "NAME") rows)) same_form
 
     -- a form is
     pub form_wrong : is_no_form f p ≡ true → has_wrong_value rows ≡ true
-    form_wrong wrong = by_form ∙ wrong
+    form_wrong wrong =
+        by_form ∙ ap (λ (b : Bool). b || is_no_map_form (first_of (codes "NAME") rows)) wrong
+
+    -- neither is: that of the map is or isn't
+    pub wrong_by_map_form : (m : Option Text) → m ≡ first_of (codes "NAME") rows → is_no_form f p ≡ false
+        → has_wrong_value rows ≡ is_no_map_form m
+    wrong_by_map_form m name fine =
+        by_form
+        ∙ (ap (λ (b : Bool). b || is_no_map_form (first_of (codes "NAME") rows)) fine ∙ sym (ap is_no_map_form name))

@@ -39,12 +39,17 @@ letters_met (letter ∷ more) =
 abbrev pub a_file : Met
 a_file = record { named = Some kind.File; next = expected.Any }
 
--- `--name`: `--` alone has files behind it, and `--order` and `--stack` their value
+-- a long name whose option takes a value
+abbrev pub long_takes_value : (name : Text) → Bool
+long_takes_value name =
+    bytes_eq name (codes "order") || (bytes_eq name (codes "stack") || (bytes_eq name (codes "form")
+    || (bytes_eq name (codes "at") || bytes_eq name (codes "map-form"))))
+
+-- `--name`: `--` alone has files behind it, and an option that takes a value has that
 abbrev pub long_met : (name : Text) → Met
 long_met name =
     if_empty name (record { named = None; next = expected.File })
-    (if bytes_eq name (codes "order") || bytes_eq name (codes "stack")
-    then record { named = None; next = expected.Value } else nothing_named)
+    (if long_takes_value name then record { named = None; next = expected.Value } else nothing_named)
 
 -- what stands behind a `-`: a long name behind another one, or letters; `-` alone is a file
 abbrev pub option_met : Text → Met

@@ -9,6 +9,8 @@ use Rattle.doslink_words.specs.declared.job.Input.{Input}
 use Rattle.doslink_words.specs.declared.job.Input.TheVariants as input
 use Rattle.doslink_words.specs.declared.job.MapFile.{MapFile}
 use Rattle.doslink_words.specs.declared.job.MapFile.TheVariants as map_file
+use Rattle.doslink_words.specs.declared.job.MapForm.{MapForm}
+use Rattle.doslink_words.specs.declared.job.MapForm.TheVariants as map_form
 use Rattle.doslink_words.specs.declared.job.Order.{Order}
 use Rattle.doslink_words.specs.declared.job.Order.TheVariants as order
 use Rattle.doslink_words.specs.declared.job.OrderItem.{OrderItem}
@@ -42,6 +44,7 @@ pub record Said : Type 0 where
   pub inputs : List SaidInput
   pub out : Option Text
   pub map : Option SaidMap
+  pub map_form : MapForm
   pub folders : List Text
   pub ignore_case : Bool
   pub order : SaidOrder
@@ -49,6 +52,7 @@ pub record Said : Type 0 where
   pub stack : Option Stack
   pub form : Option Form
   pub default_libraries : Bool
+  pub left_out : List Text
   pub keep_debug : Bool
   pub packs_far_data : Bool
   pub verbose : Bool
@@ -61,6 +65,7 @@ nothing = record {
   inputs = [];
   out = None;
   map = None;
+  map_form = map_form.Omf;
   folders = [];
   ignore_case = false;
   order = Meeting;
@@ -68,6 +73,7 @@ nothing = record {
   stack = None;
   form = None;
   default_libraries = true;
+  left_out = [];
   keep_debug = false;
   packs_far_data = true;
   verbose = false;
@@ -104,6 +110,7 @@ said_of directives = record {
   inputs = inputs_of directives.job.inputs.items;
   out = option_map (λ path. path.now) directives.job.out;
   map = option_map map_of directives.job.map;
+  map_form = directives.job.map_form;
   folders = texts directives.job.folders.items;
   ignore_case = directives.job.ignore_case;
   order = order_of directives.job.order;
@@ -111,6 +118,7 @@ said_of directives = record {
   stack = directives.job.stack;
   form = directives.job.form;
   default_libraries = directives.job.default_libraries;
+  left_out = texts directives.job.left_out.items;
   keep_debug = directives.job.keep_debug;
   packs_far_data = directives.job.packs_far_data;
   verbose = directives.job.verbose;

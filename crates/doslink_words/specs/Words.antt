@@ -12,6 +12,8 @@ pub use Rattle.command_line.specs.Values.{IsFlag}
 use Rattle.doslink_words.specs.declared.job.Form.{Form}
 use Rattle.doslink_words.specs.declared.job.Form.TheVariants as form
 use Rattle.doslink_words.specs.declared.job.Job.{Job}
+use Rattle.doslink_words.specs.declared.job.MapForm.{MapForm}
+use Rattle.doslink_words.specs.declared.job.MapForm.TheVariants as map_form
 use Rattle.doslink_words.specs.declared.job.Stack.{Stack}
 use Rattle.doslink_words.specs.declared.named.Expected.TheVariants.{Any}
 use Rattle.doslink_words.specs.Keywords.{is_keyword}
@@ -52,6 +54,10 @@ form_rule = record (new_rule (codes "FORM")) { long = Some (codes "form") }
 abbrev pub at_rule : Rule
 at_rule = record (new_rule (codes "PARAGRAPH")) { long = Some (codes "at") }
 
+-- the form of the map: `--map-form NAME`
+abbrev pub map_form_rule : Rule
+map_form_rule = record (new_rule (codes "NAME")) { long = Some (codes "map-form") }
+
 -- `--no-default-libs`, a flag
 abbrev pub no_defaults_rule : Rule
 no_defaults_rule = flag_rule (codes "no-default-libs")
@@ -79,8 +85,8 @@ files_command =
 -- the command `doslink`
 unfoldable pub doslink_command : App
 doslink_command =
-    with_rule (with_rule (with_rule (with_rule (with_rule (with_rule (with_rule (with_rule files_command case_rule)
-    order_rule) stack_rule) form_rule) at_rule) no_defaults_rule) debug_rule) verbose_rule
+    with_rule (with_rule (with_rule (with_rule (with_rule (with_rule (with_rule (with_rule (with_rule files_command
+    case_rule) order_rule) stack_rule) form_rule) at_rule) map_form_rule) no_defaults_rule) debug_rule) verbose_rule
 
 -- whether the only word is `help`
 abbrev pub is_help : List Text → Bool
@@ -150,11 +156,29 @@ is_no_form None at = is_no_place None at
 is_no_form (Some word) at =
     not (is_some (form_asked (Some word) at)) || is_no_place (form_asked (Some word) at) at
 
+-- the form of a map by its name
+abbrev pub map_form_named : Text → Option MapForm
+map_form_named word =
+    if is_keyword word (codes "omf") then Some map_form.Omf
+    else (if is_keyword word (codes "link") then Some map_form.Link
+    else (if is_keyword word (codes "tlink") then Some map_form.Tlink
+    else None))
+
+-- the form of the map as a word: that of `omf` where none is given
+abbrev pub map_form_asked : Option Text → MapForm
+map_form_asked word = unwrap_or (option_and_then map_form_named word) map_form.Omf
+
+-- whether a word is no form of a map
+abbrev pub is_no_map_form : Option Text → Bool
+is_no_map_form None = false
+is_no_map_form (Some word) = not (is_some (map_form_named word))
+
 -- whether some value is none that its option takes
 abbrev pub has_wrong_value : List Row → Bool
 has_wrong_value rows =
     is_no_stack (first_of (codes "N") rows)
-    || is_no_form (first_of (codes "FORM") rows) (first_of (codes "PARAGRAPH") rows)
+    || (is_no_form (first_of (codes "FORM") rows) (first_of (codes "PARAGRAPH") rows)
+    || is_no_map_form (first_of (codes "NAME") rows))
 
 -- `job` is what these values, which words give, ask for
 pub record IsJobOf (words : List Text) (rows : List Row) (job : Job) : Type 0 where
@@ -162,6 +186,7 @@ pub record IsJobOf (words : List Text) (rows : List Row) (job : Job) : Type 0 wh
       ≡ in_order (kinds_named Any words) (values_of (codes "FILES") rows) (values_of (codes "LIB") rows)
   pub out : option_map (λ path. path.now) job.out ≡ first_of (codes "OUT") rows
   pub map : option_map map_of job.map ≡ option_map At (first_of (codes "MAP") rows)
+  pub map_form : job.map_form ≡ map_form_asked (first_of (codes "NAME") rows)
   pub folders : texts job.folders.items ≡ values_of (codes "FOLDER") rows
   pub ignore_case : IsFlag (codes "ignore-case") rows job.ignore_case
   pub order : order_of job.order ≡ order_asked (first_of (codes "ORDER") rows)
@@ -169,6 +194,7 @@ pub record IsJobOf (words : List Text) (rows : List Row) (job : Job) : Type 0 wh
   pub stack : job.stack ≡ stack_asked (first_of (codes "N") rows)
   pub form : job.form ≡ form_asked (first_of (codes "FORM") rows) (first_of (codes "PARAGRAPH") rows)
   pub default_libraries : IsFlag (codes "no-default-libs") rows (not job.default_libraries)
+  pub left_out : job.left_out.items ≡ []
   pub keep_debug : IsFlag (codes "keep-debug") rows job.keep_debug
   pub packs_far_data : job.packs_far_data ≡ false
   pub verbose : IsFlag (codes "verbose") rows job.verbose

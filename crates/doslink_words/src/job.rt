@@ -13,6 +13,8 @@ pub struct Job<'a> {
     pub out: Option<&'a str>,
     /// The map that is written, where one is asked for.
     pub map: Option<MapFile<'a>>,
+    /// The form of the map.
+    pub map_form: MapForm,
     /// The folders in which libraries are looked up, in their order.
     pub folders: Vec<&'a str>,
     /// Whether names of publics and externals agree without regard to case.
@@ -27,6 +29,8 @@ pub struct Job<'a> {
     pub form: Option<Form>,
     /// Whether the libraries that modules name are searched too.
     pub default_libraries: bool,
+    /// Libraries that aren't searched where only a module names them.
+    pub left_out: Vec<&'a str>,
     /// Whether segments of debugging stay in the program.
     pub keep_debug: bool,
     /// Whether segments of class FAR_DATA share a frame where they fit in one, as under WLINK.
@@ -75,6 +79,17 @@ pub enum MapFile<'a> {
     Beside,
     /// At this path.
     At(&'a str),
+}
+
+/// The form of a map.
+#[derive(Clone, Copy, Debug, PartialEq, Eq)]
+pub enum MapForm {
+    /// That of `omf`.
+    Omf,
+    /// That of Microsoft's LINK: start, stop, length, name and class of segments, and publics twice.
+    Link,
+    /// That of Borland's TLINK.
+    Tlink,
 }
 
 /// The order in which segments stand.
@@ -138,6 +153,7 @@ impl<'a> Directives<'a> {
             inputs: Vec::new(alloc),
             out: None,
             map: None,
+            map_form: MapForm::Omf,
             folders: Vec::new(alloc),
             ignore_case: false,
             order: Order::Meeting,
@@ -145,6 +161,7 @@ impl<'a> Directives<'a> {
             stack: None,
             form: None,
             default_libraries: true,
+            left_out: Vec::new(alloc),
             keep_debug: false,
             packs_far_data: true,
             verbose: false,

@@ -16,7 +16,7 @@ mod words;
 pub use directives::parse_directives;
 pub use faults::{DirectiveFault, DirectiveFaultKind, SplitFault};
 pub use job::{
-    Directives, Form, Input, Job, MapFile, Order, OrderItem, Stack, Warning, WarningKind,
+    Directives, Form, Input, Job, MapFile, MapForm, Order, OrderItem, Stack, Warning, WarningKind,
 };
 pub use responses::{response_word, text_asked};
 pub use tokens::split_words;

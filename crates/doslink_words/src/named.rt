@@ -99,13 +99,24 @@ fn a_file() -> Met
     }
 }
 
+// Whether the option of a long name takes a value.
+fn long_takes_value(name: &[u8]) -> bool
+    ensures { result ≡ spec.long_takes_value name.now }
+{
+    name == b"order".as_slice()
+        || name == b"stack".as_slice()
+        || name == b"form".as_slice()
+        || name == b"at".as_slice()
+        || name == b"map-form".as_slice()
+}
+
 // What a word comes to whose name stands behind `--`.
 fn long_met(name: &str) -> Met
     ensures { result ≡ spec.long_met name.now }
 {
     let next = match name.as_bytes() {
         [] => Expected::File,
-        b"order" | b"stack" => Expected::Value,
+        name if long_takes_value(name) => Expected::Value,
         _ => Expected::Any,
     };
     Met { named: None, next }

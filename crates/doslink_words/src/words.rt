@@ -14,7 +14,7 @@ ghost use Rattle.doslink_words.specs.Words as spec;
 ghost use Rattle.doslink_words.specs.Words.{AreTaken, IsJobFor, IsJobOf};
 ghost use Rattle.doslink_words.specs.declared.words.WordsFault.TheVariants.{Memory};
 
-use crate::job::{Form, Input, Job, MapFile, Order, OrderItem, Stack};
+use crate::job::{Form, Input, Job, MapFile, MapForm, Order, OrderItem, Stack};
 use crate::keywords::is;
 use crate::named::{in_order, kinds_named};
 use crate::sizes::{paragraph, stack_bytes};
@@ -115,6 +115,16 @@ fn at_option<'a>(alloc: Global) -> Arg<'a>
     )
 }
 
+// The form of the map.
+fn map_form_option<'a>(alloc: Global) -> Arg<'a>
+    ensures rule { rule_of result ≡ spec.map_form_rule }
+    ensures local { result.global ≡ false }
+{
+    Arg::new(alloc, "NAME").long("map-form").help(
+        "omf, link (Microsoft's) or tlink (Borland's): the form of the map; else omf",
+    )
+}
+
 // Whether what is done is told.
 fn verbose_flag<'a>(alloc: Global) -> Arg<'a>
     ensures rule { rule_of result ≡ spec.verbose_rule }
@@ -166,6 +176,7 @@ fn doslink_command<'a>(alloc: Global) -> Result<Command<'a>, AllocError>
     let command = with_arg(command, stack_option(alloc));
     let command = with_arg(command, form_option(alloc));
     let command = with_arg(command, at_option(alloc));
+    let command = with_arg(command, map_form_option(alloc));
     let command = with_arg(command, flag(alloc, "no-default-libs", no_defaults));
     let command = with_arg(command, flag(alloc, "keep-debug", debug));
     with_arg(command, verbose_flag(alloc))
@@ -317,6 +328,31 @@ fn map_asked<'a>(value: Option<&'a str>) -> Option<MapFile<'a>>
     }
 }
 
+// The form of a map by its name.
+fn map_form_named(word: &str) -> Option<MapForm>
+    ensures { result ≡ spec.map_form_named word.now }
+{
+    if is(word, "omf") {
+        Some(MapForm::Omf)
+    } else if is(word, "link") {
+        Some(MapForm::Link)
+    } else if is(word, "tlink") {
+        Some(MapForm::Tlink)
+    } else {
+        None
+    }
+}
+
+// The form of the map that a value asks for.
+fn map_form_asked(value: Option<&str>) -> MapForm
+    ensures { result ≡ spec.map_form_asked (option_map (λ s. s.now) value.entry) }
+{
+    match value {
+        Some(word) => map_form_named(word).unwrap_or(MapForm::Omf),
+        None => MapForm::Omf,
+    }
+}
+
 // What is linked, in the order of the words.
 fn inputs_asked<'a>(
     alloc: Global,
@@ -342,6 +378,7 @@ fn job_of<'a>(alloc: Global, words: &[&str], values: &ArgMatches<'a>) -> Result<
         inputs: inputs_asked(alloc, words, values)?,
         out: values.get_str("OUT"),
         map: map_asked(values.get_str("MAP")),
+        map_form: map_form_asked(values.get_str("NAME")),
         folders: values_of(alloc, values, "FOLDER")?,
         ignore_case: values.get_flag("ignore-case"),
         order: order_asked(alloc, values.get_str("ORDER"))?,
@@ -349,6 +386,7 @@ fn job_of<'a>(alloc: Global, words: &[&str], values: &ArgMatches<'a>) -> Result<
         stack: stack_asked(values.get_str("N")),
         form,
         default_libraries: !values.get_flag("no-default-libs"),
+        left_out: Vec::new(alloc),
         keep_debug: values.get_flag("keep-debug"),
         packs_far_data: false,
         verbose: values.get_flag("verbose"),
@@ -432,13 +470,28 @@ fn check_form(alloc: Global, value: Option<&str>, at: Option<&str>) -> Result<()
     check_place(alloc, form, at)
 }
 
+// Refuses a name that is no form of a map.
+fn check_map_form(alloc: Global, value: Option<&str>) -> Result<(), WordsFault>
+    ensures ok { IfOk result (λ _. spec.is_no_map_form (option_map (λ s. s.now) value.entry) ≡ false) }
+    ensures err { IfErr result (λ _. spec.is_no_map_form (option_map (λ s. s.now) value.entry) ≡ true) }
+{
+    match value {
+        Some(word) if map_form_named(word).is_none() => {
+            let why = "a map's form is omf, link or tlink";
+            Err(refused(alloc, word, "--map-form <NAME>", why))
+        }
+        _ => Ok(()),
+    }
+}
+
 // Refuses a value that its option doesn't take.
 fn check_values(alloc: Global, values: &ArgMatches<'_>) -> Result<(), WordsFault>
     ensures ok { IfOk result (λ _. spec.has_wrong_value (rows_of (found_of values.now)) ≡ false) }
     ensures err { IfErr result (λ _. spec.has_wrong_value (rows_of (found_of values.now)) ≡ true) }
 {
     check_stack(alloc, values.get_str("N"))?;
-    check_form(alloc, values.get_str("FORM"), values.get_str("PARAGRAPH"))
+    check_form(alloc, values.get_str("FORM"), values.get_str("PARAGRAPH"))?;
+    check_map_form(alloc, values.get_str("NAME"))
 }
 
 // The job that values ask for, which words give, where its options take them.
@@ -457,7 +510,7 @@ fn checked_job<'a>(
 }
 
 /// The job that the words after the program's name ask for. Words that are taken, by a command that has no fault in
-/// them, with a stack of a length that there is and a form that there is, are refused for nothing but want of memory.
+/// them, with a stack of a length that there is and forms that there are, are refused for nothing but want of memory.
 pub fn parse_words<'a>(alloc: Global, words: &'a [&'a str]) -> Result<Job<'a>, WordsFault>
     ensures job { IfOk result (IsJobFor (texts words.entry.now)) }
     ensures refused { AreTaken (texts words.entry.now) → IfErr result (λ fault. fault ≡ Memory) }

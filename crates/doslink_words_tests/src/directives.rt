@@ -31,7 +31,7 @@ format dos
 order clname CODE clname FAR_DATA clname BEGDATA segment _NULL segment _AFTERNULL clname DATA clname BSS clname STACK clname HEAP
 name hello.exe
 =>
-Ok(Directives { job: Job { inputs: [File("rtl/large/prt0l.o"), Library("hello.a"), Library("rtl/large/system.a")], out: Some("hello.exe"), map: None, folders: [], ignore_case: false, order: Listed([Class("CODE"), Class("FAR_DATA"), Class("BEGDATA"), Segment("_NULL"), Segment("_AFTERNULL"), Class("DATA"), Class("BSS"), Class("STACK"), Class("HEAP")]), null_bytes: false, stack: None, form: None, default_libraries: true, keep_debug: false, packs_far_data: true, verbose: false, quiet: true }, warnings: [] })
+Ok(Directives { job: Job { inputs: [File("rtl/large/prt0l.o"), Library("hello.a"), Library("rtl/large/system.a")], out: Some("hello.exe"), map: None, map_form: Omf, folders: [], ignore_case: false, order: Listed([Class("CODE"), Class("FAR_DATA"), Class("BEGDATA"), Segment("_NULL"), Segment("_AFTERNULL"), Class("DATA"), Class("BSS"), Class("STACK"), Class("HEAP")]), null_bytes: false, stack: None, form: None, default_libraries: true, left_out: [], keep_debug: false, packs_far_data: true, verbose: false, quiet: true }, warnings: [] })
 
 
 # a comment with "a quote
@@ -58,7 +58,7 @@ map: Some(Beside)
 
 op quiet, map = "a b.map", dosseg, NODEFAULTLIBS
 =>
-map: Some(At("a b.map")), folders: [], ignore_case: false, order: Dosseg, null_bytes: false, stack: None, form: None, default_libraries: false, keep_debug: false, packs_far_data: true, verbose: false, quiet: true
+map: Some(At("a b.map")), folders: [], ignore_case: false, order: Dosseg, null_bytes: false, stack: None, form: None, default_libraries: false, left_out: [], keep_debug: false, packs_far_data: true, verbose: false, quiet: true
 
 
 option ignorecase
@@ -76,7 +76,7 @@ name b.exe
 option dosseg
 order clname A
 =>
-out: Some("b.exe"), map: None, folders: [], ignore_case: false, order: Listed([Class("A")])
+out: Some("b.exe"), map: None, map_form: Omf, folders: [], ignore_case: false, order: Listed([Class("A")])
 
 
 option stack=4096

@@ -21,16 +21,16 @@ fn hold<R: Abort>(rt: &R, alloc: Global, table: &str) {
 #[test]
 fn reads_words(rt: HostRuntime) {
     let table = r#"doslink A.OBJ =>
-Ok(Job { inputs: [File("A.OBJ")], out: None, map: None, folders: [], ignore_case: false, order: Meeting, null_bytes: true, stack: None, form: None, default_libraries: true, keep_debug: false, packs_far_data: false, verbose: false, quiet: false })
+Ok(Job { inputs: [File("A.OBJ")], out: None, map: None, map_form: Omf, folders: [], ignore_case: false, order: Meeting, null_bytes: true, stack: None, form: None, default_libraries: true, left_out: [], keep_debug: false, packs_far_data: false, verbose: false, quiet: false })
 
 doslink -o P -m M A B =>
-inputs: [File("A"), File("B")], out: Some("P"), map: Some(At("M"))
+inputs: [File("A"), File("B")], out: Some("P"), map: Some(At("M")), map_form: Omf, folders: []
 
 doslink -L X A -L Y -lC -l D.LIB B =>
-inputs: [File("A"), Library("C"), Library("D.LIB"), File("B")], out: None, map: None, folders: ["X", "Y"],
+inputs: [File("A"), Library("C"), Library("D.LIB"), File("B")], out: None, map: None, map_form: Omf, folders: ["X", "Y"],
 
 doslink --ignore-case -v A --no-default-libs =>
-ignore_case: true, order: Meeting, null_bytes: true, stack: None, form: None, default_libraries: false, keep_debug: false, packs_far_data: false, verbose: true, quiet: false
+ignore_case: true, order: Meeting, null_bytes: true, stack: None, form: None, default_libraries: false, left_out: [], keep_debug: false, packs_far_data: false, verbose: true, quiet: false
 
 doslink --keep-debug A =>
 keep_debug: true, packs_far_data: false
@@ -42,7 +42,7 @@ doslink A -vl=B -o-lC -vlD =>
 error: the argument '-v' cannot be used multiple times
 
 doslink A -vl=B -o C - -lD -m E -L F G =>
-inputs: [File("A"), Library("B"), File("-"), Library("D"), File("G")], out: Some("C"), map: Some(At("E")), folders: ["F"]
+inputs: [File("A"), Library("B"), File("-"), Library("D"), File("G")], out: Some("C"), map: Some(At("E")), map_form: Omf, folders: ["F"]
 
 doslink --order X --stack 2 A --keep-debug -l B -- -l -o --stack B =>
 inputs: [File("A"), Library("B"), File("-l"), File("-o"), File("--stack"), File("B")]
@@ -118,6 +118,27 @@ invalid value 'hex' for '--form <FORM>'
 
 doslink --form hex --stack 0 A =>
 invalid value '0' for '--stack <N>'
+
+doslink --form com -l B A --map-form tlink -l C D --form bin -l E F --at 1 -l G H =>
+error: the argument '--form <FORM>' cannot be used multiple times
+
+doslink --form bin -l B A --map-form tlink -l C D --at 1 -l E F =>
+inputs: [Library("B"), File("A"), Library("C"), File("D"), Library("E"), File("F")]
+
+doslink --map-form omf A =>
+map: None, map_form: Omf
+
+doslink --map-form LINK -m M A =>
+map: Some(At("M")), map_form: Link
+
+doslink A --map-form=TLink =>
+map: None, map_form: Tlink
+
+doslink --map-form wlink A =>
+Err(Wrong("error: invalid value 'wlink' for '--map-form <NAME>': a map's form is omf, link or tlink\n\nFor more information, try '--help'.\n"))
+
+doslink --map-form x --form hex A =>
+invalid value 'hex' for '--form <FORM>'
 
 doslink --version =>
 Err(Help("doslink 1.0\n"))

@@ -9,6 +9,7 @@ returns-clause-app c =
     let three = c.with_arg-command-3.ensures.app _ _ two c.stack_option.ensures.rule in
     let four = c.with_arg-command-4.ensures.app _ _ three c.form_option.ensures.rule in
     let five = c.with_arg-command-5.ensures.app _ _ four c.at_option.ensures.rule in
-    let six = c.with_arg-command-6.ensures.app _ _ five c.flag.ensures.rule in
-    let seven = c.with_arg-command-7.ensures.app _ _ six c.flag-2.ensures.rule in
-    c.with_arg.ensures.app _ _ seven c.verbose_flag.ensures.rule
+    let six = c.with_arg-command-6.ensures.app _ _ five c.map_form_option.ensures.rule in
+    let seven = c.with_arg-command-7.ensures.app _ _ six c.flag.ensures.rule in
+    let eight = c.with_arg-command-8.ensures.app _ _ seven c.flag-2.ensures.rule in
+    c.with_arg.ensures.app _ _ eight c.verbose_flag.ensures.rule
