@@ -157,7 +157,7 @@ abbrev pub IsDone : (A : Type 0) → (told : Text → Option (List ℕ)) → (Wr
     → (folders : List Text) → Job → Type 0
 IsDone A told Writes folders job =
     (rounds : List (List (List ℕ))) × AreFilesOf told folders job rounds
-    × IsLinkOf A job (IsWritten A job.form Writes (out_path job) (map_path job) (names_of job.ignore_case))
+    × IsLinkOf A job (IsWritten A job Writes (out_path job) (map_path job) (names_of job.ignore_case))
     (Takes (names_of job.ignore_case) rounds)
 
 -- ---- a run

@@ -185,7 +185,7 @@ pub(crate) fn write_program<W: World + Copy, A: Allocator + Copy>(
     ensures { (t : Taking) → AreInputsMeant t all.entry
         → MatchResult result (λ done. (meant : List Says) × AreMeant t (input_list all.entry.inputs) meant
         × IsFaultless A (names_of job.now.ignore_case) meant
-        × IsWritten A job.now.form (StandsAt (W.blank world) (W.Puts world)) (string_bytes places.now.out)
+        × IsWritten A job.now (StandsAt (W.blank world) (W.Puts world)) (string_bytes places.now.out)
         (option_map string_bytes places.now.map) (names_of job.now.ignore_case) (input_list all.entry.inputs) meant)
         (λ stop. OnInput stop (HaveFault A job.now.form (names_of job.now.ignore_case)
         (AreMeant t (input_list all.entry.inputs)) (input_list all.entry.inputs))) }
@@ -204,7 +204,7 @@ pub(crate) fn write_program<W: World + Copy, A: Allocator + Copy>(
     match link_in_memory(alloc, modules, &options) {
         Ok(linked) => {
             let linked = formed(alloc, job, linked, lines)?;
-            write_files(alloc, &world, &linked, &slices, &words, places, lines)?;
+            write_files(alloc, &world, job, &linked, &slices, &words, places, lines)?;
             let modules = &linked.report.modules;
             Ok(warn_of_program(alloc, job, modules, variables, &words, lines)?)
         }

@@ -4,6 +4,8 @@ ghost use Rattle.std.specs.Option.{option_map};
 ghost use Rattle.omf_place.specs.Bounded.{IsBounded};
 ghost use Rattle.doslink_files.specs.Written.{StandsAt};
 ghost use Rattle.doslink_link.specs.Linking.{bytes_of};
+ghost use Rattle.doslink_words.specs.declared.job.MapForm.TheVariants.{Omf};
+ghost use Rattle.link_map.specs.Map.{link_map_text};
 ghost use Rattle.doslink_jobs.specs.Maps as spec;
 ghost use Rattle.doslink_jobs.specs.Written.{AreWritten};
 ghost use Rattle.doslink_jobs.specs.inside.Stops.{OnInput};
@@ -13,20 +15,23 @@ use crate::stop::Stop;
 use doslink_files::put_file;
 use doslink_link::{Linked, Page};
 use doslink_telling::{push_fault, table};
+use doslink_words::{Job, MapForm};
+use link_map::{LinkedProgram, MapFault, MapForm as LinkerForm, write_link_map};
 use omf_commands::{Report, write_map};
 use omf_faults::LinkFault;
 use omf_files::World;
 use std::alloc::{AllocError, Allocator};
 
-/// The map of what was linked, and behind it the table of the modules, whose bytes and words these are.
-pub fn map_bytes<A: Allocator + Copy>(
+/// The map of what was linked as `omf` has it, and behind it the table of the modules, whose bytes and words these are.
+fn omf_map<A: Allocator + Copy>(
     alloc: A,
     report: &Report<A>,
     inputs: &[&[u8]],
     words: &[&[u8]],
 ) -> Result<Vec<u8, A>, AllocError>
     requires { IsBounded report.now.modules.items report.now.layout }
-    ensures { IfOk result (λ text. text.items ≡ spec.map_bytes report.now (bytes_of inputs.now) (bytes_of words.now)) }
+    ensures { IfOk result (λ text. text.items ≡ spec.map_bytes Omf report.now (bytes_of inputs.now)
+        (bytes_of words.now)) }
 {
     let table = table(alloc, &report.modules, &report.layout, inputs, words)?;
     let mut page = Page::new(alloc);
@@ -37,6 +42,47 @@ pub fn map_bytes<A: Allocator + Copy>(
         }
         // a page fails where it can't grow
         Err(_) => Err(AllocError),
+    }
+}
+
+/// The map of what was linked in the form of LINK or of TLINK.
+fn linker_map<A: Allocator + Copy>(
+    alloc: A,
+    form: LinkerForm,
+    report: &Report<A>,
+) -> Result<Vec<u8, A>, AllocError>
+    ensures { IfOk result (λ text. text.items
+        ≡ link_map_text form report.now.modules.items report.now.layout report.now.program) }
+{
+    let linked = LinkedProgram {
+        modules: &report.modules,
+        layout: &report.layout,
+        program: &report.program,
+    };
+    let mut page = Page::new(alloc);
+    match write_link_map(alloc, &mut page, form, &linked) {
+        Ok(()) => Ok(page.bytes),
+        // there was no memory, for the map or for the page
+        Err(MapFault::Memory | MapFault::Device) => Err(AllocError),
+    }
+}
+
+/// The map of what was linked, in a form. The modules' bytes and the words for them are told in that of `omf` alone.
+pub fn map_bytes<A: Allocator + Copy>(
+    alloc: A,
+    form: MapForm,
+    report: &Report<A>,
+    inputs: &[&[u8]],
+    words: &[&[u8]],
+) -> Result<Vec<u8, A>, AllocError>
+    requires { IsBounded report.now.modules.items report.now.layout }
+    ensures { IfOk result (λ text. text.items ≡ spec.map_bytes form report.now (bytes_of inputs.now)
+        (bytes_of words.now)) }
+{
+    match form {
+        MapForm::Omf => omf_map(alloc, report, inputs, words),
+        MapForm::Link => linker_map(alloc, LinkerForm::Link, report),
+        MapForm::Tlink => linker_map(alloc, LinkerForm::Tlink, report),
     }
 }
 
@@ -61,10 +107,12 @@ fn put_or_tell<W: World, A: Allocator + Copy>(
     }
 }
 
-/// Writes a program that was linked of inputs, and its map where one is asked for. The words are those for the inputs.
+/// Writes a program that was linked of inputs, and its map where one is asked for, in the form that the job says. The
+/// words are those for the inputs.
 pub(crate) fn write_files<W: World, A: Allocator + Copy>(
     alloc: A,
     world: &W,
+    job: &Job<'_>,
     linked: &Linked<A>,
     inputs: &[&[u8]],
     words: &[&[u8]],
@@ -75,13 +123,13 @@ pub(crate) fn write_files<W: World, A: Allocator + Copy>(
     ensures refused { IfErr result (λ stop. OnInput stop ⊥) }
     ensures written { IfOk result (λ done. AreWritten (StandsAt (W.blank world.now) (W.Puts world.now))
         (string_bytes places.now.out) (option_map string_bytes places.now.map) linked.now.file.items
-        (spec.map_bytes linked.now.report (bytes_of inputs.now) (bytes_of words.now))) }
+        (spec.map_bytes job.now.map_form linked.now.report (bytes_of inputs.now) (bytes_of words.now))) }
 {
     let out = places.out.as_str();
     match &places.map {
         None => put_or_tell(alloc, world, out, &linked.file, lines),
         Some(path) => {
-            let map = map_bytes(alloc, &linked.report, inputs, words)?;
+            let map = map_bytes(alloc, job.map_form, &linked.report, inputs, words)?;
             put_or_tell(alloc, world, out, &linked.file, lines)?;
             put_or_tell(alloc, world, path.as_str(), &map, lines)
         }

@@ -52,7 +52,7 @@ fn link_checked<'a, W: World + Copy, A: Allocator + Copy>(
     lines: &mut Vec<u8, A>,
 ) -> Result<(), Stop>
     ensures { MatchResult result (λ done. IsLinkedWith A job.now
-        (IsWritten A job.now.form (StandsAt (W.blank world) (W.Puts world)) (string_bytes places.now.out)
+        (IsWritten A job.now (StandsAt (W.blank world) (W.Puts world)) (string_bytes places.now.out)
         (option_map string_bytes places.now.map) (names_of job.now.ignore_case))
         (map module_said says.now) marks
         (map handed_held taken.now.handed.now) (map variable_said variables.now))
@@ -74,7 +74,7 @@ fn link_taken<'m, 'a, W: World + Copy, A: Allocator + Copy>(
     lines: &mut Vec<u8, A>,
 ) -> Result<(), Stop>
     ensures { MatchResult result (λ done. IsLinkOf A job.now
-        (IsWritten A job.now.form (StandsAt (W.blank world) (W.Puts world)) (string_bytes places.now.out)
+        (IsWritten A job.now (StandsAt (W.blank world) (W.Puts world)) (string_bytes places.now.out)
         (option_map string_bytes places.now.map) (names_of job.now.ignore_case))
         (λ ms. ms ≡ map handed_held taken.now.handed.now))
         (λ stop. OnInput stop (IsRefusedOf A job.now (λ ms. ms ≡ map handed_held taken.now.handed.now))) }
@@ -100,7 +100,7 @@ fn link_handed<'m, 'a, W: World + Copy, O: Write + Drop, A: Allocator + Copy>(
 ) -> Result<(), Stop>
     requires { sink_failures output.old ≡ 0 }
     ensures { MatchResult result (λ done. IsLinkOf A job.now
-        (IsWritten A job.now.form (StandsAt (W.blank world) (W.Puts world)) (string_bytes places.now.out)
+        (IsWritten A job.now (StandsAt (W.blank world) (W.Puts world)) (string_bytes places.now.out)
         (option_map string_bytes places.now.map) (names_of job.now.ignore_case))
         (λ ms. ms ≡ map handed_held handed.now))
         (λ stop. OnInput stop (IsRefusedOf A job.now (λ ms. ms ≡ map handed_held handed.now))) }
@@ -127,7 +127,7 @@ fn link_gathered<W: World + Copy, O: Write + Drop, A: Allocator + Copy>(
     ensures { (rounds : List (List (List ℕ))) → Searched (names_of job.now.ignore_case) rounds gathered.now.stock
         → MatchResult result
         (λ done. AreApart (W.looks world) (out_path job.now) (map_path job.now) × IsLinkOf A job.now
-        (IsWritten A job.now.form (StandsAt (W.blank world) (W.Puts world)) (out_path job.now) (map_path job.now)
+        (IsWritten A job.now (StandsAt (W.blank world) (W.Puts world)) (out_path job.now) (map_path job.now)
         (names_of job.now.ignore_case))
         (Takes (names_of job.now.ignore_case) rounds))
         (λ why. OnHalt why (IsRefusedOf A job.now (Takes (names_of job.now.ignore_case) rounds))

@@ -245,6 +245,39 @@ modules
  000001 R 000001 \"CODE\" \"\"
 ";
 
+/// The same in the form of LINK.
+pub(crate) const LINK_MAP: &str = "
+ Start  Stop   Length Name                   Class
+ 00000H 00001H 00002H CODE                   \n\n \
+Origin   Group
+
+  Address         Publics by Name
+
+ 0000:0001       f
+
+  Address         Publics by Value
+
+ 0000:0001       f
+
+Program entry point at 0000:0000
+";
+
+/// And of TLINK.
+pub(crate) const TLINK_MAP: &str = "
+ Start  Stop   Length Name               Class
+
+ 00000H 00001H 00002H CODE               \n\n  \
+Address         Publics by Name
+
+ 0000:0001       f
+
+  Address         Publics by Value
+
+ 0000:0001       f
+
+Program entry point at 0000:0000
+";
+
 /// A program whose stack of 256 bytes is cut to 16.
 pub(crate) const CUT_STACK: [u8; 33] = [
     0x4D, 0x5A, 0x21, 0x00, 0x01, 0x00, 0x00, 0x00, 0x02, 0x00, 0x02, 0x00, 0xFF, 0xFF, 0x01, 0x00,
@@ -303,7 +336,7 @@ modules
 
 /// Runs, and what each writes: the path of its program, the program, and its map at P.MAP.
 /// What isn't written stays `old`.
-pub(crate) const WRITTEN: [(&str, &str, &[u8], &str); 10] = [
+pub(crate) const WRITTEN: [(&str, &str, &[u8], &str); 14] = [
     (
         "doslink -o P.EXE -m P.MAP A.OBJ F.OBJ",
         "P.EXE",
@@ -311,6 +344,32 @@ pub(crate) const WRITTEN: [(&str, &str, &[u8], &str); 10] = [
         MAP,
     ),
     ("doslink A.OBJ F.OBJ", "A.EXE", &PROGRAM, "old"),
+    // the map in each form, which is said in any case
+    (
+        "doslink -o P.EXE -m P.MAP --map-form omf A.OBJ F.OBJ",
+        "P.EXE",
+        &PROGRAM,
+        MAP,
+    ),
+    (
+        "doslink -o P.EXE -m P.MAP --map-form link A.OBJ F.OBJ",
+        "P.EXE",
+        &PROGRAM,
+        LINK_MAP,
+    ),
+    (
+        "doslink --map-form TLINK -o P.EXE -m P.MAP A.OBJ F.OBJ",
+        "P.EXE",
+        &PROGRAM,
+        TLINK_MAP,
+    ),
+    // a form alone asks for no map
+    (
+        "doslink --map-form link A.OBJ F.OBJ",
+        "A.EXE",
+        &PROGRAM,
+        "old",
+    ),
     ("wlink @CUT16", "P.EXE", &CUT_STACK, CUT_STACK_MAP),
     // in the order module's order
     ("wlink @CUT32", "P.EXE", &CUT_PARTS, CUT_PARTS_MAP),

@@ -63,7 +63,7 @@ returns-in-Ok g c t meant =
         file = file;
         words = words;
         formed = c.in_ok-linked-in-Ok.ensures.formed (names_of c.args.job.now.ignore_case) modules linked;
-        written = subst (λ i. AreWritten Writes out mapped file (map_bytes report i words)) told
+        written = subst (λ i. AreWritten Writes out mapped file (map_bytes c.args.job.now.map_form report i words)) told
             c.in_ok-write_files-in-Ok.ensures.written;
       },
     )

@@ -48,10 +48,10 @@ returns g c =
     let (out, mapped, apart) = c.in_ok-places.ensures in (
       apart,
       link-of A job
-          (IsWritten A job.form Writes (string_bytes places.out) (option_map string_bytes places.map) names)
-          (IsWritten A job.form Writes (out_path job) (map_path job) names) (map handed_held handed)
+          (IsWritten A job Writes (string_bytes places.out) (option_map string_bytes places.map) names)
+          (IsWritten A job Writes (out_path job) (map_path job) names) (map handed_held handed)
           (Takes names rounds) takes
-          (λ inputs meant written. subst (λ o. IsWritten A job.form Writes o (map_path job) names inputs meant) out
-          (subst (λ m. IsWritten A job.form Writes (string_bytes places.out) m names inputs meant) mapped written))
+          (λ inputs meant written. subst (λ o. IsWritten A job Writes o (map_path job) names inputs meant) out
+          (subst (λ m. IsWritten A job Writes (string_bytes places.out) m names inputs meant) mapped written))
           c.in_ok-link_handed.ensures,
     )
