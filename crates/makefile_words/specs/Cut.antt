@@ -8,7 +8,7 @@ use Rattle.std.specs.Path.{rsplit_once}
 use Rattle.clap.specs.Lexer.{strip_byte}
 use Rattle.clap.specs.Words.{Text}
 use Rattle.makefile_words.specs.declared.faults.FaultKind.{FaultKind}
-use Rattle.makefile_words.specs.declared.faults.FaultKind.TheVariants.{UnknownOption}
+use Rattle.makefile_words.specs.declared.faults.FaultKind.TheVariants.{TwoWays, UnknownOption}
 use Rattle.makefile_words.specs.declared.settings.Setting.{Setting}
 use Rattle.makefile_words.specs.declared.tokens.Language.{Language}
 use Rattle.makefile_words.specs.declared.tokens.Language.TheVariants.{Tlink, Link}
@@ -67,12 +67,6 @@ named language word = record {
       else None;
 }
 
--- a word that begins as an option, with what stands behind that: options, a path where it may be one, or a fault
-abbrev pub begun : Language → (word options : Text) → (is_path : Bool) → Result SaidCut FaultKind
-begun language word options is_path =
-    if is_all_options language options then Ok (record { name = None; options = Some options })
-    else (if is_path then Ok (record { name = Some word; options = None }) else Err UnknownOption)
-
 -- whether a word begins with `./` or `../`
 abbrev pub is_dotted : Text → Bool
 is_dotted word =
@@ -82,6 +76,18 @@ is_dotted word =
 -- whether a text has a `/`
 abbrev pub has_slash : Text → Bool
 has_slash text = nat_lt (position_or_len (λ byte. byte == 47) text) (length text)
+
+-- whether a text is an option with folders, and options with `/` between them as well, as `La/c`
+abbrev pub is_both : Language → Text → Bool
+is_both language text =
+    takes_folders language text && (has_slash text && are_options language (slice_split (λ byte. byte == 47) text))
+
+-- a word that begins as an option, with what stands behind that: options, a path where it may be one, or a fault
+abbrev pub begun : Language → (word options : Text) → (is_path : Bool) → Result SaidCut FaultKind
+begun language word options is_path =
+    if is_both language options then Err TwoWays
+    else (if is_all_options language options then Ok (record { name = None; options = Some options })
+    else (if is_path then Ok (record { name = Some word; options = None }) else Err UnknownOption))
 
 -- a word that isn't dotted
 abbrev pub undotted : Language → Text → Result SaidCut FaultKind

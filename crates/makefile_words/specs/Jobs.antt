@@ -4,6 +4,10 @@ use Rattle.std.specs.Option.{option_map}
 use Rattle.clap.specs.Words.{Text}
 use Rattle.doslink_words.specs.Said.{SaidMap, SaidOrder, At, Beside, Dosseg, Meeting, inputs_of, map_of, order_of}
 use Rattle.doslink_words.specs.Tokens.{texts}
+use Rattle.doslink_words.specs.declared.job.Form.{Form}
+use Rattle.doslink_words.specs.declared.job.Form.TheVariants.{Com}
+use Rattle.doslink_words.specs.declared.job.MapForm.{MapForm}
+use Rattle.doslink_words.specs.declared.job.MapForm.TheVariants as map_form
 use Rattle.doslink_words.specs.declared.job.Stack.{Stack}
 use Rattle.makefile_words.specs.Lines.{SaidLine, WrongWord, is_null}
 use Rattle.makefile_words.specs.declared.faults.LineFault.{LineFault}
@@ -33,12 +37,22 @@ order_asked ordering.Meeting = Meeting
 order_asked ordering.Dosseg = Dosseg
 order_asked ordering.WithoutNulls = Dosseg
 
--- whether the order DOSSEG has null bytes: not under TLINK
-abbrev pub nulls_asked : Language → Ordering → Bool
-nulls_asked Tlink order = false
-nulls_asked Link ordering.Meeting = true
-nulls_asked Link ordering.Dosseg = true
-nulls_asked Link ordering.WithoutNulls = false
+-- the form of the map is the linker's own
+abbrev pub map_form_of : Language → MapForm
+map_form_of Tlink = map_form.Tlink
+map_form_of Link = map_form.Link
+
+-- whether an order is one without null bytes
+abbrev pub is_without_nulls : Ordering → Bool
+is_without_nulls ordering.Meeting = false
+is_without_nulls ordering.Dosseg = false
+is_without_nulls ordering.WithoutNulls = true
+
+-- whether the order DOSSEG has null bytes: not under TLINK, and not in a .COM file
+abbrev pub nulls_asked : Language → Form → Ordering → Bool
+nulls_asked Tlink form order = false
+nulls_asked Link Com order = false
+nulls_asked Link _ order = not (is_without_nulls order)
 
 -- the stack, which a longer one is cut to
 abbrev pub stack_asked : Option ℕ → Option Stack
@@ -49,18 +63,20 @@ pub record IsJobOf (language : Language) (said : SaidLine) (made : MakefileJob) 
   pub inputs : inputs_of made.job.inputs.items ≡ said.inputs
   pub out : option_map (λ name. name.now) made.job.out ≡ said.out
   pub map : option_map map_of made.job.map ≡ map_asked said.settings said.map
+  pub map_form : made.job.map_form ≡ map_form_of language
   pub folders : texts made.job.folders.items ≡ said.folders
   pub ignore_case : made.job.ignore_case ≡ not said.settings.case_counts
   pub order : order_of made.job.order ≡ order_asked said.settings.order
-  pub null_bytes : made.job.null_bytes ≡ nulls_asked language said.settings.order
+  pub null_bytes : made.job.null_bytes ≡ nulls_asked language said.settings.form said.settings.order
   pub stack : made.job.stack ≡ stack_asked said.settings.stack
+  pub form : made.job.form ≡ Some said.settings.form
   pub default_libraries : made.job.default_libraries ≡ not said.settings.no_defaults
+  pub left_out : texts made.job.left_out.items ≡ said.left_out
   pub keep_debug : made.job.keep_debug ≡ false
   pub packs_far_data : made.job.packs_far_data ≡ false
   pub verbose : made.job.verbose ≡ said.settings.verbose
   pub quiet : made.job.quiet ≡ false
   pub settings : made.settings ≡ said.settings
-  pub left_out : texts made.left_out.items ≡ said.left_out
   pub warnings : made.warnings.items ≡ said.warnings
 
 -- an answer is the job of what a line says, its first word at fault, or want of memory

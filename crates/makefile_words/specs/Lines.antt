@@ -8,6 +8,7 @@ use Rattle.clap.specs.Words.{Text}
 use Rattle.doslink_words.specs.Directives.{and_then}
 use Rattle.doslink_words.specs.Keywords.{is_keyword}
 use Rattle.doslink_words.specs.Said.{SaidInput, File, Library}
+use Rattle.doslink_words.specs.declared.job.Form.TheVariants.{Exe}
 use Rattle.makefile_words.specs.Cut.{cut, option_named, options_in}
 use Rattle.makefile_words.specs.Link.{is_colon}
 use Rattle.makefile_words.specs.Tokens.{PlacedPiece, Piece, Word, Quoted, Unclosed, Blank, Plus, Comma, Semicolon, LineEnd}
@@ -17,7 +18,6 @@ use Rattle.makefile_words.specs.declared.faults.FaultKind.TheVariants as fault
 use Rattle.makefile_words.specs.declared.line.Field.{Field}
 use Rattle.makefile_words.specs.declared.line.Field.TheVariants.{Objects, Program, MapFile, Libraries, Definitions, Ended}
 use Rattle.makefile_words.specs.declared.line.IdleAt.{IdleAt}
-use Rattle.makefile_words.specs.declared.settings.Form.TheVariants.{Exe}
 use Rattle.makefile_words.specs.declared.settings.Ordering.TheVariants.{Meeting}
 use Rattle.makefile_words.specs.declared.settings.Setting.{Setting}
 use Rattle.makefile_words.specs.declared.settings.Setting.TheVariants as setting
@@ -153,7 +153,8 @@ abbrev pub is_refused : Text → Bool
 is_refused name =
     is_device name (codes "con") || is_device name (codes "prn") || is_device name (codes "aux")
     || is_device name (codes "lpt1") || is_device name (codes "lpt2") || is_device name (codes "lpt3")
-    || is_device name (codes "com1") || is_device name (codes "com2")
+    || is_device name (codes "lpt4") || is_device name (codes "com1") || is_device name (codes "com2")
+    || is_device name (codes "com3") || is_device name (codes "com4")
 
 -- whether a name ends with a byte that stands behind folders: a backslash, `/` or `:`
 abbrev pub is_folder : Text → Bool

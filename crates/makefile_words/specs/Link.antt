@@ -6,11 +6,11 @@ use Rattle.std.specs.Option.{option_map, option_or}
 use Rattle.std.specs.List.{before_first, after_first, position_or_len}
 use Rattle.clap.specs.Words.{Text}
 use Rattle.doslink_words.specs.Keywords.{is_keyword}
-use Rattle.doslink_words.specs.Sizes.{is_hexadecimal, numeral}
+use Rattle.doslink_words.specs.Sizes.{is_hexadecimal, longest, numeral}
+use Rattle.doslink_words.specs.declared.job.Form.TheVariants as form
 use Rattle.makefile_words.specs.declared.faults.FaultKind.TheVariants as fault
 use Rattle.makefile_words.specs.declared.link.Valued.{Valued}
 use Rattle.makefile_words.specs.declared.link.Valued.TheVariants as valued
-use Rattle.makefile_words.specs.declared.settings.Form.TheVariants as form
 use Rattle.makefile_words.specs.declared.settings.Idle.TheVariants as idle
 use Rattle.makefile_words.specs.declared.settings.Ordering.TheVariants as ordering
 use Rattle.makefile_words.specs.declared.settings.Setting.{Setting}
@@ -69,25 +69,37 @@ last_named =
     ∷ (codes "QUICKLIBRARY", 1, setting.Refused fault.Refused)
     ∷ []
 
+-- options that say nothing here, with a value or without
+abbrev pub idle_named : List Row
+idle_named =
+    (codes "ALIGNMENT", 1, setting.Warned idle.Nothing)
+    ∷ (codes "PADCODE", 4, setting.Warned idle.Nothing)
+    ∷ (codes "PADDATA", 4, setting.Warned idle.Nothing)
+    ∷ (codes "PMTYPE", 2, setting.Warned idle.Nothing)
+    ∷ []
+
 -- an option without a value
 abbrev pub plain_named : Text → Option Setting
 plain_named word =
-    option_or (option_or (short_named word first_named) (short_named word next_named)) (short_named word last_named)
+    option_or
+    (option_or (option_or (short_named word first_named) (short_named word next_named)) (short_named word last_named))
+    (short_named word idle_named)
 
 -- whether a number is octal
 abbrev pub is_octal : Text → Bool
 is_octal text = nat_le 1 (length text) && slice_index text 0 == 48
 
--- the number of an option, up to 65,536
+-- the number of an option
 abbrev pub number : Text → Option ℕ
 number text =
     if is_hexadecimal text then numeral 16 (drop 2 text)
     else (if is_octal text then numeral 8 text else numeral 10 text)
 
--- `STACK:N`: the stack's bytes, 1 at least
+-- `STACK:N`: the stack's bytes, 1 to 65,536
 abbrev pub stack_asked : Option ℕ → Setting
 stack_asked None = setting.Refused fault.WrongValue
-stack_asked (Some n) = if n == 0 then setting.Refused fault.WrongValue else setting.Stack n
+stack_asked (Some n) =
+    if nat_le 1 n && nat_le n longest then setting.Stack n else setting.Refused fault.WrongValue
 
 -- `CPARMAXALLOC:N`: the header's greatest extra paragraphs, 65,535 at most
 abbrev pub extra_asked : Option ℕ → Setting

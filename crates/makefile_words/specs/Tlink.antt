@@ -4,8 +4,8 @@ use Rattle.std.specs.Prelude.{Option, Some, None, if◌then◌else◌, slice_ind
 use Rattle.std.specs.Option.{option_or}
 use Rattle.std.specs.Str.{bytes_eq}
 use Rattle.clap.specs.Words.{Text}
+use Rattle.doslink_words.specs.declared.job.Form.TheVariants as form
 use Rattle.makefile_words.specs.declared.faults.FaultKind.TheVariants as fault
-use Rattle.makefile_words.specs.declared.settings.Form.TheVariants as form
 use Rattle.makefile_words.specs.declared.settings.Idle.TheVariants as idle
 use Rattle.makefile_words.specs.declared.settings.Setting.{Setting}
 use Rattle.makefile_words.specs.declared.settings.Setting.TheVariants as setting

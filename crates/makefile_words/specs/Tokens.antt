@@ -1,13 +1,16 @@
 -- How a line is cut into tokens, each with its place. The manuals: fields are parted by commas, names in a field by
 -- blanks or `+`, and `;` ends the line. In a text of many lines (a response file) a line's end is a token too.
 use Rattle.std.specs.Prelude.{ℕ, zero, suc, ◌+◌, ◌-◌, ◌==◌, ◌&&◌, ◌||◌, not, Bool, false, nat_le, nat_lt, List, [], ◌∷◌}
-use Rattle.std.specs.Prelude.{length, take, drop, Option, Some, None, if◌then◌else◌, slice_index}
+use Rattle.std.specs.Prelude.{length, take, drop, map, Option, Some, None, if◌then◌else◌, slice_index}
 use Rattle.std.specs.Option.{option_map_or}
 use Rattle.std.specs.List.{before_first, after_first, position_or_len}
 use Rattle.std.specs.Char.{is_ascii_whitespace}
 use Rattle.clap.specs.Words.{Text}
 use Rattle.makefile_words.specs.declared.tokens.Language.{Language}
 use Rattle.makefile_words.specs.declared.tokens.Language.TheVariants.{Tlink, Link}
+use Rattle.makefile_words.specs.declared.tokens.Placed.{Placed}
+use Rattle.makefile_words.specs.declared.tokens.Token.{Token}
+use Rattle.makefile_words.specs.declared.tokens.Token.TheVariants as code
 
 -- a token: a word, what stands between two quotes, a quote that isn't closed, or a mark
 pub data Piece : Type 0 where
@@ -100,3 +103,21 @@ text_of Plus = 43 ∷ []
 text_of Comma = 44 ∷ []
 text_of Semicolon = 59 ∷ []
 text_of LineEnd = 10 ∷ []
+
+-- what a token of the code says
+abbrev pub piece_of : Token → Piece
+piece_of (code.Word text) = Word text.now
+piece_of (code.Quoted text) = Quoted text.now
+piece_of code.Unclosed = Unclosed
+piece_of code.Blank = Blank
+piece_of code.Plus = Plus
+piece_of code.Comma = Comma
+piece_of code.Semicolon = Semicolon
+piece_of code.LineEnd = LineEnd
+
+-- a token and its place
+abbrev pub placed_of : Placed → PlacedPiece
+placed_of placed = record { place = placed.place; piece = piece_of placed.token }
+
+abbrev pub pieces : List Placed → List PlacedPiece
+pieces = map placed_of

@@ -149,6 +149,17 @@ fn has_slash(text: &str) -> bool
     }
 }
 
+// Whether a text is an option with folders, and options with `/` between them as well.
+fn is_both(alloc: Global, language: Language, text: &str) -> Result<bool, AllocError>
+    ensures { IfOk result (λ both. both ≡ spec.is_both language text.now) }
+{
+    if !takes_folders(language, text.as_bytes()) || !has_slash(text) {
+        return Ok(false);
+    }
+    let pieces = pieces_of(alloc, text)?;
+    Ok(are_options(language, pieces.as_slice()))
+}
+
 // What a word is that begins as an option, behind whose first byte this stands.
 fn begun<'a>(
     alloc: Global,
@@ -159,6 +170,9 @@ fn begun<'a>(
 ) -> Result<Cut<'a>, WordFault>
     ensures { Gives cut_of result (spec.begun language word.now options.now is_path) }
 {
+    if is_both(alloc, language, options)? {
+        return Err(WordFault::Wrong(FaultKind::TwoWays));
+    }
     if is_all_options(alloc, language, options)? {
         return Ok(Cut {
             name: None,

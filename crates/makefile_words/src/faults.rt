@@ -53,6 +53,9 @@ pub enum FaultKind {
     /// A word that begins as an option and is none.
     #[error("unknown option")]
     UnknownOption,
+    /// A word that may be folders of TLINK's `/L` or `/j`, and options as well.
+    #[error("a blank is expected between options, and folders without one of an option's name")]
+    TwoWays,
     /// An option's value is no number, or out of its range.
     #[error("the option's value is no number that it takes")]
     WrongValue,

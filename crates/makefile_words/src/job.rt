@@ -9,17 +9,15 @@ use crate::line::{IdleAt, Line};
 use crate::names::is_null;
 use crate::settings::{Ordering, Settings};
 use crate::tokens::Language;
-use doslink_words::{Job, MapFile, Order, Stack};
+use doslink_words::{Form, Job, MapFile, MapForm, Order, Stack};
 
 /// The job of a line, and what a job of `doslink` has no word for.
 #[derive(Debug, Drop)]
 pub struct MakefileJob<'a> {
     /// What is linked, and how.
     pub job: Job<'a>,
-    /// What the options say: among it the file's form, the header's extra paragraphs and what the map tells.
+    /// What the options say: among it the header's extra paragraphs and what the map tells.
     pub settings: Settings,
-    /// The libraries that are not searched where only a module names them.
-    pub left_out: Vec<&'a str>,
     /// The options that have no effect, or not all that they would have, in their order.
     pub warnings: Vec<IdleAt>,
 }
@@ -51,12 +49,22 @@ fn order_asked<'a>(ordering: Ordering) -> Order<'a>
     }
 }
 
-// Whether the order DOSSEG has null bytes.
-fn nulls_asked(language: Language, ordering: Ordering) -> bool
-    ensures { result ≡ spec.nulls_asked language ordering }
+// The form of the map.
+fn map_form_of(language: Language) -> MapForm
+    ensures { result ≡ spec.map_form_of language }
 {
-    match (language, ordering) {
-        (Language::Tlink, _) | (_, Ordering::WithoutNulls) => false,
+    match language {
+        Language::Tlink => MapForm::Tlink,
+        Language::Link => MapForm::Link,
+    }
+}
+
+// Whether the order DOSSEG has null bytes.
+fn nulls_asked(language: Language, form: Form, ordering: Ordering) -> bool
+    ensures { result ≡ spec.nulls_asked language form ordering }
+{
+    match (language, form, ordering) {
+        (Language::Tlink, _, _) | (_, Form::Com, _) | (_, _, Ordering::WithoutNulls) => false,
         _ => true,
     }
 }
@@ -80,12 +88,15 @@ pub(crate) fn job_of<'a>(language: Language, line: Line<'a>) -> MakefileJob<'a>
         inputs: line.inputs,
         out: line.out,
         map: map_asked(settings, line.map),
+        map_form: map_form_of(language),
         folders: line.folders,
         ignore_case: !settings.case_counts,
         order: order_asked(settings.order),
-        null_bytes: nulls_asked(language, settings.order),
+        null_bytes: nulls_asked(language, settings.form, settings.order),
         stack: stack_asked(settings.stack),
+        form: Some(settings.form),
         default_libraries: !settings.no_defaults,
+        left_out: line.left_out,
         keep_debug: false,
         packs_far_data: false,
         verbose: settings.verbose,
@@ -94,7 +105,6 @@ pub(crate) fn job_of<'a>(language: Language, line: Line<'a>) -> MakefileJob<'a>
     MakefileJob {
         job,
         settings,
-        left_out: line.left_out,
         warnings: line.warnings,
     }
 }

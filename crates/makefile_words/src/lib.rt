@@ -17,5 +17,5 @@ pub use faults::{FaultKind, LineFault};
 pub use job::MakefileJob;
 pub use line::IdleAt;
 pub use lines::parse_line;
-pub use settings::{Form, Idle, Ordering, Settings};
-pub use tokens::Language;
+pub use settings::{Idle, Ordering, Settings};
+pub use tokens::{Language, Placed, Token, tokens_of};

@@ -3,9 +3,9 @@ ghost use Rattle.std.specs.Prelude.{◌≡◌};
 ghost use Rattle.makefile_words.specs.Lines as spec;
 ghost use Rattle.makefile_words.specs.inside.Lines.{line_of};
 
-use crate::settings::{Form, Idle, Ordering, Setting, Settings};
+use crate::settings::{Idle, Ordering, Setting, Settings};
 use crate::tokens::Language;
-use doslink_words::Input;
+use doslink_words::{Form, Input};
 use std::alloc::Global;
 
 /// A field of a line.

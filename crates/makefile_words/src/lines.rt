@@ -12,7 +12,7 @@ use crate::job::{MakefileJob, job_of};
 use crate::line::{Field, Line};
 use crate::names::{put_field, put_name};
 use crate::options::follow_text;
-use crate::tokens::{Language, Placed, Token, tokens};
+use crate::tokens::{Language, Placed, Token, tokens_of};
 use doslink_words::Input;
 use std::alloc::Global;
 
@@ -167,7 +167,7 @@ fn read_line<'a>(
 ) -> Result<Line<'a>, LineFault<'a>>
     ensures { Says result (spec.meaning language text.now) }
 {
-    let tokens = tokens(alloc, language, text)?;
+    let tokens = tokens_of(alloc, language, text)?;
     let line = follow_tokens(alloc, language, tokens.as_slice())?;
     if has_object(&line) {
         return Ok(line);

@@ -5,10 +5,17 @@ ghost use Rattle.doslink_words.specs.Sizes as sizes;
 ghost use Rattle.makefile_words.specs.Link as spec;
 
 use crate::faults::FaultKind;
-use crate::settings::{Form, Idle, Ordering, Setting};
+use crate::settings::{Idle, Ordering, Setting};
+use doslink_words::Form;
 
-/// The greatest number of an option: a segment's most bytes.
-const GREATEST: u32 = 65_536;
+/// The greatest number: the end of the memory that a real-mode address reaches.
+const GREATEST: u32 = 1_048_576;
+
+/// The longest stack, in bytes: a segment's most bytes.
+const LONGEST: u32 = 65_536;
+
+/// How many numbers of 16 bits there are.
+const PARAGRAPHS: u32 = 65_536;
 
 /// What the value of an option says.
 #[derive(Clone, Copy)]
@@ -32,7 +39,7 @@ fn numeral(radix: u32, digits: &[u8]) -> Option<u32>
     requires least { 2 ≤ radix }
     requires most { radix ≤ 36 }
     ensures number { result ≡ sizes.numeral radix digits.now }
-    ensures short { IfSome result (λ n. n ≤ 65_536) }
+    ensures small { IfSome result (λ n. n ≤ 1_048_576) }
 {
     if digits.is_empty() {
         return None;
@@ -51,7 +58,7 @@ fn numeral(radix: u32, digits: &[u8]) -> Option<u32>
 // The number of an option: hexadecimal behind `0x`, octal behind `0`, else decimal.
 fn number(text: &[u8]) -> Option<u32>
     ensures number { result ≡ spec.number text.now }
-    ensures short { IfSome result (λ n. n ≤ 65_536) }
+    ensures small { IfSome result (λ n. n ≤ 1_048_576) }
 {
     match text {
         [b'0', b'x' | b'X', digits @ ..] => numeral(16, digits),
@@ -157,12 +164,29 @@ fn last_named(word: &[u8]) -> Option<Setting>
     }
 }
 
+// What an option of LINK asks for that says nothing here, with a value or without.
+fn idle_named(word: &[u8]) -> Option<Setting>
+    ensures { result ≡ spec.short_named word.now spec.idle_named }
+{
+    if is_short(word, b"ALIGNMENT", 1) {
+        Some(Setting::Warned(Idle::Nothing))
+    } else if is_short(word, b"PADCODE", 4) {
+        Some(Setting::Warned(Idle::Nothing))
+    } else if is_short(word, b"PADDATA", 4) {
+        Some(Setting::Warned(Idle::Nothing))
+    } else if is_short(word, b"PMTYPE", 2) {
+        Some(Setting::Warned(Idle::Nothing))
+    } else {
+        None
+    }
+}
+
 // What the stack's option asks for.
 fn stack_asked(value: &[u8]) -> Setting
     ensures { result ≡ spec.stack_asked (spec.number value.now) }
 {
     match number(value) {
-        Some(bytes) if bytes != 0 => Setting::Stack(bytes),
+        Some(bytes) if 1 <= bytes && bytes <= LONGEST => Setting::Stack(bytes),
         _ => Setting::Refused(FaultKind::WrongValue),
     }
 }
@@ -172,7 +196,7 @@ fn extra_asked(value: &[u8]) -> Setting
     ensures { result ≡ spec.extra_asked (spec.number value.now) }
 {
     match number(value) {
-        Some(paragraphs) if paragraphs < GREATEST => Setting::MostExtra(paragraphs),
+        Some(paragraphs) if paragraphs < PARAGRAPHS => Setting::MostExtra(paragraphs),
         _ => Setting::Refused(FaultKind::WrongValue),
     }
 }
@@ -260,7 +284,10 @@ fn valued_option(name: &[u8], value: &[u8]) -> Option<Setting>
 fn plain_named(word: &[u8]) -> Option<Setting>
     ensures { result ≡ spec.plain_named word.now }
 {
-    first_named(word).or(next_named(word)).or(last_named(word))
+    first_named(word)
+        .or(next_named(word))
+        .or(last_named(word))
+        .or(idle_named(word))
 }
 
 /// What an option of LINK asks for, none where there is no such option.

@@ -48,8 +48,11 @@ fn is_refused(name: &str) -> bool
         || is(name, "lpt1")
         || is(name, "lpt2")
         || is(name, "lpt3")
+        || is(name, "lpt4")
         || is(name, "com1")
         || is(name, "com2")
+        || is(name, "com3")
+        || is(name, "com4")
 }
 
 // Whether a name is a folder of libraries.

@@ -1,14 +1,6 @@
 //! What options ask for.
 use crate::faults::FaultKind;
-
-/// The form of the program's file.
-#[derive(Clone, Copy, Debug, PartialEq, Eq)]
-pub enum Form {
-    /// An .EXE file.
-    Exe,
-    /// A .COM file: the bytes from 100H on.
-    Com,
-}
+use doslink_words::Form;
 
 /// The order of segments that options ask for.
 #[derive(Clone, Copy, Debug, PartialEq, Eq)]

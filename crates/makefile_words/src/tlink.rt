@@ -3,7 +3,8 @@ ghost use Rattle.std.specs.Prelude.{◌≡◌};
 ghost use Rattle.makefile_words.specs.Tlink as spec;
 
 use crate::faults::FaultKind;
-use crate::settings::{Form, Idle, Setting};
+use crate::settings::{Idle, Setting};
+use doslink_words::Form;
 
 // What an option of TLINK asks for that is switched on or off.
 fn flag_named(name: &[u8], on: bool) -> Option<Setting>

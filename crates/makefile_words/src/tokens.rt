@@ -2,7 +2,8 @@
 ghost use Rattle.std.specs.Prelude.{◌≡◌, ◌<◌, ◌≤◌, IfOk, drop, length, slice_index};
 ghost use Rattle.std.specs.Str.{IsUtf8};
 ghost use Rattle.makefile_words.specs.Tokens as spec;
-ghost use Rattle.makefile_words.specs.inside.Tokens.{piece_of, pieces, said, said_mark};
+ghost use Rattle.makefile_words.specs.Tokens.{piece_of, pieces};
+ghost use Rattle.makefile_words.specs.inside.Tokens.{said, said_mark};
 
 use std::alloc::{AllocError, Global};
 
@@ -17,7 +18,7 @@ pub enum Language {
 
 /// A token of a line.
 #[derive(Clone, Copy)]
-pub(crate) enum Token<'a> {
+pub enum Token<'a> {
     /// What stands without quotes.
     Word(&'a str),
     /// What stands between two quotes.
@@ -38,7 +39,7 @@ pub(crate) enum Token<'a> {
 
 /// A token and its place.
 #[derive(Clone, Copy)]
-pub(crate) struct Placed<'a> {
+pub struct Placed<'a> {
     /// How many bytes of the text stand before it.
     pub place: usize,
     /// The token.
@@ -46,8 +47,8 @@ pub(crate) struct Placed<'a> {
 }
 
 impl<'a> Token<'a> {
-    // The text of the token.
-    pub(crate) fn text(self) -> &'a str
+    /// The text of the token: a quote alone where it isn't closed, and a blank for any white space within a line.
+    pub fn text(self) -> &'a str
         ensures { result.now ≡ spec.text_of (piece_of self.entry) }
     {
         match self {
@@ -178,7 +179,7 @@ fn next_token<'a>(language: Language, text: &'a str) -> (Token<'a>, &'a str)
 }
 
 /// The tokens of a line, which together hold each byte of it once.
-pub(crate) fn tokens<'a>(
+pub fn tokens_of<'a>(
     alloc: Global,
     language: Language,
     text: &'a str,

@@ -6,7 +6,7 @@ use makefile_words::Language;
 fn reads_fields(rt: HostRuntime) {
     let table = r#"/NOI /STACK:4096 main+util,prog,prog,slibce;
 =>
-Ok(MakefileJob { job: Job { inputs: [File("main"), File("util"), Library("slibce")], out: Some("prog"), map: Some(At("prog")), folders: [], ignore_case: false, order: Meeting, null_bytes: true, stack: Some(Stack { bytes: 4096, cuts: true }), default_libraries: true, keep_debug: false, packs_far_data: false, verbose: false, quiet: false }, settings: Settings { case_counts: true, no_defaults: false, no_map: false, makes_map: true, publics: false, line_numbers: false, detailed: false, writes_all: false, verbose: false, form: Exe, order: Meeting, stack: Some(4096), most_extra: None }, left_out: [], warnings: [] })
+Ok(MakefileJob { job: Job { inputs: [File("main"), File("util"), Library("slibce")], out: Some("prog"), map: Some(At("prog")), map_form: Link, folders: [], ignore_case: false, order: Meeting, null_bytes: true, stack: Some(Stack { bytes: 4096, cuts: true }), form: Some(Exe), default_libraries: true, left_out: [], keep_debug: false, packs_far_data: false, verbose: false, quiet: false }, settings: Settings { case_counts: true, no_defaults: false, no_map: false, makes_map: true, publics: false, line_numbers: false, detailed: false, writes_all: false, verbose: false, form: Exe, order: Meeting, stack: Some(4096), most_extra: None }, warnings: [] })
 ---
 main;
 =>
@@ -34,7 +34,7 @@ inputs: [File("main")], out: Some("prog"), map: None
 ---
 main util+last , prog.exe , prog.map , c:\lib\ em+slibce ;
 =>
-inputs: [File("main"), File("util"), File("last"), Library("em"), Library("slibce")], out: Some("prog.exe"), map: Some(At("prog.map")), folders: ["c:\\lib\\"]
+inputs: [File("main"), File("util"), File("last"), Library("em"), Library("slibce")], out: Some("prog.exe"), map: Some(At("prog.map")), map_form: Link, folders: ["c:\\lib\\"]
 ---
 main,,,,nul
 =>
@@ -42,7 +42,7 @@ inputs: [File("main")], out: None, map: Some(Beside)
 ---
 /home/x/main.obj ../util/a.obj,out/prog/NOI;
 =>
-inputs: [File("/home/x/main.obj"), File("../util/a.obj")], out: Some("out/prog"), map: None, folders: [], ignore_case: false
+inputs: [File("/home/x/main.obj"), File("../util/a.obj")], out: Some("out/prog"), map: None, map_form: Link, folders: [], ignore_case: false
 ---
 "my main.obj","my prog.exe";
 =>
@@ -81,7 +81,7 @@ default_libraries: false
 ---
 /NOD:llibce main;
 =>
-default_libraries: true, keep_debug: false, packs_far_data: false, verbose: false, quiet: false }, settings: Settings { case_counts: false, no_defaults: false, no_map: false, makes_map: false, publics: false, line_numbers: false, detailed: false, writes_all: false, verbose: false, form: Exe, order: Meeting, stack: None, most_extra: None }, left_out: ["llibce"]
+default_libraries: true, left_out: ["llibce"], keep_debug: false
 ---
 /st:010 main;
 =>
@@ -117,7 +117,7 @@ order: Dosseg, null_bytes: false
 ---
 /M main;
 =>
-map: Some(Beside), folders: [], ignore_case: true, order: Meeting, null_bytes: true, stack: None, default_libraries: true, keep_debug: false, packs_far_data: false, verbose: false, quiet: false }, settings: Settings { case_counts: false, no_defaults: false, no_map: false, makes_map: false, publics: true
+map: Some(Beside), map_form: Link, folders: [], ignore_case: true, order: Meeting, null_bytes: true, stack: None, form: Some(Exe), default_libraries: true, left_out: [], keep_debug: false, packs_far_data: false, verbose: false, quiet: false }, settings: Settings { case_counts: false, no_defaults: false, no_map: false, makes_map: false, publics: true
 ---
 /MAP:200 main;
 =>
@@ -125,15 +125,23 @@ publics: true
 ---
 /LI main;
 =>
-map: Some(Beside), folders: []
+map: Some(Beside), map_form: Link, folders: []
 ---
 /T main,prog.com;
 =>
-form: Com
+form: Some(Com), default_libraries: true
+---
+/DO /T main;
+=>
+order: Dosseg, null_bytes: false, stack: None, form: Some(Com)
 ---
 /TINY main;
 =>
-form: Com
+form: Some(Com), default_libraries: true
+---
+/AL /PADC main /PM;
+=>
+warnings: [IdleAt { place: 0, idle: Nothing }, IdleAt { place: 4, idle: Nothing }, IdleAt { place: 15, idle: Nothing }]
 ---
 /INF main;
 =>
@@ -153,7 +161,7 @@ warnings: [IdleAt { place: 0, idle: Nothing }, IdleAt { place: 6, idle: Nothing 
 ---
 -noi -st:512 main/m,prog;
 =>
-map: Some(Beside), folders: [], ignore_case: false, order: Meeting, null_bytes: true, stack: Some(Stack { bytes: 512, cuts: true })"#;
+map: Some(Beside), map_form: Link, folders: [], ignore_case: false, order: Meeting, null_bytes: true, stack: Some(Stack { bytes: 512, cuts: true })"#;
     hold_in(&rt, rt.alloc(), Language::Link, table);
 }
 

@@ -21,11 +21,11 @@ pub(crate) fn hold_in<R: Abort>(rt: &R, alloc: Global, language: Language, table
 fn reads_fields(rt: HostRuntime) {
     let table = r#"main
 =>
-Ok(MakefileJob { job: Job { inputs: [File("main")], out: None, map: Some(Beside), folders: [], ignore_case: true, order: Meeting, null_bytes: false, stack: None, default_libraries: true, keep_debug: false, packs_far_data: false, verbose: false, quiet: false }, settings: Settings { case_counts: false, no_defaults: false, no_map: false, makes_map: true, publics: false, line_numbers: false, detailed: false, writes_all: false, verbose: false, form: Exe, order: Meeting, stack: None, most_extra: None }, left_out: [], warnings: [] })
+Ok(MakefileJob { job: Job { inputs: [File("main")], out: None, map: Some(Beside), map_form: Tlink, folders: [], ignore_case: true, order: Meeting, null_bytes: false, stack: None, form: Some(Exe), default_libraries: true, left_out: [], keep_debug: false, packs_far_data: false, verbose: false, quiet: false }, settings: Settings { case_counts: false, no_defaults: false, no_map: false, makes_map: true, publics: false, line_numbers: false, detailed: false, writes_all: false, verbose: false, form: Exe, order: Meeting, stack: None, most_extra: None }, warnings: [] })
 ---
 /c /x c0s main util, prog.exe, prog.map, emu maths cs
 =>
-inputs: [File("c0s"), File("main"), File("util"), Library("emu"), Library("maths"), Library("cs")], out: Some("prog.exe"), map: None, folders: [], ignore_case: false,
+inputs: [File("c0s"), File("main"), File("util"), Library("emu"), Library("maths"), Library("cs")], out: Some("prog.exe"), map: None, map_form: Tlink, folders: [], ignore_case: false,
 ---
 c0s+main+util,prog,prog,cs
 =>
@@ -73,11 +73,11 @@ inputs: [File("my main.obj"), File("util"), Library("my lib.lib")], out: Some("m
 ---
 ..\lib\c0s main,prog,,c:\tc\lib\ cs
 =>
-inputs: [File("..\\lib\\c0s"), File("main"), Library("cs")], out: Some("prog"), map: Some(Beside), folders: ["c:\\tc\\lib\\"]
+inputs: [File("..\\lib\\c0s"), File("main"), Library("cs")], out: Some("prog"), map: Some(Beside), map_form: Tlink, folders: ["c:\\tc\\lib\\"]
 ---
 main,,,libs/ d: cs
 =>
-inputs: [File("main"), Library("cs")], out: None, map: Some(Beside), folders: ["libs/", "d:"]
+inputs: [File("main"), Library("cs")], out: None, map: Some(Beside), map_form: Tlink, folders: ["libs/", "d:"]
 ---
 my-prog a-b,x-y
 =>
@@ -101,11 +101,11 @@ inputs: [File("main")], out: None, map: None
 ---
 main/x/c,prog
 =>
-inputs: [File("main")], out: Some("prog"), map: None, folders: [], ignore_case: false
+inputs: [File("main")], out: Some("prog"), map: None, map_form: Tlink, folders: [], ignore_case: false
 ---
 -x -c main
 =>
-inputs: [File("main")], out: None, map: None, folders: [], ignore_case: false
+inputs: [File("main")], out: None, map: None, map_form: Tlink, folders: [], ignore_case: false
 ---
 /x/c/n main
 =>
@@ -121,7 +121,7 @@ publics: true, line_numbers: true, detailed: true, writes_all: true
 ---
 /m- /c- /x- main
 =>
-map: Some(Beside), folders: [], ignore_case: true
+map: Some(Beside), map_form: Tlink, folders: [], ignore_case: true
 ---
 /c /c- /c main
 =>
@@ -129,27 +129,27 @@ ignore_case: false
 ---
 main,prog/x,list,cs/n
 =>
-inputs: [File("main"), Library("cs")], out: Some("prog"), map: None, folders: [], ignore_case: true, order: Meeting, null_bytes: false, stack: None, default_libraries: false
+inputs: [File("main"), Library("cs")], out: Some("prog"), map: None, map_form: Tlink, folders: [], ignore_case: true, order: Meeting, null_bytes: false, stack: None, form: Some(Exe), default_libraries: false
 ---
 /t main,prog.com
 =>
-form: Com
+form: Some(Com), default_libraries: true
 ---
 /Tdc main
 =>
-form: Com
+form: Some(Com), default_libraries: true
 ---
 /t /Tde main
 =>
-form: Exe
+form: Some(Exe), default_libraries: true
 ---
 /t/t- main
 =>
-form: Exe
+form: Some(Exe), default_libraries: true
 ---
 /L..\lib;c:\tc\lib main
 =>
-inputs: [File("main")], out: None, map: Some(Beside), folders: ["..\\lib", "c:\\tc\\lib"]
+inputs: [File("main")], out: None, map: Some(Beside), map_form: Tlink, folders: ["..\\lib", "c:\\tc\\lib"]
 ---
 -L/usr/tc/lib main,,,more/
 =>
@@ -190,7 +190,7 @@ main +
 util
 prog
 =>
-inputs: [File("c0s"), File("main"), File("util")], out: Some("prog"), map: None, folders: [], ignore_case: false
+inputs: [File("c0s"), File("main"), File("util")], out: Some("prog"), map: None, map_form: Tlink, folders: [], ignore_case: false
 ---
 main
 
@@ -299,6 +299,22 @@ Err(Word { place: 5, word: "/Rk", kind: Refused })
 ---
 /L main
 =>
-kind: UnknownOption"#;
+kind: UnknownOption
+---
+/La/c main
+=>
+Err(Word { place: 0, word: "/La/c", kind: TwoWays })
+---
+main -ja/Tdc
+=>
+Err(Word { place: 5, word: "-ja/Tdc", kind: TwoWays })
+---
+main,com3
+=>
+kind: Device
+---
+main,,lpt4.map
+=>
+kind: Device"#;
     hold_in(&rt, rt.alloc(), Language::Tlink, table);
 }

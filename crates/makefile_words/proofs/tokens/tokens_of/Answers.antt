@@ -2,7 +2,7 @@ use Rattle.std.proofs.Common.{◌∙◌, ap, arith}
 use Rattle.std.proofs.lemmas.List.{map-append}
 use Rattle.makefile_words.specs.inside.Tokens.{piece_of, pieces, placed_of}
 use Rattle.makefile_words.proofs.TokensLemmas.{is_none, left-more, left-none, left-start, not_empty}
-use Rattle.makefile_words.proofs.tokens.tokens.Goals as goal
+use Rattle.makefile_words.proofs.tokens.tokens_of.Goals as goal
 
 pub loop-rest-init : goal.loop-rest-init
 loop-rest-init c = record {

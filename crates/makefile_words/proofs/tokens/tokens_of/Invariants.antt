@@ -2,7 +2,7 @@ use Rattle.std.proofs.Common.{length}
 use Rattle.std.specs.Str.{IsUtf8}
 use Rattle.makefile_words.specs.inside.Tokens.{pieces}
 use Rattle.makefile_words.proofs.TokensLemmas.{IsLeft}
-use Rattle.makefile_words.proofs.tokens.tokens.Given as goal
+use Rattle.makefile_words.proofs.tokens.tokens_of.Given as goal
 
 abbrev pub invariant-loop-rest : goal.invariant-loop-rest
 invariant-loop-rest l =
