@@ -5,6 +5,7 @@ pub mod Declaring
 mod Held
 pub mod Doing
 pub mod FaultyModules
+pub mod LineTexts
 pub mod Linked
 pub mod Lists
 pub mod Joined
@@ -20,5 +21,6 @@ pub mod Placing
 pub mod Refused
 mod Splitting
 mod Warning
+pub mod Spoken
 pub mod Stacked
 pub mod Texts

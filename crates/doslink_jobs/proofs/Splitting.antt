@@ -50,20 +50,20 @@ front-of-split c text (Some x) (i, j, (behind, at), before, after, ordered, long
     (get_or-drop j text (k - j) 0 ∙ ap (λ n. get_or text n 0) back ∙ same) in
     before ∙ sym (ap front (last-below c text i (length text) (omega (arith, whole, next)) (at.byte ascii) later))
 
--- what stands behind it
-pub back-of-split : (c : ℕ) (text : List ℕ) (r : Option (Bor (List ℕ) × Bor (List ℕ)))
+-- what stands behind it, and another text where there is none
+pub back-of-split : (c : ℕ) (text other : List ℕ) (r : Option (Bor (List ℕ) × Bor (List ℕ)))
     → MatchOption r (RFindsChar c text None) (λ x. SplitsAroundMatch (RFindsChar c) text x.0.now x.1.now) → c < 128
-    → option_map_or (λ x. x.1.now) r [] ≡ option_map_or (λ parts. parts.1) (rsplit_once c text) []
+    → option_map_or (λ x. x.1.now) r other ≡ option_map_or (λ parts. parts.1) (rsplit_once c text) other
 unfolding rsplit_once
-back-of-split c text None found ascii =
+back-of-split c text other None found ascii =
     let back : Option ℕ → List ℕ = λ o.
     option_map_or {T = List ℕ × List ℕ} (λ parts. parts.1)
-    (option_map (λ i. (take i text, drop (i + 1) text)) o) [] in
+    (option_map (λ i. (take i text, drop (i + 1) text)) o) other in
     sym (ap back (none-below c text (length text) (λ i. NoCharPasses-char c text i found ascii)))
-back-of-split c text (Some x) (i, j, (behind, at), before, after, ordered, long, whole) ascii =
+back-of-split c text other (Some x) (i, j, (behind, at), before, after, ordered, long, whole) ascii =
     let back : Option ℕ → List ℕ = λ o.
     option_map_or {T = List ℕ × List ℕ} (λ parts. parts.1)
-    (option_map (λ n. (take n text, drop (n + 1) text)) o) [] in
+    (option_map (λ n. (take n text, drop (n + 1) text)) o) other in
     let next : j ≡ i + 1 = omega (arith, at.ends, len_utf8_ascii c ascii) in
     let later : (k : ℕ) → i < k → k < length text → get_or text k 0 ≢ c = λ k above under same.
     let here : j + (k - j) ≡ k = omega (arith, above, next) in

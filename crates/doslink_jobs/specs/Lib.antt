@@ -2,6 +2,7 @@ pub mod Aliases
 pub mod Communals
 pub mod Jobs
 pub mod Joined
+pub mod Lines
 pub mod Locals
 pub mod Maps
 pub mod Meant
@@ -9,6 +10,7 @@ pub mod Orders
 pub mod Overflow
 pub mod Places
 pub mod Refusals
+pub mod Responses
 pub mod Runs
 pub mod Stacks
 pub mod Written

@@ -3,6 +3,8 @@ use Rattle.std.specs.Prelude.{◌≡◌, ◌⊎◌, ◌==◌, ◌||◌, ◌&&◌
 use Rattle.std.specs.Prelude.{Ok, None, Some, MatchOption}
 use Rattle.std.specs.declared.option.Option.{Option}
 use Rattle.std.specs.List.{flat_map, slice_split}
+use Rattle.std.specs.Option.{option_map_or, unwrap_or}
+use Rattle.std.specs.Str.{bytes_eq}
 use Rattle.std.specs.Char.{is_ascii_alphabetic}
 use Rattle.clap.specs.Words.{Text}
 use Rattle.doslink_words.specs.declared.job.Directives.{Directives}
@@ -16,13 +18,15 @@ use Rattle.doslink_files.specs.Files.{Each, IsTold}
 use Rattle.doslink_files.specs.Paths.{last_part}
 use Rattle.doslink_jobs.specs.declared.words.Language.{Language}
 use Rattle.doslink_jobs.specs.declared.words.Language.TheVariants as language
+use Rattle.makefile_words.specs.Jobs as jobs
+use Rattle.makefile_words.specs.Lines as lines
+use Rattle.makefile_words.specs.declared.job.MakefileJob.{MakefileJob}
+use Rattle.makefile_words.specs.declared.tokens.Language.{Language as Linker}
+use Rattle.makefile_words.specs.declared.tokens.Language.TheVariants as linkers
 use Rattle.doslink_jobs.specs.Jobs.{EndsWith, IsDone}
+use Rattle.doslink_jobs.specs.Lines.{IsSpoken, IsWhole, are_followed, line_of}
 use Rattle.doslink_jobs.specs.Refusals.{IsRefusedJob}
-
--- the path of a response file: what stands behind `@` at the front of a word
-abbrev pub response_path : Text → Option Text
-response_path [] = None
-response_path (byte ∷ path) = if byte == 64 then Some path else None
+pub use Rattle.doslink_jobs.specs.Responses.{response_path}
 
 -- the path of a response file that is the only word
 abbrev pub only_response : List Text → Option Text
@@ -45,11 +49,36 @@ folders_between_colons list =
 abbrev pub library_folders : Text → List Text
 library_folders list = flat_map folders_between_colons (slice_split (λ byte. byte == 59) list)
 
--- how the words of a program of this name are read: as directives where its last part is `wlink` or `wlink.exe`
+-- whether a name is that of a program, with `.exe` or without
+abbrev pub is_called : (name program with_exe : Text) → Bool
+is_called name program with_exe = is_keyword name program || is_keyword name with_exe
+
+-- how the words of another linker of this name are read
+abbrev pub language_named : Text → Option Language
+language_named name =
+    if is_called name (codes "wlink") (codes "wlink.exe") then Some language.Directives
+    else (if is_called name (codes "link") (codes "link.exe") then Some language.Link
+    else (if is_called name (codes "tlink") (codes "tlink.exe") then Some language.Tlink
+    else None))
+
+-- how the words of a program of this name are read: by its last part
 abbrev pub language_of : Text → Language
-language_of program =
-    if is_keyword (last_part program) (codes "wlink") || is_keyword (last_part program) (codes "wlink.exe")
-    then language.Directives else language.Words
+language_of program = unwrap_or (language_named (last_part program)) language.Words
+
+-- the name behind `--as` at the front of words, and the words behind it
+abbrev pub as_asked : List Text → Option (Text × List Text)
+as_asked (option ∷ name ∷ words) = if bytes_eq option (codes "--as") then Some (name, words) else None
+as_asked _ = None
+
+-- how words are read, and which: `--as NAME` in front of them says it
+abbrev pub spoken : Language → List Text → Language × List Text
+spoken language words =
+    option_map_or (λ asked. (unwrap_or (language_named asked.0) language, asked.1)) (as_asked words) (language, words)
+
+-- `/?` alone asks a linker that takes a line for the same as `--help`
+abbrev pub line_asked : List Text → List Text
+line_asked (word ∷ []) = if bytes_eq word (codes "/?") then codes "--help" ∷ [] else word ∷ []
+line_asked words = words
 
 -- what a word gives of directives: the text of the response file that it names, and else the word itself
 abbrev pub IsPart : (told : Text → Option (List ℕ)) → (word part : Text) → Type 0
@@ -85,10 +114,41 @@ module _ (told : Text → Option (List ℕ)) (Does : Job → Type 0) (Helps : Li
   abbrev pub RunsGiven : (words : List Text) → Type 0
   RunsGiven list = (text : Text) × IsTextOf told list text × RunsText text
 
-  -- it holds of the job that words ask for, which are options and files, or directives
+  -- it holds of a job with the names of its program and its map whole
+  abbrev pub RunsWhole : Job → Type 0
+  RunsWhole job = (whole : Job) × IsWhole job whole × Does whole
+
+  -- the same of what is made of a line, whose options can be followed
+  abbrev pub RunsMade : MakefileJob → Type 0
+  RunsMade made = (are_followed made.settings ≡ true) × RunsWhole made.job
+
+  -- the same of the job that a line of LINK or TLINK asks for
+  abbrev pub RunsLine : Linker → (text : Text) → Type 0
+  RunsLine linker text =
+      (made : MakefileJob) × jobs.Means linker (Ok made) (lines.meaning linker text) × RunsMade made
+
+  -- the same of a line as it is typed, with what its response files say
+  abbrev pub RunsTyped : Linker → (text : Text) → Type 0
+  RunsTyped linker text = (rounds : ℕ) × (line : Text) × IsSpoken told linker rounds text line × RunsLine linker line
+
+  -- the same of the line that words give
+  abbrev pub RunsLines : Linker → (words : List Text) → Type 0
+  RunsLines linker list = RunsTyped linker (line_of list)
+
+  -- the same of words, which may ask for help
+  abbrev pub RunsLinker : Linker → (words : List Text) → Type 0
+  RunsLinker linker list = ((asks_text (line_asked list) ≡ true) × Helps (line_asked list)) ⊎ RunsLines linker list
+
+  -- it holds of the job that words ask for, which are options and files, directives, or a line
   abbrev pub Runs : Language → (words : List Text) → Type 0
   Runs language.Words list = MatchOption (only_response list) (RunsWords list) RunsResponse
   Runs language.Directives list = ((asks_text list ≡ true) × Helps list) ⊎ RunsGiven (response_words list)
+  Runs language.Link list = RunsLinker linkers.Link list
+  Runs language.Tlink list = RunsLinker linkers.Tlink list
+
+  -- the same, where `--as NAME` may stand in front of the words
+  abbrev pub RunsSpoken : Language → (words : List Text) → Type 0
+  RunsSpoken language list = Runs (spoken language list).0 (spoken language list).1
 
 -- A run ends with status 0 only where the job that words ask for was done, or they ask for none, and with 1 only where
 -- it was refused.

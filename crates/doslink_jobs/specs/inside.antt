@@ -3,6 +3,7 @@ pub mod Changes
 pub mod Declaring
 pub mod Gathering
 pub mod Inputs
+pub mod Lines
 pub mod Listed
 pub mod Meanings
 pub mod Passing

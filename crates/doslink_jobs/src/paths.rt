@@ -1,5 +1,6 @@
 //! Paths of what is written, made of others.
-ghost use Rattle.std.specs.Prelude.{◌≡◌, IfOk, string_bytes};
+ghost use Rattle.std.specs.Prelude.{◌≡◌, ◌<◌, IfOk, string_bytes};
+ghost use Rattle.doslink_jobs.specs.Lines as lines;
 ghost use Rattle.doslink_jobs.specs.Places as spec;
 
 use doslink_files::has_extension;
@@ -28,6 +29,17 @@ pub(crate) fn extension_of(path: &str) -> &str
     match path.rsplit_once('.') {
         Some((_, extension)) => extension,
         None => "",
+    }
+}
+
+/// What stands behind the last of an ASCII character in a path; the path where it has none.
+pub(crate) fn behind_last(path: &str, parting: char) -> &str
+    requires { parting < 128 }
+    ensures { result.now ≡ lines.behind_last parting path.now }
+{
+    match path.rsplit_once(parting) {
+        Some((_, name)) => name,
+        None => path,
     }
 }
 

@@ -26,7 +26,7 @@ pub(crate) struct Places<A: Allocator + Copy> {
 }
 
 /// The path of the first file.
-fn first_file<'a>(inputs: &[Input<'a>]) -> Option<&'a str>
+pub(crate) fn first_file<'a>(inputs: &[Input<'a>]) -> Option<&'a str>
     ensures { option_map (λ path. path.now) result ≡ spec.first_file inputs.now }
 {
     match inputs {
@@ -59,7 +59,7 @@ fn first_name<'a>(inputs: &[Input<'a>]) -> Option<&'a str>
 }
 
 /// The path of a program that is called after this file or library.
-fn path_after<A: Allocator + Copy>(
+pub(crate) fn path_after<A: Allocator + Copy>(
     alloc: A,
     name: Option<&str>,
     extension: &str,
@@ -74,7 +74,7 @@ fn path_after<A: Allocator + Copy>(
 }
 
 /// The extension of a file of a form.
-fn extension_for(form: Option<Form>) -> &'static str
+pub(crate) fn extension_for(form: Option<Form>) -> &'static str
     ensures { result.now ≡ spec.extension_for form }
 {
     match form {

@@ -9,12 +9,13 @@ ghost use Rattle.doslink_words.specs.Tokens.{texts};
 ghost use Rattle.doslink_files.specs.Written.{StandsAt};
 ghost use Rattle.doslink_jobs.specs.Jobs.{EndsWith, Tells};
 ghost use Rattle.doslink_jobs.specs.Runs as spec;
-ghost use Rattle.doslink_jobs.specs.Runs.{EndsBy, Runs, RunsGiven, RunsList, RunsResponse, RunsText, RunsWords};
+ghost use Rattle.doslink_jobs.specs.Runs.{EndsBy, Runs, RunsGiven, RunsList, RunsResponse, RunsSpoken, RunsText, RunsWords};
 ghost use Rattle.doslink_jobs.specs.Wrong.{EndsJob};
 
 use crate::directives::{
     Spoken, directive_line, directives_of, push_warnings, response_path, response_text,
 };
+use crate::lines::run_linker;
 use crate::running::{finish, run_job, run_lines};
 use crate::stop::{Halt, Stop};
 use doslink_files::last_part;
@@ -22,6 +23,7 @@ use doslink_words::{
     DirectiveFault, Directives, SplitFault, WordsFault, parse_directives, parse_words,
     response_word, split_words, text_asked,
 };
+use makefile_words::Language as Linker;
 use omf_files::{BufferedSink, FileId, World};
 use omf_frame::{Sink, put_all};
 use std::alloc::{AllocError, Global};
@@ -46,6 +48,10 @@ pub enum Language {
     Words,
     /// As directives, and as response files of these.
     Directives,
+    /// As a line of LINK.
+    Link,
+    /// As a line of TLINK.
+    Tlink,
 }
 
 /// Whether a name is this one, where small and capital letters are the same.
@@ -55,17 +61,34 @@ pub(crate) fn is_named(name: &[u8], other: &[u8]) -> bool
     name.eq_ignore_ascii_case(other)
 }
 
-/// How the words of a program of this name are read: as directives where its last part is `wlink`, with `.exe` or
-/// without.
+/// Whether a name is that of a program, with `.exe` or without.
+fn is_called(name: &[u8], program: &[u8], with_exe: &[u8]) -> bool
+    ensures { result ≡ spec.is_called name.now program.now with_exe.now }
+{
+    is_named(name, program) || is_named(name, with_exe)
+}
+
+/// How the words of another linker of this name are read.
+fn language_named(name: &[u8]) -> Option<Language>
+    ensures { result ≡ spec.language_named name.now }
+{
+    if is_called(name, b"wlink", b"wlink.exe") {
+        Some(Language::Directives)
+    } else if is_called(name, b"link", b"link.exe") {
+        Some(Language::Link)
+    } else if is_called(name, b"tlink", b"tlink.exe") {
+        Some(Language::Tlink)
+    } else {
+        None
+    }
+}
+
+/// How the words of a program of this name are read: as those of `wlink`, `link` or `tlink` where its last part is that,
+/// with `.exe` or without, and else as those of `doslink`.
 pub fn language_of(program: &str) -> Language
     ensures { result ≡ spec.language_of program.now }
 {
-    let name = last_part(program.as_bytes());
-    if is_named(name, b"wlink") || is_named(name, b"wlink.exe") {
-        Language::Directives
-    } else {
-        Language::Words
-    }
+    language_named(last_part(program.as_bytes())).unwrap_or(Language::Words)
 }
 
 /// What semicolons separate.
@@ -289,7 +312,7 @@ fn answer_words<O: Write + Drop, E: Sink>(
 }
 
 /// Writes help to standard output, and hands out the exit status.
-fn print_help<O: Write + Drop, E: Sink>(
+pub(crate) fn print_help<O: Write + Drop, E: Sink>(
     text: &str,
     output: &mut BufferedSink<O>,
     errors: &mut E,
@@ -397,10 +420,18 @@ fn run_command<W: World + Copy, O: Write + Drop, E: Sink>(
     }
 }
 
-/// Does what the words after the program's name ask for, and hands out the exit status: 0 where the program is written
-/// or help is, 1 where an input is at fault, 2 where the words are wrong, 3 where a file, a device or memory failed.
-/// `folders` are those of the environment's LIB, in which default libraries are looked up last.
-pub fn run_words<W: World + Copy, O: Write + Drop, E: Sink>(
+/// The name behind `--as` at the front of words, and the words behind it.
+fn as_asked<'w, 'a>(words: &'w [&'a str]) -> Option<(&'a str, &'w [&'a str])>
+    ensures { option_map (λ asked. (asked.0.now, texts asked.1.now)) result ≡ spec.as_asked (texts words.now) }
+{
+    match words {
+        [option, name, rest @ ..] if option.as_bytes() == b"--as".as_slice() => Some((name, rest)),
+        _ => None,
+    }
+}
+
+/// Does what words ask for, which are read so, and hands out the exit status.
+fn run_in<W: World + Copy, O: Write + Drop, E: Sink>(
     alloc: Global,
     world: W,
     language: Language,
@@ -418,6 +449,42 @@ pub fn run_words<W: World + Copy, O: Write + Drop, E: Sink>(
     match language {
         Language::Directives => run_directives(alloc, world, words, folders, output, errors),
         Language::Words => run_command(alloc, world, words, folders, output, errors),
+        Language::Link => {
+            let linker = Linker::Link;
+            run_linker(alloc, world, linker, words, folders, output, errors)
+        }
+        Language::Tlink => {
+            let linker = Linker::Tlink;
+            run_linker(alloc, world, linker, words, folders, output, errors)
+        }
+    }
+}
+
+/// Does what the words after the program's name ask for, and hands out the exit status: 0 where the program is written
+/// or help is, 1 where an input is at fault, 2 where the words are wrong, 3 where a file, a device or memory failed.
+/// They are read as the language says, unless `--as link`, `--as tlink` or `--as wlink` stands in front. `folders` are
+/// those of the environment's LIB, in which default libraries are looked up last.
+pub fn run_words<W: World + Copy, O: Write + Drop, E: Sink>(
+    alloc: Global,
+    world: W,
+    language: Language,
+    words: &[&str],
+    folders: &[&str],
+    output: &mut BufferedSink<O>,
+    errors: &mut E,
+) -> u8
+    requires output { sink_failures output.old ≡ 0 }
+    requires errors { E.failures errors.old < 2 ^ 64 - 1 }
+    ensures { EndsBy Global (W.bytes world) (StandsAt (W.blank world) (W.Puts world)) (texts folders.now)
+        (λ does helps. RunsSpoken (W.bytes world) does helps language (texts words.now))
+        (Tells E.written E.failures errors.old errors.new) result }
+{
+    let Some((name, rest)) = as_asked(words) else {
+        return run_in(alloc, world, language, words, folders, output, errors);
+    };
+    match language_named(name.as_bytes()) {
+        Some(named) => run_in(alloc, world, named, rest, folders, output, errors),
+        None => wrong_words("doslink: behind --as stands link, tlink or wlink\n", errors),
     }
 }
 

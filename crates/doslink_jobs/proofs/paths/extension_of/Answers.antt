@@ -1,4 +1,4 @@
-use Rattle.std.proofs.Common.{◌≡◌, ◌∙◌, None, Some, ap, arith, sym, true}
+use Rattle.std.proofs.Common.{◌≡◌, ◌∙◌, [], None, Some, ap, arith, sym, true}
 use Rattle.std.proofs.lemmas.Bool.{cond-true}
 use Rattle.doslink_files.specs.Paths.{has_extension}
 use Rattle.doslink_jobs.proofs.Splitting.{back-of-split}
@@ -10,7 +10,7 @@ returns-in-Some c =
     let has : has_extension text ≡ true =
     sym (c.has_extension.ensures ∙ ap has_extension c.as_bytes.ensures.value)
     ∙ c.if-not-has_extension.false in
-    back-of-split 46 text (Some (c.in-Some.field-0-0, c.in-Some.extension)) c.in-Some.ensures.cases (omega arith)
+    back-of-split 46 text [] (Some (c.in-Some.field-0-0, c.in-Some.extension)) c.in-Some.ensures.cases (omega arith)
     ∙ sym (cond-true _ _ _ has)
 
 pub returns-in-None : goal.returns-in-None
@@ -19,4 +19,4 @@ returns-in-None c =
     let has : has_extension text ≡ true =
     sym (c.has_extension.ensures ∙ ap has_extension c.as_bytes.ensures.value)
     ∙ c.if-not-has_extension.false in
-    back-of-split 46 text None c.in-None.ensures.cases (omega arith) ∙ sym (cond-true _ _ _ has)
+    back-of-split 46 text [] None c.in-None.ensures.cases (omega arith) ∙ sym (cond-true _ _ _ has)

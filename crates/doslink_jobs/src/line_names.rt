@@ -1,0 +1,100 @@
+//! The names that a line's job writes, made whole.
+ghost use Rattle.std.specs.Prelude.{◌≡◌, IfOk, string_bytes};
+ghost use Rattle.std.specs.Option.{option_map};
+ghost use Rattle.doslink_words.specs.Said.{map_of};
+ghost use Rattle.doslink_jobs.specs.Lines as spec;
+ghost use Rattle.doslink_jobs.specs.inside.Lines.{AreNamesOf, named_map};
+
+use crate::paths::behind_last;
+use crate::places::{extension_for, first_file, path_after};
+use doslink_files::has_extension;
+use doslink_words::{Job, MapFile};
+use std::alloc::{AllocError, Global};
+
+/// The names of what a job writes.
+#[derive(Drop)]
+pub(crate) struct Names {
+    /// That of the program.
+    pub out: String,
+    /// That of the map, where one is named.
+    pub map: Option<String>,
+}
+
+// The name of a file without its folders and its drive.
+fn base_name(path: &str) -> &str
+    ensures { result.now ≡ spec.base_name path.now }
+{
+    behind_last(behind_last(behind_last(path, '/'), '\\'), ':')
+}
+
+// A path with an extension where it has none.
+fn with_default(alloc: Global, path: &str, extension: &str) -> Result<String, AllocError>
+    ensures { IfOk result (λ made. string_bytes made ≡ spec.with_default path.now extension.now) }
+{
+    let mut made = String::from_str(alloc, path)?;
+    if !has_extension(path.as_bytes()) {
+        made.push_str(extension)?;
+    }
+    Ok(made)
+}
+
+// The program's name: the one that is said, or the first object's, in this folder.
+fn out_of(alloc: Global, job: &Job<'_>) -> Result<String, AllocError>
+    ensures { IfOk result (λ out. string_bytes out ≡ spec.line_out job.now) }
+{
+    let extension = extension_for(job.form);
+    match job.out {
+        Some(out) => with_default(alloc, out, extension),
+        None => path_after(alloc, base_of(first_file(&job.inputs)), extension),
+    }
+}
+
+// The name of a file, where there is one, without its folders.
+fn base_of(path: Option<&str>) -> Option<&str>
+    ensures { option_map (λ name. name.now) result ≡ option_map spec.base_name (option_map (λ p. p.now) path.entry) }
+{
+    Some(base_name(path?))
+}
+
+// The map's name, where one is named.
+fn map_name(alloc: Global, map: Option<MapFile<'_>>) -> Result<Option<String>, AllocError>
+    ensures { IfOk result (λ name. named_map map.entry (option_map string_bytes name)
+        ≡ option_map spec.line_map (option_map map_of map.entry)) }
+{
+    match map {
+        Some(MapFile::At(name)) => Ok(Some(with_default(alloc, name, ".MAP")?)),
+        Some(MapFile::Beside) | None => Ok(None),
+    }
+}
+
+/// The names of what a job writes, with the extensions that they take.
+pub(crate) fn names_of(alloc: Global, job: &Job<'_>) -> Result<Names, AllocError>
+    ensures { IfOk result (AreNamesOf job.now) }
+{
+    let out = out_of(alloc, job)?;
+    let map = map_name(alloc, job.map)?;
+    Ok(Names { out, map })
+}
+
+impl Names {
+    // The map of a job that has these names.
+    fn map_of<'n>(&'n self, map: Option<MapFile<'n>>) -> Option<MapFile<'n>>
+        ensures { option_map map_of result ≡ named_map map.entry (option_map string_bytes self.now.map) }
+    {
+        match &self.map {
+            Some(name) => Some(MapFile::At(name.as_str())),
+            None => map,
+        }
+    }
+}
+
+/// A job with these names.
+pub(crate) fn with_names<'n>(job: Job<'n>, names: &'n Names) -> Job<'n>
+    ensures { AreNamesOf job.entry names.now → spec.IsWhole job.entry result }
+{
+    Job {
+        out: Some(names.out.as_str()),
+        map: names.map_of(job.map),
+        ..job
+    }
+}

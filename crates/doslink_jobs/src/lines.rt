@@ -1,0 +1,339 @@
+//! The lines of LINK and TLINK, as jobs that are done.
+ghost use Rattle.std.specs.Prelude.{◌≡◌, ◌-◌, ◌^◌, ◌<◌, is_some, not};
+ghost use Rattle.omf_files.specs.Files.{sink_failures};
+ghost use Rattle.doslink_words.specs.Responses as responses;
+ghost use Rattle.doslink_words.specs.Tokens.{texts};
+ghost use Rattle.doslink_files.specs.Written.{StandsAt};
+ghost use Rattle.doslink_jobs.specs.Jobs.{EndsWith, Tells};
+ghost use Rattle.doslink_jobs.specs.Lines as spec;
+ghost use Rattle.doslink_jobs.specs.Runs as runs;
+ghost use Rattle.doslink_jobs.specs.Runs.{EndsBy, RunsLine, RunsLinker, RunsLines, RunsMade, RunsTyped, RunsWhole};
+
+use crate::limit::Limit;
+use crate::line_names::{names_of, with_names};
+use crate::line_text::{Read, line_of, with_files};
+use crate::running::{finish, run_lines};
+use crate::words::{Besides, out_of_memory, print_help, wrong_words};
+use doslink_words::text_asked;
+use makefile_words::{
+    FaultKind, Idle, IdleAt, Language, LineFault, MakefileJob, Settings, parse_line,
+};
+use omf_files::{BufferedSink, World};
+use omf_frame::Sink;
+use std::alloc::{AllocError, Global};
+use std::io::Write;
+
+/// The help of a program that takes a line.
+const LINES_HELP: &str = "\
+Links what compilers for DOS write, with libraries, into an MS-DOS program\n\
+\n\
+Usage: link OBJECTS[,PROGRAM[,MAP[,LIBRARIES[,DEFINITIONS]]]][;]\n\
+       tlink OBJECTS[,PROGRAM[,MAP[,LIBRARIES[,DEFINITIONS]]]][;]\n\
+\n\
+Blanks or + stand between the names of a field, and ; behind the last field that is\n\
+given. .OBJ, .EXE (.COM), .MAP and .LIB are put behind a name that has no extension.\n\
+NUL is no map, and a library's name that ends in \\, / or : a folder of libraries.\n\
+@FILE stands for what FILE says. A name with blanks stands in \". Options stand anywhere:\n\
+  link   /NOI case counts, /M a map with publics, /ST:N the stack's bytes, /DO the order\n\
+         DOSSEG, /NOD[:LIB] no default libraries, or not that one, /T a .COM file\n\
+  tlink  /c case counts, /x no map, /m a map with publics, /n no default libraries,\n\
+         /t a .COM file, /L FOLDERS of libraries\n\
+docs/DOSLINK.md has them all. `doslink --help` tells of the words of doslink.\n";
+
+// `--help` for `/?` alone.
+fn line_asked<'a>(words: &'a [&'a str]) -> &'a [&'a str]
+    ensures { texts result.now ≡ runs.line_asked (texts words.now) }
+{
+    match words {
+        [word] if word.as_bytes() == b"/?".as_slice() => &["--help"],
+        _ => words,
+    }
+}
+
+// Whether a word asks for help.
+fn asks_help(word: &str) -> bool
+    ensures { result ≡ responses.asks_help word.now }
+{
+    let word = word.as_bytes();
+    word == b"--help".as_slice() || word == b"-h".as_slice() || word == b"-?".as_slice()
+}
+
+// The text that words ask for, where they are no line: help, or the version.
+fn line_text_asked(words: &[&str]) -> Option<&'static str>
+    ensures { is_some result ≡ responses.asks_text (texts words.now) }
+{
+    match words {
+        [word] if asks_help(word) => Some(LINES_HELP),
+        _ => text_asked(words),
+    }
+}
+
+// Why options can't be followed, where they can't.
+fn unfollowed(settings: &Settings) -> Option<&'static str>
+    ensures { spec.are_followed settings.now ≡ not (is_some result) }
+{
+    if settings.writes_all {
+        return Some(
+            "doslink: /i isn't followed: segments without data take no bytes of the file\n",
+        );
+    }
+    match settings.most_extra {
+        None | Some(0xFFFF) => None,
+        Some(_) => Some("doslink: /CPARMAXALLOC isn't followed: the header asks for all memory\n"),
+    }
+}
+
+// How many lines end before a place of a text, and how many bytes stand before it in its own line, counted from 1.
+fn place_in(text: &str, place: usize) -> (usize, usize) {
+    let front = text.as_bytes().get(..place).unwrap_or(text.as_bytes());
+    let lines = front.iter().filter(|byte| **byte == b'\n').count();
+    let behind = front.iter().rposition(|byte| *byte == b'\n');
+    let start = match behind {
+        Some(at) => at.saturating_add(1),
+        None => 0,
+    };
+    let column = front.len().saturating_sub(start);
+    (lines.saturating_add(1), column.saturating_add(1))
+}
+
+// What is told of an option that has no effect.
+fn idle_text(idle: Idle) -> &'static str {
+    match idle {
+        Idle::Debug => "no data for debuggers is written",
+        Idle::Packing => "the program isn't packed: it runs the same",
+        Idle::ObjectFolders => "objects are looked for where their names say",
+        Idle::Nothing => "the option has no effect",
+    }
+}
+
+// Appends the line of a warning.
+fn push_warning(
+    alloc: Global,
+    text: &str,
+    warning: &IdleAt,
+    lines: &mut Vec<u8>,
+) -> Result<(), AllocError> {
+    let (line, column) = place_in(text, warning.place);
+    let what = idle_text(warning.idle);
+    let told = format!(in alloc; "doslink: warning: line {line}, column {column}: {what}\n")?;
+    lines.extend_from_slice(told.as_bytes())?;
+    Ok(())
+}
+
+// Appends a line for each of the first warnings, and how many more there are; and those of what the map hasn't.
+fn push_warnings(
+    alloc: Global,
+    made: &MakefileJob<'_>,
+    text: &str,
+    lines: &mut Vec<u8>,
+) -> Result<(), AllocError> {
+    let mut warnings = Limit::new(alloc, made.job.verbose);
+    for warning in &made.warnings {
+        if let Some(lines) = warnings.next() {
+            push_warning(alloc, text, warning, lines)?;
+        }
+    }
+    warnings.append_to(lines)?;
+    let has_map = made.job.map.is_some();
+    if has_map && made.settings.line_numbers {
+        lines.extend_from_slice(b"doslink: warning: the map has no line numbers\n")?;
+    }
+    if has_map && made.settings.detailed {
+        lines.extend_from_slice(
+            b"doslink: warning: the map tells of no module's parts of segments\n",
+        )?;
+    }
+    Ok(())
+}
+
+// The line of a word that is at fault: its place, and what is wrong with it.
+fn fault_line(
+    alloc: Global,
+    text: &str,
+    place: usize,
+    word: &str,
+    kind: FaultKind,
+) -> Result<String, AllocError> {
+    let (line, column) = place_in(text, place);
+    match kind {
+        FaultKind::NoObject => format!(in alloc; "doslink: {kind}\n"),
+        FaultKind::Response => {
+            format!(in alloc;
+                "doslink: {word:?}: response files name one another more than 8 deep\n"
+            )
+        }
+        _ => format!(in alloc; "doslink: line {line}, column {column}: {word:?}: {kind}\n"),
+    }
+}
+
+// Says why a line is no job, and hands out the exit status.
+fn refuse_line<E: Sink>(alloc: Global, text: &str, fault: &LineFault<'_>, errors: &mut E) -> u8
+    requires { E.failures errors.old < 2 ^ 64 - 1 }
+    ensures { EndsWith ⊥ ⊥ (Unit {0}) (Tells E.written E.failures errors.old errors.new) result }
+{
+    let LineFault::Word { place, word, kind } = *fault else {
+        return out_of_memory(errors);
+    };
+    match fault_line(alloc, text, place, word, kind) {
+        Ok(line) => wrong_words(line.as_str(), errors),
+        Err(AllocError) => out_of_memory(errors),
+    }
+}
+
+// Does the job of a line, with its names whole, and hands out the exit status.
+fn run_named<W: World + Copy, O: Write + Drop, E: Sink>(
+    alloc: Global,
+    world: W,
+    made: MakefileJob<'_>,
+    text: &str,
+    besides: &Besides<'_>,
+    output: &mut BufferedSink<O>,
+    errors: &mut E,
+) -> u8
+    requires output { sink_failures output.old ≡ 0 }
+    requires errors { E.failures errors.old < 2 ^ 64 - 1 }
+    ensures { EndsBy Global (W.bytes world) (StandsAt (W.blank world) (W.Puts world)) (texts besides.now.folders.now)
+        (λ does helps. RunsWhole (W.bytes world) does helps made.entry.job)
+        (Tells E.written E.failures errors.old errors.new) result }
+{
+    let mut lines = Vec::new(alloc);
+    if push_warnings(alloc, &made, text, &mut lines).is_err() {
+        return out_of_memory(errors);
+    }
+    match names_of(alloc, &made.job) {
+        Ok(names) => {
+            let job = with_names(made.job, &names);
+            run_lines(alloc, world, &job, besides, lines, output, errors)
+        }
+        Err(AllocError) => out_of_memory(errors),
+    }
+}
+
+// Does the job of a line where its options can be followed, and hands out the exit status.
+fn run_made<W: World + Copy, O: Write + Drop, E: Sink>(
+    alloc: Global,
+    world: W,
+    made: MakefileJob<'_>,
+    text: &str,
+    besides: &Besides<'_>,
+    output: &mut BufferedSink<O>,
+    errors: &mut E,
+) -> u8
+    requires output { sink_failures output.old ≡ 0 }
+    requires errors { E.failures errors.old < 2 ^ 64 - 1 }
+    ensures { EndsBy Global (W.bytes world) (StandsAt (W.blank world) (W.Puts world)) (texts besides.now.folders.now)
+        (λ does helps. RunsMade (W.bytes world) does helps made.entry)
+        (Tells E.written E.failures errors.old errors.new) result }
+{
+    match unfollowed(&made.settings) {
+        Some(why) => wrong_words(why, errors),
+        None => run_named(alloc, world, made, text, besides, output, errors),
+    }
+}
+
+// Does what a line asks for whose response files are read, and hands out the exit status.
+fn run_line<W: World + Copy, O: Write + Drop, E: Sink>(
+    alloc: Global,
+    world: W,
+    linker: Language,
+    text: &str,
+    besides: &Besides<'_>,
+    output: &mut BufferedSink<O>,
+    errors: &mut E,
+) -> u8
+    requires output { sink_failures output.old ≡ 0 }
+    requires errors { E.failures errors.old < 2 ^ 64 - 1 }
+    ensures { EndsBy Global (W.bytes world) (StandsAt (W.blank world) (W.Puts world)) (texts besides.now.folders.now)
+        (λ does helps. RunsLine (W.bytes world) does helps linker text.now)
+        (Tells E.written E.failures errors.old errors.new) result }
+{
+    match parse_line(alloc, linker, text) {
+        Ok(made) => run_made(alloc, world, made, text, besides, output, errors),
+        Err(fault) => refuse_line(alloc, text, &fault, errors),
+    }
+}
+
+// Does what the line of some words asks for, and hands out the exit status.
+fn run_typed<W: World + Copy, O: Write + Drop, E: Sink>(
+    alloc: Global,
+    world: W,
+    linker: Language,
+    line: &str,
+    folders: &[&str],
+    output: &mut BufferedSink<O>,
+    errors: &mut E,
+) -> u8
+    requires output { sink_failures output.old ≡ 0 }
+    requires errors { E.failures errors.old < 2 ^ 64 - 1 }
+    ensures { EndsBy Global (W.bytes world) (StandsAt (W.blank world) (W.Puts world)) (texts folders.now)
+        (λ does helps. RunsTyped (W.bytes world) does helps linker line.now)
+        (Tells E.written E.failures errors.old errors.new) result }
+{
+    let mut read = Read::new(alloc);
+    match with_files(alloc, &world, linker, line, &mut read) {
+        Ok(text) => {
+            let besides = Besides {
+                folders,
+                read: &read.ids,
+            };
+            run_line(
+                alloc,
+                world,
+                linker,
+                text.as_str(),
+                &besides,
+                output,
+                errors,
+            )
+        }
+        Err(why) => finish(Err(why), &read.lines, errors),
+    }
+}
+
+// Does what the words of a line ask for, and hands out the exit status.
+fn run_lined<W: World + Copy, O: Write + Drop, E: Sink>(
+    alloc: Global,
+    world: W,
+    linker: Language,
+    words: &[&str],
+    folders: &[&str],
+    output: &mut BufferedSink<O>,
+    errors: &mut E,
+) -> u8
+    requires output { sink_failures output.old ≡ 0 }
+    requires errors { E.failures errors.old < 2 ^ 64 - 1 }
+    ensures { EndsBy Global (W.bytes world) (StandsAt (W.blank world) (W.Puts world)) (texts folders.now)
+        (λ does helps. RunsLines (W.bytes world) does helps linker (texts words.now))
+        (Tells E.written E.failures errors.old errors.new) result }
+{
+    if words.is_empty() {
+        return wrong_words(LINES_HELP, errors);
+    }
+    match line_of(alloc, words) {
+        Ok(line) => run_typed(alloc, world, linker, line.as_str(), folders, output, errors),
+        Err(AllocError) => out_of_memory(errors),
+    }
+}
+
+/// Does what words ask for that are a line of LINK or TLINK, or tells help or the version, and hands out the exit
+/// status.
+pub(crate) fn run_linker<W: World + Copy, O: Write + Drop, E: Sink>(
+    alloc: Global,
+    world: W,
+    linker: Language,
+    words: &[&str],
+    folders: &[&str],
+    output: &mut BufferedSink<O>,
+    errors: &mut E,
+) -> u8
+    requires output { sink_failures output.old ≡ 0 }
+    requires errors { E.failures errors.old < 2 ^ 64 - 1 }
+    ensures { EndsBy Global (W.bytes world) (StandsAt (W.blank world) (W.Puts world)) (texts folders.now)
+        (λ does helps. RunsLinker (W.bytes world) does helps linker (texts words.now))
+        (Tells E.written E.failures errors.old errors.new) result }
+{
+    match line_text_asked(line_asked(words)) {
+        Some(text) => print_help(text, output, errors),
+        None => run_lined(alloc, world, linker, words, folders, output, errors),
+    }
+}
