@@ -14,6 +14,8 @@ mod forms;
 #[cfg(test)]
 mod lengths;
 #[cfg(test)]
+mod lines;
+#[cfg(test)]
 mod modules;
 #[cfg(test)]
 mod packed;

@@ -1,5 +1,6 @@
 //! Runs over a world in memory.
 use crate::forms::{FORM_LINES, FORM_MODULES, FORM_RUNS, FORMED};
+use crate::lines::{LINE_FILES, LINE_RUNS, LINED, MAPPED};
 use crate::modules::LIBRARY;
 use crate::tables::{
     ALIAS_RUNS, COMMUNAL_RUNS, DEFAULT_RUNS, DOUBLED_RUNS, LIMITED_RUNS, LOCAL_DEFAULT_RUNS,
@@ -77,6 +78,7 @@ fn put_further<'a>(files: &mut Vec<(&'a str, &'a [u8])>) -> Result<(), AllocErro
     files.extend_from_slice(&FURTHER_MODULES)?;
     files.extend_from_slice(&FORM_MODULES)?;
     files.extend_from_slice(&FORM_LINES)?;
+    files.extend_from_slice(&LINE_FILES)?;
     files.extend_from_slice(&ARCHIVES)
 }
 
@@ -283,6 +285,34 @@ fn runs_with_a_form_write_these_files(rt: HostRuntime) -> Result<(), Fail> {
     for (row, path, bytes) in &FORMED {
         let done = run_row(rt.alloc(), row, path)?;
         assert!(rt; done.out.as_slice() == *bytes, "{row}");
+    }
+    Ok(())
+}
+
+#[test]
+fn lines_tell_these_lines(rt: HostRuntime) -> Result<(), Fail> {
+    let wrong = first_wrong(rt.alloc(), LINE_RUNS)?;
+    assert_eq!(rt; wrong, None);
+    Ok(())
+}
+
+#[test]
+fn lines_write_these_files(rt: HostRuntime) -> Result<(), Fail> {
+    for (row, path, bytes) in &LINED {
+        let done = run_row(rt.alloc(), row, path)?;
+        assert!(rt; done.out.as_slice() == *bytes, "{row}");
+    }
+    Ok(())
+}
+
+#[test]
+fn lines_write_a_map_where_they_ask_for_one(rt: HostRuntime) -> Result<(), Fail> {
+    for (row, path, writes) in &MAPPED {
+        let done = run_row(rt.alloc(), row, path)?;
+        assert!(rt;
+            (done.map.as_slice() != b"old".as_slice()) == *writes,
+            "{row}"
+        );
     }
     Ok(())
 }

@@ -1,0 +1,101 @@
+//! Lines of LINK and TLINK, and what runs of them tell and write.
+use crate::forms::EXE_OF_F;
+use crate::modules::OFFERS;
+
+/// Response files, and a module in a folder.
+pub(crate) const LINE_FILES: [(&str, &[u8]); 9] = [
+    ("OBJ/ONE.OBJ", &OFFERS),
+    ("LINK.RSP", b"A+\r\nF /NOI\r\nP.EXE\r\n"),
+    ("OBJS", b"A +F\n"),
+    ("LIBRARIES", b"RUN\n"),
+    // nothing behind a Ctrl-Z counts
+    ("ENDED", b"F,P.EXE\r\n\x1A,nothing of this"),
+    ("DEEP", b"F @DEEP"),
+    ("DEEPER", b"@OBJS,P.EXE"),
+    ("LINES2", b"F\nP.EXE\n/z\n"),
+    ("TWICE", b"@MANY @MANY @MANY @MANY @MANY @MANY @MANY @MANY"),
+];
+
+/// Runs of lines, in the form of the other tables.
+pub(crate) const LINE_RUNS: &str = "\
+tlink /x F|0||
+TLINK.EXE /x F|0||
+link f;|3||doslink: f: 1 Device at record 0: no such file~
+C:\\BIN\\LINK.EXE F;|0||
+doslink --as tlink /x A+F|0||
+doslink --as LINK A F;|0||
+doslink --as link.exe F;|0||
+doslink --as wlink @LINES|0||doslink: warning: LINES: line 3: the map is not sorted~
+doslink --as ld F|2||doslink: behind --as stands link, tlink or wlink~
+tlink A|1||doslink: A.OBJ: \"f\" is missing: record 28 (0000001C), wanted by \"a.c\"~
+tlink /x A,,,RUN|0||
+link A,,NUL,RUN;|0||
+link F CAPITAL;|1||doslink: link: 25 DuplicatePublic \"F\" in F.OBJ and CAPITAL.OBJ~
+link F CAPITAL /NOI;|0||
+tlink /x F CAPITAL|1||doslink: link: 25 DuplicatePublic \"F\" in F.OBJ and CAPITAL.OBJ~
+tlink /x /c F CAPITAL|0||
+tlink /x /c- F CAPITAL|1||doslink: link: 25 DuplicatePublic \"F\" in F.OBJ and CAPITAL.OBJ~
+link @LINK.RSP|0||
+tlink /x @OBJS,P.EXE,,@LIBRARIES|0||
+tlink /x @DEEPER|0||
+link @ENDED|0||
+link @DEEP|2||doslink: \"@DEEP\": response files name one another more than 8 deep~
+link @NOFILE|3||doslink: NOFILE: 1 Device at record 0: no such file~
+link @BINARY|2||doslink: BINARY: it is no UTF-8 text~
+link F /z;|2||doslink: line 1, column 3: \"/z\": unknown option~
+link @LINES2|2||doslink: line 3, column 1: \"/z\": unknown option~
+link F;G|2||doslink: line 1, column 3: \"G\": nothing is expected behind `;`~
+link ,P;|2||doslink: an object is expected~
+link /CP:1 F;|2||doslink: /CPARMAXALLOC isn't followed: the header asks for all memory~
+link /CP:0xFFFF F;|0||
+tlink /i F|2||doslink: /i isn't followed: segments without data take no bytes of the file~
+link /CO F /E;|0||doslink: warning: line 1, column 1: no data for debuggers is written~doslink: warning: line 1, column 7: the program isn't packed: it runs the same~
+tlink F /l|0||doslink: warning: the map has no line numbers~
+tlink F /s|0||doslink: warning: the map tells of no module's parts of segments~
+tlink /x F /l /s|0||
+tlink /t RELOC|1||doslink: link: 68 Relocated~
+link RELOC /T;|1||doslink: link: 68 Relocated~
+link F,F.OBJ;|2||doslink: F.OBJ: it is read and would be written~
+";
+
+/// Runs of lines, the path at which each writes, and all that it writes there.
+pub(crate) const LINED: [(&str, &str, &[u8]); 14] = [
+    ("link F;", "F.EXE", &EXE_OF_F),
+    ("link OBJ/ONE;", "ONE.EXE", &EXE_OF_F),
+    ("link OBJ/ONE,OBJ/TWO;", "OBJ/TWO.EXE", &EXE_OF_F),
+    ("link F,P.X;", "P.X", &EXE_OF_F),
+    ("link F.OBJ+,P;", "P.EXE", &EXE_OF_F),
+    ("tlink /x OBJ/ONE", "ONE.EXE", &EXE_OF_F),
+    ("tlink /x F,P", "P.EXE", &EXE_OF_F),
+    ("link @ENDED", "P.EXE", &EXE_OF_F),
+    ("tlink /x /Tde F,P.COM", "P.COM", &EXE_OF_F),
+    (
+        "link COMED,,,RUN /T;",
+        "COMED.COM",
+        &[0xE8, 0x00, 0x00, 0x90, 0x90],
+    ),
+    (
+        "tlink /x/t COMED,P,,RUN",
+        "P.COM",
+        &[0xE8, 0x00, 0x00, 0x90, 0x90],
+    ),
+    // no null bytes in a .COM file
+    ("link NULLS /T;", "NULLS.COM", &[0xC3]),
+    // wrong words leave the older file
+    ("link F,P /z;", "P.EXE", b"old"),
+    ("link F,P /CP:1;", "P.EXE", b"old"),
+];
+
+/// Runs of lines, the path of the program of each, and whether it writes a map at `P.MAP`.
+pub(crate) const MAPPED: [(&str, &str, bool); 10] = [
+    ("tlink F,P", "P.EXE", true),
+    ("tlink /x F,P", "P.EXE", false),
+    ("tlink F,P,nul", "P.EXE", false),
+    ("tlink F,Q,P", "Q.EXE", true),
+    ("link F,P;", "P.EXE", false),
+    ("link F,P,;", "P.EXE", true),
+    ("link F,P,,;", "P.EXE", true),
+    ("link F,Q,P;", "Q.EXE", true),
+    ("link F,P,NUL;", "P.EXE", false),
+    ("link F,P /M;", "P.EXE", true),
+];
