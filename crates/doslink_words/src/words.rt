@@ -27,7 +27,9 @@ use thiserror::Error;
 /// What stands at the end of help.
 const NOTES: &str = "\
 `doslink @FILE` takes its words from a file, at white space or in double quotes. Under the name\n\
-`wlink`, FILE has directives (file, library, libpath, name, format, option, order).\n\n\
+`wlink`, or behind `--as wlink`, FILE has directives (file, library, libpath, name, format, option,\n\
+order). Under the names `link` and `tlink`, or behind `--as link` and `--as tlink`, the words are a\n\
+line of that linker: `doslink --as link --help`.\n\n\
 Exit status: 0 all is done, 1 an input is at fault, 2 wrong arguments, 3 a file or\n\
 device failed or out of memory. A fault is one line on standard error; docs/FAULTS.md\n\
 and the man page say what to do about each.";
