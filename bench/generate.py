@@ -309,14 +309,16 @@ def weak_externals_unwanted(count):
     return Inputs([*main.modules, library(unwanted)], main.size, main.relocations)
 
 
+def archive_member(text, content):
+    """A member of an archive: its header, with its name as it stands there, and its bytes."""
+    head = f"{text:16}{0:<12}{0:<6}{0:<6}{644:<8}{len(content):<10}`\n".encode()
+    return head + content + b"\n" * (len(content) % 2)
+
+
 def archive(names_table, members):
     """An archive of `ar`, whose members are named by places of its table of long names."""
-    def member(text, content):
-        head = f"{text:16}{0:<12}{0:<6}{0:<6}{644:<8}{len(content):<10}`\n".encode()
-        return head + content + b"\n" * (len(content) % 2)
-
-    front = b"!<arch>\n" + member("//", names_table)
-    return front + b"".join(member("/0", content) for content in members)
+    front = b"!<arch>\n" + archive_member("//", names_table)
+    return front + b"".join(archive_member("/0", content) for content in members)
 
 
 def defining_module(text):
@@ -337,6 +339,20 @@ def missing_names(count):
     used = [f"_missing{number}" for number in range(count)]
     code = header("missing") + names("CODE", "CODE") + segment(2 * count) + externals(used) + fixed_to_externals(count)
     return Inputs([code + main_end()], 2 * count, 0)
+
+
+def symbols_of_missing_names(count):
+    """A module that uses names of which none is defined, and an archive whose symbol table says of each that a member
+    of its own defines it. The members say nothing."""
+    main = missing_names(count)
+    listed = b"".join(f"_missing{number}\0".encode() for number in range(count))
+    member = archive_member("m.o/", end_only())
+    length = 4 + 4 * count + len(listed)
+    first = len(b"!<arch>\n") + len(archive_member("/", bytes(length)))
+    places = [first + len(member) * number for number in range(count)]
+    table = struct.pack(f">{count + 1}I", count, *places) + listed
+    offering = b"!<arch>\n" + archive_member("/", table) + member * count
+    return Inputs([*main.modules, offering], main.size, main.relocations)
 
 
 def one_public(count):
