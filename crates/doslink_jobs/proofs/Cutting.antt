@@ -1,6 +1,6 @@
 -- New bytes of modules, one module behind the other.
 use Rattle.std.proofs.Common.{◌≡◌, ℕ, List, [], ◌∷◌, ◌++◌, Some, None, Vec, length, map, arith, refl, sym, ap, ◌∙◌}
-use Rattle.std.proofs.Common.{append_assoc, false, inr, MatchResult, Result}
+use Rattle.std.proofs.Common.{append_assoc, false, inr, subst, Err, MatchResult, Ok, OnOk, Result}
 use Rattle.std.proofs.lemmas.List.{map-append}
 use Rattle.std.specs.declared.option.Option.{Option}
 use Rattle.std.specs.Option.{option_map_or, unwrap_or}
@@ -14,6 +14,7 @@ use Rattle.doslink_jobs.specs.declared.stop.Stop.{Stop}
 use Rattle.doslink_jobs.specs.Refusals.{IsTooLong}
 use Rattle.doslink_jobs.specs.Stacks.{HasStack, IsStacked}
 use Rattle.doslink_jobs.specs.inside.Changes.{changed}
+use Rattle.doslink_jobs.specs.inside.CutStacks.{IsCutTold, cut_warning}
 use Rattle.doslink_jobs.specs.inside.Stops.{OnInput}
 use Rattle.doslink_jobs.proofs.Refused.{steps-weaker}
 
@@ -49,6 +50,21 @@ pub bytes-or : {A : Type 0} (o : Option (Vec ℕ A)) (bytes : Vec ℕ A)
     → (unwrap_or o bytes).items ≡ option_map_or (λ v. v.items) o bytes.items
 bytes-or None bytes = refl
 bytes-or (Some v) bytes = refl
+
+-- what is told of a stack that is cut, by the modules that inputs begin with
+pub cut-told : {T : Type 0} (stack : Stack) (order inputs : List (List ℕ)) (modules : List Module)
+    (r : Result T Stop) (old new : List ℕ) → AreRead (order ++ inputs) modules
+    → OnOk r (new ≡ old ++ cut_warning stack (answer modules stack.bytes))
+    → OnOk r (IsCutTold stack order inputs old new)
+cut-told stack order inputs modules (Ok v) old new are told =
+    (cut_warning stack (answer modules stack.bytes), inr (modules, are, refl), told)
+cut-told stack order inputs modules (Err stop) old new are told = tt
+
+-- lines that are kept from there on
+pub kept-ok : {X E : Type 0} (P : List ℕ → Type 0) (r : Result X E) (now later : List ℕ) → P now
+    → OnOk r (later ≡ now) → OnOk r (P later)
+kept-ok P (Ok v) now later p same = subst P (sym same) p
+kept-ok P (Err e) now later p same = tt
 
 -- what gives the stack of what inputs begin with its length, by what gives it that of their modules
 pub steps-of : {A : Type 0} (stack : Stack) (order inputs slices : List (List ℕ)) (modules : List Module)

@@ -1,3 +1,4 @@
+pub mod Absent
 pub mod Cutting
 pub mod Rounds
 pub mod Endless

@@ -10,6 +10,12 @@ pub map-map : {X Y Z : Type 0} (f : X → Y) (g : Y → Z) (xs : List X) → map
 map-map f g [] = refl
 map-map f g (x ∷ xs) = ap (λ l. g (f x) ∷ l) (map-map f g xs)
 
+-- a test of what is made of each
+pub any-map : {X Y : Type 0} (test : Y → Bool) (f : X → Y) (xs : List X)
+    → list_any test (map f xs) ≡ list_any (λ x. test (f x)) xs
+any-map test f [] = refl
+any-map test f (x ∷ xs) = ap (λ b. test (f x) || b) (any-map test f xs)
+
 -- none of one element more passes a test
 pub none-more : {X Y : Type 0} (test : Y → Bool) (f : X → Y) (xs : List X) (i : ℕ) (x : X) → i < length xs
     → x ≡ get_or xs i x → list_any test (map f (take i xs)) ≡ false → test (f x) ≡ false

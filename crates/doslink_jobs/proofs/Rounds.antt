@@ -1,8 +1,8 @@
 -- Rounds of default libraries that are searched behind others.
 use Rattle.std.proofs.Common.{◌≡◌, ◌≢◌, ℕ, List, [], ◌∷◌, ◌++◌, map, append_assoc, append-nil, refl, sym, subst}
-use Rattle.std.proofs.Common.{ap, ◌∙◌, IsErr, zero, suc, ◌<◌, length, get_or, drop, false}
+use Rattle.std.proofs.Common.{ap, ◌∙◌, IsErr, zero, suc, ◌<◌, length, get_or, drop, Bool, true, false, cond, filter, not}
 use Rattle.std.proofs.lemmas.List.{get_or-map, length-map}
-use Rattle.std.proofs.lemmas.List.Elements.{All-weaker, Contains-append_right}
+use Rattle.std.proofs.lemmas.List.Elements.{All-cons, All-head, All-nil, All-tail, All-weaker, Contains-append_right}
 use Rattle.std.specs.Borrow.{Bor}
 use Rattle.std.specs.List.{Contains}
 use Rattle.std.specs.declared.option.Option.{Option}
@@ -18,22 +18,22 @@ use Rattle.doslink_jobs.specs.declared.gathering.DefaultLibrary.{DefaultLibrary}
 use Rattle.doslink_files.specs.Files.{AreSought}
 use Rattle.doslink_words.specs.declared.job.Job.{Job}
 use Rattle.doslink_words.specs.Tokens.{texts}
-use Rattle.doslink_jobs.specs.Jobs.{AreDefaults, AreFilesOf, AreRounds, IsNamedBy, names_of, sought_of}
+use Rattle.doslink_jobs.specs.Jobs.{AreDefaults, AreFilesOf, AreRounds, IsAskedBy, IsNamedBy, is_left_out, names_of, sought_of}
 use Rattle.doslink_jobs.specs.Refusals.{HasFaultyLibrary}
-use Rattle.doslink_jobs.specs.inside.Gathering.{AreNamed}
+use Rattle.doslink_jobs.specs.inside.Gathering.{AreAsked, AreNamed}
 use Rattle.doslink_jobs.proofs.Lists.{map-map}
 
-module _ (told : Text → Option (List ℕ)) (folders : List Text) (names : Names) where
+module _ (told : Text → Option (List ℕ)) (folders left_out : List Text) (names : Names) where
   -- a round more
   pub AreRounds-more : (before rounds : List (List (List ℕ))) (files : List (List ℕ))
-      → AreRounds told folders names before rounds → AreDefaults told folders names (before ++ rounds) files
-      → AreRounds told folders names before (rounds ++ files ∷ [])
+      → AreRounds told folders left_out names before rounds → AreDefaults told folders left_out names (before ++ rounds) files
+      → AreRounds told folders left_out names before (rounds ++ files ∷ [])
   AreRounds-more before [] files are more =
-      (subst (λ b. AreDefaults told folders names b files) (append-nil before) more, tt)
+      (subst (λ b. AreDefaults told folders left_out names b files) (append-nil before) more, tt)
   AreRounds-more before (r ∷ rounds) files (first, rest) more = (
     first,
     AreRounds-more (before ++ r ∷ []) rounds files rest
-        (subst (λ b. AreDefaults told folders names b files) (sym (append_assoc before (r ∷ []) rounds)) more),
+        (subst (λ b. AreDefaults told folders left_out names b files) (sym (append_assoc before (r ∷ []) rounds)) more),
   )
 
 -- the files of one round more
@@ -71,6 +71,22 @@ named-drop n some all libraries is named =
     All-weaker (λ l. IsNamedBy some l.name.now) (λ l. IsNamedBy all l.name.now)
     (λ l by. (by.0, Contains-drop n all by.0 (subst (λ ms. Contains ms by.0) is by.1), by.2)) libraries named
 
+-- those of what modules name that aren't left out
+pub asked-kept : {A : Type 0} (left_out : List Text) (modules : List Held) (libraries : List (DefaultLibrary A))
+    → AreNamed modules libraries
+    → AreAsked left_out modules (filter (λ l. not (is_left_out left_out l.name.now)) libraries)
+asked-kept left_out modules [] named = All-nil (λ l. IsAskedBy left_out modules l.name.now)
+asked-kept left_out modules (l ∷ libraries) named =
+    let more = asked-kept left_out modules libraries (All-tail (λ l. IsNamedBy modules l.name.now) l libraries named) in
+    go (is_left_out left_out l.name.now) refl more
+  where
+    go : (out : Bool) → is_left_out left_out l.name.now ≡ out
+        → AreAsked left_out modules (filter (λ l. not (is_left_out left_out l.name.now)) libraries)
+        → AreAsked left_out modules (cond (not out) (l ∷ filter (λ l. not (is_left_out left_out l.name.now)) libraries)
+        (filter (λ l. not (is_left_out left_out l.name.now)) libraries))
+    go true is more = more
+    go false is more = All-cons (λ l. IsAskedBy left_out modules l.name.now) l _ (All-head (λ l. IsNamedBy modules l.name.now) l libraries named, is) more
+
 -- the modules of what was taken
 drop-map : {X Y : Type 0} (f : X → Y) (n : ℕ) (xs : List X) → map f (drop n xs) ≡ drop n (map f xs)
 drop-map f zero xs = refl
@@ -104,13 +120,13 @@ pub files-found : (told : Text → Option (List ℕ)) (folders all : List Text) 
     (given : List (List ℕ)) (more : List (List (List ℕ))) → all ≡ texts job.folders.items ++ folders
     → names ≡ names_of job.ignore_case → (job.default_libraries ≡ false → ⊥)
     → AreSought told (texts job.folders.items) (map sought_of job.inputs.items) given
-    → AreRounds told all names (given ∷ []) more → AreFilesOf told folders job (given ∷ more)
+    → AreRounds told all (texts job.left_out.items) names (given ∷ []) more → AreFilesOf told folders job (given ∷ more)
 files-found told folders all job names given more folded same on sought are = record {
   given = given;
   defaults = more;
   are_given = sought;
-  are_defaults = subst (λ n. AreRounds told (texts job.folders.items ++ folders) n (given ∷ []) more) same
-      (subst (λ fs. AreRounds told fs names (given ∷ []) more) folded are);
+  are_defaults = subst (λ n. AreRounds told (texts job.folders.items ++ folders) (texts job.left_out.items) n (given ∷ []) more) same
+      (subst (λ fs. AreRounds told fs (texts job.left_out.items) names (given ∷ []) more) folded are);
   none = λ off. absurd (on off);
   together = refl;
 }

@@ -1,6 +1,6 @@
 -- What a job has done where it ends well, and how a run ends. `told` are the bytes of files by their paths, where the
 -- world tells them.
-use Rattle.std.specs.Prelude.{◌≡◌, ◌⊎◌, ℕ, Bool, false, All, List, [], ◌∷◌, ◌++◌, map, Ok}
+use Rattle.std.specs.Prelude.{◌≡◌, ◌⊎◌, ◌-◌, ℕ, Bool, false, All, List, [], ◌∷◌, ◌++◌, codes, drop, length, map, take, Ok}
 use Rattle.std.specs.Prelude.{if◌then◌else◌}
 use Rattle.std.specs.declared.option.Option.{Option}
 use Rattle.std.specs.declared.result.Result.{Result}
@@ -20,6 +20,7 @@ use Rattle.omf_search.specs.Said.{Module}
 use Rattle.doslink_words.specs.declared.job.Job.{Job}
 use Rattle.doslink_words.specs.declared.job.Input.{Input}
 use Rattle.doslink_words.specs.declared.job.Input.TheVariants as input
+use Rattle.doslink_words.specs.Keywords.{is_keyword}
 use Rattle.doslink_words.specs.Said.{order_of}
 use Rattle.doslink_words.specs.Tokens.{texts}
 use Rattle.doslink_stock.specs.Search.{Takes}
@@ -121,33 +122,51 @@ sought_of (input.Library name) = sought.Library name
 abbrev pub IsNamedBy : (modules : List Held) → (name : List ℕ) → Type 0
 IsNamedBy modules name = (m : Held) × Contains modules m × Contains m.libraries name
 
--- these are the bytes of a library that was looked up by a name that one of these modules names
-abbrev pub IsDefault : (told : Text → Option (List ℕ)) → (folders : List Text) → (modules : List Held)
-    → (bytes : List ℕ) → Type 0
-IsDefault told folders modules bytes =
-    (name path : Text) × IsFound told folders name path bytes × IsNamedBy modules name
+-- the name of a library without `.LIB` at its end, in whatever case that stands there
+abbrev pub library_stem : (name : Text) → Text
+library_stem name =
+    let front = length name - 4 in
+    if is_keyword (drop front name) (codes ".LIB") then take front name else name
 
--- these are default libraries that go behind the files of some rounds: the modules that a link takes of those name them
-abbrev pub AreDefaults : (told : Text → Option (List ℕ)) → (folders : List Text) → Names
+-- a library is one of those that are left out, by its name: without regard to case, with `.LIB` or without
+abbrev pub is_left_out : (left_out : List Text) → (name : Text) → Bool
+is_left_out left_out name = list_any (λ other. is_keyword (library_stem other) (library_stem name)) left_out
+
+-- one of these modules names this default library, and it isn't left out
+abbrev pub IsAskedBy : (left_out : List Text) → (modules : List Held) → (name : List ℕ) → Type 0
+IsAskedBy left_out modules name = IsNamedBy modules name × (is_left_out left_out name ≡ false)
+
+-- these are the bytes of a library that was looked up by a name that one of these modules asks for
+abbrev pub IsDefault : (told : Text → Option (List ℕ)) → (folders left_out : List Text) → (modules : List Held)
+    → (bytes : List ℕ) → Type 0
+IsDefault told folders left_out modules bytes =
+    (name path : Text) × IsFound told folders name path bytes × IsAskedBy left_out modules name
+
+-- these are default libraries that go behind the files of some rounds: the modules that a link takes of those ask for
+-- them
+abbrev pub AreDefaults : (told : Text → Option (List ℕ)) → (folders left_out : List Text) → Names
     → (rounds : List (List (List ℕ))) → (files : List (List ℕ)) → Type 0
-AreDefaults told folders names rounds files =
-    (modules : List Held) × Takes names rounds modules × All (IsDefault told folders modules) files
+AreDefaults told folders left_out names rounds files =
+    (modules : List Held) × Takes names rounds modules × All (IsDefault told folders left_out modules) files
 
 -- so is each further round, behind those before it
-abbrev pub AreRounds : (told : Text → Option (List ℕ)) → (folders : List Text) → Names
+abbrev pub AreRounds : (told : Text → Option (List ℕ)) → (folders left_out : List Text) → Names
     → (before rounds : List (List (List ℕ))) → Type 0
-AreRounds told folders names before [] = Unit {0}
-AreRounds told folders names before (files ∷ rounds) =
-    AreDefaults told folders names before files × AreRounds told folders names (before ++ files ∷ []) rounds
+AreRounds told folders left_out names before [] = Unit {0}
+AreRounds told folders left_out names before (files ∷ rounds) =
+    AreDefaults told folders left_out names before files
+    × AreRounds told folders left_out names (before ++ files ∷ []) rounds
 
 -- These are the files of a job, in the rounds in which they are searched: those that it names, and then default
--- libraries, where it asks for these. They are looked up in other folders too, behind those of the job.
+-- libraries, where it asks for these, but for those that it leaves out. They are looked up in other folders too, behind
+-- those of the job.
 pub record AreFilesOf (told : Text → Option (List ℕ)) (folders : List Text) (job : Job)
     (rounds : List (List (List ℕ))) : Type 0 where
   pub given : List (List ℕ)
   pub defaults : List (List (List ℕ))
   pub are_given : AreSought told (texts job.folders.items) (map sought_of job.inputs.items) given
-  pub are_defaults : AreRounds told (texts job.folders.items ++ folders) (names_of job.ignore_case) (given ∷ []) defaults
+  pub are_defaults : AreRounds told (texts job.folders.items ++ folders) (texts job.left_out.items) (names_of job.ignore_case)
+      (given ∷ []) defaults
   pub none : job.default_libraries ≡ false → defaults ≡ []
   pub together : rounds ≡ given ∷ defaults
 

@@ -1,7 +1,10 @@
 -- How the code sees what it works on: no public contract cites any of it.
+pub mod Absent
 pub mod Changes
+pub mod CutStacks
 pub mod Declaring
 pub mod Gathering
+pub mod Idle
 pub mod Inputs
 pub mod Lines
 pub mod Listed

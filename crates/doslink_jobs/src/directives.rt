@@ -1,17 +1,22 @@
 //! The directives that words give, as one text.
-ghost use Rattle.std.specs.Prelude.{◌≡◌, ◌++◌, ◌∷◌, ℕ, List, [], MatchResult, string_bytes};
+ghost use Rattle.std.specs.Prelude.{◌≡◌, ◌==◌, ◌++◌, ◌∷◌, ℕ, List, [], IfOk, MatchResult, OnOk, count_by, drop};
+ghost use Rattle.std.specs.Prelude.{string_bytes};
+ghost use Rattle.std.specs.List.{flat_map};
 ghost use Rattle.std.specs.Option.{option_map};
 ghost use Rattle.doslink_files.specs.Files.{IsTold};
 ghost use Rattle.doslink_words.specs.Tokens.{texts};
 ghost use Rattle.doslink_jobs.specs.Runs as spec;
 ghost use Rattle.doslink_jobs.specs.Runs.{IsPart, IsTextOf};
+ghost use Rattle.doslink_jobs.specs.inside.Idle as idle;
+ghost use Rattle.doslink_jobs.specs.inside.Idle.{GiveLines};
 ghost use Rattle.doslink_jobs.specs.inside.Stops.{OnHalt};
 
-use crate::limit::Limit;
+use crate::limit::{push_rest, told_count};
 use crate::stop::{Halt, stop_unread};
 use doslink_files::read_file;
 use doslink_telling::push_path_line;
 use doslink_words::{DirectiveFault, Directives, Warning, WarningKind};
+use itoa::Buffer;
 use omf_files::{FileId, World};
 use std::alloc::{AllocError, Global};
 
@@ -89,7 +94,9 @@ fn push_part<W: World>(
 }
 
 /// How many lines end behind a place of a text.
-fn line_count(text: &[u8], start: usize) -> usize {
+fn line_count(text: &[u8], start: usize) -> usize
+    ensures { result ≡ count_by (λ byte. byte == 10) (drop start text.now) }
+{
     match text.get(start..) {
         Some(rest) => rest.iter().filter(|byte| **byte == b'\n').count(),
         None => 0,
@@ -101,8 +108,8 @@ fn line_count(text: &[u8], start: usize) -> usize {
 pub(crate) struct Spoken<'w> {
     /// The text of all, one word's behind the other's.
     pub text: String,
-    /// How many lines stand before those of each word.
-    pub starts: Vec<usize>,
+    /// How many lines each word gives.
+    pub counts: Vec<usize>,
     /// The words.
     pub words: &'w [&'w str],
     /// The files of which they were read.
@@ -117,22 +124,23 @@ pub(crate) fn directives_of<'w, W: World>(
     words: &'w [&'w str],
     lines: &mut Vec<u8>,
 ) -> Result<Spoken<'w>, Halt>
-    ensures { MatchResult result (λ spoken. IsTextOf (W.bytes world.now) (texts words.now) (string_bytes spoken.text))
+    ensures text { MatchResult result
+        (λ spoken. IsTextOf (W.bytes world.now) (texts words.now) (string_bytes spoken.text))
         (λ why. OnHalt why ⊥ (Unit {0})) }
+    ensures lines { IfOk result (λ spoken. (spoken.words.now ≡ words.now)
+        × GiveLines (W.bytes world.now) (texts words.now) (string_bytes spoken.text) spoken.counts.items) }
 {
     let mut text = String::new(alloc);
-    let mut starts = Vec::new(alloc);
+    let mut counts = Vec::new(alloc);
     let mut read = Vec::new(alloc);
-    let mut before: usize = 0;
     for word in words {
-        starts.push(before)?;
         let start = text.len();
         push_part(alloc, world, word, &mut text, &mut read, lines)?;
-        before = before.saturating_add(line_count(text.as_bytes(), start));
+        counts.push(line_count(text.as_bytes(), start))?;
     }
     Ok(Spoken {
         text,
-        starts,
+        counts,
         words,
         read,
     })
@@ -140,13 +148,21 @@ pub(crate) fn directives_of<'w, W: World>(
 
 impl<'w> Spoken<'w> {
     /// The response file in which a line of the text stands, if it is in one, and the line's number there.
-    fn place_of(&self, line: usize) -> (Option<&'w str>, usize) {
-        let words = self.starts.partition_point(|before| *before < line);
-        let index = words.saturating_sub(1);
-        match (self.words.get(index), self.starts.get(index)) {
-            (Some(word), Some(before)) => (response_path(word), line.saturating_sub(*before)),
-            _ => (None, line),
+    fn place_of(&self, line: usize) -> (Option<&'w str>, usize)
+        ensures { (option_map (λ path. path.now) result.0, result.1)
+            ≡ idle.place_in (texts self.now.words.now) self.now.counts.items line }
+    {
+        let mut left = line;
+        let mut index = 0;
+        while index < self.words.len() && index < self.counts.len() {
+            let count = self.counts[index];
+            if left <= count {
+                return (response_path(self.words[index]), left);
+            }
+            left -= count;
+            index += 1;
         }
+        (None, left)
     }
 }
 
@@ -168,7 +184,9 @@ pub(crate) fn directive_line(
 }
 
 /// What a warning says.
-fn warning_text(kind: WarningKind) -> &'static str {
+fn warning_text(kind: WarningKind) -> &'static str
+    ensures { result.now ≡ idle.idle_text kind }
+{
     match kind {
         WarningKind::Option => "the option has no effect",
         WarningKind::Symbols => "no file of symbols is written",
@@ -177,33 +195,70 @@ fn warning_text(kind: WarningKind) -> &'static str {
     }
 }
 
-/// The line of a warning: the file of its directive, and the line's number there.
-fn warning_line(
-    alloc: Global,
-    warning: &Warning,
-    spoken: &Spoken<'_>,
-) -> Result<String, AllocError> {
-    let (path, line) = spoken.place_of(warning.line);
-    let text = warning_text(warning.kind);
-    match path {
-        Some(path) => format!(in alloc; "doslink: warning: {path}: line {line}: {text}\n"),
-        None => format!(in alloc; "doslink: warning: line {line}: {text}\n"),
+/// Appends a response file, where a line is in one, and the line's number there.
+fn push_place(
+    lines: &mut Vec<u8>,
+    path: Option<&str>,
+    line: usize,
+) -> Result<(), AllocError>
+    ensures { OnOk result (lines.new.items
+        ≡ lines.old.items ++ idle.place_text (option_map (λ path. path.now) path.entry, line)) }
+{
+    if let Some(path) = path {
+        lines.extend_from_slice(path.as_bytes())?;
+        lines.extend_from_slice(b": ")?;
     }
+    lines.extend_from_slice(b"line ")?;
+    lines.extend_from_slice(Buffer::new().format(line).as_bytes())
 }
 
-/// Appends a line for each of the first warnings, and how many more there are.
+/// Appends the line of a warning: the file of its directive, and the line's number there.
+fn push_warning(
+    warning: &Warning,
+    spoken: &Spoken<'_>,
+    lines: &mut Vec<u8>,
+) -> Result<(), AllocError>
+    ensures { OnOk result (lines.new.items ≡ lines.old.items
+        ++ idle.idle_line (texts spoken.now.words.now) spoken.now.counts.items warning.now) }
+{
+    let (path, line) = spoken.place_of(warning.line);
+    lines.extend_from_slice(b"doslink: warning: ")?;
+    push_place(lines, path, line)?;
+    lines.extend_from_slice(b": ")?;
+    lines.extend_from_slice(warning_text(warning.kind).as_bytes())?;
+    lines.extend_from_slice(b"\n")
+}
+
+/// Appends the line of each of these warnings.
+fn push_told(
+    told: &[Warning],
+    spoken: &Spoken<'_>,
+    lines: &mut Vec<u8>,
+) -> Result<(), AllocError>
+    ensures { OnOk result (lines.new.items ≡ lines.old.items
+        ++ flat_map (idle.idle_line (texts spoken.now.words.now) spoken.now.counts.items) told.now) }
+{
+    for warning in told {
+        push_warning(warning, spoken, lines)?;
+    }
+    Ok(())
+}
+
+/// Warns of each directive that has no effect, unless the job is to be quiet: appends a line for each of the first
+/// warnings, and how many more there are.
 pub(crate) fn push_warnings(
-    alloc: Global,
     directives: &Directives<'_>,
     spoken: &Spoken<'_>,
     lines: &mut Vec<u8>,
-) -> Result<(), AllocError> {
-    let mut warnings = Limit::new(alloc, directives.job.verbose);
-    for warning in &directives.warnings {
-        if let Some(lines) = warnings.next() {
-            let line = warning_line(alloc, warning, spoken)?;
-            lines.extend_from_slice(line.as_bytes())?;
-        }
+) -> Result<(), AllocError>
+    ensures { OnOk result (lines.new.items ≡ lines.old.items ++ idle.idle_warnings directives.now.job
+        (texts spoken.now.words.now) spoken.now.counts.items directives.now.warnings.items) }
+{
+    if directives.job.quiet {
+        return Ok(());
     }
-    warnings.append_to(lines)
+    let warnings = directives.warnings.as_slice();
+    let told = told_count(warnings.len(), directives.job.verbose);
+    push_told(&warnings[..told], spoken, lines)?;
+    push_rest(lines, warnings.len() - told)
 }

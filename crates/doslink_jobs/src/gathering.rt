@@ -1,5 +1,6 @@
 //! The files of a job: those that it names, and in rounds the default libraries that modules name.
-ghost use Rattle.std.specs.Prelude.{◌≡◌, ◌≢◌, ◌++◌, ◌∷◌, ℕ, All, List, [], IfErr, IfOk, map, MatchResult, OnOk};
+ghost use Rattle.std.specs.Prelude.{◌≡◌, ◌≢◌, ◌++◌, ◌∷◌, ℕ, All, List, [], IfErr, IfOk, filter, map, MatchResult, not, OnOk};
+ghost use Rattle.std.specs.List.{flat_map};
 ghost use Rattle.std.specs.declared.option.Option as maybe;
 ghost use Rattle.std.specs.List.{Contains};
 ghost use Rattle.clap.specs.Words.{Text};
@@ -11,16 +12,18 @@ ghost use Rattle.doslink_stock.specs.Searched.{Searched};
 ghost use Rattle.doslink_stock.specs.Seen.{handed_held};
 ghost use Rattle.doslink_words.specs.Tokens.{texts};
 ghost use Rattle.doslink_jobs.specs.Jobs as done;
-ghost use Rattle.doslink_jobs.specs.Jobs.{IsDefault, IsNamedBy, names_of};
+ghost use Rattle.doslink_jobs.specs.Jobs.{IsAskedBy, IsDefault, IsNamedBy, names_of};
 ghost use Rattle.doslink_jobs.specs.Refusals.{HasFaultyLibrary};
-ghost use Rattle.doslink_jobs.specs.inside.Gathering.{AddsFaulty, AddsRounds, AreNamed, AreNamedBy, Holds};
+ghost use Rattle.doslink_jobs.specs.inside.Absent.{AreAbsentBehind, AreAbsentTold, AreLookedUp, absent_warning};
+ghost use Rattle.doslink_jobs.specs.inside.Absent.{absent_warnings, library_said, new_bytes, outcome_of};
+ghost use Rattle.doslink_jobs.specs.inside.Gathering.{AddsFaulty, AddsRounds, AreAsked, AreAskedBy, AreNamed, Holds};
 ghost use Rattle.doslink_jobs.specs.inside.Gathering.{IsFaultyJob, IsGathered};
 ghost use Rattle.doslink_jobs.specs.inside.Stops.{OnInput};
 
 use crate::inputs::options_of;
-use crate::limit::Limit;
+use crate::limit::{push_rest, told_count};
 use crate::stop::{Stop, stop_after, stop_at_files, stop_unread};
-use crate::words::Besides;
+use crate::words::{Besides, is_named};
 use bumpalo::Bump;
 use doslink_files::{Found, InputFile, ReadFault, Sought, find_default, read_sought};
 use doslink_stock::{Handed, Stock, StockFault};
@@ -85,9 +88,10 @@ fn given_files<W: World, A: Allocator + Copy>(
     job: &Job<'_>,
     lines: &mut Vec<u8, A>,
 ) -> Result<Vec<InputFile<A>, A>, Stop>
-    ensures { MatchResult result (λ files. AreSought (W.bytes world.now) (texts job.now.folders.items)
+    ensures files { MatchResult result (λ files. AreSought (W.bytes world.now) (texts job.now.folders.items)
         (map done.sought_of job.now.inputs.items) (contents files.items))
         (λ stop. OnInput stop ⊥) }
+    ensures kept { OnOk result (lines.new.items ≡ lines.old.items) }
 {
     let sought = all_sought(alloc, &job.inputs)?;
     match read_sought(alloc, world, &job.folders, &sought) {
@@ -156,9 +160,10 @@ fn add_round<'f, A: Allocator + Copy>(
     round: Vec<InputFile<A>, A>,
     lines: &mut Vec<u8, A>,
 ) -> Result<(), Stop>
-    ensures { (names : agreeing.Names) (rounds : List (List (List ℕ))) → Holds names rounds gathered.old
+    ensures files { (names : agreeing.Names) (rounds : List (List (List ℕ))) → Holds names rounds gathered.old
         → MatchResult result (λ done. Holds names (rounds ++ contents round.items ∷ []) gathered.new)
         (λ stop. OnInput stop (HasFaultyLibrary (rounds ++ contents round.items ∷ []))) }
+    ensures kept { OnOk result (lines.new.items ≡ lines.old.items) }
 {
     keep_files(arena, gathered, round)?;
     match gathered.stock.add(alloc, &gathered.bytes) {
@@ -237,23 +242,26 @@ fn find_one<W: World, A: Allocator + Copy>(
     }
 }
 
-/// Warns that a default library isn't found, or stops where a device failed or memory.
-fn pass_absent<A: Allocator + Copy>(
+/// Appends a default library that isn't found, or stops where a device failed or memory.
+fn pass_absent<'f, A: Allocator + Copy>(
     alloc: A,
-    library: &DefaultLibrary<'_, A>,
+    library: &DefaultLibrary<'f, A>,
     fault: ReadFault,
-    warnings: &mut Limit<A>,
+    absent: &mut Vec<DefaultLibrary<'f, A>, A>,
     lines: &mut Vec<u8, A>,
 ) -> Result<(), Stop>
-    ensures { IfErr result (λ stop. OnInput stop ⊥) }
+    ensures refused { IfErr result (λ stop. OnInput stop ⊥) }
+    ensures added { OnOk result (map library_said absent.new.items
+        ≡ map library_said absent.old.items ++ library_said library.now ∷ []) }
+    ensures kept { OnOk result (lines.new.items ≡ lines.old.items) }
 {
     if matches!(fault, ReadFault::Memory | ReadFault::Device(_)) {
         let name = str::from_utf8(library.name).unwrap_or("");
         return Err(stop_unread(lines, name, fault));
     }
-    if let Some(lines) = warnings.next() {
-        push_absent_line(alloc, lines, library.name, &library.word)?;
-    }
+    let name = library.name;
+    let word = Vec::from_slice(alloc, &library.word)?;
+    absent.push(DefaultLibrary { name, word })?;
     Ok(())
 }
 
@@ -263,10 +271,12 @@ fn keep_found<A: Allocator + Copy>(
     known: &mut BTreeSet<FileId, A>,
     round: &mut Vec<InputFile<A>, A>,
 ) -> Result<(), AllocError>
-    ensures { OnOk result ((told : Text → maybe.Option (List ℕ)) (folders : List Text) (name : List ℕ)
-        (modules : List Held) → IsFoundNew told folders name found → IsNamedBy modules name
-        → All (IsDefault told folders modules) (contents round.old.items)
-        → All (IsDefault told folders modules) (contents round.new.items)) }
+    ensures files { OnOk result ((told : Text → maybe.Option (List ℕ)) (folders : List Text) (name : List ℕ)
+        (left_out : List Text) (modules : List Held) → IsFoundNew told folders name found
+        → IsAskedBy left_out modules name → All (IsDefault told folders left_out modules) (contents round.old.items)
+        → All (IsDefault told folders left_out modules) (contents round.new.items)) }
+    ensures added { OnOk result
+        (contents round.new.items ≡ contents round.old.items ++ new_bytes (outcome_of found)) }
 {
     let Found::New(file) = found else {
         return Ok(());
@@ -278,68 +288,127 @@ fn keep_found<A: Allocator + Copy>(
     Ok(())
 }
 
-/// The files of default libraries that aren't there yet, in their order.
-fn find_round<W: World, A: Allocator + Copy>(
+/// The files of default libraries that aren't there yet, in their order. Those that aren't found are appended to the
+/// absent ones.
+fn find_round<'f, W: World, A: Allocator + Copy>(
     alloc: A,
     world: &W,
     folders: &[&str],
-    libraries: &[DefaultLibrary<'_, A>],
+    libraries: &[DefaultLibrary<'f, A>],
     known: &mut BTreeSet<FileId, A>,
-    warnings: &mut Limit<A>,
+    absent: &mut Vec<DefaultLibrary<'f, A>, A>,
     lines: &mut Vec<u8, A>,
 ) -> Result<Vec<InputFile<A>, A>, Stop>
-    ensures { MatchResult result (λ files. (modules : List Held) → AreNamed modules libraries.now
-        → All (IsDefault (W.bytes world.now) (texts folders.now) modules) (contents files.items))
+    ensures files { MatchResult result
+        (λ files. (left_out : List Text) (modules : List Held) → AreAsked left_out modules libraries.now
+        → All (IsDefault (W.bytes world.now) (texts folders.now) left_out modules) (contents files.items))
         (λ stop. OnInput stop ⊥) }
+    ensures absent { IfOk result (λ files. AreLookedUp (W.bytes world.now) (texts folders.now)
+        (map library_said libraries.now) (contents files.items) (map library_said absent.old.items)
+        (map library_said absent.new.items)) }
+    ensures kept { OnOk result (lines.new.items ≡ lines.old.items) }
 {
     let mut round = Vec::new(alloc);
     for library in libraries {
         match find_one(alloc, world, folders, library, known) {
             Ok(found) => keep_found(found, known, &mut round)?,
-            Err(fault) => pass_absent(alloc, library, fault, warnings, lines)?,
+            Err(fault) => pass_absent(alloc, library, fault, absent, lines)?,
         }
     }
     Ok(round)
 }
 
-/// The default libraries that modules name which were taken behind so many, each once, and how many modules are taken
-/// now.
+/// The name of a library without `.LIB` at its end, in whatever case that stands there.
+fn library_stem(name: &[u8]) -> &[u8]
+    ensures { result.now ≡ done.library_stem name.now }
+{
+    let front = name.len().saturating_sub(4);
+    if is_named(&name[front..], b".LIB") {
+        &name[..front]
+    } else {
+        name
+    }
+}
+
+/// Whether a library is one of those that are left out, by its name: without regard to case, with `.LIB` or without.
+fn is_left_out(left_out: &[&str], name: &[u8]) -> bool
+    ensures { result ≡ done.is_left_out (texts left_out.now) name.now }
+{
+    for other in left_out {
+        if is_named(library_stem(other.as_bytes()), library_stem(name)) {
+            return true;
+        }
+    }
+    false
+}
+
+/// Those of these default libraries that aren't left out.
+fn without<'f, A: Allocator + Copy>(
+    mut libraries: Vec<DefaultLibrary<'f, A>, A>,
+    left_out: &[&str],
+) -> Vec<DefaultLibrary<'f, A>, A>
+    ensures { result.items
+        ≡ filter (λ l. not (done.is_left_out (texts left_out.now) l.name.now)) libraries.entry.items }
+{
+    libraries.retain(|library| !is_left_out(left_out, library.name));
+    libraries
+}
+
+/// The default libraries that modules name which were taken behind so many, each once, but for those that are left
+/// out; and how many modules are taken now.
 fn asked_now<'f, A: Allocator + Copy>(
     alloc: A,
     gathered: &Gathered<'f, A>,
     before: usize,
+    left_out: &[&str],
     asked: &mut BTreeSet<&'f [u8], A>,
 ) -> Result<(Vec<DefaultLibrary<'f, A>, A>, usize), AllocError>
     ensures { IfOk result (λ r. (names : agreeing.Names) (rounds : List (List (List ℕ)))
-        → Searched names rounds gathered.now.stock → AreNamedBy names rounds r.0.items) }
+        → Searched names rounds gathered.now.stock → AreAskedBy (texts left_out.now) names rounds r.0.items) }
 {
     let taken = gathered.stock.handed_from(alloc, before)?;
-    let libraries = names_of(alloc, &gathered.paths, &taken, asked)?;
+    let named = names_of(alloc, &gathered.paths, &taken, asked)?;
+    let libraries = without(named, left_out);
     Ok((libraries, before.saturating_add(taken.len())))
 }
 
+/// How default libraries are looked up.
+#[derive(Clone, Copy)]
+struct Lookups<'l> {
+    /// The folders in which they are, behind this one.
+    folders: &'l [&'l str],
+    /// The names of those that aren't.
+    left_out: &'l [&'l str],
+}
+
 /// Adds the default libraries that the modules name, in rounds: those that are found go behind the files that are
-/// there, and the search goes on. What was taken stays taken.
+/// there, and the search goes on. What was taken stays taken. Those that aren't found are appended to the absent ones.
 fn add_defaults<'f, W: World, A: Allocator + Copy>(
     alloc: A,
     world: &W,
     arena: &'f Bump<A>,
-    folders: &[&str],
+    how: Lookups<'_>,
     gathered: &mut Gathered<'f, A>,
-    warnings: &mut Limit<A>,
+    absent: &mut Vec<DefaultLibrary<'f, A>, A>,
     lines: &mut Vec<u8, A>,
 ) -> Result<(), Stop>
-    ensures { (names : agreeing.Names) (before : List (List (List ℕ))) → Holds names before gathered.old
+    ensures files { (names : agreeing.Names) (before : List (List (List ℕ))) → Holds names before gathered.old
         → MatchResult result
-        (λ done. AddsRounds (W.bytes world.now) (texts folders.now) names before gathered.new)
-        (λ stop. OnInput stop (AddsFaulty (W.bytes world.now) (texts folders.now) names before)) }
+        (λ done. AddsRounds (W.bytes world.now) (texts how.entry.folders.now) (texts how.entry.left_out.now) names before
+        gathered.new)
+        (λ stop. OnInput stop (AddsFaulty (W.bytes world.now) (texts how.entry.folders.now)
+        (texts how.entry.left_out.now) names before)) }
+    ensures absent { (names : agreeing.Names) (before : List (List (List ℕ))) → Holds names before gathered.old
+        → OnOk result (AreAbsentBehind (W.bytes world.now) (texts how.entry.folders.now) (texts how.entry.left_out.now)
+        names before gathered.new (map library_said absent.old.items) (map library_said absent.new.items)) }
+    ensures kept { OnOk result (lines.new.items ≡ lines.old.items) }
 {
     let mut asked = BTreeSet::new(alloc);
     let mut before = 0;
     'rounds: for _ in 0..MOST_ROUNDS {
-        let (libraries, now) = asked_now(alloc, gathered, before, &mut asked)?;
+        let (libraries, now) = asked_now(alloc, gathered, before, how.left_out, &mut asked)?;
         let known = &mut gathered.read;
-        let round = find_round(alloc, world, folders, &libraries, known, warnings, lines)?;
+        let round = find_round(alloc, world, how.folders, &libraries, known, absent, lines)?;
         if round.is_empty() {
             return Ok(());
         }
@@ -362,6 +431,40 @@ fn all_folders<'a, A: Allocator + Copy>(
     Ok(folders)
 }
 
+/// Warns of each of these default libraries.
+fn push_told<A: Allocator + Copy>(
+    alloc: A,
+    told: &[DefaultLibrary<'_, A>],
+    lines: &mut Vec<u8, A>,
+) -> Result<(), AllocError>
+    ensures { OnOk result (lines.new.items ≡ lines.old.items
+        ++ flat_map (λ l. absent_warning (library_said l)) told.now) }
+{
+    for library in told {
+        push_absent_line(alloc, lines, library.name, &library.word)?;
+    }
+    Ok(())
+}
+
+/// Warns of each default library that isn't found, unless the job is to be quiet and the files could be gathered.
+fn warn_of_absent<A: Allocator + Copy>(
+    alloc: A,
+    job: &Job<'_>,
+    failed: bool,
+    absent: &[DefaultLibrary<'_, A>],
+    lines: &mut Vec<u8, A>,
+) -> Result<(), AllocError>
+    ensures { OnOk result (lines.new.items ≡ lines.old.items
+        ++ absent_warnings job.now failed (map library_said absent.now)) }
+{
+    if job.quiet && !failed {
+        return Ok(());
+    }
+    let told = told_count(absent.len(), job.verbose);
+    push_told(alloc, &absent[..told], lines)?;
+    push_rest(lines, absent.len() - told)
+}
+
 /// Adds the default libraries of a job, where it asks for them. Those that aren't found are warned of, unless it is to
 /// be quiet and goes on.
 fn add_asked<'f, W: World, A: Allocator + Copy>(
@@ -373,29 +476,35 @@ fn add_asked<'f, W: World, A: Allocator + Copy>(
     gathered: &mut Gathered<'f, A>,
     lines: &mut Vec<u8, A>,
 ) -> Result<(), Stop>
-    ensures { (given : List (List ℕ)) → Holds (names_of job.now.ignore_case) (given ∷ []) gathered.old
+    ensures files { (given : List (List ℕ)) → Holds (names_of job.now.ignore_case) (given ∷ []) gathered.old
         → AreSought (W.bytes world.now) (texts job.now.folders.items) (map done.sought_of job.now.inputs.items) given
         → MatchResult result (λ done. IsGathered (W.bytes world.now) (texts folders.now) job.now gathered.new)
         (λ stop. OnInput stop (IsFaultyJob (W.bytes world.now) (texts folders.now) job.now)) }
+    ensures told { (given : List (List ℕ)) → Holds (names_of job.now.ignore_case) (given ∷ []) gathered.old
+        → AreSought (W.bytes world.now) (texts job.now.folders.items) (map done.sought_of job.now.inputs.items) given
+        → OnOk result (AreAbsentTold (W.bytes world.now) (texts folders.now) job.now gathered.new
+        lines.old.items lines.new.items) }
 {
     if !job.default_libraries {
         return Ok(());
     }
     let everywhere = all_folders(alloc, job, folders)?;
-    let mut warnings = Limit::new(alloc, job.verbose);
+    let how = Lookups {
+        folders: &everywhere,
+        left_out: &job.left_out,
+    };
+    let mut absent = Vec::new(alloc);
     let mut told = Vec::new(alloc);
     let added = add_defaults(
         alloc,
         world,
         arena,
-        &everywhere,
+        how,
         gathered,
-        &mut warnings,
+        &mut absent,
         &mut told,
     );
-    if added.is_err() || !job.quiet {
-        warnings.append_to(lines)?;
-    }
+    warn_of_absent(alloc, job, added.is_err(), &absent, lines)?;
     lines.extend_from_slice(&told)?;
     added
 }
@@ -422,9 +531,11 @@ pub(crate) fn gather<'f, W: World, A: Allocator + Copy>(
     besides: &Besides<'_>,
     lines: &mut Vec<u8, A>,
 ) -> Result<Gathered<'f, A>, Stop>
-    ensures { MatchResult result
+    ensures files { MatchResult result
         (λ gathered. IsGathered (W.bytes world.now) (texts besides.now.folders.now) job.now gathered)
         (λ stop. OnInput stop (IsFaultyJob (W.bytes world.now) (texts besides.now.folders.now) job.now)) }
+    ensures told { IfOk result (λ gathered. AreAbsentTold (W.bytes world.now) (texts besides.now.folders.now) job.now
+        gathered lines.old.items lines.new.items) }
 {
     let given = given_files(alloc, world, job, lines)?;
     let mut gathered = Gathered {

@@ -1,5 +1,5 @@
 //! The modules of a link, as they are handed to it.
-ghost use Rattle.std.specs.Prelude.{◌≡◌, ◌++◌, ℕ, IfOk, List, map, MatchResult};
+ghost use Rattle.std.specs.Prelude.{◌≡◌, ◌++◌, ℕ, IfOk, List, map, MatchResult, OnOk};
 ghost use Rattle.std.specs.List.{list_any};
 ghost use Rattle.std.specs.Option.{option_map};
 ghost use Rattle.omf_communal.specs.Deciding.{variable_said};
@@ -201,9 +201,10 @@ fn order_of<A: Allocator + Copy>(
     lines: &mut Vec<u8, A>,
 ) -> Result<Option<Vec<u8, A>>, Stop>
     requires { IsLinkedRead linked.now }
-    ensures { MatchResult result (λ o.
+    ensures order { MatchResult result (λ o.
         IsOrderModule (asking_said asked.now) (linked_list linked.now.linked) (option_map (λ v. v.items) o))
         (λ stop. OnInput stop (HaveNoOrder (asking_said asked.now) (linked_list linked.now.linked))) }
+    ensures kept { OnOk result (lines.new.items ≡ lines.old.items) }
 {
     if is_unasked(asked) {
         return Ok(None);
@@ -245,10 +246,11 @@ pub(crate) fn ordered<'a, A: Allocator + Copy>(
     lines: &mut Vec<u8, A>,
 ) -> Result<ReadInputs<'a, A>, Stop>
     requires { IsLinkedRead linked }
-    ensures { MatchResult result
+    ensures ordered { MatchResult result
         (λ all. IsOrdered (asking_said asked.now) all.inputs
         × (linked_list all.inputs.linked ≡ linked_list linked.entry.linked) × AreInputsRead all)
         (λ stop. OnInput stop (HaveNoOrder (asking_said asked.now) (linked_list linked.entry.linked))) }
+    ensures kept { OnOk result (lines.new.items ≡ lines.old.items) }
 {
     let order = order_of(alloc, &linked, asked, taken, lines)?;
     let ReadLinked { linked, read } = linked;

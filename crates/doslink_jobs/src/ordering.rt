@@ -1,5 +1,5 @@
 //! The order module, where one is asked for.
-ghost use Rattle.std.specs.Prelude.{◌≡◌, ◌≢◌, IfOk, map, MatchResult};
+ghost use Rattle.std.specs.Prelude.{◌≡◌, ◌≢◌, IfOk, map, MatchResult, OnOk};
 ghost use Rattle.std.specs.Option.{option_map};
 ghost use Rattle.doslink_words.specs.Said as said;
 ghost use Rattle.doslink_words.specs.Said.{order_of};
@@ -124,9 +124,10 @@ pub(crate) fn order_bytes<A: Allocator + Copy>(
     words: &[&[u8]],
     lines: &mut Vec<u8, A>,
 ) -> Result<Option<Vec<u8, A>>, Stop>
-    ensures { MatchResult result
+    ensures order { MatchResult result
         (λ o. IsOrderFor (asking_said asked.now) modules.now (option_map (λ v. v.items) o))
         (λ stop. OnInput stop (HasNoPlan (asking_said asked.now) modules.now)) }
+    ensures kept { OnOk result (lines.new.items ≡ lines.old.items) }
 {
     let items = listed_items(alloc, asked.order)?;
     let order = order_asked(asked, &items);

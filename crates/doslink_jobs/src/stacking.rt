@@ -1,5 +1,6 @@
 //! The stack of a link, with the length that its job asks for.
-ghost use Rattle.std.specs.Prelude.{◌≡◌, ◌∷◌, ◌++◌, ℕ, [], drop, false, length, map, IfOk, List, MatchResult, Some};
+ghost use Rattle.std.specs.Prelude.{◌≡◌, ◌∷◌, ◌++◌, ℕ, [], drop, false, length, map, IfOk, List, MatchResult, OnOk};
+ghost use Rattle.std.specs.Prelude.{Some};
 ghost use Rattle.std.specs.Option.{option_map_or};
 ghost use Rattle.std.specs.Vec.Iter.{into_iter_items};
 ghost use Rattle.omf_stack.specs.Answer.{TooLong, answer};
@@ -8,6 +9,7 @@ ghost use Rattle.doslink_link.specs.Linking.{bytes_of};
 ghost use Rattle.doslink_jobs.specs.Stacks.{HasStack, IsStacked};
 ghost use Rattle.doslink_jobs.specs.Refusals.{IsTooLong};
 ghost use Rattle.doslink_jobs.specs.inside.Changes.{changed};
+ghost use Rattle.doslink_jobs.specs.inside.CutStacks.{AreCutTold, IsCutTold, cut_warning};
 ghost use Rattle.doslink_jobs.specs.inside.Inputs.{AreInputsRead, IsLinkedRead, IsOrdered, NotStackedInOrder};
 ghost use Rattle.doslink_jobs.specs.inside.Inputs.{StackedInOrder, asking_said};
 ghost use Rattle.doslink_jobs.specs.inside.Inputs.{input_list, linked_list, lowered_bytes, made_bytes, order_list};
@@ -41,7 +43,8 @@ enum Change<A: Allocator + Copy> {
     Cut(Vec<Option<Vec<u8, A>>, A>),
 }
 
-/// What gives modules, each with its bytes, the stack that is asked for. That they ask for more is told.
+/// What gives modules, each with its bytes, the stack that is asked for. That they ask for more is told: with a warning
+/// where the stack is cut.
 fn change_of<A: Allocator + Copy>(
     alloc: A,
     stack: Stack,
@@ -50,9 +53,12 @@ fn change_of<A: Allocator + Copy>(
     lines: &mut Vec<u8, A>,
 ) -> Result<Change<A>, Stop>
     requires { length modules.now ≡ length slices.now }
-    ensures { MatchResult result (λ change. (order inputs : List (List ℕ)) → bytes_of slices.now ≡ order ++ inputs
+    ensures change { MatchResult result
+        (λ change. (order inputs : List (List ℕ)) → bytes_of slices.now ≡ order ++ inputs
         → IsStacked stack modules.now order inputs (changed order inputs change) (answer modules.now stack.bytes))
         (λ stop. OnInput stop ((stack.cuts ≡ false) × (answer modules.now stack.bytes ≡ TooLong))) }
+    ensures told { OnOk result
+        (lines.new.items ≡ lines.old.items ++ cut_warning stack (answer modules.now stack.bytes)) }
 {
     match stack_module(alloc, modules, stack.bytes)? {
         Answer::Enough => Ok(Change::Kept),
@@ -77,10 +83,12 @@ fn change_behind<A: Allocator + Copy>(
     lines: &mut Vec<u8, A>,
 ) -> Result<Change<A>, Stop>
     requires { AreInputsRead all.now }
-    ensures { MatchResult result
+    ensures change { MatchResult result
         (λ change. HasStack stack (order_list all.now.inputs.order) (linked_list all.now.inputs.linked)
         (changed (order_list all.now.inputs.order) (linked_list all.now.inputs.linked) change))
         (λ stop. OnInput stop (IsTooLong stack (input_list all.now.inputs))) }
+    ensures told { OnOk result (IsCutTold stack (order_list all.now.inputs.order) (linked_list all.now.inputs.linked)
+        lines.old.items lines.new.items) }
 {
     match &all.read {
         Read::Modules(modules) => {
@@ -216,10 +224,12 @@ fn stacked<'a, A: Allocator + Copy>(
 ) -> Result<ReadInputs<'a, A>, Stop>
     requires read { AreInputsRead all }
     requires ordered { IsOrdered (asking_said asked.now) all.inputs }
-    ensures { MatchResult result (λ stacked. StackedInOrder (asking_said asked.now) (Some stack)
+    ensures stacked { MatchResult result (λ stacked. StackedInOrder (asking_said asked.now) (Some stack)
         (linked_list all.entry.inputs.linked) (input_list stacked.inputs) × AreInputsRead stacked)
         (λ stop. OnInput stop
         (NotStackedInOrder (asking_said asked.now) (Some stack) (linked_list all.entry.inputs.linked))) }
+    ensures told { OnOk result (AreCutTold (asking_said asked.now) (Some stack)
+        (linked_list all.entry.inputs.linked) lines.old.items lines.new.items) }
 {
     match change_behind(alloc, stack, &all, lines)? {
         Change::Kept => Ok(all),
@@ -240,10 +250,12 @@ pub(crate) fn with_stack<'a, A: Allocator + Copy>(
     lines: &mut Vec<u8, A>,
 ) -> Result<ReadInputs<'a, A>, Stop>
     requires { IsLinkedRead linked }
-    ensures { MatchResult result (λ all. StackedInOrder (asking_said asked.now) job.now.stack
+    ensures stacked { MatchResult result (λ all. StackedInOrder (asking_said asked.now) job.now.stack
         (linked_list linked.entry.linked) (input_list all.inputs) × AreInputsRead all)
         (λ stop. OnInput stop
         (NotStackedInOrder (asking_said asked.now) job.now.stack (linked_list linked.entry.linked))) }
+    ensures told { OnOk result (AreCutTold (asking_said asked.now) job.now.stack (linked_list linked.entry.linked)
+        lines.old.items lines.new.items) }
 {
     let all = ordered(alloc, linked, asked, taken, lines)?;
     match job.stack {

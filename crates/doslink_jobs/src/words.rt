@@ -153,7 +153,7 @@ fn run_parsed<W: World + Copy, O: Write + Drop, E: Sink>(
         (texts folders.now) directives.now.job (Tells E.written E.failures errors.old errors.new) result }
 {
     let mut lines = Vec::new(alloc);
-    if !directives.job.quiet && push_warnings(alloc, directives, spoken, &mut lines).is_err() {
+    if push_warnings(directives, spoken, &mut lines).is_err() {
         return out_of_memory(errors);
     }
     let besides = Besides {

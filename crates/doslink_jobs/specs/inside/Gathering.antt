@@ -10,32 +10,38 @@ use Rattle.doslink_stock.specs.Searched.{Searched}
 use Rattle.doslink_words.specs.declared.job.Job.{Job}
 use Rattle.doslink_jobs.specs.declared.gathering.DefaultLibrary.{DefaultLibrary}
 use Rattle.doslink_jobs.specs.declared.gathering.Gathered.{Gathered}
-use Rattle.doslink_jobs.specs.Jobs.{AreFilesOf, AreRounds, IsNamedBy, names_of}
+use Rattle.doslink_jobs.specs.Jobs.{AreFilesOf, AreRounds, IsAskedBy, IsNamedBy, names_of}
 use Rattle.doslink_jobs.specs.Refusals.{HasFaultyLibrary}
 
 -- modules name each of these default libraries
 abbrev pub AreNamed : {A : Type 0} → (modules : List Held) → List (DefaultLibrary A) → Type 0
 AreNamed modules libraries = All (λ l. IsNamedBy modules l.name.now) libraries
 
--- modules that a link takes of these rounds do
-abbrev pub AreNamedBy : {A : Type 0} → Names → (rounds : List (List (List ℕ))) → List (DefaultLibrary A) → Type 0
-AreNamedBy names rounds libraries =
-    (modules : List Held) × Takes names rounds modules × AreNamed modules libraries
+-- and none of them is left out
+abbrev pub AreAsked : {A : Type 0} → (left_out : List Text) → (modules : List Held) → List (DefaultLibrary A) → Type 0
+AreAsked left_out modules libraries = All (λ l. IsAskedBy left_out modules l.name.now) libraries
+
+-- modules that a link takes of these rounds ask for these
+abbrev pub AreAskedBy : {A : Type 0} → (left_out : List Text) → Names → (rounds : List (List (List ℕ)))
+    → List (DefaultLibrary A) → Type 0
+AreAskedBy left_out names rounds libraries =
+    (modules : List Held) × Takes names rounds modules × AreAsked left_out modules libraries
 
 -- these rounds of files were searched
 abbrev pub Holds : {A : Type 0} → Names → (rounds : List (List (List ℕ))) → Gathered A → Type 0
 Holds names rounds gathered =
     Searched names rounds gathered.stock × (bytes_of gathered.bytes.items ≡ all_files rounds)
 
-module _ (told : Text → Option (List ℕ)) (folders : List Text) (names : Names) (before : List (List (List ℕ))) where
+module _ (told : Text → Option (List ℕ)) (folders left_out : List Text) (names : Names)
+    (before : List (List (List ℕ))) where
   -- rounds of default libraries were searched behind others
   abbrev pub AddsRounds : {A : Type 0} → Gathered A → Type 0
-  AddsRounds gathered = (more : List (List (List ℕ))) × AreRounds told folders names before more
+  AddsRounds gathered = (more : List (List (List ℕ))) × AreRounds told folders left_out names before more
       × Holds names (before ++ more) gathered
 
   -- a library of the last of them is at fault
   abbrev pub AddsFaulty : Type 0
-  AddsFaulty = (more : List (List (List ℕ))) × AreRounds told folders names before more
+  AddsFaulty = (more : List (List (List ℕ))) × AreRounds told folders left_out names before more
       × HasFaultyLibrary (before ++ more)
 
 -- the files of a job were searched

@@ -6,14 +6,14 @@ use Rattle.doslink_jobs.proofs.Rounds.{faulty-with}
 use Rattle.doslink_jobs.proofs.Refused.{OnInput-weaker, refused-exit}
 use Rattle.doslink_jobs.proofs.gathering.add_round.Goals as goal
 
-pub returns-in_err-keep_files : goal.returns-in_err-keep_files
-returns-in_err-keep_files g c =
+pub returns-in_err-keep_files-clause-files : goal.returns-in_err-keep_files-clause-files
+returns-in_err-keep_files-clause-files g c =
     λ names rounds holds.
     refused-exit _ c.from_residual.result _ c.from_residual.ensures.1 (λ none. absurd none)
     c.in_err-keep_files.ensures.refused
 
-pub returns-in-Err : goal.returns-in-Err
-returns-in-Err g c =
+pub returns-in-Err-clause-files : goal.returns-in-Err-clause-files
+returns-in-Err-clause-files g c =
     λ names rounds holds.
     let files = contents c.args.round.items in
     let are = ap bytes_of c.deref.ensures.value ∙ c.in_ok-keep_files.ensures.bytes ∙ ap (λ l. l ++ files) holds.1 in

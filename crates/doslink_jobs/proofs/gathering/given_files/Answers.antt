@@ -4,8 +4,8 @@ use Rattle.doslink_words.specs.Tokens.{texts}
 use Rattle.doslink_jobs.specs.Jobs.{sought_of}
 use Rattle.doslink_jobs.proofs.gathering.given_files.Goals as goal
 
-pub returns-in-Ok : goal.returns-in-Ok
-returns-in-Ok g c =
+pub returns-in-Ok-clause-files : goal.returns-in-Ok-clause-files
+returns-in-Ok-clause-files g c =
     let told = g.W.World.bytes c.args.world.now in
     let files = contents c.in-Ok.files.items in
     subst (λ s. AreSought told (texts c.args.job.now.folders.items) s files)

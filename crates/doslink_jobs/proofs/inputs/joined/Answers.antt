@@ -29,7 +29,7 @@ returns g c =
       is.1,
     ))
     (not-stacked asking _ c.args.job.now.stack lowered vs linked c.asked_by-asked.ensures c.in_ok-linked.ensures.0)
-    c.with_stack.ensures
+    c.with_stack.ensures.stacked
 
 pub returns-in_err-linked : goal.returns-in_err-linked
 returns-in_err-linked g c =

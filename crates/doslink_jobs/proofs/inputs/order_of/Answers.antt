@@ -8,11 +8,11 @@ use Rattle.doslink_jobs.proofs.Read.{these-read}
 use Rattle.doslink_jobs.proofs.Refused.{steps-weaker}
 use Rattle.doslink_jobs.proofs.inputs.order_of.Goals as goal
 
-pub returns-then-is_unasked : goal.returns-then-is_unasked
-returns-then-is_unasked g c = inl (inl (sym c.is_unasked.ensures ∙ c.if-is_unasked.true), refl)
+pub returns-then-is_unasked-clause-order : goal.returns-then-is_unasked-clause-order
+returns-then-is_unasked-clause-order g c = inl (inl (sym c.is_unasked.ensures ∙ c.if-is_unasked.true), refl)
 
-pub returns-in_ok-words-in-Modules : goal.returns-in_ok-words-in-Modules
-returns-in_ok-words-in-Modules g c =
+pub returns-in_ok-words-in-Modules-clause-order : goal.returns-in_ok-words-in-Modules-clause-order
+returns-in_ok-words-in-Modules-clause-order g c =
     let asking = asking_said c.args.asked.now in
     let modules = c.in-Modules.modules.items in
     let are = these-read (linked_list c.args.linked.now.linked) _ _ c.in-Modules.is c.requires in
@@ -20,9 +20,9 @@ returns-in_ok-words-in-Modules g c =
     steps-weaker c.order_bytes.result
     (λ made is. inr (modules, are, subst (λ ms. IsOrderFor asking ms (option_map (λ v. v.items) made)) same is))
     (λ none. (modules, are, subst (HasNoPlan asking) same none))
-    c.order_bytes.ensures
+    c.order_bytes.ensures.order
 
-pub returns-in-Fault : goal.returns-in-Fault
-returns-in-Fault g c =
+pub returns-in-Fault-clause-order : goal.returns-in-Fault-clause-order
+returns-in-Fault-clause-order g c =
     let inputs = linked_list c.args.linked.now.linked in
     inl (inr (stops-unread inputs _ _ (these-read inputs _ _ c.in-Fault.is c.requires)), refl)

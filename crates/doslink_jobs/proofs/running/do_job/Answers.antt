@@ -15,7 +15,7 @@ returns-in_err-gathered g c =
 
 pub returns : goal.returns
 returns g c =
-    let (rounds, are, searched) = c.in_ok-gathered.ensures in
+    let (rounds, are, searched) = c.in_ok-gathered.ensures.files in
     halts-weaker c.link_gathered.result
     (λ done (apart, linked). (c.in_ok-check_job.ensures, apart, rounds, are, linked))
     (λ refused. (c.in_ok-check_job.ensures, rounds, are, inr refused))
