@@ -4,7 +4,7 @@ use crate::modules::OFFERS;
 
 /// Response files, and a module in a folder.
 pub(crate) const LINE_FILES: [(&str, &[u8]); 9] = [
-    ("OBJ/ONE.OBJ", &OFFERS),
+    ("OBJ/UNO.OBJ", &OFFERS),
     ("LINK.RSP", b"A+\r\nF /NOI\r\nP.EXE\r\n"),
     ("OBJS", b"A +F\n"),
     ("LIBRARIES", b"RUN\n"),
@@ -61,11 +61,11 @@ link F,F.OBJ;|2||doslink: F.OBJ: it is read and would be written~
 /// Runs of lines, the path at which each writes, and all that it writes there.
 pub(crate) const LINED: [(&str, &str, &[u8]); 14] = [
     ("link F;", "F.EXE", &EXE_OF_F),
-    ("link OBJ/ONE;", "ONE.EXE", &EXE_OF_F),
-    ("link OBJ/ONE,OBJ/TWO;", "OBJ/TWO.EXE", &EXE_OF_F),
+    ("link OBJ/UNO;", "UNO.EXE", &EXE_OF_F),
+    ("link OBJ/UNO,OBJ/DUO;", "OBJ/DUO.EXE", &EXE_OF_F),
     ("link F,P.X;", "P.X", &EXE_OF_F),
     ("link F.OBJ+,P;", "P.EXE", &EXE_OF_F),
-    ("tlink /x OBJ/ONE", "ONE.EXE", &EXE_OF_F),
+    ("tlink /x OBJ/UNO", "UNO.EXE", &EXE_OF_F),
     ("tlink /x F,P", "P.EXE", &EXE_OF_F),
     ("link @ENDED", "P.EXE", &EXE_OF_F),
     ("tlink /x /Tde F,P.COM", "P.COM", &EXE_OF_F),

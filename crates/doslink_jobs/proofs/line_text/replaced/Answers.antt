@@ -23,5 +23,5 @@ returns g c =
 
 pub returns-in_err-is_file : goal.returns-in_err-is_file
 returns-in_err-is_file g c =
-    halt-exit _ c.from_residual-in_err-is_file.result _ c.from_residual-in_err-is_file.ensures.1
+    halt-exit _ c.from_residual.result _ c.from_residual.ensures.1
     (λ none. absurd none) (λ wrong. wrong) c.in_err-is_file.ensures
