@@ -48,7 +48,7 @@ file e
 libpath e
 library f
 =>
-inputs: [Library("c"), Library("d"), File("e"), Library("f")], out: None, map: None, folders: ["a", "b", "e"], ignore_case: false,
+inputs: [Library("c"), Library("d"), File("e"), Library("f")], out: None, map: None, map_form: Omf, folders: ["a", "b", "e"], ignore_case: false,
 
 
 option map
@@ -58,7 +58,7 @@ map: Some(Beside)
 
 op quiet, map = "a b.map", dosseg, NODEFAULTLIBS
 =>
-map: Some(At("a b.map")), folders: [], ignore_case: false, order: Dosseg, null_bytes: false, stack: None, form: None, default_libraries: false, left_out: [], keep_debug: false, packs_far_data: true, verbose: false, quiet: true
+map: Some(At("a b.map")), map_form: Omf, folders: [], ignore_case: false, order: Dosseg, null_bytes: false, stack: None, form: None, default_libraries: false, left_out: [], keep_debug: false, packs_far_data: true, verbose: false, quiet: true
 
 
 option ignorecase
