@@ -1,0 +1,204 @@
+"""The options of LINK and of TLINK, and what each asks for.
+
+An option is found by its text without the `/` or `-` in front of it. What it asks for is done to what
+is said so far, a `Said` of lines.py; one that can't be followed is a Wrong.
+"""
+
+import re
+
+# why a word can't be followed
+UNKNOWN_OPTION, WRONG_VALUE, REFUSED = "UnknownOption", "WrongValue", "Refused"
+OVERLAYS, NOT_DOS = "Overlays", "NotDos"
+# what becomes of an option that is taken with a warning
+DEBUG, PACKING, OBJECT_FOLDERS, NOTHING = "Debug", "Packing", "ObjectFolders", "Nothing"
+MOST_STACK, MOST_PARAGRAPHS = 65_536, 65_535
+
+
+class Wrong(Exception):
+    """A word that can't be followed."""
+
+    def __init__(self, kind):
+        super().__init__(kind)
+        self.kind = kind
+
+
+def sets(**values):
+    """What says of a job that these are its values."""
+    def ask(said, value, place):
+        for name, each in values.items():
+            setattr(said, name, each)
+
+    return ask
+
+
+def warns(idle):
+    """What has no effect, or not all that it would have."""
+    def ask(said, value, place):
+        said.warnings.append((place, idle))
+
+    return ask
+
+
+def refuses(kind):
+    def ask(said, value, place):
+        raise Wrong(kind)
+
+    return ask
+
+
+nothing = sets()
+
+# ---- LINK
+
+NO_VALUE, VALUE, EITHER = "no value", "a value", "a value or none"
+# the letters in front are as few as tell which one it is, those in brackets may be left out
+LINK_NAMES = re.compile(r"(\w+)(?:\[(\w+)\])?")
+
+
+def number(text):
+    """Decimal, octal behind 0, hexadecimal behind 0x."""
+    if re.fullmatch("0[xX][0-9a-fA-F]+", text):
+        return int(text[2:], 16)
+    if re.fullmatch("0[0-7]*", text):
+        return int(text, 8)
+    if re.fullmatch("[1-9][0-9]*", text):
+        return int(text)
+    raise Wrong(WRONG_VALUE)
+
+
+def within(text, least, most):
+    value = number(text)
+    if not least <= value <= most:
+        raise Wrong(WRONG_VALUE)
+    return value
+
+
+def set_stack(said, value, place):
+    said.stack = within(value, 1, MOST_STACK)
+
+
+def set_most_extra(said, value, place):
+    said.most_extra = within(value, 0, MOST_PARAGRAPHS)
+
+
+def any_number(said, value, place):
+    number(value)
+
+
+def leave_out_defaults(said, value, place):
+    """All libraries that only modules name, or the one of this name."""
+    if value is None:
+        said.has_default_libraries = False
+    else:
+        said.left_out.append(value)
+
+
+def is_front(word, name, least):
+    """Whether a word is a name that is shortened to so many letters at least."""
+    return len(word) >= least and name.startswith(word.upper())
+
+
+def map_of_publics(said, value, place):
+    """With the publics; the other forms of its value change nothing."""
+    if value is not None and (is_front(value, "FULL", 1) or is_front(value, "ADDRESS", 1)):
+        said.warnings.append((place, NOTHING))
+        return
+    if value is not None:
+        number(value)
+    said.has_publics = True
+
+
+LINK = [
+    ("B[ATCH]", NO_VALUE, nothing), ("NOL[OGO]", NO_VALUE, nothing), ("PAU[SE]", NO_VALUE, nothing),
+    ("INF[ORMATION]", NO_VALUE, sets(is_verbose=True)),
+    ("Q[UICKLIBRARY]", NO_VALUE, refuses(REFUSED)),
+    ("CO[DEVIEW]", NO_VALUE, warns(DEBUG)),
+    ("CP[ARMAXALLOC]", VALUE, set_most_extra),
+    ("DO[SSEG]", NO_VALUE, sets(order="dosseg")),
+    ("NON[ULLSDOSSEG]", NO_VALUE, sets(order="dosseg-nonulls")),
+    ("DS[ALLOCATE]", NO_VALUE, refuses(REFUSED)), ("HI[GH]", NO_VALUE, refuses(REFUSED)),
+    ("NOG[ROUPASSOCIATION]", NO_VALUE, refuses(REFUSED)),
+    ("DY[NAMIC]", NO_VALUE, refuses(OVERLAYS)), ("OL[DOVERLAY]", NO_VALUE, refuses(OVERLAYS)),
+    ("O[VERLAYINTERRUPT]", VALUE, warns(NOTHING)),
+    ("PADC[ODE]", EITHER, warns(NOTHING)), ("PADD[ATA]", EITHER, warns(NOTHING)),
+    ("AL[IGNMENT]", EITHER, warns(NOTHING)), ("PM[TYPE]", EITHER, warns(NOTHING)),
+    ("W[ARNFIXUP]", NO_VALUE, warns(NOTHING)), ("INC[REMENTAL]", NO_VALUE, warns(NOTHING)),
+    ("E[XEPACK]", NO_VALUE, warns(PACKING)), ("F[ARCALLTRANSLATION]", NO_VALUE, warns(PACKING)),
+    ("NOF[ARCALLTRANSLATION]", NO_VALUE, nothing),
+    ("PACKC[ODE]", NO_VALUE, warns(PACKING)), ("PACKC[ODE]", VALUE, warns(NOTHING)),
+    ("PACKD[ATA]", NO_VALUE, warns(PACKING)), ("PACKD[ATA]", VALUE, warns(NOTHING)),
+    ("NOP[ACKCODE]", NO_VALUE, nothing),
+    ("LI[NENUMBERS]", NO_VALUE, sets(has_lines=True)),
+    ("M[AP]", EITHER, map_of_publics),
+    ("NOD[EFAULTLIBRARYSEARCH]", EITHER, leave_out_defaults),
+    ("NOE[XTDICTIONARY]", NO_VALUE, nothing),
+    ("NOI[GNORECASE]", NO_VALUE, sets(case_counts=True)),
+    ("SE[GMENTS]", VALUE, any_number), ("ST[ACK]", VALUE, set_stack),
+    ("T[INY]", NO_VALUE, sets(form="com")),
+]
+
+
+def link_option(text):
+    """What an option of LINK asks for, with its value or None, or None where there is no such one."""
+    word, colon, value = text.partition(":")
+    value = value if colon else None
+    for names, takes, ask in LINK:
+        short, rest = LINK_NAMES.fullmatch(names).groups()
+        fits = takes == EITHER or (takes == VALUE) == (value is not None)
+        if fits and is_front(word, short + rest, len(short)):
+            return ask, value
+    return None
+
+
+# ---- TLINK
+
+# what `-` behind them switches off, and what is asked for then
+TLINK_FLAGS = {
+    "c": (sets(case_counts=True), sets(case_counts=False)),
+    "i": (sets(writes_all=True), sets(writes_all=False)),
+    "l": (sets(has_lines=True), sets(has_lines=False)),
+    "m": (sets(has_publics=True), sets(has_publics=False)),
+    "n": (sets(has_default_libraries=False), sets(has_default_libraries=True)),
+    "s": (sets(is_detailed=True), sets(is_detailed=False)),
+    "x": (sets(has_no_map=True), sets(has_no_map=False)),
+    "t": (sets(form="com"), sets(form="exe")),
+    "v": (warns(DEBUG), nothing), "f": (warns(PACKING), nothing),
+    "o": (refuses(OVERLAYS), nothing),
+    **{each: (nothing, nothing) for each in ["d", "e", "3", "C", "E", "k", "j", "P", "yc", "ye"]},
+}
+TLINK_WORDS = {"Tdc": sets(form="com"), "Tde": sets(form="exe")}
+
+
+def add_folders(said, value, place):
+    said.folders += value.split(";")
+
+
+# what goes by its beginning, in this order; the value is what the brackets have
+TLINK_BEGUN = [
+    ("L(.+)", add_folders), ("j(.+)", warns(OBJECT_FOLDERS)), ("[AP]=.*", nothing),
+    ("O.*", warns(PACKING)), ("ye.*", nothing), ("y.*", warns(NOTHING)),
+    ("T.*", refuses(NOT_DOS)), ("R.*", refuses(REFUSED)),
+]
+
+
+def tlink_option(text):
+    """The same of TLINK, whose options keep their case."""
+    if text in TLINK_FLAGS:
+        return TLINK_FLAGS[text][0], None
+    if text.endswith("-") and text[:-1] in TLINK_FLAGS:
+        return TLINK_FLAGS[text[:-1]][1], None
+    if text in TLINK_WORDS:
+        return TLINK_WORDS[text], None
+    for pattern, ask in TLINK_BEGUN:
+        found = re.fullmatch(pattern, text, re.DOTALL)
+        if found:
+            return ask, next(iter(found.groups()), None)
+    return None
+
+
+def takes_folders(language, text):
+    """Whether it is an option whose value is folders, which `;` parts."""
+    return language == "tlink" and text[:1] in ("L", "j")
+
+
+OPTION = {"link": link_option, "tlink": tlink_option}

@@ -1,0 +1,286 @@
+"""Lines of LINK and of TLINK: `objects, program, map, libraries, definitions;`, options anywhere.
+
+A line is a text, in which each response file stands in the place of its name. Its words are read one
+by one, and what they say is a `Said`; the first that can't be followed is a LineFault.
+"""
+
+import re
+from dataclasses import dataclass, field
+from typing import Optional
+
+from model.line_options import OPTION, OVERLAYS, UNKNOWN_OPTION, Wrong, takes_folders
+
+LINK, TLINK = "link", "tlink"
+NO_OBJECT, SECOND_NAME, TOO_MANY_FIELDS = "NoObject", "SecondName", "TooManyFields"
+BEHIND_END, UNCLOSED, RESPONSE = "BehindEnd", "UnclosedQuote", "Response"
+DEVICE = "Device"
+OBJECTS, PROGRAM, MAP, LIBRARIES, DEFINED, ENDED = range(6)
+END_OF_TEXT = "\x1A"
+# blanks, and what else parts words
+BLANKS, MARKS = " \t\f\r", "+,;\n"
+NO_FILE, STANDARD_OUTPUT = "nul", "con"
+# what can't be written
+DEVICES = re.compile("prn|aux|(?:lpt|com)[0-9]")
+
+
+class LineFault(Exception):
+    """The first word at fault: how many bytes of the text stand before it, itself, and why."""
+
+    def __init__(self, place, word, kind):
+        super().__init__(place, word, kind)
+        self.place = place
+        self.word = word
+        self.kind = kind
+
+
+@dataclass
+class Said:
+    """What a line says."""
+
+    # pairs of a name and whether it is a library
+    inputs: list = field(default_factory=list)
+    out: Optional[str] = None
+    map: Optional[str] = None
+    folders: list = field(default_factory=list)
+    # a file of definitions, which is none where it is NUL
+    definitions: Optional[str] = None
+    # libraries that aren't searched where only modules name them
+    left_out: list = field(default_factory=list)
+    # pairs of a place and what has no effect there
+    warnings: list = field(default_factory=list)
+    case_counts: bool = False
+    has_default_libraries: bool = True
+    has_no_map: bool = False
+    # whether a map is made without a name of it
+    makes_map: bool = False
+    has_publics: bool = False
+    has_lines: bool = False
+    is_detailed: bool = False
+    writes_all: bool = False
+    is_verbose: bool = False
+    form: str = "exe"
+    # "dosseg" or "dosseg-nonulls"
+    order: Optional[str] = None
+    stack: Optional[int] = None
+    most_extra: Optional[int] = None
+
+
+@dataclass
+class Token:
+    """A word, what stands between quotes, or a mark; its place is in characters."""
+
+    kind: str
+    text: str
+    place: int
+
+
+def text_of_file(text):
+    """What stands in the place of a response file's name: its lines, up to Ctrl-Z, without the end
+    of the last one."""
+    text = text.partition(END_OF_TEXT)[0].replace("\r\n", "\n")
+    return text.removesuffix("\n")
+
+
+def tokens(language, text):
+    """The tokens of a text, blanks left out."""
+    place = 0
+    while place < len(text):
+        byte = text[place]
+        if byte in BLANKS:
+            place += 1
+        elif byte in MARKS:
+            yield Token(byte, byte, place)
+            place += 1
+        elif byte == '"':
+            end = text.find('"', place + 1)
+            if end < 0:
+                yield Token("unclosed", byte, place)
+                return
+            yield Token("quoted", text[place + 1:end], place)
+            place = end + 1
+        else:
+            word = word_at(language, text, place)
+            yield Token("word", word, place)
+            place += len(word)
+
+
+def word_at(language, text, place):
+    """The word that begins at a place; within folders of an option `;` is a part of it."""
+    end = place + 1
+    while end < len(text) and text[end] not in BLANKS + '+,\n"':
+        if text[end] == ";" and not in_folders(language, text[place:end]):
+            break
+        end += 1
+    return text[place:end]
+
+
+def in_folders(language, word):
+    """Whether a word that is begun is options of which the last one takes folders."""
+    options = word[1:].split("/")
+    if word[:1] not in ("/", "-") or not any(takes_folders(language, each) for each in options):
+        return False
+    first = next(at for at, each in enumerate(options) if takes_folders(language, each))
+    return all(is_option(language, each) for each in options[:first])
+
+
+def is_option(language, text):
+    return OPTION[language](text) is not None
+
+
+def cut(language, word):
+    """A word's name, or None, and its options.
+
+    `/` begins an option anywhere, and `-` at a word's start; but it parts folders too.
+    """
+    if re.match(r"\.{1,2}/", word):
+        return word, []
+    if word[0] in "/-":
+        return cut_begun(language, word)
+    name, *rest = word.split("/")
+    options = []
+    while rest and is_option(language, rest[-1]):
+        options.insert(0, rest.pop())
+    return "/".join([name, *rest]), options
+
+
+def cut_begun(language, word):
+    """One that begins as an option: options, an option of folders that have `/`, or a path."""
+    options = word[1:].split("/")
+    if all(is_option(language, each) for each in options):
+        return None, options
+    if takes_folders(language, word[1:]) and is_option(language, word[1:]):
+        return None, [word[1:]]
+    if word[0] == "/" and len(options) > 1:
+        return word, []
+    raise Wrong(UNKNOWN_OPTION)
+
+
+def base(name):
+    """A name without extensions, in small letters."""
+    return name.partition(".")[0].lower()
+
+
+def refuse_device(name):
+    """A device that can't be written is refused; NUL is no file, and CON standard output."""
+    if DEVICES.fullmatch(base(name)):
+        raise Wrong(DEVICE)
+
+
+class Reader:
+    """Reads a line."""
+
+    def __init__(self, language, text):
+        self.language = language
+        self.text = text
+        self.said = Said(makes_map=language == TLINK)
+        self.field = OBJECTS
+        # whether `+` stood last, so that a line goes on
+        self.goes_on = False
+
+    def read(self):
+        """What the line says; it has to name an object."""
+        for token in tokens(self.language, self.text):
+            try:
+                self.read_token(token)
+            except Wrong as wrong:
+                raise LineFault(self.bytes_before(token.place), token.text, wrong.kind) from None
+        if not any(not is_library for _, is_library in self.said.inputs):
+            raise LineFault(self.bytes_before(len(self.text)), "", NO_OBJECT)
+        return self.said
+
+    def bytes_before(self, place):
+        return len(self.text[:place].encode())
+
+    def read_token(self, token):
+        if self.field == ENDED:
+            if token.kind in ("word", "quoted", "unclosed", ","):
+                raise Wrong(BEHIND_END)
+        elif token.kind == "+":
+            self.goes_on = True
+        elif token.kind == "\n":
+            self.end_line()
+        elif token.kind == ",":
+            self.end_field()
+        elif token.kind == ";":
+            self.field = ENDED
+        elif token.kind == "unclosed":
+            raise Wrong(UNCLOSED)
+        else:
+            self.goes_on = False
+            self.read_word(token)
+
+    def end_line(self):
+        """The next comma; but nothing behind `+`, or while no object is named."""
+        if not self.goes_on and (self.field != OBJECTS or self.said.inputs):
+            self.field = min(self.field + 1, DEFINED)
+        self.goes_on = False
+
+    def end_field(self):
+        """A map that is reached by a comma is made."""
+        if self.field == DEFINED:
+            raise Wrong(TOO_MANY_FIELDS)
+        self.field += 1
+        self.goes_on = False
+        self.said.makes_map |= self.field == MAP
+
+    def read_word(self, token):
+        """A name, options, or a name and the options that touch it."""
+        if token.kind == "quoted":
+            return self.read_name(token.text)
+        name, options = cut(self.language, token.text)
+        if name is not None:
+            if name.startswith("@"):
+                raise Wrong(RESPONSE)
+            self.read_name(name)
+        for option in options:
+            ask, value = OPTION[self.language](option)
+            ask(self.said, value, self.bytes_before(token.place))
+
+    def read_name(self, name):
+        [self.read_object, self.read_program, self.read_map, self.read_library,
+         self.read_definitions][self.field](name)
+
+    def read_object(self, name):
+        if name.startswith("("):
+            raise Wrong(OVERLAYS)
+        self.said.inputs.append((name, False))
+
+    def read_program(self, name):
+        if self.said.out is not None:
+            raise Wrong(SECOND_NAME)
+        refuse_device(name)
+        self.said.out = name
+
+    def read_map(self, name):
+        if self.said.map is not None:
+            raise Wrong(SECOND_NAME)
+        refuse_device(name)
+        self.said.map = name
+
+    def read_library(self, name):
+        """A library, or a folder of them."""
+        if base(name) == NO_FILE:
+            return
+        if name.endswith(("/", "\\", ":")):
+            self.said.folders.append(name)
+        else:
+            self.said.inputs.append((name, True))
+
+    def read_definitions(self, name):
+        if self.said.definitions is not None:
+            raise Wrong(SECOND_NAME)
+        self.said.definitions = name
+
+
+def read(language, text):
+    """What a line of a language says, or a LineFault."""
+    return Reader(language, text).read()
+
+
+def map_of(said):
+    """The map's name, "" for one beside the program, or None for no map."""
+    if said.has_no_map or said.map is not None and base(said.map) == NO_FILE:
+        return None
+    if said.map is not None:
+        return said.map
+    return "" if said.makes_map or said.has_publics or said.has_lines else None
