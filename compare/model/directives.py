@@ -72,6 +72,15 @@ class Job:
     is_quiet: bool = False
     # the map is asked for, by no name of its own
     maps_to_out: bool = False
+    # "omf", "link" or "tlink"
+    map_form: str = "omf"
+    # default libraries that aren't searched
+    left_out: list = field(default_factory=list)
+    # whether files are named as LINK and TLINK name them
+    has_dos_names: bool = False
+    # the greatest extra paragraphs of an EXE file, and whether the file has all bytes of segments
+    most_extra: int = 0xFFFF
+    writes_all: bool = False
     # pairs of where a line stands and what becomes of what it asks for
     warnings: list = field(default_factory=list)
 

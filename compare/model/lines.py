@@ -13,7 +13,7 @@ from model.line_options import OPTION, OVERLAYS, UNKNOWN_OPTION, Wrong, takes_fo
 LINK, TLINK = "link", "tlink"
 NO_OBJECT, SECOND_NAME, TOO_MANY_FIELDS = "NoObject", "SecondName", "TooManyFields"
 BEHIND_END, UNCLOSED, RESPONSE = "BehindEnd", "UnclosedQuote", "Response"
-DEVICE = "Device"
+DEVICE, BOTH = "Device", "Both"
 OBJECTS, PROGRAM, MAP, LIBRARIES, DEFINED, ENDED = range(6)
 END_OF_TEXT = "\x1A"
 # blanks, and what else parts words
@@ -169,9 +169,11 @@ def refuse_device(name):
 class Reader:
     """Reads a line."""
 
-    def __init__(self, language, text):
+    def __init__(self, language, text, is_file):
         self.language = language
         self.text = text
+        # whether a file of a name is there
+        self.is_file = is_file
         self.said = Said(makes_map=language == TLINK)
         self.field = OBJECTS
         # whether `+` stood last, so that a line goes on
@@ -228,6 +230,8 @@ class Reader:
         if token.kind == "quoted":
             return self.read_name(token.text)
         name, options = cut(self.language, token.text)
+        if options and "/" in token.text and self.is_file(token.text):
+            raise Wrong(BOTH)
         if name is not None:
             if name.startswith("@"):
                 raise Wrong(RESPONSE)
@@ -272,9 +276,9 @@ class Reader:
         self.said.definitions = name
 
 
-def read(language, text):
+def read(language, text, is_file=lambda name: False):
     """What a line of a language says, or a LineFault."""
-    return Reader(language, text).read()
+    return Reader(language, text, is_file).read()
 
 
 def map_of(said):

@@ -10,8 +10,8 @@ from os.path import normpath
 from typing import Optional
 
 from model import (
-    communal, directives, faults, foreign, forms, image, libraries, local, lowering, module, ordering,
-    printing, search, stack)
+    communal, directives, dos_names, faults, foreign, forms, image, libraries, line_jobs, link_map, local,
+    lowering, module, ordering, printing, search, stack)
 from model.commands import Answer, Output
 from model.faults import Fault, escaped, printed_name
 from model.names import Names, wanting_places
@@ -126,9 +126,10 @@ class Linking:
         variables = communal.variables(self.taken, self.key)
         self.check_names(variables)
         program = self.linked(variables)
-        self.write(out, forms.written_file(program, self.job.form))
+        self.write(out, forms.written_file(
+            program, self.job.form, self.job.most_extra, self.job.writes_all))
         if map_path is not None:
-            self.write(map_path, printing.map_of(program) + self.table_of(program))
+            self.write(map_path, self.map_of(program))
         self.warn_of_program(program, variables)
 
     def read_given(self):
@@ -146,11 +147,18 @@ class Linking:
         if lines:
             raise Stop(NO_DEVICE, 1, told_at_most(lines, self.job.is_verbose))
 
+    def map_of(self, program):
+        """The map in its form; that of `omf` has the modules behind it."""
+        if self.job.map_form == "omf":
+            return printing.map_of(program) + self.table_of(program)
+        return link_map.map_of(program, self.job.map_form)
+
     def file(self, name):
         """The path of a file: it may have one of two endings that its name hasn't."""
         endings = ["", ".OBJ", ".obj"] if "." not in last_part(name) else [""]
-        paths = [name + ending for ending in endings]
-        return next((path for path in paths if self.files.get(path) is not None), None)
+        if self.job.has_dos_names and len(endings) > 1:
+            endings = [".OBJ"]
+        return self.first_found([name + ending for ending in endings])
 
     def library(self, name):
         return self.found(name, self.job.folders)
@@ -162,8 +170,16 @@ class Linking:
     def found(self, name, folders):
         """The path of a library here or in the first folder that has it, or None."""
         endings = [""] if "." in last_part(name) else ENDINGS
+        if self.job.has_dos_names:
+            endings = endings[:1] if "." in last_part(name) else [".LIB"]
         paths = [
             in_folder(folder, name + ending) for folder in ["", *folders] for ending in endings]
+        return self.first_found(paths)
+
+    def first_found(self, paths):
+        """The first path at which a file is, of LINK and TLINK also in another case, or None."""
+        if self.job.has_dos_names:
+            return next(filter(None, (dos_names.found(path, self.files) for path in paths)), None)
         return next((path for path in paths if self.files.get(path) is not None), None)
 
     def add_default_libraries(self):
@@ -178,9 +194,15 @@ class Linking:
                 names.setdefault(name, each.word)
         new = [(name, word) for name, word in names.items() if name not in self.met]
         for name, word in new:
-            self.add_default_library(name, word)
+            if not self.is_left_out(name):
+                self.add_default_library(name, word)
             self.met.add(name)
         return bool(new)
+
+    def is_left_out(self, name):
+        """Whether a default library isn't to be searched, in whatever case and with .LIB or without."""
+        left_out = [dos_names.with_extension(each, ".LIB").lower() for each in self.job.left_out]
+        return dos_names.with_extension(name.decode("latin1"), ".LIB").lower() in left_out
 
     def add_default_library(self, name, word):
         try:
@@ -231,7 +253,8 @@ class Linking:
         if out is None:
             first = min(self.job.inputs, key=lambda each: each.is_library)
             extension = forms.EXTENSIONS[forms.kind_of(self.job.form)]
-            out = with_ending("OUT" if first.name == "-" else first.name, extension)
+            name = last_part(first.name) if self.job.has_dos_names else first.name
+            out = with_ending("OUT" if name == "-" else name, extension)
         map_path = with_ending(out, ".MAP") if self.job.maps_to_out else self.job.map
         self.check_place(out)
         if map_path is not None:
@@ -495,7 +518,9 @@ class Linking:
         return "".join(line + "\n" for line in lines).encode()
 
     def write(self, path, content):
-        """Fault 40 is a file that can't be made."""
+        """Fault 40 is a file that can't be made; NUL is none."""
+        if self.job.has_dos_names and dos_names.is_null(path):
+            return
         try:
             Output(path, self.can_be_made(path)).write(self.answer, content)
         except Fault as fault:
@@ -576,6 +601,24 @@ def link_by_response(path, files, job_of, folders=(), can_be_made=always):
     return link(job_of(words), files, folders, can_be_made, [path])
 
 
+def link_by_line(language, words, files, folders=(), can_be_made=always, before=""):
+    """The answer to the words of LINK or TLINK; `before` is a text that stands in front of them.
+
+    What is left out is told before all else.
+    """
+    try:
+        text, spoken_files = line_jobs.text_of(language, words, files, before)
+        job = line_jobs.job_of(language, text, files, folders)
+    except line_jobs.LineRefused as refused:
+        return Answer(WRONG_WORDS, error=told([refused.text]).encode(), fault=faults.WORDS)
+    except directives.Unread as unread:
+        return unread_answer(unread)
+    warnings = [f"warning: {place}: {text}" for place, text in job.warnings]
+    answer = link(job, files, job.folders, can_be_made, spoken_files)
+    answer.error = told(told_at_most(warnings, job.is_verbose)).encode() + answer.error
+    return answer
+
+
 def unread_answer(unread):
     """The answer where a response file isn't there, or is no text."""
     if unread.is_there:
@@ -602,6 +645,9 @@ def link(job, files, folders=(), can_be_made=always, also_read=()):
     except Stop as stop:
         answer.status, answer.fault = stop.status, stop.kind
         line = told(stop.lines)
+    except dos_names.Ambiguous as two:
+        answer.status, answer.fault = WRONG_WORDS, faults.WORDS
+        line = told([f"{two.name}: it is {' and '.join(two.paths)}"])
     warnings = limited(linking.absent, job.is_verbose) + linking.warnings
     answer.error = ("".join(warnings) + line).encode()
     return answer
