@@ -320,7 +320,7 @@ def seeds_until_found(kind, program, change):
         shutil.copy(HERE.parent / "docs" / "faults.txt", Path(folder) / "docs")
         change.make(copy)
         done = subprocess.run(
-            [sys.executable, copy / kind.name, "--program", program,
+            [sys.executable, copy / kind.name, *kind.words, "--program", program,
              "--count", str(kind.most_seeds), "--until-difference"],
             stdout=subprocess.PIPE, text=True, check=False)
     if done.returncode not in (0, 1):

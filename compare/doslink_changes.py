@@ -1250,3 +1250,7 @@ AMISS = [
 CHANGES = [
     *LIBRARIES, *NAMES, *SEARCH, *ORDER, *LOWERING, *ALIASES, *DEFAULTS, *COMMUNAL, *LOCAL,
     *LINKING, *FAR_DATA, *DIRECTIVES, *STACKS, *AMISS]
+
+# of lines of LINK and TLINK, and of maps in their forms
+OF_LINES = [
+]

@@ -10,6 +10,8 @@ from generator import jobs
 from model import faults, linking
 
 LINK, DIRECTIVES = "doslink", "wlink"
+# by what it is called to take lines of other linkers, and the words that say the same
+LINES = ("link", "tlink")
 # of a seed that is kept
 WORDS = "words"
 no_counts, lines_of_limits = comparison.no_counts, comparison.lines_of_limits
@@ -18,17 +20,20 @@ no_counts, lines_of_limits = comparison.no_counts, comparison.lines_of_limits
 class Comparison(comparison.Comparison):
     """Compares one job after the other in a folder, or each in one that is kept."""
 
+    # whether the program takes lines of LINK and TLINK too
+    has_lines = False
+
     def __init__(self, program, top, keeps=False):
         super().__init__(program, top, keeps)
-        # by what name it is called, so it reads words or directives
-        self.programs = {name: top / name for name in (LINK, DIRECTIVES)}
+        # by what name it is called, so it reads words, directives or lines
+        self.programs = {name: top / name for name in (LINK, DIRECTIVES, *LINES)}
         for path in self.programs.values():
             path.symlink_to(program)
 
     def compare(self, seed):
         """One job; raises a Difference."""
         chance = random.Random(seed)
-        case = jobs.case(chance, seed)
+        case = jobs.case(chance, seed, self.has_lines)
         answer = comparison.asked(model_answer, case, self.files_of(case))
         self.put(case)
         given = {}
@@ -52,9 +57,9 @@ class Comparison(comparison.Comparison):
 
     def run(self, case, answer):
         """Runs the program on a case and compares its status and its two streams."""
-        environment = {**os.environ, "LIB": case.between.join(case.folders)}
+        environment = {**os.environ, "LIB": case.between.join(case.folders), "LINK": case.before}
         done = subprocess.run(
-            [self.programs[case.program], *case.words], cwd=self.folder, env=environment,
+            self.command(case), cwd=self.folder, env=environment,
             stdin=subprocess.DEVNULL, stdout=subprocess.PIPE, stderr=subprocess.PIPE)
         self.counts.ends[case.program, answer.fault] += 1
         if self.keeps:
@@ -62,6 +67,12 @@ class Comparison(comparison.Comparison):
         expect("the faults", done.stderr, answer.error)
         expect("the status", [done.returncode], [answer.status])
         expect("the output", done.stdout, answer.output)
+
+    def command(self, case):
+        """The program by its name, or by another one and the words that say this one."""
+        if self.has_lines and case.program != LINK and len(case.words) % 2:
+            return [self.programs[LINK], "--as", case.program, *case.words]
+        return [self.programs[case.program], *case.words]
 
     def compare_files(self, case, wanted):
         """The files that are there; those that were given are as they were."""
@@ -82,6 +93,9 @@ def can_be_made(path):
 
 def model_answer(case, files):
     """What the model answers to a case over its files."""
+    if case.program in LINES:
+        return linking.link_by_line(
+            case.program, case.words, files, case.folders, can_be_made, case.before)
     if case.program == DIRECTIVES:
         return linking.link_by_directives(case.words, files, case.folders, can_be_made)
     if case.words == ["@" + jobs.RESPONSE]:
@@ -103,11 +117,11 @@ def until_difference(program, folder, seeds, kind=Comparison):
 def lines_of_ends(counts):
     """A table of how often each program ended by each fault."""
     return comparison.lines_of_ends(
-        counts, [LINK, DIRECTIVES], {
+        counts, [LINK, DIRECTIVES, *LINES], {
             **faults.NAMES, **faults.DOSLINK_NAMES, **faults.OTHER_ENDS})
 
 
 def summary(counts, minutes):
     """How many jobs were compared, and how fast."""
-    count = sum(counts.of_command(name) for name in (LINK, DIRECTIVES))
+    count = sum(counts.of_command(name) for name in (LINK, DIRECTIVES, *LINES))
     return f"{count:,} links; {count / minutes:,.0f} a minute"

@@ -31,6 +31,8 @@ class Kind:
     check_worked: Callable
     changes: list
     most_seeds: int
+    # words of the command line that say this kind
+    words: tuple = ()
 
 
 def find_program(name):

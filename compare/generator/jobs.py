@@ -6,6 +6,7 @@ from itertools import groupby
 from generator.communals import (
     LOCATIONS, NO_NUMBERS, Declared, at_limit, module_of_communals, module_of_local_variables,
     module_of_no_number)
+from generator.lines import LINK, OTHER_OPTIONS, TLINK, WRONG_LINES, WRONG_WORDS, LineSpeller
 from generator.libraries import (
     ARCHIVE, SMALL_PAGES, SYMBOL_TABLES, archive, archive_of_symbols, archive_with_symbols, damaged,
     foreign, library, with_header)
@@ -164,13 +165,17 @@ class Case:
     program: str = "doslink"
     folders: list = field(default_factory=list)
     between: str = ":"
+    # what the environment's LINK has
+    before: str = ""
 
 
 class JobMaker:
     """Makes one job."""
 
-    def __init__(self, random):
+    def __init__(self, random, has_lines=False):
         self.random = random
+        # whether jobs are asked for by lines of LINK and TLINK too
+        self.has_lines = has_lines
         self.files = {}
         self.job = Job(out=OUT)
         self.job.ignores_case = self.happens(0.3)
@@ -816,7 +821,9 @@ class JobMaker:
         return items or [ordering.Class(b"CODE")]
 
     def asked(self):
-        """The job by words, by words in a file, or by directives."""
+        """The job by words, by words in a file, by directives, or by a line of LINK or TLINK."""
+        if self.has_lines and self.happens(0.5):
+            return self.by_line(self.random.choice([LINK, TLINK]))
         if self.happens(0.35):
             return self.by_directives()
         if isinstance(self.job.order, list):
@@ -829,6 +836,66 @@ class JobMaker:
             self.files[RESPONSE] = self.text_of(words)
             words = ["@" + RESPONSE]
         return self.case(words, "doslink")
+
+    def by_line(self, language, more=()):
+        """The job by the words of LINK or TLINK, without what these have no word for."""
+        job, speller = self.job, LineSpeller(self.random, language, self.files)
+        kinds = {"sys": "com", "bin": "com"}
+        kind = "exe" if job.form is None else job.form.kind
+        job.form, job.keeps_debug, job.is_verbose = Form(kinds.get(kind, kind)), False, self.happens(0.5)
+        job.order = job.order if job.order == ordering.DOSSEG else None
+        job.inputs.sort(key=lambda each: each.is_library)
+        words, before = speller.spelled(job, more)
+        return self.line_case(language, words, before)
+
+    def line_case(self, language, words, before=""):
+        """The words of a linker; what stands in front of them is in the environment or in a file."""
+        if language == TLINK and before:
+            self.files["TLINK.CFG"], before = before.encode(), ""
+        case = self.case(words, language)
+        case.before = before
+        return case
+
+    def make_line_options(self, language, option):
+        """A line with an option that asks for no other job, or with a word that is wrong."""
+        self.files["0.obj"], self.folders = module_of_publics([b"x"]), []
+        self.give("0.obj")
+        self.plan.libraries = []
+        word = option if isinstance(option, str) else LineSpeller(self.random, language, {}).option(*option)
+        return self.by_line(language, [word])
+
+    def make_wrong_line(self, language, line):
+        """A line that is wrong, or that seems so."""
+        self.files["0.obj"], self.folders = module_of_publics([b"x"]), []
+        speller = LineSpeller(self.random, language, self.files)
+        name = self.random.choice(["0.obj", "0", '"0.obj"', "0.OBJ"])
+        self.files["x.def"] = b"EXPORTS x\n"
+        words, _ = speller.words(line.replace("OBJECT", name))
+        return self.line_case(language, words)
+
+    def make_cases(self, language, names):
+        """Files that differ by case alone, and a name that one of them has, or none."""
+        for name in names:
+            self.files[name] = module_of_publics([name.encode()])
+        self.job.out, self.folders = OUT, []
+        self.give(self.random.choice(["main.obj", "MAIN", "Main", "main"]))
+        return self.by_line(language)
+
+    def make_default_left_out(self, library):
+        """A default library, and an option that leaves out this one or another one."""
+        self.files["0.obj"] = module_of_links([], [], b"SLIBCE")
+        self.files[library] = b"x"
+        self.give("0.obj")
+        self.folders = []
+        words = ["/NOD:" + self.random.choice(["slibce", "SLIBCE.LIB", "other", "slibce.lib", "SLIB"])]
+        return self.by_line(LINK, words)
+
+    def make_map(self, form):
+        """A map in a form, of publics in groups, of absolute ones and of any."""
+        self.folders, self.plan.wants_marks = [], 0.9
+        self.add_some_objects()
+        self.job.map_form = form
+        return self.asked() if form == "omf" else self.case(self.words(), "doslink")
 
     def case(self, words, program):
         return Case(
@@ -857,6 +924,8 @@ class JobMaker:
         options += [] if job.order is None else [["--order", self.order_word()]]
         options += [] if job.stack is None else [["--stack", self.number(job.stack.length)]]
         options += self.form_words()
+        if self.has_lines and (job.map_form != "omf" or self.happens(0.2)):
+            options += [["--map-form", self.random.choice([job.map_form, job.map_form.upper()])]]
         self.random.shuffle(options)
         given = [["-l", each.name] if each.is_library else [each.name] for each in job.inputs]
         words = self.merged(self.merged(options, [["-L", folder] for folder in job.folders]), given)
@@ -1068,10 +1137,31 @@ MADE = [
 ]
 
 
-def case(random, number=1):
+def each_with(language, values):
+    return [(language, value) for value in values]
+
+
+# the same of lines, where these are taken
+MADE_BY_LINES = [
+    (5, 0, in_turn(JobMaker.make_line_options, [
+        pair for pairs in zip(*[
+            each_with(language, [*OTHER_OPTIONS[language], *WRONG_WORDS[language]] * 2)[:60]
+            for language in (LINK, TLINK)]) for pair in pairs])),
+    (20, 6, in_turn(JobMaker.make_wrong_line, [
+        (language, line) for line in WRONG_LINES for language in (LINK, TLINK)])),
+    (50, 7, in_turn(JobMaker.make_cases, [
+        (language, names) for names in [
+            ["main.obj"], ["main.OBJ", "MAIN.obj"], ["Main.Obj", "main.OBJ", "main"], ["MAIN.OBJ", "main.OBJ"]]
+        for language in (LINK, TLINK)])),
+    (50, 8, in_turn(JobMaker.make_default_left_out, ["slibce.lib", "SLIBCE.LIB", "SLIBCE"])),
+    (20, 11, in_turn(JobMaker.make_map, ["link", "tlink", "link", "omf"])),
+]
+
+
+def case(random, number=1, has_lines=False):
     """A job and its files; of some numbers one that is made for one rule, often at its limit."""
-    maker = JobMaker(random)
-    for every, behind, make in MADE:
+    maker = JobMaker(random, has_lines)
+    for every, behind, make in [*(MADE_BY_LINES if has_lines else []), *MADE]:
         if number % every == behind:
             return make(maker, number // every)
     return maker.make()

@@ -28,6 +28,7 @@ IDLE = {
     line_options.OBJECT_FOLDERS: "objects are looked for where their names say",
     line_options.NOTHING: "the option has no effect",
 }
+CONFIGURATION = "TLINK.CFG"
 DEFINITIONS = "definitions aren't followed: a field that is empty or NUL is expected"
 A_DRIVE = "a drive is no folder here"
 # statements of a file of definitions that change nothing, or nothing that is asked for
@@ -43,11 +44,16 @@ class LineRefused(Exception):
         self.text = text
 
 
-def text_of(language, words, files, before=""):
-    """The text of words, in which each response file stands in the place of its name, and the files.
+def before(language, environment, files):
+    """What stands in front of the words: of LINK what the environment says, of TLINK a file."""
+    if language == lines.LINK:
+        return environment
+    path = dos_names.found(CONFIGURATION, files)
+    return "" if path is None else text_of_path(path, files)
 
-    `before` is what the environment says, or a file that is always read.
-    """
+
+def text_of(words, files, before=""):
+    """The text of words, in which each response file stands in the place of its name, and the files."""
     text = " ".join(filter(None, [lines.text_of_file(before), *words]))
     read = []
 

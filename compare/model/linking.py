@@ -607,7 +607,8 @@ def link_by_line(language, words, files, folders=(), can_be_made=always, before=
     What is left out is told before all else.
     """
     try:
-        text, spoken_files = line_jobs.text_of(language, words, files, before)
+        before = line_jobs.before(language, before, files)
+        text, spoken_files = line_jobs.text_of(words, files, before)
         job = line_jobs.job_of(language, text, files, folders)
     except line_jobs.LineRefused as refused:
         return Answer(WRONG_WORDS, error=told([refused.text]).encode(), fault=faults.WORDS)

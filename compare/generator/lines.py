@@ -1,0 +1,203 @@
+"""Lines of LINK and of TLINK: a job in their words, spelled at random, and words that are wrong."""
+
+LINK, TLINK = "link", "tlink"
+RESPONSE, PART = "response", "part"
+# options that a job says nothing of, as they are written in full, and how many letters tell them apart
+OTHER_OPTIONS = {
+    LINK: [
+        ("BATCH", 1), ("NOLOGO", 3), ("PAUSE", 3), ("CODEVIEW", 2), ("OVERLAYINTERRUPT:63", 1),
+        ("PADCODE:2", 4), ("PADDATA", 4), ("ALIGNMENT:16", 2), ("ALIGNMENT", 2), ("PMTYPE:VIO", 2),
+        ("WARNFIXUP", 1), ("INCREMENTAL", 3), ("EXEPACK", 1), ("FARCALLTRANSLATION", 1),
+        ("NOFARCALLTRANSLATION", 3), ("PACKCODE", 5), ("PACKCODE:512", 5), ("PACKDATA", 5), ("NOPACKCODE", 3),
+        ("NOEXTDICTIONARY", 3), ("SEGMENTS:0x100", 2), ("MAP:FULL", 1), ("MAP:ADDRESS", 1), ("LINENUMBERS", 2),
+        ("CPARMAXALLOC:1", 2), ("CPARMAXALLOC:0", 2), ("CPARMAXALLOC:0xFFFF", 2), ("CPARMAXALLOC:0100", 2),
+        ("MAP:200", 1), ("NONULLSDOSSEG", 3), ("NODEFAULTLIBRARYSEARCH:slibce", 3),
+        ("NODEFAULTLIBRARYSEARCH:Runtime.A", 3)],
+    TLINK: [(each, len(each)) for each in [
+        "c-", "d", "e", "3", "C", "E", "k", "j", "P", "P=4096", "A=16", "yc", "ye", "yex", "yx", "v", "v-", "f", "f-",
+        "O", "Ol", "i", "i-", "m", "m-", "l", "s", "x", "x-", "jobjs", "jone;two", "n-", "t-", "Tde", "o-", "yc-", "d-"]],
+}
+WRONG_WORDS = {
+    LINK: [
+        "/X", "/NO", "/ST:0", "/ST:65537", "/ST:089", "/ST:", "/ST:4k", "/CP:65536", "/CP:x", "/DS", "/HIGH", "/OLD",
+        "/Q", "/NOG", "/DY", "(a+b)", '"a', "/NOI:1", "/SE:x", "/SE", "/M:x", "/STACKS", "-x", "@nowhere", "/", "/PACK",
+        "/S:4", "/C", "/home/x.obj", "-home/x.obj"],
+    TLINK: [
+        "/q", "-q", "/o", "/Twe", "/R", "/Rk", "/L", "/A", "(a+b)", '"a', "/cx", "@nowhere", "-", "/tx", "/M", "/X",
+        "/home/x.obj", "-c/q"],
+}
+# `OBJECT` is that of the job
+WRONG_LINES = [
+    ";", "", ",prog", "/c", "OBJECT,a b", "OBJECT,,a b", "OBJECT,,,,nul,x", "OBJECT;x", "OBJECT;,x", "OBJECT,prn",
+    "OBJECT,,aux", "OBJECT,com1", "OBJECT,com3,", "OBJECT,,LPT9.x", 'OBJECT,"prn"', "OBJECT,d:a", "c:OBJECT",
+    "OBJECT,,,,x.def", "OBJECT,,,,nowhere", "OBJECT,,,,nul nul nul", "OBJECT;;", "OBJECT;/c", 'OBJECT;"', "OBJECT\n\n\n\n\nx"]
+DEFINITIONS = [
+    b"NAME prog\r\nDESCRIPTION 'x'\r\n", b"; nothing\nstacksize 4096\n", b"NAME a\nEXETYPE WINDOWS\n", b"", b"NAME a\n\x1AEXPORTS x"]
+BEHIND_TEXT = ["", "", "\x1A", "\x1Amore,words;\n/q"]
+
+
+class LineSpeller:
+    """Spells a job in the words of one of the two linkers; the files get those that the words name."""
+
+    def __init__(self, random, language, files):
+        self.random = random
+        self.language = language
+        self.files = files
+
+    def happens(self, likelihood):
+        return self.random.random() < likelihood
+
+    def spelled(self, job, more=()):
+        """The words of a job, and the text in front of them; `more` are words that stand anywhere."""
+        line = self.line(job, more)
+        return self.words(line)
+
+    def line(self, job, more):
+        """A line: its fields, with options anywhere."""
+        fields = self.fields(job)
+        options = self.options(job)
+        text = self.joined(fields)
+        return self.with_options(text, [*options, *more])
+
+    # ---- fields
+
+    def fields(self, job):
+        """The names of each field, as few fields as there have to be or more."""
+        objects = [self.name(each.name, ".obj") for each in job.inputs if not each.is_library]
+        libraries = [self.name(each.name, ".LIB") for each in job.inputs if each.is_library]
+        folders = [each.rstrip("/") + self.random.choice("/\\") for each in job.folders]
+        if self.language == TLINK and self.happens(0.5):
+            self.folders, folders = job.folders, []
+        else:
+            self.folders = []
+        out = [] if job.out is None else [self.name(job.out, ".EXE")]
+        fields = [objects, out, self.map_field(job), [*folders, *libraries], self.definitions()]
+        while fields[-1] == [] and self.happens(0.7):
+            fields.pop()
+        return fields
+
+    def map_field(self, job):
+        if job.map is not None:
+            return [self.name(job.map, ".MAP")]
+        return self.random.choice([[], [], ["nul"], ["NUL.MAP"], ["Nul"]])
+
+    def definitions(self):
+        if self.happens(0.93):
+            return self.random.choice([[], [], [], ["nul"], ["NUL.DEF"]])
+        self.files["prog.def"] = self.random.choice(DEFINITIONS)
+        return [self.random.choice(["prog.def", "prog"])]
+
+    def name(self, name, extension):
+        """A name without its extension, in another case, with other signs between folders, or in quotes."""
+        if name.lower().endswith(extension.lower()) and self.happens(0.5):
+            name = name[:-len(extension)]
+        if self.happens(0.1):
+            name = name.upper() if self.happens(0.5) else name.swapcase()
+        if "/" in name and not name.startswith(".") and self.happens(0.3):
+            name = name.replace("/", "\\")
+        if self.happens(0.05):
+            name = "./" + name
+        return f'"{name}"' if self.happens(0.1) else name
+
+    def joined(self, fields):
+        """Names with signs between them; a `;` may stand behind them."""
+        parts = []
+        for number, names in enumerate(fields):
+            parts.append(" ".join(names) if number else self.plus(names))
+        text = ""
+        for number, part in enumerate(parts):
+            text += (self.between() if number else "") + part
+        return text + self.random.choice(["", ";", ";", " ;", ";\n"])
+
+    def plus(self, names):
+        """Objects, with blanks or `+` between them."""
+        text = ""
+        for number, name in enumerate(names):
+            text += (self.random.choice([" ", "+", " + ", "  ", "+\n", " +\n "]) if number else "") + name
+        return text
+
+    def between(self):
+        return self.random.choice([",", ",", ", ", " , ", "\n"])
+
+    # ---- options
+
+    def options(self, job):
+        """Those that say what the job asks for, and others."""
+        if self.language == LINK:
+            options = self.link_options(job)
+        else:
+            options = self.tlink_options(job)
+        if self.happens(0.4):
+            options += [self.option(*self.random.choice(OTHER_OPTIONS[self.language]))]
+        self.random.shuffle(options)
+        return options
+
+    def link_options(self, job):
+        options = [] if job.ignores_case else [("NOIGNORECASE", 3)]
+        options += [("INFORMATION", 3)] if job.is_verbose else []
+        options += [] if job.has_default_libraries else [("NODEFAULTLIBRARYSEARCH", 3)]
+        if job.order is not None:
+            options += [("DOSSEG", 2) if job.has_null_bytes else ("NONULLSDOSSEG", 3)]
+        options += [] if job.stack is None else [(f"STACK:{self.number(job.stack.length)}", 2)]
+        options += [("TINY", 1)] if job.form.kind == "com" else []
+        options += [("MAP", 1)] if job.map is not None and self.happens(0.5) else []
+        return [self.option(*each) for each in options]
+
+    def tlink_options(self, job):
+        options = [] if job.ignores_case else ["c"]
+        options += [] if job.has_default_libraries else ["n"]
+        options += [self.random.choice(["t", "Tdc"])] if job.form.kind == "com" else []
+        options += ["x"] if job.map is None and self.happens(0.7) else []
+        options += ["L" + ";".join(self.folders)] if self.folders else []
+        return [self.option(each, len(each)) for each in options]
+
+    def number(self, value):
+        return self.random.choice([str(value), f"0x{value:x}", f"0X{value:X}", f"0{value:o}"])
+
+    def option(self, text, least):
+        """An option, of LINK with as many letters as tell it apart or more, in any case."""
+        name, colon, value = text.partition(":")
+        if self.language == LINK:
+            name = name[:self.random.choice([least, least, len(name), self.random.randint(least, len(name))])]
+            name = self.random.choice([name, name, name.lower(), name.capitalize()])
+        return self.random.choice("///-") + name + colon + value
+
+    def with_options(self, text, options):
+        """Options in front, behind or within a line; one that touches a name begins with `/`."""
+        text, end = text.rstrip(";\n "), text[len(text.rstrip(";\n ")):]
+        for option in options:
+            at = self.random.choice([0, len(text), *(
+                place for place, each in enumerate(text) if each in " ,+\n" and text.count('"', 0, place) % 2 == 0)])
+            touches = at and text[at - 1] not in ' ,+\n"' and self.happens(0.5) and not text[:at].endswith(";")
+            if touches and option[0] == "/" and "L" not in option and "j" not in option:
+                text = text[:at] + option + text[at:]
+            else:
+                text = text[:at] + " " + option + " " + text[at:]
+        return text + end
+
+    # ---- how a line is said
+
+    def words(self, line):
+        """Words, with response files in the place of all of them, of some or of none; and a text in front."""
+        before = ""
+        if "\n" in line or self.happens(0.3):
+            return ["@" + self.response(RESPONSE, line)], before
+        parts = line.split(" ")
+        if len(parts) > 1 and self.happens(0.2) and '"' not in line and "@" not in line:
+            at = self.random.randrange(1, len(parts))
+            if self.happens(0.5):
+                before, parts = " ".join(parts[:at]), parts[at:]
+            else:
+                behind = self.response(PART, " ".join(parts[at:]))
+                parts = [*parts[:at], "@" + behind]
+        return [part for part in parts if part] or [""], before
+
+    def response(self, name, text):
+        """A response file; rarely one that isn't there, or is no text."""
+        if self.happens(0.3):
+            text = text.replace("\n", "\r\n")
+        text += self.random.choice(["", "", "\n", "\r\n"]) + self.random.choice(BEHIND_TEXT)
+        self.files[name] = text.encode()
+        if self.happens(0.01):
+            self.files[name] = self.random.choice([None, self.files[name] + b"\xE9"])
+        return name

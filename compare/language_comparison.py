@@ -1,0 +1,22 @@
+"""Runs `doslink` and its model on the same jobs, also by lines of LINK and TLINK."""
+
+import doslink_comparison
+
+no_counts, lines_of_limits = doslink_comparison.no_counts, doslink_comparison.lines_of_limits
+lines_of_ends, summary = doslink_comparison.lines_of_ends, doslink_comparison.summary
+
+
+class Comparison(doslink_comparison.Comparison):
+    """Compares one job after the other, of which many are asked for by such lines."""
+
+    has_lines = True
+
+
+def compare_seeds(program, folder, seeds, keeps=False):
+    """Compares some seeds; answers the counts and a line for each difference."""
+    return doslink_comparison.compare_seeds(program, folder, seeds, keeps, Comparison)
+
+
+def until_difference(program, folder, seeds):
+    """Compares seeds up to the first difference; answers how many it took, or 0, and a line."""
+    return doslink_comparison.until_difference(program, folder, seeds, Comparison)
