@@ -1,6 +1,7 @@
 """Runs `doslink` and its model on the same jobs, also by lines of LINK and TLINK."""
 
 import doslink_comparison
+from model.places import PlacedFiles
 
 no_counts, lines_of_limits = doslink_comparison.no_counts, doslink_comparison.lines_of_limits
 lines_of_ends, summary = doslink_comparison.lines_of_ends, doslink_comparison.summary
@@ -10,6 +11,9 @@ class Comparison(doslink_comparison.Comparison):
     """Compares one job after the other, of which many are asked for by such lines."""
 
     has_lines = True
+
+    def files_of(self, case):
+        return PlacedFiles(case.files)
 
 
 def compare_seeds(program, folder, seeds, keeps=False):

@@ -6,7 +6,7 @@ from itertools import groupby
 from generator.communals import (
     LOCATIONS, NO_NUMBERS, Declared, at_limit, module_of_communals, module_of_local_variables,
     module_of_no_number)
-from generator.lines import LINK, OTHER_OPTIONS, TLINK, WRONG_LINES, WRONG_WORDS, LineSpeller
+from generator.lines import LINK, ODD_LINES, OTHER_OPTIONS, TLINK, WRONG_WORDS, LineSpeller
 from generator.libraries import (
     ARCHIVE, SMALL_PAGES, SYMBOL_TABLES, archive, archive_of_symbols, archive_with_symbols, damaged,
     foreign, library, with_header)
@@ -864,7 +864,7 @@ class JobMaker:
         word = option if isinstance(option, str) else LineSpeller(self.random, language, {}).option(*option)
         return self.by_line(language, [word])
 
-    def make_wrong_line(self, language, line):
+    def make_odd_line(self, language, line):
         """A line that is wrong, or that seems so."""
         self.files["0.obj"], self.folders = module_of_publics([b"x"]), []
         speller = LineSpeller(self.random, language, self.files)
@@ -1147,8 +1147,8 @@ MADE_BY_LINES = [
         pair for pairs in zip(*[
             each_with(language, [*OTHER_OPTIONS[language], *WRONG_WORDS[language]] * 2)[:60]
             for language in (LINK, TLINK)]) for pair in pairs])),
-    (20, 6, in_turn(JobMaker.make_wrong_line, [
-        (language, line) for line in WRONG_LINES for language in (LINK, TLINK)])),
+    (5, 1, in_turn(JobMaker.make_odd_line, [
+        (language, line) for line in ODD_LINES for language in (LINK, TLINK)])),
     (50, 7, in_turn(JobMaker.make_cases, [
         (language, names) for names in [
             ["main.obj"], ["main.OBJ", "MAIN.obj"], ["Main.Obj", "main.OBJ", "main"], ["MAIN.OBJ", "main.OBJ"]]

@@ -26,8 +26,12 @@ WRONG_WORDS = {
         "/q", "-q", "/o", "/Twe", "/R", "/Rk", "/L", "/A", "(a+b)", '"a', "/cx", "@nowhere", "-", "/tx", "/M", "/X",
         "/home/x.obj", "-c/q"],
 }
-# `OBJECT` is that of the job
-WRONG_LINES = [
+# lines that are wrong, or seem so; `OBJECT` is that of the job
+ODD_LINES = [
+    "/e\nOBJECT\nout", "/e /m\n\n OBJECT+\n\nout\n\n", "OBJECT\nout", "OBJECT\nout\n\n", "OBJECT\n\nlist", "OBJECT,,", "OBJECT,,;",
+    "OBJECT,", "OBJECT,;", "OBJECT\nout\n\nnul\n", "OBJECT,out,/m", "OBJECT,out,nul/m", "OBJECT /m", "OBJECT+\n/e\nout", "OBJECT +/e\nout",
+    "OBJECT,out.x.y", "OBJECT,./out/e", "./0/e", "OBJECT,con.x;x", '"0/e"', "OBJECT,out.com", "OBJECT,out.bin", "OBJECT,more\\out", "OBJECT,,,nul",
+    "OBJECT,nul", "OBJECT,NUL.X,list",
     ";", "", ",prog", "/c", "OBJECT,a b", "OBJECT,,a b", "OBJECT,,,,nul,x", "OBJECT;x", "OBJECT;,x", "OBJECT,prn",
     "OBJECT,,aux", "OBJECT,com1", "OBJECT,com3,", "OBJECT,,LPT9.x", 'OBJECT,"prn"', "OBJECT,d:a", "c:OBJECT",
     "OBJECT,,,,x.def", "OBJECT,,,,nowhere", "OBJECT,,,,nul nul nul", "OBJECT;;", "OBJECT;/c", 'OBJECT;"', "OBJECT\n\n\n\n\nx"]

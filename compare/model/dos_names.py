@@ -33,10 +33,7 @@ def with_extension(name, extension):
 
 def names_in(files, folder):
     """The names of files in a folder, which is this one where it is empty."""
-    if hasattr(files, "names_in"):
-        return files.names_in(folder)
-    parts = [path.rpartition("/") for path, content in files.items() if content is not None]
-    return [name for its_folder, _, name in parts if its_folder == folder]
+    return files.names_in(folder)
 
 
 def found(path, files):

@@ -30,6 +30,8 @@ IDLE = {
 }
 CONFIGURATION = "TLINK.CFG"
 DEFINITIONS = "definitions aren't followed: a field that is empty or NUL is expected"
+# what programs are called that aren't EXE files
+OTHER_FORMS, AN_EXE = (".com", ".sys", ".bin", ".img"), "without a form an EXE file is written"
 A_DRIVE = "a drive is no folder here"
 # statements of a file of definitions that change nothing, or nothing that is asked for
 IDLE_STATEMENTS = ["NAME", "DESCRIPTION", "STACKSIZE"]
@@ -85,8 +87,10 @@ def job_of(language, text, files, folders):
             raise LineRefused(f"{name}: {A_DRIVE}")
     warnings = [(f"at byte {place}", IDLE[idle]) for place, idle in said.warnings]
     warnings += definitions(said.definitions, files)
-    form = Form(said.form)
-    extension = {"exe": ".EXE", "com": ".COM"}[said.form]
+    kind = said.form or "exe"
+    extension = {"exe": ".EXE", "com": ".COM"}[kind]
+    if said.form is None and said.out is not None and said.out.lower().endswith(OTHER_FORMS):
+        warnings.append((said.out, AN_EXE))
     map_name = lines.map_of(said)
     return Job(
         inputs=[Input(dos_names.as_path(name), is_library) for name, is_library in said.inputs],
@@ -96,7 +100,7 @@ def job_of(language, text, files, folders):
         ignores_case=not said.case_counts, order=ordering.DOSSEG if said.order else None,
         has_default_libraries=said.has_default_libraries, left_out=said.left_out,
         has_null_bytes=language == lines.LINK and said.order != "dosseg-nonulls",
-        stack=said.stack and Stack(said.stack, cuts=True), form=form, is_verbose=said.is_verbose,
+        stack=said.stack and Stack(said.stack, cuts=True), form=Form(kind), is_verbose=said.is_verbose,
         has_dos_names=True, writes_all=said.writes_all, warnings=warnings,
         most_extra=0xFFFF if said.most_extra is None else said.most_extra)
 

@@ -58,7 +58,8 @@ class Said:
     is_detailed: bool = False
     writes_all: bool = False
     is_verbose: bool = False
-    form: str = "exe"
+    # "exe" or "com", where an option says it
+    form: Optional[str] = None
     # "dosseg" or "dosseg-nonulls"
     order: Optional[str] = None
     stack: Optional[int] = None

@@ -1,6 +1,22 @@
-"""Files by their paths, where their names tell no cases apart, as under Windows."""
+"""Files by their paths: by whatever path leads to them, and where their names tell no cases apart, as under Windows."""
 
 from os.path import normpath
+
+
+class PlacedFiles(dict):
+    """The bytes of files by path, of which each path that leads to a file finds it."""
+
+    def get(self, path, default=None):
+        content = super().get(normpath(path))
+        return default if content is None else content
+
+    def __getitem__(self, path):
+        return self.get(path)
+
+    def names_in(self, folder):
+        """The names of files in a folder, which is this one where it is empty."""
+        parts = [path.rpartition("/") for path, content in self.items() if content is not None]
+        return [name for its_folder, _, name in parts if normpath(its_folder or ".") == normpath(folder or ".")]
 
 
 def same_name(path):
