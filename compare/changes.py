@@ -238,7 +238,7 @@ IMAGE = [
 
 FILES = [
     Change("the least extra paragraphs are rounded otherwise", "program_file.py",
-           "- written // PARAGRAPH", "- in_paragraphs(written)"),
+           "- program.written() // PARAGRAPH", "- in_paragraphs(program.written())"),
     Change("a relocation's offset may be large", "program_file.py",
            "struct.pack(ENTRY, word % PARAGRAPH, word // PARAGRAPH)",
            "struct.pack(ENTRY, word % 65536, word // 65536 * 4096)"),

@@ -57,7 +57,7 @@ class Comparison(comparison.Comparison):
 
     def run(self, case, answer):
         """Runs the program on a case and compares its status and its two streams."""
-        environment = {**os.environ, "LIB": case.between.join(case.folders), "LINK": case.before}
+        environment = {**os.environ, "LIB": case.between.join(case.folders)}
         done = subprocess.run(
             self.command(case), cwd=self.folder, env=environment,
             stdin=subprocess.DEVNULL, stdout=subprocess.PIPE, stderr=subprocess.PIPE)
@@ -94,8 +94,7 @@ def can_be_made(path):
 def model_answer(case, files):
     """What the model answers to a case over its files."""
     if case.program in LINES:
-        return linking.link_by_line(
-            case.program, case.words, files, case.folders, can_be_made, case.before)
+        return linking.link_by_line(case.program, case.words, files, case.folders, can_be_made)
     if case.program == DIRECTIVES:
         return linking.link_by_directives(case.words, files, case.folders, can_be_made)
     if case.words == ["@" + jobs.RESPONSE]:

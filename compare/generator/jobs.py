@@ -165,8 +165,6 @@ class Case:
     program: str = "doslink"
     folders: list = field(default_factory=list)
     between: str = ":"
-    # what the environment's LINK has
-    before: str = ""
 
 
 class JobMaker:
@@ -845,16 +843,7 @@ class JobMaker:
         job.form, job.keeps_debug, job.is_verbose = Form(kinds.get(kind, kind)), False, self.happens(0.5)
         job.order = job.order if job.order == ordering.DOSSEG else None
         job.inputs.sort(key=lambda each: each.is_library)
-        words, before = speller.spelled(job, more)
-        return self.line_case(language, words, before)
-
-    def line_case(self, language, words, before=""):
-        """The words of a linker; what stands in front of them is in the environment or in a file."""
-        if language == TLINK and before:
-            self.files["TLINK.CFG"], before = before.encode(), ""
-        case = self.case(words, language)
-        case.before = before
-        return case
+        return self.case(speller.spelled(job, more), language)
 
     def make_line_options(self, language, option):
         """A line with an option that asks for no other job, or with a word that is wrong."""
@@ -869,17 +858,36 @@ class JobMaker:
         self.files["0.obj"], self.folders = module_of_publics([b"x"]), []
         speller = LineSpeller(self.random, language, self.files)
         name = self.random.choice(["0.obj", "0", '"0.obj"', "0.OBJ"])
-        self.files["x.def"] = b"EXPORTS x\n"
-        words, _ = speller.words(line.replace("OBJECT", name))
-        return self.line_case(language, words)
+        return self.case(speller.words(line.replace("OBJECT", name)), language)
 
-    def make_cases(self, language, names):
-        """Files that differ by case alone, and a name that one of them has, or none."""
-        for name in names:
-            self.files[name] = module_of_publics([name.encode()])
-        self.job.out, self.folders = OUT, []
-        self.give(self.random.choice(["main.obj", "MAIN", "Main", "main"]))
+    def make_cases(self, language, counts):
+        """Two publics that differ by case alone, where that counts or not."""
+        for number, name in enumerate([b"x", b"X"]):
+            self.files[f"{number}.obj"] = module_of_publics([name])
+            self.give(f"{number}.obj")
+        self.folders, self.job.ignores_case = [], not counts
         return self.by_line(language)
+
+    def make_null_bytes(self, language, order):
+        """Code in the order of DOSSEG, which has null bytes or not, where that is asked for or a module asks."""
+        self.files["code.obj"] = module_of_code(2, False)
+        self.give("code.obj")
+        self.folders, self.job.order, self.job.form = [], order, None
+        self.job.has_null_bytes = self.happens(0.5)
+        return self.by_line(language)
+
+    def make_deep(self, language, deep):
+        """Response files that name one another."""
+        self.files["0.obj"], self.folders = module_of_publics([b"x"]), []
+        for number in range(deep):
+            self.files[f"r{number}"] = b"@r%d\r\n" % (number + 1) if number + 1 < deep else b"0,out\n;\r\n\x1Ax"
+        return self.case(["@r0"], language)
+
+    def make_many_files(self, language, count):
+        """As many response files as there may be, or one more."""
+        self.files["0.obj"], self.folders = module_of_publics([b"x"]), []
+        self.files["r"] = b"/e \n"
+        return self.case([*["@r"] * count, "0,out"], language)
 
     def make_default_left_out(self, library):
         """A default library, and an option that leaves out this one or another one."""
@@ -1150,9 +1158,12 @@ MADE_BY_LINES = [
     (5, 1, in_turn(JobMaker.make_odd_line, [
         (language, line) for line in ODD_LINES for language in (LINK, TLINK)])),
     (50, 7, in_turn(JobMaker.make_cases, [
-        (language, names) for names in [
-            ["main.obj"], ["main.OBJ", "MAIN.obj"], ["Main.Obj", "main.OBJ", "main"], ["MAIN.OBJ", "main.OBJ"]]
-        for language in (LINK, TLINK)])),
+        (language, counts) for counts in (True, False) for language in (LINK, TLINK)])),
+    (50, 9, in_turn(JobMaker.make_null_bytes, [
+        (language, order) for language in (LINK, LINK, TLINK) for order in (ordering.DOSSEG, None)])),
+    (50, 12, in_turn(JobMaker.make_deep, [
+        (language, deep) for deep in (7, 8, 9, 3) for language in (LINK, TLINK)])),
+    (100, 13, in_turn(JobMaker.make_many_files, [(LINK, 200), (TLINK, 201), (TLINK, 200), (LINK, 201)])),
     (50, 8, in_turn(JobMaker.make_default_left_out, ["slibce.lib", "SLIBCE.LIB", "SLIBCE"])),
     (20, 11, in_turn(JobMaker.make_map, ["link", "tlink", "link", "omf"])),
 ]

@@ -31,12 +31,12 @@ ODD_LINES = [
     "/e\nOBJECT\nout", "/e /m\n\n OBJECT+\n\nout\n\n", "OBJECT\nout", "OBJECT\nout\n\n", "OBJECT\n\nlist", "OBJECT,,", "OBJECT,,;",
     "OBJECT,", "OBJECT,;", "OBJECT\nout\n\nnul\n", "OBJECT,out,/m", "OBJECT,out,nul/m", "OBJECT /m", "OBJECT+\n/e\nout", "OBJECT +/e\nout",
     "OBJECT,out.x.y", "OBJECT,./out/e", "./0/e", "OBJECT,con.x;x", '"0/e"', "OBJECT,out.com", "OBJECT,out.bin", "OBJECT,more\\out", "OBJECT,,,nul",
-    "OBJECT,nul", "OBJECT,NUL.X,list",
+    "OBJECT,nul", "OBJECT,NUL.X,list", ",,,x.lib;", "OBJECT,,list.", "OBJECT,x\\y,", "OBJECT/La/m", "OBJECT /La/c", "/x/c OBJECT", "OBJECT (x+y)",
+    "OBJECT,out /l", "OBJECT,out,list/LI/s/l", "OBJECT /l /s", '"', '"OBJECT" "', "OBJECT,con", "OBJECT,CON.MAP", "OBJECT,,con", "OBJECT,com4",
+    "OBJECT,com5", "OBJECT,,lpt4", "OBJECT,nul.", "OBJECT,out,list;;+ \n", "OBJECT \n;", "x@y,out", "OBJECT,out,@x", "OBJECT,@",
     ";", "", ",prog", "/c", "OBJECT,a b", "OBJECT,,a b", "OBJECT,,,,nul,x", "OBJECT;x", "OBJECT;,x", "OBJECT,prn",
     "OBJECT,,aux", "OBJECT,com1", "OBJECT,com3,", "OBJECT,,LPT9.x", 'OBJECT,"prn"', "OBJECT,d:a", "c:OBJECT",
     "OBJECT,,,,x.def", "OBJECT,,,,nowhere", "OBJECT,,,,nul nul nul", "OBJECT;;", "OBJECT;/c", 'OBJECT;"', "OBJECT\n\n\n\n\nx"]
-DEFINITIONS = [
-    b"NAME prog\r\nDESCRIPTION 'x'\r\n", b"; nothing\nstacksize 4096\n", b"NAME a\nEXETYPE WINDOWS\n", b"", b"NAME a\n\x1AEXPORTS x"]
 BEHIND_TEXT = ["", "", "\x1A", "\x1Amore,words;\n/q"]
 
 
@@ -52,9 +52,8 @@ class LineSpeller:
         return self.random.random() < likelihood
 
     def spelled(self, job, more=()):
-        """The words of a job, and the text in front of them; `more` are words that stand anywhere."""
-        line = self.line(job, more)
-        return self.words(line)
+        """The words of a job; `more` are words that stand anywhere."""
+        return self.words(self.line(job, more))
 
     def line(self, job, more):
         """A line: its fields, with options anywhere."""
@@ -69,7 +68,7 @@ class LineSpeller:
         """The names of each field, as few fields as there have to be or more."""
         objects = [self.name(each.name, ".obj") for each in job.inputs if not each.is_library]
         libraries = [self.name(each.name, ".LIB") for each in job.inputs if each.is_library]
-        folders = [each.rstrip("/") + self.random.choice("/\\") for each in job.folders]
+        folders = [each.rstrip("/") + "/" for each in job.folders]
         if self.language == TLINK and self.happens(0.5):
             self.folders, folders = job.folders, []
         else:
@@ -86,19 +85,14 @@ class LineSpeller:
         return self.random.choice([[], [], ["nul"], ["NUL.MAP"], ["Nul"]])
 
     def definitions(self):
-        if self.happens(0.93):
-            return self.random.choice([[], [], [], ["nul"], ["NUL.DEF"]])
-        self.files["prog.def"] = self.random.choice(DEFINITIONS)
-        return [self.random.choice(["prog.def", "prog"])]
+        return self.random.choice([[], [], [], ["nul"], ["NUL.DEF"]])
 
     def name(self, name, extension):
-        """A name without its extension, in another case, with other signs between folders, or in quotes."""
+        """A name without its extension, by another path, or in quotes."""
         if name.lower().endswith(extension.lower()) and self.happens(0.5):
             name = name[:-len(extension)]
-        if self.happens(0.1):
-            name = name.upper() if self.happens(0.5) else name.swapcase()
-        if "/" in name and not name.startswith(".") and self.happens(0.3):
-            name = name.replace("/", "\\")
+        if self.happens(0.01):
+            name = name.upper()
         if self.happens(0.05):
             name = "./" + name
         return f'"{name}"' if self.happens(0.1) else name
@@ -182,19 +176,17 @@ class LineSpeller:
     # ---- how a line is said
 
     def words(self, line):
-        """Words, with response files in the place of all of them, of some or of none; and a text in front."""
-        before = ""
+        """Words, with response files in the place of all of them, of some or of none."""
         if "\n" in line or self.happens(0.3):
-            return ["@" + self.response(RESPONSE, line)], before
-        parts = line.split(" ")
-        if len(parts) > 1 and self.happens(0.2) and '"' not in line and "@" not in line:
+            return ["@" + self.response(RESPONSE, line)]
+        parts = [line] if self.happens(0.2) and '"' in line else line.split(" ")
+        if len(parts) > 1 and self.happens(0.3) and '"' not in line and "@" not in line:
             at = self.random.randrange(1, len(parts))
-            if self.happens(0.5):
-                before, parts = " ".join(parts[:at]), parts[at:]
-            else:
-                behind = self.response(PART, " ".join(parts[at:]))
-                parts = [*parts[:at], "@" + behind]
-        return [part for part in parts if part] or [""], before
+            some = [parts[:at], parts[at:]]
+            number = self.random.randrange(2)
+            some[number] = ["@" + self.response(PART, " ".join(some[number]))]
+            parts = [*some[0], *some[1]]
+        return [part for part in parts if part] or [";"]
 
     def response(self, name, text):
         """A response file; rarely one that isn't there, or is no text."""

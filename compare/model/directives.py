@@ -74,13 +74,10 @@ class Job:
     maps_to_out: bool = False
     # "omf", "link" or "tlink"
     map_form: str = "omf"
+    # what is asked for and the map hasn't
+    map_lacks: list = field(default_factory=list)
     # default libraries that aren't searched
     left_out: list = field(default_factory=list)
-    # whether files are named as LINK and TLINK name them
-    has_dos_names: bool = False
-    # the greatest extra paragraphs of an EXE file, and whether the file has all bytes of segments
-    most_extra: int = 0xFFFF
-    writes_all: bool = False
     # pairs of where a line stands and what becomes of what it asks for
     warnings: list = field(default_factory=list)
 

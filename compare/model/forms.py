@@ -30,11 +30,11 @@ def com_faults(program):
     return [number for number, stands in tests if stands]
 
 
-def written_file(program, form, most_extra=program_file.MOST_EXTRA, writes_all=False):
+def written_file(program, form):
     """The bytes of the file, or the first fault that keeps the program from having one."""
     kind = kind_of(form)
     if kind == "exe":
-        return program_file.written_file(program, most_extra, writes_all)
+        return program_file.written_file(program)
     if kind == "bin":
         return program.image(form.paragraph)[form.start:]
     found = com_faults(program)

@@ -1,9 +1,7 @@
 """The job of the words of LINK or TLINK: their text with what response files have, and what it asks for."""
 
-import re
-
-from model import dos_names, line_options, lines, ordering
-from model.directives import Form, Input, Job, Stack, text_of as text_of_path
+from model import line_options, lines, ordering
+from model.directives import SPACE, Form, Input, Job, Stack, text_of as text_of_path
 
 # what is told of a word that can't be followed
 KINDS = {
@@ -12,9 +10,9 @@ KINDS = {
     lines.SECOND_NAME: "a comma is expected: the field has its name",
     lines.TOO_MANY_FIELDS: "no field is expected behind the definitions",
     lines.BEHIND_END: "nothing is expected behind `;`",
-    lines.RESPONSE: "a response file stands in the place of a name",
     lines.DEVICE: "a file is expected, and no device",
-    lines.BOTH: "it is options, and a file of that name is there: put it in quotes",
+    lines.DEFINITIONS: "definitions aren't followed: a field that is empty or NUL is expected",
+    lines.TWO_WAYS: "a blank is expected between options, and folders without one of an option's name",
     line_options.UNKNOWN_OPTION: "unknown option",
     line_options.WRONG_VALUE: "the option's value is no number that it takes",
     line_options.OVERLAYS: "overlays aren't made",
@@ -24,18 +22,24 @@ KINDS = {
 # what is told of one that has no effect
 IDLE = {
     line_options.DEBUG: "no data for debuggers is written",
-    line_options.PACKING: "the program is made neither smaller nor faster",
+    line_options.PACKING: "the program isn't packed: it runs the same",
     line_options.OBJECT_FOLDERS: "objects are looked for where their names say",
     line_options.NOTHING: "the option has no effect",
 }
-CONFIGURATION = "TLINK.CFG"
-DEFINITIONS = "definitions aren't followed: a field that is empty or NUL is expected"
-# what programs are called that aren't EXE files
-OTHER_FORMS, AN_EXE = (".com", ".sys", ".bin", ".img"), "without a form an EXE file is written"
-A_DRIVE = "a drive is no folder here"
-# statements of a file of definitions that change nothing, or nothing that is asked for
-IDLE_STATEMENTS = ["NAME", "DESCRIPTION", "STACKSIZE"]
-RESPONSE = re.compile(r'"[^"]*"?|@([^\s+,;"]+)')
+ALL_BYTES = "/i isn't followed: segments without data take no bytes of the file"
+LESS_MEMORY = "/CPARMAXALLOC isn't followed: the header asks for all memory"
+ALL_MEMORY = 0xFFFF
+# what a map is called
+MAP = ".MAP"
+TOO_DEEP = "response files name one another more than 8 deep"
+TOO_MANY = "a line has at most 200 response files"
+MOST_DEEP, MOST_FILES = 8, 200
+
+
+def quoted(text):
+    """A text between quotes, with a backslash in front of one and of a quote."""
+    escaped = text.replace("\\", "\\\\").replace('"', '\\"').replace("\t", "\\t")
+    return f'"{escaped}"'
 
 
 class LineRefused(Exception):
@@ -46,77 +50,77 @@ class LineRefused(Exception):
         self.text = text
 
 
-def before(language, environment, files):
-    """What stands in front of the words: of LINK what the environment says, of TLINK a file."""
-    if language == lines.LINK:
-        return environment
-    path = dos_names.found(CONFIGURATION, files)
-    return "" if path is None else text_of_path(path, files)
+def text_of(language, words, files):
+    """The text of words, in which each response file stands in the place of its name, and the files.
 
-
-def text_of(words, files, before=""):
-    """The text of words, in which each response file stands in the place of its name, and the files."""
-    text = " ".join(filter(None, [lines.text_of_file(before), *words]))
+    Response files may name others.
+    """
+    text = "".join(as_typed(word) + " " for word in words)
     read = []
-
-    def content(found):
-        name = found[1]
-        if name is None:
-            return found[0]
-        read.append(dos_names.as_path(name))
-        return lines.text_of_file(text_of_path(read[-1], files))
-
-    return RESPONSE.sub(content, text), read
+    for _ in range(MOST_DEEP):
+        text = with_files(language, text, files, read)
+    return text, read
 
 
-def said_by(language, text, files):
+def as_typed(word):
+    """A word, in quotes again where a shell took them."""
+    is_bare = any(each in SPACE for each in word) and '"' not in word
+    return f'"{word}"' if is_bare else word
+
+
+def with_files(language, text, files, read):
+    """A text in which each word that names a response file is what that says."""
+    parts, behind = [], 0
+    for token in lines.tokens(language, text):
+        if token.kind == "word" and token.text.startswith("@"):
+            parts += [text[behind:token.place], content(token.text[1:], files, read)]
+            behind = token.place + len(token.text)
+    return "".join([*parts, text[behind:]])
+
+
+def content(path, files, read):
+    """What a response file says."""
+    if len(read) == MOST_FILES:
+        raise LineRefused(f"{path}: {TOO_MANY}")
+    read.append(path)
+    return lines.text_of_file(text_of_path(path, files))
+
+
+def place_in(text, place):
+    """A place in a text, which is in bytes, by its line and by its byte in that, both from 1 on."""
+    front = text.encode()[:place]
+    return f"line {front.count(10) + 1}, column {len(front) - (front.rfind(10) + 1) + 1}"
+
+
+def said_by(language, text):
     """What a text says, or why it can't be followed."""
     try:
-        return lines.read(language, text, lambda name: files.get(name) is not None)
+        return lines.read(language, text)
     except lines.LineFault as fault:
-        word = f"{fault.word}: " if fault.word else ""
-        raise LineRefused(f"at byte {fault.place}: {word}{KINDS[fault.kind]}") from None
+        if fault.kind == lines.NO_OBJECT:
+            raise LineRefused(KINDS[fault.kind]) from None
+        if fault.kind == lines.RESPONSE:
+            raise LineRefused(f"{quoted(fault.word)}: {TOO_DEEP}") from None
+        place = place_in(text, fault.place)
+        raise LineRefused(f"{place}: {quoted(fault.word)}: {KINDS[fault.kind]}") from None
 
 
-def job_of(language, text, files, folders):
-    """The job of a text; `folders` are those of LIB, which only LINK looks in."""
-    said = said_by(language, text, files)
-    paths = [*(name for name, _ in said.inputs), *filter(None, [said.out, said.map]), *said.folders]
-    for name in paths:
-        if dos_names.has_drive(name):
-            raise LineRefused(f"{name}: {A_DRIVE}")
-    warnings = [(f"at byte {place}", IDLE[idle]) for place, idle in said.warnings]
-    warnings += definitions(said.definitions, files)
-    kind = said.form or "exe"
-    extension = {"exe": ".EXE", "com": ".COM"}[kind]
-    if said.form is None and said.out is not None and said.out.lower().endswith(OTHER_FORMS):
-        warnings.append((said.out, AN_EXE))
-    map_name = lines.map_of(said)
+def job_of(language, text):
+    """The job of a text; its program and its map are still named as they are written."""
+    said = said_by(language, text)
+    if said.writes_all:
+        raise LineRefused(ALL_BYTES)
+    if said.most_extra not in (None, ALL_MEMORY):
+        raise LineRefused(LESS_MEMORY)
+    form, map_name = Form(said.form or "exe"), lines.map_of(said)
+    lacks = [(said.has_lines, "has no line numbers"), (said.is_detailed, "tells of no module's parts of segments")]
     return Job(
-        inputs=[Input(dos_names.as_path(name), is_library) for name, is_library in said.inputs],
-        out=path_of(said.out, extension), map=path_of(map_name or None, ".MAP"),
-        maps_to_out=map_name == "", map_form=language,
-        folders=[*map(dos_names.as_path, said.folders), *(folders if language == lines.LINK else [])],
-        ignores_case=not said.case_counts, order=ordering.DOSSEG if said.order else None,
+        inputs=[Input(name, is_library) for name, is_library in said.inputs],
+        out=said.out, map=map_name or None, maps_to_out=map_name == "", map_form=language,
+        map_lacks=[what for is_asked, what in lacks if is_asked and map_name is not None],
+        folders=said.folders, ignores_case=not said.case_counts,
+        order=ordering.DOSSEG if said.order else None,
         has_default_libraries=said.has_default_libraries, left_out=said.left_out,
         has_null_bytes=language == lines.LINK and said.order != "dosseg-nonulls",
-        stack=said.stack and Stack(said.stack, cuts=True), form=Form(kind), is_verbose=said.is_verbose,
-        has_dos_names=True, writes_all=said.writes_all, warnings=warnings,
-        most_extra=0xFFFF if said.most_extra is None else said.most_extra)
-
-
-def path_of(name, extension):
-    """The path of a file that is written, with its extension where it has none."""
-    return None if name is None else dos_names.with_extension(dos_names.as_path(name), extension)
-
-
-def definitions(name, files):
-    """The warnings of a file of definitions; a statement that would change the program is refused."""
-    if name is None or dos_names.is_null(name):
-        return []
-    path = dos_names.with_extension(dos_names.as_path(name), ".DEF")
-    statements = text_of_path(path, files).partition(lines.END_OF_TEXT)[0].split("\n")
-    words = [line.split()[0].upper() for line in statements if line.strip() and not line.lstrip().startswith(";")]
-    if any(word not in IDLE_STATEMENTS for word in words):
-        raise LineRefused(f"{name}: {DEFINITIONS}")
-    return [(f"{name}: {word}", "the statement has no effect") for word in words]
+        stack=said.stack and Stack(said.stack, cuts=True), form=form, is_verbose=said.is_verbose,
+        warnings=[(place_in(text, place), IDLE[idle]) for place, idle in said.warnings])

@@ -164,9 +164,9 @@ TLINK_FLAGS = {
     "t": (sets(form="com"), sets(form="exe")),
     "v": (warns(DEBUG), nothing), "f": (warns(PACKING), nothing),
     "o": (refuses(OVERLAYS), nothing),
-    **{each: (nothing, nothing) for each in ["d", "e", "3", "C", "E", "k", "j", "P", "yc", "ye"]},
+    **{each: (nothing, nothing) for each in ["d", "e", "3", "C", "E", "k", "j", "P"]},
 }
-TLINK_WORDS = {"Tdc": sets(form="com"), "Tde": sets(form="exe")}
+TLINK_WORDS = {"Tdc": sets(form="com"), "Tde": sets(form="exe"), "yc": nothing, "ye": nothing}
 
 
 def add_folders(said, value, place):
@@ -176,7 +176,7 @@ def add_folders(said, value, place):
 # what goes by its beginning, in this order; the value is what the brackets have
 TLINK_BEGUN = [
     ("L(.+)", add_folders), ("j(.+)", warns(OBJECT_FOLDERS)), ("[AP]=.*", nothing),
-    ("O.*", warns(PACKING)), ("ye.*", nothing), ("y.*", warns(NOTHING)),
+    ("O.*", warns(PACKING)), ("y.*", warns(NOTHING)),
     ("T.*", refuses(NOT_DOS)), ("R.*", refuses(REFUSED)),
 ]
 

@@ -13,14 +13,14 @@ from model.line_options import OPTION, OVERLAYS, UNKNOWN_OPTION, Wrong, takes_fo
 LINK, TLINK = "link", "tlink"
 NO_OBJECT, SECOND_NAME, TOO_MANY_FIELDS = "NoObject", "SecondName", "TooManyFields"
 BEHIND_END, UNCLOSED, RESPONSE = "BehindEnd", "UnclosedQuote", "Response"
-DEVICE, BOTH = "Device", "Both"
+DEVICE, DEFINITIONS, TWO_WAYS = "Device", "Definitions", "TwoWays"
 OBJECTS, PROGRAM, MAP, LIBRARIES, DEFINED, ENDED = range(6)
 END_OF_TEXT = "\x1A"
 # blanks, and what else parts words
 BLANKS, MARKS = " \t\f\r", "+,;\n"
-NO_FILE, STANDARD_OUTPUT = "nul", "con"
+NO_FILE = "nul"
 # what can't be written
-DEVICES = re.compile("prn|aux|(?:lpt|com)[0-9]")
+DEVICES = re.compile("con|prn|aux|(?:lpt|com)[1-4]")
 
 
 class LineFault(Exception):
@@ -42,8 +42,6 @@ class Said:
     out: Optional[str] = None
     map: Optional[str] = None
     folders: list = field(default_factory=list)
-    # a file of definitions, which is none where it is NUL
-    definitions: Optional[str] = None
     # libraries that aren't searched where only modules name them
     left_out: list = field(default_factory=list)
     # pairs of a place and what has no effect there
@@ -78,8 +76,7 @@ class Token:
 def text_of_file(text):
     """What stands in the place of a response file's name: its lines, up to Ctrl-Z, without the end
     of the last one."""
-    text = text.partition(END_OF_TEXT)[0].replace("\r\n", "\n")
-    return text.removesuffix("\n")
+    return text.partition(END_OF_TEXT)[0].removesuffix("\n")
 
 
 def tokens(language, text):
@@ -145,9 +142,14 @@ def cut(language, word):
 
 
 def cut_begun(language, word):
-    """One that begins as an option: options, an option of folders that have `/`, or a path."""
+    """One that begins as an option: options, an option of folders that have `/`, or a path.
+
+    Folders that may be options as well are a fault.
+    """
     options = word[1:].split("/")
     if all(is_option(language, each) for each in options):
+        if len(options) > 1 and takes_folders(language, word[1:]):
+            raise Wrong(TWO_WAYS)
         return None, options
     if takes_folders(language, word[1:]) and is_option(language, word[1:]):
         return None, [word[1:]]
@@ -162,7 +164,7 @@ def base(name):
 
 
 def refuse_device(name):
-    """A device that can't be written is refused; NUL is no file, and CON standard output."""
+    """A device that can't be written is refused."""
     if DEVICES.fullmatch(base(name)):
         raise Wrong(DEVICE)
 
@@ -170,11 +172,9 @@ def refuse_device(name):
 class Reader:
     """Reads a line."""
 
-    def __init__(self, language, text, is_file):
+    def __init__(self, language, text):
         self.language = language
         self.text = text
-        # whether a file of a name is there
-        self.is_file = is_file
         self.said = Said(makes_map=language == TLINK)
         self.field = OBJECTS
         # whether `+` stood last, so that a line goes on
@@ -231,8 +231,6 @@ class Reader:
         if token.kind == "quoted":
             return self.read_name(token.text)
         name, options = cut(self.language, token.text)
-        if options and "/" in token.text and self.is_file(token.text):
-            raise Wrong(BOTH)
         if name is not None:
             if name.startswith("@"):
                 raise Wrong(RESPONSE)
@@ -254,6 +252,8 @@ class Reader:
         if self.said.out is not None:
             raise Wrong(SECOND_NAME)
         refuse_device(name)
+        if base(name) == NO_FILE:
+            raise Wrong(DEVICE)
         self.said.out = name
 
     def read_map(self, name):
@@ -272,14 +272,13 @@ class Reader:
             self.said.inputs.append((name, True))
 
     def read_definitions(self, name):
-        if self.said.definitions is not None:
-            raise Wrong(SECOND_NAME)
-        self.said.definitions = name
+        if base(name) != NO_FILE:
+            raise Wrong(DEFINITIONS)
 
 
-def read(language, text, is_file=lambda name: False):
+def read(language, text):
     """What a line of a language says, or a LineFault."""
-    return Reader(language, text, is_file).read()
+    return Reader(language, text).read()
 
 
 def map_of(said):

@@ -10,7 +10,7 @@ from os.path import normpath
 from typing import Optional
 
 from model import (
-    communal, directives, dos_names, faults, foreign, forms, image, libraries, line_jobs, link_map, local,
+    communal, directives, faults, foreign, forms, image, libraries, line_jobs, link_map, local,
     lowering, module, ordering, printing, search, stack)
 from model.commands import Answer, Output
 from model.faults import Fault, escaped, printed_name
@@ -79,6 +79,20 @@ def with_ending(path, ending):
     return (path.rpartition(".")[0] if "." in last_part(path) else path) + ending
 
 
+def with_extension(path, extension):
+    """A path with an extension, where it has none."""
+    return path if "." in last_part(path) else path + extension
+
+
+def whole_names(job, first):
+    """A job of a line whose program and map have their names: the program that of the first object, in this folder,
+    where it has none."""
+    extension = forms.EXTENSIONS[job.form.kind]
+    job.out = with_ending(last_part(first), extension) if job.out is None else with_extension(job.out, extension)
+    job.map = job.map and with_extension(job.map, line_jobs.MAP)
+    return job
+
+
 def in_folder(folder, name):
     """The path of a file in a folder, which is this one where it is empty."""
     return folder + ("/" if folder and folder[-1] not in "/\\:" else "") + name
@@ -126,8 +140,7 @@ class Linking:
         variables = communal.variables(self.taken, self.key)
         self.check_names(variables)
         program = self.linked(variables)
-        self.write(out, forms.written_file(
-            program, self.job.form, self.job.most_extra, self.job.writes_all))
+        self.write(out, forms.written_file(program, self.job.form))
         if map_path is not None:
             self.write(map_path, self.map_of(program))
         self.warn_of_program(program, variables)
@@ -156,9 +169,8 @@ class Linking:
     def file(self, name):
         """The path of a file: it may have one of two endings that its name hasn't."""
         endings = ["", ".OBJ", ".obj"] if "." not in last_part(name) else [""]
-        if self.job.has_dos_names and len(endings) > 1:
-            endings = [".OBJ"]
-        return self.first_found([name + ending for ending in endings])
+        paths = [name + ending for ending in endings]
+        return next((path for path in paths if self.files.get(path) is not None), None)
 
     def library(self, name):
         return self.found(name, self.job.folders)
@@ -170,16 +182,8 @@ class Linking:
     def found(self, name, folders):
         """The path of a library here or in the first folder that has it, or None."""
         endings = [""] if "." in last_part(name) else ENDINGS
-        if self.job.has_dos_names:
-            endings = endings[:1] if "." in last_part(name) else [".LIB"]
         paths = [
             in_folder(folder, name + ending) for folder in ["", *folders] for ending in endings]
-        return self.first_found(paths)
-
-    def first_found(self, paths):
-        """The first path at which a file is, of LINK and TLINK also in another case, or None."""
-        if self.job.has_dos_names:
-            return next(filter(None, (dos_names.found(path, self.files) for path in paths)), None)
         return next((path for path in paths if self.files.get(path) is not None), None)
 
     def add_default_libraries(self):
@@ -201,8 +205,8 @@ class Linking:
 
     def is_left_out(self, name):
         """Whether a default library isn't to be searched, in whatever case and with .LIB or without."""
-        left_out = [dos_names.with_extension(each, ".LIB").lower() for each in self.job.left_out]
-        return dos_names.with_extension(name.decode("latin1"), ".LIB").lower() in left_out
+        left_out = [with_extension(each, ".LIB").lower() for each in self.job.left_out]
+        return with_extension(name.decode("latin1"), ".LIB").lower() in left_out
 
     def add_default_library(self, name, word):
         try:
@@ -253,8 +257,7 @@ class Linking:
         if out is None:
             first = min(self.job.inputs, key=lambda each: each.is_library)
             extension = forms.EXTENSIONS[forms.kind_of(self.job.form)]
-            name = last_part(first.name) if self.job.has_dos_names else first.name
-            out = with_ending("OUT" if name == "-" else name, extension)
+            out = with_ending("OUT" if first.name == "-" else first.name, extension)
         map_path = with_ending(out, ".MAP") if self.job.maps_to_out else self.job.map
         self.check_place(out)
         if map_path is not None:
@@ -518,9 +521,7 @@ class Linking:
         return "".join(line + "\n" for line in lines).encode()
 
     def write(self, path, content):
-        """Fault 40 is a file that can't be made; NUL is none."""
-        if self.job.has_dos_names and dos_names.is_null(path):
-            return
+        """Fault 40 is a file that can't be made."""
         try:
             Output(path, self.can_be_made(path)).write(self.answer, content)
         except Fault as fault:
@@ -601,22 +602,23 @@ def link_by_response(path, files, job_of, folders=(), can_be_made=always):
     return link(job_of(words), files, folders, can_be_made, [path])
 
 
-def link_by_line(language, words, files, folders=(), can_be_made=always, before=""):
-    """The answer to the words of LINK or TLINK; `before` is a text that stands in front of them.
+def link_by_line(language, words, files, folders=(), can_be_made=always):
+    """The answer to the words of LINK or TLINK.
 
-    What is left out is told before all else.
+    What is left out is told before all else, and then what the map hasn't.
     """
     try:
-        before = line_jobs.before(language, before, files)
-        text, spoken_files = line_jobs.text_of(words, files, before)
-        job = line_jobs.job_of(language, text, files, folders)
+        text, spoken_files = line_jobs.text_of(language, words, files)
+        job = line_jobs.job_of(language, text)
     except line_jobs.LineRefused as refused:
         return Answer(WRONG_WORDS, error=told([refused.text]).encode(), fault=faults.WORDS)
     except directives.Unread as unread:
         return unread_answer(unread)
-    warnings = [f"warning: {place}: {text}" for place, text in job.warnings]
-    answer = link(job, files, job.folders, can_be_made, spoken_files)
-    answer.error = told(told_at_most(warnings, job.is_verbose)).encode() + answer.error
+    first = next(each.name for each in job.inputs if not each.is_library)
+    warnings = [f"warning: {place}: {what}" for place, what in job.warnings]
+    lacks = [f"warning: the map {what}" for what in job.map_lacks]
+    answer = link(whole_names(job, first), files, folders, can_be_made, spoken_files)
+    answer.error = told([*told_at_most(warnings, job.is_verbose), *lacks]).encode() + answer.error
     return answer
 
 
@@ -646,9 +648,6 @@ def link(job, files, folders=(), can_be_made=always, also_read=()):
     except Stop as stop:
         answer.status, answer.fault = stop.status, stop.kind
         line = told(stop.lines)
-    except dos_names.Ambiguous as two:
-        answer.status, answer.fault = WRONG_WORDS, faults.WORDS
-        line = told([f"{two.name}: it is {' and '.join(two.paths)}"])
     warnings = limited(linking.absent, job.is_verbose) + linking.warnings
     answer.error = ("".join(warnings) + line).encode()
     return answer

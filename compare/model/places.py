@@ -13,11 +13,6 @@ class PlacedFiles(dict):
     def __getitem__(self, path):
         return self.get(path)
 
-    def names_in(self, folder):
-        """The names of files in a folder, which is this one where it is empty."""
-        parts = [path.rpartition("/") for path, content in self.items() if content is not None]
-        return [name for its_folder, _, name in parts if normpath(its_folder or ".") == normpath(folder or ".")]
-
 
 def same_name(path):
     """What all paths have in common that lead to one file."""

@@ -42,26 +42,22 @@ def in_paragraphs(length):
     return -(-length // PARAGRAPH)
 
 
-def written_file(program, most_extra=MOST_EXTRA, writes_all=False):
+def written_file(program):
     """The file of a link: header, relocation table, bytes 00 to a whole paragraph, image.
 
-    The least extra paragraphs ask for the memory behind the image, up to the program's size. The
-    greatest are never less. The image goes up to the last byte that data covers, or to the program's
-    end.
+    The least extra paragraphs ask for the memory behind the image, up to the program's size.
     """
     relocations, registers = program.relocations, program.registers
     paragraphs = in_paragraphs(HEADER + SIZE_OF_ENTRY * len(relocations))
-    written = program.layout.size if writes_all else program.written()
-    length = PARAGRAPH * paragraphs + written
-    least_extra = in_paragraphs(program.layout.size) - written // PARAGRAPH
+    length = PARAGRAPH * paragraphs + program.written()
+    least_extra = in_paragraphs(program.layout.size) - program.written() // PARAGRAPH
     header = struct.pack(
         WORDS_OF_HEADER, b"MZ", length % PAGE, -(-length // PAGE), len(relocations), paragraphs,
-        least_extra, max(most_extra, least_extra), registers.stack, registers.stack_pointer, 0,
+        least_extra, MOST_EXTRA, registers.stack, registers.stack_pointer, 0,
         registers.instruction, registers.code, HEADER, 0)
     table = b"".join(
         struct.pack(ENTRY, word % PARAGRAPH, word // PARAGRAPH) for word in relocations)
-    front = (header + table).ljust(PARAGRAPH * paragraphs, b"\0")
-    return front + program.image(0).ljust(written, b"\0")
+    return (header + table).ljust(PARAGRAPH * paragraphs, b"\0") + program.image(0)
 
 
 def load_program(program, paragraph):
