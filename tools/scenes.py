@@ -203,7 +203,8 @@ SHOWN = {
         "doslink -o HELLO.EXE -L MSC/LIB HELLO.OBJ": Run({"HELLO.OBJ": FOR_MICROSOFT, **MICROSOFT_C}),
         "doslink -o HELLO.EXE -L watcom/lib286/dos -L watcom/lib286 HELLO.OBJ": Run(
             {"HELLO.OBJ": FOR_WATCOM, **WATCOM}),
-        "doslink -o MAIN.EXE -m MAIN.MAP --no-default-libs MAIN PRINT -l CLIB": Run({
+        'make LINK="doslink --as link" TLINK="doslink --as tlink"': Untried("there is no makefile"),
+        "doslink --as link /NOD 'MAIN+PRINT,MAIN,MAIN,CLIB;'": Run({
             "MAIN.OBJ": START_UP, "PRINT.OBJ": HELLO, "CLIB.LIB": CLIB}),
         "doslink [-o OUT] [-m MAP] [-L FOLDER].. [-l LIB].. [--ignore-case] [--order ORDER] [--stack N]": Untried(
             "tools/lists holds it against help"),
