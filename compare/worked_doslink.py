@@ -8,8 +8,8 @@ variables, also local ones, of aliases, of weak and lazy externals, and of direc
 import functools
 
 from model import (
-    aliases, communal, directives, far_data, libraries, linking, local, lowering, module, names,
-    ordering, records, search, weak)
+    aliases, communal, directives, far_data, image, libraries, line_jobs, link_map, linking,
+    local, lowering, module, names, ordering, records, search, weak)
 from model.directives import Form, Input, Job, Stack
 from model.faults import Fault
 from model.names import Names
@@ -398,6 +398,70 @@ DIRECTIVES = [
 SPLIT = [
     ("a  b\n\tc", ["a", "b", "c"]), ('-o "my out" x', ["-o", "my out", "x"]),
     ("a'b 'c d\"", ["a'b", "'c", 'd"']), ('"" ""', ["", ""])]
+
+
+# words of LINK and TLINK over some response files: what the job has that a job of no options hasn't, or its fault
+LINE_FILES = {
+    "main.rsp": b"c0s main+\r\nprint\r\nprog\r\n\r\ncs\r\n\x1A;nothing of this", "objs": b"a+b\n", "first": b"@objs,p",
+    "itself": b"@itself", "wrong": b"/e\na\n p /z"}
+LINES = [
+    ("all fields", "link", ["/NOI", "a+b,p,l,c", "d/", "e"], {
+        "inputs": given(["a", "b"], ["c", "e"]), "out": "p", "map": "l", "folders": ["d/"], "ignores_case": False}),
+    ("the same by TLINK", "tlink", ["/c", "a", "b,", "p,l,c", "d/", "e;"], {
+        "inputs": given(["a", "b"], ["c", "e"]), "out": "p", "map": "l", "folders": ["d/"], "ignores_case": False}),
+    ("a map of LINK", "link", ["a,,;"], {"inputs": given(["a"]), "maps_to_out": True}),
+    ("none", "link", ["a,;"], {"inputs": given(["a"])}),
+    ("a map of TLINK", "tlink", ["a"], {"inputs": given(["a"]), "maps_to_out": True}),
+    ("a response file", "tlink", ["@main.rsp"], {
+        "inputs": given(["c0s", "main", "print"], ["cs"]), "out": "prog", "maps_to_out": True}),
+    ("two in a line", "link", ["@objs,p,nul,@objs"], {"inputs": given(["a", "b"], ["a", "b"]), "out": "p"}),
+    ("one that names another", "link", ["@first;"], {"inputs": given(["a", "b"]), "out": "p"}),
+    ("one that names itself", "link", ["@itself"], '"@itself": response files name one another more than 8 deep'),
+    ("a name with a blank", "tlink", ["/x", "a b", "c"], {"inputs": given(["a b", "c"])}),
+    ("a stack", "link", ["a/ST:010;"], {"inputs": given(["a"]), "stack": Stack(8, True)}),
+    ("a .COM file", "tlink", ["/x/t", "a"], {"inputs": given(["a"]), "form": Form("com")}),
+    ("DOSSEG", "link", ["/NON", "a;"], {"inputs": given(["a"]), "order": ordering.DOSSEG, "has_null_bytes": False}),
+    ("no library by default, and not this one", "link", ["/NOD:x", "/NOD", "a;"], {
+        "inputs": given(["a"]), "has_default_libraries": False, "left_out": ["x"]}),
+    ("folders", "tlink", ["/x", "/Lc;d", "a/n"], {
+        "inputs": given(["a"]), "folders": ["c", "d"], "has_default_libraries": False}),
+    ("an option without effect", "link", ["a", "/CO;"], {
+        "inputs": given(["a"]), "warnings": [("line 1, column 3", "no data for debuggers is written")]}),
+    ("no line numbers", "tlink", ["/l", "a"], {
+        "inputs": given(["a"]), "maps_to_out": True, "map_lacks": ["has no line numbers"]}),
+    ("paths", "tlink", ["/x", "/home/x/a.obj", "./b/x", "c/x"], {"inputs": given(["/home/x/a.obj", "./b/x", "c"])}),
+    ("an unknown option", "link", ["@wrong"], 'line 3, column 4: "/z": unknown option'),
+    ("no object", "link", [",p;"], "an object is expected"),
+    ("a second name", "link", ["a,b", "c;"], 'line 1, column 5: "c": a comma is expected: the field has its name'),
+    ("something behind the end", "link", ["a;b"], 'line 1, column 3: "b": nothing is expected behind `;`'),
+    ("an octal number", "link", ["a", "/ST:08;"], 'line 1, column 3: "/ST:08": the option\'s value is no number that it takes'),
+    ("a device", "link", ["a,con;"], 'line 1, column 3: "con": a file is expected, and no device'),
+    ("an option that changes the program", "link", ["/HIGH", "a;"],
+     'line 1, column 1: "/HIGH": the option would change the program, and isn\'t followed'),
+    ("all bytes", "tlink", ["/i", "a"], "/i isn't followed: segments without data take no bytes of the file"),
+    ("extra paragraphs", "link", ["/CP:0xFFFF", "a;"], {"inputs": given(["a"])}),
+    ("fewer", "link", ["/CP:1", "a;"], "/CPARMAXALLOC isn't followed: the header asks for all memory"),
+]
+
+# of a public, and of an absolute one
+MAP_OF_LINK = """
+ Start  Stop   Length Name                   Class
+ 00000H 00010H 00011H CODE                   CODE
+
+ Origin   Group
+
+  Address         Publics by Name
+
+ 0040:0002  Abs  a
+ 0000:0003       b
+
+  Address         Publics by Value
+
+ 0000:0003       b
+ 0040:0002  Abs  a
+
+Program entry point at 0000:0000
+"""
 
 
 def code_module(title, *body):
@@ -1194,6 +1258,23 @@ def check_directives():
         assert found == wanted, title
 
 
+def check_lines():
+    for title, language, words, wanted in LINES:
+        without = vars(Job(
+            map_form=language, ignores_case=True, form=Form("exe"), has_null_bytes=language == "link"))
+        try:
+            text, _ = line_jobs.text_of(language, words, LINE_FILES)
+            job = vars(line_jobs.job_of(language, text))
+            found = {name: value for name, value in job.items() if value != without[name]}
+        except line_jobs.LineRefused as refused:
+            found = refused.text
+        assert found == wanted, (title, found)
+    made = code_module(
+        b"x", records.PublicNames(0, 1, None, [PublicName(b"b", 3, 0)]),
+        records.PublicNames(0, 0, 0x40, [PublicName(b"a", 2, 0)]))
+    assert link_map.map_of(image.link([made], False), "link").decode() == MAP_OF_LINK
+
+
 def lowered(made, keeps_debug, means=lowering.itself):
     """The bytes of records that are lowered, or the fault and how many records stand before it."""
     try:
@@ -1418,4 +1499,5 @@ def check():
     check_communals()
     check_locals()
     check_directives()
+    check_lines()
     check_links()

@@ -853,8 +853,9 @@ class JobMaker:
         word = option if isinstance(option, str) else LineSpeller(self.random, language, {}).option(*option)
         return self.by_line(language, [word])
 
-    def make_odd_line(self, language, line):
-        """A line that is wrong, or that seems so."""
+    def make_odd_line(self, line):
+        """A line that is wrong, or that seems so; some are only such of TLINK."""
+        language = TLINK if "/La" in line or "/x" in line else self.random.choice([LINK, TLINK])
         self.files["0.obj"], self.folders = module_of_publics([b"x"]), []
         speller = LineSpeller(self.random, language, self.files)
         name = self.random.choice(["0.obj", "0", '"0.obj"', "0.OBJ"])
@@ -1145,34 +1146,31 @@ MADE = [
 ]
 
 
-def each_with(language, values):
-    return [(language, value) for value in values]
-
-
-# the same of lines, where these are taken
+# Where lines are taken, one job in so many is one of these, of the jobs that are left: each number // LINES_EVERY is.
+LINES_EVERY = 3
 MADE_BY_LINES = [
-    (5, 0, in_turn(JobMaker.make_line_options, [
-        pair for pairs in zip(*[
-            each_with(language, [*OTHER_OPTIONS[language], *WRONG_WORDS[language]] * 2)[:60]
-            for language in (LINK, TLINK)]) for pair in pairs])),
-    (5, 1, in_turn(JobMaker.make_odd_line, [
-        (language, line) for line in ODD_LINES for language in (LINK, TLINK)])),
-    (50, 7, in_turn(JobMaker.make_cases, [
+    (2, 0, in_turn(JobMaker.make_line_options, [
+        (language, option) for language in (LINK, TLINK)
+        for option in [*OTHER_OPTIONS[language], *WRONG_WORDS[language]]])),
+    (4, 1, in_turn(JobMaker.make_odd_line, [(line,) for line in ODD_LINES])),
+    (20, 3, in_turn(JobMaker.make_cases, [
         (language, counts) for counts in (True, False) for language in (LINK, TLINK)])),
-    (50, 9, in_turn(JobMaker.make_null_bytes, [
+    (20, 7, in_turn(JobMaker.make_null_bytes, [
         (language, order) for language in (LINK, LINK, TLINK) for order in (ordering.DOSSEG, None)])),
-    (50, 12, in_turn(JobMaker.make_deep, [
+    (20, 11, in_turn(JobMaker.make_deep, [
         (language, deep) for deep in (7, 8, 9, 3) for language in (LINK, TLINK)])),
-    (100, 13, in_turn(JobMaker.make_many_files, [(LINK, 200), (TLINK, 201), (TLINK, 200), (LINK, 201)])),
-    (50, 8, in_turn(JobMaker.make_default_left_out, ["slibce.lib", "SLIBCE.LIB", "SLIBCE"])),
-    (20, 11, in_turn(JobMaker.make_map, ["link", "tlink", "link", "omf"])),
+    (40, 19, in_turn(JobMaker.make_many_files, [(LINK, 200), (TLINK, 201), (TLINK, 200), (LINK, 201)])),
+    (40, 39, in_turn(JobMaker.make_default_left_out, ["slibce.lib", "SLIBCE.LIB", "SLIBCE"])),
+    (20, 15, in_turn(JobMaker.make_map, ["link", "tlink", "link", "omf"])),
 ]
 
 
 def case(random, number=1, has_lines=False):
     """A job and its files; of some numbers one that is made for one rule, often at its limit."""
-    maker = JobMaker(random, has_lines)
-    for every, behind, make in [*(MADE_BY_LINES if has_lines else []), *MADE]:
+    maker, made = JobMaker(random, has_lines), MADE
+    if has_lines and number % LINES_EVERY == 0:
+        number, made = number // LINES_EVERY, MADE_BY_LINES
+    for every, behind, make in made:
         if number % every == behind:
             return make(maker, number // every)
     return maker.make()

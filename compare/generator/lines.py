@@ -30,7 +30,7 @@ WRONG_WORDS = {
 ODD_LINES = [
     "/e\nOBJECT\nout", "/e /m\n\n OBJECT+\n\nout\n\n", "OBJECT\nout", "OBJECT\nout\n\n", "OBJECT\n\nlist", "OBJECT,,", "OBJECT,,;",
     "OBJECT,", "OBJECT,;", "OBJECT\nout\n\nnul\n", "OBJECT,out,/m", "OBJECT,out,nul/m", "OBJECT /m", "OBJECT+\n/e\nout", "OBJECT +/e\nout",
-    "OBJECT,out.x.y", "OBJECT,./out/e", "./0/e", "OBJECT,con.x;x", '"0/e"', "OBJECT,out.com", "OBJECT,out.bin", "OBJECT,more\\out", "OBJECT,,,nul",
+    "OBJECT,out.x.y", "OBJECT,,,sub\\ c:,nul", "OBJECT,,,sub/ x", "OBJECT,./out/e", "./0/e", "OBJECT,con.x;x", '"0/e"', "OBJECT,out.com", "OBJECT,out.bin", "OBJECT,more\\out", "OBJECT,,,nul",
     "OBJECT,nul", "OBJECT,NUL.X,list", ",,,x.lib;", "OBJECT,,list.", "OBJECT,x\\y,", "OBJECT/La/m", "OBJECT /La/c", "/x/c OBJECT", "OBJECT (x+y)",
     "OBJECT,out /l", "OBJECT,out,list/LI/s/l", "OBJECT /l /s", '"', '"OBJECT" "', "OBJECT,con", "OBJECT,CON.MAP", "OBJECT,,con", "OBJECT,com4",
     "OBJECT,com5", "OBJECT,,lpt4", "OBJECT,nul.", "OBJECT,out,list;;+ \n", "OBJECT \n;", "x@y,out", "OBJECT,out,@x", "OBJECT,@",

@@ -24,6 +24,9 @@ The model spends no thought on speed.
 | `lowering` | modules of records that a link takes: faults 48 to 52 |
 | `far_data` | far data in one group, where it fits in a frame |
 | `directives` | what words and directives ask for |
+| `lines`, `line_options` | what lines of LINK and TLINK say, and their options |
+| `line_jobs` | the job of such a line, with what response files say |
+| `link_map` | maps in the forms of LINK and TLINK |
 | `linking` | what `doslink` answers and writes |
 
 An `owner` is the number of an input, and of its module, from 0 on. A `place` is how many bytes come

@@ -122,5 +122,5 @@ def job_of(language, text):
         order=ordering.DOSSEG if said.order else None,
         has_default_libraries=said.has_default_libraries, left_out=said.left_out,
         has_null_bytes=language == lines.LINK and said.order != "dosseg-nonulls",
-        stack=said.stack and Stack(said.stack, cuts=True), form=form, is_verbose=said.is_verbose,
+        stack=None if said.stack is None else Stack(said.stack, cuts=True), form=form, is_verbose=said.is_verbose,
         warnings=[(place_in(text, place), IDLE[idle]) for place, idle in said.warnings])

@@ -614,7 +614,7 @@ def link_by_line(language, words, files, folders=(), can_be_made=always):
         return Answer(WRONG_WORDS, error=told([refused.text]).encode(), fault=faults.WORDS)
     except directives.Unread as unread:
         return unread_answer(unread)
-    first = next(each.name for each in job.inputs if not each.is_library)
+    first = next((each.name for each in job.inputs if not each.is_library), "")
     warnings = [f"warning: {place}: {what}" for place, what in job.warnings]
     lacks = [f"warning: the map {what}" for what in job.map_lacks]
     answer = link(whole_names(job, first), files, folders, can_be_made, spoken_files)
