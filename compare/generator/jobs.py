@@ -421,7 +421,7 @@ class JobMaker:
         self.folders = []
         return self.asked()
 
-    def make_stacks(self, lengths):
+    def make_stacks(self, lengths, is_line=False):
         """Modules with stacks of these lengths, of one name or two, and a length that is wanted."""
         names, classes = self.random.choice([
             ([b"STACK"], [b"STACK"]), ([b"STACK"], [b"HEAP"]),
@@ -436,6 +436,8 @@ class JobMaker:
         self.job.order = self.random.choice([
             None, ordering.DOSSEG, [ordering.Class(b"HEAP")]])
         self.folders, self.job.map = [], MAP
+        if is_line:
+            return self.by_line(LINK)
         is_cut = lengths == [0x10000] or self.happens(0.4)
         return self.by_directives() if is_cut else self.asked()
 
@@ -856,10 +858,13 @@ class JobMaker:
     def make_odd_line(self, line):
         """A line that is wrong, or that seems so; some are only such of TLINK."""
         language = TLINK if "/La" in line or "/x" in line else self.random.choice([LINK, TLINK])
-        self.files["0.obj"], self.folders = module_of_publics([b"x"]), []
+        for path in ("0.obj", "sub/a.obj", "my file.obj"):
+            self.files[path] = module_of_publics([b"x"])
+        self.files["com.obj"], self.folders = module_of_form(0, 3, 0x100, False, False, 0), []
         speller = LineSpeller(self.random, language, self.files)
         name = self.random.choice(["0.obj", "0", '"0.obj"', "0.OBJ"])
-        return self.case(speller.words(line.replace("OBJECT", name)), language)
+        line = line.replace("OBJECT", name)
+        return self.case([line[1:]] if line.startswith("~") else speller.words(line), language)
 
     def make_cases(self, language, counts):
         """Two publics that differ by case alone, where that counts or not."""
@@ -871,7 +876,7 @@ class JobMaker:
 
     def make_null_bytes(self, language, order):
         """Code in the order of DOSSEG, which has null bytes or not, where that is asked for or a module asks."""
-        self.files["code.obj"] = module_of_code(2, False)
+        self.files["code.obj"] = module_of_code(2, False, asks_for_order=self.happens(0.5))
         self.give("code.obj")
         self.folders, self.job.order, self.job.form = [], order, None
         self.job.has_null_bytes = self.happens(0.5)
@@ -903,6 +908,9 @@ class JobMaker:
         """A map in a form, of publics in groups, of absolute ones and of any."""
         self.folders, self.plan.wants_marks = [], 0.9
         self.add_some_objects()
+        names = [width * b"N" for width in (17, 18, 19, 22, 23, 40)]
+        self.files["long.obj"] = module_of_lengths(names, 2, [0, 1, 2, 0, 1, 2], False)
+        self.give("long.obj")
         self.job.map_form = form
         return self.asked() if form == "omf" else self.case(self.words(), "doslink")
 
@@ -1153,8 +1161,9 @@ MADE_BY_LINES = [
         (language, option) for language in (LINK, TLINK)
         for option in [*OTHER_OPTIONS[language], *WRONG_WORDS[language]]])),
     (4, 1, in_turn(JobMaker.make_odd_line, [(line,) for line in ODD_LINES])),
-    (20, 3, in_turn(JobMaker.make_cases, [
+    (40, 3, in_turn(JobMaker.make_cases, [
         (language, counts) for counts in (True, False) for language in (LINK, TLINK)])),
+    (40, 23, in_turn(JobMaker.make_stacks, [(lengths, True) for lengths in STACKS])),
     (20, 7, in_turn(JobMaker.make_null_bytes, [
         (language, order) for language in (LINK, LINK, TLINK) for order in (ordering.DOSSEG, None)])),
     (20, 11, in_turn(JobMaker.make_deep, [

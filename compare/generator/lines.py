@@ -26,12 +26,13 @@ WRONG_WORDS = {
         "/q", "-q", "/o", "/Twe", "/R", "/Rk", "/L", "/A", "(a+b)", '"a', "/cx", "@nowhere", "-", "/tx", "/M", "/X",
         "/home/x.obj", "-c/q"],
 }
-# lines that are wrong, or seem so; `OBJECT` is that of the job
+# lines that are wrong, or seem so; `OBJECT` is that of the job, and behind `~` all is one word
 ODD_LINES = [
     "/e\nOBJECT\nout", "/e /m\n\n OBJECT+\n\nout\n\n", "OBJECT\nout", "OBJECT\nout\n\n", "OBJECT\n\nlist", "OBJECT,,", "OBJECT,,;",
     "OBJECT,", "OBJECT,;", "OBJECT\nout\n\nnul\n", "OBJECT,out,/m", "OBJECT,out,nul/m", "OBJECT /m", "OBJECT+\n/e\nout", "OBJECT +/e\nout",
     "OBJECT,out.x.y", "OBJECT,,,sub\\ c:,nul", "OBJECT,,,sub/ x", "OBJECT,./out/e", "./0/e", "OBJECT,con.x;x", '"0/e"', "OBJECT,out.com", "OBJECT,out.bin", "OBJECT,more\\out", "OBJECT,,,nul",
-    "OBJECT,nul", "OBJECT,NUL.X,list", ",,,x.lib;", "OBJECT,,list.", "OBJECT,x\\y,", "OBJECT/La/m", "OBJECT /La/c", "/x/c OBJECT", "OBJECT (x+y)",
+    "sub/a;", '"sub\\a"', "sub/a.obj,,", "sub/a,sub/p", "com/t;", "com,prog/t", "com/t,prog.x", "OBJECT,out,nul/x-", "OBJECT/x/x-", "OBJECT,,,/x-",
+    "~my file", "~my file/x", "~OBJECT out", "~OBJECT,my out;", '~"my file" OBJECT,out;', "OBJECT,nul", "OBJECT,NUL.X,list", ",,,x.lib;", "OBJECT,,list.", "OBJECT,x\\y,", "OBJECT/La/m", "OBJECT /La/c", "/x/c OBJECT", "OBJECT (x+y)",
     "OBJECT,out /l", "OBJECT,out,list/LI/s/l", "OBJECT /l /s", '"', '"OBJECT" "', "OBJECT,con", "OBJECT,CON.MAP", "OBJECT,,con", "OBJECT,com4",
     "OBJECT,com5", "OBJECT,,lpt4", "OBJECT,nul.", "OBJECT,out,list;;+ \n", "OBJECT \n;", "x@y,out", "OBJECT,out,@x", "OBJECT,@",
     ";", "", ",prog", "/c", "OBJECT,a b", "OBJECT,,a b", "OBJECT,,,,nul,x", "OBJECT;x", "OBJECT;,x", "OBJECT,prn",

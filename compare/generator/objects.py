@@ -786,11 +786,13 @@ def module_of_flat(use):
         spelling.framed(0x9C, fixups.get(use, b"\xC4\0\x14\1\1")), spelling.framed(0x8A, end)])
 
 
-def module_of_code(combination, in_group):
-    """A module with data and behind it code of the usual name, which are in DGROUP or not."""
+def module_of_code(combination, in_group, asks_for_order=False):
+    """A module with data and behind it code of the usual name, which are in DGROUP or not; it may ask for the order
+    DOSSEG."""
     group = [records.GroupDefinition(6, [1, 2])] if in_group else []
+    asking = [records.Comment(0, 0x9E, b"")] if asks_for_order else []
     made = [
-        records.Header(b"CODE"),
+        records.Header(b"CODE"), *asking,
         records.NameList([b"", b"_TEXT", b"CODE", b"_DATA", b"DATA", GROUP]),
         records.SegmentDefinition(1, 2, 4, 4, 5, 1),
         records.SegmentDefinition(1, combination, 4, 2, 3, 1), *group,
