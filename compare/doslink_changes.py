@@ -1405,6 +1405,7 @@ NAMES_OF_LINES = [
     Change("a line has at most 199 response files", "line_jobs.py", "MOST_DEEP, MOST_FILES = 8, 200", "MOST_DEEP, MOST_FILES = 8, 199"),
     Change("a response file isn't one that is read", "line_jobs.py", "    read.append(path)\n", "    read.append(None) if False else None\n"),
     Change("a word with blanks stays two", "line_jobs.py", """return f'"{word}"' if is_bare else word""", "return word"),
+    Change("a part of a line is a name", "line_jobs.py", """in '",;+' for each""", """in '"' for each"""),
     Change("a column counts from 0", "line_jobs.py", "(front.rfind(10) + 1) + 1}", "(front.rfind(10) + 1)}"),
     Change("a column counts from the text's start", "line_jobs.py", "len(front) - (front.rfind(10) + 1) + 1", "len(front) + 1"),
     Change("each word stands in the first line", "line_jobs.py", "front.count(10) + 1", "1"),

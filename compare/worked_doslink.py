@@ -418,6 +418,7 @@ LINES = [
     ("one that names another", "link", ["@first;"], {"inputs": given(["a", "b"]), "out": "p"}),
     ("one that names itself", "link", ["@itself"], '"@itself": response files name one another more than 8 deep'),
     ("a name with a blank", "tlink", ["/x", "a b", "c"], {"inputs": given(["a b", "c"])}),
+    ("a line in a word", "link", ["a b,p;"], {"inputs": given(["a", "b"]), "out": "p"}),
     ("a stack", "link", ["a/ST:010;"], {"inputs": given(["a"]), "stack": Stack(8, True)}),
     ("a .COM file", "tlink", ["/x/t", "a"], {"inputs": given(["a"]), "form": Form("com")}),
     ("DOSSEG", "link", ["/NON", "a;"], {"inputs": given(["a"]), "order": ordering.DOSSEG, "has_null_bytes": False}),

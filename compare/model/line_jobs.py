@@ -63,8 +63,8 @@ def text_of(language, words, files):
 
 
 def as_typed(word):
-    """A word, in quotes again where a shell took them."""
-    is_bare = any(each in SPACE for each in word) and '"' not in word
+    """A word, in quotes again where a shell took them from a name; other words with blanks are a part of a line."""
+    is_bare = any(each in SPACE for each in word) and not any(each in '",;+' for each in word)
     return f'"{word}"' if is_bare else word
 
 
