@@ -32,7 +32,7 @@ ODD_LINES = [
     "OBJECT,", "OBJECT,;", "OBJECT\nout\n\nnul\n", "OBJECT,out,/m", "OBJECT,out,nul/m", "OBJECT /m", "OBJECT+\n/e\nout", "OBJECT +/e\nout",
     "OBJECT,out.x.y", "OBJECT,,,sub\\ c:,nul", "OBJECT,,,sub/ x", "OBJECT,./out/e", "./0/e", "OBJECT,con.x;x", '"0/e"', "OBJECT,out.com", "OBJECT,out.bin", "OBJECT,more\\out", "OBJECT,,,nul",
     "sub/a;", '"sub\\a"', "sub/a.obj,,", "sub/a,sub/p", "com/t;", "com,prog/t", "com/t,prog.x", "OBJECT,out,nul/x-", "OBJECT/x/x-", "OBJECT,,,/x-",
-    "~my file", "~my file/x", "~OBJECT out", "~OBJECT,my out;", '~"my file" OBJECT,out;', "OBJECT,nul", "OBJECT,NUL.X,list", ",,,x.lib;", "OBJECT,,list.", "OBJECT,x\\y,", "OBJECT/La/m", "OBJECT /La/c", "/x/c OBJECT", "OBJECT (x+y)",
+    "~my file", "~my file/x", "~OBJECT out", "~OBJECT,my out;", "~0 com,out;", "~com 0+my", '~"my file" OBJECT,out;', "OBJECT,nul", "OBJECT,NUL.X,list", ",,,x.lib;", "OBJECT,,list.", "OBJECT,x\\y,", "OBJECT/La/m", "OBJECT /La/c", "/x/c OBJECT", "OBJECT (x+y)",
     "OBJECT,out /l", "OBJECT,out,list/LI/s/l", "OBJECT /l /s", '"', '"OBJECT" "', "OBJECT,con", "OBJECT,CON.MAP", "OBJECT,,con", "OBJECT,com4",
     "OBJECT,com5", "OBJECT,,lpt4", "OBJECT,nul.", "OBJECT,out,list;;+ \n", "OBJECT \n;", "x@y,out", "OBJECT,out,@x", "OBJECT,@",
     ";", "", ",prog", "/c", "OBJECT,a b", "OBJECT,,a b", "OBJECT,,,,nul,x", "OBJECT;x", "OBJECT;,x", "OBJECT,prn",
