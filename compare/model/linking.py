@@ -205,8 +205,8 @@ class Linking:
 
     def is_left_out(self, name):
         """Whether a default library isn't to be searched, in whatever case and with .LIB or without."""
-        left_out = [with_extension(each, ".LIB").lower() for each in self.job.left_out]
-        return with_extension(name.decode("latin1"), ".LIB").lower() in left_out
+        left_out = [each.lower().removesuffix(".lib") for each in self.job.left_out]
+        return name.decode("latin1").lower().removesuffix(".lib") in left_out
 
     def add_default_library(self, name, word):
         try:
