@@ -11,6 +11,8 @@ TOP = Path(__file__).resolve().parent.parent.parent.parent
 EXAMPLES = TOP / "examples"
 SECONDS = 120  # of one run
 FULL = "/dev/full"  # what is written there fails
+# the names that each program is called by: by some of them it takes what is written for another linker
+CALLED = {"omf": ("omf",), "doslink": ("doslink", "wlink", "link", "tlink")}
 
 
 @dataclass
@@ -209,6 +211,14 @@ def of_doslink():
         yield Case(f"doslink: {title}", "doslink", words, {**files, **more}, variables={"LIB": "", **variables})
     directives = f"option quiet\nfile {main}\nlibrary LETTERS.A\nname OUT.EXE\n".encode()
     yield Case("wlink: directives", "wlink", ["@LINK.LNK"], {**files, "LINK.LNK": directives}, variables={"LIB": ""})
+    for called, words in (
+            ("link", ["/M", f"{main},OUT.EXE,,LETTERS.A;"]), ("tlink", ["/c", main, ",", "OUT.EXE", ",", ",", "lib/"]),
+            ("link", ["/STACK:4096", "@WORDS.RSP"]), ("tlink", ["@WORDS.RSP"]), ("link", [f"{main};"]),
+            ("tlink", ["/q", main]), ("link", []), ("tlink", ["/?"])):
+        more = {"WORDS.RSP": f"{main}\r\nOUT.EXE\r\n\r\nLETTERS.A;\r\n".encode()}
+        yield Case(f"{called}: {' '.join(words)}", called, words, {**files, **more}, variables={"LIB": "", "LINK": ""})
+    by_variable = [f"{main},OUT.EXE,,LETTERS.A;"]
+    yield Case("link: by LINK", "link", by_variable, files, variables={"LIB": "", "LINK": "/NOI /STACK:8192"})
     yield Case("doslink: to standard output", "doslink", ["-o", "-", main, "LETTERS.A"], files, variables={"LIB": ""})
     yield Case("doslink: of standard input", "doslink", ["-o", "OUT.EXE", "-", "LETTERS.A"], files,
                variables={"LIB": ""}, input=letters[main])

@@ -50,6 +50,10 @@ def plain_jobs(names):
         yield "a library by -l", "doslink", ["-o", "D/OUT.EXE", main, "-l", "L"], library
         yield "missing names", "doslink", ["-o", "OUT.EXE", main], library
         yield "over an input", "doslink", ["-o", main, main, "L.LIB"], library
+        directives = {**library, "LINK.LNK": f"file {main}\r\nlibrary L.LIB\r\nname OUT.EXE\r\n".encode()}
+        yield "directives", "wlink", ["@LINK.LNK"], directives
+        yield "a line of LINK", "link", ["/M", f"{main},OUT.EXE,,L.LIB;"], library
+        yield "a line of TLINK", "tlink", ["/c", f"{main},D/OUT.EXE,,L.LIB"], library
 
 
 def test(programs, outcome, check):
@@ -59,7 +63,8 @@ def test(programs, outcome, check):
     with tempfile.TemporaryDirectory(prefix="omf-dos-") as folder:
         folder, lines, wanted = Path(folder), [], {}
         for name, file in programs.items():
-            shutil.copy(file, folder / f"{name.upper()}.EXE")
+            for called in cases.CALLED[name]:
+                shutil.copy(file, folder / f"{called.upper()}.EXE")
         for number, (case, same) in enumerate(jobs(programs)):
             wanted[number] = case.title, outcome(same)
             cases.put_files(case, folder / str(number))
