@@ -16,7 +16,8 @@ use Rattle.clap.specs.Words.{Text}
 use Rattle.makefile_words.specs.declared.tokens.Language.{Language}
 use Rattle.makefile_words.specs.declared.tokens.Placed.{Placed}
 use Rattle.makefile_words.specs.declared.tokens.Token.{Token}
-use Rattle.makefile_words.specs.Tokens.{Piece, PlacedPiece, ends_word, has_folders, is_quote, mark_of}
+use Rattle.makefile_words.specs.Cut.{has_folders}
+use Rattle.makefile_words.specs.Tokens.{Piece, PlacedPiece, ends_word, is_quote, len_with, mark_of}
 use Rattle.makefile_words.specs.Tokens.{token, tokens, tokens_below, word_len}
 use Rattle.makefile_words.specs.inside.Tokens.{piece_of, pieces, said_mark}
 
@@ -43,18 +44,16 @@ first-mark text bytes r mark same is found =
     (sym (ap (λ (bs : Text). mark_of (get_or bs 0 0)) same) ∙ (sym is ∙ ap said_mark found))
 
 -- a word is no longer than its text
-pub word_len-le : (language : Language) (text : Text) → 0 < length text → word_len language text ≤ length text
-word_len-le language [] h = absurd (omega arith)
-word_len-le language (byte ∷ text) h =
-    omega (arith, prefix_len-le-length (λ b. not (ends_word (has_folders language (byte ∷ text)) b)) text)
+pub len_with-le : (folders : Bool) (text : Text) → 0 < length text → len_with folders text ≤ length text
+len_with-le folders [] h = absurd (omega arith)
+len_with-le folders (byte ∷ text) h = omega (arith, prefix_len-le-length (λ b. not (ends_word folders b)) text)
 
 -- a text may be cut behind a word that it begins with
-pub word-boundary : (language : Language) (text : Text) → 0 < length text → IsCharBoundary text (word_len language text)
-word-boundary language [] h = absurd (omega arith)
-word-boundary language (byte ∷ text) h = (
-  word_len-le language (byte ∷ text) h,
+pub len_with-boundary : (folders : Bool) (text : Text) → 0 < length text → IsCharBoundary text (len_with folders text)
+len_with-boundary folders [] h = absurd (omega arith)
+len_with-boundary folders (byte ∷ text) h = (
+  len_with-le folders (byte ∷ text) h,
   λ inside high.
-      let folders = has_folders language (byte ∷ text) in
       let n = position_or_len (ends_word folders) text in
       let ends =
       not-false (ends_word folders (get_or text n 0))
@@ -65,19 +64,21 @@ word-boundary language (byte ∷ text) h = (
       absurd (omega (arith, small, large)),
 )
 
+pub word-boundary : (language : Language) (text : Text) → 0 < length text → IsCharBoundary text (word_len language text)
+word-boundary language text h = len_with-boundary (has_folders language (take (len_with false text) text)) text h
+
 -- a place that is found, or else the end
 at_or_end : (p len : ℕ) → p ≤ len → unwrap_or (cond (ltb p len) (Some p) None) len ≡ p
 at_or_end p len few = grind (arith, nat_tests)
 
 -- how long a word is, by the place of the first byte that ends it
-pub word_len-is : (language : Language) (text bytes : Text) (folders : Bool) (found : Option ℕ) (end : ℕ) → bytes ≡ text
-    → folders ≡ has_folders language text
+pub len_with-is : (text bytes : Text) (folders : Bool) (found : Option ℕ) (end : ℕ) → bytes ≡ text
     → (let inside = take (length bytes - 1) (drop 1 bytes) in
     found
     ≡ cond (ltb (position_or_len (ends_word folders) inside) (length inside))
     (Some (position_or_len (ends_word folders) inside)) None)
-    → end ≡ unwrap_or found (length (take (length bytes - 1) (drop 1 bytes))) → end + 1 ≡ word_len language text
-word_len-is language text bytes folders found end same which is ends =
+    → end ≡ unwrap_or found (length (take (length bytes - 1) (drop 1 bytes))) → end + 1 ≡ len_with folders text
+len_with-is text bytes folders found end same is ends =
     let inside = take (length bytes - 1) (drop 1 bytes) in
     let whole : inside ≡ drop 1 bytes =
     take_all (length bytes - 1) (drop 1 bytes) (omega (arith, length-drop 1 bytes)) in
@@ -88,10 +89,9 @@ word_len-is language text bytes folders found end same which is ends =
     ∙ (ap (λ (o : Option ℕ). unwrap_or o (length inside)) is
     ∙ at_or_end (position_or_len (ends_word folders) inside) (length inside) few) in
     let moved : position_or_len (ends_word folders) inside
-    ≡ position_or_len (ends_word (has_folders language text)) (drop 1 text) =
+    ≡ position_or_len (ends_word folders) (drop 1 text) =
     ap (position_or_len (ends_word folders)) whole
-    ∙ (ap (λ (bs : Text). position_or_len (ends_word folders) (drop 1 bs)) same
-    ∙ ap (λ (f : Bool). position_or_len (ends_word f) (drop 1 text)) which) in
+    ∙ ap (λ (bs : Text). position_or_len (ends_word folders) (drop 1 bs)) same in
     omega (arith, at, moved)
 
 -- the tokens of a text are those that were had, and those of the rest

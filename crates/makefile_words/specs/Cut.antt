@@ -2,7 +2,7 @@
 -- `/` parts folders on Unix too, a word is options only where they are whole.
 use Rattle.std.specs.Prelude.{ℕ, zero, suc, ◌+◌, ◌==◌, ◌&&◌, ◌||◌, Bool, true, false, nat_le, nat_lt, List, [], ◌∷◌}
 use Rattle.std.specs.Prelude.{length, drop, Option, Some, None, Result, Ok, Err, if◌then◌else◌, is_some, slice_index}
-use Rattle.std.specs.Option.{option_and_then, option_map_or}
+use Rattle.std.specs.Option.{option_and_then, option_map_or, option_or}
 use Rattle.std.specs.List.{position_or_len, slice_split}
 use Rattle.std.specs.Path.{rsplit_once}
 use Rattle.clap.specs.Lexer.{strip_byte}
@@ -14,7 +14,6 @@ use Rattle.makefile_words.specs.declared.tokens.Language.{Language}
 use Rattle.makefile_words.specs.declared.tokens.Language.TheVariants.{Tlink, Link}
 use Rattle.makefile_words.specs.Link.{link_option}
 use Rattle.makefile_words.specs.Tlink.{tlink_option}
-use Rattle.makefile_words.specs.Tokens.{takes_folders}
 
 -- what an option asks for, none where there is no such option
 abbrev pub option_named : Language → Text → Option Setting
@@ -24,6 +23,24 @@ option_named Link option = link_option option
 -- whether there is such an option
 abbrev pub is_option : Language → Text → Bool
 is_option language option = is_some (option_named language option)
+
+-- the options of TLINK whose value is folders, which `;` parts: `L` (libraries) and `j` (objects)
+abbrev pub takes_folders : Language → Text → Bool
+takes_folders Tlink option = nat_le 1 (length option) && (slice_index option 0 == 76 || slice_index option 0 == 106)
+takes_folders Link option = false
+
+-- whether one of these options takes folders, behind whole options alone
+abbrev pub lead_to_folders : Language → List Text → Bool
+lead_to_folders language [] = false
+lead_to_folders language (option ∷ more) =
+    takes_folders language option || (is_option language option && lead_to_folders language more)
+
+-- whether a word begins as options, of which one takes folders
+abbrev pub has_folders : Language → Text → Bool
+has_folders language word =
+    option_map_or (λ options. lead_to_folders language (slice_split (λ byte. byte == 47) options))
+    (option_or (strip_byte 47 word) (strip_byte 45 word))
+    false
 
 -- the options between which `/` stands: one alone where it takes folders, whose paths have `/` themselves
 abbrev pub options_in : Language → Text → List Text

@@ -6,8 +6,8 @@ use Rattle.std.specs.Option.{option_map_or}
 use Rattle.std.specs.List.{before_first, after_first, position_or_len}
 use Rattle.std.specs.Char.{is_ascii_whitespace}
 use Rattle.clap.specs.Words.{Text}
+use Rattle.makefile_words.specs.Cut.{has_folders}
 use Rattle.makefile_words.specs.declared.tokens.Language.{Language}
-use Rattle.makefile_words.specs.declared.tokens.Language.TheVariants.{Tlink, Link}
 use Rattle.makefile_words.specs.declared.tokens.Placed.{Placed}
 use Rattle.makefile_words.specs.declared.tokens.Token.{Token}
 use Rattle.makefile_words.specs.declared.tokens.Token.TheVariants as code
@@ -27,20 +27,6 @@ pub data Piece : Type 0 where
 pub record PlacedPiece : Type 0 where
   pub place : ℕ
   pub piece : Piece
-
--- whether a byte begins an option at a word's start: `/` and `-`
-abbrev pub begins_option : ℕ → Bool
-begins_option byte = byte == 47 || byte == 45
-
--- the options of TLINK whose value is folders, which `;` parts: `L` (libraries) and `j` (objects)
-abbrev pub takes_folders : Language → Text → Bool
-takes_folders Tlink option = nat_le 1 (length option) && (slice_index option 0 == 76 || slice_index option 0 == 106)
-takes_folders Link option = false
-
--- whether a text begins with such an option
-abbrev pub has_folders : Language → Text → Bool
-has_folders language text =
-    nat_le 1 (length text) && begins_option (slice_index text 0) && takes_folders language (drop 1 text)
 
 -- whether a byte stands behind a word: white space, `"`, `+`, a comma, and `;` where it parts no folders
 abbrev pub ends_word : (folders : Bool) → ℕ → Bool
@@ -67,9 +53,13 @@ quoted text =
     if nat_lt (position_or_len is_quote text) (length text)
     then (Quoted (before_first is_quote text), after_first is_quote text) else (Unclosed, [])
 
--- how long the word is that a text begins with: a byte, and what follows it up to the next byte that ends a word
+-- how long a word is: a byte, and what follows it up to the next byte that ends a word
+abbrev pub len_with : (folders : Bool) → Text → ℕ
+len_with folders text = 1 + position_or_len (ends_word folders) (drop 1 text)
+
+-- how long the word is that a text begins with: `;` is in it where the part in front of that has folders
 abbrev pub word_len : Language → Text → ℕ
-word_len language text = 1 + position_or_len (ends_word (has_folders language text)) (drop 1 text)
+word_len language text = len_with (has_folders language (take (len_with false text) text)) text
 
 -- the word that a text begins with, and what follows it
 abbrev pub word : Language → Text → Piece × Text

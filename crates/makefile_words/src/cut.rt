@@ -12,7 +12,7 @@ use crate::faults::{FaultKind, WordFault};
 use crate::link::link_option;
 use crate::settings::Setting;
 use crate::tlink::tlink_option;
-use crate::tokens::{Language, takes_folders};
+use crate::tokens::Language;
 use std::alloc::{AllocError, Global};
 
 /// What a word is: a name, options, or a name with options behind it.
@@ -46,6 +46,46 @@ fn pieces_of<'a>(alloc: Global, text: &'a str) -> Result<Vec<&'a str>, AllocErro
     ensures { IfOk result (λ pieces. texts pieces.items ≡ slice_split (λ byte. byte == 47) text.now) }
 {
     text.split('/').collect(alloc)
+}
+
+// Whether an option takes folders, which `;` parts.
+fn takes_folders(language: Language, option: &[u8]) -> bool
+    ensures { result ≡ spec.takes_folders language option.now }
+{
+    match (language, option) {
+        (Language::Tlink, [b'L' | b'j', ..]) => true,
+        _ => false,
+    }
+}
+
+// Whether one of these options takes folders, behind whole options alone.
+fn lead_to_folders(language: Language, options: &[&str]) -> bool
+    ensures { result ≡ spec.lead_to_folders language (texts options.now) }
+{
+    let mut rest = options;
+    'options: while let [option, more @ ..] = rest {
+        if takes_folders(language, option.as_bytes()) {
+            return true;
+        }
+        if !is_option(language, option) {
+            return false;
+        }
+        rest = more;
+    }
+    false
+}
+
+/// Whether a word begins as options, of which one takes folders.
+pub(crate) fn has_folders(alloc: Global, language: Language, word: &str) -> Result<bool, AllocError>
+    ensures { IfOk result (λ folders. folders ≡ spec.has_folders language word.now) }
+{
+    match after_slash(word).or(after_dash(word)) {
+        Some(options) => {
+            let pieces = pieces_of(alloc, options)?;
+            Ok(lead_to_folders(language, pieces.as_slice()))
+        }
+        None => Ok(false),
+    }
 }
 
 /// The options between which `/` stands: one alone where it takes folders.

@@ -5,6 +5,7 @@ ghost use Rattle.makefile_words.specs.Tokens as spec;
 ghost use Rattle.makefile_words.specs.Tokens.{piece_of, pieces};
 ghost use Rattle.makefile_words.specs.inside.Tokens.{said, said_mark};
 
+use crate::cut::has_folders;
 use std::alloc::{AllocError, Global};
 
 /// The linker whose line is read.
@@ -63,33 +64,6 @@ impl<'a> Token<'a> {
     }
 }
 
-// Whether a byte begins an option at a word's start.
-fn begins_option(byte: u8) -> bool
-    ensures { result ≡ spec.begins_option byte }
-{
-    byte == b'/' || byte == b'-'
-}
-
-/// Whether an option takes folders, which `;` parts.
-pub(crate) fn takes_folders(language: Language, option: &[u8]) -> bool
-    ensures { result ≡ spec.takes_folders language option.now }
-{
-    match (language, option) {
-        (Language::Tlink, [b'L' | b'j', ..]) => true,
-        _ => false,
-    }
-}
-
-// Whether a text begins with an option that takes folders.
-fn has_folders(language: Language, text: &[u8]) -> bool
-    ensures { result ≡ spec.has_folders language text.now }
-{
-    match text {
-        [first, option @ ..] => begins_option(*first) && takes_folders(language, option),
-        _ => false,
-    }
-}
-
 // Whether a byte stands behind a word, and not in it.
 fn ends_word(folders: bool, byte: u8) -> bool
     ensures { result ≡ spec.ends_word folders byte }
@@ -139,42 +113,59 @@ fn quoted_token<'a>(text: &'a str) -> (Token<'a>, &'a str)
     }
 }
 
-// How many bytes the word has that a text begins with.
-fn word_len(language: Language, text: &str) -> usize
+// How many bytes the word has that a text begins with, where it has folders or none.
+fn len_with(folders: bool, text: &str) -> usize
     requires { 0 < length text.now }
-    ensures { result ≡ spec.word_len language text.now }
+    ensures { result ≡ spec.len_with folders text.now }
 {
-    let folders = has_folders(language, text.as_bytes());
     let inside = &text.as_bytes()[1..];
     let end = inside.iter().position(|byte| ends_word(folders, *byte));
     end.unwrap_or(inside.len()) + 1
 }
 
-// The word that a text begins with, and what follows it.
-fn word_token<'a>(language: Language, text: &'a str) -> (Token<'a>, &'a str)
+// How many bytes the word has that a text begins with.
+fn word_len(alloc: Global, language: Language, text: &str) -> Result<usize, AllocError>
     requires { 0 < length text.now }
-    ensures token { said result ≡ spec.word language text.now }
-    ensures shorter { length result.1.now < length text.now }
-    ensures utf8 { IsUtf8 result.1.now }
+    ensures { IfOk result (λ end. end ≡ spec.word_len language text.now) }
 {
-    let end = word_len(language, text);
-    (Token::Word(&text[..end]), &text[end..])
+    let end = len_with(false, text);
+    let folders = has_folders(alloc, language, &text[..end])?;
+    Ok(len_with(folders, text))
+}
+
+// The word that a text begins with, and what follows it.
+fn word_token<'a>(
+    alloc: Global,
+    language: Language,
+    text: &'a str,
+) -> Result<(Token<'a>, &'a str), AllocError>
+    requires { 0 < length text.now }
+    ensures token { IfOk result (λ p. said p ≡ spec.word language text.now) }
+    ensures shorter { IfOk result (λ p. length p.1.now < length text.now) }
+    ensures utf8 { IfOk result (λ p. IsUtf8 p.1.now) }
+{
+    let end = word_len(alloc, language, text)?;
+    Ok((Token::Word(&text[..end]), &text[end..]))
 }
 
 // The token that a text begins with, and what follows it.
-fn next_token<'a>(language: Language, text: &'a str) -> (Token<'a>, &'a str)
+fn next_token<'a>(
+    alloc: Global,
+    language: Language,
+    text: &'a str,
+) -> Result<(Token<'a>, &'a str), AllocError>
     requires { 0 < length text.now }
-    ensures token { said result ≡ spec.token language (slice_index text.now 0) (drop 1 text.now) }
-    ensures shorter { length result.1.now < length text.now }
-    ensures utf8 { IsUtf8 result.1.now }
+    ensures token { IfOk result (λ p. said p ≡ spec.token language (slice_index text.now 0) (drop 1 text.now)) }
+    ensures shorter { IfOk result (λ p. length p.1.now < length text.now) }
+    ensures utf8 { IfOk result (λ p. IsUtf8 p.1.now) }
 {
     let first = text.as_bytes()[0];
     if is_quote(first) {
-        return quoted_token(&text[1..]);
+        return Ok(quoted_token(&text[1..]));
     }
     match mark_of(first) {
-        Some(mark) => (mark, &text[1..]),
-        None => word_token(language, text),
+        Some(mark) => Ok((mark, &text[1..])),
+        None => word_token(alloc, language, text),
     }
 }
 
@@ -190,7 +181,7 @@ pub fn tokens_of<'a>(
     let mut rest = text;
     while !rest.is_empty() {
         let place = text.len() - rest.len();
-        let next = next_token(language, rest);
+        let next = next_token(alloc, language, rest)?;
         tokens.push(Placed {
             place,
             token: next.0,

@@ -155,6 +155,14 @@ inputs: [File("main")], out: None, map: Some(Beside), map_form: Tlink, folders: 
 =>
 folders: ["/usr/tc/lib", "more/"]
 ---
+-La/usr/c main
+=>
+folders: ["a/usr/c"], ignore_case: true
+---
+/c/La;b main
+=>
+inputs: [File("main")], out: None, map: Some(Beside), map_form: Tlink, folders: ["a", "b"], ignore_case: false
+---
 /v /3 main
 =>
 warnings: [IdleAt { place: 0, idle: Debug }]
@@ -315,6 +323,10 @@ kind: Device
 ---
 main,,lpt4.map
 =>
-kind: Device"#;
+kind: Device
+---
+/home/Lib/x.obj;b
+=>
+Err(Word { place: 16, word: "b", kind: BehindEnd })"#;
     hold_in(&rt, rt.alloc(), Language::Tlink, table);
 }

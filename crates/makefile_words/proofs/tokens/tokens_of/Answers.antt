@@ -23,7 +23,7 @@ loop-rest-preserved c =
       left =
           rw put
           (left-more c.args.language c.args.text.now (pieces c.loop-rest.tokens.items) c.loop-rest.rest.now _
-          (piece_of c.next_token-next.result.0) c.next_token-next.result.1.now c.loop-rest.invariant.left some
-          (omega arith) c.next_token-next.ensures.token c.next_token-next.ensures.shorter);
-      utf8 = c.next_token-next.ensures.utf8;
+          (piece_of c.in_ok-next.next.0) c.in_ok-next.next.1.now c.loop-rest.invariant.left some
+          (omega arith) c.in_ok-next.ensures.token c.in_ok-next.ensures.shorter);
+      utf8 = c.in_ok-next.ensures.utf8;
     }

@@ -1,16 +1,18 @@
-use Rattle.std.proofs.Common.{◌∙◌, ap, rules, tests}
-use Rattle.std.proofs.lemmas.Iterator.{YieldsList-from_slice}
-use Rattle.std.proofs.lemmas.Iterator.Search.{position_from_yields_List}
-use Rattle.makefile_words.specs.Tokens.{ends_word, has_folders}
-use Rattle.makefile_words.proofs.TokensLemmas.{word_len-is}
+use Rattle.std.proofs.Common.{◌≡◌, ◌-◌, ◌∙◌, ℕ, Bool, ap, arith, false, take}
+use Rattle.makefile_words.specs.Cut.{has_folders}
+use Rattle.makefile_words.specs.Tokens.{len_with}
+use Rattle.makefile_words.proofs.TokensLemmas.{len_with-boundary}
 use Rattle.makefile_words.proofs.tokens.word_len.Goals as goal
+
+pub range-requires-clause-end_boundary : goal.range-requires-clause-end_boundary
+range-requires-clause-end_boundary c =
+    rw c.len_with-end.ensures (len_with-boundary false c.args.text.now c.requires)
 
 pub returns : goal.returns
 returns c =
-    let found =
-    position_from_yields_List (ends_word c.has_folders-folders.result) _ _ c.position-end.result
-    c.position-end.ensures.ran (YieldsList-from_slice _ c.iter.ensures.rest) (λ x b q k. search (rules, tests)) in
-    word_len-is c.args.language c.args.text.now c.as_bytes-2.result.now c.has_folders-folders.result
-    c.position-end.result c.unwrap_or.result c.as_bytes-2.ensures.value
-    (c.has_folders-folders.ensures ∙ ap (has_folders c.args.language) c.as_bytes.ensures.value) found
-    c.unwrap_or.ensures
+    let same : c.len_with-end.result - 0 ≡ len_with false c.args.text.now = omega (arith, c.len_with-end.ensures) in
+    c.len_with.ensures
+    ∙ ap (λ (folders : Bool). len_with folders c.args.text.now)
+    (c.in_ok-folders.ensures
+    ∙ ap (has_folders c.args.language)
+    (c.range.ensures.value ∙ ap (λ (end : ℕ). take end c.args.text.now) same))
