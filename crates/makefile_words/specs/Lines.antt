@@ -1,6 +1,6 @@
 -- What a line means: `objects, program, map, libraries, definitions;`, with options anywhere.
 use Rattle.std.specs.Prelude.{ℕ, ◌-◌, ◌==◌, ◌&&◌, ◌||◌, Bool, true, false, nat_le, nat_lt, List, [], ◌∷◌, ◌++◌}
-use Rattle.std.specs.Prelude.{length, codes, Option, Some, None, Result, Ok, Err, if◌then◌else◌, is_some, slice_index, unwrap_or}
+use Rattle.std.specs.Prelude.{length, take, codes, Option, Some, None, Result, Ok, Err, if◌then◌else◌, is_some, slice_index, unwrap_or}
 use Rattle.std.specs.Option.{option_map_or}
 use Rattle.std.specs.List.{before_first, after_first, position_or_len, slice_split}
 use Rattle.clap.specs.Lexer.{strip_byte}
@@ -148,13 +148,18 @@ is_device name device = is_keyword (before_first is_dot name) device
 abbrev pub is_null : Text → Bool
 is_null name = is_device name (codes "nul")
 
--- the devices that are no files to write
+-- whether this is `LPT` or `COM` with a digit behind it, 1 to 9
+abbrev pub is_port : Text → Bool
+is_port text =
+    nat_le 1 (length text)
+    && (nat_le 49 (slice_index text (length text - 1)) && nat_le (slice_index text (length text - 1)) 57
+    && (is_keyword (take (length text - 1) text) (codes "lpt") || is_keyword (take (length text - 1) text) (codes "com")))
+
+-- the devices that are no files to write, with any extension
 abbrev pub is_refused : Text → Bool
 is_refused name =
     is_device name (codes "con") || is_device name (codes "prn") || is_device name (codes "aux")
-    || is_device name (codes "lpt1") || is_device name (codes "lpt2") || is_device name (codes "lpt3")
-    || is_device name (codes "lpt4") || is_device name (codes "com1") || is_device name (codes "com2")
-    || is_device name (codes "com3") || is_device name (codes "com4")
+    || is_port (before_first is_dot name)
 
 -- whether a name ends with a byte that stands behind folders: a backslash, `/` or `:`
 abbrev pub is_folder : Text → Bool

@@ -76,8 +76,8 @@ fn is_short(word: &[u8], name: &[u8], least: usize) -> bool
     least <= size && size <= name.len() && is_bytes(word, &name[..size])
 }
 
-// Whether bytes are these, where small and capital letters are the same.
-fn is_bytes(word: &[u8], keyword: &[u8]) -> bool
+/// Whether bytes are these, where small and capital letters are the same.
+pub(crate) fn is_bytes(word: &[u8], keyword: &[u8]) -> bool
     ensures { result ≡ is_keyword word.now keyword.now }
 {
     word.eq_ignore_ascii_case(keyword)

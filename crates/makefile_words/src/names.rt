@@ -11,6 +11,7 @@ ghost use Rattle.makefile_words.specs.inside.Lines.{line_of};
 
 use crate::faults::{FaultKind, WordFault};
 use crate::line::{Field, Line};
+use crate::link::is_bytes;
 use doslink_words::Input;
 
 // Whether a word is this keyword, where small and capital letters are the same.
@@ -37,22 +38,24 @@ pub(crate) fn is_null(name: &str) -> bool
     is(stem(name), "nul")
 }
 
+// Whether a name is `LPT` or `COM` with a digit behind it, 1 to 9.
+fn is_port(name: &str) -> bool
+    ensures { result ≡ spec.is_port name.now }
+{
+    match name.as_bytes() {
+        [port @ .., digit] => {
+            b'1' <= *digit && *digit <= b'9' && (is_bytes(port, b"lpt") || is_bytes(port, b"com"))
+        }
+        _ => false,
+    }
+}
+
 // Whether a name is a device that is no file to write.
 fn is_refused(name: &str) -> bool
     ensures { result ≡ spec.is_refused name.now }
 {
     let name = stem(name);
-    is(name, "con")
-        || is(name, "prn")
-        || is(name, "aux")
-        || is(name, "lpt1")
-        || is(name, "lpt2")
-        || is(name, "lpt3")
-        || is(name, "lpt4")
-        || is(name, "com1")
-        || is(name, "com2")
-        || is(name, "com3")
-        || is(name, "com4")
+    is(name, "con") || is(name, "prn") || is(name, "aux") || is_port(name)
 }
 
 // Whether a name is a folder of libraries.

@@ -89,7 +89,11 @@ inputs: [File("/home/x/a.obj"), File("./m"), File("../x"), File("build/main.obj"
 ---
 main,,,nul
 =>
-inputs: [File("main")], out: None, map: Some(Beside)"#;
+inputs: [File("main")], out: None, map: Some(Beside)
+---
+main,com0,lpt10
+=>
+out: Some("com0"), map: Some(At("lpt10"))"#;
     hold_in(&rt, rt.alloc(), Language::Tlink, table);
 }
 
@@ -324,6 +328,10 @@ kind: Device
 main,,lpt4.map
 =>
 kind: Device
+---
+main,,Lpt9
+=>
+Err(Word { place: 6, word: "Lpt9", kind: Device })
 ---
 /home/Lib/x.obj;b
 =>
