@@ -1,11 +1,11 @@
 -- What bringing a program into a form answers.
-use Rattle.std.proofs.Common.{◌≡◌, ℕ, List, [], Ok, Err, Some, None, ap, refl, sym, subst}
+use Rattle.std.proofs.Common.{◌≡◌, ℕ, List, [], Ok, Err, Some, None, refl, sym, subst}
 use Rattle.std.specs.declared.option.Option.{Option}
 use Rattle.std.specs.declared.result.Result.{Result}
 use Rattle.std.specs.Io.KnownBytes.{Appends}
 use Rattle.omf_module.specs.Module.{Module}
 use Rattle.omf_place.specs.declared.names.Names.{Names}
-use Rattle.omf_image.specs.Program.{Program, IsProgram}
+use Rattle.omf_image.specs.Program.{IsProgram}
 use Rattle.omf_commands.specs.declared.linking.Report.{Report}
 use Rattle.flat_file.specs.Forms.{bin_bytes, com_bytes, com_fault, sys_bytes}
 use Rattle.flat_file.specs.Laws.{BinIsLocated, ComLoadsAsWritten, IsLocatedCom, IsLocatedFrom, SysIsLocated}
@@ -16,7 +16,8 @@ use Rattle.flat_file.specs.declared.fault.FlatFault.TheVariants as flat
 use Rattle.flat_file.specs.declared.fault.FormFault.{FormFault}
 use Rattle.doslink_words.specs.declared.job.Form.{Form}
 use Rattle.doslink_words.specs.declared.job.Form.TheVariants.{Exe, Com, Raw, Driver}
-use Rattle.doslink_link.specs.Forms.{Forms, HasForm, IsFormed, Makes, form_fault}
+use Rattle.doslink_link.specs.Forms.{Forms, HasForm, IsFormed, form_fault}
+use Rattle.doslink_link.specs.inside.Making.{Makes}
 use Rattle.doslink_link.specs.Linking.{IsLinkedAs}
 
 -- ---- what was written to a page that was empty

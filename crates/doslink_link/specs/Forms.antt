@@ -65,10 +65,3 @@ abbrev pub Forms : {A V : Type 0} → (items : V → List ℕ) → Option Form �
 Forms items form names modules report (Ok file) = IsFormed form names modules report (items file)
 Forms items form names modules report (Err (flat.Form fault)) = IsFormFault form names modules fault
 Forms items form names modules report (Err flat.Device) = Unit {0}
-
--- what writing bytes in memory answers, where a fault keeps them from being written or none does
-abbrev pub Makes : {V : Type 0} → (items : V → List ℕ) → Option FormFault → (bytes : List ℕ) → Result V FlatFault
-    → Type 0
-Makes items fault bytes (Ok file) = (fault ≡ None) × (items file ≡ bytes)
-Makes items fault bytes (Err (flat.Form first)) = fault ≡ Some first
-Makes items fault bytes (Err flat.Device) = Unit {0}

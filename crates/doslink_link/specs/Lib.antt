@@ -1,3 +1,4 @@
 pub mod Forms
 pub mod Linking
 pub mod Reading
+pub mod inside

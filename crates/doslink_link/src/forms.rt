@@ -4,8 +4,9 @@ ghost use Rattle.omf_module.specs.Module.{Module};
 ghost use Rattle.omf_place.specs.declared.names.Names.{Names};
 ghost use Rattle.omf_place.specs.Bounded.{IsBounded};
 ghost use Rattle.flat_file.specs.Forms.{bin_bytes, com_bytes, com_fault, sys_bytes, sys_fault};
-ghost use Rattle.doslink_link.specs.Forms.{Forms, Makes};
+ghost use Rattle.doslink_link.specs.Forms.{Forms};
 ghost use Rattle.doslink_link.specs.Linking.{IsLinkedAs};
+ghost use Rattle.doslink_link.specs.inside.Making.{Makes};
 
 use crate::linking::Linked;
 use crate::page::Page;

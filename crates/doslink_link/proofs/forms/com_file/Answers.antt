@@ -1,6 +1,6 @@
 use Rattle.std.proofs.Common.{Some, Ok, ap, refl, subst}
 use Rattle.flat_file.specs.Forms.{com_bytes, com_fault}
-use Rattle.doslink_link.specs.Forms.{Makes}
+use Rattle.doslink_link.specs.inside.Making.{Makes}
 use Rattle.doslink_link.proofs.Forming.{IsUnmade, made_err, made_ok}
 use Rattle.doslink_link.proofs.forms.com_file.Goals as goal
 

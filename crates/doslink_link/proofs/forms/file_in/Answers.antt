@@ -1,7 +1,8 @@
 use Rattle.std.proofs.Common.{Some, subst, sym}
 use Rattle.flat_file.specs.Forms.{com_bytes, com_fault}
 use Rattle.flat_file.specs.Laws.{ComLoadsAsWritten}
-use Rattle.doslink_link.specs.Forms.{Forms, IsFormed, Makes}
+use Rattle.doslink_link.specs.Forms.{Forms, IsFormed}
+use Rattle.doslink_link.specs.inside.Making.{Makes}
 use Rattle.doslink_link.proofs.Forming.{as_driver, as_exe, as_raw, formed_com}
 use Rattle.doslink_link.proofs.forms.file_in.Goals as goal
 
