@@ -860,7 +860,7 @@ class JobMaker:
         language = TLINK if "/La" in line or "/x" in line else self.random.choice([LINK, TLINK])
         for path in ("0.obj", "sub/a.obj", "my file.obj"):
             self.files[path] = module_of_publics([b"x"])
-        self.files["com.obj"], self.folders = module_of_form(0, 3, 0x100, False, False, 0), []
+        self.files["com.obj"], self.folders = module_of_form(0, 3, 0x100, ()), []
         speller = LineSpeller(self.random, language, self.files)
         name = self.random.choice(["0.obj", "0", '"0.obj"', "0.OBJ"])
         line = line.replace("OBJECT", name)
