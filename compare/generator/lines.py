@@ -168,6 +168,8 @@ class LineSpeller:
             at = self.random.choice([0, len(text), *(
                 place for place, each in enumerate(text) if each in " ,+\n" and text.count('"', 0, place) % 2 == 0)])
             touches = at and text[at - 1] not in ' ,+\n"' and self.happens(0.5) and not text[:at].endswith(";")
+            # what begins with `./` holds no option
+            touches = touches and not text[:at].replace(",", " ").replace("+", " ").split()[-1].startswith("./")
             if touches and option[0] == "/" and "L" not in option and "j" not in option:
                 text = text[:at] + option + text[at:]
             else:
