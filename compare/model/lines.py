@@ -20,7 +20,7 @@ END_OF_TEXT = "\x1A"
 BLANKS, MARKS = " \t\f\r", "+,;\n"
 NO_FILE = "nul"
 # what can't be written
-DEVICES = re.compile("con|prn|aux|(?:lpt|com)[1-4]")
+DEVICES = re.compile("con|prn|aux|(?:lpt|com)[1-9]")
 
 
 class LineFault(Exception):
