@@ -113,6 +113,8 @@ WATCOM = {"watcom/lib286/dos/clibs.lib": CLIB, "watcom/lib286/math87s.lib": libr
 PUT_ASM = b"global put\nsegment code class=CODE\nput: ret\n"
 PRINT_ASM = b"global print\nextern put\nsegment code class=CODE\nprint: call put\nret\n"
 MAIN_ASM = b"extern print\nsegment code class=CODE\n..start: call print\n"
+COM_ASM = b"segment code class=CODE\nresb 100h\n..start: ret\n"
+BOOT_ASM = b"segment code class=CODE\n..start: jmp $\ntimes 510-($-$$) db 0\ndw 0xAA55\n"
 SOURCES = {"PRINT.ASM": PRINT_ASM, "PUT.ASM": PUT_ASM, "MAIN.ASM": MAIN_ASM}
 
 # names that are missing: one that is like another, and many of them
@@ -206,8 +208,14 @@ SHOWN = {
         'make LINK="doslink --as link" TLINK="doslink --as tlink"': Untried("there is no makefile"),
         "doslink --as link /NOD 'MAIN+PRINT,MAIN,MAIN,CLIB;'": Run({
             "MAIN.OBJ": START_UP, "PRINT.OBJ": HELLO, "CLIB.LIB": CLIB}),
-        "doslink [-o OUT] [-m MAP] [-L FOLDER].. [-l LIB].. [--ignore-case] [--order ORDER] [--stack N]": Untried(
+        "doslink [-o OUT] [-m MAP] [--map-form NAME] [-L FOLDER].. [-l LIB].. [--ignore-case] [--order ORDER]": Untried(
             "tools/lists holds it against help"),
+        "nasm -f obj HELLO.ASM -o HELLO.OBJ && doslink --form com HELLO.OBJ": Run(
+            {"HELLO.ASM": COM_ASM, "BOOT.ASM": BOOT_ASM}, ("nasm",)),
+        "tlink /c /x c0s main util, prog.exe, prog.map, emu maths cs": Untried(
+            "the names link and tlink aren't there: crates/doslink_tests tries lines by them"),
+        'doslink: line 1, column 6: "/z": unknown option': Lines((
+            Said("doslink --as link 'MAIN /z;'", 2, {"MAIN.OBJ": EMPTY}),)),
         "modules": Printed("doslink -o X.EXE -m X.MAP HELLO.OBJ && cat X.MAP", {
             "HELLO.OBJ": "examples/hello/HELLO.OBJ"}),
         "HELLO.OBJ": Printed("doslink -v HELLO.OBJ CLIB.LIB", {"HELLO.OBJ": HELLO, "CLIB.LIB": CLIB}),
@@ -215,8 +223,8 @@ SHOWN = {
             Said("doslink HELLO.OBJ -l CLIB", 0, {"HELLO.OBJ": FOR_MICROSOFT, "CLIB.LIB": CLIB}),)),
         "doslink: warning: 32-bit segments of HELLO.OBJ are linked as 16-bit ones": Lines((
             Said("doslink HELLO.OBJ", 0, {"HELLO.OBJ": WIDE_SEGMENT}),)),
-        "doslink: HELLO.LNK: line 3: no .COM program is written, only .EXE: format dos com": Lines((
-            Said("wlink @HELLO.LNK", 2, {"A.OBJ": EMPTY, "HELLO.LNK": b"file A.OBJ\nname A.EXE\nformat dos com\n"}),
+        "doslink: HELLO.LNK: line 3: no other program is written than one for DOS: format windows": Lines((
+            Said("wlink @HELLO.LNK", 2, {"A.OBJ": EMPTY, "HELLO.LNK": b"file A.OBJ\nname A.EXE\nformat windows\n"}),
             Said("wlink @HELLO.LNK", 0, {
                 "A.OBJ": EMPTY, "HELLO.LNK": b"file A.OBJ\nname A.EXE\nformat dos\nsort global\n"}))),
         "option quiet": Written("HELLO.LNK", "wlink @HELLO.LNK", {
@@ -233,7 +241,8 @@ SHOWN = {
             Said("doslink MAIN.OBJ OLDNAMES.LIB", 1, {"MAIN.OBJ": WANTS_READ, "OLDNAMES.LIB": OLD_NAMES}),
             Said("doslink MAIN.OBJ", 1, {"MAIN.OBJ": CLEARED}),
             Said("doslink --stack 4096 MAIN.OBJ", 1, {"MAIN.OBJ": stack_of(8192)}),
-            Said("doslink CLIB.LIB", 1, {"CLIB.LIB": CLIB}))),
+            Said("doslink CLIB.LIB", 1, {"CLIB.LIB": CLIB}),
+            Said("doslink --form com HELLO.OBJ", 1, {"HELLO.OBJ": "examples/hello/HELLO.OBJ"}))),
         'doslink: MAIN.OBJ: "_prinft" is missing: record 145 (00000091), wanted by "main.c"': Lines((
             Said("doslink MAIN.OBJ CLIB.LIB", 1, {"MAIN.OBJ": MISSES_TWO, "CLIB.LIB": STRLEN}),)),
         "doslink: and 1,980 more": Lines((Said("doslink MAIN.OBJ", 1, {"MAIN.OBJ": MANY}),)),
@@ -248,7 +257,7 @@ SHOWN = {
             Said("doslink MAIN.OBJ", 0, {"MAIN.OBJ": SPACE}),
             Said("wlink @LINES", 0, {
                 "MAIN.OBJ": stack_of(8192), "LINES": b"file MAIN.OBJ\nname MAIN.EXE\noption stack=4096\n"}),
-            Said("doslink MAIN.OBJ", 0, {"MAIN.OBJ": FAR_X}))),
+            Said("doslink A.OBJ", 0, {"A.OBJ": FAR_X}))),
     },
     "docs/LIBRARIES.md": {
         "doslink -o HELLO.EXE HELLO.OBJ -l CLIB.LIB": Run({"HELLO.OBJ": HELLO, "CLIB.LIB": CLIB}),
