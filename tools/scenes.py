@@ -174,6 +174,7 @@ SHOWN = {
         "doslink -o A.EXE -L watcom/lib286/dos -L watcom/lib286 A.OBJ": Run({"A.OBJ": FOR_WATCOM, **WATCOM}),
         "fpc -Tmsdos -Pi8086 -Wmlarge -Xe -FDPREFIX/share/omf/bin A.PAS": FREE_PASCAL,
         "OBJECTS = MAIN.OBJ PRINT.OBJ PUT.OBJ": Written("Makefile", "make", SOURCES, ("make", "nasm")),
+        'make LINK="doslink --as link" TLINK="doslink --as tlink"': Untried("there is no makefile"),
         'doslink: MAIN.OBJ: "_prinft" is missing: record 145 (00000091), wanted by "main.c"': Lines((
             Said("doslink MAIN.OBJ", 1, {"MAIN.OBJ": MISSES}),
             Said("doslink PRINT.OBJ", 1, {"PRINT.OBJ": WITH_COMDAT}))),
