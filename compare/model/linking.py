@@ -524,6 +524,8 @@ class Linking:
         """Fault 40 is a file that can't be made."""
         try:
             Output(path, self.can_be_made(path)).write(self.answer, content)
+            # a raw image from behind the program's end has no byte, and is a file all the same
+            self.answer.files.setdefault(path, b"")
         except Fault as fault:
             fault.owner = path
             raise
