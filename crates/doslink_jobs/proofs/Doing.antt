@@ -143,7 +143,7 @@ EndsBy-done A told looks Writes folders Run job tells status step =
     let never = λ (words : List Text). ⊥ in
     EndsWith-weaker (IsNamedWell job × AreApart looks (out_path job) (map_path job) × done job) (Run done AskForNone)
     (IsNamedWell job × refused job) (Run refused never) (IsWrongJob told looks job) (Unit {0}) tells status
-    (λ ends. step done AskForNone ends.1.1) (λ ends. step refused never ends.1) (λ wrong. tt)
+    (λ ends. step done AskForNone ends.2) (λ ends. step refused never ends.1) (λ wrong. tt)
 
 -- a run that does no job
 pub EndsBy-none : (A : Type 0) (told : Text → Option (List ℕ)) (Writes : (path bytes : List ℕ) → Type 0)

@@ -20,8 +20,8 @@ pub mod Overflowing
 pub mod Passing
 pub mod Placing
 pub mod Refused
+pub mod Spoken
 mod Splitting
 mod Warning
-pub mod Spoken
 pub mod Stacked
 pub mod Texts

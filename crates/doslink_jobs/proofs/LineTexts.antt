@@ -57,4 +57,4 @@ stands-next told ts i d old new part h all one pushed =
 pub spoken-next : (told : Text → Option (List ℕ)) (language : Language) (text before line : Text)
     → (rounds : ℕ) × IsSpoken told language rounds text before → StandsForAll told (tokens language before) line
     → (rounds : ℕ) × IsSpoken told language rounds text line
-spoken-next told language text before line (rounds, spoken) stands = (suc rounds, (before, (spoken, stands)))
+spoken-next told language text before line (rounds, spoken) stands = (suc rounds, (before, spoken, stands))

@@ -196,11 +196,7 @@ fn warning_text(kind: WarningKind) -> &'static str
 }
 
 /// Appends a response file, where a line is in one, and the line's number there.
-fn push_place(
-    lines: &mut Vec<u8>,
-    path: Option<&str>,
-    line: usize,
-) -> Result<(), AllocError>
+fn push_place(lines: &mut Vec<u8>, path: Option<&str>, line: usize) -> Result<(), AllocError>
     ensures { OnOk result (lines.new.items
         ≡ lines.old.items ++ idle.place_text (option_map (λ path. path.now) path.entry, line)) }
 {
@@ -230,11 +226,7 @@ fn push_warning(
 }
 
 /// Appends the line of each of these warnings.
-fn push_told(
-    told: &[Warning],
-    spoken: &Spoken<'_>,
-    lines: &mut Vec<u8>,
-) -> Result<(), AllocError>
+fn push_told(told: &[Warning], spoken: &Spoken<'_>, lines: &mut Vec<u8>) -> Result<(), AllocError>
     ensures { OnOk result (lines.new.items ≡ lines.old.items
         ++ flat_map (idle.idle_line (texts spoken.now.words.now) spoken.now.counts.items) told.now) }
 {

@@ -495,15 +495,7 @@ fn add_asked<'f, W: World, A: Allocator + Copy>(
     };
     let mut absent = Vec::new(alloc);
     let mut told = Vec::new(alloc);
-    let added = add_defaults(
-        alloc,
-        world,
-        arena,
-        how,
-        gathered,
-        &mut absent,
-        &mut told,
-    );
+    let added = add_defaults(alloc, world, arena, how, gathered, &mut absent, &mut told);
     warn_of_absent(alloc, job, added.is_err(), &absent, lines)?;
     lines.extend_from_slice(&told)?;
     added

@@ -33,27 +33,27 @@ loop-library-preserved g c =
     let start = map library_said c.loop-library.absent.items in
     elim c.match-find_one.branch [
       | in-Ok+in_ok-keep_found-in-Ok w ↦ record {
-          files = λ left_out modules asked.
-              let by = subst (λ l. IsAskedBy left_out modules l.name.now) (sym c.library-item.is)
-              (All-get_or (λ l. IsAskedBy left_out modules l.name.now) all i x c.loop-library-test.true asked) in
-              subst (λ r. All (IsDefault told folders left_out modules) (contents r.items)) (sym w.round-is)
-              (w.in_ok-keep_found-in-Ok.ensures.files told folders x.name.now left_out modules w.in-Ok.ensures by
-              (before.files left_out modules asked));
-          absent = looked-more told folders all i x (outcome_of w.in-Ok.found) _ _ _ start _ c.loop-library-test.true
-              c.library-item.is before.absent (found-outcome told folders x.name.now w.in-Ok.found w.in-Ok.ensures)
-              (ap (λ r. contents r.items) w.round-is ∙ w.in_ok-keep_found-in-Ok.ensures.added)
-              (ap (λ a. map library_said a.items) w.absent-is ∙ sym (append-nil start)
-              ∙ ap (λ l. start ++ l) (sym (none-absent (library_said x) w.in-Ok.found)));
-          kept = ap (λ l. l.items) w.lines-is ∙ before.kept;
-        }
+        files = λ left_out modules asked.
+            let by = subst (λ l. IsAskedBy left_out modules l.name.now) (sym c.library-item.is)
+            (All-get_or (λ l. IsAskedBy left_out modules l.name.now) all i x c.loop-library-test.true asked) in
+            subst (λ r. All (IsDefault told folders left_out modules) (contents r.items)) (sym w.round-is)
+            (w.in_ok-keep_found-in-Ok.ensures.files told folders x.name.now left_out modules w.in-Ok.ensures by
+            (before.files left_out modules asked));
+        absent = looked-more told folders all i x (outcome_of w.in-Ok.found) _ _ _ start _ c.loop-library-test.true
+            c.library-item.is before.absent (found-outcome told folders x.name.now w.in-Ok.found w.in-Ok.ensures)
+            (ap (λ r. contents r.items) w.round-is ∙ w.in_ok-keep_found-in-Ok.ensures.added)
+            (ap (λ a. map library_said a.items) w.absent-is ∙ sym (append-nil start)
+            ∙ ap (λ l. start ++ l) (sym (none-absent (library_said x) w.in-Ok.found)));
+        kept = ap (λ l. l.items) w.lines-is ∙ before.kept;
+      }
       | in-Err+in_ok-pass_absent-in-Err w ↦ record {
-          files = λ left_out modules asked.
-              subst (λ r. All (IsDefault told folders left_out modules) (contents r.items)) (sym w.round-is)
-              (before.files left_out modules asked);
-          absent = looked-more told folders all i x Absent (contents c.loop-library.round.items) _ _ start _
-              c.loop-library-test.true c.library-item.is before.absent tt
-              (ap (λ r. contents r.items) w.round-is ∙ sym (append-nil (contents c.loop-library.round.items)))
-              (ap (λ a. map library_said a.items) w.absent-is ∙ w.in_ok-pass_absent-in-Err.ensures.added);
-          kept = ap (λ l. l.items) w.lines-is ∙ w.in_ok-pass_absent-in-Err.ensures.kept ∙ before.kept;
-        }
+        files = λ left_out modules asked.
+            subst (λ r. All (IsDefault told folders left_out modules) (contents r.items)) (sym w.round-is)
+            (before.files left_out modules asked);
+        absent = looked-more told folders all i x Absent (contents c.loop-library.round.items) _ _ start _
+            c.loop-library-test.true c.library-item.is before.absent tt
+            (ap (λ r. contents r.items) w.round-is ∙ sym (append-nil (contents c.loop-library.round.items)))
+            (ap (λ a. map library_said a.items) w.absent-is ∙ w.in_ok-pass_absent-in-Err.ensures.added);
+        kept = ap (λ l. l.items) w.lines-is ∙ w.in_ok-pass_absent-in-Err.ensures.kept ∙ before.kept;
+      }
     ]

@@ -12,7 +12,7 @@ returns-in-Some g c =
     let told = g.W.World.bytes c.args.world in
     let Writes = StandsAt (g.W.World.blank c.args.world) (g.W.World.Puts c.args.world) in
     let asks =
-    sym (ap asks_text (sym c.line_asked.ensures)) ∙ sym c.line_text_asked.ensures ∙ ap is_some c.in-Some.is in
+    sym (ap asks_text c.line_asked.ensures) ∙ sym c.line_text_asked.ensures ∙ ap is_some c.in-Some.is in
     EndsBy-none Global told Writes (texts c.args.folders.now)
     (λ does helps. RunsLinker told does helps c.args.linker (texts c.args.words.now)) (Unit {0}) ⊥ _ c.print_help.result
     (λ done. inl (asks, inr asks)) c.print_help.ensures

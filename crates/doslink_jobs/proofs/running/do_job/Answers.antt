@@ -11,12 +11,12 @@ returns-in_err-check_job g c =
 pub returns-in_err-gathered : goal.returns-in_err-gathered
 returns-in_err-gathered g c =
     halted-exit _ _ c.from_residual-in_err-gathered.result _ c.from_residual-in_err-gathered.ensures.1
-    (λ faulty. (c.in_ok-check_job.ensures, faulty.0, faulty.1, inl faulty.2)) c.in_err-gathered.ensures
+    (λ faulty. (c.in_ok-check_job.ensures, (faulty.0, faulty.1, inl faulty.2))) c.in_err-gathered.ensures.files
 
 pub returns : goal.returns
 returns g c =
     let (rounds, are, searched) = c.in_ok-gathered.ensures.files in
     halts-weaker c.link_gathered.result
-    (λ done (apart, linked). (c.in_ok-check_job.ensures, apart, rounds, are, linked))
-    (λ refused. (c.in_ok-check_job.ensures, rounds, are, inr refused))
+    (λ done (apart, linked). (c.in_ok-check_job.ensures, apart, (rounds, are, linked)))
+    (λ refused. (c.in_ok-check_job.ensures, (rounds, are, inr refused)))
     (λ over. inr (inr (has_file c.in_ok-gathered.gathered.read, over))) (c.link_gathered.ensures rounds searched)

@@ -35,9 +35,11 @@ returns-in_ok-slices-in-Modules-clause-told g c =
 
 pub returns-in-Fault-clause-told : goal.returns-in-Fault-clause-told
 returns-in-Fault-clause-told g c =
-    let inputs = input_list c.args.all.now.inputs in
-    ([], inl (stops-unread inputs _ _ (these-read inputs _ _ c.in-Fault.is c.requires), refl),
-    sym (append-nil c.args.lines.now.items))
+    let inputs = input_list c.args.all.now.inputs in (
+      [],
+      inl (stops-unread inputs _ _ (these-read inputs _ _ c.in-Fault.is c.requires), refl),
+      sym (append-nil c.args.lines.now.items),
+    )
 
 pub returns-in-Fault-clause-change : goal.returns-in-Fault-clause-change
 returns-in-Fault-clause-change g c =

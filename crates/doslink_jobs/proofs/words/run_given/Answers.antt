@@ -13,7 +13,7 @@ returns-in-Ok g c =
     let text = string_bytes c.in-Ok.spoken.text in
     EndsBy-weaker Global told Writes (texts c.args.folders.now) (λ does helps. RunsText told does helps text)
     (λ does helps. RunsGiven told does helps (texts c.args.words.now)) _ c.run_spoken.result
-    (λ does helps runs. (text, c.in-Ok.ensures, runs)) c.run_spoken.ensures
+    (λ does helps runs. (text, c.in-Ok.ensures.text, runs)) c.run_spoken.ensures
 
 pub returns : goal.returns
 returns g c =
@@ -21,4 +21,4 @@ returns g c =
     let Writes = StandsAt (g.W.World.blank c.args.world) (g.W.World.Puts c.args.world) in
     EndsBy-stopped Global told Writes (texts c.args.folders.now)
     (λ does helps. RunsGiven told does helps (texts c.args.words.now)) _ c.in-Err.why
-    c.finish.result _ c.finish.ensures.status c.in-Err.ensures c.finish.ensures.told
+    c.finish.result _ c.finish.ensures.status c.in-Err.ensures.text c.finish.ensures.told
