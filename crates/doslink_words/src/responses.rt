@@ -20,7 +20,9 @@ Each line of FILE, and each word, is one directive:\n\
   library A[,B..]        libraries to search (lib)\n\
   libpath A[,B..]        folders to look for libraries in\n\
   name FILE              the program to write\n\
-  format dos [exe]       nothing: no other program is written\n\
+  format dos [exe|com]   the form of the program's file; format dos says none\n\
+  system dos|com         the same\n\
+  output raw [offset=N]  a raw image, which begins at address N\n\
   order clname CLASS [segment SEGMENT..] ..\n\
                          the classes that stand first, and segments first in them\n\
   option X[=N][,..]      (op) quiet, map[=FILE], stack=N, dosseg, caseexact,\n\

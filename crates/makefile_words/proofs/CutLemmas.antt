@@ -6,20 +6,20 @@ use Rattle.std.specs.Path.{rsplit_once}
 use Rattle.std.proofs.Math.Seq.{get_or-append_seam}
 use Rattle.std.proofs.lemmas.List.{append-nil}
 use Rattle.clap.specs.Words.{Text}
-use Rattle.makefile_words.specs.Cut.{front, head, head_below, is_option}
+use Rattle.makefile_words.specs.Cut.{front, head, head_below, may_touch}
 use Rattle.makefile_words.specs.declared.tokens.Language.{Language}
 
 -- what stands before a word's last slash, where an option follows it
 abbrev of_split : Language → Option (Text × Text) → Option Text
-of_split language = option_and_then (λ p. cond (is_option language p.1) (Some p.0) None)
+of_split language = option_and_then (λ p. cond (may_touch language p.1) (Some p.0) None)
 
 pub front_yes : (language : Language) (word f last : Text) → rsplit_once 47 word ≡ Some (f, last)
-    → is_option language last ≡ true → Some f ≡ front language word
+    → may_touch language last ≡ true → Some f ≡ front language word
 front_yes language word f last split is =
     sym (ap (of_split language) split ∙ ap (λ (b : Bool). cond b (Some f) None) is)
 
 pub front_no : (language : Language) (word f last : Text) → rsplit_once 47 word ≡ Some (f, last)
-    → is_option language last ≡ false → None ≡ front language word
+    → may_touch language last ≡ false → None ≡ front language word
 front_no language word f last split is =
     sym (ap (of_split language) split ∙ ap (λ (b : Bool). cond b (Some f) None) is)
 

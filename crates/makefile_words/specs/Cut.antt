@@ -1,7 +1,7 @@
 -- Which part of a word is a name, and which is options. `/` begins an option anywhere, `-` only at a word's start; since
 -- `/` parts folders on Unix too, a word is options only where they are whole.
-use Rattle.std.specs.Prelude.{ℕ, zero, suc, ◌+◌, ◌==◌, ◌&&◌, ◌||◌, Bool, true, false, nat_le, nat_lt, List, [], ◌∷◌}
-use Rattle.std.specs.Prelude.{length, drop, Option, Some, None, Result, Ok, Err, if◌then◌else◌, is_some, slice_index}
+use Rattle.std.specs.Prelude.{ℕ, zero, suc, ◌+◌, ◌==◌, ◌&&◌, ◌||◌, not, Bool, true, false, nat_le, nat_lt, List}
+use Rattle.std.specs.Prelude.{[], ◌∷◌, length, drop, Option, Some, None, Result, Ok, Err, if◌then◌else◌, is_some, slice_index}
 use Rattle.std.specs.Option.{option_and_then, option_map_or, option_or}
 use Rattle.std.specs.List.{position_or_len, slice_split}
 use Rattle.std.specs.Path.{rsplit_once}
@@ -13,7 +13,7 @@ use Rattle.makefile_words.specs.declared.settings.Setting.{Setting}
 use Rattle.makefile_words.specs.declared.tokens.Language.{Language}
 use Rattle.makefile_words.specs.declared.tokens.Language.TheVariants.{Tlink, Link}
 use Rattle.makefile_words.specs.Link.{link_option}
-use Rattle.makefile_words.specs.Tlink.{tlink_option}
+use Rattle.makefile_words.specs.Tlink.{closed_option, tlink_option}
 
 -- what an option asks for, none where there is no such option
 abbrev pub option_named : Language → Text → Option Setting
@@ -23,6 +23,12 @@ option_named Link option = link_option option
 -- whether there is such an option
 abbrev pub is_option : Language → Text → Bool
 is_option language option = is_some (option_named language option)
+
+-- whether an option may stand behind a name in one word. One of TLINK with any text behind its letter may not: a path
+-- of Unix may end so, as `lib/LIBC.LIB` and `obj/job.obj`
+abbrev pub may_touch : Language → Text → Bool
+may_touch Tlink option = is_some (closed_option option)
+may_touch Link option = is_option Link option
 
 -- the options of TLINK whose value is folders, which `;` parts: `L` (libraries) and `j` (objects)
 abbrev pub takes_folders : Language → Text → Bool
@@ -42,15 +48,17 @@ has_folders language word =
     (option_or (strip_byte 47 word) (strip_byte 45 word))
     false
 
--- the options between which `/` stands: one alone where it takes folders, whose paths have `/` themselves
-abbrev pub options_in : Language → Text → List Text
-options_in language text =
-    if takes_folders language text then text ∷ [] else slice_split (λ byte. byte == 47) text
-
 -- whether these are all options
 abbrev pub are_options : Language → List Text → Bool
 are_options language [] = true
 are_options language (option ∷ more) = is_option language option && are_options language more
+
+-- the options between which `/` stands, as `Lc:\a` and `c` in `Lc:\a/c`; where these aren't all whole options, as in
+-- `L/tc/lib`, an option with folders is one as a whole
+abbrev pub options_in : Language → Text → List Text
+options_in language text =
+    if takes_folders language text && not (are_options language (slice_split (λ byte. byte == 47) text)) then text ∷ []
+    else slice_split (λ byte. byte == 47) text
 
 -- whether a text is options, with `/` between them
 abbrev pub is_all_options : Language → Text → Bool
@@ -64,7 +72,7 @@ pub record SaidCut : Type 0 where
 -- what stands before a word's last `/`, where a whole option follows that
 abbrev pub front : Language → Text → Option Text
 front language word =
-    option_and_then (λ p. if is_option language p.1 then Some p.0 else None) (rsplit_once 47 word)
+    option_and_then (λ p. if may_touch language p.1 then Some p.0 else None) (rsplit_once 47 word)
 
 -- what stands in front of the whole options at a word's end
 abbrev pub head_below : (bound : ℕ) → Language → Text → Text
@@ -90,14 +98,23 @@ is_dotted word =
     (nat_le 2 (length word) && slice_index word 0 == 46 && slice_index word 1 == 47)
     || (nat_le 3 (length word) && slice_index word 0 == 46 && slice_index word 1 == 46 && slice_index word 2 == 47)
 
+-- whether a text has a byte
+abbrev pub has : ℕ → Text → Bool
+has mark text = nat_lt (position_or_len (λ byte. byte == mark) text) (length text)
+
 -- whether a text has a `/`
 abbrev pub has_slash : Text → Bool
-has_slash text = nat_lt (position_or_len (λ byte. byte == 47) text) (length text)
+has_slash text = has 47 text
 
--- whether a text is an option with folders, and options with `/` between them as well, as `La/c`
+-- whether a text has `\` or `:`, as a path of DOS
+abbrev pub is_of_dos : Text → Bool
+is_of_dos text = has 92 text || has 58 text
+
+-- whether a text is an option with folders of Unix, and options with `/` between them as well, as `La/c`
 abbrev pub is_both : Language → Text → Bool
 is_both language text =
-    takes_folders language text && (has_slash text && are_options language (slice_split (λ byte. byte == 47) text))
+    takes_folders language text && (has_slash text && not (is_of_dos text))
+    && are_options language (slice_split (λ byte. byte == 47) text)
 
 -- a word that begins as an option, with what stands behind that: options, a path where it may be one, or a fault
 abbrev pub begun : Language → (word options : Text) → (is_path : Bool) → Result SaidCut FaultKind

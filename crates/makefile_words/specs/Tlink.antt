@@ -68,18 +68,21 @@ abbrev pub has_number : (letter : ℕ) → Text → Bool
 has_number letter option =
     nat_le 2 (length option) && slice_index option 0 == letter && slice_index option 1 == 61
 
--- options that go by their beginning: `LFOLDERS`, `jFOLDERS` (of objects), `A=N` and `P=N`, `O..`, `y..`; `T..` for
--- programs that aren't of DOS and `R..` for their resources are refused
+-- `A=N` and `P=N`
+abbrev pub numbered : Text → Option Setting
+numbered option = if has_number 65 option || has_number 80 option then Some setting.Silent else None
+
+-- options behind whose letter any text may stand: `LFOLDERS`, `jFOLDERS` (of objects), `O..`, `y..`; `T..` for programs
+-- that aren't of DOS and `R..` for their resources are refused
 abbrev pub begun : Text → Option Setting
 begun option =
     if has_value 76 option then Some setting.Folders
     else (if has_value 106 option then Some (setting.Warned idle.ObjectFolders)
-    else (if has_number 65 option || has_number 80 option then Some setting.Silent
     else (if begins 79 option then Some (setting.Warned idle.Packing)
     else (if begins 121 option then Some (setting.Warned idle.Nothing)
     else (if begins 84 option then Some (setting.Refused fault.NotDos)
     else (if begins 82 option then Some (setting.Refused fault.Refused)
-    else None))))))
+    else None)))))
 
 -- whether a `-` stands at its end
 abbrev pub is_off : Text → Bool
@@ -88,7 +91,12 @@ is_off option = nat_le 1 (length option) && slice_index option (length option - 
 abbrev pub switched_off : Text → Option Setting
 switched_off option = if is_off option then named (take (length option - 1) option) (flags false) else None
 
+-- what an option asks for behind whose name no text may stand but a number
+unfoldable pub closed_option : Text → Option Setting
+closed_option option =
+    option_or (option_or (option_or (named option (flags true)) (switched_off option)) (named option words))
+    (numbered option)
+
 -- what an option asks for, none where there is no such option
 unfoldable pub tlink_option : Text → Option Setting
-tlink_option option =
-    option_or (option_or (option_or (named option (flags true)) (switched_off option)) (named option words)) (begun option)
+tlink_option option = option_or (closed_option option) (begun option)

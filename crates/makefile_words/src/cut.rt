@@ -11,7 +11,7 @@ ghost use Rattle.doslink_words.specs.Tokens.{texts};
 use crate::faults::{FaultKind, WordFault};
 use crate::link::link_option;
 use crate::settings::Setting;
-use crate::tlink::tlink_option;
+use crate::tlink::{closed_option, tlink_option};
 use crate::tokens::Language;
 use std::alloc::{AllocError, Global};
 
@@ -39,6 +39,16 @@ fn is_option(language: Language, option: &str) -> bool
     ensures { result ≡ spec.is_option language option.now }
 {
     option_named(language, option).is_some()
+}
+
+// Whether an option may stand behind a name in one word.
+fn may_touch(language: Language, option: &str) -> bool
+    ensures { result ≡ spec.may_touch language option.now }
+{
+    match language {
+        Language::Tlink => closed_option(option.as_bytes()).is_some(),
+        Language::Link => is_option(language, option),
+    }
 }
 
 // What `/` parts.
@@ -88,7 +98,7 @@ pub(crate) fn has_folders(alloc: Global, language: Language, word: &str) -> Resu
     }
 }
 
-/// The options between which `/` stands: one alone where it takes folders.
+/// The options between which `/` stands; one with folders as a whole where these aren't all options.
 pub(crate) fn options_in<'a>(
     alloc: Global,
     language: Language,
@@ -96,10 +106,11 @@ pub(crate) fn options_in<'a>(
 ) -> Result<Vec<&'a str>, AllocError>
     ensures { IfOk result (λ list. texts list.items ≡ spec.options_in language options.now) }
 {
-    if takes_folders(language, options.as_bytes()) {
+    let pieces = pieces_of(alloc, options)?;
+    if takes_folders(language, options.as_bytes()) && !are_options(language, pieces.as_slice()) {
         return Vec::from_slice(alloc, &[options]);
     }
-    pieces_of(alloc, options)
+    Ok(pieces)
 }
 
 // Whether these all are options.
@@ -132,7 +143,7 @@ fn front<'a>(language: Language, word: &'a str) -> Option<&'a str>
 {
     match word.rsplit_once('/') {
         Some((front, last)) => {
-            if is_option(language, last) {
+            if may_touch(language, last) {
                 Some(front)
             } else {
                 None
@@ -189,11 +200,38 @@ fn has_slash(text: &str) -> bool
     }
 }
 
-// Whether a text is an option with folders, and options with `/` between them as well.
+// Whether a text has `\`.
+fn has_backslash(text: &str) -> bool
+    ensures { result ≡ spec.has 92 text.now }
+{
+    match text.split_once('\\') {
+        Some(_) => true,
+        None => false,
+    }
+}
+
+// Whether a text has `:`.
+fn has_colon(text: &str) -> bool
+    ensures { result ≡ spec.has 58 text.now }
+{
+    match text.split_once(':') {
+        Some(_) => true,
+        None => false,
+    }
+}
+
+// Whether a text has `\` or `:`, as a path of DOS.
+fn is_of_dos(text: &str) -> bool
+    ensures { result ≡ spec.is_of_dos text.now }
+{
+    has_backslash(text) || has_colon(text)
+}
+
+// Whether a text is an option with folders of Unix, and options with `/` between them as well.
 fn is_both(alloc: Global, language: Language, text: &str) -> Result<bool, AllocError>
     ensures { IfOk result (λ both. both ≡ spec.is_both language text.now) }
 {
-    if !takes_folders(language, text.as_bytes()) || !has_slash(text) {
+    if !takes_folders(language, text.as_bytes()) || !has_slash(text) || is_of_dos(text) {
         return Ok(false);
     }
     let pieces = pieces_of(alloc, text)?;

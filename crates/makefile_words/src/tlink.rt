@@ -38,14 +38,23 @@ fn word_named(word: &[u8]) -> Option<Setting>
     }
 }
 
-// What an option asks for that goes by its beginning.
+// What an option with a number asks for.
+fn numbered(option: &[u8]) -> Option<Setting>
+    ensures { result ≡ spec.numbered option.now }
+{
+    match option {
+        [b'A' | b'P', b'=', ..] => Some(Setting::Silent),
+        _ => None,
+    }
+}
+
+// What an option asks for behind whose letter any text may stand.
 fn begun(option: &[u8]) -> Option<Setting>
     ensures { result ≡ spec.begun option.now }
 {
     match option {
         [b'L', _, ..] => Some(Setting::Folders),
         [b'j', _, ..] => Some(Setting::Warned(Idle::ObjectFolders)),
-        [b'A' | b'P', b'=', ..] => Some(Setting::Silent),
         [b'O', ..] => Some(Setting::Warned(Idle::Packing)),
         [b'y', ..] => Some(Setting::Warned(Idle::Nothing)),
         [b'T', ..] => Some(Setting::Refused(FaultKind::NotDos)),
@@ -64,13 +73,21 @@ fn switched_off(option: &[u8]) -> Option<Setting>
     }
 }
 
+/// What an option asks for behind whose name no text may stand but a number, none where there is no such option.
+#[tactic(auto, unfolding(crate::specs::Tlink::closed_option))]
+pub(crate) fn closed_option(option: &[u8]) -> Option<Setting>
+    ensures { result ≡ spec.closed_option option.now }
+{
+    flag_named(option, true)
+        .or(switched_off(option))
+        .or(word_named(option))
+        .or(numbered(option))
+}
+
 /// What an option of TLINK asks for, none where there is no such option.
 #[tactic(auto, unfolding(crate::specs::Tlink::tlink_option))]
 pub(crate) fn tlink_option(option: &[u8]) -> Option<Setting>
     ensures { result ≡ spec.tlink_option option.now }
 {
-    flag_named(option, true)
-        .or(switched_off(option))
-        .or(word_named(option))
-        .or(begun(option))
+    closed_option(option).or(begun(option))
 }

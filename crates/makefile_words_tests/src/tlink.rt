@@ -163,6 +163,26 @@ folders: ["/usr/tc/lib", "more/"]
 =>
 folders: ["a/usr/c"], ignore_case: true
 ---
+/Lc:\tc\lib/c main
+=>
+folders: ["c:\\tc\\lib"], ignore_case: false
+---
+-L..\lib;b/c/x main
+=>
+inputs: [File("main")], out: None, map: None, map_form: Tlink, folders: ["..\\lib", "b"], ignore_case: false
+---
+obj/job.obj lib/LIBC.LIB src/yacc.obj,,,lib/TC.LIB
+=>
+inputs: [File("obj/job.obj"), File("lib/LIBC.LIB"), File("src/yacc.obj"), Library("lib/TC.LIB")]
+---
+src/Readme/Tdc/P=1/c
+=>
+inputs: [File("src/Readme")], out: None, map: Some(Beside), map_form: Tlink, folders: [], ignore_case: false
+---
+main/La/c
+=>
+inputs: [File("main/La")], out: None, map: Some(Beside), map_form: Tlink, folders: [], ignore_case: false
+---
 /c/La;b main
 =>
 inputs: [File("main")], out: None, map: Some(Beside), map_form: Tlink, folders: ["a", "b"], ignore_case: false
