@@ -1,6 +1,8 @@
 -- Default libraries that are looked up, one behind the other and in rounds.
-use Rattle.std.proofs.Common.{◌≡◌, ℕ, ◌+◌, ◌<◌, All, List, [], ◌∷◌, ◌++◌, length, map, take, get_or, refl, sym, subst, ap, ap₂, ◌∙◌}
-use Rattle.std.proofs.Common.{append-nil, append_assoc, arith, ◌&&◌, Bool, true, false, if◌then◌else◌, not, ◌==◌, true≢false, zero, suc, Err, Ok, OnOk, Result}
+use Rattle.std.proofs.Common.{◌≡◌, ℕ, ◌+◌, ◌<◌, All, List, [], ◌∷◌, ◌++◌, length, map, take, get_or, refl, sym, subst}
+use Rattle.std.proofs.Common.{ap, ap₂, ◌∙◌}
+use Rattle.std.proofs.Common.{append-nil, append_assoc, arith, ◌&&◌, Bool, true, false, if◌then◌else◌, not, ◌==◌}
+use Rattle.std.proofs.Common.{true≢false, zero, suc, Err, Ok, OnOk, Result}
 use Rattle.std.specs.Result.{is_err}
 use Rattle.std.proofs.lemmas.List.{map-append, take_more}
 use Rattle.std.proofs.lemmas.List.Elements.{All-map, All-nil, All-push}
@@ -23,7 +25,8 @@ use Rattle.doslink_jobs.specs.Jobs.{IsAskedBy, names_of, sought_of}
 use Rattle.doslink_jobs.specs.inside.Warnings.{told_lines}
 use Rattle.doslink_jobs.specs.inside.Gathering.{AreAsked, Holds}
 use Rattle.doslink_jobs.specs.inside.Absent.{AreAbsentBehind, AreAbsentTold, absent_warning, absent_warnings}
-use Rattle.doslink_jobs.specs.inside.Absent.{AreAllLookups, AreLookedUp, AreRoundLookups, IsOutcome, Library, Lookup, Outcome}
+use Rattle.doslink_jobs.specs.inside.Absent.{AreAllLookups, AreLookedUp, AreRoundLookups, IsOutcome, Library, Lookup}
+use Rattle.doslink_jobs.specs.inside.Absent.{Outcome}
 use Rattle.doslink_jobs.specs.inside.Absent.{absent_libraries, absent_one, all_absent, all_rounds, library_said}
 use Rattle.doslink_jobs.specs.inside.Absent.{new_bytes, new_files, outcome_of, with_round}
 
@@ -71,7 +74,8 @@ looked-more told folders all i x outcome files files₁ old new new₁ h same be
           ∙ ap (λ y. map library_said (take i all) ++ library_said y ∷ []) same
           ∙ sym (map-append library_said (take i all) (get_or all i x ∷ []))
           ∙ ap (map library_said) (sym (take_more all i x h));
-      are_found = All-push (λ (l : Lookup). IsOutcome told folders l.library.name l.outcome) lookups one before.are_found is;
+      are_found = All-push (λ (l : Lookup). IsOutcome told folders l.library.name l.outcome) lookups one
+          before.are_found is;
       files_are = found ∙ ap (λ l. l ++ new_bytes outcome) before.files_are
           ∙ sym (more-made (λ (l : Lookup). new_bytes l.outcome) lookups one);
       absent_are = absent ∙ ap (λ l. l ++ absent_one library outcome) before.absent_are
@@ -84,7 +88,8 @@ looked-more told folders all i x outcome files files₁ old new new₁ h same be
 module _ (told : Text → Option (List ℕ)) (folders left_out : List Text) (names : Names) where
   -- one round more
   pub lookups-more : (rounds : List (List (List ℕ))) (all : List (List Lookup)) (lookups : List Lookup)
-      → AreAllLookups told folders left_out names rounds all → AreRoundLookups told folders left_out names (all_rounds rounds all) lookups
+      → AreAllLookups told folders left_out names rounds all → AreRoundLookups told folders left_out names
+      (all_rounds rounds all) lookups
       → AreAllLookups told folders left_out names rounds (all ++ lookups ∷ [])
   lookups-more rounds [] lookups are more = (more, tt)
   lookups-more rounds (first ∷ all) lookups (one, rest) more =
@@ -125,7 +130,8 @@ with-some rounds [] h = absurd (omega (arith, h))
 with-some rounds (bytes ∷ files) h = refl
 
 -- one that has none
-pub with-none : (rounds : List (List (List ℕ))) (files : List (List ℕ)) → length files ≡ 0 → with_round rounds files ≡ rounds
+pub with-none : (rounds : List (List (List ℕ))) (files : List (List ℕ)) → length files ≡ 0 → with_round rounds files
+    ≡ rounds
 with-none rounds [] h = refl
 with-none rounds (bytes ∷ files) h = absurd (omega (arith, h))
 

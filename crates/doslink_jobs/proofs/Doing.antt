@@ -195,5 +195,6 @@ some-unmet names said (y ∷ ys) (x ∷ xs) says are is some none =
     let long : length (map said (y ∷ ys)) ≡ 0 = ap length (are ∙ none) in absurd (omega (arith, long))
 
 -- a name is missing by what names agree by
-pub missing-of : (names other : Names) (says : List Module) → names ≡ other → unmet names says ≢ [] → unmet other says ≢ []
+pub missing-of : (names other : Names) (says : List Module) → names ≡ other → unmet names says ≢ [] → unmet other
+    says ≢ []
 missing-of names other says same missing none = missing (ap (λ n. unmet n says) same ∙ none)

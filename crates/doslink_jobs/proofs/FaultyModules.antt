@@ -1,5 +1,6 @@
 -- Modules that can't be lowered or read, one behind the other.
-use Rattle.std.proofs.Common.{◌≡◌, ◌⊎◌, ◌<◌, ◌+◌, ◌∙◌, ℕ, All, Any, List, Ok, Err, IsErr, inl, inr, ap, get_or, length, map, take}
+use Rattle.std.proofs.Common.{◌≡◌, ◌⊎◌, ◌<◌, ◌+◌, ◌∙◌, ℕ, All, Any, List, Ok, Err, IsErr, inl, inr, ap, get_or}
+use Rattle.std.proofs.Common.{length, map, take}
 use Rattle.std.proofs.Common.{true≢false, sym, subst}
 use Rattle.std.proofs.lemmas.Option.{get_or_from_slice_get, slice_get-get_or}
 use Rattle.std.proofs.lemmas.Simd.{map-map}
@@ -76,7 +77,8 @@ any-one P f xs i d h here = any-seen P f xs i (get_or xs i d) h (at-place xs i d
 
 -- the bytes of members that symbol tables offer, as they are held
 pub offered-bytes : (held found : List member.Offering) (names asked : Names) (missing : List (List ℕ))
-    (files gathered : List (Bor (List ℕ))) → held ≡ found → map offering_said found ≡ all_offering names missing (bytes_of files)
+    (files gathered : List (Bor (List ℕ))) → held ≡ found → map offering_said found ≡ all_offering names missing
+    (bytes_of files)
     → names ≡ asked → files ≡ gathered
     → map (λ o. o.bytes.now) held ≡ map (λ o. o.bytes) (all_offering asked missing (bytes_of gathered))
 offered-bytes held found names asked missing files gathered same is agreed all =

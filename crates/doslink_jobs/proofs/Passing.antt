@@ -156,7 +156,8 @@ below f xs ys zs n m made count h =
     omega (arith, count, ap length made, length-map (zip xs ys) f, length-zip xs ys, h)
 
 -- what is made of the next of bytes and of a module
-pub made-next : {Y Z : Type 0} (f : List ℕ × Y → Z) (inputs : List (Bor (List ℕ))) (ys : List Y) (zs new : List Z) (n : ℕ)
+pub made-next : {Y Z : Type 0} (f : List ℕ × Y → Z) (inputs : List (Bor (List ℕ))) (ys : List Y) (zs new : List Z)
+    (n : ℕ)
     (d : Bor (List ℕ)) (one : Y) (made : Z) → zs ≡ map f (zip (bytes_of inputs) ys) → n ≡ length zs
     → length ys < length inputs → made ≡ f ((get_or inputs n d).now, one) → new ≡ zs ++ made ∷ []
     → new ≡ map f (zip (bytes_of inputs) (ys ++ one ∷ []))

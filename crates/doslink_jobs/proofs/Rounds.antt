@@ -1,6 +1,7 @@
 -- Rounds of default libraries that are searched behind others.
 use Rattle.std.proofs.Common.{◌≡◌, ◌≢◌, ℕ, List, [], ◌∷◌, ◌++◌, map, append_assoc, append-nil, refl, sym, subst}
-use Rattle.std.proofs.Common.{ap, ◌∙◌, IsErr, zero, suc, ◌<◌, length, get_or, drop, Bool, true, false, cond, filter, not}
+use Rattle.std.proofs.Common.{ap, ◌∙◌, IsErr, zero, suc, ◌<◌, length, get_or, drop, Bool, true, false, cond, filter}
+use Rattle.std.proofs.Common.{not}
 use Rattle.std.proofs.lemmas.List.{get_or-map, length-map}
 use Rattle.std.proofs.lemmas.List.Elements.{All-cons, All-head, All-nil, All-tail, All-weaker, Contains-append_right}
 use Rattle.std.specs.Borrow.{Bor}
@@ -18,7 +19,8 @@ use Rattle.doslink_jobs.specs.declared.gathering.DefaultLibrary.{DefaultLibrary}
 use Rattle.doslink_files.specs.Files.{AreSought}
 use Rattle.doslink_words.specs.declared.job.Job.{Job}
 use Rattle.doslink_words.specs.Tokens.{texts}
-use Rattle.doslink_jobs.specs.Jobs.{AreDefaults, AreFilesOf, AreRounds, IsAskedBy, IsNamedBy, is_left_out, names_of, sought_of}
+use Rattle.doslink_jobs.specs.Jobs.{AreDefaults, AreFilesOf, AreRounds, IsAskedBy, IsNamedBy, is_left_out, names_of}
+use Rattle.doslink_jobs.specs.Jobs.{sought_of}
 use Rattle.doslink_jobs.specs.Refusals.{HasFaultyLibrary}
 use Rattle.doslink_jobs.specs.inside.Gathering.{AreAsked, AreNamed}
 use Rattle.doslink_jobs.proofs.Lists.{map-map}
@@ -26,7 +28,8 @@ use Rattle.doslink_jobs.proofs.Lists.{map-map}
 module _ (told : Text → Option (List ℕ)) (folders left_out : List Text) (names : Names) where
   -- a round more
   pub AreRounds-more : (before rounds : List (List (List ℕ))) (files : List (List ℕ))
-      → AreRounds told folders left_out names before rounds → AreDefaults told folders left_out names (before ++ rounds) files
+      → AreRounds told folders left_out names before rounds → AreDefaults told folders left_out names
+      (before ++ rounds) files
       → AreRounds told folders left_out names before (rounds ++ files ∷ [])
   AreRounds-more before [] files are more =
       (subst (λ b. AreDefaults told folders left_out names b files) (append-nil before) more, tt)
@@ -85,7 +88,8 @@ asked-kept left_out modules (l ∷ libraries) named =
         → AreAsked left_out modules (cond (not out) (l ∷ filter (λ l. not (is_left_out left_out l.name.now)) libraries)
         (filter (λ l. not (is_left_out left_out l.name.now)) libraries))
     go true is more = more
-    go false is more = All-cons (λ l. IsAskedBy left_out modules l.name.now) l _ (All-head (λ l. IsNamedBy modules l.name.now) l libraries named, is) more
+    go false is more = All-cons (λ l. IsAskedBy left_out modules l.name.now) l _
+        (All-head (λ l. IsNamedBy modules l.name.now) l libraries named, is) more
 
 -- the modules of what was taken
 drop-map : {X Y : Type 0} (f : X → Y) (n : ℕ) (xs : List X) → map f (drop n xs) ≡ drop n (map f xs)
@@ -99,7 +103,8 @@ handed-drop n handed taken is =
     map-map handed_taken (λ t. t.held) handed ∙ ap (map (λ t. t.held)) is ∙ drop-map (λ t. t.held) n taken
 
 -- the same of all
-pub handed-all : {A : Type 0} (handed : List (Handed A)) → map handed_held handed ≡ map (λ t. t.held) (map handed_taken handed)
+pub handed-all : {A : Type 0} (handed : List (Handed A)) → map handed_held handed ≡ map (λ t. t.held)
+    (map handed_taken handed)
 handed-all handed = map-map handed_taken (λ t. t.held) handed
 
 -- the files of a job that asks for no default libraries
@@ -125,7 +130,8 @@ files-found told folders all job names given more folded same on sought are = re
   given = given;
   defaults = more;
   are_given = sought;
-  are_defaults = subst (λ n. AreRounds told (texts job.folders.items ++ folders) (texts job.left_out.items) n (given ∷ []) more) same
+  are_defaults = subst (λ n. AreRounds told (texts job.folders.items ++ folders) (texts job.left_out.items) n
+      (given ∷ []) more) same
       (subst (λ fs. AreRounds told fs (texts job.left_out.items) names (given ∷ []) more) folded are);
   none = λ off. absurd (on off);
   together = refl;

@@ -15,7 +15,8 @@ spoken-by language words asked =
 module _ (told : Text → Option (List ℕ)) (does : Job → Type 0) (helps : List Text → Type 0) (language : Language)
     (words : List Text) where
   -- where it doesn't, they are read as they stand
-  pub runs-plain : as_asked words ≡ None → Runs told does helps language words → RunsSpoken told does helps language words
+  pub runs-plain : as_asked words ≡ None → Runs told does helps language words → RunsSpoken told does helps language
+      words
   runs-plain none runs =
       subst (λ o. Runs told does helps (spoken-by language words o).0 (spoken-by language words o).1) (sym none) runs
 

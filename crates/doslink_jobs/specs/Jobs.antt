@@ -1,6 +1,7 @@
 -- What a job has done where it ends well, and how a run ends. `told` are the bytes of files by their paths, where the
 -- world tells them.
-use Rattle.std.specs.Prelude.{◌≡◌, ◌⊎◌, ◌-◌, ℕ, Bool, false, All, List, [], ◌∷◌, ◌++◌, codes, drop, length, map, take, Ok}
+use Rattle.std.specs.Prelude.{◌≡◌, ◌⊎◌, ◌-◌, ℕ, Bool, false, All, List, [], ◌∷◌, ◌++◌, codes, drop, length, map, take}
+use Rattle.std.specs.Prelude.{Ok}
 use Rattle.std.specs.Prelude.{if◌then◌else◌}
 use Rattle.std.specs.declared.option.Option.{Option}
 use Rattle.std.specs.declared.result.Result.{Result}
@@ -165,7 +166,8 @@ pub record AreFilesOf (told : Text → Option (List ℕ)) (folders : List Text) 
   pub given : List (List ℕ)
   pub defaults : List (List (List ℕ))
   pub are_given : AreSought told (texts job.folders.items) (map sought_of job.inputs.items) given
-  pub are_defaults : AreRounds told (texts job.folders.items ++ folders) (texts job.left_out.items) (names_of job.ignore_case)
+  pub are_defaults : AreRounds told (texts job.folders.items ++ folders) (texts job.left_out.items)
+      (names_of job.ignore_case)
       (given ∷ []) defaults
   pub none : job.default_libraries ≡ false → defaults ≡ []
   pub together : rounds ≡ given ∷ defaults

@@ -12,7 +12,8 @@ use Rattle.doslink_files.specs.Files.{IsTold}
 use Rattle.doslink_files.specs.Paths.{has_extension}
 use Rattle.doslink_words.specs.Said.{SaidMap, At, Beside, map_of}
 use Rattle.doslink_words.specs.declared.job.Job.{Job}
-use Rattle.makefile_words.specs.Tokens.{PlacedPiece, Piece, Word, Quoted, Unclosed, Blank, Plus, Comma, Semicolon, LineEnd}
+use Rattle.makefile_words.specs.Tokens.{PlacedPiece, Piece, Word, Quoted, Unclosed, Blank, Plus, Comma, Semicolon}
+use Rattle.makefile_words.specs.Tokens.{LineEnd}
 use Rattle.makefile_words.specs.Tokens.{text_of, tokens}
 use Rattle.makefile_words.specs.declared.settings.Settings.{Settings}
 use Rattle.makefile_words.specs.declared.tokens.Language.{Language}

@@ -9,7 +9,8 @@ use Rattle.omf_place.specs.declared.names.Names.{Names}
 use Rattle.doslink_link.specs.Reading.{HasModule}
 use Rattle.doslink_jobs.specs.Communals.{TellsBss}
 
--- A sound lowered module, one of these, with the variables that it declares so as local to it. Near ones stand in `_BSS`
+-- A sound lowered module, one of these, with the variables that it declares so as local to it. Near ones stand in
+-- `_BSS`
 -- where one of the lowered modules has that in DGROUP.
 abbrev pub StandIn : Names → (all : List (List ℕ)) → List Communal → (lowered linked : List ℕ) → Type 0
 StandIn names all declared lowered linked =

@@ -1,5 +1,7 @@
--- What modules mean that are linked: a weak or lazy external that nothing defines means its default, where that is local
--- to its module (TIS OMF 1.1, the comment classes WKEXT and LZEXT); and far data is one group, where it fits in a frame.
+-- What modules mean that are linked: a weak or lazy external that nothing defines means its default, where that is
+-- local
+-- to its module (TIS OMF 1.1, the comment classes WKEXT and LZEXT); and far data is one group, where it fits in a
+-- frame.
 use Rattle.std.specs.Prelude.{◌≡◌, ℕ, ◌==◌, ◌&&◌, ◌||◌, Bool, false, true, nat_le, nat_lt, is_some, find, length, min}
 use Rattle.std.specs.Prelude.{if◌then◌else◌, unwrap_or, codes, List, map, zip, None, Some}
 use Rattle.std.specs.declared.option.Option.{Option}

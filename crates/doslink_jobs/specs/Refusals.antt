@@ -130,7 +130,8 @@ HaveGreatSum names modules Meant =
     ⊎ (NarrowStart (map (λ m. m.bytes) modules) × HaveOverflow start_overflow names Meant)
 
 -- Nothing is linked for the modules that a link takes, which say so of names with these communal variables: one of them
--- can't be lowered, has no place for variables that are local to it, nothing can be joined to them, or a fix-up or start
+-- can't be lowered, has no place for variables that are local to it, nothing can be joined to them, or a fix-up or
+-- start
 -- of 32 bits that became one of 16 doesn't fit.
 abbrev pub HaveNoInputs : Job → (says : List search.Module) → (marks : Bool) → (modules : List Held) → List Variable
     → Type 0

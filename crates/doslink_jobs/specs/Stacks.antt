@@ -9,8 +9,10 @@ use Rattle.doslink_words.specs.declared.job.Stack.{Stack}
 use Rattle.doslink_jobs.specs.Orders.{Asking, IsOrderModule}
 use Rattle.doslink_link.specs.Reading.{AreRead, AreUnread}
 
--- What is linked of inputs behind the order module, where the stack of all these modules has this answer: the same, or a
--- module with what the stack lacks behind them, or they with a stack that is cut to the length, where that is asked for.
+-- What is linked of inputs behind the order module, where the stack of all these modules has this answer: the same, or
+-- a
+-- module with what the stack lacks behind them, or they with a stack that is cut to the length, where that is asked
+-- for.
 abbrev pub IsStacked : Stack → List Module → (order inputs stacked : List (List ℕ)) → Answer → Type 0
 IsStacked asked modules order inputs stacked Enough = stacked ≡ inputs
 IsStacked asked modules order inputs stacked (Added bytes) = stacked ≡ inputs ++ bytes ∷ []

@@ -68,7 +68,8 @@ AreApart looks out map = IfSome map (λ path. IfSome looks (λ look. is_one_plac
 
 -- ---- how a run ends
 
--- A run of a job ends with status 0 only where it was done, with its program and its map in two files, with 1 only where
+-- A run of a job ends with status 0 only where it was done, with its program and its map in two files, with 1 only
+-- where
 -- it was refused, and with both only where its names are well; with 2 only where its words or names are wrong.
 abbrev pub EndsJob : (A : Type 0) → (told : Text → Option (List ℕ)) → (looks : Option (Text → Option Looked))
     → (Writes : (path bytes : List ℕ) → Type 0) → (folders : List Text) → Job → (tells : List ℕ → Type 0)

@@ -1,5 +1,6 @@
 //! The files of a job: those that it names, and in rounds the default libraries that modules name.
-ghost use Rattle.std.specs.Prelude.{◌≡◌, ◌≢◌, ◌++◌, ◌∷◌, ℕ, All, List, [], IfErr, IfOk, filter, map, MatchResult, not, OnOk};
+ghost use Rattle.std.specs.Prelude.{◌≡◌, ◌≢◌, ◌++◌, ◌∷◌, ℕ, All, List, [], IfErr, IfOk, filter, map, MatchResult};
+ghost use Rattle.std.specs.Prelude.{not, OnOk};
 ghost use Rattle.std.specs.List.{flat_map};
 ghost use Rattle.std.specs.declared.option.Option as maybe;
 ghost use Rattle.std.specs.List.{Contains};
@@ -151,7 +152,8 @@ fn stop_at_library<A: Allocator + Copy>(
     }
 }
 
-/// Adds a round of files behind those that are there, and goes on with the search. The first library that is at fault is
+/// Adds a round of files behind those that are there, and goes on with the search. The first library that is at fault
+/// is
 /// told.
 fn add_round<'f, A: Allocator + Copy>(
     alloc: A,

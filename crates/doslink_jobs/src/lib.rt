@@ -36,5 +36,6 @@ mod words;
 pub use program::map_bytes;
 pub use running::run_job;
 pub use words::{
-    Besides, Language, language_of, library_folders, out_of_memory, run_words, wrong_words,
+    Besides, Language, language_asked, language_of, library_folders, out_of_memory, run_words,
+    wrong_words,
 };

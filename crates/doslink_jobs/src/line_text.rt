@@ -232,7 +232,8 @@ fn next_line<W: World>(
     replaced(alloc, world, &tokens, read)
 }
 
-/// A line with its response files put in the places of their words, and the files that they name in turn, up to a depth:
+/// A line with its response files put in the places of their words, and the files that they name in turn, up to a
+/// depth:
 /// a word that would be one behind that is left.
 pub(crate) fn with_files<W: World>(
     alloc: Global,

@@ -72,7 +72,8 @@ fn first_word<'w, A: Allocator + Copy>(words: &'w [Vec<u8, A>]) -> &'w [u8] {
     }
 }
 
-/// The variables of a lowered module that declares these as local to it. Declarations that clash are told. The words are
+/// The variables of a lowered module that declares these as local to it. Declarations that clash are told. The words
+/// are
 /// those of this module and others behind it.
 fn variables_in<'o, A: Allocator + Copy>(
     alloc: A,
@@ -108,7 +109,8 @@ fn has_module<A: Allocator + Copy>(alloc: A, bytes: &[u8]) -> Result<bool, Alloc
     }
 }
 
-/// The bytes of a lowered module with these variables, where they are others than it has. A variable that has no place is
+/// The bytes of a lowered module with these variables, where they are others than it has. A variable that has no place
+/// is
 /// told. The words are those of this module and others behind it.
 fn placed_bytes<A: Allocator + Copy>(
     alloc: A,

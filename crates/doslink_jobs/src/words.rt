@@ -9,7 +9,8 @@ ghost use Rattle.doslink_words.specs.Tokens.{texts};
 ghost use Rattle.doslink_files.specs.Written.{StandsAt};
 ghost use Rattle.doslink_jobs.specs.Jobs.{EndsWith, Tells};
 ghost use Rattle.doslink_jobs.specs.Runs as spec;
-ghost use Rattle.doslink_jobs.specs.Runs.{EndsBy, Runs, RunsGiven, RunsList, RunsResponse, RunsSpoken, RunsText, RunsWords};
+ghost use Rattle.doslink_jobs.specs.Runs.{EndsBy, Runs, RunsGiven, RunsList, RunsResponse, RunsSpoken, RunsText};
+ghost use Rattle.doslink_jobs.specs.Runs.{RunsWords};
 ghost use Rattle.doslink_jobs.specs.Wrong.{EndsJob};
 
 use crate::directives::{
@@ -83,8 +84,8 @@ fn language_named(name: &[u8]) -> Option<Language>
     }
 }
 
-/// How the words of a program of this name are read: as those of `wlink`, `link` or `tlink` where its last part is that,
-/// with `.exe` or without, and else as those of `doslink`.
+/// How the words of a program of this name are read: as those of `wlink`, `link` or `tlink` where its last part is
+/// that, with `.exe` or without, and else as those of `doslink`.
 pub fn language_of(program: &str) -> Language
     ensures { result ≡ spec.language_of program.now }
 {
@@ -427,6 +428,16 @@ fn as_asked<'w, 'a>(words: &'w [&'a str]) -> Option<(&'a str, &'w [&'a str])>
     match words {
         [option, name, rest @ ..] if option.as_bytes() == b"--as".as_slice() => Some((name, rest)),
         _ => None,
+    }
+}
+
+/// How words are read: as the language says, unless `--as link`, `--as tlink` or `--as wlink` stands in front.
+pub fn language_asked(language: Language, words: &[&str]) -> Language
+    ensures { result ≡ (spec.spoken language (texts words.now)).0 }
+{
+    match as_asked(words) {
+        Some((name, _)) => language_named(name.as_bytes()).unwrap_or(language),
+        None => language,
     }
 }
 

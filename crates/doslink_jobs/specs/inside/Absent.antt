@@ -1,5 +1,6 @@
 -- The warning of default libraries that aren't found (docs/DOSLINK.md, "Default libraries").
-use Rattle.std.specs.Prelude.{◌≡◌, ◌&&◌, ℕ, All, Bool, false, not, if◌then◌else◌, List, [], ◌∷◌, ◌++◌, map, string_bytes}
+use Rattle.std.specs.Prelude.{◌≡◌, ◌&&◌, ℕ, All, Bool, false, not, if◌then◌else◌, List, [], ◌∷◌, ◌++◌, map}
+use Rattle.std.specs.Prelude.{string_bytes}
 use Rattle.std.specs.declared.option.Option.{Option}
 use Rattle.std.specs.List.{flat_map}
 use Rattle.clap.specs.Words.{Text}
@@ -134,7 +135,8 @@ pub record AreAbsentTold {A : Type 0} (told : Text → Option (List ℕ)) (folde
   pub given : List (List ℕ)
   pub lookups : List (List Lookup)
   pub are_given : AreSought told (texts job.folders.items) (map sought_of job.inputs.items) given
-  pub are_lookups : AreAllLookups told (texts job.folders.items ++ folders) (texts job.left_out.items) (names_of job.ignore_case)
+  pub are_lookups : AreAllLookups told (texts job.folders.items ++ folders) (texts job.left_out.items)
+      (names_of job.ignore_case)
       (given ∷ []) lookups
   pub none : job.default_libraries ≡ false → lookups ≡ []
   pub searched : Searched (names_of job.ignore_case) (all_rounds (given ∷ []) lookups) gathered.stock

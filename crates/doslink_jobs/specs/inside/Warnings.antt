@@ -1,5 +1,6 @@
 -- The warnings of a program that was linked and can't be run as it is meant (docs/DOSLINK.md, "Faults and statuses").
-use Rattle.std.specs.Prelude.{ℕ, ◌-◌, nat_lt, Bool, true, false, if◌then◌else◌, is_some, length, List, [], ◌++◌, slice_get, take, Some, None}
+use Rattle.std.specs.Prelude.{ℕ, ◌-◌, nat_lt, Bool, true, false, if◌then◌else◌, is_some, length, List, [], ◌++◌}
+use Rattle.std.specs.Prelude.{slice_get, take, Some, None}
 use Rattle.std.specs.declared.option.Option.{Option}
 use Rattle.std.specs.List.{flat_map, list_any}
 use Rattle.std.specs.Option.{unwrap_or}

@@ -11,7 +11,8 @@ use Rattle.doslink_words.specs.declared.job.Job.{Job}
 use Rattle.doslink_jobs.specs.declared.lowering.LoweredModule.{LoweredModule}
 use Rattle.doslink_jobs.specs.inside.Warnings.{told_lines}
 
--- the attributes of a segment (TIS OMF 1.1, SEGDEF, the byte ACBP) are those of one of 32 bits, by the bit P, that isn't
+-- the attributes of a segment (TIS OMF 1.1, SEGDEF, the byte ACBP) are those of one of 32 bits, by the bit P, that
+-- isn't
 -- absolute, by the alignment in the three highest bits
 abbrev pub is_wide_byte : (attributes : ℕ) → Bool
 is_wide_byte attributes = attributes % 2 == 1 && nat_le 32 attributes

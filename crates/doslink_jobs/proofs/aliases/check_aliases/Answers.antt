@@ -12,7 +12,8 @@ use Rattle.doslink_jobs.proofs.aliases.check_aliases.Goals as goal
 pub loop-index-preserved : goal.loop-index-preserved
 loop-index-preserved g c =
     let m = c.args.meanings.now in
-    all-turn (EndsIn m.names (map module_said m.says.now) (aliases_said m.aliases.aliases.items)) (λ h. (handed_held h).bytes)
+    all-turn (EndsIn m.names (map module_said m.says.now) (aliases_said m.aliases.aliases.items))
+    (λ h. (handed_held h).bytes)
     c.args.taken.now.handed.now c.loop-index.index c.index-handed-index.result c.loop-index-test.true
     c.index-handed-index.is c.loop-index.invariant
     (sym c.in_ok-found.ensures ∙ ap (option_map alias_said) c.in_default.is)

@@ -7,5 +7,6 @@ use Rattle.doslink_jobs.proofs.aliases.check_aliases.Given as goal
 
 abbrev pub invariant-loop-index : goal.invariant-loop-index
 invariant-loop-index g l =
-    All (EndsIn l.fn.meanings.names (map module_said l.fn.meanings.says.now) (aliases_said l.fn.meanings.aliases.aliases.items))
+    All (EndsIn l.fn.meanings.names (map module_said l.fn.meanings.says.now)
+    (aliases_said l.fn.meanings.aliases.aliases.items))
     (map (λ h. (handed_held h).bytes) (take l.index l.fn.taken.handed.now))

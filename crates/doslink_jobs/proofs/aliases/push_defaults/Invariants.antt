@@ -8,4 +8,5 @@ use Rattle.doslink_jobs.proofs.aliases.push_defaults.Given as goal
 abbrev pub invariant-loop-one : goal.invariant-loop-one
 invariant-loop-one g l =
     aliases_said l.aliases.items ≡ aliases_said l.initial.aliases.items
-    ++ default_aliases l.fn.meanings.names (map module_said l.fn.meanings.says.now) (all_defaulted (take l.one-index l.fn.externals))
+    ++ default_aliases l.fn.meanings.names (map module_said l.fn.meanings.says.now)
+    (all_defaulted (take l.one-index l.fn.externals))

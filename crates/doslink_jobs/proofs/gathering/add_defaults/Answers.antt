@@ -1,11 +1,13 @@
-use Rattle.std.proofs.Common.{◌≡◌, ◌<◌, ◌++◌, ◌∷◌, ◌∙◌, [], ap, append-nil, append_assoc, arith, length, map, refl, sym, subst, vec_len}
+use Rattle.std.proofs.Common.{◌≡◌, ◌<◌, ◌++◌, ◌∷◌, ◌∙◌, [], ap, append-nil, append_assoc, arith, length, map, refl}
+use Rattle.std.proofs.Common.{sym, subst, vec_len}
 use Rattle.std.proofs.lemmas.Bool.{eqb-true}
 use Rattle.doslink_files.specs.Files.{contents}
 use Rattle.doslink_words.specs.Tokens.{texts}
 use Rattle.doslink_jobs.specs.inside.Absent.{all_rounds, library_said, with_round}
 use Rattle.doslink_jobs.specs.Refusals.{HasFaultyLibrary}
 use Rattle.doslink_jobs.specs.inside.Gathering.{AreAsked, Holds}
-use Rattle.doslink_jobs.proofs.Absent.{absent-more, length-contents, lookups-more, some-length, round-lookups, rounds-more, with-none, with-some}
+use Rattle.doslink_jobs.proofs.Absent.{absent-more, length-contents, lookups-more, some-length, round-lookups}
+use Rattle.doslink_jobs.proofs.Absent.{rounds-more, with-none, with-some}
 use Rattle.doslink_jobs.proofs.Rounds.{AreRounds-more}
 use Rattle.doslink_jobs.proofs.Refused.{refused-exit}
 use Rattle.doslink_jobs.proofs.gathering.add_defaults.Goals as goal
@@ -45,7 +47,8 @@ rounds-preserved g c =
           let looked = c.in_ok-round.ensures.absent in
           let (modules, takes, asked) = c.in_ok-libraries.ensures names rounds was.holds.0 in
           let full : 0 < vec_len c.in_ok-round.round = some-length _ _ c.is_empty.ensures c.if-is_empty.false in
-          let some : 0 < length files = omega (arith, length-contents c.in_ok-round.round.items, c.in_ok-round.round.ok.0) in
+          let some : 0 < length files = omega
+          (arith, length-contents c.in_ok-round.round.items, c.in_ok-round.round.ok.0) in
           record {
             lookups = was.lookups ++ looked.lookups ∷ [];
             are_lookups = lookups-more told folders left_out names before was.lookups looked.lookups was.are_lookups

@@ -8,9 +8,11 @@ use Rattle.doslink_jobs.proofs.gathering.add_defaults.Given as goal
 abbrev pub invariant-rounds : goal.invariant-rounds
 invariant-rounds g l = record {
   files : (names : Names) (before : List (List (List ℕ))) → Holds names before l.initial.gathered
-      → AddsRounds (g.W.World.bytes l.fn.world) (texts l.fn.how.folders.now) (texts l.fn.how.left_out.now) names before l.gathered;
+      → AddsRounds (g.W.World.bytes l.fn.world) (texts l.fn.how.folders.now) (texts l.fn.how.left_out.now) names
+      before l.gathered;
   absent : (names : Names) (before : List (List (List ℕ))) → Holds names before l.initial.gathered
-      → AreAbsentBehind (g.W.World.bytes l.fn.world) (texts l.fn.how.folders.now) (texts l.fn.how.left_out.now) names before l.gathered
+      → AreAbsentBehind (g.W.World.bytes l.fn.world) (texts l.fn.how.folders.now) (texts l.fn.how.left_out.now)
+      names before l.gathered
       (map library_said l.initial.absent.items) (map library_said l.absent.items);
   kept : l.lines.items ≡ l.initial.lines.items;
 }

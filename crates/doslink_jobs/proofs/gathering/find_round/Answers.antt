@@ -7,7 +7,8 @@ use Rattle.doslink_jobs.specs.inside.Absent.{AreLookedUp, Outcome, library_said,
 use Rattle.doslink_jobs.specs.inside.Absent.{Absent}
 use Rattle.doslink_jobs.proofs.Absent.{found-outcome, looked-more, looked-none, none-absent}
 use Rattle.doslink_jobs.proofs.gathering.find_round.Goals as goal
-use Rattle.doslink_jobs.proofs.gathering.find_round.Goals.{in-Ok+in_ok-keep_found-in-Ok, in-Err+in_ok-pass_absent-in-Err}
+use Rattle.doslink_jobs.proofs.gathering.find_round.Goals.{in-Ok+in_ok-keep_found-in-Ok}
+use Rattle.doslink_jobs.proofs.gathering.find_round.Goals.{in-Err+in_ok-pass_absent-in-Err}
 
 pub loop-library-init : goal.loop-library-init
 loop-library-init g c =

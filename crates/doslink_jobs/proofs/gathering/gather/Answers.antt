@@ -24,7 +24,8 @@ returns-in_err-add_round-clause-files g c =
           c.in_ok-given.ensures.files,
       faulty,
     ))
-    (c.in_err-add_round.ensures.files (names_of c.args.job.now.ignore_case) [] (none, ap bytes_of c.new-2.ensures.items))
+    (c.in_err-add_round.ensures.files (names_of c.args.job.now.ignore_case) []
+    (none, ap bytes_of c.new-2.ensures.items))
 
 pub returns-clause-files : goal.returns-clause-files
 returns-clause-files g c =
@@ -49,7 +50,8 @@ pub returns-in_err-add_asked-clause-files : goal.returns-in_err-add_asked-clause
 returns-in_err-add_asked-clause-files g c =
     let given = contents c.in_ok-given.given.items in
     let none = subst (λ n. Searched n [] c.new-3.result) c.options_of.ensures c.new-3.ensures in
-    refused-exit _ c.from_residual-in_err-add_asked.result _ c.from_residual-in_err-add_asked.ensures.1 (λ faulty. faulty)
+    refused-exit _ c.from_residual-in_err-add_asked.result _ c.from_residual-in_err-add_asked.ensures.1
+    (λ faulty. faulty)
     (c.in_err-add_asked.ensures.files given
     (c.in_ok-add_round.ensures.files (names_of c.args.job.now.ignore_case) [] (none, ap bytes_of c.new-2.ensures.items))
     c.in_ok-given.ensures.files)

@@ -1,4 +1,5 @@
-use Rattle.std.proofs.Common.{◌≡◌, ◌&&◌, ◌++◌, ◌-◌, ◌∙◌, Bool, OnOk, [], if◌then◌else◌, ap, ap₂, false, length, map, not}
+use Rattle.std.proofs.Common.{◌≡◌, ◌&&◌, ◌++◌, ◌-◌, ◌∙◌, Bool, OnOk, [], if◌then◌else◌, ap, ap₂, false, length, map}
+use Rattle.std.proofs.Common.{not}
 use Rattle.std.proofs.Common.{subst, sym, take}
 use Rattle.std.specs.List.{flat_map, take-map}
 use Rattle.std.proofs.lemmas.List.{length-map}
@@ -8,7 +9,8 @@ use Rattle.doslink_telling.proofs.Texts.{then-ok}
 use Rattle.doslink_jobs.specs.inside.Absent.{absent_warning, library_said}
 use Rattle.doslink_jobs.specs.inside.Warnings.{told_lines}
 use Rattle.doslink_jobs.proofs.gathering.warn_of_absent.Goals as goal
-use Rattle.doslink_jobs.proofs.gathering.warn_of_absent.Goals.{else-job-via-then-job+else-not-failed, else-job-via-else-job}
+use Rattle.doslink_jobs.proofs.gathering.warn_of_absent.Goals.{else-job-via-then-job+else-not-failed}
+use Rattle.doslink_jobs.proofs.gathering.warn_of_absent.Goals.{else-job-via-else-job}
 
 pub returns : goal.returns
 returns g c =
@@ -31,8 +33,10 @@ returns g c =
     let lines : OnOk r (s2 ≡ s0 ++ told_lines absent_warning all tells_all) =
     then-ok r s0 s1 s2 (flat_map absent_warning (take told all)) (rest_text (length all - told)) first
     (subst (λ k. OnOk r (s2 ≡ s1 ++ rest_text k)) left c.push_rest.ensures) in
-    let told-unless : (q : Bool) → q ≡ false → OnOk r (s2 ≡ s0 ++ (if q then [] else told_lines absent_warning all tells_all)) =
-    λ q off. subst (λ q. OnOk r (s2 ≡ s0 ++ (if q then [] else told_lines absent_warning all tells_all))) (sym off) lines in
+    let told-unless : (q : Bool) → q ≡ false → OnOk r
+    (s2 ≡ s0 ++ (if q then [] else told_lines absent_warning all tells_all)) =
+    λ q off. subst (λ q. OnOk r (s2 ≡ s0 ++ (if q then [] else told_lines absent_warning all tells_all))) (sym off)
+    lines in
     elim c.else-job.branch [
       | else-job-via-then-job+else-not-failed w ↦
           told-unless _ (ap₂ (λ quiet failed. quiet && not failed) w.if-job.true w.if-not-failed.false)

@@ -20,7 +20,8 @@ returns g c =
     let job = c.args.job.now in
     let modules = map handed_held c.args.taken.now.handed.now in
     let variables = map variable_said c.args.variables.now in
-    subst (λ s. MatchResult c.inputs_by.result (λ all. AreInputsOf job (map module_said s) c.args.marks modules variables
+    subst (λ s. MatchResult c.inputs_by.result
+    (λ all. AreInputsOf job (map module_said s) c.args.marks modules variables
     (input_list all.inputs) × AreInputsMeant (taking_for job (map module_said s)) all)
     (λ stop. OnInput stop (HaveNoInputs job (map module_said s) c.args.marks modules variables)))
     c.in_ok-meanings.ensures.parts.1 c.inputs_by.ensures

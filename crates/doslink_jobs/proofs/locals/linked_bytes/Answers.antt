@@ -35,7 +35,8 @@ returns-then-not-has g c all tells =
       are_declared = c.in_ok-declared.ensures;
       placed =
           none-placed c.args.names all cs (lowered_bytes c.args.one.now)
-          (subst (λ b. HasModule b → ⊥) c.bytes.ensures (subst (TellsModule bytes) c.if-not-has.true c.in_ok-has.ensures));
+          (subst (λ b. HasModule b → ⊥) c.bytes.ensures
+          (subst (TellsModule bytes) c.if-not-has.true c.in_ok-has.ensures));
     }
 
 pub returns-in_err-variables : goal.returns-in_err-variables
@@ -58,7 +59,8 @@ returns g c =
       declared = cs;
       are_declared = c.in_ok-declared.ensures;
       placed =
-          all-placed c.args.names all cs vs c.args.in_bss lowered (option_map_or (λ v. v.items) o lowered) has agreed tells
+          all-placed c.args.names all cs vs c.args.in_bss lowered (option_map_or (λ v. v.items) o lowered) has
+          agreed tells
           (ap (λ xs. local_module c.args.in_bss (map variable_said xs) lowered) (sym c.deref.ensures.value) ∙ placed);
     })
     (λ none all tells. inr (

@@ -53,7 +53,8 @@ pub returns-in_err-declare_some : goal.returns-in_err-declare_some
 returns-in_err-declare_some g c =
     refused-exit _ c.from_residual.result _ c.from_residual.ensures.1
     (λ some. any-of-both (λ one. IsErr (communals_of scope.Module (module_records (own_bytes one) 0)))
-    (HasNoLocals c.args.names (map lowered_bytes c.args.lowered.modules.items)) own_bytes lowered_bytes c.args.lowered.modules.items
+    (HasNoLocals c.args.names (map lowered_bytes c.args.lowered.modules.items)) own_bytes lowered_bytes
+    c.args.lowered.modules.items
     (λ one fault. inl fault)
     (subst (Any (λ one. IsErr (communals_of scope.Module (module_records (own_bytes one) 0)))) c.deref.ensures.value
     some))

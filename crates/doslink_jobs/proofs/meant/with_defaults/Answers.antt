@@ -15,7 +15,8 @@ pub redirect_externals-requires : goal.redirect_externals-requires
 redirect_externals-requires g c =
     let m = c.args.meanings.now in
     subst (All (IsIndexOf c.args.module.externals)) (sym (c.deref-3.ensures.value ∙ c.in_ok-indexes.ensures))
-    (meanings-within c.args.module.externals c.min-count.result (omega (arith, c.min-count.ensures, c.external_count.ensures)) m.names (map module_said m.says.now)
+    (meanings-within c.args.module.externals c.min-count.result
+    (omega (arith, c.min-count.ensures, c.external_count.ensures)) m.names (map module_said m.says.now)
     (all_defaulted c.deref-2.result.now))
 
 pub returns : goal.returns

@@ -13,7 +13,8 @@ weaker (Err fault) to p = tt
 pub returns-in-None-clause-written : goal.returns-in-None-clause-written
 returns-in-None-clause-written g c =
     let Writes = StandsAt (g.W.World.blank c.args.world.now) (g.W.World.Puts c.args.world.now) in
-    let text = spec.map_bytes c.args.job.now.map_form c.args.linked.now.report (bytes_of c.args.inputs.now) (bytes_of c.args.words.now) in
+    let text = spec.map_bytes c.args.job.now.map_form c.args.linked.now.report (bytes_of c.args.inputs.now)
+    (bytes_of c.args.words.now) in
     weaker c.put_or_tell.result
     (λ stands. (
       subst (Writes (string_bytes c.args.places.now.out)) c.deref.ensures.value
@@ -24,7 +25,8 @@ returns-in-None-clause-written g c =
 pub returns-in_ok-put_or_tell-in-Some-clause-written : goal.returns-in_ok-put_or_tell-in-Some-clause-written
 returns-in_ok-put_or_tell-in-Some-clause-written g c =
     let Writes = StandsAt (g.W.World.blank c.args.world.now) (g.W.World.Puts c.args.world.now) in
-    let text = spec.map_bytes c.args.job.now.map_form c.args.linked.now.report (bytes_of c.args.inputs.now) (bytes_of c.args.words.now) in
+    let text = spec.map_bytes c.args.job.now.map_form c.args.linked.now.report (bytes_of c.args.inputs.now)
+    (bytes_of c.args.words.now) in
     let program = c.in_ok-put_or_tell-in-Some.ensures.written in
     weaker c.put_or_tell-in-Some-2.result
     (λ stands. (

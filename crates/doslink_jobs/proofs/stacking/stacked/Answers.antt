@@ -50,7 +50,8 @@ returns-clause-stacked g c =
     let are : AreStacked asking (Some c.args.stack) inputs stacked = (
       order,
       c.requires.ordered,
-      subst (HasStack c.args.stack (order_list c.args.all.inputs.order) inputs) (sym c.in_ok-linked-in_default.ensures.list)
+      subst (HasStack c.args.stack (order_list c.args.all.inputs.order) inputs)
+          (sym c.in_ok-linked-in_default.ensures.list)
           c.in_ok-change.ensures.change,
     ) in
     steps-weaker c.ordered.result

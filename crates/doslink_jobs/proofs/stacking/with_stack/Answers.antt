@@ -23,7 +23,8 @@ returns-in-Some-clause-stacked g c =
     steps-weaker c.stacked.result
     (λ all is. (
       subst (λ s. StackedInOrder asking s inputs (input_list all.inputs)) (sym c.in-Some.is)
-          (subst (λ l. StackedInOrder asking (Some stack) l (input_list all.inputs)) c.in_ok-all.ensures.ordered.1 is.0),
+          (subst (λ l. StackedInOrder asking (Some stack) l (input_list all.inputs)) c.in_ok-all.ensures.ordered.1
+          is.0),
       is.1,
     ))
     (λ none. subst (λ s. NotStackedInOrder asking s inputs) (sym c.in-Some.is)
@@ -49,7 +50,8 @@ returns-in-Some-clause-told g c =
     (sym c.in-Some.is)
     (subst (λ l. OnOk r (AreCutTold asking (Some c.in-Some.stack) l c.args.lines.now.items new))
     c.in_ok-all.ensures.ordered.1
-    (subst (λ old. OnOk r (AreCutTold asking (Some c.in-Some.stack) (linked_list c.in_ok-all.all.inputs.linked) old new))
+    (subst (λ old. OnOk r
+    (AreCutTold asking (Some c.in-Some.stack) (linked_list c.in_ok-all.all.inputs.linked) old new))
     c.in_ok-all.ensures.kept c.stacked.ensures.told))
 
 pub returns-in-None-clause-told : goal.returns-in-None-clause-told

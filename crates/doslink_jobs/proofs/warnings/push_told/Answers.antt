@@ -6,6 +6,7 @@ use Rattle.doslink_jobs.proofs.warnings.push_told.Goals as goal
 
 pub loop-each-preserved : goal.loop-each-preserved
 loop-each-preserved g c =
-    all-more (λ r. reached_warning (bytes_of c.args.words.now) (reached_said r)) c.args.told.now c.loop-each.each-index _
+    all-more (λ r. reached_warning (bytes_of c.args.words.now) (reached_said r)) c.args.told.now
+    c.loop-each.each-index _
     c.loop-each.lines.items c.push_one.new.lines.items _ c.loop-each-test.true c.in_ok-push_one.ensures
     c.loop-each.invariant

@@ -7,5 +7,6 @@ use Rattle.doslink_jobs.proofs.warnings.push_told.Given as goal
 
 abbrev pub invariant-loop-each : goal.invariant-loop-each
 invariant-loop-each g l =
-    l.lines.items ++ flat_map (λ r. reached_warning (bytes_of l.fn.words) (reached_said r)) (drop l.each-index l.fn.told)
+    l.lines.items ++ flat_map (λ r. reached_warning (bytes_of l.fn.words) (reached_said r))
+    (drop l.each-index l.fn.told)
     ≡ l.initial.lines.items ++ flat_map (λ r. reached_warning (bytes_of l.fn.words) (reached_said r)) l.fn.told

@@ -1,4 +1,5 @@
-use Rattle.std.proofs.Common.{◌≡◌, ◌++◌, ◌-◌, ◌∙◌, ℕ, List, Bor, OnOk, [], if◌then◌else◌, ap, append-nil, length, map, subst}
+use Rattle.std.proofs.Common.{◌≡◌, ◌++◌, ◌-◌, ◌∙◌, ℕ, List, Bor, OnOk, [], if◌then◌else◌, ap, append-nil, length, map}
+use Rattle.std.proofs.Common.{subst}
 use Rattle.std.proofs.Common.{sym, take}
 use Rattle.std.specs.List.{flat_map, take-map}
 use Rattle.std.proofs.lemmas.List.{length-map}

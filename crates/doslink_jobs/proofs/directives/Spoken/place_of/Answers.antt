@@ -1,7 +1,8 @@
 use Rattle.std.proofs.Common.{arith, inl, inr}
 use Rattle.doslink_jobs.proofs.Texts.{place-behind, place-of-none}
 use Rattle.doslink_jobs.proofs.directives.Spoken.place_of.Goals as goal
-use Rattle.doslink_jobs.proofs.directives.Spoken.place_of.Goals.{then-loop-index-test+else-index-len, else-loop-index-test}
+use Rattle.doslink_jobs.proofs.directives.Spoken.place_of.Goals.{then-loop-index-test+else-index-len}
+use Rattle.doslink_jobs.proofs.directives.Spoken.place_of.Goals.{else-loop-index-test}
 
 pub loop-index-preserved : goal.loop-index-preserved
 loop-index-preserved c =
