@@ -25,20 +25,21 @@ use std::io::Write;
 
 /// The help of a program that takes a line.
 const LINES_HELP: &str = "\
-Links what compilers for DOS write, with libraries, into an MS-DOS program\n\
-\n\
-Usage: link OBJECTS[,PROGRAM[,MAP[,LIBRARIES[,DEFINITIONS]]]][;]\n\
-       tlink OBJECTS[,PROGRAM[,MAP[,LIBRARIES[,DEFINITIONS]]]][;]\n\
-\n\
-Blanks or + stand between the names of a field, and ; behind the last field that is\n\
-given. .OBJ, .EXE (.COM), .MAP and .LIB are put behind a name that has no extension.\n\
-NUL is no map, and a library's name that ends in \\, / or : a folder of libraries.\n\
-@FILE stands for what FILE says. A name with blanks stands in \". Options stand anywhere:\n\
-  link   /NOI case counts, /M a map with publics, /ST:N the stack's bytes, /DO the order\n\
-         DOSSEG, /NOD[:LIB] no default libraries, or not that one, /T a .COM file\n\
-  tlink  /c case counts, /x no map, /m a map with publics, /n no default libraries,\n\
-         /t a .COM file, /L FOLDERS of libraries\n\
-docs/DOSLINK.md has them all. `doslink --help` tells of the words of doslink.\n";
+Links what compilers for DOS write, with libraries, into an MS-DOS program
+
+Usage: link OBJECTS[,PROGRAM[,MAP[,LIBRARIES[,DEFINITIONS]]]][;]
+       tlink OBJECTS[,PROGRAM[,MAP[,LIBRARIES[,DEFINITIONS]]]][;]
+
+Blanks or + stand between the names of a field, and ; behind the last field that is
+given. .OBJ, .EXE (.COM), .MAP and .LIB are put behind a name that has no extension.
+NUL is no map, and a library's name that ends in \\, / or : a folder of libraries.
+@FILE stands for what FILE says. A name with blanks stands in \". Options stand anywhere:
+  link   /NOI case counts, /M a map with publics, /ST:N the stack's bytes, /DO the order
+         DOSSEG, /NOD[:LIB] no default libraries, or not that one, /T a .COM file
+  tlink  /c case counts, /x no map, /m a map with publics, /n no default libraries,
+         /t a .COM file, /L FOLDERS of libraries
+docs/DOSLINK.md has them all. `doslink --help` tells of the words of doslink.
+";
 
 // `--help` for `/?` alone.
 fn line_asked<'a>(words: &'a [&'a str]) -> &'a [&'a str]

@@ -10,26 +10,27 @@ use std::alloc::{AllocError, Global};
 
 /// The help of a program that takes directives.
 const DIRECTIVES_HELP: &str = "\
-Links what compilers for DOS write, with libraries, into an MS-DOS program\n\
-\n\
-Usage: wlink @FILE\n\
-       wlink DIRECTIVE..\n\
-\n\
-Each line of FILE, and each word, is one directive:\n\
-  file A[,B..]           modules and libraries to link, in their order\n\
-  library A[,B..]        libraries to search (lib)\n\
-  libpath A[,B..]        folders to look for libraries in\n\
-  name FILE              the program to write\n\
-  format dos [exe|com]   the form of the program's file; format dos says none\n\
-  system dos|com         the same\n\
-  output raw [offset=N]  a raw image, which begins at address N\n\
-  order clname CLASS [segment SEGMENT..] ..\n\
-                         the classes that stand first, and segments first in them\n\
-  option X[=N][,..]      (op) quiet, map[=FILE], stack=N, dosseg, caseexact,\n\
-                         ignorecase, nodefaultlibs\n\
-  debug ..               nothing\n\
-\n\
-Names with blanks stand in ' or \". `doslink --help` tells of the words of doslink.\n";
+Links what compilers for DOS write, with libraries, into an MS-DOS program
+
+Usage: wlink @FILE
+       wlink DIRECTIVE..
+
+Each line of FILE, and each word, is one directive:
+  file A[,B..]           modules and libraries to link, in their order
+  library A[,B..]        libraries to search (lib)
+  libpath A[,B..]        folders to look for libraries in
+  name FILE              the program to write
+  format dos [exe|com]   the form of the program's file; format dos says none
+  system dos|com         the same
+  output raw [offset=N]  a raw image, which begins at address N
+  order clname CLASS [segment SEGMENT..] ..
+                         the classes that stand first, and segments first in them
+  option X[=N][,..]      (op) quiet, map[=FILE], stack=N, dosseg, caseexact,
+                         ignorecase, nodefaultlibs
+  debug ..               nothing
+
+Names with blanks stand in ' or \". `doslink --help` tells of the words of doslink.
+";
 
 /// The name and the version of a program that takes directives.
 const VERSION_LINE: &str = "doslink 1.0\n";
