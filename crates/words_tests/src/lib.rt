@@ -1,5 +1,6 @@
-//! The words of the command line.
+//! Words of the command lines of `omf` and of `doslink`, directives of response files, and lines of LINK and TLINK.
 #![tactic(auto)]
 
-#[cfg(test)]
+mod doslink_words;
+mod makefile_words;
 mod words;

@@ -1,5 +1,4 @@
 //! Tests of the words of `doslink` and of the directives of response files.
-#![tactic(auto)]
 
 #[cfg(test)]
 mod directives;

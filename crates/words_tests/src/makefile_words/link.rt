@@ -1,5 +1,5 @@
 //! Lines of LINK as makefiles and compilers have them.
-use crate::tlink::hold_in;
+use super::tlink::hold_in;
 use makefile_words::Language;
 
 #[test]

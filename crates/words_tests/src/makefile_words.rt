@@ -1,5 +1,4 @@
 //! Tests of the lines of LINK and TLINK.
-#![tactic(auto)]
 
 #[cfg(test)]
 mod link;
