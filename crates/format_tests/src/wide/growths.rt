@@ -1,4 +1,4 @@
-use crate::answers::read;
+use super::answers::read;
 use omf_wide::WideFault;
 use refusing::Refusing;
 use std::alloc::Global;

@@ -1,6 +1,6 @@
 //! The members of libraries of DOS.
 
-use crate::files::{What, run};
+use super::files::{What, run};
 use std::test::*;
 
 #[test]

@@ -1,5 +1,4 @@
 //! Members of libraries and of archives, and the names of modules.
-#![tactic(auto)]
 
 #[cfg(test)]
 mod archives;

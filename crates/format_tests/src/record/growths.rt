@@ -1,4 +1,4 @@
-use crate::answers::{Ask, encode_if_fits, hold, read};
+use super::answers::{Ask, encode_if_fits, hold, read};
 use omf_record::{Record, RecordFault};
 use refusing::Refusing;
 use std::alloc::{AllocError, Allocator, Global};

@@ -1,6 +1,6 @@
 //! Modules whose externals mean others of them.
 
-use crate::told::push_reference;
+use super::told::push_reference;
 use omf_frame::MemSource;
 use omf_module::{Module, are_externals, read_module, redirect_externals};
 use rows::{module_of, same};

@@ -1,6 +1,6 @@
 //! Each growth refused in turn.
 
-use crate::files::{What, file_of, told};
+use super::files::{What, file_of, told};
 use refusing::refuse_each;
 use rows::same;
 use std::alloc::Global;

@@ -1,5 +1,4 @@
 //! The printed forms.
-#![tactic(auto)]
 
 #[cfg(test)]
 mod details;

@@ -1,5 +1,4 @@
 //! Records of 32 bits read by their bytes, and each growth on the way refused in turn.
-#![tactic(auto)]
 
 #[cfg(test)]
 mod answers;

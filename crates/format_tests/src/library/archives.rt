@@ -1,6 +1,6 @@
 //! The members of archives.
 
-use crate::files::{What, run};
+use super::files::{What, run};
 use std::test::*;
 
 #[test]

@@ -1,5 +1,4 @@
 //! Records read and written by their bytes, and each growth on the way refused in turn.
-#![tactic(auto)]
 
 #[cfg(test)]
 mod answers;

@@ -1,4 +1,4 @@
-use crate::answers::hold;
+use super::answers::hold;
 use omf_wide::WideLocation;
 
 /// Names, lines and data with offsets of four bytes.

@@ -1,4 +1,4 @@
-use crate::answers::{Ask, encode_if_fits, hold, read};
+use super::answers::{Ask, encode_if_fits, hold, read};
 use omf_record::{
     Block, External, Location, PublicBase, Record, RecordFault, SegmentLength, fits_frame,
 };

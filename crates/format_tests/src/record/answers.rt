@@ -1,7 +1,7 @@
 //! What is answered for a record, as text.
 
-use crate::growths::growths;
-use crate::repeated::{expansion, length};
+use super::growths::growths;
+use super::repeated::{expansion, length};
 use hex::FromHexError;
 use omf_frame::Frame;
 use omf_record::{Record, RecordFault, encode_record, fits_frame, parse_record};

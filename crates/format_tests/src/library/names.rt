@@ -1,6 +1,6 @@
 //! The names of modules.
 
-use crate::files::{What, run};
+use super::files::{What, run};
 use std::test::*;
 
 #[test]

@@ -1,5 +1,4 @@
 //! Object modules, read from their bytes.
-#![tactic(auto)]
 
 #[cfg(test)]
 mod defaulted;

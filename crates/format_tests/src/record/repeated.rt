@@ -2,7 +2,7 @@ ghost use Rattle.std.specs.Prelude.{◌≤◌, map};
 ghost use Rattle.omf_record.specs.Expansion.{blocks_len};
 ghost use Rattle.omf_record.specs.View.{block_view};
 
-use crate::answers::{Ask, hold};
+use super::answers::{Ask, hold};
 use omf_frame::Frame;
 use omf_record::{Block, Record, expand_into, expanded_len, parse_record, place_in_content};
 use std::alloc::{AllocError, Global};
