@@ -1,5 +1,0 @@
-use Rattle.std.proofs.Common.{◌<◌, ◌-◌, ◌^◌, All}
-use Rattle.commands_tests.proofs.answer.sources_of.Given as goal
-
-abbrev pub invariant-loop-bytes : goal.invariant-loop-bytes
-invariant-loop-bytes l = All (λ s. s.failures < 2 ^ 64 - 1) l.sources.items

@@ -1,5 +1,0 @@
-//! The lines of faults.
-#![tactic(auto)]
-
-#[cfg(test)]
-mod fault;

@@ -1,5 +1,0 @@
-//! Maps of linked programs in the form of LINK and of TLINK.
-#![tactic(auto)]
-
-#[cfg(test)]
-mod maps;

@@ -1,0 +1,4 @@
+//! The lines of faults.
+
+#[cfg(test)]
+mod fault;

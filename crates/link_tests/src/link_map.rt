@@ -1,0 +1,4 @@
+//! Maps of linked programs in the form of LINK and of TLINK.
+
+#[cfg(test)]
+mod maps;

@@ -1,0 +1,4 @@
+//! The map of linked programs.
+
+#[cfg(test)]
+mod maps;

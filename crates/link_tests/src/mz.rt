@@ -1,0 +1,4 @@
+//! MZ files, written, read and loaded.
+
+#[cfg(test)]
+mod files;

@@ -1,5 +1,0 @@
-//! The map of linked programs.
-#![tactic(auto)]
-
-#[cfg(test)]
-mod maps;

@@ -1,5 +1,0 @@
-//! MZ files, written, read and loaded.
-#![tactic(auto)]
-
-#[cfg(test)]
-mod files;
