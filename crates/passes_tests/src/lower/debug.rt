@@ -1,6 +1,6 @@
 //! What debuggers read, and far data.
 
-use crate::lowered::{PLAIN, run};
+use super::lowered::{PLAIN, run};
 use omf_lower::Lowering;
 use std::test::*;
 

@@ -1,5 +1,4 @@
 //! Lowered modules, written out record by record.
-#![tactic(auto)]
 
 #[cfg(test)]
 mod debug;

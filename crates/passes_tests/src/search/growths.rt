@@ -1,6 +1,6 @@
 //! Each growth refused in turn.
 
-use crate::links::outcome;
+use super::links::outcome;
 use refusing::refuse_each;
 use std::test::*;
 

@@ -1,6 +1,6 @@
 //! Externals whose names stand for others.
 
-use crate::lowered::{PLAIN, run_renamed};
+use super::lowered::{PLAIN, run_renamed};
 use omf_alias::{
     Alias, Aliases, NameMap, NamedValue, Renaming, endless, meaning, push_module_aliases,
 };

@@ -1,6 +1,6 @@
 //! Lowered modules are read as `omf` reads them.
 
-use crate::lowered::PLAIN;
+use super::lowered::PLAIN;
 use omf_alias::Renaming;
 use omf_lower::{Lowering, lower};
 use omf_place::Names;

@@ -1,6 +1,6 @@
 //! Modules with communal variables.
 
-use crate::told::{Asked, run};
+use super::told::{Asked, run};
 use omf_place::Names;
 use std::test::*;
 

@@ -1,5 +1,4 @@
 //! Communal variables: what modules declare, what a program has of them, and the module that has them.
-#![tactic(auto)]
 
 #[cfg(test)]
 mod cases;

@@ -1,5 +1,4 @@
 //! Which members of libraries a link takes, and the names that stay missing.
-#![tactic(auto)]
 
 #[cfg(test)]
 mod growths;

@@ -1,6 +1,6 @@
 //! Stacks with lengths that are asked for.
 
-use crate::told::{Asked, run};
+use super::told::{Asked, run};
 use std::test::*;
 
 /// What a stack wants.

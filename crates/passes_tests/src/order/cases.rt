@@ -1,6 +1,6 @@
 //! Worked order modules.
 
-use crate::made::{place_all, run};
+use super::made::{place_all, run};
 use omf_order::{Item, Order};
 use omf_place::Names;
 use std::alloc::Global;

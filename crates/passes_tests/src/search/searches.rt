@@ -1,6 +1,6 @@
 //! Searches, each with what is answered.
 
-use crate::links::outcome;
+use super::links::outcome;
 use rows::same;
 use std::alloc::Global;
 use std::test::*;

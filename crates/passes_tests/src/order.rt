@@ -1,5 +1,4 @@
 //! Order modules, read from their bytes and placed before the modules that they are made of.
-#![tactic(auto)]
 
 #[cfg(test)]
 mod cases;

@@ -1,6 +1,6 @@
 //! Records of 32 bits with content of 16.
 
-use crate::lowered::{PLAIN, run};
+use super::lowered::{PLAIN, run};
 use std::test::*;
 
 /// Numbers of four bytes are written in two.

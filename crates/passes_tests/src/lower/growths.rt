@@ -1,6 +1,6 @@
 //! Each growth refused in turn.
 
-use crate::lowered::{PLAIN, told};
+use super::lowered::{PLAIN, told};
 use omf_alias::Renaming;
 use omf_place::Names;
 use refusing::refuse_each;

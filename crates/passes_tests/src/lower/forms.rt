@@ -1,6 +1,6 @@
 //! Forms of records that no assembler at hand writes.
 
-use crate::lowered::{PLAIN, run};
+use super::lowered::{PLAIN, run};
 use std::test::*;
 
 /// Segments, names and externals: indexes of two bytes, frame words, and bodies without entries.

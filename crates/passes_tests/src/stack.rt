@@ -1,5 +1,4 @@
 //! Stacks with lengths that are asked for.
-#![tactic(auto)]
 
 #[cfg(test)]
 mod cases;

@@ -1,6 +1,6 @@
 //! Each growth refused in turn.
 
-use crate::told::{Asked, told};
+use super::told::{Asked, told};
 use refusing::refuse_each;
 use rows::read_row;
 use std::test::*;

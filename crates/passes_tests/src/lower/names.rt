@@ -1,6 +1,6 @@
 //! Names and externals.
 
-use crate::lowered::{PLAIN, run};
+use super::lowered::{PLAIN, run};
 use std::test::*;
 
 /// Other records of names and of externals become those of the same names at the same place.
