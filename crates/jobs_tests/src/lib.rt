@@ -1,7 +1,6 @@
-//! Jobs and their files, over a world in memory.
+//! Jobs of `omf` and runs of `doslink`, and the files of both, over a world in memory.
 #![tactic(auto)]
 
-#[cfg(test)]
-mod files;
-#[cfg(test)]
+mod doslink;
+mod doslink_files;
 mod jobs;

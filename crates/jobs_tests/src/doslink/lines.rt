@@ -1,6 +1,6 @@
 //! Lines of LINK and TLINK, and what runs of them tell and write.
-use crate::forms::EXE_OF_F;
-use crate::modules::OFFERS;
+use super::forms::EXE_OF_F;
+use super::modules::OFFERS;
 
 /// Response files, and a module in a folder.
 pub(crate) const LINE_FILES: [(&str, &[u8]); 9] = [

@@ -1,26 +1,26 @@
 //! The files of the world that runs find.
-use crate::aliasing::{
+use super::aliasing::{
     ALIAS, BACK, BEHIND, CALLS, CASE, ITSELF, LAZILY, NOWHERE, OTHERWISE, ROUND, WEAKLY,
 };
-use crate::declaring::{
+use super::declaring::{
     BODY, CUT_ELEMENT, END, FAR, LOCAL, LOCAL_CLASH, LOCAL_CLASH_OUTSIDE, LOCAL_FAULTY, LOCAL_LONG,
     LOCAL_START, LOCAL_TABLE, LONG, MANY, NEAR, OTHER_SIZE, TABLE,
 };
-use crate::doubled::{CAPITAL, MANY_NAMES, SWAPPED, TWICE, TWO};
-use crate::lengths::{HUGE, OVER_999, OVER_1000, OVER_999999, OVER_1000000, OVER_1000000000};
-use crate::modules::{
+use super::doubled::{CAPITAL, MANY_NAMES, SWAPPED, TWICE, TWO};
+use super::lengths::{HUGE, OVER_999, OVER_1000, OVER_999999, OVER_1000000, OVER_1000000000};
+use super::modules::{
     AMISS, ELSEWHERE, HEADLESS, KEEPS, LIBRARY, LIKE, MARKS, NAMELESS, NAMES, OFFERS, WANTS, WIDE,
 };
-use crate::packed::{FAR_GROUPED, FAR_ONE, FAR_TWO};
-use crate::records::{
+use super::packed::{FAR_GROUPED, FAR_ONE, FAR_TWO};
+use super::records::{
     BEHIND_LOWERED, BESIDE_LCOMDEF, CHOSEN, COMDAT, COMDATS, LINSYM, LOCAL_FAR, OTHER_TYPE,
     PATCHED, PATCHED_BY_NAME, REPEATS, UNLISTED, WIDELY,
 };
-use crate::searching::{
+use super::searching::{
     BOTH, CLEARED, DEVICE, ELF, HAS, LOADS, NAMER, NOTHING, ONLY, OUTSIDE, SPACE, STACKED, STARTED,
     TEXT, UNUSED,
 };
-use crate::sums::{
+use super::sums::{
     EXTERNAL_FITS, EXTERNAL_SUM, FAR_POINTER, GROUP_FITS, GROUP_SUM, LOADER, LOCAL_WIDE_START,
     REPEATED_FITS, REPEATED_SUM, SEGMENT_FITS, SEGMENT_SUM, SHARED_BYTE, SHARED_WORD, SHORT_START,
     WIDE_END, WIDE_START, WIDELY_REPEATED,
@@ -115,19 +115,19 @@ pub(crate) const MODULES: [(&str, &[u8]); 58] = [
     ("OTHERWISE.OBJ", &OTHERWISE),
     ("NOWHERE.OBJ", &NOWHERE),
     ("ITSELF.OBJ", &ITSELF),
-    ("WLOCAL.OBJ", &crate::defaulting::WEAKLY_LOCAL),
-    ("LLOCAL.OBJ", &crate::defaulting::LAZILY_LOCAL),
-    ("WCOMM.OBJ", &crate::defaulting::WEAKLY_COMMUNAL),
-    ("FIRST.OBJ", &crate::defaulting::FIRST_OF_TWO),
-    ("WFIRST.OBJ", &crate::defaulting::WEAK_FIRST),
-    ("SFIRST.OBJ", &crate::defaulting::SHARED_FIRST),
-    ("LFIRST.OBJ", &crate::defaulting::LOCAL_FIRST),
-    ("CHAINED.OBJ", &crate::defaulting::BEHIND_WEAK),
-    ("LNOWHERE.OBJ", &crate::defaulting::LOCAL_NOWHERE),
-    ("LFRAME.OBJ", &crate::defaulting::LOCAL_FRAME),
-    ("LTHREADS.OBJ", &crate::defaulting::LOCAL_THREADS),
-    ("WSTART.OBJ", &crate::defaulting::STARTS_WEAKLY),
-    ("LSUM.OBJ", &crate::defaulting::LOCAL_SUM),
+    ("WLOCAL.OBJ", &super::defaulting::WEAKLY_LOCAL),
+    ("LLOCAL.OBJ", &super::defaulting::LAZILY_LOCAL),
+    ("WCOMM.OBJ", &super::defaulting::WEAKLY_COMMUNAL),
+    ("FIRST.OBJ", &super::defaulting::FIRST_OF_TWO),
+    ("WFIRST.OBJ", &super::defaulting::WEAK_FIRST),
+    ("SFIRST.OBJ", &super::defaulting::SHARED_FIRST),
+    ("LFIRST.OBJ", &super::defaulting::LOCAL_FIRST),
+    ("CHAINED.OBJ", &super::defaulting::BEHIND_WEAK),
+    ("LNOWHERE.OBJ", &super::defaulting::LOCAL_NOWHERE),
+    ("LFRAME.OBJ", &super::defaulting::LOCAL_FRAME),
+    ("LTHREADS.OBJ", &super::defaulting::LOCAL_THREADS),
+    ("WSTART.OBJ", &super::defaulting::STARTS_WEAKLY),
+    ("LSUM.OBJ", &super::defaulting::LOCAL_SUM),
     ("COMDAT.OBJ", &COMDAT),
     ("COMDATS.LIB", &COMDATS),
     ("PATCHED.OBJ", &PATCHED),
@@ -135,13 +135,13 @@ pub(crate) const MODULES: [(&str, &[u8]); 58] = [
 
 /// Archives with tables of symbols.
 pub(crate) const ARCHIVES: [(&str, &[u8]); 7] = [
-    ("SYSV.A", &crate::symbols::SYSV),
-    ("SYM64.A", &crate::symbols::SYM64),
-    ("RANLIB.A", &crate::symbols::RANLIB),
-    ("SORTED.A", &crate::symbols::SORTED),
-    ("OTHER.A", &crate::symbols::OTHER),
-    ("UPPER.A", &crate::symbols::UPPER),
-    ("ASTRAY.A", &crate::symbols::ASTRAY),
+    ("SYSV.A", &super::symbols::SYSV),
+    ("SYM64.A", &super::symbols::SYM64),
+    ("RANLIB.A", &super::symbols::RANLIB),
+    ("SORTED.A", &super::symbols::SORTED),
+    ("OTHER.A", &super::symbols::OTHER),
+    ("UPPER.A", &super::symbols::UPPER),
+    ("ASTRAY.A", &super::symbols::ASTRAY),
 ];
 
 /// Further ones.

@@ -1,5 +1,4 @@
 //! Runs of `doslink`, over a world in memory.
-#![tactic(auto)]
 
 #[cfg(test)]
 mod aliasing;

@@ -1,16 +1,16 @@
 //! Runs over a world in memory.
-use crate::forms::{FORM_LINES, FORM_MODULES, FORM_RUNS, FORMED};
-use crate::lines::{LINE_FILES, LINE_RUNS, LINED, MAPPED};
-use crate::modules::LIBRARY;
-use crate::tables::{
+use super::forms::{FORM_LINES, FORM_MODULES, FORM_RUNS, FORMED};
+use super::lines::{LINE_FILES, LINE_RUNS, LINED, MAPPED};
+use super::modules::LIBRARY;
+use super::tables::{
     ALIAS_RUNS, COMMUNAL_RUNS, DEFAULT_RUNS, DOUBLED_RUNS, LIMITED_RUNS, LOCAL_DEFAULT_RUNS,
     LONG_RUNS, MISSING_RUNS, REFUSED_RUNS, RUNS, SEARCH_RUNS, SUM_RUNS, SYMBOL_RUNS, WARNED_RUNS,
 };
-use crate::world::{
+use super::world::{
     ARCHIVES, AS_MANY, CUT, CUT_TO_16, CUT_TO_32, DIRECTIVES, FAR_DATA, FAR_TOO_LONG,
     FURTHER_MODULES, MODULES, RESPONSE, SORTS, WRONG,
 };
-use crate::written::{MAP, PROGRAMS, WRITTEN};
+use super::written::{MAP, PROGRAMS, WRITTEN};
 use desk::{Count, Desk, Page, Pen};
 use doslink_jobs::{language_of, run_words};
 use omf_files::BufferedSink;
@@ -66,10 +66,10 @@ fn put_others<'a>(files: &mut Vec<(&'a str, &'a [u8])>) -> Result<(), AllocError
         ("CUT32", CUT_TO_32.as_bytes()),
         ("UNCUT", AS_MANY.as_bytes()),
         ("SORTS", SORTS.as_bytes()),
-        ("HALF.OBJ", crate::lengths::HALF.as_slice()),
-        ("FULL.OBJ", crate::lengths::FULL.as_slice()),
-        ("GROUPED.OBJ", crate::lengths::GROUPED.as_slice()),
-        ("LARGE.OBJ", crate::lengths::LARGE.as_slice()),
+        ("HALF.OBJ", super::lengths::HALF.as_slice()),
+        ("FULL.OBJ", super::lengths::FULL.as_slice()),
+        ("GROUPED.OBJ", super::lengths::GROUPED.as_slice()),
+        ("LARGE.OBJ", super::lengths::LARGE.as_slice()),
     ])
 }
 

@@ -1,5 +1,4 @@
 //! Files that are read and looked up, and what stands where a file is to be written.
-#![tactic(auto)]
 
 #[cfg(test)]
 mod files;

@@ -1,5 +1,5 @@
 //! What runs write: programs and maps.
-use crate::packed::{FAR_PACKED, FAR_PACKED_MAP};
+use super::packed::{FAR_PACKED, FAR_PACKED_MAP};
 
 /// Runs, and the end of the file that each writes: the whole of it, or its code, which calls `f` first.
 pub(crate) const PROGRAMS: [(&str, &[u8]); 38] = [
