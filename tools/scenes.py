@@ -214,7 +214,7 @@ SHOWN = {
         "nasm -f obj HELLO.ASM -o HELLO.OBJ && doslink --form com HELLO.OBJ": Run(
             {"HELLO.ASM": COM_ASM, "BOOT.ASM": BOOT_ASM}, ("nasm",)),
         "tlink /c /x c0s main util, prog.exe, prog.map, emu maths cs": Untried(
-            "the names link and tlink aren't there: crates/doslink_tests tries lines by them"),
+            "the names link and tlink aren't there: crates/jobs_tests tries lines by them"),
         'doslink: line 1, column 6: "/z": unknown option': Lines((
             Said("doslink --as link 'MAIN /z;'", 2, {"MAIN.OBJ": EMPTY}),)),
         "modules": Printed("doslink -o X.EXE -m X.MAP HELLO.OBJ && cat X.MAP", {

@@ -229,19 +229,21 @@ def worked_groups(repository, crate, path):
 
 
 def worked_page(statement):
-    """The page of the examples that proofs/Worked.antt of some crates have the checker evaluate."""
+    """The page of the examples that Worked.antt of some crates, or of their tests, has the checker evaluate."""
     lines = ["# Worked examples", ""]
     lines += wrapped(
         "Bodies, programs, fix-ups and a file, with the numbers that the definitions give for them. The checker evaluates "
         "each line with `≡` that `refl` proves, and refuses another number. [README.md](README.md) says how to read "
         "them; `tools/definitions --write` makes this page.")
-    with_tests = (it for crate in statement.crates for it in (crate, crate.removeprefix("omf_") + "_tests"))
-    for crate in with_tests:
-        path = statement.repository.root / "crates" / crate / "proofs/Worked.antt"
-        if path.exists():
-            lines += ["", f'## <a id="{crate}"></a>`{crate}`: proofs/Worked.antt']
-            for at, (title, text, rests) in enumerate(worked_groups(statement.repository, crate, path), 1):
-                lines += ["", f"### {at}. {title}", "", "```agda", text, "```", *statement.rests(rests, "worked")]
+    root = statement.repository.root
+    for crate in statement.crates:
+        of_tests = root.glob(f"crates/*_tests/proofs/{crate.removeprefix('omf_')}/Worked.antt")
+        files = [*root.glob(f"crates/{crate}/proofs/Worked.antt"), *sorted(of_tests)]
+        if files:
+            lines += ["", f'## <a id="{crate}"></a>`{crate}`: ' + ", ".join(str(it.relative_to(root)) for it in files)]
+        groups = (it for path in files for it in worked_groups(statement.repository, crate, path))
+        for at, (title, text, rests) in enumerate(groups, 1):
+            lines += ["", f"### {at}. {title}", "", "```agda", text, "```", *statement.rests(rests, "worked")]
     return "\n".join(lines) + "\n"
 
 
