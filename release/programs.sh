@@ -113,22 +113,23 @@ unpacked_bytes() {
 
 # Unpacks a program from a file of release/, and says why where that can't be: unpack PROGRAM FILE SUM
 unpack() {
-    local status
+    local new status
     mkdir -p "$unpacked" 2>/dev/null && [ -w "$unpacked" ] || take_other_folder "$1" || {
         echo "$1: there is no folder to unpack the program in" >&2
         return 1
     }
-    unpacked_bytes "$top/release/$2" >"$unpacked/$1.new" 2>/dev/null
+    new=$unpacked/$1.$$.new # of this run alone, since another may unpack the same at this time
+    unpacked_bytes "$top/release/$2" >"$new" 2>/dev/null
     status=$?
     if [ $status -eq 127 ]; then
         echo "$1: nothing here unpacks release/$2: install xz (Debian's package xz-utils), or python3" >&2
-    elif [ "$(sha256sum <"$unpacked/$1.new" | cut -d ' ' -f 1)" != "$3" ]; then
+    elif [ "$(sha256sum <"$new" | cut -d ' ' -f 1)" != "$3" ]; then
         echo "$1: release/$2 is damaged: it doesn't have the sum that was noted of it" >&2
     else
-        chmod 755 "$unpacked/$1.new" && mv -f "$unpacked/$1.new" "$unpacked/$1"
+        chmod 755 "$new" && mv -f "$new" "$unpacked/$1"
         return
     fi
-    rm -f "$unpacked/$1.new"
+    rm -f "$new"
     return 1
 }
 
