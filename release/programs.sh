@@ -5,6 +5,10 @@
 
 unpacked=$top/out/released
 
+# The names of other linkers by which doslink takes what is written for them. It is installed by them in a folder of
+# their own, so that no other program is hidden, as link of coreutils.
+linkers='link tlink wlink'
+
 # Where programs are unpacked if the repository's folder can't be written to: a folder that this user alone may change.
 set_aside=${TMPDIR:-/tmp}/omf-released-$(id -u)
 

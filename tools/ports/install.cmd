@@ -1,5 +1,5 @@
 @echo off
-rem Copies the programs, the documents and the folder with wlink: install.cmd FOLDER
+rem Copies the programs, the documents and the folder linkers: install.cmd FOLDER
 if "%~1"=="" goto usage
 xcopy /e /i /q /y "%~dp0*" "%~1"
 if errorlevel 1 exit /b 3
