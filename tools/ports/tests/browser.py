@@ -17,7 +17,7 @@ sys.path.insert(0, str(cases.TOP / "bench"))
 import generate  # noqa: E402
 
 HERE = Path(__file__).resolve().parent
-SECONDS = 180
+SECONDS = 600  # of the whole page, where others work on the machine
 FLAGS = ("--headless", "--no-sandbox", "--disable-gpu", "--disable-extensions")
 
 
