@@ -1,0 +1,11 @@
+//! Names of files as DOS has them: `\` between folders, and letters of any case.
+#![tactic(auto)]
+
+mod choice;
+mod finding;
+mod names;
+mod paths;
+
+pub use choice::{Choice, choice_of};
+pub use names::Names;
+pub use paths::with_slashes;

@@ -1,0 +1,4 @@
+//! Names of files as DOS has them.
+
+#[cfg(test)]
+mod names;
