@@ -74,6 +74,12 @@ int32_t port_rename(const char *from, const char *to);
 int32_t port_unlink(const char *path);
 /* Puts a file's absolute path, with no link in it and parts behind `/`, into PATH_BYTES: answers `to`, or NULL. */
 char *port_realpath(const char *path, char *to);
+/* Opens a folder, whose path is `.` or ends in `/`, so that its names can be read. */
+int32_t rattle_open_dir_at(int32_t folder, const char *path);
+/* Puts the next names of an open folder at the start of `to`, in the form of Linux's getdents64: answers how many bytes
+   they take, 0 at the end. Where a system can't list folders, as it needn't where names tell no cases apart, this and
+   the function before it fail, and names are looked for as they are written. */
+ptrdiff_t port_getdents64(int32_t folder, void *to, size_t size);
 /* Puts a variable's value at the start of `to`: answers its length, -1 for none, or -2 where it doesn't fit. */
 ptrdiff_t rattle_env(const char *name, uint8_t *to, size_t size);
 

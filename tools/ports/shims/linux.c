@@ -5,8 +5,8 @@
 /* The kernel's numbers of its calls, the program's start, and a call of the kernel, which answers an error below 0. */
 #if defined __x86_64__
 enum { READ = 0, WRITE = 1, CLOSE = 3, FSTAT = 5, BRK = 12, SIGACTION = 13, FTRUNCATE = 77, GETCWD = 79, FCHMOD = 91,
-       FCHOWN = 93, EXIT = 231, OPENAT = 257, FSTATAT = 262, UNLINKAT = 263, RENAME = 264, READLINKAT = 267,
-       STATX = 332 };
+       FCHOWN = 93, GETDENTS = 217, EXIT = 231, OPENAT = 257, FSTATAT = 262, UNLINKAT = 263, RENAME = 264,
+       READLINKAT = 267, STATX = 332 };
 __asm__(".globl _start\n_start: xor %ebp, %ebp\n mov %rsp, %rdi\n and $-16, %rsp\n call begin");
 static long call(long number, long a, long b, long c, long d, long e) {
     long answer;
@@ -16,8 +16,9 @@ static long call(long number, long a, long b, long c, long d, long e) {
     return answer;
 }
 #else
-enum { GETCWD = 17, UNLINKAT = 35, FTRUNCATE = 46, FCHMOD = 52, FCHOWN = 55, OPENAT = 56, CLOSE = 57, READ = 63,
-       WRITE = 64, READLINKAT = 78, FSTATAT = 79, FSTAT = 80, EXIT = 94, SIGACTION = 134, BRK = 214, STATX = 291 };
+enum { GETCWD = 17, UNLINKAT = 35, FTRUNCATE = 46, FCHMOD = 52, FCHOWN = 55, OPENAT = 56, CLOSE = 57, GETDENTS = 61,
+       READ = 63, WRITE = 64, READLINKAT = 78, FSTATAT = 79, FSTAT = 80, EXIT = 94, SIGACTION = 134, BRK = 214,
+       STATX = 291 };
 #if defined __aarch64__
 enum { RENAME = 38 };
 __asm__(".globl _start\n_start: mov x29, #0\n mov x30, #0\n mov x0, sp\n bl begin");
@@ -55,6 +56,19 @@ int32_t port_rename(const char *from, const char *to) {
     return answered(call(RENAME, HERE, (long)from, HERE, (long)to, 0));
 }
 int32_t port_unlink(const char *path) { return answered(call(UNLINKAT, HERE, (long)path, 0, 0, 0)); }
+
+/* to read, for this program alone, a folder and no link that the path ends in */
+#if defined __aarch64__
+enum { FOLDER_ALONE = 02000000 | 040000 | 0100000 };
+#else
+enum { FOLDER_ALONE = 02000000 | 0200000 | 0400000 };
+#endif
+int32_t rattle_open_dir_at(int32_t folder, const char *path) {
+    return answered(call(OPENAT, folder, (long)path, FOLDER_ALONE, 0, 0));
+}
+ptrdiff_t port_getdents64(int32_t folder, void *to, size_t size) {
+    return answered(call(GETDENTS, folder, (long)to, size, 0, 0));
+}
 
 #if defined __x86_64__ || defined __aarch64__
 /* The status of a file for kernels before 4.11, which have no statx: kind and mode, owner, group, number, device and

@@ -80,6 +80,10 @@ int32_t port_ftruncate(int32_t file, int64_t size) { return answered(ftruncate(f
 int32_t port_rename(const char *from, const char *to) { return answered(rename(from, to)); }
 int32_t port_unlink(const char *path) { return answered(unlink(path)); }
 
+/* No folder is listed: most disks tell no cases apart, and on the others names count as they are written. */
+int32_t rattle_open_dir_at(int32_t folder, const char *path) { return failed(NO_CALL); }
+ptrdiff_t port_getdents64(int32_t folder, void *to, size_t size) { return failed(NO_CALL); }
+
 char *port_realpath(const char *path, char *to) {
     if (realpath(path, to)) return to;
     failed_in_c();

@@ -62,6 +62,10 @@ int32_t port_rename(const char *from, const char *to) {
 }
 int32_t port_unlink(const char *path) { return answered(host_unlink(at(path), length_of(path))); }
 
+/* No folder is listed: names are those of the page, or of DOS, which tells no cases apart. */
+int32_t rattle_open_dir_at(int32_t folder, const char *path) { return failed(NO_CALL); }
+ptrdiff_t port_getdents64(int32_t folder, void *to, size_t size) { return failed(NO_CALL); }
+
 char *port_realpath(const char *path, char *to) {
     int32_t length = answered(host_resolve(at(path), length_of(path), at(to), PATH_BYTES - 1));
     if (length < 0) return NULL;

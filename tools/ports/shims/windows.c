@@ -223,6 +223,10 @@ int32_t port_unlink(const char *path) {
     return is_done ? 0 : -1;
 }
 
+/* No folder is listed: names tell no cases apart, and what stands at a path is found however it is spelled. */
+int32_t rattle_open_dir_at(int32_t folder, const char *path) { return failed(NO_CALL); }
+ptrdiff_t port_getdents64(int32_t folder, void *to, size_t size) { return failed(NO_CALL); }
+
 /* What Windows answers begins with \\?\ or, for a folder of the network, with \\?\UNC\, which are left out. */
 char *port_realpath(const char *path, char *to) {
     static unit found[PATH_BYTES];
