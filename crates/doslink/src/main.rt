@@ -4,8 +4,11 @@
 ghost use Rattle.std.specs.Prelude.{◌≡◌, ◌-◌, ◌^◌, ◌<◌};
 ghost use Rattle.omf_files.specs.Files.{sink_failures};
 
-use doslink_jobs::{Language, language_of, library_folders, out_of_memory, run_words, wrong_words};
-use omf_files::{BufferedSink, Streams};
+use dos_names::Names;
+use doslink_jobs::{
+    Language, language_asked, language_of, library_folders, out_of_memory, run_words, wrong_words,
+};
+use omf_files::BufferedSink;
 use omf_frame::{Sink, WriteSink};
 use std::env::{self, VarError};
 use std::io::{ErrorKind, Write};
@@ -37,6 +40,14 @@ fn run(rt: &HostRuntime) -> u8 {
     }
 }
 
+// The files of the machine, by paths of DOS where a line of LINK or TLINK names them.
+fn files_of(rt: &HostRuntime, language: Language) -> Names<'_> {
+    match language {
+        Language::Link | Language::Tlink => Names::of_dos(rt),
+        Language::Words | Language::Directives => Names::of_machine(rt),
+    }
+}
+
 // Does what the program's name and the words after it ask for, and hands out the exit status.
 fn run_arguments<O: Write + Drop, E: Sink>(
     rt: &HostRuntime,
@@ -59,7 +70,7 @@ fn run_arguments<O: Write + Drop, E: Sink>(
     };
     match library_folders(rt.alloc(), list.as_str()) {
         Ok(folders) => {
-            let world = Streams::of(rt);
+            let world = files_of(rt, language_asked(language, words));
             run_words(rt.alloc(), world, language, words, &folders, output, errors)
         }
         Err(_) => out_of_memory(errors),
