@@ -58,6 +58,18 @@ wlink => nothing";
     }
 }
 
+/// The lines of a list in help keep the blanks at their fronts.
+#[test]
+fn keeps_the_layout_of_help(rt: HostRuntime) {
+    let text = text_asked(&["--help"]).unwrap_or("nothing");
+    for line in [
+        "       wlink DIRECTIVE..",
+        "  name FILE              the program to write",
+    ] {
+        assert!(rt; text.split('\n').any(|it| it == line), "{line}");
+    }
+}
+
 /// Both programs have one version.
 #[test]
 fn tells_one_version(rt: HostRuntime) {
