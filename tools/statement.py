@@ -237,8 +237,10 @@ def worked_page(statement):
         "them; `tools/definitions --write` makes this page.")
     root = statement.repository.root
     for crate in statement.crates:
-        of_tests = root.glob(f"crates/*_tests/proofs/{crate.removeprefix('omf_')}/Worked.antt")
-        files = [*root.glob(f"crates/{crate}/proofs/Worked.antt"), *sorted(of_tests)]
+        # no module of tests has the whole name of a library: `mz_file` has those of `mz`
+        name = crate.removeprefix("omf_")
+        of_tests = [it for end in ("", "_file") for it in root.glob(f"crates/*_tests/proofs/{name}{end}/Worked.antt")]
+        files = [*root.glob(f"crates/{crate}/proofs/Worked.antt"), *of_tests]
         if files:
             lines += ["", f'## <a id="{crate}"></a>`{crate}`: ' + ", ".join(str(it.relative_to(root)) for it in files)]
         groups = (it for path in files for it in worked_groups(statement.repository, crate, path))

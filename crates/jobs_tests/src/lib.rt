@@ -1,7 +1,7 @@
 //! Jobs of `omf` and runs of `doslink`, and the files of both, over a world in memory.
 #![tactic(auto)]
 
-mod dos_names;
-mod doslink;
-mod doslink_files;
+mod dos;
+mod files;
 mod jobs;
+mod runs;

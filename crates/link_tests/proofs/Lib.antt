@@ -1,2 +1,2 @@
 mod image
-mod mz
+mod mz_file

@@ -3,9 +3,9 @@
 
 mod commands;
 mod faults;
-mod flat_file;
+mod flat;
 mod image;
-mod link_map;
+mod linkers_map;
 mod map;
-mod mz;
+mod mz_file;
 mod place;

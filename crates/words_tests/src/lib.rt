@@ -1,6 +1,6 @@
 //! Words of the command lines of `omf` and of `doslink`, directives of response files, and lines of LINK and TLINK.
 #![tactic(auto)]
 
-mod doslink_words;
-mod makefile_words;
+mod doslink;
+mod makefile;
 mod words;
