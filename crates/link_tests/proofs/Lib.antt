@@ -1,2 +1,0 @@
-mod image
-mod mz_file
