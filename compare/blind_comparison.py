@@ -1,4 +1,7 @@
-"""Runs `doslink` and its model on the same jobs, on a system whose names of files tell no cases apart."""
+"""Runs `doslink` and its model on the same jobs, on a system whose names of files tell no cases apart.
+
+There are no lines of LINK and TLINK: as the model reads these, `\\` parts no folders.
+"""
 
 import doslink_comparison
 from model.places import BlindFiles
@@ -9,6 +12,8 @@ lines_of_ends, summary = doslink_comparison.lines_of_ends, doslink_comparison.su
 
 class Comparison(doslink_comparison.Comparison):
     """Compares one job after the other, as on such a system."""
+
+    has_lines = False
 
     def files_of(self, case):
         return BlindFiles(case.files)

@@ -1,4 +1,4 @@
-"""Runs `doslink` and its model on the same jobs, and tells where they differ."""
+"""Runs `doslink` and its model on the same jobs, also by lines of LINK and TLINK, and tells where they differ."""
 
 import os
 import random
@@ -8,6 +8,7 @@ import comparison
 from comparison import OLD, expect
 from generator import jobs
 from model import faults, linking
+from model.places import PlacedFiles
 
 LINK, DIRECTIVES = "doslink", "wlink"
 # by what it is called to take lines of other linkers, and the words that say the same
@@ -20,8 +21,8 @@ no_counts, lines_of_limits = comparison.no_counts, comparison.lines_of_limits
 class Comparison(comparison.Comparison):
     """Compares one job after the other in a folder, or each in one that is kept."""
 
-    # whether the program takes lines of LINK and TLINK too
-    has_lines = False
+    # whether a seed is a job by the words of doslink or wlink, and whether it is one by a line of LINK or TLINK
+    has_words = has_lines = True
 
     def __init__(self, program, top, keeps=False):
         super().__init__(program, top, keeps)
@@ -31,9 +32,16 @@ class Comparison(comparison.Comparison):
             path.symlink_to(program)
 
     def compare(self, seed):
-        """One job; raises a Difference."""
-        chance = random.Random(seed)
-        case = jobs.case(chance, seed, self.has_lines)
+        """The jobs of a seed; raises a Difference."""
+        if self.has_words:
+            chance = random.Random(seed)
+            self.compare_case(chance, jobs.case(chance, seed))
+        if self.has_lines:
+            chance = random.Random(f"{seed} by a line")
+            self.compare_case(chance, jobs.case(chance, seed, has_lines=True))
+
+    def compare_case(self, chance, case):
+        """One job, often with an older OUT."""
         answer = comparison.asked(model_answer, case, self.files_of(case))
         self.put(case)
         given = {}
@@ -45,7 +53,7 @@ class Comparison(comparison.Comparison):
 
     def files_of(self, case):
         """The files of a case as the system finds them by their paths."""
-        return case.files
+        return PlacedFiles(case.files)
 
     def put(self, case):
         """A folder with the files of a case."""
@@ -70,7 +78,7 @@ class Comparison(comparison.Comparison):
 
     def command(self, case):
         """The program by its name, or by another one and the words that say this one."""
-        if self.has_lines and case.program != LINK and len(case.words) % 2:
+        if case.program != LINK and len(case.words) % 2:
             return [self.programs[LINK], "--as", case.program, *case.words]
         return [self.programs[case.program], *case.words]
 
@@ -86,21 +94,16 @@ class Comparison(comparison.Comparison):
                 expect(path, (self.folder / path).read_bytes(), content)
 
 
-def can_be_made(path):
-    """Whether a file can be made at a path."""
-    return not path.startswith(jobs.NO_FOLDER)
-
-
 def model_answer(case, files):
     """What the model answers to a case over its files."""
+    where = files, case.folders, files.can_be_made
     if case.program in LINES:
-        return linking.link_by_line(case.program, case.words, files, case.folders, can_be_made)
+        return linking.link_by_line(case.program, case.words, *where)
     if case.program == DIRECTIVES:
-        return linking.link_by_directives(case.words, files, case.folders, can_be_made)
+        return linking.link_by_directives(case.words, *where)
     if case.words == ["@" + jobs.RESPONSE]:
-        return linking.link_by_response(
-            jobs.RESPONSE, files, lambda _: case.job, case.folders, can_be_made)
-    return linking.link(case.job, files, case.folders, can_be_made)
+        return linking.link_by_response(jobs.RESPONSE, files, lambda _: case.job, *where[1:])
+    return linking.link(case.job, *where)
 
 
 def compare_seeds(program, folder, seeds, keeps=False, kind=Comparison):

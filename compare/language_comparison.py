@@ -1,19 +1,15 @@
-"""Runs `doslink` and its model on the same jobs, also by lines of LINK and TLINK."""
+"""Runs `doslink` and its model on the same jobs by lines of LINK and TLINK, and on no others."""
 
 import doslink_comparison
-from model.places import PlacedFiles
 
 no_counts, lines_of_limits = doslink_comparison.no_counts, doslink_comparison.lines_of_limits
 lines_of_ends, summary = doslink_comparison.lines_of_ends, doslink_comparison.summary
 
 
 class Comparison(doslink_comparison.Comparison):
-    """Compares one job after the other, of which many are asked for by such lines."""
+    """Compares one such job after the other."""
 
-    has_lines = True
-
-    def files_of(self, case):
-        return PlacedFiles(case.files)
+    has_words = False
 
 
 def compare_seeds(program, folder, seeds, keeps=False):

@@ -6,7 +6,7 @@ from itertools import groupby
 from generator.communals import (
     LOCATIONS, NO_NUMBERS, Declared, at_limit, module_of_communals, module_of_local_variables,
     module_of_no_number)
-from generator.lines import LINK, ODD_LINES, OTHER_OPTIONS, TLINK, WRONG_WORDS, LineSpeller
+from generator.lines import LINES_OF_TLINK, LINK, ODD_LINES, OTHER_OPTIONS, TLINK, WRONG_WORDS, LineSpeller
 from generator.libraries import (
     ARCHIVE, SMALL_PAGES, SYMBOL_TABLES, archive, archive_of_symbols, archive_with_symbols, damaged,
     foreign, library, with_header)
@@ -130,8 +130,16 @@ OTHER_OUTS = [
     RESPONSE, "./" + OUT]
 # one has about so many lines of a kind as are told
 LINES_EVERY, LINE_COUNTS = 25, [20, 21, 22]
+# paths whose last names begin as options of TLINK do
+FRONTS = ["obj/j", "lib/L", "src/y", "src/T", "src/O", "src/R"]
+# what stands beside the object of a line that is wrong, or seems so
+BESIDE = [
+    "0.obj", "sub/a.obj", "my file.obj", "obj/job.obj", "src/yacc.obj", "src/Table.obj", "src/Rest.obj", "src/Open.obj",
+    "main/La.obj", "lib/LIBC.LIB", "lib/libm.lib", "x/l.LIB", "x.lib/y.obj"]
 # lengths of a body that externals by indexes, or of aliases, have by their names
 LONG_BODIES, LONG_EVERY = [65_534, 65_535], 150
+# what may stand behind the name of a file, or of a library, in its path
+ENDINGS = ["", ".OBJ", ".obj", ".LIB", ".lib"]
 MEMBER_NAMES = [b"printf.o", b"exit.o", b"system.o", b"a_long_name_of_a_member.o", b"x"]
 DEFAULT_LIBRARIES = [b"SLIBCE", b"runtime.a", b"GRAPH.LIB", b"em87", b"slibce"]
 LINES_OF_NOTHING = [
@@ -172,7 +180,7 @@ class JobMaker:
 
     def __init__(self, random, has_lines=False):
         self.random = random
-        # whether jobs are asked for by lines of LINK and TLINK too
+        # whether the job is asked for by a line of LINK or TLINK
         self.has_lines = has_lines
         self.files = {}
         self.job = Job(out=OUT)
@@ -821,8 +829,8 @@ class JobMaker:
         return items or [ordering.Class(b"CODE")]
 
     def asked(self):
-        """The job by words, by words in a file, by directives, or by a line of LINK or TLINK."""
-        if self.has_lines and self.happens(0.5):
+        """The job by words, by words in a file, or by directives; or by a line of LINK or TLINK."""
+        if self.has_lines:
             return self.by_line(self.random.choice([LINK, TLINK]))
         if self.happens(0.35):
             return self.by_directives()
@@ -842,10 +850,22 @@ class JobMaker:
         job, speller = self.job, LineSpeller(self.random, language, self.files)
         kinds = {"sys": "com", "bin": "com"}
         kind = "exe" if job.form is None else job.form.kind
+        if self.happens(0.15):
+            self.move_inputs()
         job.form, job.keeps_debug, job.is_verbose = Form(kinds.get(kind, kind)), False, self.happens(0.5)
         job.order = job.order if job.order == ordering.DOSSEG else None
         job.inputs.sort(key=lambda each: each.is_library)
         return self.case(speller.spelled(job, more), language)
+
+    def move_inputs(self):
+        """Some of what is linked, of what is here, stands in folders, by names that begin as options of TLINK do."""
+        for name in dict.fromkeys(each.name for each in self.job.inputs):
+            paths = [path for path in (name + ending for ending in ENDINGS) if path in self.files]
+            if paths and self.happens(0.7):
+                front = self.random.choice(FRONTS)
+                self.files.update({front + path: self.files.pop(path) for path in paths})
+                for each in self.job.inputs:
+                    each.name = front + name if each.name == name else each.name
 
     def make_line_options(self, language, option):
         """A line with an option that asks for no other job, or with a word that is wrong."""
@@ -855,11 +875,11 @@ class JobMaker:
         word = option if isinstance(option, str) else LineSpeller(self.random, language, {}).option(*option)
         return self.by_line(language, [word])
 
-    def make_odd_line(self, line):
-        """A line that is wrong, or that seems so; some are only such of TLINK."""
-        language = TLINK if "/La" in line or "/x" in line else self.random.choice([LINK, TLINK])
-        for path in ("0.obj", "sub/a.obj", "my file.obj"):
-            self.files[path] = module_of_publics([b"x"])
+    def make_odd_line(self, line, language=None):
+        """A line that is wrong, or that seems so, of a linker or of any."""
+        language = language or self.random.choice([LINK, TLINK])
+        for path in BESIDE:
+            self.files[path] = module_of_publics([path.encode()])
         self.files["com.obj"], self.folders = module_of_form(0, 3, 0x100, ()), []
         speller = LineSpeller(self.random, language, self.files)
         name = self.random.choice(["0.obj", "0", '"0.obj"', "0.OBJ"])
@@ -912,7 +932,7 @@ class JobMaker:
         self.files["long.obj"] = module_of_lengths(names, 2, [0, 1, 2, 0, 1, 2], False)
         self.give("long.obj")
         self.job.map_form = form
-        return self.asked() if form == "omf" else self.case(self.words(), "doslink")
+        return self.case(self.words(), "doslink")
 
     def case(self, words, program):
         return Case(
@@ -1006,6 +1026,8 @@ class JobMaker:
 
     def by_directives(self):
         """Directives in any order but that of files and of libraries, in a file or as words."""
+        if self.has_lines:
+            return self.asked()
         job = self.job
         job.is_verbose = job.keeps_debug = job.has_null_bytes = False
         job.has_default_libraries = True
@@ -1154,13 +1176,13 @@ MADE = [
 ]
 
 
-# Where lines are taken, one job in so many is one of these, of the jobs that are left: each number // LINES_EVERY is.
-LINES_EVERY = 3
+# Where lines are asked for, half of the jobs are of these: by half of its number.
 MADE_BY_LINES = [
     (2, 0, in_turn(JobMaker.make_line_options, [
         (language, option) for language in (LINK, TLINK)
         for option in [*OTHER_OPTIONS[language], *WRONG_WORDS[language]]])),
-    (4, 1, in_turn(JobMaker.make_odd_line, [(line,) for line in ODD_LINES])),
+    (4, 1, in_turn(JobMaker.make_odd_line, [(line,) for line in ODD_LINES] + [
+        (line, TLINK) for line in LINES_OF_TLINK])),
     (40, 3, in_turn(JobMaker.make_cases, [
         (language, counts) for counts in (True, False) for language in (LINK, TLINK)])),
     (40, 23, in_turn(JobMaker.make_stacks, [(lengths, True) for lengths in STACKS])),
@@ -1177,8 +1199,8 @@ MADE_BY_LINES = [
 def case(random, number=1, has_lines=False):
     """A job and its files; of some numbers one that is made for one rule, often at its limit."""
     maker, made = JobMaker(random, has_lines), MADE
-    if has_lines and number % LINES_EVERY == 0:
-        number, made = number // LINES_EVERY, MADE_BY_LINES
+    if has_lines:
+        number, made = number // 2, made if number % 2 else MADE_BY_LINES
     for every, behind, make in made:
         if number % every == behind:
             return make(maker, number // every)

@@ -6,7 +6,7 @@ RESPONSE, PART = "response", "part"
 OTHER_OPTIONS = {
     LINK: [
         ("BATCH", 1), ("NOLOGO", 3), ("PAUSE", 3), ("CODEVIEW", 2), ("OVERLAYINTERRUPT:63", 1),
-        ("PADCODE:2", 4), ("PADDATA", 4), ("ALIGNMENT:16", 2), ("ALIGNMENT", 2), ("PMTYPE:VIO", 2),
+        ("PADCODE:2", 4), ("PADDATA", 4), ("ALIGNMENT:16", 1), ("ALIGNMENT", 1), ("PMTYPE:VIO", 2),
         ("WARNFIXUP", 1), ("INCREMENTAL", 3), ("EXEPACK", 1), ("FARCALLTRANSLATION", 1),
         ("NOFARCALLTRANSLATION", 3), ("PACKCODE", 5), ("PACKCODE:512", 5), ("PACKDATA", 5), ("NOPACKCODE", 3),
         ("NOEXTDICTIONARY", 3), ("SEGMENTS:0x100", 2), ("MAP:FULL", 1), ("MAP:ADDRESS", 1), ("LINENUMBERS", 2),
@@ -15,29 +15,47 @@ OTHER_OPTIONS = {
         ("NODEFAULTLIBRARYSEARCH:Runtime.A", 3)],
     TLINK: [(each, len(each)) for each in [
         "c-", "d", "e", "3", "C", "E", "k", "j", "P", "P=4096", "A=16", "yc", "ye", "yex", "yx", "v", "v-", "f", "f-",
-        "O", "Ol", "i", "i-", "m", "m-", "l", "s", "x", "x-", "jobjs", "jone;two", "n-", "t-", "Tde", "o-", "yc-", "d-"]],
+        "O", "Ol", "i", "i-", "m", "m-", "l", "s", "x", "x-", "jobjs", "jone;two", "n-", "t-", "Tde", "o-", "yc-", "d-",
+        "Lc:\\tc\\lib/c-", "jc:\\obj/e", "Lone\\two/v", "Ld:/d", "Lone;d:/m/Ltwo", "Lone/two", "Lc:\\tc/lib/m"]],
 }
 WRONG_WORDS = {
     LINK: [
         "/X", "/NO", "/ST:0", "/ST:65537", "/ST:089", "/ST:", "/ST:4k", "/CP:65536", "/CP:x", "/DS", "/HIGH", "/OLD",
         "/Q", "/NOG", "/DY", "(a+b)", '"a', "/NOI:1", "/SE:x", "/SE", "/M:x", "/STACKS", "-x", "@nowhere", "/", "/PACK",
-        "/S:4", "/C", "/home/x.obj", "-home/x.obj"],
+        "/S:4", "/C", "/nowhere/x.obj", "-nowhere/x.obj"],
     TLINK: [
         "/q", "-q", "/o", "/Twe", "/R", "/Rk", "/L", "/A", "(a+b)", '"a', "/cx", "@nowhere", "-", "/tx", "/M", "/X",
-        "/home/x.obj", "-c/q"],
+        "/nowhere/x.obj", "-c/q", "/La/c", "-ja/Tdc", "/La;b/v-", "/j/c"],
 }
 # lines that are wrong, or seem so; `OBJECT` is that of the job, and behind `~` all is one word
 ODD_LINES = [
     "/e\nOBJECT\nout", "/e /m\n\n OBJECT+\n\nout\n\n", "OBJECT\nout", "OBJECT\nout\n\n", "OBJECT\n\nlist", "OBJECT,,", "OBJECT,,;",
     "OBJECT,", "OBJECT,;", "OBJECT\nout\n\nnul\n", "OBJECT,out,/m", "OBJECT,out,nul/m", "OBJECT /m", "OBJECT+\n/e\nout", "OBJECT +/e\nout",
     "OBJECT,out.x.y", "OBJECT,,,sub\\ c:,nul", "OBJECT,,,sub/ x", "OBJECT,./out/e", "./0/e", "OBJECT,con.x;x", '"0/e"', "OBJECT,out.com", "OBJECT,out.bin", "OBJECT,more\\out", "OBJECT,,,nul",
-    "sub/a;", '"sub\\a"', "sub/a.obj,,", "sub/a,sub/p", "com/t;", "com,prog/t", "com/t,prog.x", "OBJECT,out,nul/x-", "OBJECT/x/x-", "OBJECT,,,/x-",
-    "~my file", "~my file/x", "~OBJECT out", "~OBJECT,my out;", "~0 com,out;", "~com 0+my", '~"my file" OBJECT,out;', "OBJECT,nul", "OBJECT,NUL.X,list", ",,,x.lib;", "OBJECT,,list.", "OBJECT,x\\y,", "OBJECT/La/m", "OBJECT /La/c", "/x/c OBJECT", "OBJECT (x+y)",
+    "sub/a;", '"sub\\a"', "sub/a.obj,,", "sub/a,sub/p", "com/t;", "com,prog/t", "com/t,prog.x",
+    "~my file", "~OBJECT out", "~OBJECT,my out;", "~0 com,out;", "~com 0+my", '~"my file" OBJECT,out;', "OBJECT,nul", "OBJECT,NUL.X,list", ",,,x.lib;", "OBJECT,,list.", "OBJECT,x\\y,", "OBJECT (x+y)",
     "OBJECT,out /l", "OBJECT,out,list/LI/s/l", "OBJECT /l /s", '"', '"OBJECT" "', "OBJECT,con", "OBJECT,CON.MAP", "OBJECT,,con", "OBJECT,com4",
     "OBJECT,com5", "OBJECT,,lpt4", "OBJECT,nul.", "OBJECT,out,list;;+ \n", "OBJECT \n;", "x@y,out", "OBJECT,out,@x", "OBJECT,@",
     ";", "", ",prog", "/c", "OBJECT,a b", "OBJECT,,a b", "OBJECT,,,,nul,x", "OBJECT;x", "OBJECT;,x", "OBJECT,prn",
     "OBJECT,,aux", "OBJECT,com1", "OBJECT,com3,", "OBJECT,,LPT9.x", 'OBJECT,"prn"', "OBJECT,d:a", "c:OBJECT",
-    "OBJECT,,,,x.def", "OBJECT,,,,nowhere", "OBJECT,,,,nul nul nul", "OBJECT;;", "OBJECT;/c", 'OBJECT;"', "OBJECT\n\n\n\n\nx"]
+    "OBJECT,,,,x.def", "OBJECT,,,,nowhere", "OBJECT,,,,nul nul nul", "OBJECT;;", "OBJECT;/c", 'OBJECT;"', "OBJECT\n\n\n\n\nx",
+    # folders in the place of files, files in that of folders, and names without a byte
+    "sub", "OBJECT+sub+nowhere", '"sub/"', '"0.obj/"', "OBJECT,,,sub", "OBJECT,,,lib x/ nowhere/", "@sub", "@0.obj/x",
+    "@", '""', 'OBJECT,,,""', "OBJECT,sub", "OBJECT,x.lib", "OBJECT,,x.lib", 'OBJECT,"sub/"', "OBJECT,0.obj/prog",
+    "OBJECT,nowhere/prog", "OBJECT,sub/prog,x/list", "OBJECT,,nowhere/list", "./sub/../0", '"nowhere/../0"',
+    "obj/job,,", "OBJECT,,,lib/LIBC"]
+# the same of TLINK: what may be options behind a name, and folders of DOS
+LINES_OF_TLINK = [
+    "OBJECT,out,nul/x-", "OBJECT/x/x-", "OBJECT,,,/x-", "~my file/x", "OBJECT/La/m", "OBJECT /La/c", "/x/c OBJECT",
+    "obj/job", "obj/job.obj/c,out", "OBJECT+obj/job/m", "obj/job/d-/e,,", "src/yacc.obj", "src/yacc/yc",
+    "src/Table+OBJECT", "src/Rest/Tde", "src/Open;", "src/ye", "sub/a/A=16", "sub/a.obj/P=1/c", "main/La/c", "main/La",
+    "main/Lc:\\lib", "main/x/La", "OBJECT,,,lib/LIBC.LIB", "OBJECT,,,lib/LIBC/n", "OBJECT,,,lib/libm lib/LIBC",
+    "OBJECT,,,sub/Lx/", "OBJECT,obj/job2,obj/job3", "OBJECT,,,,nul/O", "OBJECT,,,,nul/j", "OBJECT,,nul/Ol",
+    "OBJECT,nowhere/Table", "OBJECT /Lc:\\tc\\lib/c", "OBJECT -jc:\\obj/Tdc", "OBJECT /Lsub\\more/v,,,x",
+    "OBJECT /Lsub:/v,,,x", "OBJECT /Lx/c\\d,,,y", "OBJECT,,, /Lx;c:\\tc/m l", "OBJECT -La/j", "OBJECT /c/La/m",
+    "OBJECT /Lc:\\tc\\lib/c;", "OBJECT /jx/Lc:\\tc,,,l", "OBJECT /Lx/q,,,l", "OBJECT /Lx,,,l"]
+# options of TLINK whose values may be anything, so that they touch no name, and those that only begin so
+APART, TOUCHING = "LjOyTR", ("j", "yc", "ye", "Tdc", "Tde")
 BEHIND_TEXT = ["", "", "\x1A", "\x1Amore,words;\n/q"]
 
 
@@ -170,11 +188,15 @@ class LineSpeller:
             touches = at and text[at - 1] not in ' ,+\n"' and self.happens(0.5) and not text[:at].endswith(";")
             # what begins with `./` holds no option
             touches = touches and not text[:at].replace(",", " ").replace("+", " ").split()[-1].startswith("./")
-            if touches and option[0] == "/" and "L" not in option and "j" not in option:
+            if touches and option[0] == "/" and self.may_touch(option[1:]):
                 text = text[:at] + option + text[at:]
             else:
                 text = text[:at] + " " + option + " " + text[at:]
         return text + end
+
+    def may_touch(self, option):
+        """Whether an option behind a name in one word is one, and no part of a path."""
+        return self.language == LINK or option[:1] not in APART or option in TOUCHING
 
     # ---- how a line is said
 

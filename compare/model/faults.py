@@ -72,7 +72,7 @@ class Fault(Exception):
 
     def line(self, files=(), program="omf"):
         """The line on standard error; `files` are the names of inputs that have numbers."""
-        whose = files[self.owner] if isinstance(self.owner, int) else self.owner or "link"
+        whose = files[self.owner] if isinstance(self.owner, int) else "link" if self.owner is None else self.owner
         name = {**NAMES, **DOSLINK_NAMES}[self.number]
         line = f"{program}: {whose}: {self.number} {name}"
         if self.name is not None:

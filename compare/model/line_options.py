@@ -121,7 +121,7 @@ LINK = [
     ("DY[NAMIC]", NO_VALUE, refuses(OVERLAYS)), ("OL[DOVERLAY]", NO_VALUE, refuses(OVERLAYS)),
     ("O[VERLAYINTERRUPT]", VALUE, warns(NOTHING)),
     ("PADC[ODE]", EITHER, warns(NOTHING)), ("PADD[ATA]", EITHER, warns(NOTHING)),
-    ("AL[IGNMENT]", EITHER, warns(NOTHING)), ("PM[TYPE]", EITHER, warns(NOTHING)),
+    ("A[LIGNMENT]", EITHER, warns(NOTHING)), ("PM[TYPE]", EITHER, warns(NOTHING)),
     ("W[ARNFIXUP]", NO_VALUE, warns(NOTHING)), ("INC[REMENTAL]", NO_VALUE, warns(NOTHING)),
     ("E[XEPACK]", NO_VALUE, warns(PACKING)), ("F[ARCALLTRANSLATION]", NO_VALUE, warns(PACKING)),
     ("NOF[ARCALLTRANSLATION]", NO_VALUE, nothing),
@@ -181,19 +181,34 @@ TLINK_BEGUN = [
 ]
 
 
+# the letters of those behind which any text is a value
+FREE_VALUES = tuple("LjOyTR")
+
+
+def tlink_word(text):
+    """What one of TLINK asks for that has no value, or None."""
+    if text in TLINK_FLAGS:
+        return TLINK_FLAGS[text][0]
+    if text.endswith("-") and text[:-1] in TLINK_FLAGS:
+        return TLINK_FLAGS[text[:-1]][1]
+    return TLINK_WORDS.get(text)
+
+
 def tlink_option(text):
     """The same of TLINK, whose options keep their case."""
-    if text in TLINK_FLAGS:
-        return TLINK_FLAGS[text][0], None
-    if text.endswith("-") and text[:-1] in TLINK_FLAGS:
-        return TLINK_FLAGS[text[:-1]][1], None
-    if text in TLINK_WORDS:
-        return TLINK_WORDS[text], None
+    ask = tlink_word(text)
+    if ask is not None:
+        return ask, None
     for pattern, ask in TLINK_BEGUN:
         found = re.fullmatch(pattern, text, re.DOTALL)
         if found:
             return ask, next(iter(found.groups()), None)
     return None
+
+
+def has_free_value(language, text):
+    """Whether any text is its value, so that the last name of a path may read as such an option."""
+    return language == "tlink" and text.startswith(FREE_VALUES) and tlink_word(text) is None
 
 
 def takes_folders(language, text):

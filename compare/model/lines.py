@@ -8,7 +8,7 @@ import re
 from dataclasses import dataclass, field
 from typing import Optional
 
-from model.line_options import OPTION, OVERLAYS, UNKNOWN_OPTION, Wrong, takes_folders
+from model.line_options import OPTION, OVERLAYS, UNKNOWN_OPTION, Wrong, has_free_value, takes_folders
 
 LINK, TLINK = "link", "tlink"
 NO_OBJECT, SECOND_NAME, TOO_MANY_FIELDS = "NoObject", "SecondName", "TooManyFields"
@@ -21,6 +21,8 @@ BLANKS, MARKS = " \t\f\r", "+,;\n"
 NO_FILE = "nul"
 # what can't be written
 DEVICES = re.compile("con|prn|aux|(?:lpt|com)[1-9]")
+# what parts folders of DOS, and stands behind a drive there
+OF_DOS = re.compile(r"[\\:]")
 
 
 class LineFault(Exception):
@@ -125,10 +127,16 @@ def is_option(language, text):
     return OPTION[language](text) is not None
 
 
+def touches(language, text):
+    """Whether it is an option that may stand behind a name in one word."""
+    return is_option(language, text) and not has_free_value(language, text)
+
+
 def cut(language, word):
     """A word's name, or None, and its options.
 
-    `/` begins an option anywhere, and `-` at a word's start; but it parts folders too.
+    `/` begins an option anywhere, and `-` at a word's start; but it parts folders too. So behind a name an option
+    of any value is a part of that.
     """
     if re.match(r"\.{1,2}/", word):
         return word, []
@@ -136,7 +144,7 @@ def cut(language, word):
         return cut_begun(language, word)
     name, *rest = word.split("/")
     options = []
-    while rest and is_option(language, rest[-1]):
+    while rest and touches(language, rest[-1]):
         options.insert(0, rest.pop())
     return "/".join([name, *rest]), options
 
@@ -144,11 +152,11 @@ def cut(language, word):
 def cut_begun(language, word):
     """One that begins as an option: options, an option of folders that have `/`, or a path.
 
-    Folders that may be options as well are a fault.
+    Folders that may be options as well are a fault, unless the signs of DOS say that `/` parts no folders there.
     """
     options = word[1:].split("/")
     if all(is_option(language, each) for each in options):
-        if len(options) > 1 and takes_folders(language, word[1:]):
+        if len(options) > 1 and takes_folders(language, word[1:]) and not OF_DOS.search(word):
             raise Wrong(TWO_WAYS)
         return None, options
     if takes_folders(language, word[1:]) and is_option(language, word[1:]):

@@ -93,9 +93,31 @@ def whole_names(job, first):
     return job
 
 
+def nowhere(path):
+    """No path is one of a folder."""
+    return False
+
+
 def in_folder(folder, name):
     """The path of a file in a folder, which is this one where it is empty."""
     return folder + ("/" if folder and folder[-1] not in "/\\:" else "") + name
+
+
+def file_paths(name):
+    """Where one of FILES may be: its path may have one of two endings that its name hasn't."""
+    endings = ["", ".OBJ", ".obj"] if "." not in last_part(name) else [""]
+    return [name + ending for ending in endings]
+
+
+def library_paths(name, folders):
+    """Where a library may be: here, or in the first folder that has it."""
+    endings = [""] if "." in last_part(name) else ENDINGS
+    return [in_folder(folder, name + ending) for folder in ["", *folders] for ending in endings]
+
+
+def why_unread(is_folder):
+    """What is said where there is no file."""
+    return "it is a folder" if is_folder else "no such file"
 
 
 class Linking:
@@ -108,6 +130,7 @@ class Linking:
         self.files = files
         # where a path leads to
         self.place = getattr(files, "place", normpath)
+        self.is_folder = getattr(files, "is_folder", nowhere)
         self.folders = folders
         self.can_be_made = can_be_made
         self.answer = answer
@@ -152,9 +175,10 @@ class Linking:
         """
         lines = []
         for each in self.job.inputs:
-            path = self.library(each.name) if each.is_library else self.file(each.name)
+            paths = library_paths(each.name, self.job.folders) if each.is_library else file_paths(each.name)
+            path = self.found(paths)
             if path is None:
-                lines.append(f"{each.name}: 1 Device at record 0: no such file")
+                lines.append(f"{each.name}: 1 Device at record 0: {self.why_unread(paths)}")
             else:
                 self.add(path)
         if lines:
@@ -166,25 +190,17 @@ class Linking:
             return printing.map_of(program) + self.table_of(program)
         return link_map.map_of(program, self.job.map_form)
 
-    def file(self, name):
-        """The path of a file: it may have one of two endings that its name hasn't."""
-        endings = ["", ".OBJ", ".obj"] if "." not in last_part(name) else [""]
-        paths = [name + ending for ending in endings]
+    def found(self, paths):
+        """The first path at which a file is, or None."""
         return next((path for path in paths if self.files.get(path) is not None), None)
 
-    def library(self, name):
-        return self.found(name, self.job.folders)
+    def why_unread(self, paths):
+        """Why there is a file at none of the paths."""
+        return why_unread(any(map(self.is_folder, paths)))
 
     def add(self, path):
         """One more file."""
         self.inputs.append((path, self.files[path]))
-
-    def found(self, name, folders):
-        """The path of a library here or in the first folder that has it, or None."""
-        endings = [""] if "." in last_part(name) else ENDINGS
-        paths = [
-            in_folder(folder, name + ending) for folder in ["", *folders] for ending in endings]
-        return next((path for path in paths if self.files.get(path) is not None), None)
 
     def add_default_libraries(self):
         """Those that the modules taken so far name and that weren't met before.
@@ -210,7 +226,7 @@ class Linking:
 
     def add_default_library(self, name, word):
         try:
-            path = self.found(name.decode(), [*self.job.folders, *self.folders])
+            path = self.found(library_paths(name.decode(), [*self.job.folders, *self.folders]))
         except UnicodeDecodeError:
             path = None
         if path is None:
@@ -584,7 +600,7 @@ def link_by_directives(words, files, folders=(), can_be_made=always):
     except directives.DirectiveFault as fault:
         return Answer(WRONG_WORDS, error=told([fault.text]).encode(), fault=faults.WORDS)
     except directives.Unread as unread:
-        return unread_answer(unread)
+        return unread_answer(unread, files)
     warnings = [f"warning: {place}: {text}" for place, text in job.warnings]
     spoken_files = [word[1:] for word in words if word.startswith("@")]
     answer = link(job, files, folders, can_be_made, spoken_files)
@@ -598,7 +614,7 @@ def link_by_response(path, files, job_of, folders=(), can_be_made=always):
     try:
         words = directives.split_words(directives.text_of(path, files))
     except directives.Unread as unread:
-        return unread_answer(unread)
+        return unread_answer(unread, files)
     except directives.Refused as refused:
         return Answer(WRONG_WORDS, error=told([refused.text]).encode(), fault=faults.WORDS)
     return link(job_of(words), files, folders, can_be_made, [path])
@@ -615,7 +631,7 @@ def link_by_line(language, words, files, folders=(), can_be_made=always):
     except line_jobs.LineRefused as refused:
         return Answer(WRONG_WORDS, error=told([refused.text]).encode(), fault=faults.WORDS)
     except directives.Unread as unread:
-        return unread_answer(unread)
+        return unread_answer(unread, files)
     first = next((each.name for each in job.inputs if not each.is_library), "")
     warnings = [f"warning: {place}: {what}" for place, what in job.warnings]
     lacks = [f"warning: the map {what}" for what in job.map_lacks]
@@ -624,13 +640,13 @@ def link_by_line(language, words, files, folders=(), can_be_made=always):
     return answer
 
 
-def unread_answer(unread):
+def unread_answer(unread, files):
     """The answer where a response file isn't there, or is no text."""
     if unread.is_there:
         lines = told([f"{unread.path}: it is no UTF-8 text"])
         return Answer(WRONG_WORDS, error=lines.encode(), fault=faults.WORDS)
     fault = Fault(1, unread.path, 0)
-    fault.why = "no such file"
+    fault.why = why_unread(getattr(files, "is_folder", nowhere)(unread.path))
     return Answer(fault.status, error=fault.line(program=PROGRAM).encode(), fault=1)
 
 
