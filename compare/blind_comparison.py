@@ -1,6 +1,6 @@
 """Runs `doslink` and its model on the same jobs, on a system whose names of files tell no cases apart.
 
-There are no lines of LINK and TLINK: as the model reads these, `\\` parts no folders.
+There are no lines of LINK and TLINK, for which the model looks for names by itself.
 """
 
 import doslink_comparison
@@ -15,8 +15,8 @@ class Comparison(doslink_comparison.Comparison):
 
     has_lines = False
 
-    def files_of(self, case):
-        return BlindFiles(case.files)
+    def files_of(self, case, given):
+        return BlindFiles({**case.files, **given})
 
 
 def compare_seeds(program, folder, seeds, keeps=False):

@@ -949,7 +949,7 @@ LINKING = [
            "raise Stop(NO_DEVICE, 1, told_at_most(lines,",
            "raise Stop(NO_DEVICE, 1, told_at_most(lines[:1],"),
     Change("a file that isn't there is told without why", "linking.py",
-           '1 Device at record 0: {self.why_unread(paths)}"', '1 Device at record 0"'),
+           '1 Device at record 0: {why_unread(paths, self.files)}"', '1 Device at record 0"'),
     Change("a program of another form is written", "linking.py",
            "        self.check_form()\n", ""),
     Change("a form counts in small letters alone", "linking.py",
@@ -1153,7 +1153,7 @@ DIRECTIVES = [
     Change("a number is hexadecimal by 0x alone", "directives.py", "(?:0[xX](", "(?:0x("),
     Change("a stack of directives isn't cut", "directives.py", "cuts=True)", "cuts=False)"),
     Change("a response file that isn't there is told without why", "linking.py",
-           "    fault.why = why_unread(getattr(files, \"is_folder\", nowhere)(unread.path))\n", ""),
+           "    fault.why = why_unread([unread.path], files)\n", ""),
     Change("a response file that is no text isn't there", "linking.py",
            "    if unread.is_there:\n", "    if False:\n"),
 ]
@@ -1316,7 +1316,7 @@ WORDS_OF_LINES = [
            "        is_one = len(options) > 1 and takes_folders(language, word[1:])\n"
            "        return None, [word[1:]] if is_one else options\n    if takes"),
     Change("overlays are objects", "lines.py", """if name.startswith("("):""", "if False:"),
-    Change("a file in the place of a folder isn't there", "linking.py", "why_unread(any(map(self.is_folder, paths)))", "why_unread(False)"),
+    Change("a file in the place of a folder isn't there", "linking.py", "if is_folder(path):", "if False:"),
     Change("a file without a name is that of the link", "faults.py", '"link" if self.owner is None else self.owner', 'self.owner or "link"'),
     Change("a file is written in the place of a folder", "places.py", " and not self.is_folder(path)", ""),
     Change("folders are made for a file", "places.py", "return self.has_folders(path) and not", "return not"),
@@ -1406,6 +1406,24 @@ OPTIONS_OF_LINES = [
            "if text.endswith(\"-\") and text[:-1] in TLINK_FLAGS:", "if False:"),
 ]
 
+FILES_OF_LINES = [
+    Change("case counts in names of files", "places.py", "if small(each) == small(name)]", "if each == name]"),
+    Change("case of letters that aren't of ASCII counts for nothing", "places.py",
+           "return name.encode().lower().decode()", "return name.lower()"),
+    Change("a backslash is a letter of a name of a file", "places.py",
+           """in path.replace("\\\\", "/").split("/"):""", """in path.split("/"):"""),
+    Change("case counts in folders of files", "places.py",
+           "meant_name(self.files.names_in(front), name)",
+           "meant_name(self.files.names_in(front) if path.endswith(name) else (), name)"),
+    Change("a name as it is written isn't taken before others", "places.py", "[name] if name in names else [each", "[each"),
+    Change("one of two names is meant", "places.py",
+           "return None if len(same) > 1 else [*same, name][0]", "return max([*same, \"\"]) or name"),
+    Change("of two names none is there", "linking.py", """return "it can't be opened\"""", """return "no such file\""""),
+    Change("the first reason that is no absence is told", "linking.py", "for path in reversed(paths):", "for path in paths:"),
+    Change("what is written is a file of that very name", "linking.py",
+           "{files.meant(path): content for", "{path.replace(\"\\\\\", \"/\"): content for"),
+]
+
 NAMES_OF_LINES = [
     Change("the program has the folder of the first object", "linking.py", "with_ending(last_part(first), extension) if", "with_ending(first, extension) if"),
     Change("an extension of the program is forgotten", "linking.py", "else with_extension(job.out, extension)", "else job.out"),
@@ -1462,4 +1480,4 @@ MAPS = [
 ]
 
 # of a program that takes these
-OF_LINES = [*WORDS_OF_LINES, *OPTIONS_OF_LINES, *NAMES_OF_LINES, *MAPS]
+OF_LINES = [*WORDS_OF_LINES, *OPTIONS_OF_LINES, *FILES_OF_LINES, *NAMES_OF_LINES, *MAPS]

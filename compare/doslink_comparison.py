@@ -42,18 +42,17 @@ class Comparison(comparison.Comparison):
 
     def compare_case(self, chance, case):
         """One job, often with an older OUT."""
-        answer = comparison.asked(model_answer, case, self.files_of(case))
+        given = {jobs.OUT: OLD} if chance.random() < 0.3 else {}
+        answer = comparison.asked(model_answer, case, self.files_of(case, given))
         self.put(case)
-        given = {}
-        if chance.random() < 0.3:
-            given[jobs.OUT] = OLD
-            (self.folder / jobs.OUT).write_bytes(OLD)
+        for path, content in given.items():
+            (self.folder / path).write_bytes(content)
         self.run(case, answer)
         self.compare_files(case, {**given, **answer.files})
 
-    def files_of(self, case):
-        """The files of a case as the system finds them by their paths."""
-        return PlacedFiles(case.files)
+    def files_of(self, case, given):
+        """The files of a case, and older ones, as the system finds them by their paths."""
+        return PlacedFiles({**case.files, **given})
 
     def put(self, case):
         """A folder with the files of a case."""

@@ -15,6 +15,7 @@ from model import (
 from model.commands import Answer, Output
 from model.faults import Fault, escaped, printed_name
 from model.names import Names, wanting_places
+from model.places import DosFiles
 from model.weak import defined_names, local_ones, meanings, names_of, plain_meanings
 
 PROGRAM = "doslink"
@@ -94,7 +95,7 @@ def whole_names(job, first):
 
 
 def nowhere(path):
-    """No path is one of a folder."""
+    """No path is one of a folder, or means two names of one."""
     return False
 
 
@@ -115,9 +116,15 @@ def library_paths(name, folders):
     return [in_folder(folder, name + ending) for folder in ["", *folders] for ending in endings]
 
 
-def why_unread(is_folder):
-    """What is said where there is no file."""
-    return "it is a folder" if is_folder else "no such file"
+def why_unread(paths, files):
+    """What is said where there is a file at none of some paths: of the last one where there is something else."""
+    is_folder, has_two = (getattr(files, name, nowhere) for name in ("is_folder", "has_two"))
+    for path in reversed(paths):
+        if has_two(path):
+            return "it can't be opened"
+        if is_folder(path):
+            return "it is a folder"
+    return "no such file"
 
 
 class Linking:
@@ -130,7 +137,6 @@ class Linking:
         self.files = files
         # where a path leads to
         self.place = getattr(files, "place", normpath)
-        self.is_folder = getattr(files, "is_folder", nowhere)
         self.folders = folders
         self.can_be_made = can_be_made
         self.answer = answer
@@ -178,7 +184,7 @@ class Linking:
             paths = library_paths(each.name, self.job.folders) if each.is_library else file_paths(each.name)
             path = self.found(paths)
             if path is None:
-                lines.append(f"{each.name}: 1 Device at record 0: {self.why_unread(paths)}")
+                lines.append(f"{each.name}: 1 Device at record 0: {why_unread(paths, self.files)}")
             else:
                 self.add(path)
         if lines:
@@ -193,10 +199,6 @@ class Linking:
     def found(self, paths):
         """The first path at which a file is, or None."""
         return next((path for path in paths if self.files.get(path) is not None), None)
-
-    def why_unread(self, paths):
-        """Why there is a file at none of the paths."""
-        return why_unread(any(map(self.is_folder, paths)))
 
     def add(self, path):
         """One more file."""
@@ -621,10 +623,11 @@ def link_by_response(path, files, job_of, folders=(), can_be_made=always):
 
 
 def link_by_line(language, words, files, folders=(), can_be_made=always):
-    """The answer to the words of LINK or TLINK.
+    """The answer to the words of LINK or TLINK, whose names of files are those of DOS.
 
     What is left out is told before all else, and then what the map hasn't.
     """
+    files = DosFiles(files)
     try:
         text, spoken_files = line_jobs.text_of(language, words, files)
         job = line_jobs.job_of(language, text)
@@ -635,7 +638,9 @@ def link_by_line(language, words, files, folders=(), can_be_made=always):
     first = next((each.name for each in job.inputs if not each.is_library), "")
     warnings = [f"warning: {place}: {what}" for place, what in job.warnings]
     lacks = [f"warning: the map {what}" for what in job.map_lacks]
-    answer = link(whole_names(job, first), files, folders, can_be_made, spoken_files)
+    answer = link(
+        whole_names(job, first), files, folders, lambda path: files.can_be_made(path, can_be_made), spoken_files)
+    answer.files = {files.meant(path): content for path, content in answer.files.items()}
     answer.error = told([*told_at_most(warnings, job.is_verbose), *lacks]).encode() + answer.error
     return answer
 
@@ -646,7 +651,7 @@ def unread_answer(unread, files):
         lines = told([f"{unread.path}: it is no UTF-8 text"])
         return Answer(WRONG_WORDS, error=lines.encode(), fault=faults.WORDS)
     fault = Fault(1, unread.path, 0)
-    fault.why = why_unread(getattr(files, "is_folder", nowhere)(unread.path))
+    fault.why = why_unread([unread.path], files)
     return Answer(fault.status, error=fault.line(program=PROGRAM).encode(), fault=1)
 
 

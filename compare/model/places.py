@@ -1,6 +1,7 @@
-"""Files by their paths: by whatever path leads to them, and where their names tell no cases apart, as under Windows."""
+"""Files by their paths: by whatever path leads to them, by names of DOS, and where names tell no cases apart, as under
+Windows."""
 
-from os.path import normpath
+from os.path import join, normpath, split
 from pathlib import PurePosixPath
 
 HERE = "."
@@ -29,6 +30,11 @@ class Places(dict):
 
     def is_folder(self, path):
         return path != "" and self.has_folders(path + "/")
+
+    def names_in(self, front):
+        """The names of the folder whose path is this front of one, empty or up to a slash; none where it isn't there."""
+        there = {*self.names, *self.folders} - {HERE} if self.has_folders(front) else ()
+        return {name for folder, name in map(split, there) if name and (folder or HERE) == self.same(front)}
 
     def can_be_made(self, path):
         """Whether a file can be written at a path: in a folder that is there, and in the place of none."""
@@ -69,3 +75,62 @@ class BlindFiles(Places):
     def place(self, path):
         """Where a path leads to: that of two paths is the same where they lead to one file."""
         return same_name(path) if super().get(path) is None else normpath(path)
+
+
+def small(name):
+    """A name with the small letters of ASCII in the place of its capitals."""
+    return name.encode().lower().decode()
+
+
+def meant_name(names, name):
+    """The one of a folder's names that a name means, which is itself where there is none; None where there are two."""
+    same = [name] if name in names else [each for each in names if small(each) == small(name)]
+    return None if len(same) > 1 else [*same, name][0]
+
+
+class DosFiles:
+    """Files by names of DOS, over those of a system: `\\` parts folders, and the case of ASCII letters doesn't count."""
+
+    def __init__(self, files):
+        self.files = files
+
+    def meant(self, path):
+        """The system's path that is meant, or None where two names of a folder may be.
+
+        So it is the path as it is written where something stands there.
+        """
+        found = []
+        for name in path.replace("\\", "/").split("/"):
+            front = "/".join([*found, ""])
+            found.append(meant_name(self.files.names_in(front), name))
+            if found[-1] is None:
+                return None
+        return "/".join(found)
+
+    def get(self, path, default=None):
+        path = self.meant(path)
+        return default if path is None else self.files.get(path, default)
+
+    def __getitem__(self, path):
+        return self.get(path)
+
+    def is_folder(self, path):
+        path = self.meant(path)
+        return path is not None and self.files.is_folder(path)
+
+    def has_two(self, path):
+        """Whether two names of a folder may be meant."""
+        return self.meant(path) is None
+
+    def can_be_made(self, path, can_be_made):
+        """Whether the system can make the file that is meant."""
+        path = self.meant(path)
+        return path is not None and can_be_made(path)
+
+    def place(self, path):
+        """Where a path leads to: what isn't there yet is one file in whatever case its name is written."""
+        meant = self.meant(path)
+        if meant is None or self.files.get(meant) is not None:
+            return normpath(meant or path)
+        folder, name = split(normpath(meant))
+        return join(folder, small(name))
