@@ -53,6 +53,13 @@ class PlacedFiles(Places):
         return self.get(path)
 
 
+class UnlistedFiles(PlacedFiles):
+    """The same where folders can't be listed."""
+
+    def names_in(self, front):
+        return ()
+
+
 def same_name(path):
     """What all paths have in common that lead to one file."""
     return normpath(path.replace("\\", "/")).casefold()
