@@ -2,35 +2,42 @@
 ghost use Rattle.std.specs.Prelude.{◌≡◌, IfOk, false, string_bytes, true};
 
 use crate::finding::path_meant;
-use omf_files::{Looked, StreamInput, StreamOutput, Streams, World};
-use std::io::{self, Read, Write};
+use omf_files::{FileId, Looked, PlaceKind, StreamInput, StreamOutput, Streams, World};
+use std::cell::Cell;
+use std::io::{self, Error, ErrorKind, Read, Write};
 
-/// The files of the machine and the standard streams, whose paths are those of the machine or of DOS.
+/// The files of the machine and the standard streams, whose paths are those of the machine or of DOS. No file takes the
+/// place of the one that was written last, whatever the path that leads to it.
 #[derive(Clone, Copy)]
 pub struct Names<'a> {
     rt: &'a HostRuntime,
     are_of_dos: bool,
+    // the file that was put at its path last
+    written: &'a Cell<Option<FileId>>,
 }
 
 impl<'a> Names<'a> {
     /// Files of the program with this handle, by paths as the machine has them.
-    pub fn of_machine(rt: &'a HostRuntime) -> Names<'a>
+    /// `written` is nothing, and keeps which file was written last.
+    pub fn of_machine(rt: &'a HostRuntime, written: &'a Cell<Option<FileId>>) -> Names<'a>
         ensures { result.are_of_dos ≡ false }
     {
         Names {
             rt,
             are_of_dos: false,
+            written,
         }
     }
 
     /// Files of the program with this handle, by paths as DOS has them: `\` parts folders as `/` does, and the case of
     /// letters doesn't count where nothing stands at a path as it is written.
-    pub fn of_dos(rt: &'a HostRuntime) -> Names<'a>
+    pub fn of_dos(rt: &'a HostRuntime, written: &'a Cell<Option<FileId>>) -> Names<'a>
         ensures { result.are_of_dos ≡ true }
     {
         Names {
             rt,
             are_of_dos: true,
+            written,
         }
     }
 
@@ -51,6 +58,24 @@ impl<'a> Names<'a> {
     }
 }
 
+impl Names<'_> {
+    /// The file at a path of the machine, where it is a regular one.
+    fn regular(&self, path: &str) -> Option<FileId> {
+        match self.files().look(path) {
+            Ok(found) if found.kind == PlaceKind::Regular => Some(found.id),
+            _ => None,
+        }
+    }
+
+    /// Whether the file that was written last stands at a path of the machine.
+    fn was_written(&self, path: &str) -> bool {
+        match (self.written.get(), self.regular(path)) {
+            (Some(written), Some(found)) => written == found,
+            _ => false,
+        }
+    }
+}
+
 impl<'a> World for Names<'a> {
     type Input = StreamInput;
 
@@ -65,10 +90,17 @@ impl<'a> World for Names<'a> {
     }
 
     fn create(&self, path: &str) -> io::Result<StreamOutput<'a>> {
-        self.files().create(self.path(path)?.as_str())
+        let meant = self.path(path)?;
+        if self.was_written(meant.as_str()) {
+            return Err(Error::from(ErrorKind::AlreadyExists));
+        }
+        self.files().create(meant.as_str())
     }
 
     fn keep(&self, file: StreamOutput<'a>, path: &str) -> io::Result<()> {
-        self.files().keep(file, self.path(path)?.as_str())
+        let meant = self.path(path)?;
+        self.files().keep(file, meant.as_str())?;
+        self.written.set(self.regular(meant.as_str()));
+        Ok(())
     }
 }
