@@ -6,7 +6,8 @@ from itertools import groupby
 from generator.communals import (
     LOCATIONS, NO_NUMBERS, Declared, at_limit, module_of_communals, module_of_local_variables,
     module_of_no_number)
-from generator.lines import LINES_OF_TLINK, LINK, ODD_LINES, OTHER_OPTIONS, TLINK, WRONG_WORDS, LineSpeller
+from generator.lines import (
+    LINES_OF_TLINK, LINK, ODD_LINES, OTHER_OPTIONS, TLINK, WRONG_WORDS, LineSpeller, in_another_case)
 from generator.libraries import (
     ARCHIVE, SMALL_PAGES, SYMBOL_TABLES, archive, archive_of_symbols, archive_with_symbols, damaged,
     foreign, library, with_header)
@@ -135,7 +136,10 @@ FRONTS = ["obj/j", "lib/L", "src/y", "src/T", "src/O", "src/R"]
 # what stands beside the object of a line that is wrong, or seems so
 BESIDE = [
     "0.obj", "sub/a.obj", "my file.obj", "obj/job.obj", "src/yacc.obj", "src/Table.obj", "src/Rest.obj", "src/Open.obj",
-    "main/La.obj", "lib/LIBC.LIB", "lib/libm.lib", "x/l.LIB", "x.lib/y.obj"]
+    "main/La.obj", "lib/LIBC.LIB", "lib/libm.lib", "x/l.LIB", "x.lib/y.obj", "two/y.obj", "two/Y.Obj", "two/l.lib",
+    "two/L.Lib", "sub/l.Lib", "fold/a.obj", "FOLD/b.obj", "sub/\u00e9.obj", "mixed/x", "mixed.Obj", "Mixed.obj"]
+# what is written over there, and a response file
+OLDER = {"sub/OLD.EXE": b"an old program", "sub/old.map": b"an old map", "sub/r": b"0,out;"}
 # lengths of a body that externals by indexes, or of aliases, have by their names
 LONG_BODIES, LONG_EVERY = [65_534, 65_535], 150
 # what may stand behind the name of a file, or of a library, in its path
@@ -852,6 +856,8 @@ class JobMaker:
         kind = "exe" if job.form is None else job.form.kind
         if self.happens(0.15):
             self.move_inputs()
+        if self.happens(0.3):
+            self.put_other_cases()
         job.form, job.keeps_debug, job.is_verbose = Form(kinds.get(kind, kind)), False, self.happens(0.5)
         job.order = job.order if job.order == ordering.DOSSEG else None
         job.inputs.sort(key=lambda each: each.is_library)
@@ -867,6 +873,18 @@ class JobMaker:
                 for each in self.job.inputs:
                     each.name = front + name if each.name == name else each.name
 
+    def put_other_cases(self):
+        """Files, and folders of LIB, are called otherwise by case; some are there twice, and so is what is written."""
+        for path in list(self.files):
+            other = in_another_case(self.random, path)
+            if other not in self.files and self.happens(0.3):
+                self.files[other] = self.files.pop(path) if self.happens(0.7) else module_of_publics([b"twin"])
+        for path in (OUT, MAP):
+            if self.happens(0.3):
+                self.files.setdefault(in_another_case(self.random, path), b"an older one")
+        if self.happens(0.3):
+            self.folders = [in_another_case(self.random, each) for each in self.folders]
+
     def make_line_options(self, language, option):
         """A line with an option that asks for no other job, or with a word that is wrong."""
         self.files["0.obj"], self.folders = module_of_publics([b"x"]), []
@@ -880,6 +898,7 @@ class JobMaker:
         language = language or self.random.choice([LINK, TLINK])
         for path in BESIDE:
             self.files[path] = module_of_publics([path.encode()])
+        self.files.update(OLDER)
         self.files["com.obj"], self.folders = module_of_form(0, 3, 0x100, ()), []
         speller = LineSpeller(self.random, language, self.files)
         name = self.random.choice(["0.obj", "0", '"0.obj"', "0.OBJ"])

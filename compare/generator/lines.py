@@ -43,7 +43,13 @@ ODD_LINES = [
     "sub", "OBJECT+sub+nowhere", '"sub/"', '"0.obj/"', "OBJECT,,,sub", "OBJECT,,,lib x/ nowhere/", "@sub", "@0.obj/x",
     "@", '""', 'OBJECT,,,""', "OBJECT,sub", "OBJECT,x.lib", "OBJECT,,x.lib", 'OBJECT,"sub/"', "OBJECT,0.obj/prog",
     "OBJECT,nowhere/prog", "OBJECT,sub/prog,x/list", "OBJECT,,nowhere/list", "./sub/../0", '"nowhere/../0"',
-    "obj/job,,", "OBJECT,,,lib/LIBC"]
+    "obj/job,,", "OBJECT,,,lib/LIBC",
+    # names of DOS: of other case, folders, two that differ by case alone, and files that are there
+    "SUB\\A", '"sub\\A.obj"', "./Sub/../OBJECT", "Two\\Y,out,list", "two\\y.obj", "OBJECT Two/y nowhere",
+    "OBJECT,,,two\\L", "OBJECT,,,TWO\\ L x.lib\\", "OBJECT,,,TWO\\ SUB\\ L", "OBJECT,TWO\\Y.OBJ", "OBJECT,,TWO\\Y.OBJ",
+    "@Two\\y.OBJ", "@SUB\\R", "Fold\\a", "FOLD\\A", "OBJECT,Fold\\b", "OBJECT,fold\\Prog,SUB\\List",
+    "OBJECT,SUB\\Old.exe,Sub/old.Map", "OBJECT,.\\0.Obj", "OBJECT,,,LIB\\ libc", '"Sub\\\u00c9"', "OBJECT SUB\\\u00e9",
+    "OBJECT,Sub\\", "OBJECT,New\\prog", "Two", "Mixed", "MIXED"]
 # the same of TLINK: what may be options behind a name, and folders of DOS
 LINES_OF_TLINK = [
     "OBJECT,out,nul/x-", "OBJECT/x/x-", "OBJECT,,,/x-", "~my file/x", "OBJECT/La/m", "OBJECT /La/c", "/x/c OBJECT",
@@ -57,6 +63,13 @@ LINES_OF_TLINK = [
 # options of TLINK whose values may be anything, so that they touch no name, and those that only begin so
 APART, TOUCHING = "LjOyTR", ("j", "yc", "ye", "Tdc", "Tde")
 BEHIND_TEXT = ["", "", "\x1A", "\x1Amore,words;\n/q"]
+
+
+def in_another_case(random, path):
+    """A path whose letters are capitals, small ones, of the other case, or of any case."""
+    changes = [str.upper, str.lower, str.swapcase, lambda letter: random.choice([letter, letter.swapcase()])]
+    change = random.choice(changes)
+    return "".join(map(change, path))
 
 
 class LineSpeller:
@@ -87,9 +100,9 @@ class LineSpeller:
         """The names of each field, as few fields as there have to be or more."""
         objects = [self.name(each.name, ".obj") for each in job.inputs if not each.is_library]
         libraries = [self.name(each.name, ".LIB") for each in job.inputs if each.is_library]
-        folders = [each.rstrip("/") + "/" for each in job.folders]
+        folders = [self.spelling(each.rstrip("/") + "/") for each in job.folders]
         if self.language == TLINK and self.happens(0.5):
-            self.folders, folders = job.folders, []
+            self.folders, folders = list(map(self.spelling, job.folders)), []
         else:
             self.folders = []
         out = [] if job.out is None else [self.name(job.out, ".EXE")]
@@ -110,11 +123,16 @@ class LineSpeller:
         """A name without its extension, by another path, or in quotes."""
         if name.lower().endswith(extension.lower()) and self.happens(0.5):
             name = name[:-len(extension)]
-        if self.happens(0.01):
-            name = name.upper()
         if self.happens(0.05):
             name = "./" + name
+        name = self.spelling(name)
         return f'"{name}"' if self.happens(0.1) else name
+
+    def spelling(self, path):
+        """A path as it is, or in another case, or with folders of DOS."""
+        if self.happens(0.1):
+            path = in_another_case(self.random, path)
+        return path.replace("/", "\\") if self.happens(0.1) else path
 
     def joined(self, fields):
         """Names with signs between them; a `;` may stand behind them."""
@@ -203,13 +221,13 @@ class LineSpeller:
     def words(self, line):
         """Words, with response files in the place of all of them, of some or of none."""
         if "\n" in line or self.happens(0.3):
-            return ["@" + self.response(RESPONSE, line)]
+            return ["@" + self.spelling(self.response(RESPONSE, line))]
         parts = [line] if self.happens(0.2) and '"' in line else line.split(" ")
         if len(parts) > 1 and self.happens(0.3) and '"' not in line and "@" not in line:
             at = self.random.randrange(1, len(parts))
             some = [parts[:at], parts[at:]]
             number = self.random.randrange(2)
-            some[number] = ["@" + self.response(PART, " ".join(some[number]))]
+            some[number] = ["@" + self.spelling(self.response(PART, " ".join(some[number])))]
             parts = [*some[0], *some[1]]
         return [part for part in parts if part] or [";"]
 

@@ -26,6 +26,7 @@ The model spends no thought on speed.
 | `directives` | what words and directives ask for |
 | `lines`, `line_options` | what lines of LINK and TLINK say, and their options |
 | `line_jobs` | the job of such a line, with what response files say |
+| `places` | files by their paths, and by names of DOS |
 | `link_map` | maps in the forms of LINK and TLINK |
 | `linking` | what `doslink` answers and writes |
 

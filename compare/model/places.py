@@ -32,7 +32,7 @@ class Places(dict):
         return path != "" and self.has_folders(path + "/")
 
     def names_in(self, front):
-        """The names of the folder whose path is this front of one, empty or up to a slash; none where it isn't there."""
+        """The names of the folder of a path's front, which is empty or ends in a slash; none where it isn't there."""
         there = {*self.names, *self.folders} - {HERE} if self.has_folders(front) else ()
         return {name for folder, name in map(split, there) if name and (folder or HERE) == self.same(front)}
 
@@ -96,7 +96,7 @@ def meant_name(names, name):
 
 
 class DosFiles:
-    """Files by names of DOS, over those of a system: `\\` parts folders, and the case of ASCII letters doesn't count."""
+    """Files by names of DOS, over those of a system: `\\` parts folders, and the case of ASCII letters counts nothing."""
 
     def __init__(self, files):
         self.files = files
