@@ -96,7 +96,7 @@ def meant_name(names, name):
 
 
 class DosFiles:
-    """Files by names of DOS, over those of a system: `\\` parts folders, and the case of ASCII letters counts nothing."""
+    """Files by names of DOS, over those of a system: `\\` parts folders, and the case of ASCII doesn't count."""
 
     def __init__(self, files):
         self.files = files
