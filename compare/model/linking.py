@@ -137,6 +137,8 @@ class Linking:
         self.files = files
         # where a path leads to
         self.place = getattr(files, "place", normpath)
+        # and one of a file that is yet to be written
+        self.becomes = getattr(files, "becomes", self.place)
         self.folders = folders
         self.can_be_made = can_be_made
         self.answer = answer
@@ -539,9 +541,10 @@ class Linking:
         return "".join(line + "\n" for line in lines).encode()
 
     def write(self, path, content):
-        """Fault 40 is a file that can't be made."""
+        """Fault 40 is a file that can't be made, or that would take the place of one that was just written."""
+        is_free = self.becomes(path) not in map(self.becomes, self.answer.files)
         try:
-            Output(path, self.can_be_made(path)).write(self.answer, content)
+            Output(path, is_free and self.can_be_made(path)).write(self.answer, content)
             # a raw image from behind the program's end has no byte, and is a file all the same
             self.answer.files.setdefault(path, b"")
         except Fault as fault:

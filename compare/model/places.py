@@ -135,9 +135,10 @@ class DosFiles:
         return path is not None and can_be_made(path)
 
     def place(self, path):
-        """Where a path leads to: what isn't there yet is one file in whatever case its name is written."""
-        meant = self.meant(path)
-        if meant is None or self.files.get(meant) is not None:
-            return normpath(meant or path)
-        folder, name = split(normpath(meant))
-        return join(folder, small(name))
+        """Where a path leads to."""
+        return normpath(self.meant(path) or path)
+
+    def becomes(self, path):
+        """What paths to one file have in common once it is written: what isn't there yet is one in whatever case."""
+        folder, name = split(self.place(path))
+        return self.place(path) if self.get(path) is not None else join(folder, small(name))
