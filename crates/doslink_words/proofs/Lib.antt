@@ -1,4 +1,5 @@
 pub mod NamedLemmas
 pub mod PartsLemmas
+pub mod PlacesLemmas
 pub mod TokensLemmas
 pub mod WordsLemmas

@@ -1,7 +1,7 @@
 -- What holds of loops over the parts of a directive.
-use Rattle.std.proofs.Common.{◌≡◌, ℕ, ◌+◌, ◌<◌, ◌≤◌, Bool, true, false, cond, List, [], ◌∷◌, ◌++◌, length, drop, get_or}
+use Rattle.std.proofs.Common.{◌≡◌, ℕ, zero, suc, ◌+◌, ◌<◌, ◌≤◌, Bool, true, false, cond, List, [], ◌∷◌, ◌++◌, length, drop, get_or}
 use Rattle.std.proofs.Common.{Option, None, Result, Ok, Err, refl, sym, ap, ◌∙◌, ◌⊎◌, ◌-◌, arith, inl, inr, length-drop}
-use Rattle.std.proofs.Common.{not, subst, take}
+use Rattle.std.proofs.Common.{not, map, Some, take}
 use Rattle.std.specs.List.{drop-map, position_or_len, take-map}
 use Rattle.std.specs.Borrow.{Bor}
 use Rattle.std.proofs.lemmas.Bool.{cases_lt, not-true}
@@ -9,25 +9,28 @@ use Rattle.std.proofs.lemmas.List.{at_drop_all, at_drop_more, drop-drop, get_or-
 use Rattle.std.proofs.lemmas.List.Splits.{slice_split_first, slice_split_none}
 use Rattle.std.proofs.lemmas.List.Sums.{prefix_len-drop_no, prefix_len-drop_yes}
 use Rattle.std.proofs.lemmas.List.Sums.{prefix_len-le-length, prefix_len_passes}
+use Rattle.std.specs.Str.Lines.{lines}
 use Rattle.clap.specs.Words.{Text}
 use Rattle.doslink_words.specs.declared.faults.DirectiveFault.{DirectiveFault}
 use Rattle.doslink_words.specs.declared.faults.DirectiveFaultKind.{DirectiveFaultKind}
 use Rattle.doslink_words.specs.declared.faults.DirectiveFaultKind.TheVariants.{UnclosedQuote, WrongOperands}
 use Rattle.doslink_words.specs.declared.faults.LineFault.{LineFault}
+use Rattle.doslink_words.specs.declared.keywords.Directive.{Directive}
 use Rattle.doslink_words.specs.declared.faults.LineFault.TheVariants.{Memory, Wrong}
-use Rattle.doslink_words.specs.declared.faults.SplitFault.{SplitFault}
-use Rattle.doslink_words.specs.declared.faults.SplitFault.TheVariants as split_fault
-use Rattle.doslink_words.specs.declared.tokens.Syntax.TheVariants.{Directives}
-use Rattle.doslink_words.specs.declared.tokens.Token.{Token}
+use Rattle.doslink_words.specs.declared.faults.DirectiveFault.TheVariants as directive_fault
+use Rattle.doslink_words.specs.declared.tokens.Placed.{Placed}
 use Rattle.doslink_words.specs.Directives.{and_then, is_comma, one_name, option_meaning, option_of, parts, with_names}
-use Rattle.doslink_words.specs.Directives.{with_options, line_meaning, lines_meaning, offset_meaning, on_line, order_item}
-use Rattle.doslink_words.specs.Directives.{says_nothing, tokens_meaning, with_items, FaultyLine, Means}
-use Rattle.doslink_words.specs.Said.{Said, SaidItem}
-use Rattle.doslink_words.specs.Tokens.{Piece, Comma, texts, tokens}
-use Rattle.doslink_words.specs.inside.Faults.{IsFaultAt}
-use Rattle.doslink_words.specs.inside.Follows.{Follows, split_line_fault}
-use Rattle.doslink_words.specs.inside.Parts.{listed, named, optioned}
-use Rattle.doslink_words.specs.inside.Tokens.{piece_of, pieces}
+use Rattle.doslink_words.specs.Directives.{with_options, offset_meaning, order_item, at_place, first_meaning}
+use Rattle.doslink_words.specs.Directives.{directive_meaning, directive_of, meaning, tokens_meaning, with_items}
+use Rattle.doslink_words.specs.Directives.{Means}
+use Rattle.doslink_words.specs.Operands.{operand_count}
+use Rattle.doslink_words.specs.Places.{FaultyLine, PlacedPiece, placed, with_lines}
+use Rattle.doslink_words.specs.Said.{Said, SaidItem, nothing}
+use Rattle.doslink_words.specs.Tokens.{Piece, Comma, texts}
+use Rattle.doslink_words.specs.inside.Faults.{IsFault, IsFaultAt, Says}
+use Rattle.doslink_words.specs.inside.Follows.{Counts, Follows}
+use Rattle.doslink_words.specs.inside.Parts.{line_tokens, lines_meaning, listed, named, optioned}
+use Rattle.doslink_words.specs.inside.Tokens.{all_placed, operand_of, operands, placed_of}
 use Rattle.std.specs.Option.{option_map_or}
 
 -- how many tokens stand before the first comma
@@ -48,25 +51,25 @@ then_fault meant next after last r Memory whole follows e same = rw e tt
 then_fault meant next after last r (Wrong kind) whole follows e same = rw e (same ∙ ap (λ m. and_then m next) follows)
 
 -- a part of operands: where it begins, and where it ends
-pub record IsPart (ops : List Token) (start end : ℕ) : Type 0 where
+pub record IsPart (ops : List Placed) (start end : ℕ) : Type 0 where
   pub within : start ≤ length ops
-  pub ends : end ≡ start + part_len (drop start (pieces ops))
+  pub ends : end ≡ start + part_len (drop start (operands ops))
 
 -- the tokens of a part, and those from its first one on
-abbrev pub part_of : List Token → (start end : ℕ) → List Piece
-part_of ops start end = pieces (take (end - start) (drop start ops))
+abbrev pub part_of : List Placed → (start end : ℕ) → List Piece
+part_of ops start end = operands (take (end - start) (drop start ops))
 
-abbrev pub from : List Token → (start : ℕ) → List Piece
-from ops start = drop start (pieces ops)
+abbrev pub from : List Placed → (start : ℕ) → List Piece
+from ops start = drop start (operands ops)
 
-module _ (ops : List Token) (start end : ℕ) (here : IsPart ops start end) where
+module _ (ops : List Placed) (start end : ℕ) (here : IsPart ops start end) where
   from_len : length (from ops start) ≡ length ops - start
-  from_len = length-drop start (pieces ops) ∙ ap (λ (n : ℕ). n - start) (length-map ops piece_of)
+  from_len = length-drop start (operands ops) ∙ ap (λ (n : ℕ). n - start) (length-map ops operand_of)
 
   part_is : part_of ops start end ≡ take (part_len (from ops start)) (from ops start)
   part_is =
       let long : end - start ≡ part_len (from ops start) = omega (arith, here.ends) in
-      sym (ap (take (end - start)) (drop-map piece_of start ops) ∙ take-map piece_of (end - start) (drop start ops))
+      sym (ap (take (end - start)) (drop-map operand_of start ops) ∙ take-map operand_of (end - start) (drop start ops))
       ∙ ap (λ (n : ℕ). take n (from ops start)) long
 
   -- what commas separate from a part on, where it is the last, where a comma stands behind it, and in both cases
@@ -86,7 +89,7 @@ module _ (ops : List Token) (start end : ℕ) (here : IsPart ops start end) wher
       slice_split_first is_comma rest Comma inside
       ∙ (ap (λ (p : List Piece). p ∷ parts (drop (part_len rest + 1) rest)) (sym part_is)
       ∙ ap (λ (ps : List Piece). part_of ops start end ∷ parts ps)
-      (drop-drop (part_len rest + 1) start (pieces ops) ∙ ap (from ops) behind))
+      (drop-drop (part_len rest + 1) start (operands ops) ∙ ap (from ops) behind))
 
   parts_any : (more : List (List Piece)) × (parts (from ops start) ≡ part_of ops start end ∷ more)
   parts_any =
@@ -158,117 +161,220 @@ module _ (ops : List Token) (start end : ℕ) (here : IsPart ops start end) wher
       ∙ ap (λ (m : Result Said DirectiveFaultKind). and_then m (with_options line [])) is
 
 -- where a part ends: at a comma, behind a token that is none, and behind the last
-module _ (ops : List Token) (end : ℕ) where
-  comma_at : (d : Token) → end < length ops
-      → is_comma (get_or (pieces ops) end (piece_of d)) ≡ is_comma (piece_of (get_or ops end d))
-  comma_at d inside = ap is_comma (get_or-map piece_of ops end d (piece_of d) inside)
+module _ (ops : List Placed) (end : ℕ) where
+  comma_at : (d : Placed) → end < length ops
+      → is_comma (get_or (operands ops) end (operand_of d)) ≡ is_comma (operand_of (get_or ops end d))
+  comma_at d inside = ap is_comma (get_or-map operand_of ops end d (operand_of d) inside)
 
-  pieces_inside : end < length ops → end < length (pieces ops)
-  pieces_inside inside = omega (arith, length-map ops piece_of)
+  inside_all : end < length ops → end < length (operands ops)
+  inside_all inside = omega (arith, length-map ops operand_of)
 
-  pub ends_here : (d : Token) (r : Bool) → end < length ops → r ≡ is_comma (piece_of (get_or ops end d)) → r ≡ true
-      → part_len (drop end (pieces ops)) ≡ 0
+  pub ends_here : (d : Placed) (r : Bool) → end < length ops → r ≡ is_comma (operand_of (get_or ops end d)) → r ≡ true
+      → part_len (drop end (operands ops)) ≡ 0
   ends_here d r inside is e =
-      prefix_len-drop_no (λ p. not (is_comma p)) (pieces ops) end (piece_of d) (pieces_inside inside)
+      prefix_len-drop_no (λ p. not (is_comma p)) (operands ops) end (operand_of d) (inside_all inside)
       (ap not (comma_at d inside ∙ (sym is ∙ e)))
 
-  pub goes_on : (d : Token) (r : Bool) → end < length ops → r ≡ is_comma (piece_of (get_or ops end d)) → r ≡ false
-      → part_len (drop end (pieces ops)) ≡ 1 + part_len (drop (end + 1) (pieces ops))
+  pub goes_on : (d : Placed) (r : Bool) → end < length ops → r ≡ is_comma (operand_of (get_or ops end d)) → r ≡ false
+      → part_len (drop end (operands ops)) ≡ 1 + part_len (drop (end + 1) (operands ops))
   goes_on d r inside is e =
-      prefix_len-drop_yes (λ p. not (is_comma p)) (pieces ops) end (piece_of d) (pieces_inside inside)
+      prefix_len-drop_yes (λ p. not (is_comma p)) (operands ops) end (operand_of d) (inside_all inside)
       (ap not (comma_at d inside ∙ (sym is ∙ e)))
 
 -- ---- the items of an order
 
-items_step : (had : List SaidItem) (before middle after : List Token) (k n : Token) → before ≡ k ∷ middle
+items_step : (had : List SaidItem) (before middle after : List Placed) (k n : Placed) → before ≡ k ∷ middle
     → middle ≡ n ∷ after
-    → with_items had (pieces before)
-    ≡ and_then (listed had (piece_of k) (piece_of n)) (λ h. with_items h (pieces after))
+    → with_items had (operands before)
+    ≡ and_then (listed had (operand_of k) (operand_of n)) (λ h. with_items h (operands after))
 items_step had before middle after k n one two =
-    ap (λ (ts : List Token). with_items had (pieces ts)) (one ∙ ap (λ (ts : List Token). k ∷ ts) two)
-    ∙ and_then_again (order_item (piece_of k) (piece_of n)) (λ item. Ok (had ++ (item ∷ [])))
-    (λ h. with_items h (pieces after))
+    ap (λ (ts : List Placed). with_items had (operands ts)) (one ∙ ap (λ (ts : List Placed). k ∷ ts) two)
+    ∙ and_then_again (order_item (operand_of k) (operand_of n)) (λ item. Ok (had ++ (item ∷ [])))
+    (λ h. with_items h (operands after))
 
-pub items_more : (had next : List SaidItem) (before middle after : List Token) (k n : Token) → before ≡ k ∷ middle
-    → middle ≡ n ∷ after → listed had (piece_of k) (piece_of n) ≡ Ok next
-    → with_items had (pieces before) ≡ with_items next (pieces after)
+pub items_more : (had next : List SaidItem) (before middle after : List Placed) (k n : Placed) → before ≡ k ∷ middle
+    → middle ≡ n ∷ after → listed had (operand_of k) (operand_of n) ≡ Ok next
+    → with_items had (operands before) ≡ with_items next (operands after)
 items_more had next before middle after k n one two is =
     items_step had before middle after k n one two
-    ∙ ap (λ (m : Result (List SaidItem) DirectiveFaultKind). and_then m (λ h. with_items h (pieces after))) is
+    ∙ ap (λ (m : Result (List SaidItem) DirectiveFaultKind). and_then m (λ h. with_items h (operands after))) is
 
-pub items_fault : (had new last : List SaidItem) (before middle after : List Token) (k n : Token)
+pub items_fault : (had new last : List SaidItem) (before middle after : List Placed) (k n : Placed)
     (r : Result Unit LineFault) (f : LineFault) (whole : Result (List SaidItem) DirectiveFaultKind)
     → before ≡ k ∷ middle
-    → middle ≡ n ∷ after → Follows (Err f) (listed had (piece_of k) (piece_of n)) new → r ≡ Err f
-    → whole ≡ with_items had (pieces before) → Follows r whole last
+    → middle ≡ n ∷ after → Follows (Err f) (listed had (operand_of k) (operand_of n)) new → r ≡ Err f
+    → whole ≡ with_items had (operands before) → Follows r whole last
 items_fault had new last before middle after k n r f whole one two follows e same =
-    then_fault (listed had (piece_of k) (piece_of n)) (λ h. with_items h (pieces after)) new last r f whole follows e
+    then_fault (listed had (operand_of k) (operand_of n)) (λ h. with_items h (operands after)) new last r f whole follows e
     (same ∙ items_step had before middle after k n one two)
 
 -- ---- lines
 
-pub lines_more : (said next : Said) (all : List Text) (i : ℕ) (text : Text) → i < length all → get_or all i text ≡ text
-    → line_meaning (i + 1) text said ≡ Ok next
-    → lines_meaning i (drop i all) said ≡ lines_meaning (i + 1) (drop (i + 1) all) next
-lines_more said next all i text inside here means =
-    at_drop_more (λ (ls : List Text). lines_meaning i ls said) all i text inside
-    ∙ (ap (λ (t : Text). lines_meaning i (t ∷ drop (i + 1) all) said) here
-    ∙ ap (λ (r : Result Said DirectiveFaultKind). on_line (i + 1) text r (lines_meaning (i + 1) (drop (i + 1) all)))
-    means)
+-- what a line adds
+pub lines_step : (had next : List PlacedPiece) (line : ℕ) (text : Text) (more : List Text)
+    → line_tokens had (line + 1) text ≡ Ok next
+    → with_lines line (text ∷ more) had ≡ with_lines (line + 1) more next
+lines_step had next line text more is = go (placed (line + 1) text) is
+  where
+    go : (o : Option (List PlacedPiece)) → option_map_or (λ ts. Ok (had ++ ts)) o (Err UnclosedQuote) ≡ Ok next
+        → option_map_or (λ ts. with_lines (line + 1) more (had ++ ts)) o
+        (Err (record { line = line + 1; text = text; kind = UnclosedQuote })) ≡ with_lines (line + 1) more next
+    go None e = cc
+    go (Some ts) e =
+        let same : had ++ ts ≡ next = search e in
+        ap (with_lines (line + 1) more) same
 
-pub lines_fault : (said : Said) (all : List Text) (i : ℕ) (text : Text) (kind : DirectiveFaultKind) → i < length all
-    → get_or all i text ≡ text → line_meaning (i + 1) text said ≡ Err kind
-    → lines_meaning i (drop i all) said ≡ Err (record { line = i + 1; text = text; kind = kind })
-lines_fault said all i text kind inside here means =
-    at_drop_more (λ (ls : List Text). lines_meaning i ls said) all i text inside
-    ∙ (ap (λ (t : Text). lines_meaning i (t ∷ drop (i + 1) all) said) here
-    ∙ ap (λ (r : Result Said DirectiveFaultKind). on_line (i + 1) text r (lines_meaning (i + 1) (drop (i + 1) all)))
-    means)
+lines_unclosed : (had : List PlacedPiece) (line : ℕ) (text : Text) (more : List Text) (what : DirectiveFaultKind)
+    → line_tokens had (line + 1) text ≡ Err what
+    → with_lines line (text ∷ more) had ≡ Err (record { line = line + 1; text = text; kind = what })
+lines_unclosed had line text more what is = go (placed (line + 1) text) is
+  where
+    go : (o : Option (List PlacedPiece)) → option_map_or (λ ts. Ok (had ++ ts)) o (Err UnclosedQuote) ≡ Err what
+        → option_map_or (λ ts. with_lines (line + 1) more (had ++ ts)) o
+        (Err (record { line = line + 1; text = text; kind = UnclosedQuote }))
+        ≡ Err (record { line = line + 1; text = text; kind = what })
+    go None e =
+        let same : UnclosedQuote ≡ what = search e in
+        ap (λ k. Err (record { line = line + 1; text = text; kind = k })) same
+    go (Some ts) e = cc
 
-pub lines_end : (said : Said) (all : List Text) (i : ℕ) → length all ≤ i → lines_meaning i (drop i all) said ≡ Ok said
-lines_end said all i done = at_drop_all (λ (ls : List Text). lines_meaning i ls said) all i done
+pub lines_more : (had next : List PlacedPiece) (all : List Text) (i : ℕ) (text : Text) → i < length all
+    → get_or all i text ≡ text → line_tokens had (i + 1) text ≡ Ok next
+    → with_lines i (drop i all) had ≡ with_lines (i + 1) (drop (i + 1) all) next
+lines_more had next all i text inside here means =
+    at_drop_more (λ (ls : List Text). with_lines i ls had) all i text inside
+    ∙ (ap (λ (t : Text). with_lines i (t ∷ drop (i + 1) all) had) here
+    ∙ lines_step had next i text (drop (i + 1) all) means)
 
--- ---- a line
+pub lines_fault : (had : List PlacedPiece) (all : List Text) (i : ℕ) (text : Text) (kind : DirectiveFaultKind)
+    → i < length all → get_or all i text ≡ text → line_tokens had (i + 1) text ≡ Err kind
+    → with_lines i (drop i all) had ≡ Err (record { line = i + 1; text = text; kind = kind })
+lines_fault had all i text kind inside here means =
+    at_drop_more (λ (ls : List Text). with_lines i ls had) all i text inside
+    ∙ (ap (λ (t : Text). with_lines i (t ∷ drop (i + 1) all) had) here
+    ∙ lines_unclosed had i text (drop (i + 1) all) kind means)
 
-pub line_nothing : (line : ℕ) (text : Text) (said : Said) → says_nothing text ≡ true
-    → line_meaning line text said ≡ Ok said
-unfolding line_meaning
-line_nothing line text said e =
-    ap (λ (b : Bool).
-    cond b (Ok said) (option_map_or (tokens_meaning line said) (tokens Directives text) (Err UnclosedQuote))) e
+-- ---- faults
 
-pub line_tokens : (line : ℕ) (text : Text) (said : Said) (o : Option (List Piece)) → says_nothing text ≡ false
-    → tokens Directives text ≡ o
-    → line_meaning line text said ≡ option_map_or (tokens_meaning line said) o (Err UnclosedQuote)
-unfolding line_meaning
-line_tokens line text said o e is =
-    ap (λ (b : Bool).
-    cond b (Ok said) (option_map_or (tokens_meaning line said) (tokens Directives text) (Err UnclosedQuote))) e
-    ∙ ap (λ (o : Option (List Piece)). option_map_or (tokens_meaning line said) o (Err UnclosedQuote)) is
+-- a fault that says what is at fault
+pub says_fault : {A : Type 0} (fault : DirectiveFault) (faulty : FaultyLine) (meant : Result A FaultyLine)
+    → Says fault faulty → meant ≡ Err faulty → IsFault fault meant
+says_fault directive_fault.Memory faulty meant says is = tt
+says_fault (directive_fault.Line line text what) faulty meant says is = is ∙ ap (λ f. Err f) says
 
--- the tokens of a line couldn't be told
-pub split_follows : (line : ℕ) (text : Text) (said : Said) (r : Result Unit LineFault) (fault : SplitFault)
-    → r ≡ Err (split_line_fault fault) → says_nothing text ≡ false
-    → (fault ≡ split_fault.Memory) ⊎ ((fault ≡ split_fault.UnclosedQuote) × (tokens Directives text ≡ None))
-    → Follows r (line_meaning line text said) said
-split_follows line text said r fault is other (inl memory) = rw (is, memory) tt
-split_follows line text said r fault is other (inr p) = rw (is, p.0) (line_tokens line text said None other p.1)
-
--- ---- the fault of a line
-
-pub lines_stop : (said after : Said) (all : List Text) (i : ℕ) (text : Text) (f : LineFault) (fault : DirectiveFault)
-    (whole : Result Said FaultyLine) → i < length all → get_or all i text ≡ text
-    → Follows (Err f) (line_meaning (i + 1) text said) after → IsFaultAt (i + 1) text f fault
-    → whole ≡ lines_meaning i (drop i all) said → Means (Err fault) whole
-lines_stop said after all i text Memory fault whole inside here follows fits is = rw fits tt
-lines_stop said after all i text (Wrong kind) fault whole inside here follows fits is =
-    let P : Result Said FaultyLine → Type 0 = λ w. Means (Err fault) w in
-    subst P (sym (is ∙ lines_fault said all i text kind inside here follows)) fits
+pub lines_stop : (had after : List PlacedPiece) (all : List Text) (i : ℕ) (text : Text) (f : LineFault)
+    (fault : DirectiveFault) (whole : Result (List PlacedPiece) FaultyLine) → i < length all → get_or all i text ≡ text
+    → Follows (Err f) (line_tokens had (i + 1) text) after → IsFaultAt (i + 1) text f fault
+    → whole ≡ with_lines i (drop i all) had → IsFault fault whole
+lines_stop had after all i text Memory fault whole inside here follows fits is = rw fits tt
+lines_stop had after all i text (Wrong kind) fault whole inside here follows fits is =
+    says_fault fault _ whole fits (is ∙ lines_fault had all i text kind inside here follows)
 
 -- a line that is read at its place
 pub line_here : (ls : List (Bor Text)) (i : ℕ) (d : Bor Text) → i < length ls
     → get_or (texts ls) i (get_or ls i d).now ≡ (get_or ls i d).now
 line_here ls i d inside = get_or-map (λ s. s.now) ls i d ((get_or ls i d).now) inside
+
+-- ---- tokens
+
+-- operands that were told say no more
+skipped : (count : ℕ) (more : List PlacedPiece) (said : Said) → count ≤ length more
+    → tokens_meaning count more said ≡ tokens_meaning 0 (drop count more) said
+skipped zero more said h = refl
+skipped (suc count) [] said h = absurd (omega (arith, h))
+skipped (suc count) (token ∷ more) said h = skipped count more said (omega (arith, h))
+
+pieces_same : (ts : List Placed) → map (λ t. t.piece) (all_placed ts) ≡ operands ts
+pieces_same [] = refl
+pieces_same (t ∷ ts) = ap (λ ps. operand_of t ∷ ps) (pieces_same ts)
+
+tokens_step : (said : Said) (rest behind : List Placed) (first : Placed) → rest ≡ first ∷ behind
+    → tokens_meaning 0 (all_placed rest) said
+    ≡ and_then (at_place (placed_of first) (first_meaning (placed_of first) (operands behind) said))
+    (λ next. tokens_meaning next.0 (all_placed behind) next.1)
+tokens_step said rest behind first is =
+    ap (λ (ts : List Placed). tokens_meaning 0 (all_placed ts) said) is
+    ∙ ap (λ (ps : List Piece).
+    and_then (at_place (placed_of first) (first_meaning (placed_of first) ps said))
+    (λ next. tokens_meaning next.0 (all_placed behind) next.1)) (pieces_same behind)
+
+pub tokens_more : (said next : Said) (rest behind after : List Placed) (first : Placed) (count : ℕ) → rest ≡ first ∷ behind
+    → count ≤ length behind → after ≡ drop count behind
+    → first_meaning (placed_of first) (operands behind) said ≡ Ok (count, next)
+    → tokens_meaning 0 (all_placed rest) said ≡ tokens_meaning 0 (all_placed after) next
+tokens_more said next rest behind after first count is within left means =
+    tokens_step said rest behind first is
+    ∙ (ap (λ (m : Result (ℕ × Said) DirectiveFaultKind).
+    and_then (at_place (placed_of first) m) (λ next. tokens_meaning next.0 (all_placed behind) next.1)) means
+    ∙ (skipped count (all_placed behind) next (omega (arith, within, length-map behind placed_of))
+    ∙ (ap (λ (ts : List PlacedPiece). tokens_meaning 0 ts next) (drop-map placed_of count behind)
+    ∙ ap (λ (ts : List Placed). tokens_meaning 0 (all_placed ts) next) (sym left))))
+
+-- a list by its first element and those behind, as a slice pattern takes them
+pub taken_apart : (rest : List Placed) (d : Placed) → 1 ≤ length rest
+    → rest ≡ get_or rest 0 d ∷ take (length rest - 1) (drop 1 rest)
+taken_apart [] d h = absurd (omega (arith, h))
+taken_apart (t ∷ ts) d h =
+    let long : length (t ∷ ts) - 1 ≡ length ts = omega arith in
+    ap (λ (more : List Placed). t ∷ more)
+    (sym (ap (λ (n : ℕ). take n ts) long ∙ take_all (length ts) ts (omega arith)))
+
+pub tokens_stop : (said after : Said) (rest behind : List Placed) (first : Placed) (f : LineFault)
+    (fault : DirectiveFault) (whole : Result Said FaultyLine) → rest ≡ first ∷ behind
+    → Counts (Err f) (first_meaning (placed_of first) (operands behind) said) after
+    → IsFaultAt first.line first.text.now f fault → whole ≡ tokens_meaning 0 (all_placed rest) said
+    → IsFault fault whole
+tokens_stop said after rest behind first Memory fault whole is counts fits same = rw fits tt
+tokens_stop said after rest behind first (Wrong kind) fault whole is counts fits same =
+    says_fault fault _ whole fits
+    (same ∙ (tokens_step said rest behind first is
+    ∙ ap (λ (m : Result (ℕ × Said) DirectiveFaultKind).
+    and_then (at_place (placed_of first) m) (λ next. tokens_meaning next.0 (all_placed behind) next.1)) counts))
+
+-- what a directive means with its operands, or what is wrong with them
+module _ (first : PlacedPiece) (behind ops : List Piece) (said after : Said) (d : Directive) (count : ℕ)
+    (named : directive_of first.piece ≡ Ok d) (counted : count ≡ operand_count d behind) (are : ops ≡ take count behind)
+  where
+    first_step : first_meaning first behind said
+        ≡ and_then (directive_meaning first.line d ops said) (λ after. Ok (count, after))
+    first_step =
+        ap (λ (m : Result Directive DirectiveFaultKind). and_then m (λ d.
+        and_then (directive_meaning first.line d (take (operand_count d behind) behind) said)
+        (λ after. Ok (operand_count d behind, after)))) named
+        ∙ (ap (λ (n : ℕ). and_then (directive_meaning first.line d (take n behind) said) (λ after. Ok (n, after)))
+        (sym counted)
+        ∙ ap (λ (ops : List Piece). and_then (directive_meaning first.line d ops said) (λ after. Ok (count, after)))
+        (sym are))
+
+    pub first_fault : (r : Result ℕ LineFault) (f : LineFault)
+        → Follows (Err f) (directive_meaning first.line d ops said) after → r ≡ Err f
+        → Counts r (first_meaning first behind said) after
+    first_fault r Memory follows e = rw e tt
+    first_fault r (Wrong kind) follows e =
+        rw e
+        (first_step
+        ∙ ap (λ (m : Result Said DirectiveFaultKind). and_then m (λ after. Ok (count, after))) follows)
+
+    pub first_done : directive_meaning first.line d ops said ≡ Ok after
+        → first_meaning first behind said ≡ Ok (count, after)
+    first_done means =
+        first_step ∙ ap (λ (m : Result Said DirectiveFaultKind). and_then m (λ after. Ok (count, after))) means
+
+-- ---- a text
+
+module _ (text : Text) (ls : List Text) (said : Said) (are : ls ≡ lines text) (first : said ≡ nothing) where
+  text_is : meaning text ≡ lines_meaning ls said
+  unfolding meaning
+  text_is =
+      sym
+      (ap (λ (ls : List Text). lines_meaning ls said) are ∙ ap (λ (said : Said). lines_meaning (lines text) said) first)
+
+  pub text_done : (after : Said) → lines_meaning ls said ≡ Ok after → meaning text ≡ Ok after
+  text_done after means = text_is ∙ means
+
+  pub text_fault : (fault : DirectiveFault) → IsFault fault (lines_meaning ls said) → Means (Err fault) (meaning text)
+  text_fault directive_fault.Memory is = tt
+  text_fault (directive_fault.Line line text what) is = text_is ∙ is
 
 -- ---- where no offset is
 

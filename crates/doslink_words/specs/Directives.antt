@@ -1,6 +1,6 @@
--- What the directives of a response file mean: a fold over its lines.
-use Rattle.std.specs.Prelude.{◌≡◌, ℕ, ◌+◌, ◌==◌, ◌&&◌, ◌||◌, ⊤, Bool, true, false, List, [], ◌∷◌, ◌++◌, length, codes, map}
-use Rattle.std.specs.Prelude.{Option, Some, None, Result, Ok, Err, if◌then◌else◌, slice_index}
+-- What the directives of a text mean: its tokens in their order, where a line's end is a blank.
+use Rattle.std.specs.Prelude.{◌≡◌, ℕ, zero, suc, ◌&&◌, ⊤, Bool, true, false, List, [], ◌∷◌, ◌++◌, codes, map, take}
+use Rattle.std.specs.Prelude.{Option, Some, None, Result, Ok, Err, if◌then◌else◌}
 use Rattle.std.specs.Option.{option_and_then, option_map_or}
 use Rattle.std.specs.List.{slice_split}
 use Rattle.std.specs.Str.Lines.{lines}
@@ -20,12 +20,13 @@ use Rattle.doslink_words.specs.declared.keywords.Plain.{Plain}
 use Rattle.doslink_words.specs.declared.keywords.Plain.TheVariants as plain
 use Rattle.doslink_words.specs.declared.keywords.Switch.{Switch}
 use Rattle.doslink_words.specs.declared.keywords.Switch.TheVariants as switch
-use Rattle.doslink_words.specs.declared.tokens.Syntax.TheVariants.{Directives as Directive_syntax}
 use Rattle.doslink_words.specs.Keywords.{is_keyword, directive_named, switch_named}
+use Rattle.doslink_words.specs.Operands.{is_open, is_close, operand_count}
+use Rattle.doslink_words.specs.Places.{PlacedPiece, FaultyLine, with_lines}
 use Rattle.doslink_words.specs.Said.{Said, SaidItem, nothing, said_of}
 use Rattle.doslink_words.specs.Said.{File, Library, Class, Segment, Beside, At, Dosseg, Listed}
 use Rattle.doslink_words.specs.Sizes.{size, stack_bytes}
-use Rattle.doslink_words.specs.Tokens.{Piece, Word, Quoted, Comma, Equals, after_space, tokens}
+use Rattle.doslink_words.specs.Tokens.{Piece, Word, Quoted, Comma, Equals, Open, Close}
 
 -- what is done with a value, where there is one, and else the fault that there is
 abbrev pub and_then : {A B E : Type 0} → Result A E → (A → Result B E) → Result B E
@@ -42,6 +43,8 @@ name_of (Word text) = Ok text
 name_of (Quoted text) = Ok text
 name_of Comma = Err kind.WrongOperands
 name_of Equals = Err kind.WrongOperands
+name_of Open = Err kind.WrongOperands
+name_of Close = Err kind.WrongOperands
 
 -- the word without quotes that a token is
 abbrev pub word_of : Piece → Line Text
@@ -49,6 +52,8 @@ word_of (Word text) = Ok text
 word_of (Quoted text) = Err kind.WrongOperands
 word_of Comma = Err kind.WrongOperands
 word_of Equals = Err kind.WrongOperands
+word_of Open = Err kind.WrongOperands
+word_of Close = Err kind.WrongOperands
 
 -- whether a token is this keyword
 abbrev pub is_word : Piece → Text → Bool
@@ -56,6 +61,8 @@ is_word (Word text) keyword = is_keyword text keyword
 is_word (Quoted text) keyword = false
 is_word Comma keyword = false
 is_word Equals keyword = false
+is_word Open keyword = false
+is_word Close keyword = false
 
 -- whether a token is a comma
 abbrev pub is_comma : Piece → Bool
@@ -63,6 +70,8 @@ is_comma (Word text) = false
 is_comma (Quoted text) = false
 is_comma Comma = true
 is_comma Equals = false
+is_comma Open = false
+is_comma Close = false
 
 -- whether a token is an equals sign
 abbrev pub is_equals : Piece → Bool
@@ -70,6 +79,8 @@ is_equals (Word text) = false
 is_equals (Quoted text) = false
 is_equals Comma = false
 is_equals Equals = true
+is_equals Open = false
+is_equals Close = false
 
 -- what commas separate
 abbrev pub parts : List Piece → List (List Piece)
@@ -84,6 +95,27 @@ one_name _ = Err kind.WrongOperands
 abbrev pub with_names : (had : List Text) → List (List Piece) → Line (List Text)
 with_names had [] = Ok had
 with_names had (part ∷ more) = and_then (one_name part) (λ name. with_names (had ++ (name ∷ [])) more)
+
+-- these names, and the one that a token is, where it is no comma
+abbrev pub with_between : (had : List Text) → Piece → Line (List Text)
+with_between had token = if is_comma token then Ok had else and_then (name_of token) (λ name. Ok (had ++ (name ∷ [])))
+
+-- a value where no token is left
+abbrev pub if_none : {A : Type 0} → List Piece → A → Line A
+if_none [] value = Ok value
+if_none (token ∷ more) value = Err kind.WrongOperands
+
+-- `A B ..}`: these names and those up to the brace, which is the last token
+abbrev pub with_braced : (had : List Text) → List Piece → Line (List Text)
+with_braced had [] = Err kind.WrongOperands
+with_braced had (token ∷ more) =
+    if is_close token then if_none more had
+    else and_then (with_between had token) (λ names. with_braced names more)
+
+-- `A[,B..]` or `{A B ..}`: these names and those of the list
+abbrev pub with_list : (had : List Text) → List Piece → Line (List Text)
+with_list had [] = with_names had (parts [])
+with_list had (first ∷ more) = if is_open first then with_braced had more else with_names had (parts (first ∷ more))
 
 -- a warning of a line
 abbrev pub warned : (line : ℕ) → WarningKind → Said → Line Said
@@ -196,11 +228,11 @@ order_meaning (first ∷ more) said =
 -- what a directive means
 abbrev pub directive_meaning : (line : ℕ) → Directive → List Piece → Said → Line Said
 directive_meaning line directive.File operands said =
-    and_then (with_names [] (parts operands)) (λ names. Ok (record said { inputs = said.inputs ++ map File names }))
+    and_then (with_list [] operands) (λ names. Ok (record said { inputs = said.inputs ++ map File names }))
 directive_meaning line directive.Library operands said =
-    and_then (with_names [] (parts operands)) (λ names. Ok (record said { inputs = said.inputs ++ map Library names }))
+    and_then (with_list [] operands) (λ names. Ok (record said { inputs = said.inputs ++ map Library names }))
 directive_meaning line directive.Folder operands said =
-    and_then (with_names said.folders (parts operands)) (λ names. Ok (record said { folders = names }))
+    and_then (with_list said.folders operands) (λ names. Ok (record said { folders = names }))
 directive_meaning line directive.Name operands said =
     and_then (one_name operands) (λ name. Ok (record said { out = Some name }))
 directive_meaning line directive.Format operands said = form_meaning (format_meaning operands) said
@@ -212,47 +244,34 @@ directive_meaning line directive.Debug operands said = Ok said
 directive_meaning line directive.Sort operands said = warned line warning.Sort said
 directive_meaning line directive.Disable operands said = warned line warning.Disable said
 
--- a line that is empty or a comment
-abbrev pub says_nothing : Text → Bool
-says_nothing line = length (after_space line) == 0 || slice_index (after_space line) 0 == 35
-
 -- the directive that a token names
 abbrev pub directive_of : Piece → Line Directive
 directive_of (Word text) = option_map_or Ok (directive_named text) (Err kind.UnknownDirective)
 directive_of _ = Err kind.UnknownDirective
 
--- what the tokens of a line mean: the first names a directive, and the others are its operands
-abbrev pub tokens_meaning : (line : ℕ) → Said → List Piece → Line Said
-tokens_meaning line said [] = Ok said
-tokens_meaning line said (first ∷ operands) =
-    and_then (directive_of first) (λ d. directive_meaning line d operands said)
+-- how many operands a directive's word has behind it, and what it means with them
+abbrev pub first_meaning : PlacedPiece → List Piece → Said → Line (ℕ × Said)
+first_meaning first behind said =
+    and_then (directive_of first.piece) (λ d.
+    and_then (directive_meaning first.line d (take (operand_count d behind) behind) said)
+    (λ after. Ok (operand_count d behind, after)))
 
--- what a line means
-unfoldable pub line_meaning : (line : ℕ) → Text → Said → Line Said
-line_meaning line text said =
-    if says_nothing text then Ok said
-    else option_map_or (tokens_meaning line said) (tokens Directive_syntax text) (Err kind.UnclosedQuote)
+-- what is wrong with a directive is so at the place of its word
+abbrev pub at_place : {A : Type 0} → PlacedPiece → Line A → Result A FaultyLine
+at_place token (Ok value) = Ok value
+at_place token (Err what) = Err (record { line = token.line; text = token.text; kind = what })
 
--- the first line that is at fault: its number, its text and what is wrong with it
-pub record FaultyLine : Type 0 where
-  pub line : ℕ
-  pub text : Text
-  pub kind : DirectiveFaultKind
-
--- what follows from a line
-abbrev pub on_line : (line : ℕ) → Text → Line Said → (Said → Result Said FaultyLine) → Result Said FaultyLine
-on_line line text (Ok said) next = next said
-on_line line text (Err what) next = Err (record { line = line; text = text; kind = what })
-
--- what lines mean behind what is said, where `line` of them came before
-abbrev pub lines_meaning : (line : ℕ) → List Text → Said → Result Said FaultyLine
-lines_meaning line [] said = Ok said
-lines_meaning line (text ∷ more) said =
-    on_line (line + 1) text (line_meaning (line + 1) text said) (lines_meaning (line + 1) more)
+-- what tokens mean behind what is said, of which so many are operands of the directive before them
+abbrev pub tokens_meaning : (operands : ℕ) → List PlacedPiece → Said → Result Said FaultyLine
+tokens_meaning operands [] said = Ok said
+tokens_meaning (suc operands) (token ∷ more) said = tokens_meaning operands more said
+tokens_meaning zero (token ∷ more) said =
+    and_then (at_place token (first_meaning token (map (λ t. t.piece) more) said))
+    (λ next. tokens_meaning next.0 more next.1)
 
 -- what a text of directives means
 unfoldable pub meaning : Text → Result Said FaultyLine
-meaning text = lines_meaning 0 (lines text) nothing
+meaning text = and_then (with_lines 0 (lines text) []) (λ tokens. tokens_meaning 0 tokens nothing)
 
 -- an answer is what a text means, or want of memory
 abbrev pub Means : Result Directives DirectiveFault → Result Said FaultyLine → Type 0

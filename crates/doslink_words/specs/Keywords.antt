@@ -1,5 +1,5 @@
--- The words of directives, which are read without regard to case.
-use Rattle.std.specs.Prelude.{◌||◌, Bool, Option, Some, None, map, codes, if◌then◌else◌}
+-- The words of directives, which are read without regard to case, and of which many may be shortened.
+use Rattle.std.specs.Prelude.{ℕ, ◌&&◌, ◌||◌, Bool, Option, Some, None, map, codes, if◌then◌else◌, length, nat_le, take}
 use Rattle.std.specs.Char.{to_ascii_lowercase}
 use Rattle.std.specs.Str.{bytes_eq}
 use Rattle.clap.specs.Words.{Text}
@@ -14,35 +14,51 @@ use Rattle.doslink_words.specs.declared.job.WarningKind.TheVariants as warning
 unfoldable pub is_keyword : (word keyword : Text) → Bool
 is_keyword word keyword = bytes_eq (map to_ascii_lowercase word) (map to_ascii_lowercase keyword)
 
+-- whether a word is a keyword, or the front of one that has this many letters at least
+unfoldable pub is_short : (word keyword : Text) → (least : ℕ) → Bool
+is_short word keyword least =
+    nat_le least (length word) && nat_le (length word) (length keyword)
+    && is_keyword word (take (length word) keyword)
+
 -- the directive of a name
 abbrev pub directive_named : Text → Option Directive
 directive_named word =
-    if is_keyword word (codes "file") then Some directive.File
-    else (if is_keyword word (codes "library") || is_keyword word (codes "lib") then Some directive.Library
-    else (if is_keyword word (codes "libpath") then Some directive.Folder
-    else (if is_keyword word (codes "name") then Some directive.Name
-    else (if is_keyword word (codes "format") then Some directive.Format
-    else (if is_keyword word (codes "option") || is_keyword word (codes "op") then Some directive.Option
-    else (if is_keyword word (codes "order") then Some directive.Order
-    else (if is_keyword word (codes "debug") then Some directive.Debug
-    else (if is_keyword word (codes "sort") then Some directive.Sort
-    else (if is_keyword word (codes "disable") then Some directive.Disable
-    else (if is_keyword word (codes "system") then Some directive.System
-    else (if is_keyword word (codes "output") then Some directive.Output
+    if is_short word (codes "file") 1 then Some directive.File
+    else (if is_short word (codes "library") 1 then Some directive.Library
+    else (if is_short word (codes "libpath") 4 then Some directive.Folder
+    else (if is_short word (codes "name") 1 then Some directive.Name
+    else (if is_short word (codes "format") 4 then Some directive.Format
+    else (if is_short word (codes "option") 2 then Some directive.Option
+    else (if is_short word (codes "order") 3 then Some directive.Order
+    else (if is_short word (codes "debug") 1 then Some directive.Debug
+    else (if is_short word (codes "sort") 3 then Some directive.Sort
+    else (if is_short word (codes "disable") 4 then Some directive.Disable
+    else (if is_short word (codes "system") 3 then Some directive.System
+    else (if is_short word (codes "output") 3 then Some directive.Output
     else None)))))))))))
+
+-- whether a word goes on with `debug`, and with `sort`
+abbrev pub is_debug_word : Text → Bool
+is_debug_word word =
+    is_short word (codes "dwarf") 2 || is_short word (codes "watcom") 1 || is_short word (codes "codeview") 1
+    || is_short word (codes "novell") 2 || is_short word (codes "all") 2 || is_short word (codes "lines") 2
+    || is_short word (codes "types") 2 || is_short word (codes "locals") 2 || is_short word (codes "onlyexports") 4
+
+abbrev pub is_sort_word : Text → Bool
+is_sort_word word = is_short word (codes "global") 2 || is_short word (codes "alphabetical") 3
 
 -- whether an option changes nothing of a DOS program
 abbrev pub is_harmless : Text → Bool
 is_harmless word =
-    is_keyword word (codes "verbose") || is_keyword word (codes "statics") || is_keyword word (codes "artificial")
-    || is_keyword word (codes "showdead") || is_keyword word (codes "cache") || is_keyword word (codes "nocache")
+    is_short word (codes "verbose") 1 || is_short word (codes "statics") 4 || is_short word (codes "artificial") 3
+    || is_short word (codes "showdead") 3 || is_keyword word (codes "cache") || is_keyword word (codes "nocache")
     || is_keyword word (codes "farcalls") || is_keyword word (codes "nofarcalls")
-    || is_keyword word (codes "maxerrors")
+    || is_short word (codes "maxerrors") 4
 
 -- whether an option asks that names agree with regard to case, or without
 abbrev pub is_exact : Text → Bool
 is_exact word =
-    is_keyword word (codes "caseexact") || is_keyword word (codes "nocaseignore")
+    is_short word (codes "caseexact") 1 || is_keyword word (codes "nocaseignore")
     || is_keyword word (codes "noignorecase")
 
 abbrev pub is_ignoring : Text → Bool
@@ -53,13 +69,13 @@ is_ignoring word =
 -- the option of a name
 abbrev pub switch_named : Text → Option Switch
 switch_named word =
-    if is_keyword word (codes "quiet") then Some (switch.Plain plain.Quiet)
-    else (if is_keyword word (codes "map") then Some switch.Map
-    else (if is_keyword word (codes "dosseg") then Some (switch.Plain plain.Dosseg)
+    if is_short word (codes "quiet") 1 then Some (switch.Plain plain.Quiet)
+    else (if is_short word (codes "map") 1 then Some switch.Map
+    else (if is_short word (codes "dosseg") 3 then Some (switch.Plain plain.Dosseg)
     else (if is_exact word then Some (switch.Plain plain.Exact)
     else (if is_ignoring word then Some (switch.Plain plain.Ignoring)
-    else (if is_keyword word (codes "nodefaultlibs") then Some (switch.Plain plain.NoDefaultLibraries)
-    else (if is_keyword word (codes "symfile") then Some (switch.Idle warning.Symbols)
-    else (if is_keyword word (codes "stack") then Some switch.Stack
+    else (if is_short word (codes "nodefaultlibs") 3 then Some (switch.Plain plain.NoDefaultLibraries)
+    else (if is_short word (codes "symfile") 4 then Some (switch.Idle warning.Symbols)
+    else (if is_short word (codes "stack") 2 then Some switch.Stack
     else (if is_harmless word then Some (switch.Idle warning.Option)
     else None))))))))

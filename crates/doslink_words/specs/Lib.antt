@@ -2,6 +2,8 @@ pub mod Directives
 pub mod inside
 pub mod Keywords
 pub mod Named
+pub mod Operands
+pub mod Places
 pub mod Responses
 pub mod Said
 pub mod Sizes

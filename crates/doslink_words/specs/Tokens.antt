@@ -9,27 +9,38 @@ pub use Rattle.command_line.specs.Values.{texts}
 use Rattle.doslink_words.specs.declared.tokens.Syntax.{Syntax}
 use Rattle.doslink_words.specs.declared.tokens.Syntax.TheVariants.{Words, Directives}
 
--- a token: a word, what stands between two quotes, a comma, or an equals sign
+-- a token: a word, what stands between two quotes, a comma, an equals sign, or a brace
 pub data Piece : Type 0 where
   Word : Text → Piece
   Quoted : Text → Piece
   Comma : Piece
   Equals : Piece
+  Open : Piece
+  Close : Piece
 
--- whether a byte stands behind a word: white space, and in directives a comma and an equals sign
+-- the marks of directives: a comma, an equals sign and braces
+abbrev pub is_mark : ℕ → Bool
+is_mark byte = byte == 44 || byte == 61 || byte == 123 || byte == 125
+
+-- whether a byte stands behind a word: white space, and in directives a mark
 abbrev pub ends_word : Syntax → ℕ → Bool
 ends_word Words byte = is_ascii_whitespace byte
-ends_word Directives byte = is_ascii_whitespace byte || byte == 44 || byte == 61
+ends_word Directives byte = is_ascii_whitespace byte || is_mark byte
 
 -- the quotes: `"`, and in directives `'` too
 abbrev pub is_quote : Syntax → ℕ → Bool
 is_quote Words byte = byte == 34
 is_quote Directives byte = byte == 34 || byte == 39
 
--- the marks: in directives a comma and an equals sign
+-- the mark that a byte is, in directives
 abbrev pub mark_of : Syntax → ℕ → Option Piece
 mark_of Words byte = None
-mark_of Directives byte = if byte == 44 then Some Comma else (if byte == 61 then Some Equals else None)
+mark_of Directives byte =
+    if byte == 44 then Some Comma
+    else (if byte == 61 then Some Equals
+    else (if byte == 123 then Some Open
+    else (if byte == 125 then Some Close
+    else None)))
 
 -- a text without the white space at its start
 abbrev pub after_space : Text → Text
@@ -83,6 +94,8 @@ text_of (Word text) = text
 text_of (Quoted text) = text
 text_of Comma = 44 ∷ []
 text_of Equals = 61 ∷ []
+text_of Open = 123 ∷ []
+text_of Close = 125 ∷ []
 
 -- the words of a text
 unfoldable pub words : Text → Option (List Text)

@@ -1,26 +1,29 @@
-//! The directives of a response file.
-ghost use Rattle.std.specs.Prelude.{◌≡◌, Err, IfOk, Ok};
+//! The directives of a text.
+ghost use Rattle.std.specs.Prelude.{◌≡◌, ◌≤◌, Err, IfOk, Ok, drop, length};
 ghost use Rattle.std.specs.Option.{option_map_or};
 ghost use Rattle.std.specs.Str.Lines.{lines};
 ghost use Rattle.doslink_words.specs.Directives as spec;
-ghost use Rattle.doslink_words.specs.Said.{nothing, said_of};
+ghost use Rattle.doslink_words.specs.Places.{with_lines};
+ghost use Rattle.doslink_words.specs.Said.{said_of};
 ghost use Rattle.doslink_words.specs.declared.faults.DirectiveFaultKind.TheVariants.{WrongOperands};
 ghost use Rattle.doslink_words.specs.declared.keywords.Directive.TheVariants as directive;
 ghost use Rattle.doslink_words.specs.Sizes.{size};
 ghost use Rattle.doslink_words.specs.Tokens.{texts};
-ghost use Rattle.doslink_words.specs.inside.Tokens.{piece_of, pieces};
+ghost use Rattle.doslink_words.specs.inside.Parts.{lines_meaning};
+ghost use Rattle.doslink_words.specs.inside.Tokens.{all_placed, operands as operands_of, piece_of, placed_of};
 ghost use Rattle.doslink_words.specs.Directives.{Means};
-ghost use Rattle.doslink_words.specs.inside.Follows.{Follows, Gives};
-ghost use Rattle.doslink_words.specs.inside.Faults.{IsFaultAt};
+ghost use Rattle.doslink_words.specs.inside.Follows.{Counts, Follows, Gives};
+ghost use Rattle.doslink_words.specs.inside.Faults.{Ends, IsFaultAt};
 
 use crate::faults::{DirectiveFault, DirectiveFaultKind, LineFault};
+use crate::grammar::operand_count;
 use crate::job::{Directives, Form, Order, WarningKind};
 use crate::keywords::{Directive, directive_named};
 use crate::named::{put_files, put_libraries};
-use crate::operands::{one_name, put_items, put_names};
+use crate::operands::{one_name, put_items, put_list};
 use crate::options::{follow_options, warn};
 use crate::sizes::size;
-use crate::tokens::{Syntax, Token, after_space, tokens};
+use crate::tokens::{Placed, Token, put_tokens};
 use std::alloc::{AllocError, Global};
 
 // The form that `format dos` asks for by a word behind it.
@@ -37,23 +40,23 @@ fn kind_of(kind: Token) -> Result<Option<Form>, DirectiveFaultKind>
 }
 
 // The form that `format` asks for.
-fn format_of(operands: &[Token]) -> Result<Option<Form>, DirectiveFaultKind>
-    ensures { result ≡ spec.format_meaning (pieces operands.now) }
+fn format_of(operands: &[Placed]) -> Result<Option<Form>, DirectiveFaultKind>
+    ensures { result ≡ spec.format_meaning (operands_of operands.now) }
 {
     match operands {
-        [system] if system.is_word("dos") => Ok(None),
-        [system, kind] if system.is_word("dos") => kind_of(*kind),
+        [system] if system.token.is_word("dos") => Ok(None),
+        [system, kind] if system.token.is_word("dos") => kind_of(kind.token),
         _ => Err(DirectiveFaultKind::NotDos),
     }
 }
 
 // The form that `system` asks for.
-fn system_of(operands: &[Token]) -> Result<Option<Form>, DirectiveFaultKind>
-    ensures { result ≡ spec.system_meaning (pieces operands.now) }
+fn system_of(operands: &[Placed]) -> Result<Option<Form>, DirectiveFaultKind>
+    ensures { result ≡ spec.system_meaning (operands_of operands.now) }
 {
     match operands {
-        [system] if system.is_word("dos") => Ok(None),
-        [system] if system.is_word("com") => Ok(Some(Form::Com)),
+        [system] if system.token.is_word("dos") => Ok(None),
+        [system] if system.token.is_word("com") => Ok(Some(Form::Com)),
         _ => Err(DirectiveFaultKind::NotDos),
     }
 }
@@ -77,22 +80,24 @@ fn raw_at(value: Token) -> Result<Option<Form>, DirectiveFaultKind>
 }
 
 // The raw image that `offset=N` asks for.
-fn offset_of(operands: &[Token]) -> Result<Option<Form>, DirectiveFaultKind>
-    ensures { result ≡ spec.offset_meaning (pieces operands.now) }
+fn offset_of(operands: &[Placed]) -> Result<Option<Form>, DirectiveFaultKind>
+    ensures { result ≡ spec.offset_meaning (operands_of operands.now) }
 {
     match operands {
-        [name, mark, value] if name.is_word("offset") && mark.is_equals() => raw_at(*value),
+        [name, mark, value] if name.token.is_word("offset") && mark.token.is_equals() => raw_at(
+            value.token,
+        ),
         _ => Err(DirectiveFaultKind::WrongOperands),
     }
 }
 
 // The form that `output` asks for.
-fn output_of(operands: &[Token]) -> Result<Option<Form>, DirectiveFaultKind>
-    ensures { result ≡ spec.output_meaning (pieces operands.now) }
+fn output_of(operands: &[Placed]) -> Result<Option<Form>, DirectiveFaultKind>
+    ensures { result ≡ spec.output_meaning (operands_of operands.now) }
 {
     match operands {
-        [what] if what.is_word("raw") => Ok(raw_from(0)),
-        [what, more @ ..] if what.is_word("raw") => offset_of(more),
+        [what] if what.token.is_word("raw") => Ok(raw_from(0)),
+        [what, more @ ..] if what.token.is_word("raw") => offset_of(more),
         _ => Err(DirectiveFaultKind::WrongOperands),
     }
 }
@@ -109,8 +114,11 @@ fn follow_form(
 }
 
 // Follows `name`.
-fn follow_name<'a>(directives: &mut Directives<'a>, operands: &[Token<'a>]) -> Result<(), LineFault>
-    ensures { Follows result (spec.directive_meaning 0 directive.Name (pieces operands.now) (said_of directives.old))
+fn follow_name<'a>(
+    directives: &mut Directives<'a>,
+    operands: &[Placed<'a>],
+) -> Result<(), LineFault>
+    ensures { Follows result (spec.directive_meaning 0 directive.Name (operands_of operands.now) (said_of directives.old))
         (said_of directives.new) }
 {
     directives.job.out = Some(one_name(operands)?);
@@ -121,13 +129,13 @@ fn follow_name<'a>(directives: &mut Directives<'a>, operands: &[Token<'a>]) -> R
 fn follow_order<'a>(
     alloc: Global,
     directives: &mut Directives<'a>,
-    operands: &[Token<'a>],
+    operands: &[Placed<'a>],
 ) -> Result<(), LineFault>
-    ensures { Follows result (spec.order_meaning (pieces operands.now) (said_of directives.old))
+    ensures { Follows result (spec.order_meaning (operands_of operands.now) (said_of directives.old))
         (said_of directives.new) }
 {
     match operands {
-        [first, ..] if first.is_word("clname") => {
+        [first, ..] if first.token.is_word("clname") => {
             let mut items = Vec::new(alloc);
             put_items(&mut items, operands)?;
             directives.job.order = Order::Listed(items);
@@ -141,13 +149,13 @@ fn follow_order<'a>(
 fn follow_file<'a>(
     alloc: Global,
     directives: &mut Directives<'a>,
-    operands: &[Token<'a>],
+    operands: &[Placed<'a>],
 ) -> Result<(), LineFault>
-    ensures { Follows result (spec.directive_meaning 0 directive.File (pieces operands.now) (said_of directives.old))
+    ensures { Follows result (spec.directive_meaning 0 directive.File (operands_of operands.now) (said_of directives.old))
         (said_of directives.new) }
 {
     let mut names = Vec::new(alloc);
-    put_names(&mut names, operands)?;
+    put_list(&mut names, operands)?;
     Ok(put_files(&mut directives.job.inputs, &names)?)
 }
 
@@ -155,13 +163,13 @@ fn follow_file<'a>(
 fn follow_library<'a>(
     alloc: Global,
     directives: &mut Directives<'a>,
-    operands: &[Token<'a>],
+    operands: &[Placed<'a>],
 ) -> Result<(), LineFault>
-    ensures { Follows result (spec.directive_meaning 0 directive.Library (pieces operands.now) (said_of directives.old))
+    ensures { Follows result (spec.directive_meaning 0 directive.Library (operands_of operands.now) (said_of directives.old))
         (said_of directives.new) }
 {
     let mut names = Vec::new(alloc);
-    put_names(&mut names, operands)?;
+    put_list(&mut names, operands)?;
     Ok(put_libraries(&mut directives.job.inputs, &names)?)
 }
 
@@ -171,15 +179,15 @@ fn follow_directive<'a>(
     directives: &mut Directives<'a>,
     line: usize,
     directive: Directive,
-    operands: &[Token<'a>],
+    operands: &[Placed<'a>],
 ) -> Result<(), LineFault>
-    ensures { Follows result (spec.directive_meaning line directive (pieces operands.now) (said_of directives.old))
+    ensures { Follows result (spec.directive_meaning line directive (operands_of operands.now) (said_of directives.old))
         (said_of directives.new) }
 {
     match directive {
         Directive::File => follow_file(alloc, directives, operands),
         Directive::Library => follow_library(alloc, directives, operands),
-        Directive::Folder => put_names(&mut directives.job.folders, operands),
+        Directive::Folder => put_list(&mut directives.job.folders, operands),
         Directive::Name => follow_name(directives, operands),
         Directive::Format => follow_form(directives, format_of(operands)),
         Directive::System => follow_form(directives, system_of(operands)),
@@ -192,14 +200,6 @@ fn follow_directive<'a>(
     }
 }
 
-// Whether a line is empty or a comment.
-fn says_nothing(line: &str) -> bool
-    ensures { result ≡ spec.says_nothing line.now }
-{
-    let front = after_space(line);
-    front.is_empty() || front.as_bytes()[0] == b'#'
-}
-
 // The directive that a token names.
 fn directive_of(first: Token) -> Result<Directive, DirectiveFaultKind>
     ensures { result ≡ spec.directive_of (piece_of first.entry) }
@@ -210,39 +210,22 @@ fn directive_of(first: Token) -> Result<Directive, DirectiveFaultKind>
     }
 }
 
-// Follows the tokens of a line.
-fn follow_tokens<'a>(
+// Follows the directive that a token names, and hands out how many operands it has of the tokens behind.
+fn follow_first<'a>(
     alloc: Global,
     directives: &mut Directives<'a>,
-    number: usize,
-    tokens: &[Token<'a>],
-) -> Result<(), LineFault>
-    ensures { Follows result (spec.tokens_meaning number (said_of directives.old) (pieces tokens.now))
+    first: Placed<'a>,
+    behind: &[Placed<'a>],
+) -> Result<usize, LineFault>
+    ensures meant { Counts result
+        (spec.first_meaning (placed_of first.entry) (operands_of behind.now) (said_of directives.old))
         (said_of directives.new) }
+    ensures within { IfOk result (λ count. count ≤ length behind.now) }
 {
-    match tokens {
-        [] => Ok(()),
-        [first, operands @ ..] => {
-            let directive = directive_of(*first)?;
-            follow_directive(alloc, directives, number, directive, operands)
-        }
-    }
-}
-
-// Follows a line.
-fn follow_line<'a>(
-    alloc: Global,
-    directives: &mut Directives<'a>,
-    number: usize,
-    line: &'a str,
-) -> Result<(), LineFault>
-    ensures { Follows result (spec.line_meaning number line.now (said_of directives.old)) (said_of directives.new) }
-{
-    if says_nothing(line) {
-        return Ok(());
-    }
-    let tokens = tokens(alloc, Syntax::Directives, line)?;
-    follow_tokens(alloc, directives, number, tokens.as_slice())
+    let directive = directive_of(first.token)?;
+    let count = operand_count(directive, behind);
+    follow_directive(alloc, directives, first.line, directive, &behind[..count])?;
+    Ok(count)
 }
 
 // The lines of a text.
@@ -252,7 +235,7 @@ fn lines_of<'a>(alloc: Global, text: &'a str) -> Result<Vec<&'a str>, AllocError
     text.lines().collect(alloc)
 }
 
-// The fault of a line.
+// The fault of a line, or of what of it is told.
 fn fault_at<'a>(line: usize, text: &'a str, fault: LineFault) -> DirectiveFault<'a>
     ensures { IsFaultAt line text.now fault result }
 {
@@ -262,33 +245,79 @@ fn fault_at<'a>(line: usize, text: &'a str, fault: LineFault) -> DirectiveFault<
     }
 }
 
-// The job that lines ask for.
-fn follow_lines<'a>(alloc: Global, lines: &[&'a str]) -> Result<Directives<'a>, DirectiveFault<'a>>
-    ensures { Means result (spec.lines_meaning 0 (texts lines.now) nothing) }
+// Appends the tokens of lines.
+fn put_lines<'a>(tokens: &mut Vec<Placed<'a>>, lines: &[&'a str]) -> Result<(), DirectiveFault<'a>>
+    ensures { Ends result (with_lines 0 (texts lines.now) (all_placed tokens.old.items))
+        (all_placed tokens.new.items) }
 {
-    let mut directives = Directives::new(alloc);
     for (index, line) in lines.iter().enumerate() {
-        match follow_line(alloc, &mut directives, index + 1, line) {
+        match put_tokens(tokens, index + 1, line) {
             Ok(()) => {}
             Err(fault) => return Err(fault_at(index + 1, line, fault)),
         }
     }
-    Ok(directives)
+    Ok(())
 }
 
-/// The job that the directives of a response file ask for, and what of it has no effect. A line is one directive;
-/// empty lines, and those that begin with `#`, are none. White space, commas and equals signs separate words; a word
-/// that begins with `"` or `'` goes on to the next such quote. Keywords are read without regard to case.
+// What is left of tokens behind so many.
+fn left_behind<'t, 'a>(tokens: &'t [Placed<'a>], count: usize) -> &'t [Placed<'a>]
+    requires { count ≤ length tokens.now }
+    ensures { result.now ≡ drop count tokens.now }
+{
+    &tokens[count..]
+}
+
+// Follows the directives of tokens.
+fn follow_tokens<'a>(
+    alloc: Global,
+    directives: &mut Directives<'a>,
+    tokens: &[Placed<'a>],
+) -> Result<(), DirectiveFault<'a>>
+    ensures { Ends result (spec.tokens_meaning 0 (all_placed tokens.now) (said_of directives.old))
+        (said_of directives.new) }
+{
+    let mut rest = tokens;
+    'tokens: while let [first, behind @ ..] = rest {
+        match follow_first(alloc, directives, *first, behind) {
+            Ok(count) => rest = left_behind(behind, count),
+            Err(fault) => return Err(fault_at(first.line, first.text, fault)),
+        }
+    }
+    Ok(())
+}
+
+// Follows the directives of lines.
+fn follow_lines<'a>(
+    alloc: Global,
+    directives: &mut Directives<'a>,
+    lines: &[&'a str],
+) -> Result<(), DirectiveFault<'a>>
+    ensures { Ends result (lines_meaning (texts lines.now) (said_of directives.old)) (said_of directives.new) }
+{
+    let mut tokens = Vec::new(alloc);
+    match put_lines(&mut tokens, lines) {
+        Ok(()) => follow_tokens(alloc, directives, tokens.as_slice()),
+        Err(fault) => Err(fault),
+    }
+}
+
+/// The job that the directives of a text ask for, and what of it has no effect. One stands behind the other, with white
+/// space between them, of which a line's end is some. A `#` where a word would begin starts a comment up to the line's
+/// end. White space, commas, equals signs and braces separate words; a word that begins with `"` or `'` goes on to the
+/// next such quote of its line. Keywords are read without regard to case, and many may be shortened.
 ///
-/// - `file A[,B..]`, `library A[,B..]` (`lib`), `libpath A[,B..]`: modules, libraries and folders, in order.
-/// - `name FILE`: the program. Of several the last counts, as of orders and of options that exclude each other.
-/// - `format dos [exe|com]`, `system dos|com`: the form of the program's file; of other systems it is a fault.
-/// - `output raw [offset=N]`: a raw image at paragraph 0, from this address on.
-/// - `option X[=VALUE][,..]` (`op`): `quiet`, `map[=FILE]`, `stack=BYTES`, `dosseg`, `caseexact`, `ignorecase`,
-///   `nodefaultlibs`. Of `symfile` and what changes no DOS program (`verbose`, `statics`, `artificial`, `showdead`, `cache`,
-///   `nocache`, `farcalls`, `nofarcalls`, `maxerrors`) a warning is told; any other is a fault.
-/// - `order clname CLASS [segment SEGMENT..] ..`: the order of classes, and of segments in them.
-/// - `debug ..` is nothing, `sort ..` and `disable ..` are warned of.
+/// - `file A[,B..]` (`f`), `library A[,B..]` (`l`), `libpath A[,B..]` (`libp`): modules, libraries and folders, in order.
+///   A list may stand between braces, with white space or commas between its names.
+/// - `name FILE` (`n`): the program. Of several the last counts, as of orders and of options that exclude each other.
+/// - `format dos [exe|com]` (`form`), `system dos|com` (`sys`): the form of the program's file; of other systems it is a
+///   fault.
+/// - `output raw [offset=N]` (`out`): a raw image at paragraph 0, from this address on.
+/// - `option X[=VALUE][,..]` (`op`): `quiet` (`q`), `map[=FILE]` (`m`), `stack=BYTES` (`st`), `dosseg` (`dos`),
+///   `caseexact` (`c`), `ignorecase`, `nodefaultlibs` (`nod`). Of `symfile` and what changes no DOS program (`verbose`,
+///   `statics`, `artificial`, `showdead`, `cache`, `nocache`, `farcalls`, `nofarcalls`, `maxerrors`) a warning is told;
+///   any other is a fault.
+/// - `order clname CLASS [segment SEGMENT..] ..` (`ord`): the order of classes, and of segments in them.
+/// - `debug ..` (`d`) is nothing, `sort ..` (`sor`) and `disable ..` (`disa`) are warned of.
 pub fn parse_directives<'a>(
     alloc: Global,
     text: &'a str,
@@ -298,5 +327,9 @@ pub fn parse_directives<'a>(
     let Ok(lines) = lines_of(alloc, text) else {
         return Err(DirectiveFault::Memory);
     };
-    follow_lines(alloc, lines.as_slice())
+    let mut directives = Directives::new(alloc);
+    match follow_lines(alloc, &mut directives, lines.as_slice()) {
+        Ok(()) => Ok(directives),
+        Err(fault) => Err(fault),
+    }
 }

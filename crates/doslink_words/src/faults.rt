@@ -2,7 +2,6 @@
 ghost use Rattle.std.specs.Prelude.{◌≡◌};
 ghost use Rattle.doslink_words.specs.declared.faults.LineFault.TheVariants as line_fault;
 ghost use Rattle.doslink_words.specs.declared.faults.SplitFault.TheVariants as split_fault;
-ghost use Rattle.doslink_words.specs.inside.Follows.{split_line_fault};
 
 use std::alloc::{AllocError, AllocFailed};
 use thiserror::Error;
@@ -40,25 +39,25 @@ pub enum DirectiveFault<'a> {
     /// There was no memory.
     #[error("out of memory")]
     Memory,
-    /// A line is at fault.
+    /// A directive is at fault, or a line.
     #[error("line {line}: {kind}: {text}")]
     Line {
-        /// Its number, counted from 1.
+        /// The number of the line in which it begins, counted from 1.
         line: usize,
-        /// The line.
+        /// The line from the directive on, or the line whose quote isn't closed.
         text: &'a str,
         /// What is wrong with it.
         kind: DirectiveFaultKind,
     },
 }
 
-/// What is wrong with a line.
+/// What is wrong with a directive.
 #[derive(Clone, Copy, Debug, PartialEq, Eq, Error)]
 pub enum DirectiveFaultKind {
     /// A quote isn't closed.
     #[error("a quote isn't closed")]
     UnclosedQuote,
-    /// The line begins with no known directive.
+    /// No known directive stands where one begins.
     #[error("unknown directive")]
     UnknownDirective,
     /// An option that isn't known, or that would change what the program does.
@@ -72,7 +71,7 @@ pub enum DirectiveFaultKind {
     NotDos,
 }
 
-// Why a line can't be followed.
+// Why a directive or a line can't be followed.
 #[derive(Clone, Copy)]
 pub(crate) enum LineFault {
     // There was no memory.
@@ -94,16 +93,5 @@ impl From<DirectiveFaultKind> for LineFault {
 
     fn from(kind: DirectiveFaultKind) -> LineFault {
         LineFault::Wrong(kind)
-    }
-}
-
-impl From<SplitFault> for LineFault {
-    ghost from_gives = { λ fault e. e ≡ split_line_fault fault };
-
-    fn from(fault: SplitFault) -> LineFault {
-        match fault {
-            SplitFault::Memory => LineFault::Memory,
-            SplitFault::UnclosedQuote => LineFault::Wrong(DirectiveFaultKind::UnclosedQuote),
-        }
     }
 }

@@ -113,19 +113,19 @@ pub enum OrderItem<'a> {
     Segment(&'a str),
 }
 
-/// What the directives of a response file ask for.
+/// What the directives of a text ask for.
 #[derive(Debug, Drop)]
 pub struct Directives<'a> {
     /// What is linked, and how.
     pub job: Job<'a>,
-    /// What has no effect, in the order of lines.
+    /// What has no effect, in the order in which it was asked for.
     pub warnings: Vec<Warning>,
 }
 
 /// Something that has no effect.
 #[derive(Clone, Copy, Debug, PartialEq, Eq)]
 pub struct Warning {
-    /// The line, counted from 1.
+    /// The line in which its directive begins, counted from 1.
     pub line: usize,
     /// What it is.
     pub kind: WarningKind,

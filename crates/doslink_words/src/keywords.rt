@@ -1,15 +1,15 @@
-//! The words of directives, which are read without regard to case.
+//! The words of directives, which are read without regard to case, and of which many may be shortened.
 ghost use Rattle.std.specs.Prelude.{◌≡◌};
 ghost use Rattle.doslink_words.specs.Keywords as spec;
 
 use crate::job::WarningKind;
 
-/// What a line is about.
+/// What a directive is about.
 #[derive(Clone, Copy)]
 pub(crate) enum Directive {
     /// `file`: object modules.
     File,
-    /// `library`, `lib`: libraries.
+    /// `library`: libraries.
     Library,
     /// `libpath`: folders of libraries.
     Folder,
@@ -21,7 +21,7 @@ pub(crate) enum Directive {
     System,
     /// `output`: a raw image.
     Output,
-    /// `option`, `op`: options.
+    /// `option`: options.
     Option,
     /// `order`: the order of classes and segments.
     Order,
@@ -69,59 +69,98 @@ pub(crate) fn is(word: &str, keyword: &str) -> bool
     word.eq_ignore_ascii_case(keyword)
 }
 
+// Whether bytes are this keyword.
+fn is_bytes(word: &[u8], keyword: &[u8]) -> bool
+    ensures { result ≡ spec.is_keyword word.now keyword.now }
+{
+    word.eq_ignore_ascii_case(keyword)
+}
+
+/// Whether a word is a keyword, or the front of one that has this many letters at least.
+#[tactic(auto, unfolding(crate::specs::Keywords::is_short))]
+pub(crate) fn is_short(word: &str, keyword: &str, least: usize) -> bool
+    ensures { result ≡ spec.is_short word.now keyword.now least }
+{
+    let (word, keyword) = (word.as_bytes(), keyword.as_bytes());
+    let size = word.len();
+    least <= size && size <= keyword.len() && is_bytes(word, &keyword[..size])
+}
+
 /// The directive of this name.
 pub(crate) fn directive_named(word: &str) -> Option<Directive>
     ensures { result ≡ spec.directive_named word.now }
 {
-    if is(word, "file") {
+    if is_short(word, "file", 1) {
         Some(Directive::File)
-    } else if is(word, "library") || is(word, "lib") {
+    } else if is_short(word, "library", 1) {
         Some(Directive::Library)
-    } else if is(word, "libpath") {
+    } else if is_short(word, "libpath", 4) {
         Some(Directive::Folder)
-    } else if is(word, "name") {
+    } else if is_short(word, "name", 1) {
         Some(Directive::Name)
-    } else if is(word, "format") {
+    } else if is_short(word, "format", 4) {
         Some(Directive::Format)
-    } else if is(word, "option") || is(word, "op") {
+    } else if is_short(word, "option", 2) {
         Some(Directive::Option)
-    } else if is(word, "order") {
+    } else if is_short(word, "order", 3) {
         Some(Directive::Order)
-    } else if is(word, "debug") {
+    } else if is_short(word, "debug", 1) {
         Some(Directive::Debug)
-    } else if is(word, "sort") {
+    } else if is_short(word, "sort", 3) {
         Some(Directive::Sort)
-    } else if is(word, "disable") {
+    } else if is_short(word, "disable", 4) {
         Some(Directive::Disable)
-    } else if is(word, "system") {
+    } else if is_short(word, "system", 3) {
         Some(Directive::System)
-    } else if is(word, "output") {
+    } else if is_short(word, "output", 3) {
         Some(Directive::Output)
     } else {
         None
     }
 }
 
+/// Whether a word goes on with `debug`.
+pub(crate) fn is_debug_word(word: &str) -> bool
+    ensures { result ≡ spec.is_debug_word word.now }
+{
+    is_short(word, "dwarf", 2)
+        || is_short(word, "watcom", 1)
+        || is_short(word, "codeview", 1)
+        || is_short(word, "novell", 2)
+        || is_short(word, "all", 2)
+        || is_short(word, "lines", 2)
+        || is_short(word, "types", 2)
+        || is_short(word, "locals", 2)
+        || is_short(word, "onlyexports", 4)
+}
+
+/// Whether a word goes on with `sort`.
+pub(crate) fn is_sort_word(word: &str) -> bool
+    ensures { result ≡ spec.is_sort_word word.now }
+{
+    is_short(word, "global", 2) || is_short(word, "alphabetical", 3)
+}
+
 // Whether an option of this name changes nothing of a DOS program.
 fn is_harmless(word: &str) -> bool
     ensures { result ≡ spec.is_harmless word.now }
 {
-    is(word, "verbose")
-        || is(word, "statics")
-        || is(word, "artificial")
-        || is(word, "showdead")
+    is_short(word, "verbose", 1)
+        || is_short(word, "statics", 4)
+        || is_short(word, "artificial", 3)
+        || is_short(word, "showdead", 3)
         || is(word, "cache")
         || is(word, "nocache")
         || is(word, "farcalls")
         || is(word, "nofarcalls")
-        || is(word, "maxerrors")
+        || is_short(word, "maxerrors", 4)
 }
 
 // Whether an option of this name asks that names agree with regard to case.
 fn is_exact(word: &str) -> bool
     ensures { result ≡ spec.is_exact word.now }
 {
-    is(word, "caseexact") || is(word, "nocaseignore") || is(word, "noignorecase")
+    is_short(word, "caseexact", 1) || is(word, "nocaseignore") || is(word, "noignorecase")
 }
 
 // Whether an option of this name asks that names agree without regard to case.
@@ -135,21 +174,21 @@ fn is_ignoring(word: &str) -> bool
 pub(crate) fn switch_named(word: &str) -> Option<Switch>
     ensures { result ≡ spec.switch_named word.now }
 {
-    if is(word, "quiet") {
+    if is_short(word, "quiet", 1) {
         Some(Switch::Plain(Plain::Quiet))
-    } else if is(word, "map") {
+    } else if is_short(word, "map", 1) {
         Some(Switch::Map)
-    } else if is(word, "dosseg") {
+    } else if is_short(word, "dosseg", 3) {
         Some(Switch::Plain(Plain::Dosseg))
     } else if is_exact(word) {
         Some(Switch::Plain(Plain::Exact))
     } else if is_ignoring(word) {
         Some(Switch::Plain(Plain::Ignoring))
-    } else if is(word, "nodefaultlibs") {
+    } else if is_short(word, "nodefaultlibs", 3) {
         Some(Switch::Plain(Plain::NoDefaultLibraries))
-    } else if is(word, "symfile") {
+    } else if is_short(word, "symfile", 4) {
         Some(Switch::Idle(WarningKind::Symbols))
-    } else if is(word, "stack") {
+    } else if is_short(word, "stack", 2) {
         Some(Switch::Stack)
     } else if is_harmless(word) {
         Some(Switch::Idle(WarningKind::Option))

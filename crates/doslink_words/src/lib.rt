@@ -3,6 +3,7 @@
 
 mod directives;
 mod faults;
+mod grammar;
 mod job;
 mod keywords;
 mod named;

@@ -3,35 +3,35 @@ ghost use Rattle.std.specs.Prelude.{◌≡◌, ◌+◌, ◌≤◌, drop, length}
 ghost use Rattle.std.specs.List.{position_or_len};
 ghost use Rattle.doslink_words.specs.Directives as spec;
 ghost use Rattle.doslink_words.specs.Tokens.{texts};
-ghost use Rattle.doslink_words.specs.inside.Tokens.{piece_of, pieces};
+ghost use Rattle.doslink_words.specs.inside.Tokens.{operands as operands_of, piece_of};
 ghost use Rattle.doslink_words.specs.Said.{item_of, items_of};
 ghost use Rattle.doslink_words.specs.inside.Follows.{Follows, Gives};
 ghost use Rattle.doslink_words.specs.inside.Parts.{listed, named};
 
 use crate::faults::{DirectiveFaultKind, LineFault};
 use crate::job::OrderItem;
-use crate::tokens::Token;
+use crate::tokens::{Placed, Token};
 
 /// The name that is the only operand.
-pub(crate) fn one_name<'a>(operands: &[Token<'a>]) -> Result<&'a str, DirectiveFaultKind>
-    ensures { Gives (λ name. name.now) result (spec.one_name (pieces operands.now)) }
+pub(crate) fn one_name<'a>(operands: &[Placed<'a>]) -> Result<&'a str, DirectiveFaultKind>
+    ensures { Gives (λ name. name.now) result (spec.one_name (operands_of operands.now)) }
 {
     match operands {
-        [token] => token.name(),
+        [operand] => operand.token.name(),
         _ => Err(DirectiveFaultKind::WrongOperands),
     }
 }
 
 /// Where the part ends that begins at an operand: at the next comma, or behind the last operand.
-pub(crate) fn part_end(operands: &[Token], start: usize) -> usize
+pub(crate) fn part_end(operands: &[Placed], start: usize) -> usize
     requires { start ≤ length operands.now }
-    ensures end { result ≡ start + position_or_len spec.is_comma (drop start (pieces operands.now)) }
+    ensures end { result ≡ start + position_or_len spec.is_comma (drop start (operands_of operands.now)) }
     ensures start { start ≤ result }
     ensures within { result ≤ length operands.now }
 {
     let mut end = start;
     'commas: while end < operands.len() {
-        if operands[end].is_comma() {
+        if operands[end].token.is_comma() {
             return end;
         }
         end += 1;
@@ -40,20 +40,17 @@ pub(crate) fn part_end(operands: &[Token], start: usize) -> usize
 }
 
 // Appends the name that is the only operand.
-fn put_name<'a>(names: &mut Vec<&'a str>, operands: &[Token<'a>]) -> Result<(), LineFault>
-    ensures { Follows result (named (texts names.old.items) (pieces operands.now)) (texts names.new.items) }
+fn put_name<'a>(names: &mut Vec<&'a str>, operands: &[Placed<'a>]) -> Result<(), LineFault>
+    ensures { Follows result (named (texts names.old.items) (operands_of operands.now)) (texts names.new.items) }
 {
     let name = one_name(operands)?;
     names.push(name)?;
     Ok(())
 }
 
-/// Appends the names of operands `A[,B..]`.
-pub(crate) fn put_names<'a>(
-    names: &mut Vec<&'a str>,
-    operands: &[Token<'a>],
-) -> Result<(), LineFault>
-    ensures { Follows result (spec.with_names (texts names.old.items) (spec.parts (pieces operands.now)))
+// Appends the names of operands `A[,B..]`.
+fn put_names<'a>(names: &mut Vec<&'a str>, operands: &[Placed<'a>]) -> Result<(), LineFault>
+    ensures { Follows result (spec.with_names (texts names.old.items) (spec.parts (operands_of operands.now)))
         (texts names.new.items) }
 {
     let mut start = 0;
@@ -65,6 +62,51 @@ pub(crate) fn put_names<'a>(
             return Ok(());
         }
         start = end + 1;
+    }
+}
+
+// Appends the name that a token between braces is, where it is no comma.
+fn put_between<'a>(names: &mut Vec<&'a str>, token: Token<'a>) -> Result<(), LineFault>
+    ensures { Follows result (spec.with_between (texts names.old.items) (piece_of token.entry))
+        (texts names.new.items) }
+{
+    if !token.is_comma() {
+        let name = token.name()?;
+        names.push(name)?;
+    }
+    Ok(())
+}
+
+// Appends the names of `A B ..}`.
+fn put_braced<'a>(names: &mut Vec<&'a str>, operands: &[Placed<'a>]) -> Result<(), LineFault>
+    ensures { Follows result (spec.with_braced (texts names.old.items) (operands_of operands.now))
+        (texts names.new.items) }
+{
+    let mut rest = operands;
+    'tokens: while let [first, more @ ..] = rest {
+        if first.token.is_close() {
+            if more.is_empty() {
+                return Ok(());
+            }
+            return Err(LineFault::Wrong(DirectiveFaultKind::WrongOperands));
+        }
+        put_between(names, first.token)?;
+        rest = more;
+    }
+    Err(LineFault::Wrong(DirectiveFaultKind::WrongOperands))
+}
+
+/// Appends the names of a list, `A[,B..]` or `{A B ..}`.
+pub(crate) fn put_list<'a>(
+    names: &mut Vec<&'a str>,
+    operands: &[Placed<'a>],
+) -> Result<(), LineFault>
+    ensures { Follows result (spec.with_list (texts names.old.items) (operands_of operands.now))
+        (texts names.new.items) }
+{
+    match operands {
+        [first, more @ ..] if first.token.is_open() => put_braced(names, more),
+        _ => put_names(names, operands),
     }
 }
 
@@ -99,9 +141,9 @@ fn put_item<'a>(
 /// Appends the items of an order, `clname CLASS` or `segment SEGMENT` each.
 pub(crate) fn put_items<'a>(
     items: &mut Vec<OrderItem<'a>>,
-    operands: &[Token<'a>],
+    operands: &[Placed<'a>],
 ) -> Result<(), LineFault>
-    ensures { Follows result (spec.with_items (items_of items.old.items) (pieces operands.now))
+    ensures { Follows result (spec.with_items (items_of items.old.items) (operands_of operands.now))
         (items_of items.new.items) }
 {
     let mut tokens = operands.iter();
@@ -109,7 +151,7 @@ pub(crate) fn put_items<'a>(
         let Some(name) = tokens.next() else {
             return Err(LineFault::Wrong(DirectiveFaultKind::WrongOperands));
         };
-        put_item(items, *keyword, *name)?;
+        put_item(items, keyword.token, name.token)?;
     }
     Ok(())
 }

@@ -4,7 +4,7 @@ ghost use Rattle.std.specs.Option.{option_and_then, option_map, option_map_or};
 ghost use Rattle.doslink_words.specs.Directives as spec;
 ghost use Rattle.doslink_words.specs.Said.{At, Beside, map_of, said_of};
 ghost use Rattle.doslink_words.specs.Sizes.{stack_bytes};
-ghost use Rattle.doslink_words.specs.inside.Tokens.{piece_of, pieces};
+ghost use Rattle.doslink_words.specs.inside.Tokens.{operands as operands_of, piece_of};
 ghost use Rattle.doslink_words.specs.inside.Follows.{Follows, Gives, option_said};
 ghost use Rattle.doslink_words.specs.inside.Parts.{optioned};
 
@@ -13,7 +13,7 @@ use crate::job::{Directives, MapFile, Order, Stack, Warning, WarningKind};
 use crate::keywords::{Plain, Switch, switch_named};
 use crate::operands::part_end;
 use crate::sizes::stack_bytes;
-use crate::tokens::Token;
+use crate::tokens::{Placed, Token};
 
 /// Tells that something of a line has no effect.
 pub(crate) fn warn(
@@ -39,12 +39,12 @@ fn valued_option<'a>(
 }
 
 // The name of an option `NAME[=VALUE]`, and its value.
-fn option_of<'a>(part: &[Token<'a>]) -> Result<(&'a str, Option<&'a str>), DirectiveFaultKind>
-    ensures { Gives option_said result (spec.option_of (pieces part.now)) }
+fn option_of<'a>(part: &[Placed<'a>]) -> Result<(&'a str, Option<&'a str>), DirectiveFaultKind>
+    ensures { Gives option_said result (spec.option_of (operands_of part.now)) }
 {
     match part {
-        [name] => Ok((name.word()?, None)),
-        [name, mark, value] if mark.is_equals() => valued_option(*name, *value),
+        [name] => Ok((name.token.word()?, None)),
+        [name, mark, value] if mark.token.is_equals() => valued_option(name.token, value.token),
         _ => Err(DirectiveFaultKind::WrongOperands),
     }
 }
@@ -128,9 +128,9 @@ fn follow_option<'a>(
 fn follow_part<'a>(
     directives: &mut Directives<'a>,
     line: usize,
-    part: &[Token<'a>],
+    part: &[Placed<'a>],
 ) -> Result<(), LineFault>
-    ensures { Follows result (optioned line (said_of directives.old) (pieces part.now)) (said_of directives.new) }
+    ensures { Follows result (optioned line (said_of directives.old) (operands_of part.now)) (said_of directives.new) }
 {
     let (name, value) = option_of(part)?;
     follow_option(directives, line, name, value)
@@ -140,9 +140,9 @@ fn follow_part<'a>(
 pub(crate) fn follow_options<'a>(
     directives: &mut Directives<'a>,
     line: usize,
-    operands: &[Token<'a>],
+    operands: &[Placed<'a>],
 ) -> Result<(), LineFault>
-    ensures { Follows result (spec.with_options line (spec.parts (pieces operands.now)) (said_of directives.old))
+    ensures { Follows result (spec.with_options line (spec.parts (operands_of operands.now)) (said_of directives.old))
         (said_of directives.new) }
 {
     let mut start = 0;

@@ -3,12 +3,15 @@ ghost use Rattle.std.specs.Prelude.{◌≡◌, ◌⊎◌, ◌<◌, ◌≤◌, If
 ghost use Rattle.std.specs.Str.{IsUtf8};
 ghost use Rattle.doslink_words.specs.Tokens as spec;
 ghost use Rattle.doslink_words.specs.Directives as directives;
-ghost use Rattle.doslink_words.specs.inside.Follows.{Gives};
+ghost use Rattle.doslink_words.specs.Operands as operands;
+ghost use Rattle.doslink_words.specs.Places as places;
+ghost use Rattle.doslink_words.specs.inside.Follows.{Follows, Gives};
+ghost use Rattle.doslink_words.specs.inside.Parts.{line_tokens};
 ghost use Rattle.doslink_words.specs.Tokens.{after_space, texts};
-ghost use Rattle.doslink_words.specs.inside.Tokens.{piece_of, pieces, said, said_mark};
+ghost use Rattle.doslink_words.specs.inside.Tokens.{all_placed, piece_of, pieces, said, said_mark};
 ghost use Rattle.doslink_words.specs.declared.faults.SplitFault.TheVariants.{Memory, UnclosedQuote};
 
-use crate::faults::{DirectiveFaultKind, SplitFault};
+use crate::faults::{DirectiveFaultKind, LineFault, SplitFault};
 use crate::keywords::is;
 use std::alloc::{AllocError, Global};
 
@@ -17,7 +20,7 @@ use std::alloc::{AllocError, Global};
 pub(crate) enum Syntax {
     /// Words stand between white space.
     Words,
-    /// Words stand between white space, commas and equals signs.
+    /// Words stand between white space, commas, equals signs and braces.
     Directives,
 }
 
@@ -32,6 +35,21 @@ pub(crate) enum Token<'a> {
     Comma,
     /// `=`
     Equals,
+    /// `{`
+    Open,
+    /// `}`
+    Close,
+}
+
+/// A token of directives, with its place.
+#[derive(Clone, Copy)]
+pub(crate) struct Placed<'a> {
+    /// The token.
+    pub token: Token<'a>,
+    /// The number of its line, counted from 1.
+    pub line: usize,
+    /// The line from the token on.
+    pub text: &'a str,
 }
 
 impl<'a> Token<'a> {
@@ -43,6 +61,8 @@ impl<'a> Token<'a> {
             Token::Word(text) | Token::Quoted(text) => text,
             Token::Comma => ",",
             Token::Equals => "=",
+            Token::Open => "{",
+            Token::Close => "}",
         }
     }
 
@@ -86,6 +106,26 @@ impl<'a> Token<'a> {
         }
     }
 
+    // Whether it is a brace that begins a list.
+    pub(crate) fn is_open(self) -> bool
+        ensures { result ≡ operands.is_open (piece_of self.entry) }
+    {
+        match self {
+            Token::Open => true,
+            _ => false,
+        }
+    }
+
+    // Whether it is a brace that ends a list.
+    pub(crate) fn is_close(self) -> bool
+        ensures { result ≡ operands.is_close (piece_of self.entry) }
+    {
+        match self {
+            Token::Close => true,
+            _ => false,
+        }
+    }
+
     // Whether it is an equals sign.
     pub(crate) fn is_equals(self) -> bool
         ensures { result ≡ directives.is_equals (piece_of self.entry) }
@@ -97,13 +137,20 @@ impl<'a> Token<'a> {
     }
 }
 
+// Whether a byte is a mark of directives.
+fn is_mark(byte: u8) -> bool
+    ensures { result ≡ spec.is_mark byte }
+{
+    byte == b',' || byte == b'=' || byte == b'{' || byte == b'}'
+}
+
 // Whether a byte stands behind a word, and not in it.
 fn ends_word(syntax: Syntax, byte: u8) -> bool
     ensures { result ≡ spec.ends_word syntax byte }
 {
     match syntax {
         Syntax::Words => byte.is_ascii_whitespace(),
-        Syntax::Directives => byte.is_ascii_whitespace() || byte == b',' || byte == b'=',
+        Syntax::Directives => byte.is_ascii_whitespace() || is_mark(byte),
     }
 }
 
@@ -124,6 +171,8 @@ fn mark_of<'a>(syntax: Syntax, byte: u8) -> Option<Token<'a>>
     match syntax {
         Syntax::Directives if byte == b',' => Some(Token::Comma),
         Syntax::Directives if byte == b'=' => Some(Token::Equals),
+        Syntax::Directives if byte == b'{' => Some(Token::Open),
+        Syntax::Directives if byte == b'}' => Some(Token::Close),
         _ => None,
     }
 }
@@ -205,6 +254,40 @@ pub(crate) fn tokens<'a>(
             return Err(SplitFault::UnclosedQuote);
         };
         tokens.push(token)?;
+        rest = after;
+    }
+}
+
+// Whether what is left of a line of directives says nothing: it is empty, or a comment.
+fn says_nothing(front: &str) -> bool
+    ensures { result ≡ places.says_nothing front.now }
+{
+    front.is_empty() || front.as_bytes()[0] == b'#'
+}
+
+/// Appends the tokens of a line of directives. A `#` where a token would begin ends the line.
+pub(crate) fn put_tokens<'a>(
+    tokens: &mut Vec<Placed<'a>>,
+    line: usize,
+    text: &'a str,
+) -> Result<(), LineFault>
+    ensures { Follows result (line_tokens (all_placed tokens.old.items) line text.now)
+        (all_placed tokens.new.items) }
+{
+    let mut rest = text;
+    loop {
+        let front = after_space(rest);
+        if says_nothing(front) {
+            return Ok(());
+        }
+        let Some((token, after)) = next_token(Syntax::Directives, front) else {
+            return Err(LineFault::Wrong(DirectiveFaultKind::UnclosedQuote));
+        };
+        tokens.push(Placed {
+            token,
+            line,
+            text: front,
+        })?;
         rest = after;
     }
 }

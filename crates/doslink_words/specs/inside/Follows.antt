@@ -1,14 +1,11 @@
 -- What functions within the crate answer.
-use Rattle.std.specs.Prelude.{◌≡◌, ⊤, Option, Result, Ok, Err}
+use Rattle.std.specs.Prelude.{◌≡◌, ℕ, ⊤, Option, Result, Ok, Err}
 use Rattle.std.specs.Option.{option_map}
 use Rattle.std.specs.Borrow.{Bor}
 use Rattle.clap.specs.Words.{Text}
 use Rattle.doslink_words.specs.declared.faults.DirectiveFaultKind.{DirectiveFaultKind}
-use Rattle.doslink_words.specs.declared.faults.DirectiveFaultKind.TheVariants.{UnclosedQuote}
 use Rattle.doslink_words.specs.declared.faults.LineFault.{LineFault}
 use Rattle.doslink_words.specs.declared.faults.LineFault.TheVariants.{Memory, Wrong}
-use Rattle.doslink_words.specs.declared.faults.SplitFault.{SplitFault}
-use Rattle.doslink_words.specs.declared.faults.SplitFault.TheVariants as split_fault
 
 -- an answer is what is meant, seen so
 abbrev pub Gives : {A B : Type 0} → (A → B) → Result A DirectiveFaultKind → Result B DirectiveFaultKind → Type 0
@@ -25,7 +22,8 @@ Follows (Err (Wrong kind)) meant after = meant ≡ Err kind
 abbrev pub option_said : Bor Text × Option (Bor Text) → Text × Option Text
 option_said o = (o.0.now, option_map (λ value. value.now) o.1)
 
--- what a line is at fault with, by its tokens
-abbrev pub split_line_fault : SplitFault → LineFault
-split_line_fault split_fault.Memory = Memory
-split_line_fault split_fault.UnclosedQuote = Wrong UnclosedQuote
+-- a change to this and a number are what is meant, or memory was wanting
+abbrev pub Counts : {A : Type 0} → Result ℕ LineFault → Result (ℕ × A) DirectiveFaultKind → A → Type 0
+Counts (Ok count) meant after = meant ≡ Ok (count, after)
+Counts (Err Memory) meant after = ⊤
+Counts (Err (Wrong kind)) meant after = meant ≡ Err kind

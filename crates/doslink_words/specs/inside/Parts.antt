@@ -1,7 +1,11 @@
 -- What a part of a directive adds to what is there.
-use Rattle.std.specs.Prelude.{ℕ, List, [], ◌∷◌, ◌++◌, Ok}
+use Rattle.std.specs.Prelude.{ℕ, List, [], ◌∷◌, ◌++◌, Result, Ok, Err}
+use Rattle.std.specs.Option.{option_map_or}
 use Rattle.clap.specs.Words.{Text}
 use Rattle.doslink_words.specs.Directives.{Line, and_then, one_name, option_meaning, option_of, order_item}
+use Rattle.doslink_words.specs.Directives.{tokens_meaning}
+use Rattle.doslink_words.specs.declared.faults.DirectiveFaultKind.TheVariants.{UnclosedQuote}
+use Rattle.doslink_words.specs.Places.{FaultyLine, PlacedPiece, placed, with_lines}
 use Rattle.doslink_words.specs.Said.{Said, SaidItem}
 use Rattle.doslink_words.specs.Tokens.{Piece}
 
@@ -16,3 +20,11 @@ listed had keyword name = and_then (order_item keyword name) (λ item. Ok (had +
 -- what an option means
 abbrev pub optioned : (line : ℕ) → Said → List Piece → Line Said
 optioned line said part = and_then (option_of part) (λ o. option_meaning line o.0 o.1 said)
+
+-- these tokens and those of a line
+abbrev pub line_tokens : (had : List PlacedPiece) → (line : ℕ) → Text → Line (List PlacedPiece)
+line_tokens had line text = option_map_or (λ tokens. Ok (had ++ tokens)) (placed line text) (Err UnclosedQuote)
+
+-- what lines mean behind what is said
+abbrev pub lines_meaning : List Text → Said → Result Said FaultyLine
+lines_meaning lines said = and_then (with_lines 0 lines []) (λ tokens. tokens_meaning 0 tokens said)

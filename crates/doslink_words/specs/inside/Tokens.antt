@@ -5,7 +5,9 @@ use Rattle.std.specs.Borrow.{Bor}
 use Rattle.clap.specs.Words.{Text}
 use Rattle.doslink_words.specs.declared.tokens.Token.{Token}
 use Rattle.doslink_words.specs.declared.tokens.Token.TheVariants as code
-use Rattle.doslink_words.specs.Tokens.{Piece, Word, Quoted, Comma, Equals}
+use Rattle.doslink_words.specs.declared.tokens.Placed.{Placed}
+use Rattle.doslink_words.specs.Places.{PlacedPiece}
+use Rattle.doslink_words.specs.Tokens.{Piece, Word, Quoted, Comma, Equals, Open, Close}
 
 -- what a token of the code says
 abbrev pub piece_of : Token → Piece
@@ -13,6 +15,8 @@ piece_of (code.Word text) = Word text.now
 piece_of (code.Quoted text) = Quoted text.now
 piece_of code.Comma = Comma
 piece_of code.Equals = Equals
+piece_of code.Open = Open
+piece_of code.Close = Close
 
 -- what tokens of the code say
 abbrev pub pieces : List Token → List Piece
@@ -25,3 +29,17 @@ said = option_map (λ p. (piece_of p.0, p.1.now))
 -- what a mark of the code says
 abbrev pub said_mark : Option Token → Option Piece
 said_mark = option_map piece_of
+
+-- what a token says that has its place, without the place
+abbrev pub operand_of : Placed → Piece
+operand_of token = piece_of token.token
+
+abbrev pub operands : List Placed → List Piece
+operands = map operand_of
+
+-- the same with it
+abbrev pub placed_of : Placed → PlacedPiece
+placed_of token = record { piece = piece_of token.token; line = token.line; text = token.text.now }
+
+abbrev pub all_placed : List Placed → List PlacedPiece
+all_placed = map placed_of
