@@ -1,6 +1,6 @@
 """What `doslink` is asked for: a job, from words or from the directives of a response file.
 
-Directives are those that compilers write for `wlink`, a line each.
+Directives are those that compilers write for `wlink`. One stands behind the other, and a line's end is a blank.
 """
 
 import re
@@ -18,9 +18,9 @@ NUMBER = re.compile(r"(?:0[xX]([0-9a-fA-F]+)|([0-9]+))([kKmM]?)")
 LONGEST_STACK = 65_536
 # the end of the memory that a real-mode address reaches
 MEMORY_END = 0x100000
-# a name between quotes of either kind, a word, or a comma or an equals sign
+# a name between quotes of either kind, a word, or a comma, an equals sign or a brace
 TOKEN = re.compile(
-    rf"""[{SPACE}]*(?:("[^"]*"|'[^']*')|([,=])|([^"'{SPACE},=][^{SPACE},=]*))""")
+    rf"""[{SPACE}]*(?:("[^"]*"|'[^']*')|([,={{}}])|([^"'{SPACE},={{}}][^{SPACE},={{}}]*))""")
 
 
 @dataclass
@@ -92,7 +92,7 @@ class Unread(Exception):
 
 
 class DirectiveFault(Exception):
-    """A line that is no directive or asks for what can't be done."""
+    """A directive that isn't known or asks for what can't be done, or a line whose quote isn't closed."""
 
     def __init__(self, line, text):
         super().__init__(line, text)
@@ -127,21 +127,79 @@ def split_words(text):
 
 @dataclass
 class Token:
-    """A word, what stands between quotes, or one of the signs `,` and `=`."""
+    """A word, what stands between quotes, or one of the signs `,`, `=`, `{` and `}`.
+
+    It stands in a line, which goes on from it on as `rest`.
+    """
 
     kind: str
     text: str
+    line: object = None
+    rest: str = ""
 
     def is_word(self, *words):
         """Whether it is one of some words, in small letters or capitals."""
         return self.kind == "word" and self.text.lower() in words
 
 
-def token(match):
+def token(match, line, rest):
     quoted, sign, word = match.groups()
     if quoted is not None:
-        return Token("quoted", quoted[1:-1])
-    return Token("word", word) if sign is None else Token(sign, sign)
+        return Token("quoted", quoted[1:-1], line, rest)
+    return Token("word", word, line, rest) if sign is None else Token(sign, sign, line, rest)
+
+
+def tokens_of(line):
+    """The tokens of a line up to its comment, which begins where a token would."""
+    found, place = [], 0
+    while True:
+        rest = line.text[place:].lstrip(SPACE)
+        if rest[:1] in ("", "#"):
+            return found
+        match = TOKEN.match(line.text, place)
+        if match is None:
+            raise DirectiveFault(line.number, f"{line.place()}: a quote isn't closed: {line.text}")
+        found.append(token(match, line, rest))
+        place = match.end()
+
+
+def keyword(word, keywords):
+    """The keyword that a word is, or that it begins with so many letters at least."""
+    word = word.lower()
+    found = [each for each, least in keywords.items() if each.startswith(word) and len(word) >= least]
+    return found[0] if found else None
+
+
+def first_count(directive, tokens, start):
+    """How many tokens the operands of a directive begin with: one, or a list with its braces."""
+    if directive in NO_FIRST:
+        return 0
+    if directive in LISTS and start < len(tokens) and tokens[start].kind == "{":
+        ends = (place for place in range(start + 1, len(tokens)) if tokens[place].kind == "}")
+        return next(ends, len(tokens)) + 1 - start
+    return 1
+
+
+def goes_on(directive, each):
+    """How many operands stand behind a token that goes on with them; None where it doesn't."""
+    if each.kind in (",", "="):
+        return 1
+    if each.kind != "word":
+        return None
+    if directive in ("debug", "sort"):
+        return 0 if keyword(each.text, OWN_WORDS[directive]) else None
+    return OWN_WORDS.get(directive, {}).get(each.text.lower())
+
+
+def operands_end(directive, tokens, start):
+    """Where the operands of a directive end that begin there."""
+    sure, place = first_count(directive, tokens, start), start
+    while place < len(tokens):
+        sure = sure - 1 if sure else goes_on(directive, tokens[place])
+        if sure is None:
+            break
+        place += 1
+    return place
 
 
 def parts(tokens):
@@ -163,7 +221,11 @@ def name(tokens):
 
 
 def names(tokens):
-    """Names with commas between them."""
+    """Names with commas between them, or all between braces, where commas say nothing."""
+    if tokens and tokens[0].kind == "{":
+        if len(tokens) == 1 or tokens[-1].kind != "}":
+            raise Refused
+        return [name([each]) for each in tokens[1:-1] if each.kind != ","]
     return list(map(name, parts(tokens)))
 
 
@@ -229,9 +291,9 @@ def read_options(job, tokens, line):
     for option in parts(tokens):
         kinds = [each.kind for each in option]
         if kinds == ["word"]:
-            read_option(job, option[0].text.lower(), None, line)
+            read_option(job, keyword(option[0].text, OPTIONS), None, line)
         elif kinds in (["word", "=", "word"], ["word", "=", "quoted"]):
-            read_option(job, option[0].text.lower(), option[2].text, line)
+            read_option(job, keyword(option[0].text, OPTIONS), option[2].text, line)
         else:
             raise Refused
 
@@ -286,11 +348,26 @@ def leave_out(job, tokens, line):
 
 
 READERS = {
-    "file": read_files, "library": read_libraries, "lib": read_libraries,
-    "libpath": read_folders, "name": read_name, "format": read_format, "system": read_system,
-    "output": read_output, "option": read_options,
-    "op": read_options, "order": read_order, "debug": leave_out, "sort": leave_out,
-    "disable": leave_out,
+    "file": read_files, "library": read_libraries, "libpath": read_folders, "name": read_name,
+    "format": read_format, "system": read_system, "output": read_output, "option": read_options,
+    "order": read_order, "debug": leave_out, "sort": leave_out, "disable": leave_out,
+}
+# the directives, and how many letters of each there are at least
+DIRECTIVES = {
+    "file": 1, "library": 1, "libpath": 4, "name": 1, "format": 4, "system": 3, "output": 3,
+    "option": 2, "order": 3, "debug": 1, "sort": 3, "disable": 4,
+}
+# those whose operands are a list, and those with none but words of their own
+LISTS = ("file", "library", "libpath")
+NO_FIRST = ("order", "debug", "sort")
+# words that go on with operands, with how many stand behind them; or how many letters there are at least
+OWN_WORDS = {
+    "format": {"exe": 0, "com": 0}, "system": {"exe": 0, "com": 0}, "output": {"offset": 0},
+    "order": {"clname": 1, "segment": 1},
+    "debug": {
+        "dwarf": 2, "watcom": 1, "codeview": 1, "novell": 2, "all": 2, "lines": 2, "types": 2,
+        "locals": 2, "onlyexports": 4},
+    "sort": {"global": 2, "alphabetical": 3},
 }
 # of those, what has no effect where it might be missed
 WARNED = {"sort": "the map is not sorted", "disable": "no message is left out"}
@@ -311,17 +388,25 @@ LEFT_OUT = {
 }
 
 
-def read_directive(job, text, line):
-    """One directive; an empty line and a comment are none."""
-    if text.lstrip(SPACE)[:1] in ("", "#"):
-        return
-    first, *others = map(token, pieces(TOKEN, text))
-    word = first.text.lower()
-    if first.kind != "word" or word not in READERS:
+# the options, and how many letters of each there are at least
+SHORTER = {
+    "quiet": 1, "map": 1, "stack": 2, "dosseg": 3, "caseexact": 1, "nodefaultlibs": 3, "symfile": 4,
+    "verbose": 1, "statics": 4, "artificial": 3, "showdead": 3, "maxerrors": 4,
+}
+OPTIONS = {each: SHORTER.get(each, len(each)) for each in ("map", "stack", *SWITCHES, *LEFT_OUT)}
+
+
+def read_directive(job, tokens, start):
+    """The directive that begins at a token; where its operands end."""
+    first = tokens[start]
+    directive = keyword(first.text, DIRECTIVES) if first.kind == "word" else None
+    if directive is None:
         raise Refused("unknown directive")
-    if word in WARNED:
-        job.warnings.append((line, WARNED[word]))
-    READERS[word](job, others, line)
+    end, place = operands_end(directive, tokens, start + 1), first.line.place()
+    if directive in WARNED:
+        job.warnings.append((place, WARNED[directive]))
+    READERS[directive](job, tokens[start + 1:end], place)
+    return end
 
 
 @dataclass
@@ -367,12 +452,16 @@ def spoken(words, files):
 
 
 def read_directives(lines):
-    """The job of directives, or the first line at fault."""
+    """The job of directives, or the first that is at fault; but a quote that isn't closed is told first."""
     job = Job(packs_far_data=True, has_null_bytes=False)
+    tokens, place = [], 0
     for line in lines:
+        tokens += tokens_of(line)
+    while place < len(tokens):
         try:
-            read_directive(job, line.text, line.place())
+            place = read_directive(job, tokens, place)
         except Refused as refused:
+            first = tokens[place]
             raise DirectiveFault(
-                line.number, f"{line.place()}: {refused.text}: {line.text}") from None
+                first.line.number, f"{first.line.place()}: {refused.text}: {first.rest}") from None
     return job
