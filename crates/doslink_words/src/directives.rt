@@ -118,7 +118,8 @@ fn follow_name<'a>(
     directives: &mut Directives<'a>,
     operands: &[Placed<'a>],
 ) -> Result<(), LineFault>
-    ensures { Follows result (spec.directive_meaning 0 directive.Name (operands_of operands.now) (said_of directives.old))
+    ensures { Follows result
+        (spec.directive_meaning 0 directive.Name (operands_of operands.now) (said_of directives.old))
         (said_of directives.new) }
 {
     directives.job.out = Some(one_name(operands)?);
@@ -151,7 +152,8 @@ fn follow_file<'a>(
     directives: &mut Directives<'a>,
     operands: &[Placed<'a>],
 ) -> Result<(), LineFault>
-    ensures { Follows result (spec.directive_meaning 0 directive.File (operands_of operands.now) (said_of directives.old))
+    ensures { Follows result
+        (spec.directive_meaning 0 directive.File (operands_of operands.now) (said_of directives.old))
         (said_of directives.new) }
 {
     let mut names = Vec::new(alloc);
@@ -165,7 +167,8 @@ fn follow_library<'a>(
     directives: &mut Directives<'a>,
     operands: &[Placed<'a>],
 ) -> Result<(), LineFault>
-    ensures { Follows result (spec.directive_meaning 0 directive.Library (operands_of operands.now) (said_of directives.old))
+    ensures { Follows result
+        (spec.directive_meaning 0 directive.Library (operands_of operands.now) (said_of directives.old))
         (said_of directives.new) }
 {
     let mut names = Vec::new(alloc);
@@ -306,11 +309,11 @@ fn follow_lines<'a>(
 /// end. White space, commas, equals signs and braces separate words; a word that begins with `"` or `'` goes on to the
 /// next such quote of its line. Keywords are read without regard to case, and many may be shortened.
 ///
-/// - `file A[,B..]` (`f`), `library A[,B..]` (`l`), `libpath A[,B..]` (`libp`): modules, libraries and folders, in order.
-///   A list may stand between braces, with white space or commas between its names.
+/// - `file A[,B..]` (`f`), `library A[,B..]` (`l`), `libpath A[,B..]` (`libp`): modules, libraries and folders, in
+///   order. A list may stand between braces, with white space or commas between its names.
 /// - `name FILE` (`n`): the program. Of several the last counts, as of orders and of options that exclude each other.
-/// - `format dos [exe|com]` (`form`), `system dos|com` (`sys`): the form of the program's file; of other systems it is a
-///   fault.
+/// - `format dos [exe|com]` (`form`), `system dos|com` (`sys`): the form of the program's file; of other systems it is
+///   a fault.
 /// - `output raw [offset=N]` (`out`): a raw image at paragraph 0, from this address on.
 /// - `option X[=VALUE][,..]` (`op`): `quiet` (`q`), `map[=FILE]` (`m`), `stack=BYTES` (`st`), `dosseg` (`dos`),
 ///   `caseexact` (`c`), `ignorecase`, `nodefaultlibs` (`nod`). Of `symfile` and what changes no DOS program (`verbose`,

@@ -15,20 +15,21 @@ Links what compilers for DOS write, with libraries, into an MS-DOS program
 Usage: wlink @FILE
        wlink DIRECTIVE..
 
-Each line of FILE, and each word, is one directive:
-  file A[,B..]           modules and libraries to link, in their order
-  library A[,B..]        libraries to search (lib)
-  libpath A[,B..]        folders to look for libraries in
-  name FILE              the program to write
+Directives stand in FILE and in words, one behind the other:
+  file A[,B..]           modules and libraries to link, in their order (f)
+  library A[,B..]        libraries to search (l)
+  libpath A[,B..]        folders to look for libraries in (libp)
+  name FILE              the program to write (n)
   format dos [exe|com]   the form of the program's file; format dos says none
-  system dos|com         the same
-  output raw [offset=N]  a raw image, which begins at address N
+  system dos|com         the same (sys)
+  output raw [offset=N]  a raw image, which begins at address N (out)
   order clname CLASS [segment SEGMENT..] ..
                          the classes that stand first, and segments first in them
   option X[=N][,..]      (op) quiet, map[=FILE], stack=N, dosseg, caseexact,
                          ignorecase, nodefaultlibs
   debug ..               nothing
 
+A list may be {A B ..} too, and # begins a comment up to the line's end.
 Names with blanks stand in ' or \". `doslink --help` tells of the words of doslink.
 ";
 
