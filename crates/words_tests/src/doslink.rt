@@ -3,6 +3,8 @@
 #[cfg(test)]
 mod directives;
 #[cfg(test)]
+mod grammar;
+#[cfg(test)]
 mod responses;
 #[cfg(test)]
 mod words;

@@ -86,7 +86,7 @@ stack: Some(Stack { bytes: 4096, cuts: true })
 
 op st=1, stack=0x2000, STACK=0X1f
 =>
-kind: UnknownOption
+stack: Some(Stack { bytes: 31, cuts: true })
 
 
 option stack=4k,stack=64K
@@ -155,7 +155,7 @@ kind: WrongOperands
 
 file a b
 =>
-kind: WrongOperands
+text: "b", kind: UnknownDirective
 
 
 file a,
@@ -324,7 +324,7 @@ kind: WrongOperands
 
 output raw offset=1 startrec
 =>
-kind: WrongOperands
+text: "startrec", kind: UnknownDirective
 
 
 output raw offset 1 2
@@ -334,7 +334,7 @@ kind: WrongOperands
 
 output raw start=1
 =>
-kind: WrongOperands
+text: "start=1", kind: UnknownDirective
 
 
 output raw offset=x
@@ -394,11 +394,11 @@ kind: WrongOperands
 
 order clname A B
 =>
-kind: WrongOperands
+text: "B", kind: UnknownDirective
 
 
 order clname A type B
 =>
-kind: WrongOperands"##;
+text: "type B", kind: UnknownDirective"##;
     hold(&rt, rt.alloc(), table);
 }

@@ -64,7 +64,7 @@ fn keeps_the_layout_of_help(rt: HostRuntime) {
     let text = text_asked(&["--help"]).unwrap_or("nothing");
     for line in [
         "       wlink DIRECTIVE..",
-        "  name FILE              the program to write",
+        "  name FILE              the program to write (n)",
     ] {
         assert!(rt; text.split('\n').any(|it| it == line), "{line}");
     }
