@@ -151,7 +151,8 @@ LINES_OF_NOTHING = [
     "option quiet, nodefaultlibs"]
 LEFT_OUT = [
     "option symfile", "sort global", "disable 1014", "option symfile=out.sym", "op CACHE",
-    "option quiet,verbose", "option map, showdead", "OPTION NoFarCalls"]
+    "option quiet,verbose", "option map, showdead", "OPTION NoFarCalls", "sort glob alpha disable 1, 2",
+    "d watcom lines, types\noption quiet,\n symf", "op v # option verbose"]
 WRONG_LINES = [
     "format dos sys", "system os2", "output", "output hex", "output raw offset", "output raw offset=x",
     "output raw offset=1048577", "output raw 0", "system",
@@ -161,7 +162,12 @@ WRONG_LINES = [
     "order clname CODE clname", "order clname CODE name A", "sort 'a", "option quiet,", '"a" b',
     ", file a", "file a b", "libpath", "option map=,quiet", 'option "map"', "name",
     "option stack", "option stack=0", "option stack=65537", "option stack=65k", "option stack=x",
-    "option stack=-1"]
+    "option stack=-1", "path a", "libfile a", "alias a=b", "option start=x", "file {a", "file {a}, b", "name x a",
+    "output raw start=1", "op no", "debug quiet", "file\na,\n b c"]
+# the shortest words of directives
+SHORTEST = {
+    "file": "f", "library": "l", "libpath": "libp", "name": "n", "format": "form", "system": "sys", "output": "out",
+    "option": "op", "order": "ord", "debug": "d", "sort": "sor", "disable": "disa"}
 
 
 @dataclass
@@ -1054,7 +1060,7 @@ class JobMaker:
             job.stack.cuts = True
         if self.happens(0.02):
             job.inputs = [each for each in job.inputs if each.is_library]
-        lines = list(map(self.in_any_case, self.lines()))
+        lines = self.joined(list(map(self.in_any_case, self.lines())))
         if self.happens(0.8):
             self.files[RESPONSE] = self.text_of_lines(lines)
             return self.case(["@" + RESPONSE], "wlink")
@@ -1066,6 +1072,16 @@ class JobMaker:
                 self.files[f"{RESPONSE}{number}"] = self.text_of_lines(part)
                 words.append(f"@{RESPONSE}{number}")
         return self.case(words, "wlink")
+
+    def joined(self, lines):
+        """The lines, of which some stand one behind the other."""
+        found = []
+        for line in lines:
+            if found and "#" not in found[-1] and self.happens(0.1):
+                found[-1] += self.random.choice([" ", "  ", "\t"]) + line
+            else:
+                found.append(line)
+        return found
 
     def parts_of(self, lines):
         """The lines in one part or some, of which many have but one."""
@@ -1117,6 +1133,8 @@ class JobMaker:
     def lists(self, directive, names):
         """A line for each name, or one of all."""
         names = list(map(self.quoted, names))
+        if names and self.happens(0.1):
+            return [f"{directive} {{{self.random.choice([' ', ', ']).join(names)}}}"]
         if names and self.happens(0.3):
             return [f"{directive} {self.random.choice([',', ', ']).join(names)}"]
         return [f"{directive} {name}" for name in names]
@@ -1133,7 +1151,7 @@ class JobMaker:
     def in_any_case(self, line):
         """A line whose first word is mostly as it was, with spaces before it at times."""
         word, space, rest = line.partition(" ")
-        word = self.random.choice([word, word, word.upper(), word.capitalize()])
+        word = self.random.choice([word, word, word.upper(), word.capitalize(), SHORTEST.get(word, word)])
         return self.random.choice(["", "", "", "  "]) + word + space + rest
 
 
