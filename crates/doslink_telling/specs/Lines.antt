@@ -73,6 +73,7 @@ unread_text read.Absent = codes "no such file"
 unread_text read.Folder = codes "it is a folder"
 unread_text read.Forbidden = codes "no permission"
 unread_text read.Special = codes "it is no regular file"
+unread_text (read.Unopened error.InvalidData) = codes "two names there differ by case alone"
 unread_text (read.Unopened kind) = system_text kind (codes "it can't be opened")
 unread_text (read.Device kind) = system_text kind (codes "it can't be read")
 

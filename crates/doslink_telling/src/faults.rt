@@ -47,6 +47,7 @@ fn unread_text(fault: ReadFault) -> &'static str
         ReadFault::Folder => "it is a folder",
         ReadFault::Forbidden => "no permission",
         ReadFault::Special => "it is no regular file",
+        ReadFault::Unopened(ErrorKind::InvalidData) => "two names there differ by case alone",
         ReadFault::Unopened(kind) => system_text(kind, "it can't be opened"),
         ReadFault::Device(kind) => system_text(kind, "it can't be read"),
     }
