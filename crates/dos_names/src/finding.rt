@@ -1,6 +1,7 @@
 //! What is meant by a path of DOS on a machine whose files have names with capital and small letters.
 
-use crate::choice::{Choice, choice_of};
+use crate::choice::Choice;
+use crate::folders::Folders;
 use crate::paths::with_slashes;
 use std::fs;
 use std::io::{self, Error, ErrorKind};
@@ -10,41 +11,19 @@ fn stands_at(rt: &HostRuntime, path: &str) -> bool {
     fs::symlink_metadata(rt, path).is_ok()
 }
 
-/// The names of what stands in a folder, but for those that are no text.
-fn names_in(rt: &HostRuntime, folder: &str) -> io::Result<Vec<String>> {
-    let mut names = Vec::new(rt.alloc());
-    for entry in fs::read_dir(rt, folder)? {
-        match entry {
-            Ok(entry) => names.push(String::from_str(rt.alloc(), entry.file_name())?)?,
-            Err(error) if error.kind() == ErrorKind::InvalidFilename => {}
-            Err(error) => return Err(error),
-        }
-    }
-    Ok(names)
-}
-
-/// The names of what stands in a folder whose path has `/` at its end, or which is this one, where the path is empty.
-/// None where they can't be told.
-fn names_told(rt: &HostRuntime, folder: &str) -> io::Result<Vec<String>> {
-    match names_in(rt, if folder.is_empty() { "." } else { folder }) {
-        Err(error) if error.kind() != ErrorKind::OutOfMemory => Ok(Vec::new(rt.alloc())),
-        told => told,
-    }
-}
-
 /// The path of what a name means in a folder: of what is so written, else of the one that is the same but for the case
 /// of letters, and as it is written where there is none.
-fn path_in(rt: &HostRuntime, folder: &str, name: &str) -> io::Result<String> {
+fn path_in(
+    rt: &HostRuntime,
+    folders: &mut Folders,
+    folder: &str,
+    name: &str,
+) -> io::Result<String> {
     let written = format!(in rt.alloc(); "{folder}{name}")?;
     if name.is_empty() || stands_at(rt, written.as_str()) {
         return Ok(written);
     }
-    let told = names_told(rt, folder)?;
-    let names = told
-        .iter()
-        .map(|name| name.as_str())
-        .collect::<Vec<&str>>(rt.alloc())?;
-    match choice_of(name, &names) {
+    match folders.names_in(rt, folder)?.choice(rt.alloc(), name)? {
         Choice::Nothing => Ok(written),
         Choice::One(found) => Ok(format!(in rt.alloc(); "{folder}{found}")?),
         Choice::Two(_, _) => Err(Error::from(ErrorKind::InvalidData)),
@@ -57,7 +36,11 @@ fn path_in(rt: &HostRuntime, folder: &str, name: &str) -> io::Result<String> {
 /// # Errors
 /// Want of memory. `InvalidData`, where nothing stands at a name as it is written, and two names of its folder are the
 /// same as it but for the case of letters.
-pub(crate) fn path_meant(rt: &HostRuntime, path: &str) -> io::Result<String> {
+pub(crate) fn path_meant(
+    rt: &HostRuntime,
+    folders: &mut Folders,
+    path: &str,
+) -> io::Result<String> {
     let written = with_slashes(rt.alloc(), path)?;
     if stands_at(rt, written.as_str()) {
         return Ok(written);
@@ -67,7 +50,7 @@ pub(crate) fn path_meant(rt: &HostRuntime, path: &str) -> io::Result<String> {
         if at > 0 {
             made.push('/')?;
         }
-        made = path_in(rt, made.as_str(), name)?;
+        made = path_in(rt, folders, made.as_str(), name)?;
     }
     Ok(made)
 }

@@ -3,9 +3,10 @@
 
 mod choice;
 mod finding;
+mod folders;
 mod names;
 mod paths;
 
 pub use choice::{Choice, choice_of};
-pub use names::Names;
+pub use names::{Names, Seen};
 pub use paths::with_slashes;

@@ -2,9 +2,28 @@
 ghost use Rattle.std.specs.Prelude.{◌≡◌, IfOk, false, string_bytes, true};
 
 use crate::finding::path_meant;
+use crate::folders::Folders;
 use omf_files::{FileId, Looked, PlaceKind, StreamInput, StreamOutput, Streams, World};
 use std::cell::Cell;
 use std::io::{self, Error, ErrorKind, Read, Write};
+
+/// What a run has seen of the machine's files: the one that was put at its path last, and the names of the folders that
+/// were looked into since.
+#[derive(Drop)]
+pub struct Seen {
+    written: Cell<Option<FileId>>,
+    folders: Cell<Option<Folders>>,
+}
+
+impl Seen {
+    /// Nothing.
+    pub fn nothing() -> Seen {
+        Seen {
+            written: Cell::new(None),
+            folders: Cell::new(None),
+        }
+    }
+}
 
 /// The files of the machine and the standard streams, whose paths are those of the machine or of DOS. No file takes the
 /// place of the one that was written last, whatever the path that leads to it.
@@ -12,32 +31,31 @@ use std::io::{self, Error, ErrorKind, Read, Write};
 pub struct Names<'a> {
     rt: &'a HostRuntime,
     are_of_dos: bool,
-    // the file that was put at its path last
-    written: &'a Cell<Option<FileId>>,
+    seen: &'a Seen,
 }
 
 impl<'a> Names<'a> {
-    /// Files of the program with this handle, by paths as the machine has them.
-    /// `written` is nothing, and keeps which file was written last.
-    pub fn of_machine(rt: &'a HostRuntime, written: &'a Cell<Option<FileId>>) -> Names<'a>
+    /// Files of the program with this handle, by paths as the machine has them. `seen` is nothing, and keeps what is
+    /// seen of them.
+    pub fn of_machine(rt: &'a HostRuntime, seen: &'a Seen) -> Names<'a>
         ensures { result.are_of_dos ≡ false }
     {
         Names {
             rt,
             are_of_dos: false,
-            written,
+            seen,
         }
     }
 
     /// Files of the program with this handle, by paths as DOS has them: `\` parts folders as `/` does, and the case of
     /// letters doesn't count where nothing stands at a path as it is written.
-    pub fn of_dos(rt: &'a HostRuntime, written: &'a Cell<Option<FileId>>) -> Names<'a>
+    pub fn of_dos(rt: &'a HostRuntime, seen: &'a Seen) -> Names<'a>
         ensures { result.are_of_dos ≡ true }
     {
         Names {
             rt,
             are_of_dos: true,
-            written,
+            seen,
         }
     }
 
@@ -46,12 +64,21 @@ impl<'a> Names<'a> {
         Streams::of(self.rt)
     }
 
+    /// The path of the machine that is meant by one of DOS.
+    fn path_of_dos(&self, path: &str) -> io::Result<String> {
+        let seen = self.seen.folders.replace(None);
+        let mut folders = seen.unwrap_or(Folders::new(self.rt.alloc()));
+        let meant = path_meant(self.rt, &mut folders, path);
+        self.seen.folders.set(Some(folders));
+        meant
+    }
+
     /// The path of the machine that is meant by one of these.
     fn path(&self, path: &str) -> io::Result<String>
         ensures { self.now.are_of_dos ≡ false → IfOk result (λ meant. string_bytes meant ≡ path.now) }
     {
         if self.are_of_dos {
-            path_meant(self.rt, path)
+            self.path_of_dos(path)
         } else {
             Ok(String::from_str(self.rt.alloc(), path)?)
         }
@@ -69,7 +96,7 @@ impl Names<'_> {
 
     /// Whether the file that was written last stands at a path of the machine.
     fn was_written(&self, path: &str) -> bool {
-        match (self.written.get(), self.regular(path)) {
+        match (self.seen.written.get(), self.regular(path)) {
             (Some(written), Some(found)) => written == found,
             _ => false,
         }
@@ -100,7 +127,9 @@ impl<'a> World for Names<'a> {
     fn keep(&self, file: StreamOutput<'a>, path: &str) -> io::Result<()> {
         let meant = self.path(path)?;
         self.files().keep(file, meant.as_str())?;
-        self.written.set(self.regular(meant.as_str()));
+        self.seen.written.set(self.regular(meant.as_str()));
+        // a folder has one name more
+        self.seen.folders.set(None);
         Ok(())
     }
 }

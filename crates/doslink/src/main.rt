@@ -4,13 +4,12 @@
 ghost use Rattle.std.specs.Prelude.{◌≡◌, ◌-◌, ◌^◌, ◌<◌};
 ghost use Rattle.omf_files.specs.Files.{sink_failures};
 
-use dos_names::Names;
+use dos_names::{Names, Seen};
 use doslink_jobs::{
     Language, language_asked, language_of, library_folders, out_of_memory, run_words, wrong_words,
 };
-use omf_files::{BufferedSink, FileId};
+use omf_files::BufferedSink;
 use omf_frame::{Sink, WriteSink};
-use std::cell::Cell;
 use std::env::{self, VarError};
 use std::io::{ErrorKind, Write};
 use std::process::ExitCode;
@@ -42,14 +41,10 @@ fn run(rt: &HostRuntime) -> u8 {
 }
 
 // The files of the machine, by paths of DOS where a line of LINK or TLINK names them.
-fn files_of<'a>(
-    rt: &'a HostRuntime,
-    written: &'a Cell<Option<FileId>>,
-    language: Language,
-) -> Names<'a> {
+fn files_of<'a>(rt: &'a HostRuntime, seen: &'a Seen, language: Language) -> Names<'a> {
     match language {
-        Language::Link | Language::Tlink => Names::of_dos(rt, written),
-        Language::Words | Language::Directives => Names::of_machine(rt, written),
+        Language::Link | Language::Tlink => Names::of_dos(rt, seen),
+        Language::Words | Language::Directives => Names::of_machine(rt, seen),
     }
 }
 
@@ -75,8 +70,8 @@ fn run_arguments<O: Write + Drop, E: Sink>(
     };
     match library_folders(rt.alloc(), list.as_str()) {
         Ok(folders) => {
-            let written = Cell::new(None);
-            let world = files_of(rt, &written, language_asked(language, words));
+            let seen = Seen::nothing();
+            let world = files_of(rt, &seen, language_asked(language, words));
             run_words(rt.alloc(), world, language, words, &folders, output, errors)
         }
         Err(_) => out_of_memory(errors),
