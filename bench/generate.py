@@ -79,7 +79,8 @@ class Combination(IntEnum):
 @dataclass
 class Inputs:
     """The modules of a link, and what the program that they make must have; its file has all of the size, or
-    the written bytes where it has fewer. Beside them stand files of other names, and further words."""
+    the written bytes where it has fewer. Beside them stand files of other names, and further words, or in the place of
+    all words those of a line of TLINK, by which the program is OUT.EXE."""
 
     modules: list
     size: int
@@ -87,6 +88,7 @@ class Inputs:
     written: Optional[int] = None
     files: dict = field(default_factory=dict)
     words: tuple = ()
+    line: tuple = ()
 
 
 def record(kind, body):
@@ -434,6 +436,14 @@ def part_module(number):
 def parts(count):
     """Modules of one private segment each."""
     return Inputs([part_module(number) for number in range(count)], 16 * count, 0)
+
+
+def parts_in_capitals(count):
+    """Modules of one private segment each, which a line of TLINK names in capitals."""
+    files = {f"m{number:05}.obj": module for number, module in enumerate(parts(count).modules)}
+    line = "+\n".join(map(str.upper, files)) + ",OUT.EXE,NUL\n"
+    return Inputs(
+        [], 16 * count, 0, files={**files, "parts.rsp": line.encode()}, line=("--as", "tlink", "@parts.rsp"))
 
 
 def fixed_module(size, width, location, target, targets, after_segments=b""):
