@@ -1426,7 +1426,7 @@ FILES_OF_LINES = [
     Change("a name as it is written isn't taken before others", "places.py", "[name] if name in names else [each", "[each"),
     Change("one of two names is meant", "places.py",
            "return None if len(same) > 1 else [*same, name][0]", "return max([*same, \"\"]) or name"),
-    Change("of two names none is there", "linking.py", """return "it can't be opened\"""", """return "no such file\""""),
+    Change("of two names none is there", "linking.py", """return "two names there differ by case alone\"""", """return "no such file\""""),
     Change("the first reason that is no absence is told", "linking.py", "for path in reversed(paths):", "for path in paths:"),
     Change("what is written is a file of that very name", "linking.py",
            "{files.meant(path): content for", "{path.replace(\"\\\\\", \"/\"): content for"),

@@ -296,6 +296,9 @@ ORDERS = [
      "B.BSS.16 _END._END.1 D.DATA.2 S.STACK.16", "_edata@B _end@_END"),
     ("the stack before BSS", [module_of([STACK_OF, BSS_OF], [b"_end"])], "meeting", False,
      "S.STACK.16 B.BSS.16 _END._END.1", "_end@_END"),
+    ("a stack outside of DGROUP before its own", [
+        module_of([BSS_OF, (b"O", b"STACK", 3, 5, False), STACK_OF], [b"_end"])], "meeting", False,
+     "B.BSS.16 _END._END.1 O.STACK.16 S.STACK.16", "_end@_END"),
     ("no stack", [module_of([BSS_OF, DATA_OF], [b"_end"])], "meeting", False,
      "B.BSS.16 _END._END.1 D.DATA.2", "_end@_END"),
     ("no stack behind a class met again", [module_of([BSS_OF, DATA_OF, OUTER_BSS], [b"_end"])],

@@ -121,7 +121,7 @@ def why_unread(paths, files):
     is_folder, has_two = (getattr(files, name, nowhere) for name in ("is_folder", "has_two"))
     for path in reversed(paths):
         if has_two(path):
-            return "it can't be opened"
+            return "two names there differ by case alone"
         if is_folder(path):
             return "it is a folder"
     return "no such file"

@@ -162,7 +162,7 @@ def ordering(modules, order, key):
     """The segments of the module, and its marks with the number of the segment of each.
 
     Without an order and without a mark there are neither. The mark of the end stands where class BSS
-    ends: that is the begin of the stack, where this comes next.
+    ends: that is the begin of the stack, where this comes next and its first segment is in DGROUP.
     """
     segments = opening(modules)
     begin_marks = wanted_marks(modules, BEGIN_MARKS, key)
@@ -176,7 +176,8 @@ def ordering(modules, order, key):
     segments = list(in_order(segments, order))
     begin, end = first_in_group(segments, UNINITIALISED), None
     if end_marks and class_behind(segments, UNINITIALISED) == STACK:
-        end = first_in_group(segments, STACK)
+        first = [each.class_name for each in segments].index(STACK)
+        end = first if segments[first].in_group else None
     if end_marks and end is None:
         end = behind_class(segments, UNINITIALISED)
         segments.insert(end, made(END_NAME, END_CLASS))
