@@ -91,9 +91,9 @@ IsSpoken told language (suc rounds) text line =
 
 -- ---- its job
 
--- whether what options say can be done: no more is in the file than data, and the header asks for all memory
+-- whether what options say can be done: no more is in the file than data
 abbrev pub are_followed : Settings → Bool
-are_followed settings = not settings.writes_all && option_map_or (λ most. most == 65_535) settings.most_extra true
+are_followed settings = not settings.writes_all
 
 -- what stands behind the last of a byte, or all where there is none
 abbrev pub behind_last : (byte : ℕ) → Text → Text

@@ -43,6 +43,7 @@ first_library (input.Library name ∷ inputs) = Some name.now
 abbrev pub extension_for : Option Form → Text
 extension_for None = codes ".EXE"
 extension_for (Some form.Exe) = codes ".EXE"
+extension_for (Some (form.LimitedExe paragraphs)) = codes ".EXE"
 extension_for (Some form.Com) = codes ".COM"
 extension_for (Some (form.Raw paragraph from)) = codes ".BIN"
 extension_for (Some form.Driver) = codes ".SYS"

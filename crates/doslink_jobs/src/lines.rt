@@ -74,13 +74,9 @@ fn unfollowed(settings: &Settings) -> Option<&'static str>
     ensures { spec.are_followed settings.now ≡ not (is_some result) }
 {
     if settings.writes_all {
-        return Some(
-            "doslink: /i isn't followed: segments without data take no bytes of the file\n",
-        );
-    }
-    match settings.most_extra {
-        None | Some(0xFFFF) => None,
-        Some(_) => Some("doslink: /CPARMAXALLOC isn't followed: the header asks for all memory\n"),
+        Some("doslink: /i isn't followed: segments without data take no bytes of the file\n")
+    } else {
+        None
     }
 }
 

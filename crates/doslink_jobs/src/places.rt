@@ -78,7 +78,7 @@ pub(crate) fn extension_for(form: Option<Form>) -> &'static str
     ensures { result.now ≡ spec.extension_for form }
 {
     match form {
-        None | Some(Form::Exe) => ".EXE",
+        None | Some(Form::Exe | Form::LimitedExe { .. }) => ".EXE",
         Some(Form::Com) => ".COM",
         Some(Form::Raw { .. }) => ".BIN",
         Some(Form::Driver) => ".SYS",

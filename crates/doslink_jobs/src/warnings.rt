@@ -132,7 +132,7 @@ fn warn_of_code<A: Allocator + Copy>(
 fn has_header(job: &Job<'_>) -> bool
     ensures { result ≡ spec.has_header job.now.form }
 {
-    matches!(job.form, None | Some(Form::Exe))
+    matches!(job.form, None | Some(Form::Exe | Form::LimitedExe { .. }))
 }
 
 /// Warns where no module has a start or a stack, of which a file with a header tells.

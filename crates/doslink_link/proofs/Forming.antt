@@ -1,11 +1,13 @@
 -- What bringing a program into a form answers.
-use Rattle.std.proofs.Common.{◌≡◌, ℕ, List, [], Ok, Err, Some, None, refl, sym, subst}
+use Rattle.std.proofs.Common.{◌≡◌, ℕ, max, List, [], Ok, Err, Some, None, refl, sym, subst}
 use Rattle.std.specs.declared.option.Option.{Option}
 use Rattle.std.specs.declared.result.Result.{Result}
 use Rattle.std.specs.Io.KnownBytes.{Appends}
 use Rattle.omf_module.specs.Module.{Module}
 use Rattle.omf_place.specs.declared.names.Names.{Names}
 use Rattle.omf_image.specs.Program.{IsProgram}
+use Rattle.omf_image.specs.Words.{word_at}
+use Rattle.omf_commands.specs.Linking.{HoldsAtEachParagraph}
 use Rattle.omf_commands.specs.declared.linking.Report.{Report}
 use Rattle.flat_file.specs.Forms.{bin_bytes, com_bytes, com_fault, sys_bytes}
 use Rattle.flat_file.specs.Laws.{BinIsLocated, ComLoadsAsWritten, IsLocatedCom, IsLocatedFrom, SysIsLocated}
@@ -15,10 +17,11 @@ use Rattle.flat_file.specs.declared.fault.FlatFault.{FlatFault}
 use Rattle.flat_file.specs.declared.fault.FlatFault.TheVariants as flat
 use Rattle.flat_file.specs.declared.fault.FormFault.{FormFault}
 use Rattle.doslink_words.specs.declared.job.Form.{Form}
-use Rattle.doslink_words.specs.declared.job.Form.TheVariants.{Exe, Com, Raw, Driver}
-use Rattle.doslink_link.specs.Forms.{Forms, HasForm, IsFormed, form_fault}
+use Rattle.doslink_words.specs.declared.job.Form.TheVariants.{Exe, LimitedExe, Com, Raw, Driver}
+use Rattle.doslink_link.specs.Forms.{Forms, HasForm, IsFormed, form_fault, limited}
 use Rattle.doslink_link.specs.inside.Making.{Makes}
 use Rattle.doslink_link.specs.Linking.{IsLinkedAs}
+use Rattle.doslink_link.proofs.Limiting.{limited_holds}
 
 -- ---- what was written to a page that was empty
 
@@ -73,6 +76,14 @@ module _ {A : Type 0} (names : Names) (modules : List Module) (report : Report A
 
   pub as_exe : IsFormed (Some Exe) names modules report exe
   as_exe = is_formed (Some Exe) exe refl linked
+
+  pub as_limited : (paragraphs : ℕ) (file : List ℕ) → file ≡ limited paragraphs exe
+      → IsFormed (Some (LimitedExe paragraphs)) names modules report file
+  as_limited paragraphs file same =
+      let holds : HoldsAtEachParagraph names modules (limited paragraphs exe) =
+      limited_holds names modules report.program exe (max paragraphs (word_at exe 10)) linked.format linked.holds in
+      is_formed (Some (LimitedExe paragraphs)) file refl
+      (exe, linked, same, subst (HoldsAtEachParagraph names modules) (sym same) holds)
 
   is_refused : {V : Type 0} (items : V → List ℕ) (form : Option Form) (bytes : List ℕ) (e : FlatFault)
       → Makes items (form_fault form report.layout report.modules.items report.program) bytes (Err e)

@@ -1,4 +1,5 @@
 pub mod Beginning
 pub mod Bounds
 pub mod Answers
+pub mod Limiting
 pub mod Forming

@@ -1,12 +1,13 @@
 -- The file of a linked program in a form.
-use Rattle.std.specs.Prelude.{◌≡◌, ℕ, ◌+◌, ◌*◌, ◌≤◌, List, Option, Some, None, Ok, Err}
+use Rattle.std.specs.Prelude.{◌≡◌, ℕ, ◌+◌, ◌*◌, ◌≤◌, max, List, Option, Some, None, Ok, Err}
 use Rattle.std.specs.declared.result.Result.{Result}
 use Rattle.omf_module.specs.Module.{Module}
 use Rattle.omf_place.specs.Layout.{Layout}
 use Rattle.omf_place.specs.declared.names.Names.{Names}
 use Rattle.omf_image.specs.Program.{Program}
+use Rattle.omf_image.specs.Words.{put_word, word_at}
 use Rattle.omf_commands.specs.declared.linking.Report.{Report}
-use Rattle.omf_commands.specs.Linking.{IsLinked, IsReport}
+use Rattle.omf_commands.specs.Linking.{HoldsAtEachParagraph, IsLinked, IsReport}
 use Rattle.flat_file.specs.Com.{LoadedCom, loading}
 use Rattle.flat_file.specs.Covered.{memory_len}
 use Rattle.flat_file.specs.Forms.{com_fault, sys_fault}
@@ -15,7 +16,7 @@ use Rattle.flat_file.specs.declared.fault.FlatFault.{FlatFault}
 use Rattle.flat_file.specs.declared.fault.FlatFault.TheVariants as flat
 use Rattle.flat_file.specs.declared.fault.FormFault.{FormFault}
 use Rattle.doslink_words.specs.declared.job.Form.{Form}
-use Rattle.doslink_words.specs.declared.job.Form.TheVariants.{Exe, Com, Raw, Driver}
+use Rattle.doslink_words.specs.declared.job.Form.TheVariants.{Exe, LimitedExe, Com, Raw, Driver}
 use Rattle.doslink_link.specs.Linking.{IsLinkedAs}
 
 -- DOS loads this file as a .COM program, which is the located program wherever its segment fits
@@ -24,20 +25,34 @@ LoadsAtEachPsp layout modules file =
     (psp : ℕ) → 16 * psp + 65536 ≤ memory_len
     → (memory : LoadedCom) × (loading psp file ≡ Ok memory) × IsLocatedCom psp layout modules memory
 
+-- The same EXE file, but that its header asks for so many paragraphs behind the image at most (e_maxalloc, the word at
+-- 0CH), or for those that the program needs (e_minalloc, the word at 0AH) where these are more.
+abbrev pub limited : (paragraphs : ℕ) → (file : List ℕ) → List ℕ
+limited paragraphs file = put_word file 12 (max paragraphs (word_at file 10))
+
+-- This file is that of linked modules but for such a limit, and holds their program at each paragraph as that does.
+abbrev pub IsLimited : {A : Type 0} → (paragraphs : ℕ) → Names → List Module → Report A → (file : List ℕ) → Type 0
+IsLimited paragraphs names modules report file =
+    (exe : List ℕ) × IsLinkedAs names modules report exe × (file ≡ limited paragraphs exe)
+    × HoldsAtEachParagraph names modules file
+
 -- what keeps the program of modules from being a file of a form: nothing of an EXE file and of a raw image
 abbrev pub form_fault : Option Form → Layout → List Module → Program → Option FormFault
 form_fault None layout modules program = None
 form_fault (Some Exe) layout modules program = None
+form_fault (Some (LimitedExe paragraphs)) layout modules program = None
 form_fault (Some Com) layout modules program = com_fault layout modules program
 form_fault (Some (Raw paragraph from)) layout modules program = None
 form_fault (Some Driver) layout modules program = sys_fault program
 
 -- This file is that of linked modules in a form: where none is said, and of an EXE file, the one that holds the program
--- at each paragraph; a .COM file that DOS loads as the located program; a raw image, byte for byte the program located
--- at its paragraph; a driver, byte for byte the program located at any.
+-- at each paragraph, with a limit of the memory behind its image or without; a .COM file that DOS loads as the located
+-- program; a raw image, byte for byte the program located at its paragraph; a driver, byte for byte the program located
+-- at any.
 abbrev pub HasForm : {A : Type 0} → Option Form → Names → List Module → Report A → (file : List ℕ) → Type 0
 HasForm None names modules report file = IsLinkedAs names modules report file
 HasForm (Some Exe) names modules report file = IsLinkedAs names modules report file
+HasForm (Some (LimitedExe paragraphs)) names modules report file = IsLimited paragraphs names modules report file
 HasForm (Some Com) names modules report file = LoadsAtEachPsp report.layout modules file
 HasForm (Some (Raw paragraph from)) names modules report file =
     IsLocatedFrom paragraph from report.layout modules file

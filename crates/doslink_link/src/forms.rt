@@ -1,10 +1,10 @@
 //! The files of linked programs in other forms than EXE, made in memory.
-ghost use Rattle.std.specs.Prelude.{◌≡◌, IfOk, List, None, Some};
+ghost use Rattle.std.specs.Prelude.{◌≡◌, ◌≤◌, IfOk, List, None, Some, length};
 ghost use Rattle.omf_module.specs.Module.{Module};
 ghost use Rattle.omf_place.specs.declared.names.Names.{Names};
 ghost use Rattle.omf_place.specs.Bounded.{IsBounded};
 ghost use Rattle.flat_file.specs.Forms.{bin_bytes, com_bytes, com_fault, sys_bytes, sys_fault};
-ghost use Rattle.doslink_link.specs.Forms.{Forms};
+ghost use Rattle.doslink_link.specs.Forms.{Forms, limited};
 ghost use Rattle.doslink_link.specs.Linking.{IsLinkedAs};
 ghost use Rattle.doslink_link.specs.inside.Making.{Makes};
 
@@ -19,6 +19,15 @@ use omf_commands::Report;
 use omf_frame::IoFault;
 use omf_image::Program;
 use std::alloc::Allocator;
+
+/// How many bytes the words of an EXE file's header have.
+const HEADER_LEN: usize = 28;
+
+/// The place of the paragraphs that it asks for at least behind its image (`e_minalloc`).
+const LEAST_AT: usize = 10;
+
+/// The place of those that it asks for at most (`e_maxalloc`).
+const MOST_AT: usize = 12;
 
 /// The bytes of a .COM file of what was linked.
 fn com_file<A: Allocator + Copy>(alloc: A, report: &Report<A>) -> Result<Vec<u8, A>, FlatFault>
@@ -60,6 +69,20 @@ fn driver_file<A: Allocator + Copy>(alloc: A, program: &Program<A>) -> Result<Ve
     }
 }
 
+/// An EXE file with a limit of the memory behind its image.
+fn limited_file<A: Allocator + Copy>(exe: Vec<u8, A>, paragraphs: u16) -> Vec<u8, A>
+    ensures { 28 ≤ length exe.items → result.items ≡ limited paragraphs exe.items }
+{
+    let mut file = exe;
+    if file.len() >= HEADER_LEN {
+        let least = u16::from(file[LEAST_AT]) + 256 * u16::from(file[LEAST_AT + 1]);
+        let most = paragraphs.max(least);
+        file[MOST_AT] = (most % 256) as u8;
+        file[MOST_AT + 1] = (most / 256) as u8;
+    }
+    file
+}
+
 /// The file of what was linked in a form that is said; `exe` is its EXE file.
 fn file_in<A: Allocator + Copy>(
     alloc: A,
@@ -78,6 +101,7 @@ fn file_in<A: Allocator + Copy>(
     let _size = report.program.size();
     match form {
         Form::Exe => Ok(exe),
+        Form::LimitedExe { paragraphs } => Ok(limited_file(exe, paragraphs)),
         Form::Com => com_file(alloc, report),
         Form::Raw { paragraph, from } => raw_file(alloc, &report.program, paragraph, from),
         Form::Driver => driver_file(alloc, &report.program),

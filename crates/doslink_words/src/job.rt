@@ -62,8 +62,10 @@ pub struct Stack {
 /// The form of a program's file.
 #[derive(Clone, Copy, Debug, PartialEq, Eq)]
 pub enum Form {
-    /// An EXE file, which DOS loads at any paragraph.
+    /// An EXE file, which DOS loads at any paragraph, and to which it gives all memory behind.
     Exe,
+    /// An EXE file to which DOS gives so many paragraphs behind its image at most, and at least those that it needs.
+    LimitedExe { paragraphs: u16 },
     /// A .COM file: the program from 100H on, which DOS loads behind a program segment prefix.
     Com,
     /// The bytes of the program as it is located at a paragraph, from an address of it on.

@@ -5,7 +5,7 @@ use Rattle.clap.specs.Words.{Text}
 use Rattle.doslink_words.specs.Said.{SaidMap, SaidOrder, At, Beside, Dosseg, Meeting, inputs_of, map_of, order_of}
 use Rattle.doslink_words.specs.Tokens.{texts}
 use Rattle.doslink_words.specs.declared.job.Form.{Form}
-use Rattle.doslink_words.specs.declared.job.Form.TheVariants.{Com}
+use Rattle.doslink_words.specs.declared.job.Form.TheVariants.{Exe, LimitedExe, Com}
 use Rattle.doslink_words.specs.declared.job.MapForm.{MapForm}
 use Rattle.doslink_words.specs.declared.job.MapForm.TheVariants as map_form
 use Rattle.doslink_words.specs.declared.job.Stack.{Stack}
@@ -54,6 +54,11 @@ nulls_asked Tlink form order = false
 nulls_asked Link Com order = false
 nulls_asked Link _ order = not (is_without_nulls order)
 
+-- the form of the program's file: an EXE file may have a limit of the memory behind its image
+abbrev pub form_asked : Form → (most_extra : Option ℕ) → Form
+form_asked Exe (Some paragraphs) = LimitedExe paragraphs
+form_asked form _ = form
+
 -- the stack, which a longer one is cut to
 abbrev pub stack_asked : Option ℕ → Option Stack
 stack_asked bytes = option_map (λ n. record { bytes = n; cuts = true }) bytes
@@ -69,7 +74,7 @@ pub record IsJobOf (language : Language) (said : SaidLine) (made : MakefileJob) 
   pub order : order_of made.job.order ≡ order_asked said.settings.order
   pub null_bytes : made.job.null_bytes ≡ nulls_asked language said.settings.form said.settings.order
   pub stack : made.job.stack ≡ stack_asked said.settings.stack
-  pub form : made.job.form ≡ Some said.settings.form
+  pub form : made.job.form ≡ Some (form_asked said.settings.form said.settings.most_extra)
   pub default_libraries : made.job.default_libraries ≡ not said.settings.no_defaults
   pub left_out : texts made.job.left_out.items ≡ said.left_out
   pub keep_debug : made.job.keep_debug ≡ false

@@ -16,7 +16,7 @@ use doslink_words::{Form, Job, MapFile, MapForm, Order, Stack};
 pub struct MakefileJob<'a> {
     /// What is linked, and how.
     pub job: Job<'a>,
-    /// What the options say: among it the header's extra paragraphs and what the map tells.
+    /// What the options say: among it what the map tells.
     pub settings: Settings,
     /// The options that have no effect, or not all that they would have, in their order.
     pub warnings: Vec<IdleAt>,
@@ -69,6 +69,16 @@ fn nulls_asked(language: Language, form: Form, ordering: Ordering) -> bool
     }
 }
 
+// The form of the program's file: an EXE file may have a limit of the memory behind its image.
+fn form_asked(settings: Settings) -> Form
+    ensures { result ≡ spec.form_asked settings.form settings.most_extra }
+{
+    match (settings.form, settings.most_extra) {
+        (Form::Exe, Some(paragraphs)) => Form::LimitedExe { paragraphs },
+        (form, _) => form,
+    }
+}
+
 // The stack, which a longer one is cut to.
 fn stack_asked(bytes: Option<u32>) -> Option<Stack>
     ensures { result ≡ spec.stack_asked bytes }
@@ -94,7 +104,7 @@ pub(crate) fn job_of<'a>(language: Language, line: Line<'a>) -> MakefileJob<'a>
         order: order_asked(settings.order),
         null_bytes: nulls_asked(language, settings.form, settings.order),
         stack: stack_asked(settings.stack),
-        form: Some(settings.form),
+        form: Some(form_asked(settings)),
         default_libraries: !settings.no_defaults,
         left_out: line.left_out,
         keep_debug: false,

@@ -14,9 +14,6 @@ const GREATEST: u32 = 1_048_576;
 /// The longest stack, in bytes: a segment's most bytes.
 const LONGEST: u32 = 65_536;
 
-/// How many numbers of 16 bits there are.
-const PARAGRAPHS: u32 = 65_536;
-
 /// What the value of an option says.
 #[derive(Clone, Copy)]
 pub(crate) enum Valued {
@@ -196,8 +193,11 @@ fn extra_asked(value: &[u8]) -> Setting
     ensures { result ≡ spec.extra_asked (spec.number value.now) }
 {
     match number(value) {
-        Some(paragraphs) if paragraphs < PARAGRAPHS => Setting::MostExtra(paragraphs),
-        _ => Setting::Refused(FaultKind::WrongValue),
+        Some(paragraphs) => match u16::try_from(paragraphs) {
+            Ok(paragraphs) => Setting::MostExtra(paragraphs),
+            Err(_) => Setting::Refused(FaultKind::WrongValue),
+        },
+        None => Setting::Refused(FaultKind::WrongValue),
     }
 }
 

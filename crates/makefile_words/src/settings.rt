@@ -40,8 +40,8 @@ pub struct Settings {
     pub order: Ordering,
     /// How many bytes the stack has, 1 to 65,536, where that is said.
     pub stack: Option<u32>,
-    /// The greatest number of extra paragraphs that the header asks for, where that is said.
-    pub most_extra: Option<u32>,
+    /// The paragraphs behind its image that an EXE file asks for at most, where that is said.
+    pub most_extra: Option<u16>,
 }
 
 /// What has no effect, or not all that it would have.
@@ -82,8 +82,8 @@ pub(crate) enum Setting {
     Order(Ordering),
     /// The stack's bytes.
     Stack(u32),
-    /// The greatest number of extra paragraphs.
-    MostExtra(u32),
+    /// The paragraphs behind its image that an EXE file asks for at most.
+    MostExtra(u16),
     /// That libraries are looked for in the folders of its value, which `;` parts.
     Folders,
     /// That the library of its value is left out where a module names it.

@@ -11,7 +11,7 @@ use Rattle.omf_stack.specs.Stack.{is_stack}
 use Rattle.doslink_telling.specs.Missing.{rest_text, told_count}
 use Rattle.doslink_telling.specs.Warnings.{no_code_line, no_stack_line, no_start_line, reached_line}
 use Rattle.doslink_words.specs.declared.job.Form.{Form}
-use Rattle.doslink_words.specs.declared.job.Form.TheVariants.{Exe}
+use Rattle.doslink_words.specs.declared.job.Form.TheVariants.{Exe, LimitedExe}
 use Rattle.doslink_words.specs.declared.job.Job.{Job}
 use Rattle.doslink_jobs.specs.Jobs.{names_of}
 
@@ -43,6 +43,7 @@ code_warning modules = if list_any has_data modules then [] else no_code_line
 abbrev pub has_header : Option Form → Bool
 has_header None = true
 has_header (Some Exe) = true
+has_header (Some (LimitedExe paragraphs)) = true
 has_header (Some form) = false
 
 -- those of what a file with a header tells

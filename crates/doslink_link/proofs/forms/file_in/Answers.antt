@@ -3,7 +3,8 @@ use Rattle.flat_file.specs.Forms.{com_bytes, com_fault}
 use Rattle.flat_file.specs.Laws.{ComLoadsAsWritten}
 use Rattle.doslink_link.specs.Forms.{Forms, IsFormed}
 use Rattle.doslink_link.specs.inside.Making.{Makes}
-use Rattle.doslink_link.proofs.Forming.{as_driver, as_exe, as_raw, formed_com}
+use Rattle.doslink_link.proofs.Forming.{as_driver, as_exe, as_limited, as_raw, formed_com}
+use Rattle.doslink_link.proofs.Limiting.{long_file}
 use Rattle.doslink_link.proofs.forms.file_in.Goals as goal
 
 pub returns-in-Com : goal.returns-in-Com
@@ -33,3 +34,12 @@ returns-in-Exe g c names modules linked =
     let file = c.args.exe.items in
     subst (λ f. IsFormed (Some f) names modules c.args.report.now file) (sym c.in-Exe.is)
     (as_exe names modules c.args.report.now file linked)
+
+pub returns-in-LimitedExe : goal.returns-in-LimitedExe
+returns-in-LimitedExe g c names modules linked =
+    let r = c.args.report.now in
+    let exe = c.args.exe.items in
+    let file = c.limited_file.result.items in
+    subst (λ f. IsFormed (Some f) names modules r file) (sym c.in-LimitedExe.is)
+    (as_limited names modules r exe linked c.in-LimitedExe.paragraphs file
+    (c.limited_file.ensures (long_file r.program exe linked.format)))
