@@ -46,7 +46,7 @@ link F /z;|2||doslink: line 1, column 3: \"/z\": unknown option~
 link @LINES2|2||doslink: line 3, column 1: \"/z\": unknown option~
 link F;G|2||doslink: line 1, column 3: \"G\": nothing is expected behind `;`~
 link ,P;|2||doslink: an object is expected~
-link /CP:1 F;|2||doslink: /CPARMAXALLOC isn't followed: the header asks for all memory~
+link /CP:1 F;|0||
 link /CP:0xFFFF F;|0||
 tlink /i F|2||doslink: /i isn't followed: segments without data take no bytes of the file~
 link /CO F /E;|0||doslink: warning: line 1, column 1: no data for debuggers is written~doslink: warning: line 1, column 7: the program isn't packed: it runs the same~
@@ -59,7 +59,7 @@ link F,F.OBJ;|2||doslink: F.OBJ: it is read and would be written~
 ";
 
 /// Runs of lines, the path at which each writes, and all that it writes there.
-pub(crate) const LINED: [(&str, &str, &[u8]); 14] = [
+pub(crate) const LINED: [(&str, &str, &[u8]); 18] = [
     ("link F;", "F.EXE", &EXE_OF_F),
     ("link OBJ/UNO;", "UNO.EXE", &EXE_OF_F),
     ("link OBJ/UNO,OBJ/DUO;", "OBJ/DUO.EXE", &EXE_OF_F),
@@ -83,7 +83,30 @@ pub(crate) const LINED: [(&str, &str, &[u8]); 14] = [
     ("link NULLS /T;", "NULLS.COM", &[0xC3]),
     // wrong words leave the older file
     ("link F,P /z;", "P.EXE", b"old"),
-    ("link F,P /CP:1;", "P.EXE", b"old"),
+    ("tlink F,P /i", "P.EXE", b"old"),
+    // as many paragraphs behind the image as are asked for, and never fewer than the program needs
+    ("link F,P /CP:0;", "P.EXE", &EXE_OF_F_WITH_1),
+    ("link F,P /CP:1;", "P.EXE", &EXE_OF_F_WITH_1),
+    ("link F,P /CP:0x102;", "P.EXE", &EXE_OF_F_WITH_258),
+    (
+        "link COMED,,,RUN /T /CP:1;",
+        "COMED.COM",
+        &[0xE8, 0x00, 0x00, 0x90, 0x90],
+    ),
+];
+
+/// The program of `F`, which needs a paragraph behind its image, and asks for no more.
+const EXE_OF_F_WITH_1: [u8; 33] = [
+    0x4D, 0x5A, 0x21, 0x00, 0x01, 0x00, 0x00, 0x00, 0x02, 0x00, 0x01, 0x00, 0x01, 0x00, 0x00, 0x00,
+    0x00, 0x00, 0x00, 0x00, 0x00, 0x00, 0x00, 0x00, 0x1C, 0x00, 0x00, 0x00, 0x00, 0x00, 0x00, 0x00,
+    0x90,
+];
+
+/// The same, which asks for 258 at most.
+const EXE_OF_F_WITH_258: [u8; 33] = [
+    0x4D, 0x5A, 0x21, 0x00, 0x01, 0x00, 0x00, 0x00, 0x02, 0x00, 0x01, 0x00, 0x02, 0x01, 0x00, 0x00,
+    0x00, 0x00, 0x00, 0x00, 0x00, 0x00, 0x00, 0x00, 0x1C, 0x00, 0x00, 0x00, 0x00, 0x00, 0x00, 0x00,
+    0x90,
 ];
 
 /// Runs of lines, the path of the program of each, and whether it writes a map at `P.MAP`.

@@ -97,7 +97,19 @@ stack: Some(Stack { bytes: 65536, cuts: true })
 ---
 /CP:1 main;
 =>
-most_extra: Some(1)
+form: Some(LimitedExe { paragraphs: 1 }), default_libraries: true
+---
+/cpa:0 main;
+=>
+form: Some(LimitedExe { paragraphs: 0 }), default_libraries: true
+---
+/T /CP:1 main;
+=>
+form: Some(Com), default_libraries: true
+---
+/CPARM:020 main;
+=>
+order: Meeting, stack: None, most_extra: Some(16)
 ---
 /CPARMAXALLOC:0xFFFF main;
 =>
