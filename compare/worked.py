@@ -14,7 +14,7 @@ def header(words):
     return "4D5A" + words + "1C000000"
 
 
-# no program's header has another greatest number of extra paragraphs, or a checksum
+# a program's header asks for all memory, where no less is said, and has no checksum
 MOST = "FFFF"
 NO_REGISTERS = "0000 0000 0000 0000 0000"
 NO_TABLE = "00000000"

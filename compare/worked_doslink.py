@@ -468,8 +468,10 @@ LINES = [
     ("an option that changes the program", "link", ["/HIGH", "a;"],
      'line 1, column 1: "/HIGH": the option would change the program, and isn\'t followed'),
     ("all bytes", "tlink", ["/i", "a"], "/i isn't followed: segments without data take no bytes of the file"),
-    ("extra paragraphs", "link", ["/CP:0xFFFF", "a;"], {"inputs": given(["a"])}),
-    ("fewer", "link", ["/CP:1", "a;"], "/CPARMAXALLOC isn't followed: the header asks for all memory"),
+    ("extra paragraphs", "link", ["/CP:0xFFFF", "a;"], {
+        "inputs": given(["a"]), "form": Form("exe", most_extra=0xFFFF)}),
+    ("fewer", "link", ["/CP:1", "a;"], {"inputs": given(["a"]), "form": Form("exe", most_extra=1)}),
+    ("those of a .COM file", "link", ["/CP:1", "a/T;"], {"inputs": given(["a"]), "form": Form("com")}),
 ]
 
 # of a public, and of an absolute one
@@ -588,6 +590,10 @@ FILES = {
 EIGHT = header("2800 0100 0000 0200 0100" + MOST + NO_REGISTERS) + NO_TABLE
 PROGRAM = header("2300 0100 0000 0200 0300" + MOST + NO_REGISTERS) + NO_TABLE + "E81000"
 
+# the same where 2 extra paragraphs are asked for at most, of which it needs 3, and 260
+LIMITED = header("2300 0100 0000 0200 0300 0300" + NO_REGISTERS) + NO_TABLE + "E81000"
+LIMITED_ABOVE = header("2300 0100 0000 0200 0300 0401" + NO_REGISTERS) + NO_TABLE + "E81000"
+
 # 6 bytes, and 18 of which the last two are relocated
 SIX = header("2600 0100 0000 0200 0100" + MOST + NO_REGISTERS) + NO_TABLE
 EIGHTEEN = header("3200 0100 0100 0200 0100" + MOST + NO_REGISTERS) + "00000100"
@@ -597,6 +603,11 @@ EIGHTEEN = header("3200 0100 0100 0200 0100" + MOST + NO_REGISTERS) + "00000100"
 LINKS = [
     ("a module of a library", {"inputs": given(["m.obj"], ["x.lib"])}, [], PROGRAM,
      'm.obj\nx.lib(X) for "x"\n'),
+    ("fewer extra paragraphs than it needs",
+     {"inputs": given(["m.obj"], ["x.lib"]), "form": Form("exe", most_extra=2)}, [], LIMITED,
+     'm.obj\nx.lib(X) for "x"\n'),
+    ("and more", {"inputs": given(["m.obj"], ["x.lib"]), "form": Form("exe", most_extra=260)}, [],
+     LIMITED_ABOVE, 'm.obj\nx.lib(X) for "x"\n'),
     ("a library among the files", {"inputs": given(["x.lib", "m.obj"])}, [], PROGRAM,
      'm.obj\nx.lib(X) for "x"\n'),
     ("a module in the place of a library", {"inputs": given(["m.obj"], ["x.obj"])}, [],

@@ -10,7 +10,7 @@ OTHER_OPTIONS = {
         ("WARNFIXUP", 1), ("INCREMENTAL", 3), ("EXEPACK", 1), ("FARCALLTRANSLATION", 1),
         ("NOFARCALLTRANSLATION", 3), ("PACKCODE", 5), ("PACKCODE:512", 5), ("PACKDATA", 5), ("NOPACKCODE", 3),
         ("NOEXTDICTIONARY", 3), ("SEGMENTS:0x100", 2), ("MAP:FULL", 1), ("MAP:ADDRESS", 1), ("LINENUMBERS", 2),
-        ("CPARMAXALLOC:1", 2), ("CPARMAXALLOC:0", 2), ("CPARMAXALLOC:0xFFFF", 2), ("CPARMAXALLOC:0100", 2),
+        ("CPARMAXALLOC:1", 2), ("CPARMAXALLOC:0", 2), ("CPARMAXALLOC:0xFFFF", 2), ("CPARMAXALLOC:020", 2),
         ("MAP:200", 1), ("NONULLSDOSSEG", 3), ("NODEFAULTLIBRARYSEARCH:slibce", 3),
         ("NODEFAULTLIBRARYSEARCH:Runtime.A", 3)],
     TLINK: [(each, len(each)) for each in [
@@ -60,6 +60,8 @@ LINES_OF_TLINK = [
     "OBJECT,nowhere/Table", "OBJECT /Lc:\\tc\\lib/c", "OBJECT -jc:\\obj/Tdc", "OBJECT /Lsub\\more/v,,,x",
     "OBJECT /Lsub:/v,,,x", "OBJECT /Lx/c\\d,,,y", "OBJECT,,, /Lx;c:\\tc/m l", "OBJECT -La/j", "OBJECT /c/La/m",
     "OBJECT /Lc:\\tc\\lib/c;", "OBJECT /jx/Lc:\\tc,,,l", "OBJECT /Lx/q,,,l", "OBJECT /Lx,,,l"]
+# extra paragraphs that are asked for at most, which most programs need more of, need just so, or need fewer of
+EXTRA = [0, 0, 1, 0x10, 0xFFFF]
 # options of TLINK whose values may be anything, so that they touch no name, and those that only begin so
 APART, TOUCHING = "LjOyTR", ("j", "yc", "ye", "Tdc", "Tde")
 BEHIND_TEXT = ["", "", "\x1A", "\x1Amore,words;\n/q"]
@@ -175,6 +177,7 @@ class LineSpeller:
             options += [("DOSSEG", 2) if job.has_null_bytes else ("NONULLSDOSSEG", 3)]
         options += [] if job.stack is None else [(f"STACK:{self.number(job.stack.length)}", 2)]
         options += [("TINY", 1)] if job.form.kind == "com" else []
+        options += [(f"CPARMAXALLOC:{self.number(self.random.choice(EXTRA))}", 2)] if self.happens(0.2) else []
         options += [("MAP", 1)] if job.map is not None and self.happens(0.5) else []
         return [self.option(*each) for each in options]
 

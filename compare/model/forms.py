@@ -34,7 +34,8 @@ def written_file(program, form):
     """The bytes of the file, or the first fault that keeps the program from having one."""
     kind = kind_of(form)
     if kind == "exe":
-        return program_file.written_file(program)
+        is_limited = form is not None and form.most_extra is not None
+        return program_file.written_file(program, form.most_extra if is_limited else program_file.MOST_EXTRA)
     if kind == "bin":
         return program.image(form.paragraph)[form.start:]
     found = com_faults(program)

@@ -27,8 +27,6 @@ IDLE = {
     line_options.NOTHING: "the option has no effect",
 }
 ALL_BYTES = "/i isn't followed: segments without data take no bytes of the file"
-LESS_MEMORY = "/CPARMAXALLOC isn't followed: the header asks for all memory"
-ALL_MEMORY = 0xFFFF
 # what a map is called
 MAP = ".MAP"
 TOO_DEEP = "response files name one another more than 8 deep"
@@ -110,9 +108,9 @@ def job_of(language, text):
     said = said_by(language, text)
     if said.writes_all:
         raise LineRefused(ALL_BYTES)
-    if said.most_extra not in (None, ALL_MEMORY):
-        raise LineRefused(LESS_MEMORY)
-    form, map_name = Form(said.form or "exe"), lines.map_of(said)
+    # a .COM file has no header that could ask for memory
+    form = Form("com") if said.form == "com" else Form("exe", most_extra=said.most_extra)
+    map_name = lines.map_of(said)
     lacks = [(said.has_lines, "has no line numbers"), (said.is_detailed, "tells of no module's parts of segments")]
     return Job(
         inputs=[Input(name, is_library) for name, is_library in said.inputs],

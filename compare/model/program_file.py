@@ -12,6 +12,7 @@ ENTRY = "<2H"
 SIZE_OF_ENTRY = 4
 PARAGRAPH = 16
 PAGE = 512
+# the extra paragraphs that a header asks for at most where no fewer are said: all memory
 MOST_EXTRA = 0xFFFF
 END_OF_MEMORY = 1_048_576
 # an entry with this offset has no room for a word
@@ -42,10 +43,10 @@ def in_paragraphs(length):
     return -(-length // PARAGRAPH)
 
 
-def written_file(program):
+def written_file(program, most_extra=MOST_EXTRA):
     """The file of a link: header, relocation table, bytes 00 to a whole paragraph, image.
 
-    The least extra paragraphs ask for the memory behind the image, up to the program's size.
+    The least extra paragraphs ask for the memory behind the image, up to the program's size; the most are never fewer.
     """
     relocations, registers = program.relocations, program.registers
     paragraphs = in_paragraphs(HEADER + SIZE_OF_ENTRY * len(relocations))
@@ -53,7 +54,7 @@ def written_file(program):
     least_extra = in_paragraphs(program.layout.size) - program.written() // PARAGRAPH
     header = struct.pack(
         WORDS_OF_HEADER, b"MZ", length % PAGE, -(-length // PAGE), len(relocations), paragraphs,
-        least_extra, MOST_EXTRA, registers.stack, registers.stack_pointer, 0,
+        least_extra, max(most_extra, least_extra), registers.stack, registers.stack_pointer, 0,
         registers.instruction, registers.code, HEADER, 0)
     table = b"".join(
         struct.pack(ENTRY, word % PARAGRAPH, word // PARAGRAPH) for word in relocations)
