@@ -392,11 +392,15 @@ def absent_libraries(count):
     return Inputs(main.modules, main.size, main.relocations)
 
 
+def spellings_of_this_folder(count):
+    """Paths that lead to the folder that a program runs in, no two alike and each as long as the others."""
+    return ["".join("./" if number >> bit & 1 else ".//" for bit in range(13)) for number in range(count)]
+
+
 def library_of_spellings(count):
     """A module, and a library by as many spellings of its path."""
     main = renaming_module("_main", ["_main"])
-    spelled = ["".join("./" if number >> bit & 1 else ".//" for bit in range(13)) for number in range(count)]
-    words = tuple(word for text in spelled for word in ("-l", f"{text}L.LIB"))
+    words = tuple(word for text in spellings_of_this_folder(count) for word in ("-l", f"{text}L.LIB"))
     return Inputs(main.modules, main.size, main.relocations, files={"L.LIB": library([end_only()])}, words=words)
 
 
@@ -438,12 +442,18 @@ def parts(count):
     return Inputs([part_module(number) for number in range(count)], 16 * count, 0)
 
 
-def parts_in_capitals(count):
-    """Modules of one private segment each, which a line of TLINK names in capitals."""
+def parts_in_capitals(count, folders=()):
+    """Modules of one private segment each, which a line of TLINK names in capitals, by these paths of their folder."""
     files = {f"m{number:05}.obj": module for number, module in enumerate(parts(count).modules)}
-    line = "+\n".join(map(str.upper, files)) + ",OUT.EXE,NUL\n"
+    paths = [folder + name.upper() for folder, name in zip(folders or [""] * count, files)]
+    line = "+\n".join(paths) + ",OUT.EXE,NUL\n"
     return Inputs(
         [], 16 * count, 0, files={**files, "parts.rsp": line.encode()}, line=("--as", "tlink", "@parts.rsp"))
+
+
+def parts_by_spellings(count):
+    """The same, each by another spelling of the path of their folder."""
+    return parts_in_capitals(count, spellings_of_this_folder(count))
 
 
 def fixed_module(size, width, location, target, targets, after_segments=b""):

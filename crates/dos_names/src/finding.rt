@@ -11,27 +11,31 @@ fn stands_at(rt: &HostRuntime, path: &str) -> bool {
     fs::symlink_metadata(rt, path).is_ok()
 }
 
-/// The path of what a name means in a folder: of what is so written, else of the one that is the same but for the case
-/// of letters, and as it is written where there is none.
-fn path_in(
+/// What a name means in a folder: what is so written there, else the one that is the same but for the case of letters.
+/// None where there is neither.
+fn meant_in(
     rt: &HostRuntime,
     folders: &mut Folders,
     folder: &str,
     name: &str,
-) -> io::Result<String> {
+) -> io::Result<Option<String>> {
     let written = format!(in rt.alloc(); "{folder}{name}")?;
     if name.is_empty() || stands_at(rt, written.as_str()) {
-        return Ok(written);
+        return Ok(Some(String::from_str(rt.alloc(), name)?));
     }
-    match folders.names_in(rt, folder)?.choice(rt.alloc(), name)? {
-        Choice::Nothing => Ok(written),
-        Choice::One(found) => Ok(format!(in rt.alloc(); "{folder}{found}")?),
+    let Some(listing) = folders.names_in(rt, folder)? else {
+        return Ok(None);
+    };
+    match listing.choice(rt.alloc(), name)? {
+        Choice::Nothing => Ok(None),
+        Choice::One(found) => Ok(Some(String::from_str(rt.alloc(), found)?)),
         Choice::Two(_, _) => Err(Error::from(ErrorKind::InvalidData)),
     }
 }
 
 /// The path of what is meant by a path of DOS: with `/` for `\`, and as it is written where something stands there.
-/// Else each of its names in turn means what it does in the folder before it.
+/// Else each of its names in turn means what it does in the folder before it, and from the first that means nothing
+/// there, all are as they are written.
 ///
 /// # Errors
 /// Want of memory. `InvalidData`, where nothing stands at a name as it is written, and two names of its folder are the
@@ -45,12 +49,21 @@ pub(crate) fn path_meant(
     if stands_at(rt, written.as_str()) {
         return Ok(written);
     }
-    let mut made = String::new(rt.alloc());
+    let (mut made, mut stands) = (String::new(rt.alloc()), true);
     for (at, name) in written.as_str().split('/').enumerate() {
         if at > 0 {
             made.push('/')?;
         }
-        made = path_in(rt, folders, made.as_str(), name)?;
+        let meant = if stands {
+            meant_in(rt, folders, made.as_str(), name)?
+        } else {
+            None
+        };
+        stands = meant.is_some();
+        match meant {
+            Some(found) => made.push_str(found.as_str())?,
+            None => made.push_str(name)?,
+        }
     }
     Ok(made)
 }

@@ -1,6 +1,7 @@
 //! The names of the folders that were looked into, each read once.
 
 use crate::choice::{Choice, choice_of};
+use omf_files::{FileId, Streams, World};
 use std::alloc::{AllocError, Global};
 use std::collections::BTreeMap;
 use std::fs;
@@ -69,10 +70,10 @@ impl Listing {
     }
 }
 
-/// The names of folders, by the paths of these.
+/// The names of folders, by what these are: one folder is read once, however its path is spelled.
 #[derive(Drop)]
 pub(crate) struct Folders {
-    listings: BTreeMap<String, Listing>,
+    listings: BTreeMap<FileId, Listing>,
 }
 
 impl Folders {
@@ -85,13 +86,22 @@ impl Folders {
 
     /// The names of what stands in a folder whose path has `/` at its end, or which is this one, where the path is
     /// empty. None where they can't be told.
-    pub(crate) fn names_in(&mut self, rt: &HostRuntime, folder: &str) -> io::Result<&Listing> {
-        let key = String::from_str(rt.alloc(), folder)?;
+    pub(crate) fn names_in(
+        &mut self,
+        rt: &HostRuntime,
+        folder: &str,
+    ) -> io::Result<Option<&Listing>> {
         let path = if folder.is_empty() { "." } else { folder };
-        let listing = self
-            .listings
-            .entry(key)?
-            .or_try_insert_with(|| Listing::told(rt, path))?;
-        Ok(listing)
+        match Streams::of(rt).look(path) {
+            Ok(found) => {
+                let listing = self
+                    .listings
+                    .entry(found.id)?
+                    .or_try_insert_with(|| Listing::told(rt, path))?;
+                Ok(Some(listing))
+            }
+            Err(error) if error.kind() != ErrorKind::OutOfMemory => Ok(None),
+            Err(error) => Err(error),
+        }
     }
 }

@@ -42,8 +42,9 @@ pub(crate) enum Switch {
     Stack,
     /// An option that takes no value.
     Plain(Plain),
-    /// An option that has no effect, and what is told of it. `symfile`: a file of symbols; and what changes nothing of a DOS program: `verbose`, `statics`, `artificial`, `showdead`, `cache`,
-    /// `nocache`, `farcalls`, `nofarcalls`, `maxerrors`.
+    /// An option that has no effect, and what is told of it. `symfile`: a file of symbols; and what changes nothing of a
+    /// DOS program: `verbose`, `statics`, `artificial`, `showdead`, `cache`, `nocache`, `farcalls`, `nofarcalls`,
+    /// `maxerrors`.
     Idle(WarningKind),
 }
 
