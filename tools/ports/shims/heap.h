@@ -5,12 +5,20 @@
 /* Makes sure that there is memory up to this address, and answers whether there is. */
 static int reach(uintptr_t end);
 
+#ifdef HAS_MAPS
+/* New memory of so many bytes, of which each page is 0; the same memory with another length, elsewhere if it has to be;
+   both answer NULL where there is none. And its return. */
+static void *map_new(size_t bytes);
+static void *map_grown(void *place, size_t bytes, size_t wanted);
+static void map_back(void *place, size_t bytes);
+#endif
+
 typedef struct block {
-    size_t kind;
+    size_t kind; /* or the bytes of a mapped block, which are a multiple of MAPPED */
     struct block *next; /* of those that were given back */
 } block;
 
-enum { LEAST_KIND = 12, KINDS = 4 * 48 };
+enum { LEAST_KIND = 12, KINDS = 4 * 48, MAPPED = 1 << 17 };
 #define MOST_BYTES ((size_t)1 << 46)
 
 static uintptr_t end; /* of what was handed out, a multiple of 16 */
@@ -18,11 +26,13 @@ static block *given_back[KINDS];
 
 static size_t bytes_of(size_t kind) { return (4 + kind % 4) << kind / 4; }
 
-/* The least kind of block in which so many bytes fit behind its head. */
+/* The least kind of block in which so many bytes fit behind its head: the one above the greatest that is as long as
+   they are without the last. */
 static size_t kind_for(size_t size) {
-    size_t kind = LEAST_KIND;
-    while (bytes_of(kind) < size + sizeof(block)) kind++;
-    return kind;
+    size_t last = size + sizeof(block) - 1;
+    if (last < bytes_of(LEAST_KIND)) return LEAST_KIND;
+    size_t shift = 61 - __builtin_clzll(last);
+    return 4 * shift + (last >> shift) - 3;
 }
 
 /* Where a block of a kind ends that begins here. */
@@ -30,9 +40,25 @@ static uintptr_t end_of(const block *place, size_t kind) {
     return ((uintptr_t)place + bytes_of(kind) + 15) & ~(uintptr_t)15;
 }
 
+#ifdef HAS_MAPS
+/* A block is mapped by itself from this size on, so that its pages are moved where it grows, and given back whole. */
+static size_t mapped_bytes(size_t size) { return (size + sizeof(block) + MAPPED - 1) & ~(size_t)(MAPPED - 1); }
+
+static int is_mapped(const block *place) { return place->kind >= MAPPED; }
+
+static void *mapped(block *place, size_t bytes) {
+    if (!place) return NULL;
+    place->kind = bytes;
+    return place + 1;
+}
+#endif
+
 /* So many bytes at a multiple of 16, or NULL where there is no memory. */
 void *malloc(size_t size) {
     if (size > MOST_BYTES) return NULL;
+#ifdef HAS_MAPS
+    if (size >= MAPPED) return mapped(map_new(mapped_bytes(size)), mapped_bytes(size));
+#endif
     size_t kind = kind_for(size);
     block *found = given_back[kind];
     if (found) {
@@ -50,6 +76,12 @@ void *malloc(size_t size) {
 void free(void *place) {
     if (!place) return;
     block *old = (block *)place - 1;
+#ifdef HAS_MAPS
+    if (is_mapped(old)) {
+        map_back(old, old->kind);
+        return;
+    }
+#endif
     old->next = given_back[old->kind];
     given_back[old->kind] = old;
 }
@@ -58,10 +90,21 @@ void free(void *place) {
    memory. */
 void *realloc(void *place, size_t size) {
     block *old = (block *)place - 1;
+    if (size > MOST_BYTES) return NULL;
+#ifdef HAS_MAPS
+    if (is_mapped(old)) {
+        size_t bytes = mapped_bytes(size);
+        return bytes <= old->kind ? place : mapped(map_grown(old, old->kind, bytes), bytes);
+    }
+#endif
     size_t room = bytes_of(old->kind) - sizeof(block);
     if (size <= room) return place;
-    if (size > MOST_BYTES) return NULL;
-    if (end_of(old, old->kind) == end) { /* it is the last one */
+#ifdef HAS_MAPS
+    int stays = size < MAPPED;
+#else
+    int stays = 1;
+#endif
+    if (stays && end_of(old, old->kind) == end) { /* it is the last one */
         size_t kind = kind_for(size);
         if (!reach(end_of(old, kind))) return NULL;
         end = end_of(old, kind);

@@ -1,37 +1,39 @@
 /* Linux on x86-64, aarch64 or riscv64 by its own calls, with no C library: the program needs nothing but a kernel. */
 #include "common.h"
+#define HAS_MAPS
 #include "heap.h"
 
-/* The kernel's numbers of its calls, the program's start, and a call of the kernel, which answers an error below 0. */
+/* The kernel's numbers of its calls, the program's start, and a call of the kernel, which answers an error below 0;
+   a sixth word of it is 0. */
 #if defined __x86_64__
-enum { READ = 0, WRITE = 1, CLOSE = 3, FSTAT = 5, BRK = 12, SIGACTION = 13, FTRUNCATE = 77, GETCWD = 79, FCHMOD = 91,
-       FCHOWN = 93, GETDENTS = 217, EXIT = 231, OPENAT = 257, FSTATAT = 262, UNLINKAT = 263, RENAME = 264,
+enum { READ = 0, WRITE = 1, CLOSE = 3, FSTAT = 5, MMAP = 9, MUNMAP = 11, BRK = 12, SIGACTION = 13, MREMAP = 25,
+       FTRUNCATE = 77, GETCWD = 79, FCHMOD = 91, FCHOWN = 93, GETDENTS = 217, EXIT = 231, OPENAT = 257, FSTATAT = 262, UNLINKAT = 263, RENAME = 264,
        READLINKAT = 267, STATX = 332 };
 __asm__(".globl _start\n_start: xor %ebp, %ebp\n mov %rsp, %rdi\n and $-16, %rsp\n call begin");
 static long call(long number, long a, long b, long c, long d, long e) {
     long answer;
-    register long fourth __asm__("r10") = d, fifth __asm__("r8") = e;
-    __asm__ volatile("syscall" : "=a"(answer) : "a"(number), "D"(a), "S"(b), "d"(c), "r"(fourth), "r"(fifth)
+    register long fourth __asm__("r10") = d, fifth __asm__("r8") = e, sixth __asm__("r9") = 0;
+    __asm__ volatile("syscall" : "=a"(answer) : "a"(number), "D"(a), "S"(b), "d"(c), "r"(fourth), "r"(fifth), "r"(sixth)
                      : "rcx", "r11", "memory");
     return answer;
 }
 #else
 enum { GETCWD = 17, UNLINKAT = 35, FTRUNCATE = 46, FCHMOD = 52, FCHOWN = 55, OPENAT = 56, CLOSE = 57, GETDENTS = 61,
        READ = 63, WRITE = 64, READLINKAT = 78, FSTATAT = 79, FSTAT = 80, EXIT = 94, SIGACTION = 134, BRK = 214,
-       STATX = 291 };
+       MUNMAP = 215, MREMAP = 216, MMAP = 222, STATX = 291 };
 #if defined __aarch64__
 enum { RENAME = 38 };
 __asm__(".globl _start\n_start: mov x29, #0\n mov x30, #0\n mov x0, sp\n bl begin");
-#define REGISTERS "x0", "x1", "x2", "x3", "x4", "x8", "svc 0"
+#define REGISTERS "x0", "x1", "x2", "x3", "x4", "x5", "x8", "svc 0"
 #else
 enum { RENAME = 276 }; /* renameat2, whose flags are 0 */
 __asm__(".globl _start\n_start: mv a0, sp\n andi sp, sp, -16\n call begin");
-#define REGISTERS "a0", "a1", "a2", "a3", "a4", "a7", "ecall"
+#define REGISTERS "a0", "a1", "a2", "a3", "a4", "a5", "a7", "ecall"
 #endif
-#define CALL(R0, R1, R2, R3, R4, NUMBER, TRAP)                                                                        \
+#define CALL(R0, R1, R2, R3, R4, R5, NUMBER, TRAP)                                                                    \
     register long r0 __asm__(R0) = a, r1 __asm__(R1) = b, r2 __asm__(R2) = c, r3 __asm__(R3) = d, r4 __asm__(R4) = e; \
-    register long called __asm__(NUMBER) = number;                                                                    \
-    __asm__ volatile(TRAP : "+r"(r0) : "r"(r1), "r"(r2), "r"(r3), "r"(r4), "r"(called) : "memory");                   \
+    register long r5 __asm__(R5) = 0, called __asm__(NUMBER) = number;                                                \
+    __asm__ volatile(TRAP : "+r"(r0) : "r"(r1), "r"(r2), "r"(r3), "r"(r4), "r"(r5), "r"(called) : "memory");          \
     return r0
 #define WITH(...) CALL(__VA_ARGS__)
 static long call(long number, long a, long b, long c, long d, long e) { WITH(REGISTERS); }
@@ -205,6 +207,20 @@ static int reach(uintptr_t to) {
     return call(BRK, least, 0, 0, 0, 0) == (long)least && (has = least) != 0;
 }
 
+static void *map_new(size_t bytes) {
+    enum { TO_READ_AND_WRITE = 3, OWN_WITHOUT_FILE = 0x22 };
+    long answer = call(MMAP, 0, bytes, TO_READ_AND_WRITE, OWN_WITHOUT_FILE, -1);
+    return answer < 0 && answer > -4096 ? NULL : (void *)answer;
+}
+
+static void *map_grown(void *place, size_t bytes, size_t wanted) {
+    enum { MAY_MOVE = 1 };
+    long answer = call(MREMAP, (long)place, bytes, wanted, MAY_MOVE, 0);
+    return answer < 0 && answer > -4096 ? NULL : (void *)answer;
+}
+
+static void map_back(void *place, size_t bytes) { call(MUNMAP, (long)place, bytes, 0, 0, 0); }
+
 static char **environment;
 
 ptrdiff_t rattle_env(const char *name, uint8_t *to, size_t size) {
@@ -218,33 +234,76 @@ ptrdiff_t rattle_env(const char *name, uint8_t *to, size_t size) {
 
 /* The functions that clang calls for copies, whose bodies it mustn't take for calls of themselves. */
 #define PLAIN __attribute__((no_builtin, used))
+typedef struct { uint64_t is; } __attribute__((packed, may_alias)) word;
+typedef struct { uint32_t is; } __attribute__((packed, may_alias)) half;
+typedef long pair __attribute__((vector_size(16), aligned(1), may_alias));
+
+/* Copies up to 16 bytes, which may overlap: all are read before any is written. */
+static void copy_few(uint8_t *to, const uint8_t *from, size_t size) {
+    if (size >= 8) {
+        uint64_t first = ((const word *)from)->is, last = ((const word *)(from + size - 8))->is;
+        ((word *)to)->is = first, ((word *)(to + size - 8))->is = last;
+    } else if (size >= 4) {
+        uint32_t first = ((const half *)from)->is, last = ((const half *)(from + size - 4))->is;
+        ((half *)to)->is = first, ((half *)(to + size - 4))->is = last;
+    } else if (size) {
+        uint8_t first = from[0], middle = from[size / 2], last = from[size - 1];
+        to[0] = first, to[size / 2] = middle, to[size - 1] = last;
+    }
+}
 PLAIN void *memcpy(void *to, const void *from, size_t size) {
+    uint8_t *at = to;
+    const uint8_t *of = from;
+    if (size <= 16) {
+        copy_few(at, of, size);
+        return to;
+    }
 #if defined __x86_64__
-    void *start = to;
-    __asm__ volatile("rep movsb" : "+D"(to), "+S"(from), "+c"(size) : : "memory");
-    return start;
-#else
-    typedef struct { long word; } __attribute__((packed, may_alias)) word;
-    size_t i = 0;
-    for (; i + 8 <= size; i += 8) *(word *)((uint8_t *)to + i) = *(const word *)((const uint8_t *)from + i);
-    for (; i < size; i++) ((uint8_t *)to)[i] = ((const uint8_t *)from)[i];
-    return to;
+    if (size > 1024) {
+        void *rest = to;
+        __asm__ volatile("rep movsb" : "+D"(rest), "+S"(of), "+c"(size) : : "memory");
+        return to;
+    }
 #endif
+    pair last = *(const pair *)(of + size - 16);
+    for (size_t i = 0; i + 16 < size; i += 16) *(pair *)(at + i) = *(const pair *)(of + i);
+    *(pair *)(at + size - 16) = last;
+    return to;
 }
 /* Where `to` lies before `from`, or behind all of it, copying from the front is right. */
 PLAIN void *memmove(void *to, const void *from, size_t size) {
-    if ((uintptr_t)to - (uintptr_t)from >= size) return memcpy(to, from, size);
-    while (size--) ((uint8_t *)to)[size] = ((const uint8_t *)from)[size];
+    uint8_t *at = to;
+    const uint8_t *of = from;
+    if (size <= 16) copy_few(at, of, size);
+    else if ((uintptr_t)to - (uintptr_t)from >= size && (uintptr_t)from - (uintptr_t)to >= size) memcpy(to, from, size);
+    else if (to < from) {
+        pair last = *(const pair *)(of + size - 16);
+        for (size_t i = 0; i + 16 < size; i += 16) *(pair *)(at + i) = *(const pair *)(of + i);
+        *(pair *)(at + size - 16) = last;
+    } else {
+        pair first = *(const pair *)of;
+        for (size_t i = size; i > 16; i -= 16) *(pair *)(at + i - 16) = *(const pair *)(of + i - 16);
+        *(pair *)at = first;
+    }
     return to;
 }
 PLAIN void *memset(void *to, int value, size_t size) {
-    for (size_t i = 0; i < size; i++) ((uint8_t *)to)[i] = value;
+    uint8_t *at = to;
+#if defined __x86_64__
+    if (size > 1024) {
+        void *rest = to;
+        __asm__ volatile("rep stosb" : "+D"(rest), "+c"(size) : "a"(value) : "memory");
+        return to;
+    }
+#endif
+    for (size_t i = 0; i < size; i++) at[i] = value;
     return to;
 }
 PLAIN int memcmp(const void *one, const void *other, size_t size) {
+    const uint8_t *a = one, *b = other;
+    while (size >= 8 && ((const word *)a)->is == ((const word *)b)->is) a += 8, b += 8, size -= 8;
     for (size_t i = 0; i < size; i++)
-        if (((const uint8_t *)one)[i] != ((const uint8_t *)other)[i])
-            return ((const uint8_t *)one)[i] - ((const uint8_t *)other)[i];
+        if (a[i] != b[i]) return a[i] - b[i];
     return 0;
 }
 
