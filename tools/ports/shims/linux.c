@@ -7,8 +7,8 @@
    a sixth word of it is 0. */
 #if defined __x86_64__
 enum { READ = 0, WRITE = 1, CLOSE = 3, FSTAT = 5, MMAP = 9, MUNMAP = 11, BRK = 12, SIGACTION = 13, MREMAP = 25,
-       FTRUNCATE = 77, GETCWD = 79, FCHMOD = 91, FCHOWN = 93, GETDENTS = 217, EXIT = 231, OPENAT = 257, FSTATAT = 262, UNLINKAT = 263, RENAME = 264,
-       READLINKAT = 267, STATX = 332 };
+       MADVISE = 28, FTRUNCATE = 77, GETCWD = 79, FCHMOD = 91, FCHOWN = 93, GETDENTS = 217, EXIT = 231, OPENAT = 257,
+       FSTATAT = 262, UNLINKAT = 263, RENAME = 264, READLINKAT = 267, STATX = 332 };
 __asm__(".globl _start\n_start: xor %ebp, %ebp\n mov %rsp, %rdi\n and $-16, %rsp\n call begin");
 static long call(long number, long a, long b, long c, long d, long e) {
     long answer;
@@ -20,7 +20,7 @@ static long call(long number, long a, long b, long c, long d, long e) {
 #else
 enum { GETCWD = 17, UNLINKAT = 35, FTRUNCATE = 46, FCHMOD = 52, FCHOWN = 55, OPENAT = 56, CLOSE = 57, GETDENTS = 61,
        READ = 63, WRITE = 64, READLINKAT = 78, FSTATAT = 79, FSTAT = 80, EXIT = 94, SIGACTION = 134, BRK = 214,
-       MUNMAP = 215, MREMAP = 216, MMAP = 222, STATX = 291 };
+       MUNMAP = 215, MREMAP = 216, MMAP = 222, MADVISE = 233, STATX = 291 };
 #if defined __aarch64__
 enum { RENAME = 38 };
 __asm__(".globl _start\n_start: mov x29, #0\n mov x30, #0\n mov x0, sp\n bl begin");
@@ -197,26 +197,44 @@ char *port_realpath(const char *path, char *to) {
     return to;
 }
 
+/* Asks that the pages of memory come many at once, of which so many bytes at its front were there before: each that is
+   touched for the first time by itself costs a fault. Of little memory all come now (Linux 5.14 and later), of more
+   those that are touched come by 2 MB where the kernel can. Answers the memory. */
+static void *with_pages(uintptr_t place, size_t before, size_t bytes) {
+    enum { LARGE = 14, POPULATE = 23, LITTLE = 1 << 21 };
+    if (bytes < LITTLE) call(MADVISE, place + before, bytes - before, POPULATE, 0, 0);
+    else call(MADVISE, place, bytes, LARGE, 0, 0);
+    return (void *)place;
+}
+
+/* Whether a call of the kernel answers an address and no error. */
+static int is_address(long answer) { return answer >= 0 || answer < -4095; }
+
 /* Up to where the kernel gave memory. */
 static uintptr_t has;
 
 static int reach(uintptr_t to) {
+    enum { MORE = 1 << 19, PAGE = 1 << 12 };
     if (to <= has) return 1;
-    uintptr_t wanted = to + (1 << 20), least = to;
-    if (call(BRK, wanted, 0, 0, 0, 0) == (long)wanted) return (has = wanted) != 0;
+    uintptr_t wanted = (to + MORE) & -(uintptr_t)MORE, least = to;
+    if (call(BRK, wanted, 0, 0, 0, 0) == (long)wanted) {
+        uintptr_t from = (has + PAGE - 1) & -(uintptr_t)PAGE;
+        with_pages(from, 0, wanted - from);
+        return (has = wanted) != 0;
+    }
     return call(BRK, least, 0, 0, 0, 0) == (long)least && (has = least) != 0;
 }
 
 static void *map_new(size_t bytes) {
     enum { TO_READ_AND_WRITE = 3, OWN_WITHOUT_FILE = 0x22 };
     long answer = call(MMAP, 0, bytes, TO_READ_AND_WRITE, OWN_WITHOUT_FILE, -1);
-    return answer < 0 && answer > -4096 ? NULL : (void *)answer;
+    return is_address(answer) ? with_pages(answer, 0, bytes) : NULL;
 }
 
 static void *map_grown(void *place, size_t bytes, size_t wanted) {
     enum { MAY_MOVE = 1 };
     long answer = call(MREMAP, (long)place, bytes, wanted, MAY_MOVE, 0);
-    return answer < 0 && answer > -4096 ? NULL : (void *)answer;
+    return is_address(answer) ? with_pages(answer, bytes, wanted) : NULL;
 }
 
 static void map_back(void *place, size_t bytes) { call(MUNMAP, (long)place, bytes, 0, 0, 0); }

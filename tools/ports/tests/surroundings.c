@@ -49,25 +49,46 @@ static int32_t blocks(void) {
 
 /* What is given back is handed out again, so that memory doesn't grow; the last block grows in its place. */
 static int32_t again(void) {
-    void *kept = malloc((1 << 20) - 1000);
+    void *kept = malloc(MAPPED - 1000);
     free(kept);
-    kept = malloc(1 << 20);
+    kept = malloc(MAPPED - 1);
     free(kept);
     uintptr_t before = end;
     for (size_t i = 0; i < 10000; i++) {
-        void *place = malloc((1 << 20) - i % 1000);
+        void *place = malloc(MAPPED - 1 - i % 1000);
         CHECK(place);
         free(place);
     }
     CHECK(end == before);
-    free(NULL);
-    uint8_t *last = malloc(3 << 20), *same = last;
+    void *one = malloc(MAPPED - 1), *other = malloc(MAPPED - 1);
+    CHECK(one != other);
+    free(one), free(other), free(NULL);
+    uint8_t *last = malloc(60000), *same = last;
     *last = 7;
-    for (size_t size = 3 << 20; size < 1 << 26; size += 5 << 20) {
+    for (size_t size = 60000; size < MAPPED; size += 5000) {
         same = realloc(same, size);
         CHECK(same == last && *same == 7);
     }
     free(last);
+    return 0;
+}
+
+/* A block that is mapped by itself keeps its bytes as it grows, may be any length, and is given back to the kernel. */
+static int32_t mapped_blocks(void) {
+    uint8_t *place = malloc(MAPPED - 1000);
+    CHECK(place);
+    memset(place, 7, MAPPED - 1000);
+    for (size_t size = MAPPED - 1000, more; size < 1 << 26; size = more) {
+        more = size + size / 2;
+        place = realloc(place, more);
+        CHECK(place && (uintptr_t)place % 16 == 0 && has_bytes(place, 7, size));
+        memset(place + size, 7, more - size);
+    }
+    enum { BAD_ADDRESS = 14 };
+    long head = (long)((block *)place - 1);
+    CHECK(call(OPENAT, HERE, head, 0, 0, 0) == -NOT_THERE);
+    free(place);
+    CHECK(call(OPENAT, HERE, head, 0, 0, 0) == -BAD_ADDRESS);
     return 0;
 }
 
@@ -111,5 +132,5 @@ int32_t program(void) {
         if (port_realpath(args[1], found)) return print(found), 0;
         return say(error);
     }
-    return blocks() || again() || large() || copies();
+    return blocks() || again() || mapped_blocks() || large() || copies();
 }
