@@ -34,14 +34,37 @@ FROM_DLL(uint32_t) GetConsoleOutputCP(void);
 FROM_DLL(int32_t) SetConsoleOutputCP(uint32_t);
 FROM_DLL(void) ExitProcess(uint32_t);
 FROM_DLL(int32_t) __wgetmainargs(int32_t *, unit ***, unit ***, int32_t expands, int32_t *);
-FROM_DLL(void *) malloc(size_t);
-FROM_DLL(void) free(void *);
+FROM_DLL(void *) VirtualAlloc(void *, size_t, uint32_t what, uint32_t access);
 
 enum { UTF8 = 65001, STRICT_TO_UTF16 = 8, STRICT_TO_UTF8 = 0x80 };
 enum { NO_ATTRIBUTES = 0xFFFFFFFF, IS_READ_ONLY = 1, HAS_FILES = 0x10, IS_POINT = 0x400 };
 enum { OPENS_FOLDERS = 0x02000000, OPENS_POINTS = 0x00200000, FOR_ALL = 7, PLAIN = 0x80, AS_IT_IS = 3 };
 enum { DISK = 1, CHARACTERS = 2, PIPE = 3 };
+enum { HAVE = 0x1000, KEEP = 0x2000, TO_READ_AND_WRITE = 4 };
 #define NO_HANDLE ((handle)-1)
+
+#include "heap.h"
+
+/* Up to where the heap has memory, and up to where addresses are kept for it. */
+static uintptr_t has, kept;
+
+static int reach(uintptr_t to) {
+    enum { STEP = 1 << 20 };
+    if (to <= has) return 1;
+    if (to > kept) return 0;
+    size_t more = (to - has + STEP - 1) & -(size_t)STEP;
+    if (!VirtualAlloc((void *)has, more, HAVE, TO_READ_AND_WRITE)) return 0;
+    has += more;
+    return 1;
+}
+
+/* Keeps as many addresses for the heap as can be had, at most 256 GB, none of which has memory yet. */
+static void keep_addresses(void) {
+    for (size_t size = (size_t)1 << 38; !end && size >= 1 << 28; size /= 2) {
+        end = has = (uintptr_t)VirtualAlloc(NULL, size, KEEP, TO_READ_AND_WRITE);
+        kept = end + size;
+    }
+}
 
 /* Keeps the error of Linux for the last one of Windows, and answers that there is one. */
 static int32_t failed_in_windows(void) {
@@ -272,6 +295,7 @@ __asm__(".globl ___chkstk_ms\n___chkstk_ms: push %rcx\n push %rax\n lea 24(%rsp)
 void begin(void) {
     int32_t count = 0, new_mode = 0;
     unit **words = NULL, **environment;
+    keep_addresses();
     __wgetmainargs(&count, &words, &environment, 1, &new_mode);
     args = malloc(count * sizeof *args);
     if (!args) ExitProcess(3);
