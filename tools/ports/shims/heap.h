@@ -1,6 +1,7 @@
-/* malloc, free and realloc for a program of one thread, where there is no C library. Memory comes in blocks of 4, 5, 6
-   or 7 times a power of two bytes, of which the first 16 say which kind it is; those that were given back are kept by
-   kind. A block is made at the end of what was handed out before, or one of its kind is taken that was given back. */
+/* malloc, free and realloc for a program of one thread, where there is no C library. Memory comes in blocks with room
+   for 4, 5, 6 or 7 times a power of two bytes, in front of which 16 bytes say which kind it is; those that were given
+   back are kept by kind. A block is made at the end of what was handed out before, or one of its kind is taken that was
+   given back. The last one is given back to that end. */
 
 /* Makes sure that there is memory up to this address, and answers whether there is. */
 static int reach(uintptr_t end);
@@ -14,35 +15,35 @@ static void map_back(void *place, size_t bytes);
 #endif
 
 typedef struct block {
-    size_t kind; /* or the bytes of a mapped block, which are a multiple of MAPPED */
+    size_t kind; /* or the bytes of a mapped block */
     struct block *next; /* of those that were given back */
 } block;
 
-enum { LEAST_KIND = 12, KINDS = 4 * 48, MAPPED = 1 << 17 };
+/* blocks with more room than MAPPED are mapped by themselves, in multiples of PIECE */
+enum { LEAST_KIND = 8, KINDS = 4 * 48, MAPPED = 1 << 17, PIECE = 1 << 16 };
 #define MOST_BYTES ((size_t)1 << 46)
 
 static uintptr_t end; /* of what was handed out, a multiple of 16 */
 static block *given_back[KINDS];
 
-static size_t bytes_of(size_t kind) { return (4 + kind % 4) << kind / 4; }
+static size_t room_of(size_t kind) { return (4 + kind % 4) << kind / 4; }
 
-/* The least kind of block in which so many bytes fit behind its head: the one above the greatest that is as long as
-   they are without the last. */
+/* The least kind of block that has room for so many bytes: the one above the greatest that has just room for one less
+   at most. */
 static size_t kind_for(size_t size) {
-    size_t last = size + sizeof(block) - 1;
-    if (last < bytes_of(LEAST_KIND)) return LEAST_KIND;
-    size_t shift = 61 - __builtin_clzll(last);
-    return 4 * shift + (last >> shift) - 3;
+    if (size <= room_of(LEAST_KIND)) return LEAST_KIND;
+    size_t shift = 61 - __builtin_clzll(size - 1);
+    return 4 * shift + ((size - 1) >> shift) - 3;
 }
 
 /* Where a block of a kind ends that begins here. */
 static uintptr_t end_of(const block *place, size_t kind) {
-    return ((uintptr_t)place + bytes_of(kind) + 15) & ~(uintptr_t)15;
+    return ((uintptr_t)(place + 1) + room_of(kind) + 15) & ~(uintptr_t)15;
 }
 
 #ifdef HAS_MAPS
 /* A block is mapped by itself from this size on, so that its pages are moved where it grows, and given back whole. */
-static size_t mapped_bytes(size_t size) { return (size + sizeof(block) + MAPPED - 1) & ~(size_t)(MAPPED - 1); }
+static size_t mapped_bytes(size_t size) { return (size + sizeof(block) + PIECE - 1) & ~(size_t)(PIECE - 1); }
 
 static int is_mapped(const block *place) { return place->kind >= MAPPED; }
 
@@ -57,7 +58,7 @@ static void *mapped(block *place, size_t bytes) {
 void *malloc(size_t size) {
     if (size > MOST_BYTES) return NULL;
 #ifdef HAS_MAPS
-    if (size >= MAPPED) return mapped(map_new(mapped_bytes(size)), mapped_bytes(size));
+    if (size > MAPPED) return mapped(map_new(mapped_bytes(size)), mapped_bytes(size));
 #endif
     size_t kind = kind_for(size);
     block *found = given_back[kind];
@@ -82,8 +83,25 @@ void free(void *place) {
         return;
     }
 #endif
+    if (end_of(old, old->kind) == end) {
+        end = (uintptr_t)old;
+        return;
+    }
     old->next = given_back[old->kind];
     given_back[old->kind] = old;
+}
+
+/* Whether the last block can grow to this size where it stands, and does: where a block of that kind was given back,
+   that is taken. */
+static int grows_in_place(block *old, size_t size) {
+#ifdef HAS_MAPS
+    if (size > MAPPED) return 0;
+#endif
+    size_t kind = kind_for(size);
+    if (given_back[kind] || end_of(old, old->kind) != end || !reach(end_of(old, kind))) return 0;
+    end = end_of(old, kind);
+    old->kind = kind;
+    return 1;
 }
 
 /* The same bytes with room for so many, where they stand if that can be; NULL, and all as it was, where there is no
@@ -97,20 +115,8 @@ void *realloc(void *place, size_t size) {
         return bytes <= old->kind ? place : mapped(map_grown(old, old->kind, bytes), bytes);
     }
 #endif
-    size_t room = bytes_of(old->kind) - sizeof(block);
-    if (size <= room) return place;
-#ifdef HAS_MAPS
-    int stays = size < MAPPED;
-#else
-    int stays = 1;
-#endif
-    if (stays && end_of(old, old->kind) == end) { /* it is the last one */
-        size_t kind = kind_for(size);
-        if (!reach(end_of(old, kind))) return NULL;
-        end = end_of(old, kind);
-        old->kind = kind;
-        return place;
-    }
+    size_t room = room_of(old->kind);
+    if (size <= room || grows_in_place(old, size)) return place;
     void *to = malloc(size);
     if (!to) return NULL;
     __builtin_memcpy(to, place, room);

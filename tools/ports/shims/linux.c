@@ -306,7 +306,16 @@ PLAIN void *memmove(void *to, const void *from, size_t size) {
     return to;
 }
 PLAIN void *memset(void *to, int value, size_t size) {
-    uint8_t *at = to;
+    uint8_t *at = to, byte = value;
+    if (size < 4) { /* most are */
+        if (size) at[0] = byte, at[size / 2] = byte, at[size - 1] = byte;
+        return to;
+    }
+    uint64_t filled = byte * 0x0101010101010101u;
+    if (size < 8) {
+        ((half *)at)->is = filled, ((half *)(at + size - 4))->is = filled;
+        return to;
+    }
 #if defined __x86_64__
     if (size > 1024) {
         void *rest = to;
@@ -314,7 +323,8 @@ PLAIN void *memset(void *to, int value, size_t size) {
         return to;
     }
 #endif
-    for (size_t i = 0; i < size; i++) at[i] = value;
+    for (size_t i = 0; i + 8 < size; i += 8) ((word *)(at + i))->is = filled;
+    ((word *)(at + size - 8))->is = filled;
     return to;
 }
 PLAIN int memcmp(const void *one, const void *other, size_t size) {

@@ -58,9 +58,9 @@ static int reach(uintptr_t to) {
     return 1;
 }
 
-/* Keeps as many addresses for the heap as can be had, at most 256 GB, none of which has memory yet. */
+/* Keeps as many addresses for the heap as can be had, at most 16 GB, none of which has memory yet. */
 static void keep_addresses(void) {
-    for (size_t size = (size_t)1 << 38; !end && size >= 1 << 28; size /= 2) {
+    for (size_t size = (size_t)1 << 34; !end && size >= 1 << 28; size /= 2) {
         end = has = (uintptr_t)VirtualAlloc(NULL, size, KEEP, TO_READ_AND_WRITE);
         kept = end + size;
     }

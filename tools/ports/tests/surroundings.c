@@ -47,29 +47,53 @@ static int32_t blocks(void) {
     return 0;
 }
 
-/* What is given back is handed out again, so that memory doesn't grow; the last block grows in its place. */
+/* What is given back is handed out again, so that memory doesn't grow, each block once; the last one grows in its
+   place, and where it is given back, what is handed out ends before it. */
 static int32_t again(void) {
-    void *kept = malloc(MAPPED - 1000);
-    free(kept);
-    kept = malloc(MAPPED - 1);
-    free(kept);
+    void *first = malloc(MAPPED - 1000), *kept = malloc(5000), *last = malloc(MAPPED), *same = last;
+    CHECK(first && kept && last);
     uintptr_t before = end;
-    for (size_t i = 0; i < 10000; i++) {
-        void *place = malloc(MAPPED - 1 - i % 1000);
-        CHECK(place);
-        free(place);
-    }
-    CHECK(end == before);
-    void *one = malloc(MAPPED - 1), *other = malloc(MAPPED - 1);
-    CHECK(one != other);
-    free(one), free(other), free(NULL);
-    uint8_t *last = malloc(60000), *same = last;
-    *last = 7;
-    for (size_t size = 60000; size < MAPPED; size += 5000) {
-        same = realloc(same, size);
-        CHECK(same == last && *same == 7);
+    for (size_t i = 0; i < 1000; i++) {
+        free(first);
+        void *other = malloc(5000);
+        first = malloc(MAPPED - i);
+        CHECK(first && other && first != other && first != last);
+        free(other);
     }
     free(last);
+    CHECK(end < before);
+    before = end;
+    last = same = malloc(60000);
+    *(uint8_t *)last = 7;
+    for (size_t size = 60000; size < MAPPED; size += 5000) {
+        same = realloc(same, size);
+        CHECK(same == last && *(uint8_t *)same == 7);
+    }
+    free(last);
+    CHECK(end == before);
+    free(first), free(kept), free(NULL);
+    return 0;
+}
+
+/* Vectors that grow one behind the other, each second of which is given back when the next has grown, take no more
+   memory than what is kept and a few of them. */
+static int32_t vectors(void) {
+    enum { COUNT = 200, GROWN = 24576 };
+    static uint8_t *places[COUNT];
+    uintptr_t before = end;
+    for (size_t i = 0; i < COUNT; i++) {
+        for (size_t size = 96; size <= GROWN; size *= 2) {
+            places[i] = size == 96 ? malloc(size) : realloc(places[i], size);
+            CHECK(places[i]);
+            memset(places[i] + size / 2, i, size / 2);
+        }
+        if (i % 2) free(places[i - 1]);
+    }
+    CHECK(end - before < (COUNT / 2 + 5) * GROWN);
+    for (size_t i = 1; i < COUNT; i += 2) {
+        CHECK(has_bytes(places[i] + 48, i, GROWN - 48));
+        free(places[i]);
+    }
     return 0;
 }
 
@@ -132,5 +156,5 @@ int32_t program(void) {
         if (port_realpath(args[1], found)) return print(found), 0;
         return say(error);
     }
-    return blocks() || again() || mapped_blocks() || large() || copies();
+    return blocks() || again() || vectors() || mapped_blocks() || large() || copies();
 }
