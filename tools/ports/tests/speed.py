@@ -10,7 +10,7 @@ import cases
 sys.path.insert(0, str(cases.TOP / "bench"))
 import generate  # noqa: E402
 
-TIMES = 8  # runs, of which the shortest counts
+TIMES = 12  # runs, of which the shortest counts
 LINKS = [  # a title, the program, what makes its inputs, and how many
     ("2,001 modules", "omf", generate.calling_modules, 2001),
     ("200,000 fix-ups", "omf", generate.fixups_to_names, 200_000),
@@ -21,15 +21,21 @@ LINKS = [  # a title, the program, what makes its inputs, and how many
 
 
 def seconds(words, folder):
-    """The least processor time of some runs, that of the system for them included."""
-    least = float("inf")
+    """The processor time of a run, that of the system for it included."""
+    child = subprocess.Popen(words, cwd=folder, stdout=subprocess.DEVNULL, stderr=subprocess.DEVNULL)
+    _, status, used = os.wait4(child.pid, 0)
+    child.returncode = os.waitstatus_to_exitcode(status)
+    if child.returncode != 0:
+        sys.exit(f"speed: {words[0]} ended with status {child.returncode}")
+    return used.ru_utime + used.ru_stime
+
+
+def least_seconds(commands, folder):
+    """The least of some runs of each command, by their titles. They take turns, since a machine is slower at times."""
+    least = dict.fromkeys(commands, float("inf"))
     for _ in range(TIMES):
-        child = subprocess.Popen(words, cwd=folder, stdout=subprocess.DEVNULL, stderr=subprocess.DEVNULL)
-        _, status, used = os.wait4(child.pid, 0)
-        child.returncode = os.waitstatus_to_exitcode(status)
-        if child.returncode != 0:
-            sys.exit(f"speed: {words[0]} ended with status {child.returncode}")
-        least = min(least, used.ru_utime + used.ru_stime)
+        for title, words in commands.items():
+            least[title] = min(least[title], seconds(words, folder))
     return least
 
 
@@ -51,17 +57,15 @@ def table(folders, room):
     for title, name, make, count in LINKS:
         folder = Path(room) / title.replace(" ", "-")
         words = put_inputs(make, count, folder)
-        cells, first = [], None
-        for port, programs in folders.items():
-            if not (programs / name).exists():
-                cells.append("")
-                continue
-            if (port, name) not in starts:
-                starts[port, name] = seconds([programs / name, "--version"], folder)
-            link = ["link"] if name == "omf" else []
-            took = seconds([programs / name, *link, "-o", "out", *words], folder) - starts[port, name]
-            first = first or took
-            cells.append(f"{took:.3f} ({took / first:.2f})")
+        there = {port: programs / name for port, programs in folders.items() if (programs / name).exists()}
+        if name not in starts:
+            starts[name] = least_seconds({port: [program, "--version"] for port, program in there.items()}, folder)
+        link = ["link"] if name == "omf" else []
+        took = least_seconds(
+            {port: [program, *link, "-o", "out", *words] for port, program in there.items()}, folder)
+        net = {port: took[port] - starts[name][port] for port in there}
+        first = net[next(iter(there))]
+        cells = [f"{net[port]:.3f} ({net[port] / first:.2f})" if port in net else "" for port in folders]
         print(f"| {name}: {title} | {' | '.join(cells)} |", flush=True)
-    cells = [f"{starts[port, 'omf']:.3f}" if (port, "omf") in starts else "" for port in folders]
+    cells = [f"{starts['omf'][port]:.3f}" if port in starts["omf"] else "" for port in folders]
     print(f"| its start, which isn't in the rows above | {' | '.join(cells)} |")
