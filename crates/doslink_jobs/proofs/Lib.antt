@@ -24,4 +24,5 @@ pub mod Spoken
 mod Splitting
 mod Warning
 pub mod Stacked
+pub mod Starting
 pub mod Texts

@@ -1,6 +1,6 @@
 -- Modules that are lowered, one behind the other.
 use Rattle.std.proofs.Common.{◌≡◌, ℕ, ◌+◌, ◌<◌, List, [], ◌∷◌, ◌++◌, length, map, take, get_or, All, Some, None, Result}
-use Rattle.std.proofs.Common.{Ok, Any, IsErr, inl, inr}
+use Rattle.std.proofs.Common.{Ok, Any, IsErr, inl, inr, zip}
 use Rattle.std.proofs.Common.{sym, subst, ap, ap₂, ◌∙◌, Vec}
 use Rattle.std.proofs.lemmas.List.{map-append, take_more}
 use Rattle.std.specs.declared.option.Option.{Option}
@@ -18,6 +18,7 @@ use Rattle.doslink_stock.specs.Seen.{handed_held}
 use Rattle.doslink_jobs.specs.declared.lowering.LoweredModule.{LoweredModule}
 use Rattle.doslink_jobs.specs.Aliases.{EndsIn, link_aliases, module_renaming}
 use Rattle.doslink_jobs.specs.Jobs.{AreLowered, AreLoweredFor, lowering_of, names_of}
+use Rattle.doslink_jobs.specs.Names.{started}
 use Rattle.doslink_jobs.specs.Refusals.{IsNotLowered}
 use Rattle.doslink_jobs.specs.inside.Inputs.{lowered_bytes}
 
@@ -51,18 +52,21 @@ lowered-next {A} lowering means handed i d old new one h are is pushed =
     ∙ sym (ap (map Ok) back)
 
 -- the modules are lowered as the job asks for
-pub lowered-for : (job : Job) (says : List Module) (modules inputs : List (List ℕ)) (lowering : Lowering)
+pub lowered-for : (job : Job) (says : List Module) (modules lowered inputs : List (List ℕ)) (lowering : Lowering)
     (names : Names) (aliases : List Alias) → lowering ≡ lowering_of job → names ≡ names_of job.ignore_case
     → aliases ≡ link_aliases modules → All (EndsIn names says aliases) modules
-    → AreLowered lowering (module_renaming names says aliases) modules inputs → AreLoweredFor job says modules inputs
-lowered-for job says modules inputs lowering names aliases is agreed gathered ends are =
+    → AreLowered lowering (module_renaming names says aliases) modules lowered
+    → inputs ≡ map (started job) (zip modules lowered) → AreLoweredFor job says modules inputs
+lowered-for job says modules lowered inputs lowering names aliases is agreed gathered ends are starts =
     let moved : (P : Names → List Alias → Type 0) → P names aliases
     → P (names_of job.ignore_case) (link_aliases modules) =
     λ P p. subst (P (names_of job.ignore_case)) gathered (subst (λ n. P n aliases) agreed p) in
     record {
+      lowered = lowered;
       end = moved (λ n a. All (EndsIn n says a) modules) ends;
-      are_lowered = moved (λ n a. AreLowered (lowering_of job) (module_renaming n says a) modules inputs)
-          (subst (λ l. AreLowered l (module_renaming names says aliases) modules inputs) is are);
+      are_lowered = moved (λ n a. AreLowered (lowering_of job) (module_renaming n says a) modules lowered)
+          (subst (λ l. AreLowered l (module_renaming names says aliases) modules lowered) is are);
+      are_started = starts;
     }
 
 -- a module can't be lowered as the job asks for

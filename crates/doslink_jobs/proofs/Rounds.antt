@@ -16,11 +16,10 @@ use Rattle.doslink_stock.specs.declared.searching.Handed.{Handed}
 use Rattle.doslink_stock.specs.Search.{TakenFor, all_files}
 use Rattle.doslink_stock.specs.Seen.{handed_held, handed_taken}
 use Rattle.doslink_jobs.specs.declared.gathering.DefaultLibrary.{DefaultLibrary}
-use Rattle.doslink_files.specs.Files.{AreSought}
 use Rattle.doslink_words.specs.declared.job.Job.{Job}
 use Rattle.doslink_words.specs.Tokens.{texts}
 use Rattle.doslink_jobs.specs.Jobs.{AreDefaults, AreFilesOf, AreRounds, IsAskedBy, IsNamedBy, is_left_out, names_of}
-use Rattle.doslink_jobs.specs.Jobs.{sought_of}
+use Rattle.doslink_jobs.specs.Jobs.{AreGiven}
 use Rattle.doslink_jobs.specs.Refusals.{HasFaultyLibrary}
 use Rattle.doslink_jobs.specs.inside.Gathering.{AreAsked, AreNamed}
 use Rattle.doslink_jobs.proofs.Lists.{map-map}
@@ -109,7 +108,7 @@ handed-all handed = map-map handed_taken (λ t. t.held) handed
 
 -- the files of a job that asks for no default libraries
 pub files-none : (told : Text → Option (List ℕ)) (folders : List Text) (job : Job) (given : List (List ℕ))
-    → AreSought told (texts job.folders.items) (map sought_of job.inputs.items) given
+    → AreGiven told job given
     → AreFilesOf told folders job (given ∷ [])
 files-none told folders job given sought = record {
   given = given;
@@ -124,7 +123,7 @@ files-none told folders job given sought = record {
 pub files-found : (told : Text → Option (List ℕ)) (folders all : List Text) (job : Job) (names : Names)
     (given : List (List ℕ)) (more : List (List (List ℕ))) → all ≡ texts job.folders.items ++ folders
     → names ≡ names_of job.ignore_case → (job.default_libraries ≡ false → ⊥)
-    → AreSought told (texts job.folders.items) (map sought_of job.inputs.items) given
+    → AreGiven told job given
     → AreRounds told all (texts job.left_out.items) names (given ∷ []) more → AreFilesOf told folders job (given ∷ more)
 files-found told folders all job names given more folded same on sought are = record {
   given = given;

@@ -1,7 +1,7 @@
 -- What a job has done where it ends well, and how a run ends. `told` are the bytes of files by their paths, where the
 -- world tells them.
 use Rattle.std.specs.Prelude.{◌≡◌, ◌⊎◌, ◌-◌, ℕ, Bool, false, All, List, [], ◌∷◌, ◌++◌, codes, drop, length, map, take}
-use Rattle.std.specs.Prelude.{Ok}
+use Rattle.std.specs.Prelude.{Ok, zip}
 use Rattle.std.specs.Prelude.{if◌then◌else◌}
 use Rattle.std.specs.declared.option.Option.{Option}
 use Rattle.std.specs.declared.result.Result.{Result}
@@ -32,6 +32,7 @@ use Rattle.doslink_jobs.specs.Communals.{AreVariablesOf}
 use Rattle.doslink_jobs.specs.Joined.{AreJoined}
 use Rattle.doslink_jobs.specs.Locals.{HaveLocals}
 use Rattle.doslink_jobs.specs.Meant.{AreMeant, Taking}
+use Rattle.doslink_jobs.specs.Names.{names_files, started}
 use Rattle.doslink_jobs.specs.Orders.{Asking}
 use Rattle.doslink_jobs.specs.Overflow.{HaveOverflow, NarrowFixups, NarrowStart}
 use Rattle.doslink_jobs.specs.Places.{map_path, out_path}
@@ -60,10 +61,13 @@ AreLowered lowering means modules inputs = map (λ m. lowered lowering (means m)
 abbrev pub lowering_of : Job → Lowering
 lowering_of job = record { keep_debug = job.keep_debug }
 
--- these are the modules lowered as a job asks for, with what names mean in each; none goes round for ever
+-- these are the modules lowered as a job asks for, with what names mean in each, and without their own starts where it
+-- says where the program starts; none goes round for ever
 pub record AreLoweredFor (job : Job) (says : List Module) (modules inputs : List (List ℕ)) : Type 0 where
+  pub lowered : List (List ℕ)
   pub end : All (EndsIn (names_of job.ignore_case) says (link_aliases modules)) modules
-  pub are_lowered : AreLowered (lowering_of job) (renaming_of job says modules) modules inputs
+  pub are_lowered : AreLowered (lowering_of job) (renaming_of job says modules) modules lowered
+  pub are_started : inputs ≡ map (started job) (zip modules lowered)
 
 -- how a job takes the modules of a link that say so of names
 abbrev pub taking_for : Job → (says : List Module) → Taking
@@ -119,6 +123,13 @@ abbrev pub sought_of : Input → Sought
 sought_of (input.File path) = sought.File path
 sought_of (input.Library name) = sought.Library name
 
+-- these are the files that are given to the link: those that a job names, and behind them the one of what it says of
+-- names
+abbrev pub AreGiven : (told : Text → Option (List ℕ)) → Job → (given : List (List ℕ)) → Type 0
+AreGiven told job given =
+    (files : List (List ℕ)) × AreSought told (texts job.folders.items) (map sought_of job.inputs.items) files
+    × (given ≡ files ++ names_files job)
+
 -- one of these modules names this default library
 abbrev pub IsNamedBy : (modules : List Held) → (name : List ℕ) → Type 0
 IsNamedBy modules name = (m : Held) × Contains modules m × Contains m.libraries name
@@ -158,14 +169,14 @@ AreRounds told folders left_out names before (files ∷ rounds) =
     AreDefaults told folders left_out names before files
     × AreRounds told folders left_out names (before ++ files ∷ []) rounds
 
--- These are the files of a job, in the rounds in which they are searched: those that it names, and then default
+-- These are the files of a job, in the rounds in which they are searched: those that are given, and then default
 -- libraries, where it asks for these, but for those that it leaves out. They are looked up in other folders too, behind
 -- those of the job.
 pub record AreFilesOf (told : Text → Option (List ℕ)) (folders : List Text) (job : Job)
     (rounds : List (List (List ℕ))) : Type 0 where
   pub given : List (List ℕ)
   pub defaults : List (List (List ℕ))
-  pub are_given : AreSought told (texts job.folders.items) (map sought_of job.inputs.items) given
+  pub are_given : AreGiven told job given
   pub are_defaults : AreRounds told (texts job.folders.items ++ folders) (texts job.left_out.items)
       (names_of job.ignore_case)
       (given ∷ []) defaults

@@ -6,6 +6,7 @@ pub mod Lines
 pub mod Locals
 pub mod Maps
 pub mod Meant
+pub mod Names
 pub mod Orders
 pub mod Overflow
 pub mod Places

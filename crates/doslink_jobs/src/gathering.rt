@@ -13,7 +13,7 @@ ghost use Rattle.doslink_stock.specs.Searched.{Searched};
 ghost use Rattle.doslink_stock.specs.Seen.{handed_held};
 ghost use Rattle.doslink_words.specs.Tokens.{texts};
 ghost use Rattle.doslink_jobs.specs.Jobs as done;
-ghost use Rattle.doslink_jobs.specs.Jobs.{IsAskedBy, IsDefault, IsNamedBy, names_of};
+ghost use Rattle.doslink_jobs.specs.Jobs.{AreGiven, IsAskedBy, IsDefault, IsNamedBy, names_of};
 ghost use Rattle.doslink_jobs.specs.Refusals.{HasFaultyLibrary};
 ghost use Rattle.doslink_jobs.specs.inside.Absent.{AreAbsentBehind, AreAbsentTold, AreLookedUp, absent_warning};
 ghost use Rattle.doslink_jobs.specs.inside.Absent.{absent_warnings, library_said, new_bytes, outcome_of};
@@ -23,6 +23,7 @@ ghost use Rattle.doslink_jobs.specs.inside.Stops.{OnInput};
 
 use crate::inputs::options_of;
 use crate::limit::{push_rest, told_count};
+use crate::names::push_names_file;
 use crate::stop::{Stop, stop_after, stop_at_files, stop_unread};
 use crate::words::{Besides, is_named};
 use bumpalo::Bump;
@@ -99,6 +100,22 @@ fn given_files<W: World, A: Allocator + Copy>(
         Ok(files) => Ok(files),
         Err(fault) => Err(stop_at_files(alloc, lines, fault, job.verbose)),
     }
+}
+
+/// The files that are given to the link: those that a job names, and behind them the one of what it says of names.
+fn all_given<W: World, A: Allocator + Copy>(
+    alloc: A,
+    world: &W,
+    job: &Job<'_>,
+    lines: &mut Vec<u8, A>,
+) -> Result<Vec<InputFile<A>, A>, Stop>
+    ensures files { MatchResult result
+        (λ files. AreGiven (W.bytes world.now) job.now (contents files.items)) (λ stop. OnInput stop ⊥) }
+    ensures kept { OnOk result (lines.new.items ≡ lines.old.items) }
+{
+    let mut files = given_files(alloc, world, job, lines)?;
+    push_names_file(alloc, job, &mut files)?;
+    Ok(files)
 }
 
 /// Puts a file where it stays, behind those that are there.
@@ -479,11 +496,11 @@ fn add_asked<'f, W: World, A: Allocator + Copy>(
     lines: &mut Vec<u8, A>,
 ) -> Result<(), Stop>
     ensures files { (given : List (List ℕ)) → Holds (names_of job.now.ignore_case) (given ∷ []) gathered.old
-        → AreSought (W.bytes world.now) (texts job.now.folders.items) (map done.sought_of job.now.inputs.items) given
+        → AreGiven (W.bytes world.now) job.now given
         → MatchResult result (λ done. IsGathered (W.bytes world.now) (texts folders.now) job.now gathered.new)
         (λ stop. OnInput stop (IsFaultyJob (W.bytes world.now) (texts folders.now) job.now)) }
     ensures told { (given : List (List ℕ)) → Holds (names_of job.now.ignore_case) (given ∷ []) gathered.old
-        → AreSought (W.bytes world.now) (texts job.now.folders.items) (map done.sought_of job.now.inputs.items) given
+        → AreGiven (W.bytes world.now) job.now given
         → OnOk result (AreAbsentTold (W.bytes world.now) (texts folders.now) job.now gathered.new
         lines.old.items lines.new.items) }
 {
@@ -531,7 +548,7 @@ pub(crate) fn gather<'f, W: World, A: Allocator + Copy>(
     ensures told { IfOk result (λ gathered. AreAbsentTold (W.bytes world.now) (texts besides.now.folders.now) job.now
         gathered lines.old.items lines.new.items) }
 {
-    let given = given_files(alloc, world, job, lines)?;
+    let given = all_given(alloc, world, job, lines)?;
     let mut gathered = Gathered {
         paths: Vec::new(alloc),
         bytes: Vec::new(alloc),

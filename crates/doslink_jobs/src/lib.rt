@@ -19,6 +19,7 @@ mod locals;
 mod lowering;
 mod meanings;
 mod meant;
+mod names;
 mod ordering;
 mod overflow;
 mod paths;

@@ -12,6 +12,7 @@ ghost use Rattle.doslink_jobs.specs.inside.Meanings.{AreMeaningsFor, means};
 ghost use Rattle.doslink_jobs.specs.inside.Stops.{OnInput};
 
 use crate::aliases::{Meanings, check_aliases, own_aliases};
+use crate::names::with_start;
 use crate::reading::{ReadModules, read_lowered};
 use crate::stop::{Stop, stop_after};
 use crate::taking::Taken;
@@ -165,7 +166,8 @@ pub(crate) fn lowering_of(job: &Job<'_>) -> Lowering
     }
 }
 
-/// The modules lowered as a job asks for, and read, with what names mean in them.
+/// The modules lowered as a job asks for, without their own starts where it says where the program starts, and read,
+/// with what names mean in them.
 pub(crate) fn lower_for<'a, A: Allocator + Copy>(
     alloc: A,
     job: &Job<'_>,
@@ -186,5 +188,6 @@ pub(crate) fn lower_for<'a, A: Allocator + Copy>(
 {
     check_aliases(alloc, taken, meanings, lines)?;
     let modules = lower_modules(alloc, taken, lowering_of(job), meanings, lines)?;
-    Ok(read_lowered(alloc, modules)?)
+    let started = with_start(alloc, job, modules)?;
+    Ok(read_lowered(alloc, started)?)
 }

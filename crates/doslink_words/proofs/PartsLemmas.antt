@@ -20,7 +20,7 @@ use Rattle.doslink_words.specs.declared.faults.LineFault.TheVariants.{Memory, Wr
 use Rattle.doslink_words.specs.declared.faults.DirectiveFault.TheVariants as directive_fault
 use Rattle.doslink_words.specs.declared.tokens.Placed.{Placed}
 use Rattle.doslink_words.specs.Directives.{and_then, is_comma, one_name, option_meaning, option_of, parts, with_names}
-use Rattle.doslink_words.specs.Directives.{with_options, offset_meaning, order_item, at_place, first_meaning}
+use Rattle.doslink_words.specs.Directives.{alias_of, with_aliases, with_options, offset_meaning, order_item, at_place, first_meaning}
 use Rattle.doslink_words.specs.Directives.{directive_meaning, directive_of, meaning, tokens_meaning, with_items}
 use Rattle.doslink_words.specs.Directives.{Means}
 use Rattle.doslink_words.specs.Operands.{operand_count}
@@ -29,7 +29,7 @@ use Rattle.doslink_words.specs.Said.{Said, SaidItem, nothing}
 use Rattle.doslink_words.specs.Tokens.{Piece, Comma, texts}
 use Rattle.doslink_words.specs.inside.Faults.{IsFault, IsFaultAt, Says}
 use Rattle.doslink_words.specs.inside.Follows.{Counts, Follows}
-use Rattle.doslink_words.specs.inside.Parts.{line_tokens, lines_meaning, listed, named, optioned}
+use Rattle.doslink_words.specs.inside.Parts.{aliased, line_tokens, lines_meaning, listed, named, optioned}
 use Rattle.doslink_words.specs.inside.Tokens.{all_placed, operand_of, operands, placed_of}
 use Rattle.std.specs.Option.{option_map_or}
 
@@ -126,6 +126,39 @@ module _ (ops : List Placed) (start end : ℕ) (here : IsPart ops start end) whe
   names_end had next last is =
       names_step had [] (parts_none last)
       ∙ ap (λ (m : Result (List Text) DirectiveFaultKind). and_then m (λ h. with_names h [])) is
+
+  -- ---- aliases
+
+  aliases_step : (had : List (Text × Text)) (more : List (List Piece))
+      → parts (from ops start) ≡ part_of ops start end ∷ more
+      → with_aliases had (parts (from ops start))
+      ≡ and_then (aliased had (part_of ops start end)) (λ h. with_aliases h more)
+  aliases_step had more are =
+      ap (with_aliases had) are
+      ∙ and_then_again (alias_of (part_of ops start end)) (λ alias. Ok (had ++ (alias ∷ [])))
+      (λ h. with_aliases h more)
+
+  pub aliases_fault : (had after last : List (Text × Text)) (r : Result Unit LineFault) (f : LineFault)
+      (whole : Result (List (Text × Text)) DirectiveFaultKind)
+      → Follows (Err f) (aliased had (part_of ops start end)) after
+      → r ≡ Err f → whole ≡ with_aliases had (parts (from ops start)) → Follows r whole last
+  aliases_fault had after last r f whole follows e same =
+      then_fault (aliased had (part_of ops start end)) (λ h. with_aliases h parts_any.0) after last r f whole follows e
+      (same ∙ aliases_step had parts_any.0 parts_any.1)
+
+  pub aliases_more : (had next : List (Text × Text)) → end < length ops
+      → aliased had (part_of ops start end) ≡ Ok next
+      → with_aliases had (parts (from ops start)) ≡ with_aliases next (parts (from ops (end + 1)))
+  aliases_more had next more is =
+      aliases_step had _ (parts_more more)
+      ∙ ap (λ (m : Result (List (Text × Text)) DirectiveFaultKind).
+      and_then m (λ h. with_aliases h (parts (from ops (end + 1))))) is
+
+  pub aliases_end : (had next : List (Text × Text)) → end ≡ length ops
+      → aliased had (part_of ops start end) ≡ Ok next → with_aliases had (parts (from ops start)) ≡ Ok next
+  aliases_end had next last is =
+      aliases_step had [] (parts_none last)
+      ∙ ap (λ (m : Result (List (Text × Text)) DirectiveFaultKind). and_then m (λ h. with_aliases h [])) is
 
   -- ---- options
 

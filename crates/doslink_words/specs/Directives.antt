@@ -1,8 +1,8 @@
 -- What the directives of a text mean: its tokens in their order, where a line's end is a blank.
 use Rattle.std.specs.Prelude.{◌≡◌, ℕ, zero, suc, ◌&&◌, ⊤, Bool, true, false, List, [], ◌∷◌, ◌++◌, codes, map, take}
-use Rattle.std.specs.Prelude.{Option, Some, None, Result, Ok, Err, if◌then◌else◌}
+use Rattle.std.specs.Prelude.{Option, Some, None, Result, Ok, Err, if◌then◌else◌, length, nat_le}
 use Rattle.std.specs.Option.{option_and_then, option_map_or}
-use Rattle.std.specs.List.{slice_split}
+use Rattle.std.specs.List.{list_all, slice_split}
 use Rattle.std.specs.Str.Lines.{lines}
 use Rattle.clap.specs.Words.{Text}
 use Rattle.doslink_words.specs.declared.faults.DirectiveFault.{DirectiveFault}
@@ -143,10 +143,21 @@ stack_meaning value said =
     option_map_or (λ n. Ok (record said { stack = Some (record { bytes = n; cuts = true }) }))
     (option_and_then stack_bytes value) (Err kind.WrongOperands)
 
+-- whether a module can have a name: one of at most 255 bytes
+abbrev pub is_name : Text → Bool
+is_name text = nat_le (length text) 255
+
+-- `start=NAME`: the program starts there
+abbrev pub start_meaning : Option Text → Said → Line Said
+start_meaning None said = Err kind.WrongOperands
+start_meaning (Some name) said =
+    if is_name name then Ok (record said { start = Some name }) else Err kind.WrongOperands
+
 -- what an option means with a value or without: those that have no effect take any
 abbrev pub switch_meaning : (line : ℕ) → Switch → Option Text → Said → Line Said
 switch_meaning line switch.Map value said = Ok (record said { map = Some (option_map_or At value Beside) })
 switch_meaning line switch.Stack value said = stack_meaning value said
+switch_meaning line switch.Start value said = start_meaning value said
 switch_meaning line (switch.Idle what) value said = warned line what said
 switch_meaning line (switch.Plain what) None said = Ok (plain_meaning what said)
 switch_meaning line (switch.Plain what) (Some value) said = Err kind.WrongOperands
@@ -225,6 +236,30 @@ order_meaning (first ∷ more) said =
     then and_then (with_items [] (first ∷ more)) (λ items. Ok (record said { order = Listed items }))
     else Err kind.WrongOperands
 
+-- `reference A[,B..]`: these names are wanted
+abbrev pub reference_meaning : List Piece → Said → Line Said
+reference_meaning operands said =
+    and_then (with_list [] operands) (λ names.
+    if list_all is_name names then Ok (record said { references = said.references ++ names })
+    else Err kind.WrongOperands)
+
+-- the name that a token is, which a module can have
+abbrev pub short_name : Piece → Line Text
+short_name token = and_then (name_of token) (λ name. if is_name name then Ok name else Err kind.WrongOperands)
+
+-- `A=B`: the name A means B
+abbrev pub alias_named : (name value : Piece) → Line (Text × Text)
+alias_named name value = and_then (short_name name) (λ a. and_then (short_name value) (λ b. Ok (a, b)))
+
+abbrev pub alias_of : List Piece → Line (Text × Text)
+alias_of (name ∷ mark ∷ value ∷ []) = if is_equals mark then alias_named name value else Err kind.WrongOperands
+alias_of _ = Err kind.WrongOperands
+
+-- `A=B[,C=D..]`: these aliases and those that are said, one in each part
+abbrev pub with_aliases : (had : List (Text × Text)) → List (List Piece) → Line (List (Text × Text))
+with_aliases had [] = Ok had
+with_aliases had (part ∷ more) = and_then (alias_of part) (λ alias. with_aliases (had ++ (alias ∷ [])) more)
+
 -- what a directive means
 abbrev pub directive_meaning : (line : ℕ) → Directive → List Piece → Said → Line Said
 directive_meaning line directive.File operands said =
@@ -243,6 +278,9 @@ directive_meaning line directive.Order operands said = order_meaning operands sa
 directive_meaning line directive.Debug operands said = Ok said
 directive_meaning line directive.Sort operands said = warned line warning.Sort said
 directive_meaning line directive.Disable operands said = warned line warning.Disable said
+directive_meaning line directive.Reference operands said = reference_meaning operands said
+directive_meaning line directive.Alias operands said =
+    and_then (with_aliases said.aliases (parts operands)) (λ aliases. Ok (record said { aliases = aliases }))
 
 -- the directive that a token names
 abbrev pub directive_of : Piece → Line Directive

@@ -35,7 +35,9 @@ directive_named word =
     else (if is_short word (codes "disable") 4 then Some directive.Disable
     else (if is_short word (codes "system") 3 then Some directive.System
     else (if is_short word (codes "output") 3 then Some directive.Output
-    else None)))))))))))
+    else (if is_short word (codes "reference") 3 then Some directive.Reference
+    else (if is_short word (codes "alias") 1 then Some directive.Alias
+    else None)))))))))))))
 
 -- whether a word goes on with `debug`, and with `sort`
 abbrev pub is_debug_word : Text → Bool
@@ -77,5 +79,6 @@ switch_named word =
     else (if is_short word (codes "nodefaultlibs") 3 then Some (switch.Plain plain.NoDefaultLibraries)
     else (if is_short word (codes "symfile") 4 then Some (switch.Idle warning.Symbols)
     else (if is_short word (codes "stack") 2 then Some switch.Stack
+    else (if is_short word (codes "start") 4 then Some switch.Start
     else (if is_harmless word then Some (switch.Idle warning.Option)
-    else None))))))))
+    else None)))))))))

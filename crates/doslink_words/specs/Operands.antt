@@ -28,6 +28,7 @@ abbrev pub first_count : Directive → List Piece → ℕ
 first_count directive.File tokens = list_count tokens
 first_count directive.Library tokens = list_count tokens
 first_count directive.Folder tokens = list_count tokens
+first_count directive.Reference tokens = list_count tokens
 first_count directive.Order tokens = 0
 first_count directive.Debug tokens = 0
 first_count directive.Sort tokens = 0

@@ -3,6 +3,7 @@ use Rattle.std.specs.Prelude.{Bool, true, false, List, [], Option, None, map}
 use Rattle.std.specs.Option.{option_map}
 use Rattle.clap.specs.Words.{Text}
 use Rattle.doslink_words.specs.Tokens.{texts}
+use Rattle.doslink_words.specs.declared.job.Alias.{Alias}
 use Rattle.doslink_words.specs.declared.job.Directives.{Directives}
 use Rattle.doslink_words.specs.declared.job.Form.{Form}
 use Rattle.doslink_words.specs.declared.job.Input.{Input}
@@ -57,6 +58,9 @@ pub record Said : Type 0 where
   pub packs_far_data : Bool
   pub verbose : Bool
   pub quiet : Bool
+  pub start : Option Text
+  pub references : List Text
+  pub aliases : List (Text × Text)
   pub warnings : List Warning
 
 -- what no directive asks for
@@ -78,6 +82,9 @@ nothing = record {
   packs_far_data = true;
   verbose = false;
   quiet = false;
+  start = None;
+  references = [];
+  aliases = [];
   warnings = [];
 }
 
@@ -105,6 +112,13 @@ order_of order.Meeting = Meeting
 order_of order.Dosseg = Dosseg
 order_of (order.Listed items) = Listed (items_of items.items)
 
+-- a name, and what it means
+abbrev pub alias_of : Alias → Text × Text
+alias_of alias = (alias.name.now, alias.means.now)
+
+abbrev pub aliases_of : List Alias → List (Text × Text)
+aliases_of = map alias_of
+
 abbrev pub said_of : Directives → Said
 said_of directives = record {
   inputs = inputs_of directives.job.inputs.items;
@@ -123,5 +137,8 @@ said_of directives = record {
   packs_far_data = directives.job.packs_far_data;
   verbose = directives.job.verbose;
   quiet = directives.job.quiet;
+  start = option_map (λ name. name.now) directives.job.start;
+  references = texts directives.job.references.items;
+  aliases = aliases_of directives.job.aliases.items;
   warnings = directives.warnings.items;
 }

@@ -199,6 +199,9 @@ pub record IsJobOf (words : List Text) (rows : List Row) (job : Job) : Type 0 wh
   pub packs_far_data : job.packs_far_data ≡ false
   pub verbose : IsFlag (codes "verbose") rows job.verbose
   pub quiet : job.quiet ≡ false
+  pub start : job.start ≡ None
+  pub references : job.references.items ≡ []
+  pub aliases : job.aliases.items ≡ []
 
 -- the values that the words give
 abbrev pub values_in : List Text → List Row

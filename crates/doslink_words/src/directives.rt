@@ -20,6 +20,7 @@ use crate::grammar::operand_count;
 use crate::job::{Directives, Form, Order, WarningKind};
 use crate::keywords::{Directive, directive_named};
 use crate::named::{put_files, put_libraries};
+use crate::naming::{follow_reference, put_aliases};
 use crate::operands::{one_name, put_items, put_list};
 use crate::options::{follow_options, warn};
 use crate::sizes::size;
@@ -200,6 +201,8 @@ fn follow_directive<'a>(
         Directive::Debug => Ok(()),
         Directive::Sort => warn(directives, line, WarningKind::Sort),
         Directive::Disable => warn(directives, line, WarningKind::Disable),
+        Directive::Reference => follow_reference(alloc, directives, operands),
+        Directive::Alias => put_aliases(&mut directives.job.aliases, operands),
     }
 }
 
@@ -316,10 +319,12 @@ fn follow_lines<'a>(
 ///   a fault.
 /// - `output raw [offset=N]` (`out`): a raw image at paragraph 0, from this address on.
 /// - `option X[=VALUE][,..]` (`op`): `quiet` (`q`), `map[=FILE]` (`m`), `stack=BYTES` (`st`), `dosseg` (`dos`),
-///   `caseexact` (`c`), `ignorecase`, `nodefaultlibs` (`nod`). Of `symfile` and what changes no DOS program (`verbose`,
+///   `caseexact` (`c`), `ignorecase`, `nodefaultlibs` (`nod`), `start=NAME` (`star`). Of `symfile` and what changes no DOS program (`verbose`,
 ///   `statics`, `artificial`, `showdead`, `cache`, `nocache`, `farcalls`, `nofarcalls`, `maxerrors`) a warning is told;
 ///   any other is a fault.
 /// - `order clname CLASS [segment SEGMENT..] ..` (`ord`): the order of classes, and of segments in them.
+/// - `reference A[,B..]` (`ref`), a list as of `file`: names that are wanted. `alias A=B[,C=D..]` (`a`): the name A means
+///   B. These and that of `start` have 255 bytes at most.
 /// - `debug ..` (`d`) is nothing, `sort ..` (`sor`) and `disable ..` (`disa`) are warned of.
 pub fn parse_directives<'a>(
     alloc: Global,

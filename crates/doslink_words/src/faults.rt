@@ -80,6 +80,14 @@ pub(crate) enum LineFault {
     Wrong(DirectiveFaultKind),
 }
 
+impl From<AllocError> for LineFault {
+    ghost from_gives = { λ _ e. e ≡ line_fault.Memory };
+
+    fn from(_error: AllocError) -> LineFault {
+        LineFault::Memory
+    }
+}
+
 impl<T: Drop> From<AllocFailed<T>> for LineFault {
     ghost from_gives = { λ _ e. e ≡ line_fault.Memory };
 

@@ -40,7 +40,9 @@ fn first_count(directive: Directive, tokens: &[Placed]) -> usize
     ensures { result ≡ spec.first_count directive (operands tokens.now) }
 {
     match directive {
-        Directive::File | Directive::Library | Directive::Folder => list_count(tokens),
+        Directive::File | Directive::Library | Directive::Folder | Directive::Reference => {
+            list_count(tokens)
+        }
         Directive::Order | Directive::Debug | Directive::Sort => 0,
         _ => 1,
     }

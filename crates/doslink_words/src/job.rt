@@ -39,6 +39,12 @@ pub struct Job<'a> {
     pub verbose: bool,
     /// Whether nothing is told but faults.
     pub quiet: bool,
+    /// The public at which the program starts, whatever modules say of that, where one is said.
+    pub start: Option<&'a str>,
+    /// Names that are wanted beside those of modules, as externals are.
+    pub references: Vec<&'a str>,
+    /// Names that mean others, behind the aliases of modules.
+    pub aliases: Vec<Alias<'a>>,
 }
 
 /// Something that is linked.
@@ -48,6 +54,15 @@ pub enum Input<'a> {
     File(&'a str),
     /// The name of a library that is looked up in folders.
     Library(&'a str),
+}
+
+/// A name that means another one in each module that is linked.
+#[derive(Clone, Copy, Debug, PartialEq, Eq)]
+pub struct Alias<'a> {
+    /// The name.
+    pub name: &'a str,
+    /// What it means.
+    pub means: &'a str,
 }
 
 /// The length of a stack.
@@ -168,6 +183,9 @@ impl<'a> Directives<'a> {
             packs_far_data: true,
             verbose: false,
             quiet: false,
+            start: None,
+            references: Vec::new(alloc),
+            aliases: Vec::new(alloc),
         };
         Directives {
             job,

@@ -31,6 +31,10 @@ pub(crate) enum Directive {
     Sort,
     /// `disable`: messages that are left out.
     Disable,
+    /// `reference`: names that are wanted.
+    Reference,
+    /// `alias`: names that mean others.
+    Alias,
 }
 
 /// What an option is about.
@@ -40,6 +44,8 @@ pub(crate) enum Switch {
     Map,
     /// `stack`: the length of the stack.
     Stack,
+    /// `start`: where the program starts.
+    Start,
     /// An option that takes no value.
     Plain(Plain),
     /// An option that has no effect, and what is told of it. `symfile`: a file of symbols; and what changes nothing of a
@@ -115,6 +121,10 @@ pub(crate) fn directive_named(word: &str) -> Option<Directive>
         Some(Directive::System)
     } else if is_short(word, "output", 3) {
         Some(Directive::Output)
+    } else if is_short(word, "reference", 3) {
+        Some(Directive::Reference)
+    } else if is_short(word, "alias", 1) {
+        Some(Directive::Alias)
     } else {
         None
     }
@@ -191,6 +201,8 @@ pub(crate) fn switch_named(word: &str) -> Option<Switch>
         Some(Switch::Idle(WarningKind::Symbols))
     } else if is_short(word, "stack", 2) {
         Some(Switch::Stack)
+    } else if is_short(word, "start", 4) {
+        Some(Switch::Start)
     } else if is_harmless(word) {
         Some(Switch::Idle(WarningKind::Option))
     } else {

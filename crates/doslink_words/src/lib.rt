@@ -7,6 +7,7 @@ mod grammar;
 mod job;
 mod keywords;
 mod named;
+mod naming;
 mod operands;
 mod options;
 mod responses;
@@ -17,7 +18,7 @@ mod words;
 pub use directives::parse_directives;
 pub use faults::{DirectiveFault, DirectiveFaultKind, SplitFault};
 pub use job::{
-    Directives, Form, Input, Job, MapFile, MapForm, Order, OrderItem, Stack, Warning, WarningKind,
+    Alias, Directives, Form, Input, Job, MapFile, MapForm, Order, OrderItem, Stack, Warning, WarningKind,
 };
 pub use responses::{response_word, text_asked};
 pub use tokens::split_words;

@@ -11,6 +11,7 @@ ghost use Rattle.doslink_words.specs.inside.Parts.{optioned};
 use crate::faults::{DirectiveFaultKind, LineFault};
 use crate::job::{Directives, MapFile, Order, Stack, Warning, WarningKind};
 use crate::keywords::{Plain, Switch, switch_named};
+use crate::naming::follow_start;
 use crate::operands::part_end;
 use crate::sizes::stack_bytes;
 use crate::tokens::{Placed, Token};
@@ -110,6 +111,7 @@ fn follow_option<'a>(
     match switch {
         Switch::Idle(kind) => warn(directives, line, kind),
         Switch::Stack => follow_stack(directives, value),
+        Switch::Start => follow_start(directives, value),
         Switch::Map => {
             directives.job.map = Some(map_file(value));
             Ok(())

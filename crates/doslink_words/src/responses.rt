@@ -25,8 +25,10 @@ Directives stand in FILE and in words, one behind the other:
   output raw [offset=N]  a raw image, which begins at address N (out)
   order clname CLASS [segment SEGMENT..] ..
                          the classes that stand first, and segments first in them
-  option X[=N][,..]      (op) quiet, map[=FILE], stack=N, dosseg, caseexact,
-                         ignorecase, nodefaultlibs
+  reference A[,B..]      names that are wanted, as an external of a module is (ref)
+  alias A=B[,C=D..]      the name A means B, and C means D (a)
+  option X[=N][,..]      (op) quiet, map[=FILE], stack=N, start=NAME, dosseg,
+                         caseexact, ignorecase, nodefaultlibs
   debug ..               nothing
 
 A list may be {A B ..} too, and # begins a comment up to the line's end.

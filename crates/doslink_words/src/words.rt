@@ -28,8 +28,8 @@ use thiserror::Error;
 const NOTES: &str = "\
 `doslink @FILE` takes its words from a file, at white space or in double quotes. Under the name\n\
 `wlink`, or behind `--as wlink`, FILE has directives (file, library, libpath, name, format, option,\n\
-order). Under the names `link` and `tlink`, or behind `--as link` and `--as tlink`, the words are a\n\
-line of that linker: `doslink --as link --help`.\n\n\
+order, reference, alias). Under the names `link` and `tlink`, or behind `--as link` and `--as tlink`,\n\
+the words are a line of that linker: `doslink --as link --help`.\n\n\
 Exit status: 0 all is done, 1 an input is at fault, 2 wrong arguments, 3 a file or\n\
 device failed or out of memory. A fault is one line on standard error; docs/FAULTS.md\n\
 and the man page say what to do about each.";
@@ -393,6 +393,9 @@ fn job_of<'a>(alloc: Global, words: &[&str], values: &ArgMatches<'a>) -> Result<
         packs_far_data: false,
         verbose: values.get_flag("verbose"),
         quiet: false,
+        start: None,
+        references: Vec::new(alloc),
+        aliases: Vec::new(alloc),
     })
 }
 

@@ -1,5 +1,5 @@
 -- The job that a line's words ask for.
-use Rattle.std.specs.Prelude.{◌≡◌, ◌||◌, ⊤, not, Bool, true, false, ℕ, Option, Some, None, Result, Ok, Err, if◌then◌else◌}
+use Rattle.std.specs.Prelude.{◌≡◌, ◌||◌, ⊤, not, [], Bool, true, false, ℕ, Option, Some, None, Result, Ok, Err, if◌then◌else◌}
 use Rattle.std.specs.Option.{option_map}
 use Rattle.clap.specs.Words.{Text}
 use Rattle.doslink_words.specs.Said.{SaidMap, SaidOrder, At, Beside, Dosseg, Meeting, inputs_of, map_of, order_of}
@@ -81,6 +81,9 @@ pub record IsJobOf (language : Language) (said : SaidLine) (made : MakefileJob) 
   pub packs_far_data : made.job.packs_far_data ≡ false
   pub verbose : made.job.verbose ≡ said.settings.verbose
   pub quiet : made.job.quiet ≡ false
+  pub start : made.job.start ≡ None
+  pub references : made.job.references.items ≡ []
+  pub aliases : made.job.aliases.items ≡ []
   pub settings : made.settings ≡ said.settings
   pub warnings : made.warnings.items ≡ said.warnings
 

@@ -10,6 +10,7 @@ use crate::names::is_null;
 use crate::settings::{Ordering, Settings};
 use crate::tokens::Language;
 use doslink_words::{Form, Job, MapFile, MapForm, Order, Stack};
+use std::alloc::Global;
 
 /// The job of a line, and what a job of `doslink` has no word for.
 #[derive(Debug, Drop)]
@@ -90,7 +91,7 @@ fn stack_asked(bytes: Option<u32>) -> Option<Stack>
 }
 
 /// The job of what is said.
-pub(crate) fn job_of<'a>(language: Language, line: Line<'a>) -> MakefileJob<'a>
+pub(crate) fn job_of<'a>(alloc: Global, language: Language, line: Line<'a>) -> MakefileJob<'a>
     ensures { spec.IsJobOf language (line_of line.entry) result }
 {
     let settings = line.settings;
@@ -111,6 +112,9 @@ pub(crate) fn job_of<'a>(language: Language, line: Line<'a>) -> MakefileJob<'a>
         packs_far_data: false,
         verbose: settings.verbose,
         quiet: false,
+        start: None,
+        references: Vec::new(alloc),
+        aliases: Vec::new(alloc),
     };
     MakefileJob {
         job,

@@ -191,5 +191,5 @@ pub fn parse_line<'a>(
 ) -> Result<MakefileJob<'a>, LineFault<'a>>
     ensures { jobs.Means language result (spec.meaning language text.now) }
 {
-    Ok(job_of(language, read_line(alloc, language, text)?))
+    Ok(job_of(alloc, language, read_line(alloc, language, text)?))
 }

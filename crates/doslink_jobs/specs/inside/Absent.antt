@@ -5,7 +5,7 @@ use Rattle.std.specs.declared.option.Option.{Option}
 use Rattle.std.specs.List.{flat_map}
 use Rattle.clap.specs.Words.{Text}
 use Rattle.omf_place.specs.declared.names.Names.{Names}
-use Rattle.doslink_files.specs.Files.{AreSought, IsFound}
+use Rattle.doslink_files.specs.Files.{IsFound}
 use Rattle.doslink_files.specs.declared.lookup.Found.{Found}
 use Rattle.doslink_files.specs.declared.lookup.Found.TheVariants as found
 use Rattle.doslink_stock.specs.Files.{Held}
@@ -16,7 +16,7 @@ use Rattle.doslink_words.specs.declared.job.Job.{Job}
 use Rattle.doslink_words.specs.Tokens.{texts}
 use Rattle.doslink_jobs.specs.declared.gathering.DefaultLibrary.{DefaultLibrary}
 use Rattle.doslink_jobs.specs.declared.gathering.Gathered.{Gathered}
-use Rattle.doslink_jobs.specs.Jobs.{IsAskedBy, names_of, sought_of}
+use Rattle.doslink_jobs.specs.Jobs.{AreGiven, IsAskedBy, names_of}
 use Rattle.doslink_jobs.specs.inside.Gathering.{Holds}
 use Rattle.doslink_jobs.specs.inside.Warnings.{told_lines}
 
@@ -134,7 +134,7 @@ pub record AreAbsentTold {A : Type 0} (told : Text → Option (List ℕ)) (folde
     (gathered : Gathered A) (old new : List ℕ) : Type 0 where
   pub given : List (List ℕ)
   pub lookups : List (List Lookup)
-  pub are_given : AreSought told (texts job.folders.items) (map sought_of job.inputs.items) given
+  pub are_given : AreGiven told job given
   pub are_lookups : AreAllLookups told (texts job.folders.items ++ folders) (texts job.left_out.items)
       (names_of job.ignore_case)
       (given ∷ []) lookups

@@ -2,7 +2,7 @@
 use Rattle.std.specs.Prelude.{ℕ, List, [], ◌∷◌, ◌++◌, Result, Ok, Err}
 use Rattle.std.specs.Option.{option_map_or}
 use Rattle.clap.specs.Words.{Text}
-use Rattle.doslink_words.specs.Directives.{Line, and_then, one_name, option_meaning, option_of, order_item}
+use Rattle.doslink_words.specs.Directives.{Line, alias_of, and_then, one_name, option_meaning, option_of, order_item}
 use Rattle.doslink_words.specs.Directives.{tokens_meaning}
 use Rattle.doslink_words.specs.declared.faults.DirectiveFaultKind.TheVariants.{UnclosedQuote}
 use Rattle.doslink_words.specs.Places.{FaultyLine, PlacedPiece, placed, with_lines}
@@ -16,6 +16,10 @@ named had part = and_then (one_name part) (λ name. Ok (had ++ (name ∷ [])))
 -- these items and the one that a keyword and a name are
 abbrev pub listed : (had : List SaidItem) → (keyword name : Piece) → Line (List SaidItem)
 listed had keyword name = and_then (order_item keyword name) (λ item. Ok (had ++ (item ∷ [])))
+
+-- these aliases and the one that a part is
+abbrev pub aliased : (had : List (Text × Text)) → List Piece → Line (List (Text × Text))
+aliased had part = and_then (alias_of part) (λ alias. Ok (had ++ (alias ∷ [])))
 
 -- what an option means
 abbrev pub optioned : (line : ℕ) → Said → List Piece → Line Said

@@ -31,7 +31,7 @@ format dos
 order clname CODE clname FAR_DATA clname BEGDATA segment _NULL segment _AFTERNULL clname DATA clname BSS clname STACK clname HEAP
 name hello.exe
 =>
-Ok(Directives { job: Job { inputs: [File("rtl/large/prt0l.o"), Library("hello.a"), Library("rtl/large/system.a")], out: Some("hello.exe"), map: None, map_form: Omf, folders: [], ignore_case: false, order: Listed([Class("CODE"), Class("FAR_DATA"), Class("BEGDATA"), Segment("_NULL"), Segment("_AFTERNULL"), Class("DATA"), Class("BSS"), Class("STACK"), Class("HEAP")]), null_bytes: false, stack: None, form: None, default_libraries: true, left_out: [], keep_debug: false, packs_far_data: true, verbose: false, quiet: true }, warnings: [] })
+Ok(Directives { job: Job { inputs: [File("rtl/large/prt0l.o"), Library("hello.a"), Library("rtl/large/system.a")], out: Some("hello.exe"), map: None, map_form: Omf, folders: [], ignore_case: false, order: Listed([Class("CODE"), Class("FAR_DATA"), Class("BEGDATA"), Segment("_NULL"), Segment("_AFTERNULL"), Class("DATA"), Class("BSS"), Class("STACK"), Class("HEAP")]), null_bytes: false, stack: None, form: None, default_libraries: true, left_out: [], keep_debug: false, packs_far_data: true, verbose: false, quiet: true, start: None, references: [], aliases: [] }, warnings: [] })
 
 
 # a comment with "a quote
@@ -97,6 +97,40 @@ stack: Some(Stack { bytes: 65536, cuts: true })
 option stack=0x10k
 =>
 stack: Some(Stack { bytes: 16384, cuts: true })
+
+
+option start=_main
+=>
+quiet: false, start: Some("_main"), references: [], aliases: [] }, warnings: []
+
+
+op star = 'a b', STARt="_Go#"
+=>
+stack: None, form: None, default_libraries: true, left_out: [], keep_debug: false, packs_far_data: true, verbose: false, quiet: false, start: Some("_Go#")
+
+
+op st=5, stac=6, sta=7, start=8
+=>
+stack: Some(Stack { bytes: 7, cuts: true }), form: None, default_libraries: true, left_out: [], keep_debug: false, packs_far_data: true, verbose: false, quiet: false, start: Some("8")
+
+
+reference _a
+Ref b , "c d", '='
+REFERENCE {e
+f, alias} reference ''
+=>
+start: None, references: ["_a", "b", "c d", "=", "e", "f", "alias", ""], aliases: []
+
+
+alias a=B
+A 'c=d' = "e", alias = a
+=>
+references: [], aliases: [Alias { name: "a", means: "B" }, Alias { name: "c=d", means: "e" }, Alias { name: "alias", means: "a" }]
+
+
+alias x=y, y=x file z
+=>
+inputs: [File("z")]
 
 
 option symfile,verbose
@@ -234,6 +268,86 @@ kind: WrongOperands
 
 
 option 'quiet'
+=>
+kind: WrongOperands
+
+
+option start
+=>
+Err(Line { line: 1, text: "option start", kind: WrongOperands })
+
+
+option start=a=b
+=>
+kind: WrongOperands
+
+
+reference
+=>
+kind: WrongOperands
+
+
+reference a,
+=>
+kind: WrongOperands
+
+
+reference {a
+=>
+kind: WrongOperands
+
+
+reference a=b
+=>
+kind: WrongOperands
+
+
+re a
+=>
+text: "re a", kind: UnknownDirective
+
+
+alias
+=>
+kind: WrongOperands
+
+
+alias a
+=>
+kind: WrongOperands
+
+
+alias a=
+=>
+kind: WrongOperands
+
+
+alias =a
+=>
+kind: WrongOperands
+
+
+alias a=b=c
+=>
+kind: WrongOperands
+
+
+alias a=b,
+=>
+kind: WrongOperands
+
+
+alias {a=b}
+=>
+kind: WrongOperands
+
+
+alias a=b c=d
+=>
+Err(Line { line: 1, text: "c=d", kind: UnknownDirective })
+
+
+alias a,b
 =>
 kind: WrongOperands
 
@@ -401,4 +515,24 @@ order clname A type B
 =>
 text: "type B", kind: UnknownDirective"##;
     hold(&rt, rt.alloc(), table);
+}
+
+/// The answer to a directive behind whose word a name of so many bytes stands, printed.
+fn named(alloc: Global, front: &str, size: usize) -> Result<String, AllocError> {
+    let mut text = String::from_str(alloc, front)?;
+    for _ in 0..size {
+        text.push('n')?;
+    }
+    answer(alloc, &text)
+}
+
+#[test]
+fn takes_names_that_a_module_can_have(rt: HostRuntime) {
+    for front in ["option start=", "reference ", "reference x,", "alias a=", "alias a=b, "] {
+        let taken = named(rt.alloc(), front, 255).expect(&rt, "text");
+        let is_name = !front.ends_with(", ");
+        assert!(&rt; taken.as_str().starts_with("Ok") == is_name, "{front}: {taken}");
+        let refused = named(rt.alloc(), front, 256).expect(&rt, "text");
+        assert!(&rt; refused.as_str().ends_with("kind: WrongOperands })"), "{front}: {refused}");
+    }
 }

@@ -6,7 +6,7 @@ use makefile_words::Language;
 fn reads_fields(rt: HostRuntime) {
     let table = r#"/NOI /STACK:4096 main+util,prog,prog,slibce;
 =>
-Ok(MakefileJob { job: Job { inputs: [File("main"), File("util"), Library("slibce")], out: Some("prog"), map: Some(At("prog")), map_form: Link, folders: [], ignore_case: false, order: Meeting, null_bytes: true, stack: Some(Stack { bytes: 4096, cuts: true }), form: Some(Exe), default_libraries: true, left_out: [], keep_debug: false, packs_far_data: false, verbose: false, quiet: false }, settings: Settings { case_counts: true, no_defaults: false, no_map: false, makes_map: true, publics: false, line_numbers: false, detailed: false, writes_all: false, verbose: false, form: Exe, order: Meeting, stack: Some(4096), most_extra: None }, warnings: [] })
+Ok(MakefileJob { job: Job { inputs: [File("main"), File("util"), Library("slibce")], out: Some("prog"), map: Some(At("prog")), map_form: Link, folders: [], ignore_case: false, order: Meeting, null_bytes: true, stack: Some(Stack { bytes: 4096, cuts: true }), form: Some(Exe), default_libraries: true, left_out: [], keep_debug: false, packs_far_data: false, verbose: false, quiet: false, start: None, references: [], aliases: [] }, settings: Settings { case_counts: true, no_defaults: false, no_map: false, makes_map: true, publics: false, line_numbers: false, detailed: false, writes_all: false, verbose: false, form: Exe, order: Meeting, stack: Some(4096), most_extra: None }, warnings: [] })
 ---
 main;
 =>
@@ -129,7 +129,7 @@ order: Dosseg, null_bytes: false
 ---
 /M main;
 =>
-map: Some(Beside), map_form: Link, folders: [], ignore_case: true, order: Meeting, null_bytes: true, stack: None, form: Some(Exe), default_libraries: true, left_out: [], keep_debug: false, packs_far_data: false, verbose: false, quiet: false }, settings: Settings { case_counts: false, no_defaults: false, no_map: false, makes_map: false, publics: true
+map: Some(Beside), map_form: Link, folders: [], ignore_case: true, order: Meeting, null_bytes: true, stack: None, form: Some(Exe), default_libraries: true, left_out: [], keep_debug: false, packs_far_data: false, verbose: false, quiet: false, start: None, references: [], aliases: [] }, settings: Settings { case_counts: false, no_defaults: false, no_map: false, makes_map: false, publics: true
 ---
 /MAP:200 main;
 =>

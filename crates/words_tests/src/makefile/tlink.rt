@@ -21,7 +21,7 @@ pub(crate) fn hold_in<R: Abort>(rt: &R, alloc: Global, language: Language, table
 fn reads_fields(rt: HostRuntime) {
     let table = r#"main
 =>
-Ok(MakefileJob { job: Job { inputs: [File("main")], out: None, map: Some(Beside), map_form: Tlink, folders: [], ignore_case: true, order: Meeting, null_bytes: false, stack: None, form: Some(Exe), default_libraries: true, left_out: [], keep_debug: false, packs_far_data: false, verbose: false, quiet: false }, settings: Settings { case_counts: false, no_defaults: false, no_map: false, makes_map: true, publics: false, line_numbers: false, detailed: false, writes_all: false, verbose: false, form: Exe, order: Meeting, stack: None, most_extra: None }, warnings: [] })
+Ok(MakefileJob { job: Job { inputs: [File("main")], out: None, map: Some(Beside), map_form: Tlink, folders: [], ignore_case: true, order: Meeting, null_bytes: false, stack: None, form: Some(Exe), default_libraries: true, left_out: [], keep_debug: false, packs_far_data: false, verbose: false, quiet: false, start: None, references: [], aliases: [] }, settings: Settings { case_counts: false, no_defaults: false, no_map: false, makes_map: true, publics: false, line_numbers: false, detailed: false, writes_all: false, verbose: false, form: Exe, order: Meeting, stack: None, most_extra: None }, warnings: [] })
 ---
 /c /x c0s main util, prog.exe, prog.map, emu maths cs
 =>

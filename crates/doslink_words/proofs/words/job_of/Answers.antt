@@ -43,4 +43,7 @@ returns c =
           flag_of f (codes "verbose") c.get_flag-4.result c.get_flag-4.ensures.value c.get_flag-4.ensures.other
           c.get_flag-4.ensures.none;
       quiet = refl;
+      start = refl;
+      references = c.new-2.ensures.items;
+      aliases = c.new-3.ensures.items;
     }
