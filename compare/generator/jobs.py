@@ -63,6 +63,8 @@ USES = ["offset", "base", "frame", "threads", "other", "start", "sum", "start of
 RENAMED_EVERY, RENAMED = 50, [0x8C, 0xB0, 0xB8, 0xBC]
 # one has aliases of four names, of which some are used and some members of a library offer
 ALIASES_EVERY, ALIASED = 25, [b"a", b"b", b"c", b"d"]
+# one has directives that say something of names: of a start, names that are wanted, and aliases
+NAMING_EVERY, NAMED = 25, ["a", "b", "c", "d", "default"]
 # and one has variables that are local to modules, and what is in their way
 LOCAL_EVERY, LOCAL = 50, [
     {}, {"public": b"NEAR"}, {"start": b"start"}, {"group": b"AUTO"},
@@ -162,12 +164,14 @@ WRONG_LINES = [
     "order clname CODE clname", "order clname CODE name A", "sort 'a", "option quiet,", '"a" b',
     ", file a", "file a b", "libpath", "option map=,quiet", 'option "map"', "name",
     "option stack", "option stack=0", "option stack=65537", "option stack=65k", "option stack=x",
-    "option stack=-1", "path a", "libfile a", "alias a=b", "option start=x", "file {a", "file {a}, b", "name x a",
+    "option stack=-1", "path a", "libfile a", "alias a", "alias a=b=c", "alias {a=b}", "alias a=b c=d", "alias a=",
+    "option start", "option sta=x", "reference", "reference a=b", "reference {a", "re a", "al",
+    "option start=" + 256 * "n", "alias n=" + 256 * "n", "reference n," + 256 * "n", "file {a", "file {a}, b", "name x a",
     "output raw start=1", "op no", "debug quiet", "file\na,\n b c"]
 # the shortest words of directives
 SHORTEST = {
     "file": "f", "library": "l", "libpath": "libp", "name": "n", "format": "form", "system": "sys", "output": "out",
-    "option": "op", "order": "ord", "debug": "d", "sort": "sor", "disable": "disa"}
+    "option": "op", "order": "ord", "debug": "d", "sort": "sor", "disable": "disa", "reference": "ref", "alias": "a"}
 
 
 @dataclass
@@ -333,6 +337,41 @@ class JobMaker:
         self.give_library("0.lib")
         self.job.map, self.job.is_verbose = MAP, True
         return self.asked_of(modules + aliases[:part])
+
+    def make_naming(self):
+        """A start, names that are wanted and aliases, by directives; modules have starts and aliases too."""
+        kinds = [0x8C, 0xB0, WEAK]
+        modules = [module_of_default(self.random.choice(ALIASED), b"default", WEAK)]
+        modules += [module_of_external(self.random.choice(ALIASED), self.random.choice(kinds[:2])) for _ in range(2)]
+        modules += [module_of_start(self.random.choice([0x8A, 0x8B]), self.random.randrange(4)) for _ in range(2)]
+        modules += [module_of_alias(*self.random.sample(ALIASED, 2))]
+        modules = self.random.sample(modules, self.random.choice([1, 2, 2, 3, 4]))
+        some = self.random.sample(ALIASED, self.random.choice([2, 3, 4]))
+        members = [module_of_publics([each]) for each in some] + [module_of_publics([b"default"])]
+        members += [module_of_alias(*self.random.sample(ALIASED, 2))] if self.happens(0.3) else []
+        self.random.shuffle(members)
+        self.files["0.lib"] = library(self.random, members, SMALL_PAGES)
+        self.give_library("0.lib")
+        if not self.has_lines:
+            self.say_names()
+        self.job.map, self.folders = MAP, []
+        for number, content in enumerate(modules):
+            self.files[f"{number}.obj"] = content
+            self.give(f"{number}.obj")
+        return self.by_directives()
+
+    def say_names(self):
+        """A start, names that are wanted, and aliases; lines of LINK and TLINK have no word for them."""
+        job = self.job
+        job.start = self.random.choice([None, *NAMED])
+        job.references = self.random.sample(NAMED, self.random.choice([0, 0, 1, 2]))
+        job.aliases = [
+            (self.some_case(alias), self.some_case(means)) for alias, means in (
+                self.random.sample(NAMED, 2) for _ in range(self.random.choice([0, 0, 1, 2])))]
+
+    def some_case(self, name):
+        """A name, in capitals at times where case doesn't count."""
+        return name.upper() if self.job.ignores_case and self.happens(0.3) else name
 
     def make_local(self, given):
         """Two modules with variables that are local to them, of which one has something more."""
@@ -1110,13 +1149,31 @@ class JobMaker:
         lines += [] if job.stack is None else [f"option stack={self.size(job.stack.length)}"]
         lines += [self.order_line()] if isinstance(job.order, list) else []
         lines += self.required_lines
+        lines += self.naming_lines()
         lines += self.random.sample(LINES_OF_NOTHING, self.random.randrange(3))
         lines += self.form_lines()
         lines += [self.random.choice(LEFT_OUT)] if self.happens(0.2) else []
         lines += [self.random.choice(WRONG_LINES)] if self.happens(0.1) else []
         self.random.shuffle(lines)
+        lines = self.merged(lines, self.lists("reference", job.references))
+        lines = self.merged(lines, self.alias_lines())
         lines = self.merged(lines, self.lists("libpath", job.folders))
         return self.merged(lines, self.given_lines())
+
+    def naming_lines(self):
+        """A line of the start, where there is one."""
+        if self.job.start is None:
+            return []
+        word = self.random.choice(["start", "start", "star", "STARt"])
+        first = self.random.choice(["", "", "", "start=other, "])
+        return [f"option {first}{word}{self.random.choice(['=', ' = '])}{self.quoted(self.job.start)}"]
+
+    def alias_lines(self):
+        """A line for each alias, or one of all."""
+        aliases = [f"{self.quoted(alias)}={self.quoted(means)}" for alias, means in self.job.aliases]
+        if aliases and self.happens(0.5):
+            return [f"alias {self.random.choice([',', ' , ']).join(aliases)}"]
+        return [f"alias {each}" for each in aliases]
 
     def given_lines(self):
         """The lines of what is linked, in its order."""
@@ -1177,6 +1234,7 @@ MADE = [
     (WRONG_EVERY, 8, in_turn(JobMaker.make_wrong, WRONG_LINES)),
     (QUIET_EVERY, 20, in_turn(JobMaker.make_quiet)),
     (ALIASES_EVERY, 14, in_turn(JobMaker.make_aliases)),
+    (NAMING_EVERY, 17, in_turn(JobMaker.make_naming)),
     (FLAT_EVERY, 10, in_turn(JobMaker.make_flat, FLAT)),
     (MARKS_EVERY, 16, in_turn(JobMaker.make_marks, CLEARED)),
     (FOREIGN_EVERY, 29, in_turn(JobMaker.make_foreign, FOREIGN)),

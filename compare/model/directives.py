@@ -16,6 +16,8 @@ WORD = re.compile(rf'[{SPACE}]*(?:"([^"]*)"|([^"{SPACE}][^{SPACE}]*))')
 # a number, and its unit
 NUMBER = re.compile(r"(?:0[xX]([0-9a-fA-F]+)|([0-9]+))([kKmM]?)")
 LONGEST_STACK = 65_536
+# the bytes of a name in a module, at most
+LONGEST_NAME = 255
 # the end of the memory that a real-mode address reaches
 MEMORY_END = 0x100000
 # a name between quotes of either kind, a word, or a comma, an equals sign or a brace
@@ -80,6 +82,10 @@ class Job:
     map_lacks: list = field(default_factory=list)
     # default libraries that aren't searched
     left_out: list = field(default_factory=list)
+    # the public at which the program starts, names that are wanted, and pairs of a name and what it means
+    start: Optional[str] = None
+    references: list = field(default_factory=list)
+    aliases: list = field(default_factory=list)
     # pairs of where a line stands and what becomes of what it asks for
     warnings: list = field(default_factory=list)
 
@@ -247,6 +253,26 @@ def read_name(job, tokens, line):
     job.out = name(tokens)
 
 
+def name_of_module(text):
+    """A name that a module can have."""
+    if len(text.encode()) > LONGEST_NAME:
+        raise Refused
+    return text
+
+
+def read_references(job, tokens, line):
+    """Names that are wanted, in a list."""
+    job.references += map(name_of_module, names(tokens))
+
+
+def read_aliases(job, tokens, line):
+    """Names with equals signs behind them, and what they mean, with commas between such."""
+    for alias in parts(tokens):
+        if len(alias) != 3 or alias[1].kind != "=":
+            raise Refused
+        job.aliases.append(tuple(name_of_module(name([each])) for each in alias[::2]))
+
+
 def read_format(job, tokens, line):
     """A program of DOS: an .EXE or a .COM file, where that is said."""
     if len(tokens) not in (1, 2) or not tokens[0].is_word("dos"):
@@ -306,6 +332,10 @@ def read_option(job, word, value, line):
         job.warnings.append((line, LEFT_OUT[word]))
     elif word == "stack":
         job.stack = Stack(stack_length(value), cuts=True)
+    elif word == "start":
+        if value is None:
+            raise Refused
+        job.start = name_of_module(value)
     elif word == "map":
         job.map, job.maps_to_out = value, value is None
     elif word not in SWITCHES:
@@ -353,14 +383,15 @@ READERS = {
     "file": read_files, "library": read_libraries, "libpath": read_folders, "name": read_name,
     "format": read_format, "system": read_system, "output": read_output, "option": read_options,
     "order": read_order, "debug": leave_out, "sort": leave_out, "disable": leave_out,
+    "reference": read_references, "alias": read_aliases,
 }
 # the directives, and how many letters of each there are at least
 DIRECTIVES = {
     "file": 1, "library": 1, "libpath": 4, "name": 1, "format": 4, "system": 3, "output": 3,
-    "option": 2, "order": 3, "debug": 1, "sort": 3, "disable": 4,
+    "option": 2, "order": 3, "debug": 1, "sort": 3, "disable": 4, "reference": 3, "alias": 1,
 }
 # those whose operands are a list, and those with none but words of their own
-LISTS = ("file", "library", "libpath")
+LISTS = ("file", "library", "libpath", "reference")
 NO_FIRST = ("order", "debug", "sort")
 # words that go on with operands, with how many stand behind them; or how many letters there are at least
 OWN_WORDS = {
@@ -392,10 +423,10 @@ LEFT_OUT = {
 
 # the options, and how many letters of each there are at least
 SHORTER = {
-    "quiet": 1, "map": 1, "stack": 2, "dosseg": 3, "caseexact": 1, "nodefaultlibs": 3, "symfile": 4,
+    "quiet": 1, "map": 1, "stack": 2, "start": 4, "dosseg": 3, "caseexact": 1, "nodefaultlibs": 3, "symfile": 4,
     "verbose": 1, "statics": 4, "artificial": 3, "showdead": 3, "maxerrors": 4,
 }
-OPTIONS = {each: SHORTER.get(each, len(each)) for each in ("map", "stack", *SWITCHES, *LEFT_OUT)}
+OPTIONS = {each: SHORTER.get(each, len(each)) for each in ("map", "stack", "start", *SWITCHES, *LEFT_OUT)}
 
 
 def read_directive(job, tokens, start):

@@ -11,7 +11,7 @@ from typing import Optional
 
 from model import (
     communal, directives, faults, foreign, forms, image, libraries, line_jobs, link_map, local,
-    lowering, module, ordering, printing, search, stack)
+    lowering, module, naming, ordering, printing, search, stack)
 from model.commands import Answer, Output
 from model.faults import Fault, escaped, printed_name
 from model.names import Names, wanting_places
@@ -146,6 +146,8 @@ class Linking:
         # of each file its path and its bytes, and how many of them were searched
         self.inputs = []
         self.searched = 0
+        # which of them is none that is read, but the module of what the job says of names
+        self.says_names = None
         # the members of libraries, and the modules that are taken
         self.libraries = []
         self.taken = []
@@ -191,6 +193,13 @@ class Linking:
                 self.add(path)
         if lines:
             raise Stop(NO_DEVICE, 1, told_at_most(lines, self.job.is_verbose))
+        if naming.says_names(self.job):
+            self.says_names = len(self.inputs)
+            self.inputs.append((naming.DIRECTIVES, naming.names_module(self.job)))
+
+    def read_paths(self):
+        """The paths of the files that are read."""
+        return [path for number, (path, _) in enumerate(self.inputs) if number != self.says_names]
 
     def map_of(self, program):
         """The map in its form; that of `omf` has the modules behind it."""
@@ -236,7 +245,7 @@ class Linking:
         if path is None:
             self.absent.append(
                 f"{PROGRAM}: warning: library {printed_name(name)} of {word} was not found\n")
-        elif self.place(path) not in [self.place(known) for known, _ in self.inputs]:
+        elif self.place(path) not in map(self.place, self.read_paths()):
             self.add(path)
 
     def search(self):
@@ -289,7 +298,7 @@ class Linking:
 
     def check_place(self, path):
         """A file that is written is none that is read, and no module or library at all."""
-        read = [*self.also_read, *(each for each, _ in self.inputs)]
+        read = [*self.also_read, *self.read_paths()]
         if self.place(path) in map(self.place, read):
             raise Stop(WRONG_WORDS, faults.READ_AND_WRITTEN, [
                 f"{path}: it is read and would be written"])
@@ -374,6 +383,7 @@ class Linking:
         lowered = lowering.lowered_modules(
             [each.content for each in taken], [each.word for each in taken],
             self.job.keeps_debug, means)
+        lowered = self.with_start(lowered)
         lowered = local.with_locals(taken, lowered, self.key)
         behind = made_module(COMMUNAL, communal.communal_module(variables, lowered))
         self.check_bytes(lowered + [each.content for each in behind])
@@ -398,6 +408,15 @@ class Linking:
             return image.link(self.contents, self.job.ignores_case, known)
         except Fault as fault:
             raise self.with_words(fault) from None
+
+    def with_start(self, lowered):
+        """Lowered modules, without their own starts where the job says where the program starts."""
+        if self.job.start is None:
+            return lowered
+        says = naming.names_module(self.job)
+        return [
+            content if each.content == says else naming.without_start(content)
+            for each, content in zip(self.taken, lowered)]
 
     def check_bytes(self, contents):
         """Fault 67 is a program of modules of which no segment has a byte."""

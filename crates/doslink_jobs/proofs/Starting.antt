@@ -1,5 +1,6 @@
 -- Modules that are linked without their own starts.
-use Rattle.std.proofs.Common.{◌≡◌, ℕ, List, [], ◌∷◌, ◌++◌, map, zip, refl, sym, ap, ap₂, ◌∙◌, None, Some}
+use Rattle.std.proofs.Common.{◌≡◌, ℕ, List, [], ◌∷◌, ◌++◌, map, zip, refl, sym, ap, ap₂, ◌∙◌, None, Some, IfOk, Ok, Err}
+use Rattle.std.proofs.Common.{Result, Vec}
 use Rattle.std.proofs.lemmas.List.{map-append}
 use Rattle.std.specs.Borrow.{Bor}
 use Rattle.std.specs.declared.option.Option.{Option}
@@ -39,3 +40,13 @@ some-started job start made modules new some is are =
     ∙ ap (λ b. map (unstarted b) (zip (map own_bytes modules) (map lowered_bytes modules))) is
     ∙ sym (ap (λ s. map (started_by s (names_bytes job)) (zip (map own_bytes modules) (map lowered_bytes modules)))
     some)
+
+-- where that is answered
+pub some-started-ok : {A E : Type 0} (job : Job) (start : Bor (List ℕ)) (made : List ℕ)
+    (modules : List (LoweredModule A)) (r : Result (Vec (LoweredModule A) A) E) → job.start ≡ Some start
+    → made ≡ names_bytes job
+    → IfOk r (λ v. map lowered_bytes v.items ≡ map (λ m. unstarted made (own_bytes m, lowered_bytes m)) modules)
+    → IfOk r (λ v. map lowered_bytes v.items
+    ≡ map (started job) (zip (map own_bytes modules) (map lowered_bytes modules)))
+some-started-ok job start made modules (Ok v) some is are = some-started job start made modules v.items some is are
+some-started-ok job start made modules (Err e) some is are = tt

@@ -1,4 +1,5 @@
 pub mod NamedLemmas
+pub mod NamingLemmas
 pub mod PartsLemmas
 pub mod PlacesLemmas
 pub mod TokensLemmas

@@ -1,6 +1,7 @@
 -- The words of directives, which are read without regard to case, and of which many may be shortened.
 use Rattle.std.specs.Prelude.{ℕ, ◌&&◌, ◌||◌, Bool, Option, Some, None, map, codes, if◌then◌else◌, length, nat_le, take}
 use Rattle.std.specs.Char.{to_ascii_lowercase}
+use Rattle.std.specs.Option.{option_or}
 use Rattle.std.specs.Str.{bytes_eq}
 use Rattle.clap.specs.Words.{Text}
 use Rattle.doslink_words.specs.declared.keywords.Directive.{Directive}
@@ -68,17 +69,26 @@ is_ignoring word =
     is_keyword word (codes "nocaseexact") || is_keyword word (codes "caseignore")
     || is_keyword word (codes "ignorecase")
 
--- the option of a name
-abbrev pub switch_named : Text → Option Switch
-switch_named word =
+-- the option of a name that takes a value
+abbrev pub valued_named : Text → Option Switch
+valued_named word =
+    if is_short word (codes "map") 1 then Some switch.Map
+    else (if is_short word (codes "stack") 2 then Some switch.Stack
+    else (if is_short word (codes "start") 4 then Some switch.Start
+    else None))
+
+-- one that takes none, or has no effect
+abbrev pub plain_named : Text → Option Switch
+plain_named word =
     if is_short word (codes "quiet") 1 then Some (switch.Plain plain.Quiet)
-    else (if is_short word (codes "map") 1 then Some switch.Map
     else (if is_short word (codes "dosseg") 3 then Some (switch.Plain plain.Dosseg)
     else (if is_exact word then Some (switch.Plain plain.Exact)
     else (if is_ignoring word then Some (switch.Plain plain.Ignoring)
     else (if is_short word (codes "nodefaultlibs") 3 then Some (switch.Plain plain.NoDefaultLibraries)
     else (if is_short word (codes "symfile") 4 then Some (switch.Idle warning.Symbols)
-    else (if is_short word (codes "stack") 2 then Some switch.Stack
-    else (if is_short word (codes "start") 4 then Some switch.Start
     else (if is_harmless word then Some (switch.Idle warning.Option)
-    else None)))))))))
+    else None))))))
+
+-- the option of a name
+abbrev pub switch_named : Text → Option Switch
+switch_named word = option_or (valued_named word) (plain_named word)

@@ -181,14 +181,27 @@ fn is_ignoring(word: &str) -> bool
     is(word, "nocaseexact") || is(word, "caseignore") || is(word, "ignorecase")
 }
 
-/// The option of this name.
-pub(crate) fn switch_named(word: &str) -> Option<Switch>
-    ensures { result ≡ spec.switch_named word.now }
+// The option of this name that takes a value.
+fn valued_named(word: &str) -> Option<Switch>
+    ensures { result ≡ spec.valued_named word.now }
+{
+    if is_short(word, "map", 1) {
+        Some(Switch::Map)
+    } else if is_short(word, "stack", 2) {
+        Some(Switch::Stack)
+    } else if is_short(word, "start", 4) {
+        Some(Switch::Start)
+    } else {
+        None
+    }
+}
+
+// The option of this name that takes none, or has no effect.
+fn plain_named(word: &str) -> Option<Switch>
+    ensures { result ≡ spec.plain_named word.now }
 {
     if is_short(word, "quiet", 1) {
         Some(Switch::Plain(Plain::Quiet))
-    } else if is_short(word, "map", 1) {
-        Some(Switch::Map)
     } else if is_short(word, "dosseg", 3) {
         Some(Switch::Plain(Plain::Dosseg))
     } else if is_exact(word) {
@@ -199,13 +212,19 @@ pub(crate) fn switch_named(word: &str) -> Option<Switch>
         Some(Switch::Plain(Plain::NoDefaultLibraries))
     } else if is_short(word, "symfile", 4) {
         Some(Switch::Idle(WarningKind::Symbols))
-    } else if is_short(word, "stack", 2) {
-        Some(Switch::Stack)
-    } else if is_short(word, "start", 4) {
-        Some(Switch::Start)
     } else if is_harmless(word) {
         Some(Switch::Idle(WarningKind::Option))
     } else {
         None
+    }
+}
+
+/// The option of this name.
+pub(crate) fn switch_named(word: &str) -> Option<Switch>
+    ensures { result ≡ spec.switch_named word.now }
+{
+    match valued_named(word) {
+        Some(switch) => Some(switch),
+        None => plain_named(word),
     }
 }

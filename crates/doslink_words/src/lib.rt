@@ -18,7 +18,8 @@ mod words;
 pub use directives::parse_directives;
 pub use faults::{DirectiveFault, DirectiveFaultKind, SplitFault};
 pub use job::{
-    Alias, Directives, Form, Input, Job, MapFile, MapForm, Order, OrderItem, Stack, Warning, WarningKind,
+    Alias, Directives, Form, Input, Job, MapFile, MapForm, Order, OrderItem, Stack, Warning,
+    WarningKind,
 };
 pub use responses::{response_word, text_asked};
 pub use tokens::split_words;

@@ -17,6 +17,8 @@ mod lines;
 #[cfg(test)]
 mod modules;
 #[cfg(test)]
+mod naming;
+#[cfg(test)]
 mod packed;
 #[cfg(test)]
 mod records;

@@ -2,6 +2,7 @@
 use super::forms::{FORM_LINES, FORM_MODULES, FORM_RUNS, FORMED};
 use super::lines::{LINE_FILES, LINE_RUNS, LINED, MAPPED};
 use super::modules::LIBRARY;
+use super::naming::{NAMED_FILES, NAMED_PROGRAMS, NAMING_RUNS};
 use super::tables::{
     ALIAS_RUNS, COMMUNAL_RUNS, DEFAULT_RUNS, DOUBLED_RUNS, LIMITED_RUNS, LOCAL_DEFAULT_RUNS,
     LONG_RUNS, MISSING_RUNS, REFUSED_RUNS, RUNS, SEARCH_RUNS, SUM_RUNS, SYMBOL_RUNS, WARNED_RUNS,
@@ -175,6 +176,27 @@ fn communal_runs_tell_these_lines(rt: HostRuntime) -> Result<(), Fail> {
 fn alias_runs_tell_these_lines(rt: HostRuntime) -> Result<(), Fail> {
     let wrong = first_wrong(rt.alloc(), ALIAS_RUNS)?;
     assert_eq!(rt; wrong, None);
+    Ok(())
+}
+
+#[test]
+fn naming_runs_tell_these_lines(rt: HostRuntime) -> Result<(), Fail> {
+    let wrong = first_wrong(rt.alloc(), NAMING_RUNS)?;
+    assert_eq!(rt; wrong, None);
+    Ok(())
+}
+
+#[test]
+fn naming_runs_write_these_files(rt: HostRuntime) -> Result<(), Fail> {
+    for (row, bytes) in &NAMED_PROGRAMS {
+        let done = run_row(rt.alloc(), row, "")?;
+        assert!(rt; done.out.ends_with(bytes), "{row}");
+    }
+    for (row, path, program, map) in &NAMED_FILES {
+        let done = run_row(rt.alloc(), row, path)?;
+        assert!(rt; done.out.as_slice() == *program, "{row}");
+        assert!(rt; done.map.as_slice() == map.as_bytes(), "{row}");
+    }
     Ok(())
 }
 

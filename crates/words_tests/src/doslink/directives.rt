@@ -528,11 +528,23 @@ fn named(alloc: Global, front: &str, size: usize) -> Result<String, AllocError> 
 
 #[test]
 fn takes_names_that_a_module_can_have(rt: HostRuntime) {
-    for front in ["option start=", "reference ", "reference x,", "alias a=", "alias a=b, "] {
+    for front in [
+        "option start=",
+        "reference ",
+        "reference x,",
+        "alias a=",
+        "alias a=b, ",
+    ] {
         let taken = named(rt.alloc(), front, 255).expect(&rt, "text");
         let is_name = !front.ends_with(", ");
-        assert!(&rt; taken.as_str().starts_with("Ok") == is_name, "{front}: {taken}");
+        assert!(&rt;
+            taken.as_str().starts_with("Ok") == is_name,
+            "{front}: {taken}"
+        );
         let refused = named(rt.alloc(), front, 256).expect(&rt, "text");
-        assert!(&rt; refused.as_str().ends_with("kind: WrongOperands })"), "{front}: {refused}");
+        assert!(&rt;
+            refused.as_str().ends_with("kind: WrongOperands })"),
+            "{front}: {refused}"
+        );
     }
 }
