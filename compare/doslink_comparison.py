@@ -65,12 +65,16 @@ class Comparison(comparison.Comparison):
     def run(self, case, answer):
         """Runs the program on a case and compares its status and its two streams."""
         environment = {**os.environ, "LIB": case.between.join(case.folders)}
+        environment.pop("LINK", None)
+        if case.variable is not None:
+            environment["LINK"] = case.variable
         done = subprocess.run(
             self.command(case), cwd=self.folder, env=environment,
             stdin=subprocess.DEVNULL, stdout=subprocess.PIPE, stderr=subprocess.PIPE)
         self.counts.ends[case.program, answer.fault] += 1
         if self.keeps:
-            (self.folder / WORDS).write_text(" ".join([case.program, *case.words]) + "\n")
+            variable = [] if case.variable is None else [f"LINK={case.variable}"]
+            (self.folder / WORDS).write_text(" ".join([*variable, case.program, *case.words]) + "\n")
         expect("the faults", done.stderr, answer.error)
         expect("the status", [done.returncode], [answer.status])
         expect("the output", done.stdout, answer.output)
@@ -97,7 +101,7 @@ def model_answer(case, files):
     """What the model answers to a case over its files."""
     where = files, case.folders, files.can_be_made
     if case.program in LINES:
-        return linking.link_by_line(case.program, case.words, *where)
+        return linking.link_by_line(case.program, case.words, *where, case.variable or "")
     if case.program == DIRECTIVES:
         return linking.link_by_directives(case.words, *where)
     if case.words == ["@" + jobs.RESPONSE]:

@@ -14,6 +14,7 @@ from model.directives import Form, Input, Job, Stack
 from model.faults import Fault
 from model.names import Names
 from model.ordering import Class, Named
+from model.places import DosFiles, PlacedFiles
 from model.records import Direct, Method, PublicName, Spelling
 from worked import MOST, NEAR_CALL, NO_REGISTERS, NO_TABLE, header
 
@@ -442,7 +443,37 @@ SPLIT = [
 # words of LINK and TLINK over some response files: what the job has that a job of no options hasn't, or its fault
 LINE_FILES = {
     "main.rsp": b"c0s main+\r\nprint\r\nprog\r\n\r\ncs\r\n\x1A;nothing of this", "objs": b"a+b\n", "first": b"@objs,p",
-    "itself": b"@itself", "wrong": b"/e\na\n p /z"}
+    "itself": b"@itself", "wrong": b"/e\na\n p /z", "Tlink.cfg": b"/c\r\n/Ld ; -x\r\n\x1A/z"}
+# title, the environment's LINK or the bytes of TLINK.CFG, and the same of what stands behind that
+FRONTS = [
+    ("options of LINK", "link", "/NOI /CO", ["a", "/E;"], {
+        "inputs": given(["a"]), "ignores_case": False, "warnings": [
+            ("LINK: line 1, column 6", "no data for debuggers is written"),
+            ("line 1, column 3", "the program isn't packed: it runs the same")]}),
+    ("a later option", "link", "/ST:64", ["/ST:32", "a;"], {"inputs": given(["a"]), "stack": Stack(32, True)}),
+    ("an object", "link", "c0", ["a,p;"], {"inputs": given(["c0", "a"]), "out": "p"}),
+    ("a response file of LINK", "link", "@objs", [",p;"], {"inputs": given(["a", "b"]), "out": "p"}),
+    ("one that is wrong", "link", "@wrong", ["a"], 'LINK: line 3, column 4: "/z": unknown option'),
+    ("a wrong option of LINK", "link", "/NOI /z", ["a;"], 'LINK: line 1, column 6: "/z": unknown option'),
+    ("one behind LINK", "link", "/NOI", ["a", "/z;"], 'line 1, column 3: "/z": unknown option'),
+    ("a quote that LINK doesn't close", "link", '/NOI "', ['a";'], 'LINK: line 1, column 6: "\\"": a quote isn\'t closed'),
+    ("a call", "link", "C:\\BIN\\doslink --as link", ["a;"], {"inputs": given(["a"])}),
+    ("another one", "link", "run C:\\BIN\\Link.exe", ["a;"], {"inputs": given(["a"])}),
+    ("no call", "link", "doslink", ["a;"], {"inputs": given(["doslink", "a"])}),
+    ("LINK of TLINK", "tlink", "/z", ["/x-", "a"], {
+        "inputs": given(["a"]), "folders": ["d"], "ignores_case": False, "maps_to_out": True}),
+    ("options of TLINK.CFG", "tlink", b"/c\n/Le;f", ["/Lg", "/x", "a"], {
+        "inputs": given(["a"]), "folders": ["e", "f", "g"], "ignores_case": False}),
+    ("a later option of TLINK", "tlink", b"/c/x\r\n", ["/c-", "a"], {"inputs": given(["a"])}),
+    ("semicolons", "tlink", b";/x;\n;", ["a"], {"inputs": given(["a"])}),
+    ("no options", "tlink", b"\r\n\x1A/z", ["/x", "a"], {"inputs": given(["a"])}),
+    ("a wrong option of TLINK.CFG", "tlink", b"/x\r\n /z", ["a"], 'TLINK.CFG: line 2, column 2: "/z": unknown option'),
+    ("an object in TLINK.CFG", "tlink", b"/x c0", ["a"], 'TLINK.CFG: line 1, column 4: "c0": an option is expected'),
+    ("a comma in TLINK.CFG", "tlink", b"/x,", ["a"], 'TLINK.CFG: line 1, column 3: ",": an option is expected'),
+    ("a response file in TLINK.CFG", "tlink", b"@objs", ["a"], 'TLINK.CFG: line 1, column 1: "@objs": an option is expected'),
+    ("a warning of TLINK.CFG", "tlink", b"/x\n/v", ["a"], {
+        "inputs": given(["a"]), "warnings": [("TLINK.CFG: line 2, column 1", "no data for debuggers is written")]}),
+]
 LINES = [
     ("all fields", "link", ["/NOI", "a+b,p,l,c", "d/", "e"], {
         "inputs": given(["a", "b"], ["c", "e"]), "out": "p", "map": "l", "folders": ["d/"], "ignores_case": False}),
@@ -1309,16 +1340,27 @@ def check_directives():
         assert found == wanted, title
 
 
+def line_answer(language, words, variable, files):
+    """What the job of a line has that a job of no options hasn't, or its fault."""
+    without = vars(Job(
+        map_form=language, ignores_case=True, form=Form("exe"), has_null_bytes=language == "link"))
+    try:
+        front, text, _ = line_jobs.text_of(language, words, DosFiles(PlacedFiles(files)), variable)
+        job = vars(line_jobs.job_of(language, text, front))
+        return {name: value for name, value in job.items() if value != without[name]}
+    except line_jobs.LineRefused as refused:
+        return refused.text
+
+
 def check_lines():
+    plain = {path: content for path, content in LINE_FILES.items() if path != "Tlink.cfg"}
     for title, language, words, wanted in LINES:
-        without = vars(Job(
-            map_form=language, ignores_case=True, form=Form("exe"), has_null_bytes=language == "link"))
-        try:
-            text, _ = line_jobs.text_of(language, words, LINE_FILES)
-            job = vars(line_jobs.job_of(language, text))
-            found = {name: value for name, value in job.items() if value != without[name]}
-        except line_jobs.LineRefused as refused:
-            found = refused.text
+        found = line_answer(language, words, "", plain)
+        assert found == wanted, (title, found)
+    for title, language, front, words, wanted in FRONTS:
+        is_file = isinstance(front, bytes)
+        files = {**plain, "tlink.CFG": front} if is_file else LINE_FILES
+        found = line_answer(language, words, "/z" if is_file else front, files)
         assert found == wanted, (title, found)
     made = code_module(
         b"x", records.PublicNames(0, 1, None, [PublicName(b"b", 3, 0)]),

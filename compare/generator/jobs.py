@@ -2,12 +2,14 @@
 
 from dataclasses import dataclass, field, replace
 from itertools import groupby
+from typing import Optional
 
 from generator.communals import (
     LOCATIONS, NO_NUMBERS, Declared, at_limit, module_of_communals, module_of_local_variables,
     module_of_no_number)
 from generator.lines import (
-    LINES_OF_TLINK, LINK, ODD_LINES, OTHER_OPTIONS, TLINK, WRONG_WORDS, LineSpeller, in_another_case)
+    BEHIND_TEXT, CALLS, CONFIGURATIONS, LINES_OF_TLINK, LINK, ODD_CONFIGURATIONS, ODD_FRONTS, ODD_LINES, OTHER_OPTIONS,
+    TLINK, WRONG_WORDS, LineSpeller, in_another_case)
 from generator.libraries import (
     ARCHIVE, SMALL_PAGES, SYMBOL_TABLES, archive, archive_of_symbols, archive_with_symbols, damaged,
     foreign, library, with_header)
@@ -178,7 +180,8 @@ SHORTEST = {
 class Case:
     """A job: the files that are there, the words, and the program's name.
 
-    The folders are those of LIB, and between them stands a sign.
+    The folders are those of LIB, and between them stands a sign. The variable is LINK of the environment, where it is
+    there.
     """
 
     files: dict
@@ -187,6 +190,7 @@ class Case:
     program: str = "doslink"
     folders: list = field(default_factory=list)
     between: str = ":"
+    variable: Optional[str] = None
 
 
 class JobMaker:
@@ -196,6 +200,8 @@ class JobMaker:
         self.random = random
         # whether the job is asked for by a line of LINK or TLINK
         self.has_lines = has_lines
+        # the environment's LINK, where it is there
+        self.variable = None
         self.files = {}
         self.job = Job(out=OUT)
         self.job.ignores_case = self.happens(0.3)
@@ -906,7 +912,17 @@ class JobMaker:
         job.form, job.keeps_debug, job.is_verbose = Form(kinds.get(kind, kind)), False, self.happens(0.5)
         job.order = job.order if job.order == ordering.DOSSEG else None
         job.inputs.sort(key=lambda each: each.is_library)
-        return self.case(speller.spelled(job, more), language)
+        words = speller.spelled(job, more)
+        self.put_front(language, speller.front)
+        return self.case(words, language)
+
+    def put_front(self, language, front):
+        """What stands in front of a line: a variable, or a file."""
+        if language == LINK:
+            self.variable = front or None
+        elif front:
+            text = front + self.random.choice(["", "", "\n", "\r\n"]) + self.random.choice(BEHIND_TEXT)
+            self.files[self.random.choice(CONFIGURATIONS)] = text.encode()
 
     def move_inputs(self):
         """Some of what is linked, of what is here, stands in folders, by names that begin as options of TLINK do."""
@@ -949,6 +965,18 @@ class JobMaker:
         name = self.random.choice(["0.obj", "0", '"0.obj"', "0.OBJ"])
         line = line.replace("OBJECT", name)
         return self.case([line[1:]] if line.startswith("~") else speller.words(line), language)
+
+    def make_odd_front(self, language, front):
+        """A line with something in front of it that is wrong, or seems so."""
+        line = self.random.choice(["OBJECT,out", "OBJECT", "/c- OBJECT/x-", ",out", "OBJECT,tlink.cfg", "OBJECT,,TLINK.CFG;"])
+        self.put_front(language, front.replace("OBJECT", "0"))
+        self.files["tail"] = b"0 /e\r\n"
+        return self.make_odd_line(line, language)
+
+    def make_odd_configuration(self, files):
+        """TLINK.CFG that is no text, or isn't the file that is meant."""
+        self.files.update(files)
+        return self.make_odd_line("OBJECT,out", TLINK)
 
     def make_cases(self, language, counts):
         """Two publics that differ by case alone, where that counts or not."""
@@ -999,8 +1027,11 @@ class JobMaker:
         return self.case(self.words(), "doslink")
 
     def case(self, words, program):
+        variable = self.variable
+        if variable is None and self.happens(0.2):
+            variable = self.random.choice(["", " ", *CALLS]) if program == LINK else "/q nothing"
         return Case(
-            self.files, self.job, words, program, self.folders, self.random.choice(":;"))
+            self.files, self.job, words, program, self.folders, self.random.choice(":;"), variable)
 
     def text_of(self, words):
         """A response file of words; rarely one that isn't there, or is wrong."""
@@ -1273,6 +1304,9 @@ MADE = [
 
 # Where lines are asked for, half of the jobs are of these: by half of its number.
 MADE_BY_LINES = [
+    (8, 4, in_turn(JobMaker.make_odd_front, [
+        (language, front) for language in (LINK, TLINK) for front in ODD_FRONTS[language]])),
+    (40, 2, in_turn(JobMaker.make_odd_configuration, ODD_CONFIGURATIONS)),
     (2, 0, in_turn(JobMaker.make_line_options, [
         (language, option) for language in (LINK, TLINK)
         for option in [*OTHER_OPTIONS[language], *WRONG_WORDS[language]]])),

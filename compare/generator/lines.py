@@ -60,6 +60,28 @@ LINES_OF_TLINK = [
     "OBJECT,nowhere/Table", "OBJECT /Lc:\\tc\\lib/c", "OBJECT -jc:\\obj/Tdc", "OBJECT /Lsub\\more/v,,,x",
     "OBJECT /Lsub:/v,,,x", "OBJECT /Lx/c\\d,,,y", "OBJECT,,, /Lx;c:\\tc/m l", "OBJECT -La/j", "OBJECT /c/La/m",
     "OBJECT /Lc:\\tc\\lib/c;", "OBJECT /jx/Lc:\\tc,,,l", "OBJECT /Lx/q,,,l", "OBJECT /Lx,,,l"]
+# the environment's LINK that is a call of a linker
+CALLS = ["doslink --as link", "/usr/bin/doslink --as LINK /q", "link", "C:\\BIN\\LINK.EXE /q", "run ./link\t/q", "a:Link"]
+# what stands in front of a line that is wrong, or seems so; `OBJECT` is that of the job
+ODD_FRONTS = {
+    LINK: [
+        *CALLS, "/NOI /NOLOGO /CO", "\t/NOI\n/CO ", "/z", "/NOI /z", "/NOI\n /z", "OBJECT", "OBJECT /NOI", "OBJECT;", "OBJECT,",
+        "OBJECT,out", "OBJECT,,list,x.lib", "OBJECT\n", "OBJECT+", "+", ",", ";", "OBJECT nowhere", "@nowhere", "@tail",
+        "/NOI @tail", '"OBJECT"', '"', '"OBJECT" "', "/HIGH", "/ST:0", "/ST:64 /CO /CO", "linker", "doslink", "/NOD:link",
+        "--As", "--asx", "link.obj", "(a+b)", "con", "sub\\a", "SUB/A /E", "/PM /CO /W /INC", "\u00e9 /z"],
+    TLINK: [
+        "/c /x", "/x\r\n/c", "-x\n\n-c/v", ";", "/x;/c;", "; /x ;\n;", "/Lsub;x.lib\n/n", "/La;b /Lsub", "/v /f\n/y /jobj\n /v",
+        "OBJECT", "/x OBJECT", "OBJECT/x", "/x @tail", ",", "/x,", "+", "/x +\n/c", '"OBJECT"', '"', '/x "', "/z", "/x\n/z",
+        "/x\n\n /c /z", "/La/c", "/Lc:\\a/c", "/home/x", "./x", "/i", "/i /i-", "/i-", "/o", "/Twe", "/t", "/l /s", "/x-",
+        "\u00e9", "/x \u00e9 /z"],
+}
+# the names of TLINK.CFG, and what it may be that is no text of options, or isn't the file that is meant
+CONFIGURATIONS = ["TLINK.CFG", "TLINK.CFG", "tlink.cfg", "Tlink.Cfg"]
+ODD_CONFIGURATIONS = [
+    {"TLINK.CFG": b""}, {"TLINK.CFG": b"/x\xE9"}, {"tlink.cfg": b"\x1A\xE9"}, {"TLINK.CFG/x": b"/z"}, {"tlink.cfg/x": b""},
+    {"tlink.cfg": b"/z", "Tlink.cfg": b"/z"}, {"tlink.cfg": b"/z", "TLINK.CFG": b"/x\n"}, {"sub/TLINK.CFG": b"/z"},
+    {"TLINK.CFG": b"\x1A/z"}, {"tlink.cf": b"/z", "tlink.cfgs": b"/z", "xtlink.cfg": b"/z", "tlink": b"/z"},
+    {"LINK": b"/z", "LINK.CFG": b"/z"}]
 # extra paragraphs that are asked for at most, which most programs need more of, need just so, or need fewer of
 EXTRA = [0, 0, 1, 0x10, 0xFFFF]
 # options of TLINK whose values may be anything, so that they touch no name, and those that only begin so
@@ -81,6 +103,8 @@ class LineSpeller:
         self.random = random
         self.language = language
         self.files = files
+        # what stands in front of the line
+        self.front = ""
 
     def happens(self, likelihood):
         return self.random.random() < likelihood
@@ -90,11 +114,27 @@ class LineSpeller:
         return self.words(self.line(job, more))
 
     def line(self, job, more):
-        """A line: its fields, with options anywhere."""
+        """A line: its fields, with options anywhere; at times some of both stand in front of it."""
         fields = self.fields(job)
-        options = self.options(job)
+        options = [*self.options(job), *more]
+        if self.happens(0.3):
+            options, fields[0] = self.with_front(options, fields[0])
         text = self.joined(fields)
-        return self.with_options(text, [*options, *more])
+        return self.with_options(text, options)
+
+    def with_front(self, options, objects):
+        """The options and the objects that don't stand in front of the line: options of either, objects of LINK alone."""
+        count = self.random.randint(0, len(options))
+        parts = options[:count] + [self.option(*self.random.choice(OTHER_OPTIONS[self.language]))]
+        if self.language == LINK:
+            first = self.random.choice([0, 0, 1, len(objects)])
+            parts, objects = [*parts, *objects[:first]], objects[first:]
+            if first == 0:
+                self.random.shuffle(parts)
+            self.front = " ".join(parts)
+        else:
+            self.front = "".join(part + self.random.choice([" ", "\n", "\n", "\r\n", " ; ", "\t"]) for part in parts)
+        return options[count:], objects
 
     # ---- fields
 

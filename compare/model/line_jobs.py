@@ -1,4 +1,7 @@
-"""The job of the words of LINK or TLINK: their text with what response files have, and what it asks for."""
+"""The job of the words of LINK or TLINK: their text with what response files have, what stands in front of it, and what
+both ask for."""
+
+import re
 
 from model import line_options, lines, ordering
 from model.directives import SPACE, Form, Input, Job, Stack, text_of as text_of_path
@@ -12,6 +15,7 @@ KINDS = {
     lines.BEHIND_END: "nothing is expected behind `;`",
     lines.DEVICE: "a file is expected, and no device",
     lines.DEFINITIONS: "definitions aren't followed: a field that is empty or NUL is expected",
+    lines.NO_OPTION: "an option is expected",
     lines.TWO_WAYS: "a blank is expected between options, and folders without one of an option's name",
     line_options.UNKNOWN_OPTION: "unknown option",
     line_options.WRONG_VALUE: "the option's value is no number that it takes",
@@ -29,6 +33,10 @@ IDLE = {
 ALL_BYTES = "/i isn't followed: segments without data take no bytes of the file"
 # what a map is called
 MAP = ".MAP"
+# what stands in front of a line: a file of TLINK, and a variable of LINK
+FRONTS = {lines.TLINK: "TLINK.CFG", lines.LINK: "LINK"}
+# what parts words, and folders, where a variable is a call of a linker
+BETWEEN_WORDS, BETWEEN_FOLDERS = re.compile(r"[ \t\n\f\r]"), re.compile(r"[\\/:]")
 TOO_DEEP = "response files name one another more than 8 deep"
 TOO_MANY = "a line has at most 200 response files"
 MOST_DEEP, MOST_FILES = 8, 200
@@ -48,16 +56,39 @@ class LineRefused(Exception):
         self.text = text
 
 
-def text_of(language, words, files):
-    """The text of words, in which each response file stands in the place of its name, and the files.
+def text_of(language, words, files, variable=""):
+    """What stands in front of words, and their text, in both of which each response file stands in the place of its name;
+    and the files.
 
     Response files may name others.
     """
-    text = "".join(as_typed(word) + " " for word in words)
     read = []
+    configuration = [FRONTS[language]] if language == lines.TLINK and is_there(FRONTS[language], files) else []
+    if language == lines.TLINK:
+        front = "".join(lines.up_to_end(text_of_path(path, files)) for path in configuration)
+    else:
+        front = with_all_files(language, "" if is_call(variable) else variable, files, read)
+    text = with_all_files(language, "".join(as_typed(word) + " " for word in words), files, read)
+    return front, text, [*configuration, *read]
+
+
+def is_there(path, files):
+    """Whether something stands at a path, or two things may be meant."""
+    return files.get(path) is not None or files.is_folder(path) or files.has_two(path)
+
+
+def is_call(variable):
+    """Whether a variable is a call of a linker, which make hands on: it has `--as`, or the name of LINK."""
+    words = BETWEEN_WORDS.split(variable)
+    return "--as" in words or any(
+        BETWEEN_FOLDERS.split(word)[-1].lower() in ("link", "link.exe") for word in words)
+
+
+def with_all_files(language, text, files, read):
+    """A text with response files, and those that they name."""
     for _ in range(MOST_DEEP):
         text = with_files(language, text, files, read)
-    return text, read
+    return text
 
 
 def as_typed(word):
@@ -84,28 +115,32 @@ def content(path, files, read):
     return lines.text_of_file(text_of_path(path, files))
 
 
-def place_in(text, place):
-    """A place in a text, which is in bytes, by its line and by its byte in that, both from 1 on."""
-    front = text.encode()[:place]
-    return f"line {front.count(10) + 1}, column {len(front) - (front.rfind(10) + 1) + 1}"
+def place_in(language, front, text, place):
+    """A place in a line, which is in bytes, by its part, its line there and by its byte in that, both from 1 on."""
+    name, length = "", len(front.encode())
+    if place < length:
+        name, before = f"{FRONTS[language]}: ", front.encode()[:place]
+    else:
+        before = text.encode()[:place - length]
+    return f"{name}line {before.count(10) + 1}, column {len(before) - (before.rfind(10) + 1) + 1}"
 
 
-def said_by(language, text):
-    """What a text says, or why it can't be followed."""
+def said_by(language, text, front):
+    """What a text says behind its front, or why it can't be followed."""
     try:
-        return lines.read(language, text)
+        return lines.read(language, text, front)
     except lines.LineFault as fault:
         if fault.kind == lines.NO_OBJECT:
             raise LineRefused(KINDS[fault.kind]) from None
         if fault.kind == lines.RESPONSE:
             raise LineRefused(f"{quoted(fault.word)}: {TOO_DEEP}") from None
-        place = place_in(text, fault.place)
+        place = place_in(language, front, text, fault.place)
         raise LineRefused(f"{place}: {quoted(fault.word)}: {KINDS[fault.kind]}") from None
 
 
-def job_of(language, text):
-    """The job of a text; its program and its map are still named as they are written."""
-    said = said_by(language, text)
+def job_of(language, text, front=""):
+    """The job of a text behind its front; its program and its map are still named as they are written."""
+    said = said_by(language, text, front)
     if said.writes_all:
         raise LineRefused(ALL_BYTES)
     # a .COM file has no header that could ask for memory
@@ -121,4 +156,4 @@ def job_of(language, text):
         has_default_libraries=said.has_default_libraries, left_out=said.left_out,
         has_null_bytes=language == lines.LINK and said.order != "dosseg-nonulls",
         stack=None if said.stack is None else Stack(said.stack, cuts=True), form=form, is_verbose=said.is_verbose,
-        warnings=[(place_in(text, place), IDLE[idle]) for place, idle in said.warnings])
+        warnings=[(place_in(language, front, text, place), IDLE[idle]) for place, idle in said.warnings])

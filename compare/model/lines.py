@@ -1,7 +1,8 @@
 """Lines of LINK and of TLINK: `objects, program, map, libraries, definitions;`, options anywhere.
 
-A line is a text, in which each response file stands in the place of its name. Its words are read one
-by one, and what they say is a `Said`; the first that can't be followed is a LineFault.
+A line is a text, in which each response file stands in the place of its name, and a front of it: the
+environment's LINK, or what TLINK.CFG says. Its words are read one by one, those of the front first, and
+what they say is a `Said`; the first that can't be followed is a LineFault.
 """
 
 import re
@@ -13,7 +14,7 @@ from model.line_options import OPTION, OVERLAYS, UNKNOWN_OPTION, Wrong, has_free
 LINK, TLINK = "link", "tlink"
 NO_OBJECT, SECOND_NAME, TOO_MANY_FIELDS = "NoObject", "SecondName", "TooManyFields"
 BEHIND_END, UNCLOSED, RESPONSE = "BehindEnd", "UnclosedQuote", "Response"
-DEVICE, DEFINITIONS, TWO_WAYS = "Device", "Definitions", "TwoWays"
+DEVICE, DEFINITIONS, TWO_WAYS, NO_OPTION = "Device", "Definitions", "TwoWays", "NoOption"
 OBJECTS, PROGRAM, MAP, LIBRARIES, DEFINED, ENDED = range(6)
 END_OF_TEXT = "\x1A"
 # blanks, and what else parts words
@@ -26,7 +27,7 @@ OF_DOS = re.compile(r"[\\:]")
 
 
 class LineFault(Exception):
-    """The first word at fault: how many bytes of the text stand before it, itself, and why."""
+    """The first word at fault: how many bytes of the front and the text stand before it, itself, and why."""
 
     def __init__(self, place, word, kind):
         super().__init__(place, word, kind)
@@ -75,10 +76,15 @@ class Token:
     place: int
 
 
+def up_to_end(text):
+    """A text up to Ctrl-Z."""
+    return text.partition(END_OF_TEXT)[0]
+
+
 def text_of_file(text):
     """What stands in the place of a response file's name: its lines, up to Ctrl-Z, without the end
     of the last one."""
-    return text.partition(END_OF_TEXT)[0].removesuffix("\n")
+    return up_to_end(text).removesuffix("\n")
 
 
 def tokens(language, text):
@@ -180,9 +186,12 @@ def refuse_device(name):
 class Reader:
     """Reads a line."""
 
-    def __init__(self, language, text):
+    def __init__(self, language, text, front):
         self.language = language
         self.text = text
+        self.front = front
+        # how many bytes of both stand before the word that is read
+        self.place = 0
         self.said = Said(makes_map=language == TLINK)
         self.field = OBJECTS
         # whether `+` stood last, so that a line goes on
@@ -190,17 +199,30 @@ class Reader:
 
     def read(self):
         """What the line says; it has to name an object."""
-        for token in tokens(self.language, self.text):
-            try:
-                self.read_token(token)
-            except Wrong as wrong:
-                raise LineFault(self.bytes_before(token.place), token.text, wrong.kind) from None
+        length = len(self.front.encode())
+        self.read_part(self.front, 0, self.read_configured if self.language == TLINK else self.read_token)
+        self.read_part(self.text, length, self.read_token)
         if not any(not is_library for _, is_library in self.said.inputs):
-            raise LineFault(self.bytes_before(len(self.text)), "", NO_OBJECT)
+            raise LineFault(length + len(self.text.encode()), "", NO_OBJECT)
         return self.said
 
-    def bytes_before(self, place):
-        return len(self.text[:place].encode())
+    def read_part(self, text, start, read_one):
+        """The tokens of a part of the line, before which so many bytes stand."""
+        for token in tokens(self.language, text):
+            self.place = start + len(text[:token.place].encode())
+            try:
+                read_one(token)
+            except Wrong as wrong:
+                raise LineFault(self.place, token.text, wrong.kind) from None
+
+    def read_configured(self, token):
+        """One of TLINK.CFG, where nothing stands but options; a `;` says nothing there."""
+        if token.kind in (";", "\n"):
+            return
+        name, options = cut(self.language, token.text) if token.kind == "word" else (token.text, [])
+        if name is not None:
+            raise Wrong(NO_OPTION)
+        self.read_options(options)
 
     def read_token(self, token):
         if self.field == ENDED:
@@ -243,9 +265,12 @@ class Reader:
             if name.startswith("@"):
                 raise Wrong(RESPONSE)
             self.read_name(name)
+        self.read_options(options)
+
+    def read_options(self, options):
         for option in options:
             ask, value = OPTION[self.language](option)
-            ask(self.said, value, self.bytes_before(token.place))
+            ask(self.said, value, self.place)
 
     def read_name(self, name):
         [self.read_object, self.read_program, self.read_map, self.read_library,
@@ -284,9 +309,9 @@ class Reader:
             raise Wrong(DEFINITIONS)
 
 
-def read(language, text):
-    """What a line of a language says, or a LineFault."""
-    return Reader(language, text).read()
+def read(language, text, front=""):
+    """What a line of a language says behind its front, or a LineFault."""
+    return Reader(language, text, front).read()
 
 
 def map_of(said):

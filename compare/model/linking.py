@@ -644,15 +644,15 @@ def link_by_response(path, files, job_of, folders=(), can_be_made=always):
     return link(job_of(words), files, folders, can_be_made, [path])
 
 
-def link_by_line(language, words, files, folders=(), can_be_made=always):
-    """The answer to the words of LINK or TLINK, whose names of files are those of DOS.
+def link_by_line(language, words, files, folders=(), can_be_made=always, variable=""):
+    """The answer to the words of LINK or TLINK, whose names of files are those of DOS, and to the environment's LINK.
 
     What is left out is told before all else, and then what the map hasn't.
     """
     files = DosFiles(files)
     try:
-        text, spoken_files = line_jobs.text_of(language, words, files)
-        job = line_jobs.job_of(language, text)
+        front, text, spoken_files = line_jobs.text_of(language, words, files, variable)
+        job = line_jobs.job_of(language, text, front)
     except line_jobs.LineRefused as refused:
         return Answer(WRONG_WORDS, error=told([refused.text]).encode(), fault=faults.WORDS)
     except directives.Unread as unread:

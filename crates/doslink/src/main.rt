@@ -6,7 +6,8 @@ ghost use Rattle.omf_files.specs.Files.{sink_failures};
 
 use dos_names::{Names, Seen};
 use doslink_jobs::{
-    Language, language_asked, language_of, library_folders, out_of_memory, run_words, wrong_words,
+    Environment, Language, language_asked, language_of, library_folders, out_of_memory, run_words,
+    wrong_words,
 };
 use omf_files::BufferedSink;
 use omf_frame::{Sink, WriteSink};
@@ -48,6 +49,17 @@ fn files_of<'a>(rt: &'a HostRuntime, seen: &'a Seen, language: Language) -> Name
     }
 }
 
+// The text of the environment's LINK, where a line of LINK is read and it is there; else none.
+fn link_text(rt: &HostRuntime, language: Language) -> Result<String, VarError> {
+    if language != Language::Link {
+        return Ok(String::new(rt.alloc()));
+    }
+    match env::var(rt, "LINK") {
+        Err(VarError::NotPresent) => Ok(String::new(rt.alloc())),
+        told => told,
+    }
+}
+
 // Does what the program's name and the words after it ask for, and hands out the exit status.
 fn run_arguments<O: Write + Drop, E: Sink>(
     rt: &HostRuntime,
@@ -62,6 +74,12 @@ fn run_arguments<O: Write + Drop, E: Sink>(
         [program, words @ ..] => (language_of(program), words),
         [] => (Language::Words, arguments),
     };
+    let asked = language_asked(language, words);
+    let link = match link_text(rt, asked) {
+        Ok(text) => text,
+        Err(VarError::OutOfMemory) => return out_of_memory(errors),
+        Err(_) => return wrong_words("doslink: LINK: it is no UTF-8 text\n", errors),
+    };
     // where LIB is missing or no text it names no folder
     let list = match env::var(rt, "LIB") {
         Ok(list) => list,
@@ -70,9 +88,21 @@ fn run_arguments<O: Write + Drop, E: Sink>(
     };
     match library_folders(rt.alloc(), list.as_str()) {
         Ok(folders) => {
+            let environment = Environment {
+                folders: &folders,
+                link: link.as_str(),
+            };
             let seen = Seen::nothing();
-            let world = files_of(rt, &seen, language_asked(language, words));
-            run_words(rt.alloc(), world, language, words, &folders, output, errors)
+            let world = files_of(rt, &seen, asked);
+            run_words(
+                rt.alloc(),
+                world,
+                language,
+                words,
+                &environment,
+                output,
+                errors,
+            )
         }
         Err(_) => out_of_memory(errors),
     }

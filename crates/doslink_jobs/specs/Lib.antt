@@ -1,5 +1,6 @@
 pub mod Aliases
 pub mod Communals
+pub mod Fronts
 pub mod Jobs
 pub mod Joined
 pub mod Lines

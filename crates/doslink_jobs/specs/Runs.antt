@@ -123,33 +123,44 @@ module _ (told : Text → Option (List ℕ)) (Does : Job → Type 0) (Helps : Li
   abbrev pub RunsMade : MakefileJob → Type 0
   RunsMade made = (are_followed made.settings ≡ true) × RunsWhole made.job
 
-  -- the same of the job that a line of LINK or TLINK asks for
-  abbrev pub RunsLine : Linker → (text : Text) → Type 0
-  RunsLine linker text =
-      (made : MakefileJob) × jobs.Means linker (Ok made) (lines.meaning linker text) × RunsMade made
+  -- the same of the job that a line of LINK or TLINK asks for, with what stands in front of it
+  abbrev pub RunsLine : Linker → (front text : Text) → Type 0
+  RunsLine linker front text =
+      (made : MakefileJob) × jobs.Means linker (Ok made) (lines.meaning linker front text) × RunsMade made
 
-  -- the same of a line as it is typed, with what its response files say
-  abbrev pub RunsTyped : Linker → (text : Text) → Type 0
-  RunsTyped linker text = (rounds : ℕ) × (line : Text) × IsSpoken told linker rounds text line × RunsLine linker line
+  -- the same of words that are options and files, or one response file of these
+  abbrev pub RunsCommand : (words : List Text) → Type 0
+  RunsCommand list = MatchOption (only_response list) (RunsWords list) RunsResponse
 
-  -- the same of the line that words give
-  abbrev pub RunsLines : Linker → (words : List Text) → Type 0
-  RunsLines linker list = RunsTyped linker (line_of list)
+  -- the same of words that are directives, or ask for help
+  abbrev pub RunsDirectives : (words : List Text) → Type 0
+  RunsDirectives list = ((asks_text list ≡ true) × Helps list) ⊎ RunsGiven (response_words list)
 
-  -- the same of words, which may ask for help
-  abbrev pub RunsLinker : Linker → (words : List Text) → Type 0
-  RunsLinker linker list = ((asks_text (line_asked list) ≡ true) × Helps (line_asked list)) ⊎ RunsLines linker list
+  module _ (IsFront : Linker → (front : Text) → Type 0) where
+    -- the same of a line as it is typed, with what stands in front of it and what its response files say
+    abbrev pub RunsTyped : Linker → (text : Text) → Type 0
+    RunsTyped linker text =
+        (front : Text) × IsFront linker front × (rounds : ℕ) × (line : Text) × IsSpoken told linker rounds text line
+        × RunsLine linker front line
 
-  -- it holds of the job that words ask for, which are options and files, directives, or a line
-  abbrev pub Runs : Language → (words : List Text) → Type 0
-  Runs language.Words list = MatchOption (only_response list) (RunsWords list) RunsResponse
-  Runs language.Directives list = ((asks_text list ≡ true) × Helps list) ⊎ RunsGiven (response_words list)
-  Runs language.Link list = RunsLinker linkers.Link list
-  Runs language.Tlink list = RunsLinker linkers.Tlink list
+    -- the same of the line that words give
+    abbrev pub RunsLines : Linker → (words : List Text) → Type 0
+    RunsLines linker list = RunsTyped linker (line_of list)
 
-  -- the same, where `--as NAME` may stand in front of the words
-  abbrev pub RunsSpoken : Language → (words : List Text) → Type 0
-  RunsSpoken language list = Runs (spoken language list).0 (spoken language list).1
+    -- the same of words, which may ask for help
+    abbrev pub RunsLinker : Linker → (words : List Text) → Type 0
+    RunsLinker linker list = ((asks_text (line_asked list) ≡ true) × Helps (line_asked list)) ⊎ RunsLines linker list
+
+    -- it holds of the job that words ask for, which are options and files, directives, or a line
+    abbrev pub Runs : Language → (words : List Text) → Type 0
+    Runs language.Words list = RunsCommand list
+    Runs language.Directives list = RunsDirectives list
+    Runs language.Link list = RunsLinker linkers.Link list
+    Runs language.Tlink list = RunsLinker linkers.Tlink list
+
+    -- the same, where `--as NAME` may stand in front of the words
+    abbrev pub RunsSpoken : Language → (words : List Text) → Type 0
+    RunsSpoken language list = Runs (spoken language list).0 (spoken language list).1
 
 -- A run ends with status 0 only where the job that words ask for was done, or they ask for none, and with 1 only where
 -- it was refused.

@@ -7,6 +7,7 @@ mod directives;
 mod faults;
 mod faulty;
 mod filled;
+mod fronts;
 mod gathering;
 mod inputs;
 mod kinds;
@@ -37,6 +38,6 @@ mod words;
 pub use program::map_bytes;
 pub use running::run_job;
 pub use words::{
-    Besides, Language, language_asked, language_of, library_folders, out_of_memory, run_words,
-    wrong_words,
+    Besides, Environment, Language, language_asked, language_of, library_folders, out_of_memory,
+    run_words, wrong_words,
 };

@@ -117,8 +117,8 @@ fn push_spelled(text: &mut String, token: Token<'_>) -> Result<(), AllocError>
     }
 }
 
-// A text up to a Ctrl-Z.
-fn up_to_end(text: &str) -> &str
+/// A text up to a Ctrl-Z.
+pub(crate) fn up_to_end(text: &str) -> &str
     ensures { result.now ≡ before_first spec.is_end text.now }
 {
     match text.split_once('\x1a') {

@@ -4,16 +4,18 @@ ghost use Rattle.omf_files.specs.Files.{sink_failures};
 ghost use Rattle.doslink_words.specs.Responses as responses;
 ghost use Rattle.doslink_words.specs.Tokens.{texts};
 ghost use Rattle.doslink_files.specs.Written.{StandsAt};
+ghost use Rattle.doslink_jobs.specs.Fronts.{IsFront};
 ghost use Rattle.doslink_jobs.specs.Jobs.{EndsWith, Tells};
 ghost use Rattle.doslink_jobs.specs.Lines as spec;
 ghost use Rattle.doslink_jobs.specs.Runs as runs;
 ghost use Rattle.doslink_jobs.specs.Runs.{EndsBy, RunsLine, RunsLinker, RunsLines, RunsMade, RunsTyped, RunsWhole};
 
+use crate::fronts::parts_of;
 use crate::limit::Limit;
 use crate::line_names::{names_of, with_names};
-use crate::line_text::{Read, line_of, with_files};
+use crate::line_text::{Read, line_of};
 use crate::running::{finish, run_lines};
-use crate::words::{Besides, out_of_memory, print_help, wrong_words};
+use crate::words::{Besides, Environment, out_of_memory, print_help, wrong_words};
 use doslink_words::text_asked;
 use makefile_words::{
     FaultKind, Idle, IdleAt, Language, LineFault, MakefileJob, Settings, parse_line,
@@ -22,6 +24,17 @@ use omf_files::{BufferedSink, World};
 use omf_frame::Sink;
 use std::alloc::{AllocError, Global};
 use std::io::Write;
+
+/// The parts of a line.
+#[derive(Clone, Copy)]
+pub(crate) struct LineParts<'t> {
+    /// The linker whose line it is.
+    pub linker: Language,
+    /// What stands in front: the environment's LINK, or what TLINK.CFG says.
+    pub front: &'t str,
+    /// What stands behind that.
+    pub text: &'t str,
+}
 
 /// The help of a program that takes a line.
 const LINES_HELP: &str = "\
@@ -93,6 +106,24 @@ fn place_in(text: &str, place: usize) -> (usize, usize) {
     (lines.saturating_add(1), column.saturating_add(1))
 }
 
+// What the front of a line is called where a place in it is told.
+fn front_name(linker: Language) -> &'static str {
+    match linker {
+        Language::Link => "LINK: ",
+        Language::Tlink => "TLINK.CFG: ",
+    }
+}
+
+// What is told of a place of a line: what its front is called, where it is in that, the line and the column.
+fn place_text(alloc: Global, parts: &LineParts<'_>, place: usize) -> Result<String, AllocError> {
+    let behind = place.checked_sub(parts.front.len());
+    let (name, (line, column)) = match behind {
+        Some(place) => ("", place_in(parts.text, place)),
+        None => (front_name(parts.linker), place_in(parts.front, place)),
+    };
+    format!(in alloc; "{name}line {line}, column {column}")
+}
+
 // What is told of an option that has no effect.
 fn idle_text(idle: Idle) -> &'static str {
     match idle {
@@ -106,13 +137,13 @@ fn idle_text(idle: Idle) -> &'static str {
 // Appends the line of a warning.
 fn push_warning(
     alloc: Global,
-    text: &str,
+    parts: &LineParts<'_>,
     warning: &IdleAt,
     lines: &mut Vec<u8>,
 ) -> Result<(), AllocError> {
-    let (line, column) = place_in(text, warning.place);
+    let place = place_text(alloc, parts, warning.place)?;
     let what = idle_text(warning.idle);
-    let told = format!(in alloc; "doslink: warning: line {line}, column {column}: {what}\n")?;
+    let told = format!(in alloc; "doslink: warning: {place}: {what}\n")?;
     lines.extend_from_slice(told.as_bytes())?;
     Ok(())
 }
@@ -121,13 +152,13 @@ fn push_warning(
 fn push_warnings(
     alloc: Global,
     made: &MakefileJob<'_>,
-    text: &str,
+    parts: &LineParts<'_>,
     lines: &mut Vec<u8>,
 ) -> Result<(), AllocError> {
     let mut warnings = Limit::new(alloc, made.job.verbose);
     for warning in &made.warnings {
         if let Some(lines) = warnings.next() {
-            push_warning(alloc, text, warning, lines)?;
+            push_warning(alloc, parts, warning, lines)?;
         }
     }
     warnings.append_to(lines)?;
@@ -146,12 +177,12 @@ fn push_warnings(
 // The line of a word that is at fault: its place, and what is wrong with it.
 fn fault_line(
     alloc: Global,
-    text: &str,
+    parts: &LineParts<'_>,
     place: usize,
     word: &str,
     kind: FaultKind,
 ) -> Result<String, AllocError> {
-    let (line, column) = place_in(text, place);
+    let place = place_text(alloc, parts, place)?;
     match kind {
         FaultKind::NoObject => format!(in alloc; "doslink: {kind}\n"),
         FaultKind::Response => {
@@ -159,19 +190,24 @@ fn fault_line(
                 "doslink: {word:?}: response files name one another more than 8 deep\n"
             )
         }
-        _ => format!(in alloc; "doslink: line {line}, column {column}: {word:?}: {kind}\n"),
+        _ => format!(in alloc; "doslink: {place}: {word:?}: {kind}\n"),
     }
 }
 
 // Says why a line is no job, and hands out the exit status.
-fn refuse_line<E: Sink>(alloc: Global, text: &str, fault: &LineFault<'_>, errors: &mut E) -> u8
+fn refuse_line<E: Sink>(
+    alloc: Global,
+    parts: &LineParts<'_>,
+    fault: &LineFault<'_>,
+    errors: &mut E,
+) -> u8
     requires { E.failures errors.old < 2 ^ 64 - 1 }
     ensures { EndsWith ⊥ ⊥ (Unit {0}) (Tells E.written E.failures errors.old errors.new) result }
 {
     let LineFault::Word { place, word, kind } = *fault else {
         return out_of_memory(errors);
     };
-    match fault_line(alloc, text, place, word, kind) {
+    match fault_line(alloc, parts, place, word, kind) {
         Ok(line) => wrong_words(line.as_str(), errors),
         Err(AllocError) => out_of_memory(errors),
     }
@@ -182,7 +218,7 @@ fn run_named<W: World + Copy, O: Write + Drop, E: Sink>(
     alloc: Global,
     world: W,
     made: MakefileJob<'_>,
-    text: &str,
+    parts: &LineParts<'_>,
     besides: &Besides<'_>,
     output: &mut BufferedSink<O>,
     errors: &mut E,
@@ -194,7 +230,7 @@ fn run_named<W: World + Copy, O: Write + Drop, E: Sink>(
         (Tells E.written E.failures errors.old errors.new) result }
 {
     let mut lines = Vec::new(alloc);
-    if push_warnings(alloc, &made, text, &mut lines).is_err() {
+    if push_warnings(alloc, &made, parts, &mut lines).is_err() {
         return out_of_memory(errors);
     }
     match names_of(alloc, &made.job) {
@@ -211,7 +247,7 @@ fn run_made<W: World + Copy, O: Write + Drop, E: Sink>(
     alloc: Global,
     world: W,
     made: MakefileJob<'_>,
-    text: &str,
+    parts: &LineParts<'_>,
     besides: &Besides<'_>,
     output: &mut BufferedSink<O>,
     errors: &mut E,
@@ -224,7 +260,7 @@ fn run_made<W: World + Copy, O: Write + Drop, E: Sink>(
 {
     match unfollowed(&made.settings) {
         Some(why) => wrong_words(why, errors),
-        None => run_named(alloc, world, made, text, besides, output, errors),
+        None => run_named(alloc, world, made, parts, besides, output, errors),
     }
 }
 
@@ -232,8 +268,7 @@ fn run_made<W: World + Copy, O: Write + Drop, E: Sink>(
 fn run_line<W: World + Copy, O: Write + Drop, E: Sink>(
     alloc: Global,
     world: W,
-    linker: Language,
-    text: &str,
+    parts: &LineParts<'_>,
     besides: &Besides<'_>,
     output: &mut BufferedSink<O>,
     errors: &mut E,
@@ -241,12 +276,13 @@ fn run_line<W: World + Copy, O: Write + Drop, E: Sink>(
     requires output { sink_failures output.old ≡ 0 }
     requires errors { E.failures errors.old < 2 ^ 64 - 1 }
     ensures { EndsBy Global (W.bytes world) (StandsAt (W.blank world) (W.Puts world)) (texts besides.now.folders.now)
-        (λ does helps. RunsLine (W.bytes world) does helps linker text.now)
+        (λ does helps. RunsLine (W.bytes world) does helps parts.now.linker parts.now.front.now
+        parts.now.text.now)
         (Tells E.written E.failures errors.old errors.new) result }
 {
-    match parse_line(alloc, linker, text) {
-        Ok(made) => run_made(alloc, world, made, text, besides, output, errors),
-        Err(fault) => refuse_line(alloc, text, &fault, errors),
+    match parse_line(alloc, parts.linker, parts.front, parts.text) {
+        Ok(made) => run_made(alloc, world, made, parts, besides, output, errors),
+        Err(fault) => refuse_line(alloc, parts, &fault, errors),
     }
 }
 
@@ -256,32 +292,31 @@ fn run_typed<W: World + Copy, O: Write + Drop, E: Sink>(
     world: W,
     linker: Language,
     line: &str,
-    folders: &[&str],
+    environment: &Environment<'_>,
     output: &mut BufferedSink<O>,
     errors: &mut E,
 ) -> u8
     requires output { sink_failures output.old ≡ 0 }
     requires errors { E.failures errors.old < 2 ^ 64 - 1 }
-    ensures { EndsBy Global (W.bytes world) (StandsAt (W.blank world) (W.Puts world)) (texts folders.now)
-        (λ does helps. RunsTyped (W.bytes world) does helps linker line.now)
+    ensures { EndsBy Global (W.bytes world) (StandsAt (W.blank world) (W.Puts world))
+        (texts environment.now.folders.now)
+        (λ does helps. RunsTyped (W.bytes world) does helps
+        (IsFront (W.bytes world) (W.looks world) environment.now.link.now) linker line.now)
         (Tells E.written E.failures errors.old errors.new) result }
 {
     let mut read = Read::new(alloc);
-    match with_files(alloc, &world, linker, line, &mut read) {
-        Ok(text) => {
+    match parts_of(alloc, &world, linker, environment.link, line, &mut read) {
+        Ok((front, text)) => {
             let besides = Besides {
-                folders,
+                folders: environment.folders,
                 read: &read.ids,
             };
-            run_line(
-                alloc,
-                world,
+            let parts = LineParts {
                 linker,
-                text.as_str(),
-                &besides,
-                output,
-                errors,
-            )
+                front: front.as_str(),
+                text: text.as_str(),
+            };
+            run_line(alloc, world, &parts, &besides, output, errors)
         }
         Err(why) => finish(Err(why), &read.lines, errors),
     }
@@ -293,21 +328,31 @@ fn run_lined<W: World + Copy, O: Write + Drop, E: Sink>(
     world: W,
     linker: Language,
     words: &[&str],
-    folders: &[&str],
+    environment: &Environment<'_>,
     output: &mut BufferedSink<O>,
     errors: &mut E,
 ) -> u8
     requires output { sink_failures output.old ≡ 0 }
     requires errors { E.failures errors.old < 2 ^ 64 - 1 }
-    ensures { EndsBy Global (W.bytes world) (StandsAt (W.blank world) (W.Puts world)) (texts folders.now)
-        (λ does helps. RunsLines (W.bytes world) does helps linker (texts words.now))
+    ensures { EndsBy Global (W.bytes world) (StandsAt (W.blank world) (W.Puts world))
+        (texts environment.now.folders.now)
+        (λ does helps. RunsLines (W.bytes world) does helps
+        (IsFront (W.bytes world) (W.looks world) environment.now.link.now) linker (texts words.now))
         (Tells E.written E.failures errors.old errors.new) result }
 {
     if words.is_empty() {
         return wrong_words(LINES_HELP, errors);
     }
     match line_of(alloc, words) {
-        Ok(line) => run_typed(alloc, world, linker, line.as_str(), folders, output, errors),
+        Ok(line) => run_typed(
+            alloc,
+            world,
+            linker,
+            line.as_str(),
+            environment,
+            output,
+            errors,
+        ),
         Err(AllocError) => out_of_memory(errors),
     }
 }
@@ -319,18 +364,20 @@ pub(crate) fn run_linker<W: World + Copy, O: Write + Drop, E: Sink>(
     world: W,
     linker: Language,
     words: &[&str],
-    folders: &[&str],
+    environment: &Environment<'_>,
     output: &mut BufferedSink<O>,
     errors: &mut E,
 ) -> u8
     requires output { sink_failures output.old ≡ 0 }
     requires errors { E.failures errors.old < 2 ^ 64 - 1 }
-    ensures { EndsBy Global (W.bytes world) (StandsAt (W.blank world) (W.Puts world)) (texts folders.now)
-        (λ does helps. RunsLinker (W.bytes world) does helps linker (texts words.now))
+    ensures { EndsBy Global (W.bytes world) (StandsAt (W.blank world) (W.Puts world))
+        (texts environment.now.folders.now)
+        (λ does helps. RunsLinker (W.bytes world) does helps
+        (IsFront (W.bytes world) (W.looks world) environment.now.link.now) linker (texts words.now))
         (Tells E.written E.failures errors.old errors.new) result }
 {
     match line_text_asked(line_asked(words)) {
         Some(text) => print_help(text, output, errors),
-        None => run_lined(alloc, world, linker, words, folders, output, errors),
+        None => run_lined(alloc, world, linker, words, environment, output, errors),
     }
 }

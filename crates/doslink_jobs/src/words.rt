@@ -7,10 +7,11 @@ ghost use Rattle.doslink_words.specs.Keywords.{is_keyword};
 ghost use Rattle.doslink_words.specs.Responses.{response_words};
 ghost use Rattle.doslink_words.specs.Tokens.{texts};
 ghost use Rattle.doslink_files.specs.Written.{StandsAt};
+ghost use Rattle.doslink_jobs.specs.Fronts.{IsFront};
 ghost use Rattle.doslink_jobs.specs.Jobs.{EndsWith, Tells};
 ghost use Rattle.doslink_jobs.specs.Runs as spec;
-ghost use Rattle.doslink_jobs.specs.Runs.{EndsBy, Runs, RunsGiven, RunsList, RunsResponse, RunsSpoken, RunsText};
-ghost use Rattle.doslink_jobs.specs.Runs.{RunsWords};
+ghost use Rattle.doslink_jobs.specs.Runs.{EndsBy, Runs, RunsCommand, RunsDirectives, RunsGiven, RunsList, RunsResponse};
+ghost use Rattle.doslink_jobs.specs.Runs.{RunsSpoken, RunsText, RunsWords};
 ghost use Rattle.doslink_jobs.specs.Wrong.{EndsJob};
 
 use crate::directives::{
@@ -39,6 +40,15 @@ pub struct Besides<'b> {
     pub read: &'b [FileId],
 }
 
+/// What a run takes of the environment.
+#[derive(Clone, Copy)]
+pub struct Environment<'e> {
+    /// The folders of LIB, in which default libraries are looked up last.
+    pub folders: &'e [&'e str],
+    /// The text of LINK, which is read in front of the words of a line of LINK: empty where there is none.
+    pub link: &'e str,
+}
+
 /// The exit status of wrong words.
 const WRONG_WORDS: u8 = 2;
 
@@ -63,7 +73,7 @@ pub(crate) fn is_named(name: &[u8], other: &[u8]) -> bool
 }
 
 /// Whether a name is that of a program, with `.exe` or without.
-fn is_called(name: &[u8], program: &[u8], with_exe: &[u8]) -> bool
+pub(crate) fn is_called(name: &[u8], program: &[u8], with_exe: &[u8]) -> bool
     ensures { result ≡ spec.is_called name.now program.now with_exe.now }
 {
     is_named(name, program) || is_named(name, with_exe)
@@ -264,7 +274,7 @@ fn run_directives<W: World + Copy, O: Write + Drop, E: Sink>(
     requires output { sink_failures output.old ≡ 0 }
     requires errors { E.failures errors.old < 2 ^ 64 - 1 }
     ensures { EndsBy Global (W.bytes world) (StandsAt (W.blank world) (W.Puts world)) (texts folders.now)
-        (λ does helps. Runs (W.bytes world) does helps Language.Directives (texts words.now))
+        (λ does helps. RunsDirectives (W.bytes world) does helps (texts words.now))
         (Tells E.written E.failures errors.old errors.new) result }
 {
     match text_asked(words) {
@@ -409,7 +419,7 @@ fn run_command<W: World + Copy, O: Write + Drop, E: Sink>(
     requires output { sink_failures output.old ≡ 0 }
     requires errors { E.failures errors.old < 2 ^ 64 - 1 }
     ensures { EndsBy Global (W.bytes world) (StandsAt (W.blank world) (W.Puts world)) (texts folders.now)
-        (λ does helps. Runs (W.bytes world) does helps Language.Words (texts words.now))
+        (λ does helps. RunsCommand (W.bytes world) does helps (texts words.now))
         (Tells E.written E.failures errors.old errors.new) result }
 {
     match only_response(words) {
@@ -447,54 +457,59 @@ fn run_in<W: World + Copy, O: Write + Drop, E: Sink>(
     world: W,
     language: Language,
     words: &[&str],
-    folders: &[&str],
+    environment: &Environment<'_>,
     output: &mut BufferedSink<O>,
     errors: &mut E,
 ) -> u8
     requires output { sink_failures output.old ≡ 0 }
     requires errors { E.failures errors.old < 2 ^ 64 - 1 }
-    ensures { EndsBy Global (W.bytes world) (StandsAt (W.blank world) (W.Puts world)) (texts folders.now)
-        (λ does helps. Runs (W.bytes world) does helps language (texts words.now))
+    ensures { EndsBy Global (W.bytes world) (StandsAt (W.blank world) (W.Puts world))
+        (texts environment.now.folders.now)
+        (λ does helps. Runs (W.bytes world) does helps
+        (IsFront (W.bytes world) (W.looks world) environment.now.link.now) language (texts words.now))
         (Tells E.written E.failures errors.old errors.new) result }
 {
     match language {
-        Language::Directives => run_directives(alloc, world, words, folders, output, errors),
-        Language::Words => run_command(alloc, world, words, folders, output, errors),
+        Language::Directives => {
+            run_directives(alloc, world, words, environment.folders, output, errors)
+        }
+        Language::Words => run_command(alloc, world, words, environment.folders, output, errors),
         Language::Link => {
             let linker = Linker::Link;
-            run_linker(alloc, world, linker, words, folders, output, errors)
+            run_linker(alloc, world, linker, words, environment, output, errors)
         }
         Language::Tlink => {
             let linker = Linker::Tlink;
-            run_linker(alloc, world, linker, words, folders, output, errors)
+            run_linker(alloc, world, linker, words, environment, output, errors)
         }
     }
 }
 
 /// Does what the words after the program's name ask for, and hands out the exit status: 0 where the program is written
 /// or help is, 1 where an input is at fault, 2 where the words are wrong, 3 where a file, a device or memory failed.
-/// They are read as the language says, unless `--as link`, `--as tlink` or `--as wlink` stands in front. `folders` are
-/// those of the environment's LIB, in which default libraries are looked up last.
+/// They are read as the language says, unless `--as link`, `--as tlink` or `--as wlink` stands in front.
 pub fn run_words<W: World + Copy, O: Write + Drop, E: Sink>(
     alloc: Global,
     world: W,
     language: Language,
     words: &[&str],
-    folders: &[&str],
+    environment: &Environment<'_>,
     output: &mut BufferedSink<O>,
     errors: &mut E,
 ) -> u8
     requires output { sink_failures output.old ≡ 0 }
     requires errors { E.failures errors.old < 2 ^ 64 - 1 }
-    ensures { EndsBy Global (W.bytes world) (StandsAt (W.blank world) (W.Puts world)) (texts folders.now)
-        (λ does helps. RunsSpoken (W.bytes world) does helps language (texts words.now))
+    ensures { EndsBy Global (W.bytes world) (StandsAt (W.blank world) (W.Puts world))
+        (texts environment.now.folders.now)
+        (λ does helps. RunsSpoken (W.bytes world) does helps
+        (IsFront (W.bytes world) (W.looks world) environment.now.link.now) language (texts words.now))
         (Tells E.written E.failures errors.old errors.new) result }
 {
     let Some((name, rest)) = as_asked(words) else {
-        return run_in(alloc, world, language, words, folders, output, errors);
+        return run_in(alloc, world, language, words, environment, output, errors);
     };
     match language_named(name.as_bytes()) {
-        Some(named) => run_in(alloc, world, named, rest, folders, output, errors),
+        Some(named) => run_in(alloc, world, named, rest, environment, output, errors),
         None => wrong_words("doslink: behind --as stands link, tlink or wlink\n", errors),
     }
 }

@@ -6,10 +6,11 @@ use Rattle.std.proofs.lemmas.List.{at_drop_all, at_drop_more, get_or-map}
 use Rattle.clap.specs.Words.{Text}
 use Rattle.doslink_words.specs.Directives.{and_then}
 use Rattle.doslink_words.specs.Tokens.{texts}
-use Rattle.makefile_words.specs.Lines.{SaidLine, WrongWord, has_object, if_said, meaning, nothing_said, on_token}
-use Rattle.makefile_words.specs.Lines.{option_meaning, token_meaning, tokens_meaning, with_object, with_options}
+use Rattle.makefile_words.specs.Lines.{SaidLine, WrongWord, front_meaning, has_object, if_said, nothing_said, on_token}
+use Rattle.makefile_words.specs.Lines.{option_meaning, part_meaning, rest_meaning, tokens_meaning, with_object}
+use Rattle.makefile_words.specs.Lines.{with_options}
 use Rattle.makefile_words.specs.Jobs.{IsJobOf, Means}
-use Rattle.makefile_words.specs.Tokens.{PlacedPiece, text_of, tokens}
+use Rattle.makefile_words.specs.Tokens.{PlacedPiece, text_of, tokens, tokens_ending}
 use Rattle.makefile_words.specs.inside.Follows.{Follows}
 use Rattle.makefile_words.specs.inside.Lines.{IsFaultAt, Says}
 use Rattle.makefile_words.specs.inside.Tokens.{pieces, placed_of}
@@ -19,6 +20,8 @@ use Rattle.makefile_words.specs.declared.faults.LineFault.{LineFault}
 use Rattle.makefile_words.specs.declared.faults.LineFault.TheVariants as line_fault
 use Rattle.makefile_words.specs.declared.job.MakefileJob.{MakefileJob}
 use Rattle.makefile_words.specs.declared.line.Line.{Line}
+use Rattle.makefile_words.specs.declared.line.Part.{Part}
+use Rattle.makefile_words.specs.declared.line.Part.TheVariants.{Front, Behind}
 use Rattle.makefile_words.specs.declared.faults.WordFault.{WordFault}
 use Rattle.makefile_words.specs.declared.faults.WordFault.TheVariants.{Memory, Wrong}
 use Rattle.makefile_words.specs.declared.tokens.Language.{Language}
@@ -64,42 +67,44 @@ options_end place language said all i done =
 
 -- ---- tokens
 
-tokens_step : (language : Language) (said : SaidLine) (all : List PlacedPiece) (i : ℕ) (token : PlacedPiece)
-    → i < length all → get_or all i token ≡ token
-    → tokens_meaning language (drop i all) said
-    ≡ on_token token (token_meaning language token said) (tokens_meaning language (drop (i + 1) all))
-tokens_step language said all i token inside here =
-    at_drop_more (λ (ts : List PlacedPiece). tokens_meaning language ts said) all i token inside
-    ∙ ap (λ (t : PlacedPiece). tokens_meaning language (t ∷ drop (i + 1) all) said) here
+tokens_step : (part : Part) (language : Language) (said : SaidLine) (all : List PlacedPiece) (i : ℕ)
+    (token : PlacedPiece) → i < length all → get_or all i token ≡ token
+    → tokens_meaning part language (drop i all) said
+    ≡ on_token token (part_meaning part language token said) (tokens_meaning part language (drop (i + 1) all))
+tokens_step part language said all i token inside here =
+    at_drop_more (λ (ts : List PlacedPiece). tokens_meaning part language ts said) all i token inside
+    ∙ ap (λ (t : PlacedPiece). tokens_meaning part language (t ∷ drop (i + 1) all) said) here
 
-pub tokens_more : (language : Language) (said next : SaidLine) (all : List PlacedPiece) (i : ℕ) (token : PlacedPiece)
-    → i < length all → get_or all i token ≡ token → token_meaning language token said ≡ Ok next
-    → tokens_meaning language (drop i all) said ≡ tokens_meaning language (drop (i + 1) all) next
-tokens_more language said next all i token inside here means =
-    tokens_step language said all i token inside here
-    ∙ ap (λ (r : Result SaidLine FaultKind). on_token token r (tokens_meaning language (drop (i + 1) all))) means
+pub tokens_more : (part : Part) (language : Language) (said next : SaidLine) (all : List PlacedPiece) (i : ℕ)
+    (token : PlacedPiece) → i < length all → get_or all i token ≡ token
+    → part_meaning part language token said ≡ Ok next
+    → tokens_meaning part language (drop i all) said ≡ tokens_meaning part language (drop (i + 1) all) next
+tokens_more part language said next all i token inside here means =
+    tokens_step part language said all i token inside here
+    ∙ ap (λ (r : Result SaidLine FaultKind). on_token token r (tokens_meaning part language (drop (i + 1) all))) means
 
-tokens_wrong : (language : Language) (said : SaidLine) (all : List PlacedPiece) (i : ℕ) (token : PlacedPiece)
-    (kind : FaultKind) → i < length all → get_or all i token ≡ token → token_meaning language token said ≡ Err kind
-    → tokens_meaning language (drop i all) said
+tokens_wrong : (part : Part) (language : Language) (said : SaidLine) (all : List PlacedPiece) (i : ℕ)
+    (token : PlacedPiece) (kind : FaultKind) → i < length all → get_or all i token ≡ token
+    → part_meaning part language token said ≡ Err kind
+    → tokens_meaning part language (drop i all) said
     ≡ Err (record { place = token.place; word = text_of token.piece; kind = kind })
-tokens_wrong language said all i token kind inside here means =
-    tokens_step language said all i token inside here
-    ∙ ap (λ (r : Result SaidLine FaultKind). on_token token r (tokens_meaning language (drop (i + 1) all))) means
+tokens_wrong part language said all i token kind inside here means =
+    tokens_step part language said all i token inside here
+    ∙ ap (λ (r : Result SaidLine FaultKind). on_token token r (tokens_meaning part language (drop (i + 1) all))) means
 
-pub tokens_stop : (language : Language) (said after : SaidLine) (all : List PlacedPiece) (i : ℕ) (token : PlacedPiece)
-    (f : WordFault) (fault : LineFault) (whole : Result SaidLine WrongWord) → i < length all
-    → get_or all i token ≡ token → Follows (Err f) (token_meaning language token said) after → IsFaultAt token f fault
-    → whole ≡ tokens_meaning language (drop i all) said → Says (Err fault) whole
-tokens_stop language said after all i token Memory fault whole inside here follows fits is = rw fits tt
-tokens_stop language said after all i token (Wrong kind) fault whole inside here follows fits is =
+pub tokens_stop : (part : Part) (language : Language) (said after : SaidLine) (all : List PlacedPiece) (i : ℕ)
+    (token : PlacedPiece) (f : WordFault) (fault : LineFault) (whole : Result SaidLine WrongWord) → i < length all
+    → get_or all i token ≡ token → Follows (Err f) (part_meaning part language token said) after
+    → IsFaultAt token f fault → whole ≡ tokens_meaning part language (drop i all) said → Says (Err fault) whole
+tokens_stop part language said after all i token Memory fault whole inside here follows fits is = rw fits tt
+tokens_stop part language said after all i token (Wrong kind) fault whole inside here follows fits is =
     let P : Result SaidLine WrongWord → Type 0 = λ w. Says (Err fault) w in
-    subst P (sym (is ∙ tokens_wrong language said all i token kind inside here follows)) fits
+    subst P (sym (is ∙ tokens_wrong part language said all i token kind inside here follows)) fits
 
-pub tokens_end : (language : Language) (said : SaidLine) (all : List PlacedPiece) (i : ℕ) → length all ≤ i
-    → tokens_meaning language (drop i all) said ≡ Ok said
-tokens_end language said all i done =
-    at_drop_all (λ (ts : List PlacedPiece). tokens_meaning language ts said) all i done
+pub tokens_end : (part : Part) (language : Language) (said : SaidLine) (all : List PlacedPiece) (i : ℕ)
+    → length all ≤ i → tokens_meaning part language (drop i all) said ≡ Ok said
+tokens_end part language said all i done =
+    at_drop_all (λ (ts : List PlacedPiece). tokens_meaning part language ts said) all i done
 
 -- a token and an option that are read at their places
 pub token_here : (ts : List Placed) (i : ℕ) (d : Placed) → i < length ts
@@ -112,44 +117,56 @@ text_here ls i d inside = get_or-map (λ s. s.now) ls i d ((get_or ls i d).now) 
 
 -- ---- the line
 
-said_fault : (total : ℕ) (meant : Result SaidLine WrongWord) (f : LineFault) → Says (Err f) meant
-    → Says (Err f) (if_said meant (with_object total))
-said_fault total meant line_fault.Memory says = tt
-said_fault total meant (line_fault.Word place word kind) says = ap (λ m. if_said m (with_object total)) says
+-- a fault of what is said first is one of the whole
+pub said_fault : (meant : Result SaidLine WrongWord) (next : SaidLine → Result SaidLine WrongWord) (f : LineFault)
+    (r : Result Line LineFault) → r ≡ Err f → Says (Err f) meant → Says r (if_said meant next)
+said_fault meant next line_fault.Memory r is says = rw is tt
+said_fault meant next (line_fault.Word place word kind) r is says = rw is (ap (λ m. if_said m next) says)
 
-pub read_fault : (language : Language) (text : Text) (ts : List PlacedPiece) (f : LineFault) (r : Result Line LineFault)
-    → r ≡ Err f → ts ≡ tokens language text → Says (Err f) (tokens_meaning language ts (nothing_said language))
-    → Says r (meaning language text)
-unfolding meaning
-read_fault language text ts f r is same says =
-    let P : List PlacedPiece → Type 0 =
-    λ t. Says (Err f) (if_said (tokens_meaning language t (nothing_said language)) (with_object (length text))) in
-    rw is
-    (subst P same (said_fault (length text) (tokens_meaning language ts (nothing_said language)) f says))
+-- what is said behind what is said first is the whole
+pub said_next : (meant : Result SaidLine WrongWord) (next : SaidLine → Result SaidLine WrongWord) (said : SaidLine)
+    (r : Result Line LineFault) → meant ≡ Ok said → Says r (next said) → Says r (if_said meant next)
+said_next meant next said r is says = subst (λ m. Says r (if_said m next)) (sym is) says
 
-read_with : (language : Language) (text : Text) (ts : List PlacedPiece) (said : SaidLine)
-    → ts ≡ tokens language text → tokens_meaning language ts (nothing_said language) ≡ Ok said
-    → meaning language text ≡ with_object (length text) said
-unfolding meaning
-read_with language text ts said same means =
-    ap (λ (t : List PlacedPiece).
-    if_said (tokens_meaning language t (nothing_said language)) (with_object (length text))) (sym same)
-    ∙ ap (λ (m : Result SaidLine WrongWord). if_said m (with_object (length text))) means
+-- what the tokens of a front say
+pub front_is : (language : Language) (front : Text) (ts : List PlacedPiece) (said : SaidLine)
+    (r : Result Line LineFault) → ts ≡ tokens language front → said ≡ nothing_said language
+    → Says r (tokens_meaning Front language ts said) → Says r (front_meaning language front)
+unfolding front_meaning
+front_is language front ts said r same none says =
+    subst (λ s. Says r (tokens_meaning Front language (tokens language front) s)) none
+    (subst (λ t. Says r (tokens_meaning Front language t said)) same says)
 
-pub read_ok : (language : Language) (text : Text) (ts : List PlacedPiece) (said : SaidLine)
-    → ts ≡ tokens language text → tokens_meaning language ts (nothing_said language) ≡ Ok said
-    → has_object said.inputs ≡ true → meaning language text ≡ Ok said
-read_ok language text ts said same means some =
-    read_with language text ts said same means
-    ∙ ap (λ (b : Bool). cond b (Ok said) (Err (record { place = length text; word = []; kind = NoObject }))) some
+pub rest_fault : (language : Language) (total : ℕ) (text : Text) (said : SaidLine) (ts : List PlacedPiece)
+    (f : LineFault) (r : Result Line LineFault) → r ≡ Err f → ts ≡ tokens_ending language total text
+    → Says (Err f) (tokens_meaning Behind language ts said) → Says r (rest_meaning language total text said)
+unfolding rest_meaning
+rest_fault language total text said ts f r is same says =
+    said_fault (tokens_meaning Behind language (tokens_ending language total text) said) (with_object total) f r is
+    (subst (λ t. Says (Err f) (tokens_meaning Behind language t said)) same says)
 
-pub read_none : (language : Language) (text : Text) (ts : List PlacedPiece) (said : SaidLine)
-    → ts ≡ tokens language text → tokens_meaning language ts (nothing_said language) ≡ Ok said
-    → has_object said.inputs ≡ false
-    → meaning language text ≡ Err (record { place = length text; word = []; kind = NoObject })
-read_none language text ts said same means none =
-    read_with language text ts said same means
-    ∙ ap (λ (b : Bool). cond b (Ok said) (Err (record { place = length text; word = []; kind = NoObject }))) none
+rest_with : (language : Language) (total : ℕ) (text : Text) (said next : SaidLine) (ts : List PlacedPiece)
+    → ts ≡ tokens_ending language total text → tokens_meaning Behind language ts said ≡ Ok next
+    → rest_meaning language total text said ≡ with_object total next
+unfolding rest_meaning
+rest_with language total text said next ts same means =
+    ap (λ (t : List PlacedPiece). if_said (tokens_meaning Behind language t said) (with_object total)) (sym same)
+    ∙ ap (λ (m : Result SaidLine WrongWord). if_said m (with_object total)) means
+
+pub rest_ok : (language : Language) (total : ℕ) (text : Text) (said next : SaidLine) (ts : List PlacedPiece)
+    → ts ≡ tokens_ending language total text → tokens_meaning Behind language ts said ≡ Ok next
+    → has_object next.inputs ≡ true → rest_meaning language total text said ≡ Ok next
+rest_ok language total text said next ts same means some =
+    rest_with language total text said next ts same means
+    ∙ ap (λ (b : Bool). cond b (Ok next) (Err (record { place = total; word = []; kind = NoObject }))) some
+
+pub rest_none : (language : Language) (total : ℕ) (text : Text) (said next : SaidLine) (ts : List PlacedPiece)
+    → ts ≡ tokens_ending language total text → tokens_meaning Behind language ts said ≡ Ok next
+    → has_object next.inputs ≡ false
+    → rest_meaning language total text said ≡ Err (record { place = total; word = []; kind = NoObject })
+rest_none language total text said next ts same means none =
+    rest_with language total text said next ts same means
+    ∙ ap (λ (b : Bool). cond b (Ok next) (Err (record { place = total; word = []; kind = NoObject }))) none
 
 pub means_fault : (language : Language) (meant : Result SaidLine WrongWord) (f : LineFault)
     (r : Result MakefileJob LineFault) → r ≡ Err f → Says (Err f) meant → Means language r meant

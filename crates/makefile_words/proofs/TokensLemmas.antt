@@ -18,7 +18,7 @@ use Rattle.makefile_words.specs.declared.tokens.Placed.{Placed}
 use Rattle.makefile_words.specs.declared.tokens.Token.{Token}
 use Rattle.makefile_words.specs.Cut.{has_folders}
 use Rattle.makefile_words.specs.Tokens.{Piece, PlacedPiece, ends_word, is_quote, len_with, mark_of}
-use Rattle.makefile_words.specs.Tokens.{token, tokens, tokens_below, word_len}
+use Rattle.makefile_words.specs.Tokens.{token, tokens_below, tokens_ending, word_len}
 use Rattle.makefile_words.specs.inside.Tokens.{piece_of, pieces, said_mark}
 
 -- what ends a word and a mark are ASCII
@@ -94,36 +94,36 @@ len_with-is text bytes folders found end same is ends =
     ∙ ap (λ (bs : Text). position_or_len (ends_word folders) (drop 1 bs)) same in
     omega (arith, at, moved)
 
--- the tokens of a text are those that were had, and those of the rest
-pub record IsLeft (language : Language) (text : Text) (had : List PlacedPiece) (rest : Text) : Type 0 where
+-- the tokens of a text that ends a line are those that were had, and those of the rest
+pub record IsLeft (language : Language) (total : ℕ) (text : Text) (had : List PlacedPiece) (rest : Text) : Type 0 where
   pub bound : ℕ
   pub few : length rest ≤ bound
-  pub within : length rest ≤ length text
-  pub same : tokens language text ≡ had ++ tokens_below (suc bound) language (length text) rest
+  pub within : length rest ≤ total
+  pub same : tokens_ending language total text ≡ had ++ tokens_below (suc bound) language total rest
 
-pub left-start : (language : Language) (text : Text) (had : List Placed) → had ≡ []
-    → IsLeft language text (pieces had) text
-unfolding tokens
-left-start language text had none = record {
+pub left-start : (language : Language) (total : ℕ) (text : Text) (had : List Placed) → length text ≤ total → had ≡ []
+    → IsLeft language total text (pieces had) text
+unfolding tokens_ending
+left-start language total text had within none = record {
   bound = length text;
   few = omega arith;
-  within = omega arith;
+  within = within;
   same =
       rw add-one
-      (sym (ap (λ (ts : List Placed). pieces ts ++ tokens_below (suc (length text)) language (length text) text) none));
+      (sym (ap (λ (ts : List Placed). pieces ts ++ tokens_below (suc (length text)) language total text) none));
 }
 
-pub left-more : (language : Language) (text : Text) (had : List PlacedPiece) (rest : Text) (place : ℕ) (p : Piece)
-    (next : Text) → IsLeft language text had rest → 0 < length rest → place ≡ length text - length rest
+pub left-more : (language : Language) (total : ℕ) (text : Text) (had : List PlacedPiece) (rest : Text) (place : ℕ)
+    (p : Piece) (next : Text) → IsLeft language total text had rest → 0 < length rest → place ≡ total - length rest
     → (p, next) ≡ token language (get_or rest 0 0) (drop 1 rest) → length next < length rest
-    → IsLeft language text (had ++ (record { place = place; piece = p } ∷ [])) next
-left-more language text had [] place p next left some at met shorter = absurd (omega arith)
-left-more language text had (byte ∷ rest) place p next left some at met shorter =
+    → IsLeft language total text (had ++ (record { place = place; piece = p } ∷ [])) next
+left-more language total text had [] place p next left some at met shorter = absurd (omega arith)
+left-more language total text had (byte ∷ rest) place p next left some at met shorter =
     go left.bound left.few left.within left.same
   where
-    go : (bound : ℕ) → length (byte ∷ rest) ≤ bound → length (byte ∷ rest) ≤ length text
-        → tokens language text ≡ had ++ tokens_below (suc bound) language (length text) (byte ∷ rest)
-        → IsLeft language text (had ++ (record { place = place; piece = p } ∷ [])) next
+    go : (bound : ℕ) → length (byte ∷ rest) ≤ bound → length (byte ∷ rest) ≤ total
+        → tokens_ending language total text ≡ had ++ tokens_below (suc bound) language total (byte ∷ rest)
+        → IsLeft language total text (had ++ (record { place = place; piece = p } ∷ [])) next
     go zero few within same = absurd (omega arith)
     go (suc less) few within same = record {
       bound = less;
@@ -133,16 +133,16 @@ left-more language text had (byte ∷ rest) place p next left some at met shorte
           same
           ∙ (ap (λ (n : ℕ).
           had ++ (record { place = n; piece = (token language byte rest).0 }
-          ∷ tokens_below (suc less) language (length text) (token language byte rest).1)) (sym at)
+          ∷ tokens_below (suc less) language total (token language byte rest).1)) (sym at)
           ∙ (ap (λ (t : Piece × Text).
-          had ++ (record { place = place; piece = t.0 } ∷ tokens_below (suc less) language (length text) t.1)) (sym met)
-          ∙ sym (append_assoc had (record { place = place; piece = p } ∷ []) (tokens_below (suc less) language (length text) next))));
+          had ++ (record { place = place; piece = t.0 } ∷ tokens_below (suc less) language total t.1)) (sym met)
+          ∙ sym (append_assoc had (record { place = place; piece = p } ∷ []) (tokens_below (suc less) language total next))));
     }
 
-pub left-none : (language : Language) (text : Text) (had : List PlacedPiece) (rest : Text)
-    → IsLeft language text had rest → length rest ≡ 0 → had ≡ tokens language text
-left-none language text had [] left none = sym (left.same ∙ append-nil had)
-left-none language text had (byte ∷ rest) left none = absurd (omega arith)
+pub left-none : (language : Language) (total : ℕ) (text : Text) (had : List PlacedPiece) (rest : Text)
+    → IsLeft language total text had rest → length rest ≡ 0 → had ≡ tokens_ending language total text
+left-none language total text had [] left none = sym (left.same ∙ append-nil had)
+left-none language total text had (byte ∷ rest) left none = absurd (omega arith)
 
 -- a text that isn't empty
 pub not_empty : (n : ℕ) (r : Bool) → r ≡ eqb n 0 → r ≡ false → 0 < n

@@ -1,5 +1,5 @@
 -- What a line means: `objects, program, map, libraries, definitions;`, with options anywhere.
-use Rattle.std.specs.Prelude.{ℕ, ◌-◌, ◌==◌, ◌&&◌, ◌||◌, Bool, true, false, nat_le, nat_lt, List, [], ◌∷◌, ◌++◌}
+use Rattle.std.specs.Prelude.{ℕ, ◌+◌, ◌-◌, ◌==◌, ◌&&◌, ◌||◌, Bool, true, false, nat_le, nat_lt, List, [], ◌∷◌, ◌++◌}
 use Rattle.std.specs.Prelude.{length, take, codes, Option, Some, None, Result, Ok, Err, if◌then◌else◌, is_some, slice_index, unwrap_or}
 use Rattle.std.specs.Option.{option_map_or}
 use Rattle.std.specs.List.{before_first, after_first, position_or_len, slice_split}
@@ -9,15 +9,17 @@ use Rattle.doslink_words.specs.Directives.{and_then}
 use Rattle.doslink_words.specs.Keywords.{is_keyword}
 use Rattle.doslink_words.specs.Said.{SaidInput, File, Library}
 use Rattle.doslink_words.specs.declared.job.Form.TheVariants.{Exe}
-use Rattle.makefile_words.specs.Cut.{cut, option_named, options_in}
+use Rattle.makefile_words.specs.Cut.{SaidCut, cut, option_named, options_in}
 use Rattle.makefile_words.specs.Link.{is_colon}
 use Rattle.makefile_words.specs.Tokens.{PlacedPiece, Piece, Word, Quoted, Unclosed, Blank, Plus, Comma, Semicolon, LineEnd}
-use Rattle.makefile_words.specs.Tokens.{text_of, tokens}
+use Rattle.makefile_words.specs.Tokens.{text_of, tokens, tokens_ending}
 use Rattle.makefile_words.specs.declared.faults.FaultKind.{FaultKind}
 use Rattle.makefile_words.specs.declared.faults.FaultKind.TheVariants as fault
 use Rattle.makefile_words.specs.declared.line.Field.{Field}
 use Rattle.makefile_words.specs.declared.line.Field.TheVariants.{Objects, Program, MapFile, Libraries, Definitions, Ended}
 use Rattle.makefile_words.specs.declared.line.IdleAt.{IdleAt}
+use Rattle.makefile_words.specs.declared.line.Part.{Part}
+use Rattle.makefile_words.specs.declared.line.Part.TheVariants.{Front, Behind}
 use Rattle.makefile_words.specs.declared.settings.Ordering.TheVariants.{Meeting}
 use Rattle.makefile_words.specs.declared.settings.Setting.{Setting}
 use Rattle.makefile_words.specs.declared.settings.Setting.TheVariants as setting
@@ -320,6 +322,26 @@ token_meaning language token said =
     if is_ended said.field then (if says_nothing token.piece then Ok said else Err fault.BehindEnd)
     else open_meaning token.place language token.piece said
 
+-- ---- TLINK.CFG
+
+-- a word of options alone
+abbrev pub options_alone : (place : ℕ) → Language → SaidCut → SaidLine → Result SaidLine FaultKind
+options_alone place language parts said =
+    if is_some parts.name then Err fault.NoOption else options_meaning place language parts.options said
+
+-- what a token of TLINK.CFG says, of whose text each line is options: no name stands in it, and no mark that parts
+-- names or fields. `;` says nothing there
+abbrev pub configured_meaning : (place : ℕ) → Language → Piece → SaidLine → Result SaidLine FaultKind
+configured_meaning place language (Word text) said =
+    and_then (cut language text) (λ parts. options_alone place language parts said)
+configured_meaning place language (Quoted text) said = Err fault.NoOption
+configured_meaning place language Unclosed said = Err fault.NoOption
+configured_meaning place language Blank said = Ok said
+configured_meaning place language Plus said = Err fault.NoOption
+configured_meaning place language Comma said = Err fault.NoOption
+configured_meaning place language Semicolon said = Ok said
+configured_meaning place language LineEnd said = Ok said
+
 -- ---- the line
 
 -- the first word that is at fault: its place, its text and what is wrong with it
@@ -334,11 +356,17 @@ abbrev pub on_token : PlacedPiece → Result SaidLine FaultKind → (SaidLine �
 on_token token (Ok said) next = next said
 on_token token (Err kind) next = Err (record { place = token.place; word = text_of token.piece; kind = kind })
 
--- what tokens say behind what is said
-abbrev pub tokens_meaning : Language → List PlacedPiece → SaidLine → Result SaidLine WrongWord
-tokens_meaning language [] said = Ok said
-tokens_meaning language (token ∷ more) said =
-    on_token token (token_meaning language token said) (tokens_meaning language more)
+-- what a token says in a part of a line
+abbrev pub part_meaning : Part → Language → PlacedPiece → SaidLine → Result SaidLine FaultKind
+part_meaning Front Tlink token said = configured_meaning token.place Tlink token.piece said
+part_meaning Front Link token said = token_meaning Link token said
+part_meaning Behind language token said = token_meaning language token said
+
+-- what the tokens of a part of a line say behind what is said
+abbrev pub tokens_meaning : Part → Language → List PlacedPiece → SaidLine → Result SaidLine WrongWord
+tokens_meaning part language [] said = Ok said
+tokens_meaning part language (token ∷ more) said =
+    on_token token (part_meaning part language token said) (tokens_meaning part language more)
 
 -- whether an object is named
 abbrev pub has_object : List SaidInput → Bool
@@ -357,7 +385,17 @@ abbrev pub if_said : Result SaidLine WrongWord → (SaidLine → Result SaidLine
 if_said (Ok said) next = next said
 if_said (Err wrong) next = Err wrong
 
--- what a line says
-unfoldable pub meaning : Language → Text → Result SaidLine WrongWord
-meaning language text =
-    if_said (tokens_meaning language (tokens language text) (nothing_said language)) (with_object (length text))
+-- what the front of a line says: under LINK the environment's LINK, which is read as the rest
+-- is, and under TLINK what TLINK.CFG says
+unfoldable pub front_meaning : Language → (front : Text) → Result SaidLine WrongWord
+front_meaning language front = tokens_meaning Front language (tokens language front) (nothing_said language)
+
+-- what the rest of a line of `total` bytes says, behind what is said
+unfoldable pub rest_meaning : Language → (total : ℕ) → Text → SaidLine → Result SaidLine WrongWord
+rest_meaning language total text said =
+    if_said (tokens_meaning Behind language (tokens_ending language total text) said) (with_object total)
+
+-- what a line says that is a front and a text behind it: places are counted through both
+abbrev pub meaning : Language → (front text : Text) → Result SaidLine WrongWord
+meaning language front text =
+    if_said (front_meaning language front) (rest_meaning language (length front + length text) text)

@@ -79,9 +79,13 @@ tokens_below (suc bound) language total (byte ∷ text) =
     record { place = total - length (byte ∷ text); piece = (token language byte text).0 }
     ∷ tokens_below bound language total (token language byte text).1
 
--- the tokens of a text: each has a byte at least, so that the bound is none
-unfoldable pub tokens : Language → Text → List PlacedPiece
-tokens language text = tokens_below (length text + 1) language (length text) text
+-- the tokens of a text that ends a line of `total` bytes: each has a byte at least, so that the bound is none
+unfoldable pub tokens_ending : Language → (total : ℕ) → Text → List PlacedPiece
+tokens_ending language total text = tokens_below (length text + 1) language total text
+
+-- the tokens of a text that is a line by itself
+abbrev pub tokens : Language → Text → List PlacedPiece
+tokens language text = tokens_ending language (length text) text
 
 -- the text of a token
 abbrev pub text_of : Piece → Text

@@ -15,7 +15,8 @@ pub enum LineFault<'a> {
     /// A word is at fault.
     #[error("at byte {place}: {word}: {kind}")]
     Word {
-        /// How many bytes of the text stand before the word, or before the token that is at fault.
+        /// How many bytes of the front and of the text behind it stand before the word, or before the token that is at
+        /// fault.
         place: usize,
         /// The word.
         word: &'a str,
@@ -53,6 +54,9 @@ pub enum FaultKind {
     /// A word that begins as an option and is none.
     #[error("unknown option")]
     UnknownOption,
+    /// A name, or a mark of a line, where options alone stand.
+    #[error("an option is expected")]
+    NoOption,
     /// A word that may be folders of TLINK's `/L` or `/j`, and options as well.
     #[error("a blank is expected between options, and folders without one of an option's name")]
     TwoWays,

@@ -25,10 +25,19 @@ pub(crate) enum Field {
     Ended,
 }
 
+/// A part of a line.
+#[derive(Clone, Copy)]
+pub(crate) enum Part {
+    /// What stands in front: the environment's LINK, or TLINK.CFG.
+    Front,
+    /// What stands behind that.
+    Behind,
+}
+
 /// An option that has no effect, or not all that it would have.
 #[derive(Clone, Copy, Debug, PartialEq, Eq)]
 pub struct IdleAt {
-    /// How many bytes of the text stand before its word.
+    /// How many bytes of the front and of the text behind it stand before its word.
     pub place: usize,
     /// What it is.
     pub idle: Idle,

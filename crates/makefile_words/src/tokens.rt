@@ -41,7 +41,7 @@ pub enum Token<'a> {
 /// A token and its place.
 #[derive(Clone, Copy)]
 pub struct Placed<'a> {
-    /// How many bytes of the text stand before it.
+    /// How many bytes of the line stand before it.
     pub place: usize,
     /// The token.
     pub token: Token<'a>,
@@ -169,18 +169,20 @@ fn next_token<'a>(
     }
 }
 
-/// The tokens of a line, which together hold each byte of it once.
-pub fn tokens_of<'a>(
+/// The tokens of a text that ends a line of so many bytes.
+pub(crate) fn tokens_ending<'a>(
     alloc: Global,
     language: Language,
+    total: usize,
     text: &'a str,
 ) -> Result<Vec<Placed<'a>>, AllocError>
-    ensures { IfOk result (λ tokens. pieces tokens.items ≡ spec.tokens language text.now) }
+    requires { length text.now ≤ total }
+    ensures { IfOk result (λ tokens. pieces tokens.items ≡ spec.tokens_ending language total text.now) }
 {
     let mut tokens = Vec::new(alloc);
     let mut rest = text;
     while !rest.is_empty() {
-        let place = text.len() - rest.len();
+        let place = total - rest.len();
         let next = next_token(alloc, language, rest)?;
         tokens.push(Placed {
             place,
@@ -189,4 +191,15 @@ pub fn tokens_of<'a>(
         rest = next.1;
     }
     Ok(tokens)
+}
+
+/// The tokens of a line, which together hold each byte of it once.
+pub fn tokens_of<'a>(
+    alloc: Global,
+    language: Language,
+    text: &'a str,
+) -> Result<Vec<Placed<'a>>, AllocError>
+    ensures { IfOk result (λ tokens. pieces tokens.items ≡ spec.tokens language text.now) }
+{
+    tokens_ending(alloc, language, text.len(), text)
 }

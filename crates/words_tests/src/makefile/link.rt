@@ -248,3 +248,121 @@ main; util
 Err(Word { place: 6, word: "util", kind: BehindEnd })"#;
     hold_in(&rt, rt.alloc(), Language::Link, table);
 }
+
+#[test]
+fn reads_the_environment(rt: HostRuntime) {
+    let table = r#"/NOI /NOLOGO /CO
+:
+main;
+=>
+inputs: [File("main")], out: None, map: None, map_form: Link, folders: [], ignore_case: false
+---
+/CO
+:
+main /E;
+=>
+warnings: [IdleAt { place: 0, idle: Debug }, IdleAt { place: 8, idle: Packing }]
+---
+/NOI /ST:4096 /T
+:
+main /ST:0x800;
+=>
+ignore_case: false, order: Meeting, null_bytes: false, stack: Some(Stack { bytes: 2048, cuts: true }), form: Some(Com)
+---
+/ST:2048
+:
+/ST:4096 main;
+=>
+stack: Some(Stack { bytes: 4096, cuts: true })
+---
+/DO
+:
+main /NON;
+=>
+order: Dosseg, null_bytes: false
+---
+crt0 /NOD
+:
+main,prog;
+=>
+inputs: [File("crt0"), File("main")], out: Some("prog"), map: None, map_form: Link, folders: [], ignore_case: true, order: Meeting, null_bytes: true, stack: None, form: Some(Exe), default_libraries: false
+---
+crt0
+:
+,prog;
+=>
+inputs: [File("crt0")], out: Some("prog")
+---
+crt0+
+:
+main,prog;
+=>
+inputs: [File("crt0"), File("main")], out: Some("prog")
+---
+crt0,prog
+:
+,list,cs;
+=>
+inputs: [File("crt0"), Library("cs")], out: Some("prog"), map: Some(At("list"))
+---
+"my crt0"
+:
+"my main";
+=>
+inputs: [File("my crt0"), File("my main")]
+---
+crt0
+:
+prog
+=>
+inputs: [File("crt0"), File("prog")], out: None
+---
+
+:
+main;
+=>
+inputs: [File("main")], out: None, map: None
+---
+main;
+:
+util
+=>
+Err(Word { place: 5, word: "util", kind: BehindEnd })
+---
+/NOI /z
+:
+main;
+=>
+Err(Word { place: 5, word: "/z", kind: UnknownOption })
+---
+/NOI
+:
+main /z;
+=>
+Err(Word { place: 9, word: "/z", kind: UnknownOption })
+---
+/NOI "
+:
+main";
+=>
+Err(Word { place: 5, word: "\"", kind: UnclosedQuote })
+---
+@more
+:
+main;
+=>
+Err(Word { place: 0, word: "@more", kind: Response })
+---
+/HI
+:
+main;
+=>
+Err(Word { place: 0, word: "/HI", kind: Refused })
+---
+/NOI
+:
+/M
+=>
+Err(Word { place: 6, word: "", kind: NoObject })"#;
+    hold_in(&rt, rt.alloc(), Language::Link, table);
+}

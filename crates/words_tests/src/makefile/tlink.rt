@@ -3,9 +3,10 @@ use makefile_words::{Language, parse_line};
 use std::alloc::{AllocError, Global};
 use std::process::Abort;
 
-/// The answer to a line, printed.
+/// The answer to a line, printed. What stands in front of it stands above a line of `:`.
 fn answer(alloc: Global, language: Language, line: &str) -> Result<String, AllocError> {
-    format!(in alloc; "{:?}", parse_line(alloc, language, line))
+    let (front, text) = line.split_once("\n:\n").unwrap_or(("", line));
+    format!(in alloc; "{:?}", parse_line(alloc, language, front, text))
 }
 
 /// The answer to each row of a table has the part that stands below its line.
@@ -356,5 +357,149 @@ Err(Word { place: 6, word: "Lpt9", kind: Device })
 /home/Lib/x.obj;b
 =>
 Err(Word { place: 16, word: "b", kind: BehindEnd })"#;
+    hold_in(&rt, rt.alloc(), Language::Tlink, table);
+}
+
+#[test]
+fn reads_tlink_cfg(rt: HostRuntime) {
+    let table = r#"/c
+/x
+/Lc:\tc\lib;d:\lib
+:
+c0s main,prog
+=>
+inputs: [File("c0s"), File("main")], out: Some("prog"), map: None, map_form: Tlink, folders: ["c:\\tc\\lib", "d:\\lib"], ignore_case: false
+---
+/c /x -n
+
+	/Tdc/m
+:
+main
+=>
+publics: true, line_numbers: false, detailed: false, writes_all: false, verbose: false, form: Com
+---
+/c /x /t
+:
+/c- main /x- /Tde
+=>
+inputs: [File("main")], out: None, map: Some(Beside), map_form: Tlink, folders: [], ignore_case: true, order: Meeting, null_bytes: false, stack: None, form: Some(Exe)
+---
+/x- /c-
+:
+main /x/c
+=>
+map: None, map_form: Tlink, folders: [], ignore_case: false
+---
+/La /Lb
+:
+/Lc main,,,d/ cs
+=>
+folders: ["a", "b", "c", "d/"]
+---
+; /x ;
+/c;
+:
+main
+=>
+inputs: [File("main")], out: None, map: None, map_form: Tlink, folders: [], ignore_case: false
+---
+
+:
+main
+=>
+inputs: [File("main")], out: None, map: Some(Beside)
+---
+/v
+
+/f
+:
+main /v
+=>
+warnings: [IdleAt { place: 0, idle: Debug }, IdleAt { place: 4, idle: Packing }, IdleAt { place: 11, idle: Debug }]
+---
+/x
+/q
+:
+main
+=>
+Err(Word { place: 3, word: "/q", kind: UnknownOption })
+---
+/x
+:
+main /q
+=>
+Err(Word { place: 7, word: "/q", kind: UnknownOption })
+---
+/x
+:
+main "util
+=>
+Err(Word { place: 7, word: "\"", kind: UnclosedQuote })
+---
+/x c0s
+:
+main
+=>
+Err(Word { place: 3, word: "c0s", kind: NoOption })
+---
+c0s/x
+:
+main
+=>
+Err(Word { place: 0, word: "c0s/x", kind: NoOption })
+---
+@more
+:
+main
+=>
+Err(Word { place: 0, word: "@more", kind: NoOption })
+---
+/x /home/tc/lib
+:
+main
+=>
+Err(Word { place: 3, word: "/home/tc/lib", kind: NoOption })
+---
+/x,
+:
+main
+=>
+Err(Word { place: 2, word: ",", kind: NoOption })
+---
+/x +
+:
+main
+=>
+Err(Word { place: 3, word: "+", kind: NoOption })
+---
+"c0s"
+:
+main
+=>
+Err(Word { place: 0, word: "c0s", kind: NoOption })
+---
+/x "
+:
+main
+=>
+Err(Word { place: 3, word: "\"", kind: NoOption })
+---
+/o
+:
+main
+=>
+Err(Word { place: 0, word: "/o", kind: Overlays })
+---
+/La/c
+:
+main
+=>
+Err(Word { place: 0, word: "/La/c", kind: TwoWays })
+---
+/x
+:
+/c
+=>
+Err(Word { place: 4, word: "", kind: NoObject })"#;
     hold_in(&rt, rt.alloc(), Language::Tlink, table);
 }

@@ -1,0 +1,51 @@
+-- What stands in front of the words of a line: under LINK the environment's LINK, under TLINK what TLINK.CFG says. `told`
+-- are the bytes of files by their paths, and `looks` is what stands at each path, none where nothing does, where the
+-- world tells them.
+use Rattle.std.specs.Prelude.{◌≡◌, ◌⊎◌, ◌||◌, ℕ, Bool, List, [], codes, IfSome, None, if◌then◌else◌}
+use Rattle.std.specs.declared.option.Option.{Option}
+use Rattle.std.specs.Char.{is_ascii_whitespace}
+use Rattle.std.specs.List.{before_first, list_any, slice_split}
+use Rattle.std.specs.Str.{bytes_eq}
+use Rattle.clap.specs.Words.{Text}
+use Rattle.omf_files.specs.declared.world.Looked.{Looked}
+use Rattle.doslink_files.specs.Files.{IsTold}
+use Rattle.doslink_files.specs.Paths.{last_part}
+use Rattle.makefile_words.specs.declared.tokens.Language.{Language}
+use Rattle.makefile_words.specs.declared.tokens.Language.TheVariants.{Link, Tlink}
+use Rattle.doslink_jobs.specs.Lines.{IsSpoken, is_end}
+use Rattle.doslink_jobs.specs.Runs.{is_called}
+
+-- ---- the environment's LINK
+
+-- whether a word is of a call of a linker: `--as`, or a path of the program `link`
+abbrev pub is_of_call : (word : Text) → Bool
+is_of_call word = bytes_eq word (codes "--as") || is_called (last_part word) (codes "link") (codes "link.exe")
+
+-- whether a text is a call of a linker, as `doslink --as link`. Make hands its variable LINK on to what it runs where
+-- that is said on its command line, and the linker is called by that
+abbrev pub calls_linker : Text → Bool
+calls_linker text = list_any is_of_call (slice_split is_ascii_whitespace text)
+
+-- what the environment's LINK says: nothing where it is such a call
+abbrev pub link_text : Text → Text
+link_text text = if calls_linker text then [] else text
+
+-- ---- TLINK.CFG
+
+-- nothing stands at a path
+abbrev pub IsNothingAt : (looks : Option (Text → Option Looked)) → (path : Text) → Type 0
+IsNothingAt looks path = IfSome looks (λ look. look path ≡ None)
+
+-- this is what TLINK.CFG says: nothing where it isn't there, and else its text up to a Ctrl-Z
+abbrev pub IsConfigured : (told : Text → Option (List ℕ)) → (looks : Option (Text → Option Looked)) → (said : Text) → Type 0
+IsConfigured told looks said =
+    (IsNothingAt looks (codes "TLINK.CFG") × (said ≡ []))
+    ⊎ ((text : Text) × IsTold (told (codes "TLINK.CFG")) text × (said ≡ before_first is_end text))
+
+-- ---- the front
+
+-- this stands in front of a line, where this is the environment's LINK: with what its response files say
+abbrev pub IsFront : (told : Text → Option (List ℕ)) → (looks : Option (Text → Option Looked)) → (link : Text) → Language
+    → (front : Text) → Type 0
+IsFront told looks link Link front = (rounds : ℕ) × IsSpoken told Link rounds (link_text link) front
+IsFront told looks link Tlink front = IsConfigured told looks front
