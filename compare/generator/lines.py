@@ -61,7 +61,8 @@ LINES_OF_TLINK = [
     "OBJECT /Lsub:/v,,,x", "OBJECT /Lx/c\\d,,,y", "OBJECT,,, /Lx;c:\\tc/m l", "OBJECT -La/j", "OBJECT /c/La/m",
     "OBJECT /Lc:\\tc\\lib/c;", "OBJECT /jx/Lc:\\tc,,,l", "OBJECT /Lx/q,,,l", "OBJECT /Lx,,,l"]
 # the environment's LINK that is a call of a linker
-CALLS = ["doslink --as link", "/usr/bin/doslink --as LINK /q", "link", "C:\\BIN\\LINK.EXE /q", "run ./link\t/q", "a:Link"]
+CALLS = ["doslink --as link", "/usr/bin/doslink --as LINK /q", "link", "C:\\BIN\\LINK.EXE /q", "run ./link\t/q", "a:Link",
+         '"C:\\My Bin\\LINK.EXE" /q']
 # what stands in front of a line that is wrong, or seems so; `OBJECT` is that of the job
 ODD_FRONTS = {
     LINK: [

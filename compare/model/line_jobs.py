@@ -35,8 +35,8 @@ ALL_BYTES = "/i isn't followed: segments without data take no bytes of the file"
 MAP = ".MAP"
 # what stands in front of a line: a file of TLINK, and a variable of LINK
 FRONTS = {lines.TLINK: "TLINK.CFG", lines.LINK: "LINK"}
-# what parts words, and folders, where a variable is a call of a linker
-BETWEEN_WORDS, BETWEEN_FOLDERS = re.compile(r"[ \t\n\f\r]"), re.compile(r"[\\/:]")
+# what parts the folders of a linker that a variable calls
+BETWEEN_FOLDERS = re.compile(r"[\\/:]")
 TOO_DEEP = "response files name one another more than 8 deep"
 TOO_MANY = "a line has at most 200 response files"
 MOST_DEEP, MOST_FILES = 8, 200
@@ -79,7 +79,7 @@ def is_there(path, files):
 
 def is_call(variable):
     """Whether a variable is a call of a linker, which make hands on: it has `--as`, or the name of LINK."""
-    words = BETWEEN_WORDS.split(variable)
+    words = [token.text for token in lines.tokens(lines.LINK, variable)]
     return "--as" in words or any(
         BETWEEN_FOLDERS.split(word)[-1].lower() in ("link", "link.exe") for word in words)
 

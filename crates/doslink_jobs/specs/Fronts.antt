@@ -3,13 +3,13 @@
 -- world tells them.
 use Rattle.std.specs.Prelude.{◌≡◌, ◌⊎◌, ◌||◌, ℕ, Bool, List, [], codes, IfSome, None, if◌then◌else◌}
 use Rattle.std.specs.declared.option.Option.{Option}
-use Rattle.std.specs.Char.{is_ascii_whitespace}
-use Rattle.std.specs.List.{before_first, list_any, slice_split}
+use Rattle.std.specs.List.{before_first, list_any}
 use Rattle.std.specs.Str.{bytes_eq}
 use Rattle.clap.specs.Words.{Text}
 use Rattle.omf_files.specs.declared.world.Looked.{Looked}
 use Rattle.doslink_files.specs.Files.{IsTold}
 use Rattle.doslink_files.specs.Paths.{last_part}
+use Rattle.makefile_words.specs.Tokens.{Piece, text_of, tokens}
 use Rattle.makefile_words.specs.declared.tokens.Language.{Language}
 use Rattle.makefile_words.specs.declared.tokens.Language.TheVariants.{Link, Tlink}
 use Rattle.doslink_jobs.specs.Lines.{IsSpoken, is_end}
@@ -17,14 +17,15 @@ use Rattle.doslink_jobs.specs.Runs.{is_called}
 
 -- ---- the environment's LINK
 
--- whether a word is of a call of a linker: `--as`, or a path of the program `link`
-abbrev pub is_of_call : (word : Text) → Bool
-is_of_call word = bytes_eq word (codes "--as") || is_called (last_part word) (codes "link") (codes "link.exe")
+-- whether a token is of a call of a linker: `--as`, or a path of the program `link`
+abbrev pub is_of_call : Piece → Bool
+is_of_call piece =
+    bytes_eq (text_of piece) (codes "--as") || is_called (last_part (text_of piece)) (codes "link") (codes "link.exe")
 
 -- whether a text is a call of a linker, as `doslink --as link`. Make hands its variable LINK on to what it runs where
 -- that is said on its command line, and the linker is called by that
 abbrev pub calls_linker : Text → Bool
-calls_linker text = list_any is_of_call (slice_split is_ascii_whitespace text)
+calls_linker text = list_any (λ placed. is_of_call placed.piece) (tokens Link text)
 
 -- what the environment's LINK says: nothing where it is such a call
 abbrev pub link_text : Text → Text

@@ -1,7 +1,7 @@
 //! What stands in front of the words of a line: the environment's LINK, or what TLINK.CFG says.
 ghost use Rattle.std.specs.Prelude.{◌≡◌, ℕ, IfOk, MatchResult, string_bytes};
-ghost use Rattle.std.specs.Char.{is_ascii_whitespace};
-ghost use Rattle.std.specs.List.{slice_split};
+ghost use Rattle.std.specs.List.{list_any};
+ghost use Rattle.makefile_words.specs.Tokens.{piece_of};
 ghost use Rattle.doslink_jobs.specs.Fronts as spec;
 ghost use Rattle.doslink_jobs.specs.Lines.{IsSpoken};
 ghost use Rattle.doslink_jobs.specs.inside.Stops.{OnHalt};
@@ -11,7 +11,7 @@ use crate::line_text::{Read, up_to_end, with_files};
 use crate::stop::Halt;
 use crate::words::is_called;
 use doslink_files::last_part;
-use makefile_words::Language;
+use makefile_words::{Language, Placed, tokens_of};
 use omf_files::World;
 use std::alloc::{AllocError, Global};
 use std::io::ErrorKind;
@@ -19,29 +19,37 @@ use std::io::ErrorKind;
 /// The name of the file of TLINK's options.
 const CONFIGURATION: &str = "TLINK.CFG";
 
-// Whether a word is of a call of a linker.
-fn is_of_call(word: &[u8]) -> bool
-    ensures { result ≡ spec.is_of_call word.now }
+// Whether a token is of a call of a linker.
+fn is_of_call(placed: &Placed<'_>) -> bool
+    ensures { result ≡ spec.is_of_call (piece_of placed.now.token) }
 {
+    let word = placed.token.text().as_bytes();
     word == b"--as".as_slice() || is_called(last_part(word), b"link", b"link.exe")
 }
 
-// Whether a text is a call of a linker.
-fn calls_linker(text: &[u8]) -> bool
-    ensures { result ≡ spec.calls_linker text.now }
+// Whether one of some tokens is.
+fn has_call(tokens: &[Placed<'_>]) -> bool
+    ensures { result ≡ list_any (λ placed. spec.is_of_call (piece_of placed.token)) tokens.now }
 {
-    let mut words = text.split(|byte| byte.is_ascii_whitespace());
-    words.any(|word| is_of_call(word))
+    tokens.iter().any(|placed| is_of_call(placed))
+}
+
+// Whether a text is a call of a linker.
+fn calls_linker(alloc: Global, text: &str) -> Result<bool, AllocError>
+    ensures { IfOk result (λ calls. calls ≡ spec.calls_linker text.now) }
+{
+    let tokens = tokens_of(alloc, Language::Link, text)?;
+    Ok(has_call(tokens.as_slice()))
 }
 
 // What the environment's LINK says: nothing where it is a call of a linker.
-fn link_text(text: &str) -> &str
-    ensures { result.now ≡ spec.link_text text.now }
+fn link_text(alloc: Global, text: &str) -> Result<&str, AllocError>
+    ensures { IfOk result (λ said. said.now ≡ spec.link_text text.now) }
 {
-    if calls_linker(text.as_bytes()) {
-        ""
+    if calls_linker(alloc, text)? {
+        Ok("")
     } else {
-        text
+        Ok(text)
     }
 }
 
@@ -81,7 +89,10 @@ fn front_of<W: World>(
         (λ why. OnHalt why ⊥ (Unit {0})) }
 {
     match linker {
-        Language::Link => with_files(alloc, world, linker, link_text(link), read),
+        Language::Link => {
+            let text = link_text(alloc, link)?;
+            with_files(alloc, world, linker, text, read)
+        }
         Language::Tlink => configuration(alloc, world, read),
     }
 }

@@ -11,6 +11,8 @@ mod doubled;
 #[cfg(test)]
 mod forms;
 #[cfg(test)]
+mod fronts;
+#[cfg(test)]
 mod lengths;
 #[cfg(test)]
 mod lines;

@@ -1,5 +1,6 @@
 //! Runs over a world in memory.
 use super::forms::{FORM_LINES, FORM_MODULES, FORM_RUNS, FORMED};
+use super::fronts::{CONFIGURED, FRONTED, Front};
 use super::lines::{LINE_FILES, LINE_RUNS, LINED, MAPPED};
 use super::modules::LIBRARY;
 use super::naming::{NAMED_FILES, NAMED_PROGRAMS, NAMING_RUNS};
@@ -13,7 +14,7 @@ use super::world::{
 };
 use super::written::{MAP, PROGRAMS, WRITTEN};
 use desk::{Count, Desk, Page, Pen};
-use doslink_jobs::{language_of, run_words};
+use doslink_jobs::{Environment, language_of, run_words};
 use omf_files::BufferedSink;
 use omf_frame::WriteSink;
 use std::alloc::{AllocError, Global};
@@ -38,7 +39,11 @@ const LACKING: &str = "doslink: warning: no module has a ";
 
 /// What a run of these words tells, as a row of the table has it, with the warnings of what no module has or without.
 fn told(alloc: Global, words: &str, lacking: bool) -> Result<Vec<u8>, AllocError> {
-    let done = run_row(alloc, words, "")?;
+    told_of(alloc, words, run_row(alloc, words, "")?, lacking)
+}
+
+/// The same of a run that is done.
+fn told_of(alloc: Global, words: &str, done: Done, lacking: bool) -> Result<Vec<u8>, AllocError> {
     let mut row = Vec::from_slice(alloc, words.as_bytes())?;
     row.push(b'|')?;
     row.push(b'0' + done.status % 10)?;
@@ -85,9 +90,15 @@ fn put_further<'a>(files: &mut Vec<(&'a str, &'a [u8])>) -> Result<(), AllocErro
 
 /// What a run of these words does that may write a program at a path, or at any if it is empty, and a map at P.MAP.
 fn run_row(alloc: Global, row: &str, path: &str) -> Result<Done, AllocError> {
+    run_with(alloc, Front::none(), row, path)
+}
+
+/// The same with what stands in front of the words.
+fn run_with(alloc: Global, front: Front<'_>, row: &str, path: &str) -> Result<Done, AllocError> {
     let mut files = Vec::from_slice(alloc, &MODULES)?;
     put_further(&mut files)?;
     put_others(&mut files)?;
+    files.extend_from_slice(front.files)?;
     let out = Page::new(alloc, path, b"old", ROOM)?;
     let map = Page::new(alloc, "P.MAP", b"old", ROOM)?;
     let output_page = Page::new(alloc, "", b"", ROOM)?;
@@ -98,8 +109,12 @@ fn run_row(alloc: Global, row: &str, path: &str) -> Result<Done, AllocError> {
         files: files.as_slice(),
         folders: &["RUN", "LIBS", "LIBS/"],
         devices: &["DEVICE"],
-        locked: &[],
-        links: &[("./HAS.LIB", "HAS.LIB"), ("LINK.EXE", "F.OBJ")],
+        locked: front.locked,
+        links: &[
+            ("./HAS.LIB", "HAS.LIB"),
+            ("LINK.EXE", "F.OBJ"),
+            ("LINKED.CFG", "TLINK.CFG"),
+        ],
         out: &out,
         map: &map,
         opened: &opened,
@@ -110,13 +125,17 @@ fn run_row(alloc: Global, row: &str, path: &str) -> Result<Done, AllocError> {
         return Err(AllocError);
     };
     let mut errors = WriteSink::new(Pen::new(&error_page));
+    let environment = Environment {
+        folders: &["", "ENV"],
+        link: front.link,
+    };
     let status = match words.as_slice() {
         [program, words @ ..] => run_words(
             alloc,
             desk,
             language_of(program),
             words,
-            &["", "ENV"],
+            &environment,
             &mut output,
             &mut errors,
         ),
@@ -144,6 +163,16 @@ fn first_other(alloc: Global, rows: &str, lacking: bool) -> Result<Option<String
         }
     }
     Ok(None)
+}
+
+/// Whether a run of a row with what stands in front of its words tells what the row has.
+fn check_front<R: Abort>(rt: &R, alloc: Global, front: Front<'_>, row: &str) -> Result<(), Fail> {
+    let (words, _) = row.split_once('|').unwrap_or((row, ""));
+    let done = run_with(alloc, front, words, "")?;
+    let line = told_of(alloc, words, done, false)?;
+    let line = String::from_utf8_lossy(alloc, &line)?;
+    assert_eq!(rt; line.as_str(), row);
+    Ok(())
 }
 
 /// The same without those warnings.
@@ -315,6 +344,22 @@ fn runs_with_a_form_write_these_files(rt: HostRuntime) -> Result<(), Fail> {
 fn lines_tell_these_lines(rt: HostRuntime) -> Result<(), Fail> {
     let wrong = first_wrong(rt.alloc(), LINE_RUNS)?;
     assert_eq!(rt; wrong, None);
+    Ok(())
+}
+
+#[test]
+fn lines_behind_link_tell_these_lines(rt: HostRuntime) -> Result<(), Fail> {
+    for (link, row) in &FRONTED {
+        check_front(&rt, rt.alloc(), Front::of_link(link), row)?;
+    }
+    Ok(())
+}
+
+#[test]
+fn lines_behind_tlink_cfg_tell_these_lines(rt: HostRuntime) -> Result<(), Fail> {
+    for (front, row) in &CONFIGURED {
+        check_front(&rt, rt.alloc(), *front, row)?;
+    }
     Ok(())
 }
 

@@ -11,7 +11,8 @@ returns-in-Ok g c =
     let Writes = StandsAt (g.W.World.blank c.args.world) (g.W.World.Puts c.args.world) in
     EndsBy-weaker Global told Writes (texts c.args.besides.now.folders.now)
     (λ does helps. RunsMade told does helps c.in-Ok.made)
-    (λ does helps. RunsLine told does helps c.args.linker c.args.text.now) _ c.run_made.result
+    (λ does helps. RunsLine told does helps c.args.parts.now.linker c.args.parts.now.front.now
+    c.args.parts.now.text.now) _ c.run_made.result
     (λ does helps runs. (c.in-Ok.made, c.in-Ok.ensures, runs)) c.run_made.ensures
 
 pub returns-in-Err : goal.returns-in-Err
@@ -19,5 +20,6 @@ returns-in-Err g c =
     let told = g.W.World.bytes c.args.world in
     let Writes = StandsAt (g.W.World.blank c.args.world) (g.W.World.Puts c.args.world) in
     EndsBy-none Global told Writes (texts c.args.besides.now.folders.now)
-    (λ does helps. RunsLine told does helps c.args.linker c.args.text.now) ⊥ (Unit {0}) _ c.refuse_line.result
+    (λ does helps. RunsLine told does helps c.args.parts.now.linker c.args.parts.now.front.now
+    c.args.parts.now.text.now) ⊥ (Unit {0}) _ c.refuse_line.result
     (λ none. absurd none) c.refuse_line.ensures

@@ -2,8 +2,7 @@ use Rattle.std.proofs.Common.{MatchOption, subst}
 use Rattle.std.specs.declared.alloc.Global.{Global}
 use Rattle.doslink_words.specs.Tokens.{texts}
 use Rattle.doslink_files.specs.Written.{StandsAt}
-use Rattle.doslink_jobs.specs.declared.words.Language.TheVariants.{Words}
-use Rattle.doslink_jobs.specs.Runs.{Runs, RunsResponse, RunsWords}
+use Rattle.doslink_jobs.specs.Runs.{RunsCommand, RunsResponse, RunsWords}
 use Rattle.doslink_jobs.proofs.Doing.{EndsBy-weaker}
 use Rattle.doslink_jobs.proofs.words.run_command.Goals as goal
 
@@ -13,7 +12,7 @@ returns-in-Some g c =
     let Writes = StandsAt (g.W.World.blank c.args.world) (g.W.World.Puts c.args.world) in
     let list = texts c.args.words.now in
     EndsBy-weaker Global told Writes (texts c.args.folders.now)
-    (λ does helps. RunsResponse told does helps c.in-Some.path.now) (λ does helps. Runs told does helps Words list) _
+    (λ does helps. RunsResponse told does helps c.in-Some.path.now) (λ does helps. RunsCommand told does helps list) _
     c.run_response.result
     (λ does helps. subst (λ o. MatchOption o (RunsWords told does helps list) (RunsResponse told does helps))
     c.in-Some.ensures)
@@ -25,7 +24,7 @@ returns-in-None g c =
     let Writes = StandsAt (g.W.World.blank c.args.world) (g.W.World.Puts c.args.world) in
     let list = texts c.args.words.now in
     EndsBy-weaker Global told Writes (texts c.args.folders.now)
-    (λ does helps. RunsWords told does helps list) (λ does helps. Runs told does helps Words list) _
+    (λ does helps. RunsWords told does helps list) (λ does helps. RunsCommand told does helps list) _
     c.run_plain.result
     (λ does helps. subst (λ o. MatchOption o (RunsWords told does helps list) (RunsResponse told does helps))
     c.in-None.ensures)
