@@ -20,15 +20,6 @@ impl<'f> Front<'f> {
             locked: &[],
         }
     }
-
-    /// The environment's LINK.
-    pub(crate) fn of_link(link: &'f str) -> Front<'f> {
-        Front {
-            link,
-            files: &[],
-            locked: &[],
-        }
-    }
 }
 
 /// The environment's LINK, and a run with it, in the form of the other tables.
@@ -106,100 +97,60 @@ pub(crate) const FRONTED: [(&str, &str); 27] = [
     ("/z", "doslink -o P.EXE F.OBJ|0||"),
 ];
 
-/// A TLINK.CFG of these bytes.
-const fn of_bytes<'f>(files: &'f [(&'f str, &'f [u8])]) -> Front<'f> {
-    Front {
-        link: "",
-        files,
-        locked: &[],
-    }
-}
-
-/// TLINK.CFG, and a run with it.
-pub(crate) const CONFIGURED: [(Front<'static>, &str); 23] = [
+/// What TLINK.CFG has, and a run with it.
+pub(crate) const CONFIGURED: [(&[u8], &str); 18] = [
+    (b"/c\r\n/x\r\n", "tlink F CAPITAL|0||"),
     (
-        of_bytes(&[]),
-        "tlink F CAPITAL /x|1||doslink: link: 25 DuplicatePublic \"F\" in F.OBJ and CAPITAL.OBJ~",
-    ),
-    (
-        of_bytes(&[("TLINK.CFG", b"/c\r\n/x\r\n")]),
-        "tlink F CAPITAL|0||",
-    ),
-    (
-        of_bytes(&[("TLINK.CFG", b"/c")]),
+        b"/c",
         "tlink /c- /x F CAPITAL|1||doslink: link: 25 DuplicatePublic \"F\" in F.OBJ and CAPITAL.OBJ~",
     ),
+    (b"/x ; -c/m;\n\n;", "tlink F CAPITAL|0||"),
+    (b"/x\r\n\x1A/z", "tlink F|0||"),
     (
-        of_bytes(&[("TLINK.CFG", b"/x ; -c/m;\n\n;")]),
-        "tlink F CAPITAL|0||",
-    ),
-    (of_bytes(&[("TLINK.CFG", b"/x\r\n\x1A/z")]), "tlink F|0||"),
-    (
-        of_bytes(&[("TLINK.CFG", b"\x1A\xFF")]),
+        b"\x1A\xFF",
         "tlink /x F|2||doslink: TLINK.CFG: it is no UTF-8 text~",
     ),
-    (of_bytes(&[("TLINK.CFG", b"")]), "tlink /x F|0||"),
+    (b"", "tlink /x F|0||"),
     (
-        of_bytes(&[("TLINK.CFG", b"/x\r\n/z\r\n")]),
+        b"/x\r\n/z\r\n",
         "tlink F|2||doslink: TLINK.CFG: line 2, column 1: \"/z\": unknown option~",
     ),
     (
-        of_bytes(&[("TLINK.CFG", b"/x\r\n/c\r\n")]),
+        b"/x\r\n/c\r\n",
         "tlink F /z|2||doslink: line 1, column 3: \"/z\": unknown option~",
     ),
     (
-        of_bytes(&[("TLINK.CFG", b"/x\n /c A\n")]),
+        b"/x\n /c A\n",
         "tlink F|2||doslink: TLINK.CFG: line 2, column 5: \"A\": an option is expected~",
     ),
     (
-        of_bytes(&[("TLINK.CFG", b"@OBJS")]),
+        b"@OBJS",
         "tlink F|2||doslink: TLINK.CFG: line 1, column 1: \"@OBJS\": an option is expected~",
     ),
     (
-        of_bytes(&[("TLINK.CFG", b"/x,")]),
+        b"/x,",
         "tlink F|2||doslink: TLINK.CFG: line 1, column 3: \",\": an option is expected~",
     ),
     (
-        of_bytes(&[("TLINK.CFG", b"/x\n/v\n/f\n")]),
+        b"/x\n/v\n/f\n",
         "tlink F|0||doslink: warning: TLINK.CFG: line 2, column 1: no data for debuggers is written~doslink: warning: TLINK.CFG: line 3, column 1: the program isn't packed: it runs the same~",
     ),
     (
-        of_bytes(&[("TLINK.CFG", b"/i")]),
+        b"/i",
         "tlink F|2||doslink: /i isn't followed: segments without data take no bytes of the file~",
     ),
-    (of_bytes(&[("TLINK.CFG", b"/i")]), "tlink /x /i- F|0||"),
+    (b"/i", "tlink /x /i- F|0||"),
     (
-        of_bytes(&[("TLINK.CFG", b"/l")]),
+        b"/l",
         "tlink F|0||doslink: warning: the map has no line numbers~",
     ),
     (
-        of_bytes(&[("TLINK.CFG", b"/x")]),
+        b"/x",
         "tlink F,TLINK.CFG|2||doslink: TLINK.CFG: it is read and would be written~",
     ),
     (
-        of_bytes(&[("TLINK.CFG", b"/m")]),
+        b"/m",
         "tlink F,P,LINKED.CFG|2||doslink: LINKED.CFG: it is read and would be written~",
     ),
-    (of_bytes(&[("TLINK.CFG", b"/z")]), "link F;|0||"),
-    (
-        of_bytes(&[("TLINK.CFG", b"/z")]),
-        "tlink --version|0|doslink 1.0.0~|",
-    ),
-    (of_bytes(&[("SUB/TLINK.CFG", b"/z")]), "tlink /x F|0||"),
-    (
-        Front {
-            link: "",
-            files: &[],
-            locked: &["TLINK.CFG"],
-        },
-        "tlink /x F|3||doslink: TLINK.CFG: 1 Device at record 0: no permission~",
-    ),
-    (
-        Front {
-            link: "/z",
-            files: &[("TLINK.CFG", b"/x")],
-            locked: &[],
-        },
-        "tlink F|0||",
-    ),
+    (b"/x", "tlink F|0||"),
 ];

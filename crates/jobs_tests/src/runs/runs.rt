@@ -349,18 +349,42 @@ fn lines_tell_these_lines(rt: HostRuntime) -> Result<(), Fail> {
 
 #[test]
 fn lines_behind_link_tell_these_lines(rt: HostRuntime) -> Result<(), Fail> {
+    // an option of TLINK alone
+    let files: [(&str, &[u8]); 1] = [("TLINK.CFG", b"/k")];
     for (link, row) in &FRONTED {
-        check_front(&rt, rt.alloc(), Front::of_link(link), row)?;
+        let front = Front {
+            link,
+            files: &files,
+            locked: &[],
+        };
+        check_front(&rt, rt.alloc(), front, row)?;
     }
     Ok(())
 }
 
 #[test]
 fn lines_behind_tlink_cfg_tell_these_lines(rt: HostRuntime) -> Result<(), Fail> {
-    for (front, row) in &CONFIGURED {
-        check_front(&rt, rt.alloc(), *front, row)?;
+    for (bytes, row) in &CONFIGURED {
+        let files: [(&str, &[u8]); 1] = [("TLINK.CFG", bytes)];
+        let front = Front {
+            link: "/z",
+            files: &files,
+            locked: &[],
+        };
+        check_front(&rt, rt.alloc(), front, row)?;
     }
     Ok(())
+}
+
+#[test]
+fn tlink_cfg_that_cannot_be_opened_is_told(rt: HostRuntime) -> Result<(), Fail> {
+    let front = Front {
+        link: "",
+        files: &[],
+        locked: &["TLINK.CFG"],
+    };
+    let row = "tlink /x F|3||doslink: TLINK.CFG: 1 Device at record 0: no permission~";
+    check_front(&rt, rt.alloc(), front, row)
 }
 
 #[test]
