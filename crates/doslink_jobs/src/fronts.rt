@@ -1,5 +1,5 @@
 //! What stands in front of the words of a line: the environment's LINK, or what TLINK.CFG says.
-ghost use Rattle.std.specs.Prelude.{◌≡◌, ℕ, IfOk, MatchResult, string_bytes};
+ghost use Rattle.std.specs.Prelude.{◌≡◌, ℕ, IfOk, MatchResult, string_bytes, true};
 ghost use Rattle.std.specs.List.{list_any};
 ghost use Rattle.makefile_words.specs.Tokens.{piece_of};
 ghost use Rattle.doslink_jobs.specs.Fronts as spec;

@@ -18,6 +18,7 @@ use doslink_jobs::{Environment, language_of, run_words};
 use omf_files::BufferedSink;
 use omf_frame::WriteSink;
 use std::alloc::{AllocError, Global};
+use std::process::Abort;
 use std::test::*;
 
 /// The most bytes that are written to a file or a stream.

@@ -372,7 +372,7 @@ inputs: [File("c0s"), File("main")], out: Some("prog"), map: None, map_form: Tli
 ---
 /c /x -n
 
-	/Tdc/m
+  /Tdc/m
 :
 main
 =>
