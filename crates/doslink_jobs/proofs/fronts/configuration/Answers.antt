@@ -11,5 +11,5 @@ returns g c =
     inr (
       string_bytes c.in_ok-file.file,
       c.in_ok-file.ensures,
-      c.in_ok-from_str.ensures.bytes ∙ c.up_to_end.ensures ∙ ap (before_first is_end) c.as_str.ensures.value,
+      c.in_ok-from_str.ensures.ok ∙ c.up_to_end.ensures ∙ ap (before_first is_end) c.as_str.ensures.value,
     )
