@@ -1,6 +1,6 @@
--- What stands in front of the words of a line: under LINK the environment's LINK, under TLINK what TLINK.CFG says. `told`
--- are the bytes of files by their paths, and `looks` is what stands at each path, none where nothing does, where the
--- world tells them.
+-- What stands in front of the words of a line: under LINK the environment's LINK, under TLINK what TLINK.CFG says.
+-- `told` are the bytes of files by their paths, and `looks` is what stands at each path, none where nothing does, where
+-- the world tells them.
 use Rattle.std.specs.Prelude.{◌≡◌, ◌⊎◌, ◌||◌, ℕ, Bool, List, [], codes, IfSome, None, if◌then◌else◌}
 use Rattle.std.specs.declared.option.Option.{Option}
 use Rattle.std.specs.List.{before_first, list_any}
@@ -38,7 +38,8 @@ abbrev pub IsNothingAt : (looks : Option (Text → Option Looked)) → (path : T
 IsNothingAt looks path = IfSome looks (λ look. look path ≡ None)
 
 -- this is what TLINK.CFG says: nothing where it isn't there, and else its text up to a Ctrl-Z
-abbrev pub IsConfigured : (told : Text → Option (List ℕ)) → (looks : Option (Text → Option Looked)) → (said : Text) → Type 0
+abbrev pub IsConfigured : (told : Text → Option (List ℕ)) → (looks : Option (Text → Option Looked)) → (said : Text)
+    → Type 0
 IsConfigured told looks said =
     (IsNothingAt looks (codes "TLINK.CFG") × (said ≡ []))
     ⊎ ((text : Text) × IsTold (told (codes "TLINK.CFG")) text × (said ≡ before_first is_end text))
@@ -46,7 +47,7 @@ IsConfigured told looks said =
 -- ---- the front
 
 -- this stands in front of a line, where this is the environment's LINK: with what its response files say
-abbrev pub IsFront : (told : Text → Option (List ℕ)) → (looks : Option (Text → Option Looked)) → (link : Text) → Language
-    → (front : Text) → Type 0
+abbrev pub IsFront : (told : Text → Option (List ℕ)) → (looks : Option (Text → Option Looked)) → (link : Text)
+    → Language → (front : Text) → Type 0
 IsFront told looks link Link front = (rounds : ℕ) × IsSpoken told Link rounds (link_text link) front
 IsFront told looks link Tlink front = IsConfigured told looks front

@@ -48,8 +48,8 @@ pub(crate) enum Switch {
     Start,
     /// An option that takes no value.
     Plain(Plain),
-    /// An option that has no effect, and what is told of it. `symfile`: a file of symbols; and what changes nothing of a
-    /// DOS program: `verbose`, `statics`, `artificial`, `showdead`, `cache`, `nocache`, `farcalls`, `nofarcalls`,
+    /// An option that has no effect, and what is told of it. `symfile`: a file of symbols; and what changes nothing of
+    /// a DOS program: `verbose`, `statics`, `artificial`, `showdead`, `cache`, `nocache`, `farcalls`, `nofarcalls`,
     /// `maxerrors`.
     Idle(WarningKind),
 }

@@ -1,5 +1,7 @@
--- A module without its start: the record that ends it says of none (TIS OMF 1.1, MODEND). Its other records are the same.
-use Rattle.std.specs.Prelude.{ℕ, ◌==◌, ◌/◌, ◌%◌, ◌&&◌, Bool, false, if◌then◌else◌, List, [], ◌∷◌, ◌++◌, take, None, Some}
+-- A module without its start: the record that ends it says of none (TIS OMF 1.1, MODEND). Its other records are the
+-- same.
+use Rattle.std.specs.Prelude.{ℕ, ◌==◌, ◌/◌, ◌%◌, ◌&&◌, Bool, false, if◌then◌else◌, List, [], ◌∷◌, ◌++◌, take}
+use Rattle.std.specs.Prelude.{None, Some}
 use Rattle.std.specs.declared.option.Option.{Option}
 use Rattle.std.specs.Option.{option_map_or}
 use Rattle.omf_frame.specs.Frame.{Frame}

@@ -26,7 +26,8 @@ doslink: directives: \"h\" is missing: record 15 (0000000F), wanted by \"directi
 doslink: directives: \"x\" is missing: record 22 (00000016), wanted by \"directives\"~\
 doslink: directives: \"y\" is missing: record 36 (00000024), wanted by \"directives\"~
 wlink f A.OBJ ref f|1||\
-doslink: A.OBJ: \"f\" is missing: record 28 (0000001C), wanted by \"a.c\"~
+doslink: A.OBJ: \"f\" is missing: record 28 (0000001C), wanted by \"a.c\"~\
+doslink: directives: \"f\" is missing: record 15 (0000000F), wanted by \"directives\"~
 wlink ref f|2||doslink: no file is named to be linked~
 wlink f A.OBJ,CALLS.OBJ,D.OBJ a f=_f|0||
 wlink f A.OBJ,CALLS.OBJ,F.OBJ a g=h,x=y|0||
