@@ -1,6 +1,5 @@
 /* Windows on x86-64, by kernel32 and msvcrt, which each Windows from Vista on has. What is used of them is declared
-   here, so that no headers are needed. A file's number is its handle, which Windows keeps below 2^31; the three streams
-   are 0, 1 and 2. Texts are UTF-8 on the program's side and UTF-16 on the side of Windows. */
+   here, so that no headers are needed. Texts are UTF-8 on the program's side and UTF-16 on the side of Windows. */
 #include "common.h"
 
 typedef void *handle;
@@ -25,6 +24,7 @@ FROM_DLL(int32_t) GetFileInformationByHandle(handle, information *);
 FROM_DLL(int32_t) SetFilePointerEx(handle, int64_t to, int64_t *was, uint32_t from);
 FROM_DLL(int32_t) SetEndOfFile(handle);
 FROM_DLL(int32_t) MoveFileExW(const unit *, const unit *, uint32_t);
+FROM_DLL(int32_t) ReplaceFileW(const unit *older, const unit *with, const unit *aside, uint32_t, void *, void *);
 FROM_DLL(int32_t) DeleteFileW(const unit *);
 FROM_DLL(uint32_t) GetFinalPathNameByHandleW(handle, unit *, uint32_t, uint32_t);
 FROM_DLL(int32_t) MultiByteToWideChar(uint32_t page, uint32_t, const char *, int32_t, unit *, int32_t);
@@ -58,11 +58,12 @@ static int reach(uintptr_t to) {
     return 1;
 }
 
-/* Keeps as many addresses for the heap as can be had, at most 16 GB, none of which has memory yet. */
+/* Keeps as many addresses for the heap as can be had, at most 16 GB, none of which has memory yet. Where none can be
+   had, memory is refused. */
 static void keep_addresses(void) {
     for (size_t size = (size_t)1 << 34; !end && size >= 1 << 28; size /= 2) {
         end = has = (uintptr_t)VirtualAlloc(NULL, size, KEEP, TO_READ_AND_WRITE);
-        kept = end + size;
+        kept = end ? end + size : 0;
     }
 }
 
@@ -108,8 +109,22 @@ static char *narrow(const unit *text) {
     return to;
 }
 
-static handle handle_of(int32_t file) {
-    return file < 3 ? GetStdHandle(-10 - file) : (handle)(intptr_t)file;
+/* The handles of the files that are open, each at its number; the three streams are 0, 1 and 2. */
+enum { STREAMS = 3, MOST_FILES = 8192 };
+static handle files[MOST_FILES];
+
+static handle handle_of(int32_t file) { return file < STREAMS ? GetStdHandle(-10 - file) : files[file]; }
+
+/* The number of a file that was opened, or -1, with the error kept. */
+static int32_t number_of(handle file) {
+    if (file == NO_HANDLE) return -1;
+    for (int32_t number = STREAMS; number < MOST_FILES; number++) {
+        if (files[number]) continue;
+        files[number] = file;
+        return number;
+    }
+    CloseHandle(file);
+    return failed(TOO_MANY_OPEN);
 }
 
 /* Whether two texts are the same. */
@@ -137,8 +152,7 @@ int32_t port_open(const char *path, int32_t flags, ...) {
     uint32_t access = flags & TO_UPDATE ? READS | WRITES : flags & TO_WRITE ? WRITES : READS;
     if (flags & AT_END) access = (access & READS) | APPENDS;
     uint32_t making = flags & MUST_MAKE ? 1 : flags & MAY_MAKE ? (flags & TO_EMPTY ? 2 : 4) : flags & TO_EMPTY ? 5 : 3;
-    handle file = opened(path, access, making, PLAIN);
-    return file == NO_HANDLE ? -1 : (int32_t)(intptr_t)file;
+    return number_of(opened(path, access, making, PLAIN));
 }
 
 static uint32_t some(size_t size) { return size < 1 << 30 ? size : 1 << 30; }
@@ -154,7 +168,11 @@ ptrdiff_t port_write(int32_t file, const void *from, size_t size) {
     return WriteFile(handle_of(file), from, some(size), &count, NULL) ? (ptrdiff_t)count : failed_in_windows();
 }
 
-int32_t port_close(int32_t file) { return CloseHandle(handle_of(file)) ? 0 : failed_in_windows(); }
+int32_t port_close(int32_t file) {
+    handle it = handle_of(file);
+    if (file >= STREAMS) files[file] = NULL;
+    return CloseHandle(it) ? 0 : failed_in_windows();
+}
 
 /* The status of what a handle is of. Windows has no owners' numbers, and of modes only that a file may be written. */
 static int32_t status_of(handle file, file_status *to) {
@@ -203,36 +221,24 @@ int32_t port_ftruncate(int32_t file, int64_t size) {
 
 enum { REPLACES = 1, MAY_COPY = 2 };
 
-/* The text with another one behind it, in memory of its own, or NULL. */
-static unit *joined(const unit *text, const char *end) {
-    size_t length = 0, more = 0;
-    while (text[length]) length++;
-    while (end[more]) more++;
-    unit *to = malloc((length + more + 1) * sizeof *to);
-    for (size_t i = 0; to && i < length; i++) to[i] = text[i];
-    for (size_t i = 0; to && i <= more; i++) to[length + i] = end[i];
-    return to;
-}
-
-/* Replaces a file that is open, which Windows allows for no file but one that is given another name first. Where that
-   fails, all is as it was. */
+/* Replaces a file that is open, which MoveFileExW doesn't: Windows gives the older one another name of its own choice,
+   and takes that away. Where it did so and then could not go on, the new one is moved to where nothing stands. One that
+   may only be read isn't replaced. */
 static int replace_open(const unit *old, const unit *new) {
-    unit *aside = joined(new, ".omf-old");
-    int is_aside = aside && MoveFileExW(new, aside, 0);
-    int is_done = is_aside && MoveFileExW(old, new, 0);
-    if (is_done) DeleteFileW(aside); /* it goes once it is closed */
-    else if (is_aside) MoveFileExW(aside, new, 0);
-    if (!is_done) SetLastError(5);
-    free(aside);
-    return is_done;
+    enum { WHATEVER_IS_KEPT = 2, FIRST_HALF = 1176, FIRST_HALF_KEPT = 1177 };
+    if (ReplaceFileW(new, old, NULL, WHATEVER_IS_KEPT, NULL, NULL)) return 1;
+    uint32_t got = GetLastError();
+    return (got == FIRST_HALF || got == FIRST_HALF_KEPT) && MoveFileExW(old, new, 0);
 }
 
 /* Where the new name is on another drive the file is copied there, which isn't whole at once. */
 int32_t port_rename(const char *from, const char *to) {
     unit *old = wide(from), *new = wide(to);
     int is_done = old && new && MoveFileExW(old, new, REPLACES | MAY_COPY);
-    if (old && new && !is_done && (GetLastError() == 5 || GetLastError() == 32)) is_done = replace_open(old, new);
-    if (old && new && !is_done) failed_in_windows();
+    if (old && new && !is_done) {
+        failed_in_windows();
+        is_done = error == NO_ACCESS && replace_open(old, new);
+    }
     free(old);
     free(new);
     return is_done ? 0 : -1;

@@ -258,11 +258,22 @@ def of_windows(own):
             for given, value, folder in ((words, variables[0], own), (same, variables[1], ".")))
 
 
+def record(kind, body):
+    """A record of this kind."""
+    front = bytes([kind]) + (len(body) + 1).to_bytes(2, "little") + body
+    return front + bytes([-sum(front) % 256])
+
+
 def with_default_library(module, name):
     """A module with a comment that names a default library behind its first record."""
-    record = bytes([0x88, len(name) + 3, 0, 0, 0x9F]) + name
     first = 3 + int.from_bytes(module[1:3], "little")
-    return module[:first] + record + bytes([-sum(record) % 256]) + module[first:]
+    return module[:first] + record(0x88, b"\0\x9F" + name) + module[first:]
+
+
+def large():
+    """A module of 24 MB: a segment of 1,000 bytes, and what it holds, again and again."""
+    front = record(0x80, b"\1A") + record(0x96, b"\0\4CODE") + record(0x98, b"\x28\xE8\3\2\2\1")
+    return front + record(0xA0, b"\1\0\0" + bytes(1000)) * 24_000 + record(0x8A, b"\0")
 
 
 def archive(members):

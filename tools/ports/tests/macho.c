@@ -1,8 +1,10 @@
 /* Runs the x86-64 part of a universal Mach-O program on Linux, with functions of macOS's libSystem that are written
-   here over the C library: macho PROGRAM NAME WORDS. It tests that file and its shim, and isn't macOS. */
+   here over the C library: macho PROGRAM NAME WORDS. It tests that file and its shim, and isn't macOS. The program has no
+   more bytes of memory than the variable MACHO_MEMORY says, if it is there. */
 #define _GNU_SOURCE
 #include <errno.h>
 #include <fcntl.h>
+#include <malloc.h>
 #include <signal.h>
 #include <stdint.h>
 #include <stdio.h>
@@ -57,6 +59,25 @@ static char *mac_realpath(const char *path, char *to) {
 static int *mac_error(void) { return &mac_errno; }
 static void mac_bzero(void *place, size_t size) { memset(place, 0, size); }
 
+/* How many bytes of memory are left. What comes to more by some for the C library's own sake is still had. */
+static int64_t memory_left = INT64_MAX;
+
+static void *mac_malloc(size_t size) {
+    void *place = (int64_t)size > memory_left ? NULL : malloc(size);
+    memory_left -= malloc_usable_size(place);
+    return place;
+}
+static void mac_free(void *place) {
+    memory_left += malloc_usable_size(place);
+    free(place);
+}
+static void *mac_realloc(void *place, size_t size) {
+    int64_t had = malloc_usable_size(place);
+    void *to = (int64_t)size - had > memory_left ? NULL : realloc(place, size);
+    if (to) memory_left += had - (int64_t)malloc_usable_size(to);
+    return to;
+}
+
 /* macOS's stat, as Apple's headers lay it out. */
 typedef struct {
     int32_t device;
@@ -97,8 +118,8 @@ static const struct {
     {"_open", mac_open}, {"_read", mac_read}, {"_write", mac_write}, {"_close", mac_close}, {"_fchmod", mac_fchmod},
     {"_fchown", mac_fchown}, {"_ftruncate", mac_ftruncate}, {"_rename", mac_rename}, {"_unlink", mac_unlink},
     {"_realpath", mac_realpath}, {"___error", mac_error}, {"_stat$INODE64", mac_stat_of}, {"_getenv", getenv},
-    {"_lstat$INODE64", mac_lstat}, {"_fstat$INODE64", mac_fstat}, {"_signal", signal}, {"_malloc", malloc},
-    {"_realloc", realloc}, {"_free", free}, {"_memcpy", memcpy}, {"_memmove", memmove}, {"_memset", memset},
+    {"_lstat$INODE64", mac_lstat}, {"_fstat$INODE64", mac_fstat}, {"_signal", signal}, {"_malloc", mac_malloc},
+    {"_realloc", mac_realloc}, {"_free", mac_free}, {"_memcpy", memcpy}, {"_memmove", memmove}, {"_memset", memset},
     {"_memcmp", memcmp}, {"_bzero", mac_bzero}, {"___bzero", mac_bzero}, {"dyld_stub_binder", abort}};
 
 static void fail(const char *what, const char *which) {
@@ -210,6 +231,7 @@ int main(int count, char **words) {
         }
     }
     if (!lists) fail("there are no", "lists");
+    if (getenv("MACHO_MEMORY")) memory_left = atol(getenv("MACHO_MEMORY"));
     rebase(file + lists[0], file + lists[0] + lists[1]);
     bind(file + lists[2], file + lists[2] + lists[3]);
     bind(file + lists[6], file + lists[6] + lists[7]);

@@ -1,4 +1,4 @@
-"""Wrong shims, which the tests have to find, and the program that tests what a shim for Linux has of its own."""
+"""Wrong shims, which the tests have to find, and the programs that test what a shim has of its own."""
 
 import ctypes
 import itertools
@@ -11,6 +11,9 @@ from pathlib import Path
 
 HERE = Path(__file__).resolve().parent
 PORTS = HERE.parent
+sys.path.insert(0, str(PORTS))
+import webassembly  # noqa: E402
+
 KIT = Path(os.environ.get("KIT", "/opt/rattle"))
 TARGETS = {f"linux-{each}": f"{each}-unknown-linux-gnu" for each in ("x86_64", "aarch64", "riscv64")}
 
@@ -26,21 +29,60 @@ def build_surroundings(shims, port, made):
         subprocess.run([linker, "-static", "-o", made, thing], check=True)
 
 
-def build_for_windows(source, used, made):
-    """Builds a file of C for Windows, which uses these functions of kernel32."""
-    clang = KIT / "toolchain" / "bin" / "clang"
+def kit_tools(folder, *names):
+    """The kit's clang by the names of what else it can do, in a folder."""
+    for name in names:
+        (Path(folder) / name).symlink_to(KIT / "toolchain" / "bin" / "clang")
+    return [Path(folder) / name for name in names]
+
+
+def build_for_windows(source, used, made, shims=PORTS / "shims"):
+    """Builds a file of C for Windows, which uses these functions of its libraries."""
     with tempfile.TemporaryDirectory(prefix="omf-port-") as folder:
-        tool = {name: Path(folder) / name for name in ("lld-link", "llvm-dlltool")}
-        for path in tool.values():
-            path.symlink_to(clang)
-        names, library, thing = (Path(folder) / name for name in ("kernel32.def", "kernel32.lib", "thing.o"))
-        names.write_text("LIBRARY kernel32.dll\nEXPORTS\n" + "".join(f"{each}\n" for each in used))
+        clang, linker, maker = kit_tools(folder, "clang", "lld-link", "llvm-dlltool")
+        thing, libraries = Path(folder) / "thing.o", []
+        for library, names in used.items():
+            definition = Path(folder) / f"{library}.def"
+            definition.write_text(f"LIBRARY {library}.dll\nEXPORTS\n" + "".join(f"{each}\n" for each in names))
+            libraries.append(Path(folder) / f"{library}.lib")
+            subprocess.run([maker, "-m", "i386:x86-64", "-d", definition, "-l", libraries[-1]], check=True)
         for words in (
-                [tool["llvm-dlltool"], "-m", "i386:x86-64", "-d", names, "-l", library],
                 [clang, "--target=x86_64-w64-windows-gnu", "--no-default-config", "-O1", "-ffreestanding",
-                 "-fno-stack-protector", "-c", source, "-o", thing],
-                [tool["lld-link"], "-lldmingw", "-entry:begin", "-subsystem:console", f"-out:{made}", thing, library]):
+                 "-fno-stack-protector", f"-I{shims}", "-c", source, "-o", thing],
+                [linker, "-lldmingw", "-entry:begin", "-subsystem:console", f"-out:{made}", thing, *libraries]):
             subprocess.run(words, check=True)
+
+
+def exports(definition):
+    """The names of a library's functions in a .def."""
+    return definition.read_text().partition("EXPORTS\n")[2].split()
+
+
+def build_over_windows(shims, made):
+    """Builds tests/over_windows.c over a folder of shims, for Windows."""
+    used = {name: exports(shims / f"{name}.def") for name in ("kernel32", "msvcrt")}
+    build_for_windows(HERE / "over_windows.c", used, made, shims)
+
+
+def build_over_small_windows(shims, made):
+    """Builds the same for this machine, over the small Windows of tests/kernel32.h."""
+    subprocess.run(["cc", "-O1", "-w", f"-I{shims}", "-o", made, HERE / "over_windows.c"], check=True)
+
+
+def build_over_web(shims, made):
+    """Builds tests/over_web.c over a folder of shims."""
+    with tempfile.TemporaryDirectory(prefix="omf-port-") as folder:
+        clang, linker = kit_tools(folder, "clang", "wasm-ld")
+        thing, wide = Path(folder) / "thing.o", Path(folder) / "wide.wasm"
+        features = ("memory64", "bulk-memory", "sign-ext", "mutable-globals", "nontrapping-float-to-int", "multivalue")
+        for words in (
+                [clang, "--target=wasm64-unknown-unknown", "--no-default-config", "-mcpu=lime1", "-O2", "-ffreestanding",
+                 f"-I{shims}", "-c", HERE / "over_web.c", "-o", thing],
+                [linker, "-m", "wasm64", "--no-entry", "--gc-sections", "--stack-first", "-o", wide, thing]):
+            subprocess.run(words, check=True)
+        wide.write_bytes(webassembly.without_table(wide.read_bytes()))
+        words = ["wasm-opt", *(f"--enable-{each}" for each in features), "--memory64-lowering", wide, "-o", made]
+        subprocess.run(words, check=True)
 
 
 def new_paths(folder):
