@@ -154,8 +154,8 @@ int32_t MoveFileExW(const unit *from, const unit *to, uint32_t flags) {
     return 1;
 }
 
-/* A file that is open is replaced, and one that may only be read isn't. Where that ends half-way the older one has gone
-   (1176), or has another name (1177). */
+/* A file that is open is replaced, and one that may only be read isn't. The older one goes, or gets the name that is
+   given. Where that ends half-way it has gone (1176), or has a name that isn't (1177). */
 int32_t ReplaceFileW(const unit *older, const unit *with, const unit *aside, uint32_t flags, void *a, void *b) {
     entry *it = at(with), *there = at(older);
     if (!it || !there) return ends(2);
@@ -163,8 +163,9 @@ int32_t ReplaceFileW(const unit *older, const unit *with, const unit *aside, uin
     if (replacement_answers == 1176) *there->name = 0;
     if (replacement_answers == 1177) strcpy(there->name, "OTHER");
     if (replacement_answers) return ends(replacement_answers);
+    if (aside && at(aside)) *at(aside)->name = 0;
     strcpy(it->name, there->name);
-    *there->name = 0;
+    for (int i = 0; i == 0 || aside && aside[i - 1]; i++) there->name[i] = aside ? aside[i] : 0;
     return 1;
 }
 
