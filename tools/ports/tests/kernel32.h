@@ -1,5 +1,5 @@
-/* A small Windows on Linux, in which the shim for Windows is tested: what Windows documents of its functions, over files
-   that are held here, where what can't be had of wine can be chosen. Names are ASCII, and all in one folder. */
+/* A small Windows on Linux, in which the shim for Windows is tested: what Windows documents of its functions, over
+   files that are held here, where what can't be had of wine can be chosen. Names are ASCII, and all in one folder. */
 #include <stdio.h>
 #include <stdlib.h>
 #include <string.h>

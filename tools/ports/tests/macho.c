@@ -1,6 +1,6 @@
 /* Runs the x86-64 part of a universal Mach-O program on Linux, with functions of macOS's libSystem that are written
-   here over the C library: macho PROGRAM NAME WORDS. It tests that file and its shim, and isn't macOS. The program has no
-   more bytes of memory than the variable MACHO_MEMORY says, if it is there. */
+   here over the C library: macho PROGRAM NAME WORDS. It tests that file and its shim, and isn't macOS. The program has
+   no more bytes of memory than the variable MACHO_MEMORY says, if it is there. */
 #define _GNU_SOURCE
 #include <errno.h>
 #include <fcntl.h>

@@ -1,5 +1,5 @@
-// Runs the module of over_web.c by the page's host: node over_web.mjs MODULE.wasm WORD. Of the first write the host takes
-// two bytes at most where that word is `streams`, and refuses the second one.
+// Runs the module of over_web.c by the page's host: node over_web.mjs MODULE.wasm WORD. Of the first write the host
+// takes two bytes at most where that word is `streams`, and refuses the second one.
 import { readFileSync, writeSync } from 'node:fs';
 import { run } from '../web/host.mjs';
 

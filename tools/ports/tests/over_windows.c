@@ -1,5 +1,5 @@
-/* Tests of the shim for Windows, as a program over it: under wine as it stands, and on Linux over a small Windows of its
-   own (kernel32.h), where more can be chosen. Its status is 0 where all is well, else 1, with the number of the line
+/* Tests of the shim for Windows, as a program over it: under wine as it stands, and on Linux over a small Windows of
+   its own (kernel32.h), where more can be chosen. Its status is 0 where all is well, else 1, with the number of the line
    where it isn't. */
 #ifdef __linux__
 #include "kernel32.h"
@@ -118,8 +118,8 @@ static int32_t half_way(void) {
     return 0;
 }
 
-/* A write that takes fewer bytes says so; a read's error is one, but that of a pipe whose writer has ended, which is the
-   end. */
+/* A write that takes fewer bytes says so; a read's error is one, but that of a pipe whose writer has ended, which is
+   the end. */
 static int32_t streams(void) {
     char got[3];
     int32_t file = port_open("N", TO_UPDATE | MAY_MAKE);

@@ -1,7 +1,7 @@
 /* Tests of what is written for Linux without a C library, as a program over the shim itself: the heap, and the
    functions that copy. Its status is 0 where all is well, else 1, with the number of the line where it isn't. With a
-   word it prints the path that port_realpath answers, or the number of the error; with two, where memory is refused, how
-   many blocks it got. */
+   word it prints the path that port_realpath answers, or the number of the error; with two, where memory is refused,
+   how many blocks it got. */
 #include "linux.c"
 #include "heap_tests.h"
 

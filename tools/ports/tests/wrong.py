@@ -76,8 +76,8 @@ def build_over_web(shims, made):
         thing, wide = Path(folder) / "thing.o", Path(folder) / "wide.wasm"
         features = ("memory64", "bulk-memory", "sign-ext", "mutable-globals", "nontrapping-float-to-int", "multivalue")
         for words in (
-                [clang, "--target=wasm64-unknown-unknown", "--no-default-config", "-mcpu=lime1", "-O2", "-ffreestanding",
-                 f"-I{shims}", "-c", HERE / "over_web.c", "-o", thing],
+                [clang, "--target=wasm64-unknown-unknown", "--no-default-config", "-mcpu=lime1", "-O2",
+                 "-ffreestanding", f"-I{shims}", "-c", HERE / "over_web.c", "-o", thing],
                 [linker, "-m", "wasm64", "--no-entry", "--gc-sections", "--stack-first", "-o", wide, thing]):
             subprocess.run(words, check=True)
         wide.write_bytes(webassembly.without_table(wide.read_bytes()))
