@@ -1,6 +1,6 @@
 /* Tests of the shim for WebAssembly, as a module over it, which over_web.mjs runs by its one word: `heap`, `streams`,
-   or, where memory is refused, `refused`, which prints how many blocks it got. Its status is 0 where all is well, else 1,
-   with the number of the line where it isn't. */
+   or, where memory is refused, `refused`, which prints how many blocks it got. Its status is 0 where all is well, else
+   1, with the number of the line where it isn't. */
 #include "web.c"
 #include "heap_tests.h"
 

@@ -1,6 +1,6 @@
 /* Tests of the shim for Windows, as a program over it: under wine as it stands, and on Linux over a small Windows of
-   its own (kernel32.h), where more can be chosen. Its status is 0 where all is well, else 1, with the number of the line
-   where it isn't. */
+   its own (kernel32.h), where more can be chosen. Its status is 0 where all is well, else 1, with the number of the
+   line where it isn't. */
 #ifdef __linux__
 #include "kernel32.h"
 #define malloc port_malloc
