@@ -21,6 +21,7 @@ class Entry {
         this.number = number;
         this.room = bytes;
         this.size = bytes ? bytes.length : 0;
+        this.isWritten = false; // by the program, whether or not the same bytes stood there
     }
 
     get isFolder() {
@@ -41,6 +42,7 @@ class Entry {
         }
         this.room.set(bytes, at);
         this.size = Math.max(this.size, end);
+        this.isWritten = true;
     }
 
     /** Cuts the bytes, or adds zeros. */
@@ -49,6 +51,7 @@ class Entry {
         room.set(this.bytes.subarray(0, size));
         this.room = room;
         this.size = size;
+        this.isWritten = true;
     }
 }
 
@@ -101,8 +104,9 @@ class Files {
         if (entry && flags & MAY_MAKE && flags & MUST_MAKE) throw new Fault(IS_THERE);
         if (entry && entry.isFolder && flags & (TO_WRITE | TO_UPDATE)) throw new Fault(IS_FOLDER);
         if (!entry && (!(flags & MAY_MAKE) || path.endsWith('/'))) throw new Fault(NOT_THERE);
+        const isNew = !entry;
         entry = entry || this.add(place, new Uint8Array(0));
-        if (flags & TO_EMPTY) entry.cut(0);
+        if (isNew || flags & TO_EMPTY) entry.cut(0);
         return entry;
     }
 
@@ -112,12 +116,19 @@ class Files {
         if (there && there.isFolder) throw new Fault(entry.isFolder ? NOT_EMPTY : IS_FOLDER);
         this.entries.delete(this.resolve(from));
         this.entries.set(place, entry);
+        entry.isWritten = true;
     }
 
     /** Takes a file away. */
     unlink(path) {
         if (this.find(path).isFolder) throw new Fault(IS_FOLDER);
         this.entries.delete(this.resolve(path));
+    }
+
+    /** The paths of the files that the program wrote. */
+    written() {
+        const isOne = ([, entry]) => entry.isWritten && !entry.isFolder;
+        return new Set([...this.entries].filter(isOne).map(([path]) => path));
     }
 
     /** All but the folder that holds them: bytes by paths, and null for folders. */
@@ -224,7 +235,8 @@ function functions(files, words, variables, input, say, memory) {
 
 /**
  * Runs a program's module. `words` are its name and its words, `given` the files: bytes by paths, null for a folder.
- * Answers its status, the bytes that it wrote on its two streams unless `say` takes them, and the files then.
+ * Answers its status, the bytes that it wrote on its two streams unless `say` takes them, the files then, and the paths
+ * of those that it wrote.
  */
 export async function run(module, words, given, { variables = {}, input = new Uint8Array(0), say = null } = {}) {
     const files = new Files(given);
@@ -237,5 +249,5 @@ export async function run(module, words, given, { variables = {}, input = new Ui
     const host = functions(files, words, variables, input, say ?? keep, () => instance.exports.memory.buffer);
     instance = await WebAssembly.instantiate(module, { host });
     const status = instance.exports.run();
-    return { status, output: said[0].bytes, errors: said[1].bytes, files: files.all() };
+    return { status, output: said[0].bytes, errors: said[1].bytes, files: files.all(), written: files.written() };
 }

@@ -66,8 +66,10 @@ function button(text, label, act) {
     return element('button', { type: 'button', textContent: text, ariaLabel: label, onclick: act });
 }
 
-/** Shows the list of files. */
+/** Shows the list of files. A button of it that has the focus keeps it, or gives it to the one that takes its place. */
 function showFiles() {
+    const buttons = () => [...at('files').querySelectorAll('button')];
+    const place = buttons().indexOf(document.activeElement), label = document.activeElement?.ariaLabel;
     at('files').replaceChildren(...[...files].map(([name, bytes]) => element(
         'li', {}, `${name} (${bytes.length.toLocaleString('en')} bytes) `,
         button('↑', `${name} further up`, () => move(name, -1)), ' ',
@@ -78,6 +80,10 @@ function showFiles() {
             files.delete(name);
             showFiles();
         }))));
+    if (place >= 0) {
+        const same = buttons().find(each => each.ariaLabel === label);
+        (same ?? buttons()[place] ?? buttons().at(-1) ?? at('clear')).focus();
+    }
     at('none').hidden = files.size > 0;
     writeWords();
 }
@@ -90,11 +96,7 @@ async function take(list) {
 
 /** What a line of a fault mostly comes from, as FAULTS.md says it. */
 function causesOf(line) {
-    const [, number, record] = /: (\d+) \w+(?:.*? at record (\d+))?/.exec(line) || [];
-    const isAsked = cause => cause.text
-        ? line.includes(cause.text)
-        : cause.numbers.includes(Number(number)) && (!cause.isAtStart || record === '0');
-    return data.faults.filter(isAsked);
+    return data.faults.filter(cause => new RegExp(cause.lines).test(line));
 }
 
 /** Shows the lines of the errors, each with its causes. */
@@ -112,14 +114,11 @@ function showFaults(text) {
     }));
 }
 
-/** Shows what was made, to be kept, and a map to be read. */
-function showMade(before, after) {
+/** Shows what a run wrote, to be kept, and a map to be read; and has the list of files as the run left them. */
+function showMade(before, { files: after, written }) {
     urls.splice(0).forEach(url => URL.revokeObjectURL(url));
-    const changed = [...after].filter(([name, bytes]) => {
-        const old = before.get(name);
-        return bytes && !(old && old.length === bytes.length && old.every((byte, i) => byte === bytes[i]));
-    });
-    at('made').replaceChildren(...changed.flatMap(([name, bytes]) => {
+    const made = [...after].filter(([name]) => written.has(name));
+    at('made').replaceChildren(...made.flatMap(([name, bytes]) => {
         const url = URL.createObjectURL(new Blob([bytes]));
         urls.push(url);
         const link = element('a', { href: url, download: name, textContent: `Keep ${name}` });
@@ -127,7 +126,7 @@ function showMade(before, after) {
         const isText = /\.map$/i.test(name);
         return isText ? [line, element('pre', { tabIndex: 0, textContent: decoder.decode(bytes) })] : [line];
     }));
-    for (const [name, bytes] of changed) files.set(name, bytes);
+    for (const [name, bytes] of made) files.set(name, bytes);
     for (const name of before.keys()) if (!after.has(name)) files.delete(name);
 }
 
@@ -143,7 +142,7 @@ async function runWords([name, ...words]) {
         done = await run(await programOf(program), [name, ...words], before);
         const took = Math.round(performance.now() - start);
         at('status').textContent = `Status ${done.status}, after ${took.toLocaleString('en')} ms.`;
-        showMade(before, done.files);
+        showMade(before, done);
     } catch (problem) {
         at('status').textContent = `It ended before it was done: ${problem.message}`;
         at('made').replaceChildren();
@@ -183,6 +182,7 @@ function start() {
     };
     at('anew').onclick = () => {
         isByHand = false;
+        at('words').focus(); // since this button goes
         at('anew').hidden = true;
         writeWords();
     };
