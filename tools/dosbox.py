@@ -21,19 +21,26 @@ TAKEN = 100  # kilobytes that LOADFIX takes before it runs a program, which is t
 AROUND = (f"{TAKEN} kb allocated.\r\n".encode(), f"{TAKEN} kb freed.\r\n".encode())  # what LOADFIX prints
 
 
-def run(folder, lines, seconds, others=None, settings=""):
-    """Runs these lines with a folder as C: and others by their letters, and answers whether they ended in time.
-    Settings are lines more of DOSBox's own."""
+def begin(folder, lines, others=None, settings=""):
+    """Begins to run these lines with a folder as C: and others by their letters, and answers the process. Settings are
+    lines more of DOSBox's own."""
     mounts = "\n".join(f'mount {letter} "{path}"' for letter, path in {"c": ".", **(others or {})}.items())
     (folder / "RUN.BAT").write_bytes("\r\n".join([*lines, "c:", "cd \\", "echo ended > ENDED.TXT", ""]).encode())
     (folder / "dosbox.conf").write_text(SETTINGS.format(mounts=mounts, settings=settings))
     quiet = {**os.environ, "SDL_VIDEODRIVER": "dummy", "SDL_AUDIODRIVER": "dummy"}
-    try:
-        subprocess.run(
-            ["dosbox", "-conf", "dosbox.conf"], cwd=folder, env=quiet, timeout=seconds, stdin=subprocess.DEVNULL,
-            stdout=subprocess.DEVNULL, stderr=subprocess.DEVNULL)
-    except subprocess.TimeoutExpired:
-        return False
+    return subprocess.Popen(
+        ["dosbox", "-conf", "dosbox.conf"], cwd=folder, env=quiet, stdin=subprocess.DEVNULL,
+        stdout=subprocess.DEVNULL, stderr=subprocess.DEVNULL)
+
+
+def run(folder, lines, seconds, others=None, settings=""):
+    """Runs these lines as `begin`, and answers whether they ended in time."""
+    with begin(folder, lines, others, settings) as started:
+        try:
+            started.wait(seconds)
+        except subprocess.TimeoutExpired:
+            started.kill()
+            return False
     return (folder / "ENDED.TXT").exists()
 
 

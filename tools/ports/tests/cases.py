@@ -233,6 +233,10 @@ def of_windows(own):
     one, none = {"A.OBJ": HELLO}, {"A.OBJ": HELLO, "a/b": None}
     folders = {main: with_default_library(letters[main], b"LETTERS"), "lib/LETTERS.LIB": library, "none": None}
     by_library = ["-o", "OUT.EXE", main]
+    # of many files the last one has all that is linked
+    many = {**{f"{number:04}.OBJ": EMPTY for number in range(2100)}, "Z.OBJ": HELLO}
+    far = 5 * "FAR_AWAY/"
+    far_many = {f"{far}{name}": content for name, content in [*many.items()][-1500:]}
     for title, program, words, same, files, variables in (
             ("`\\` in OUT", "omf", ["link", "-o", "a\\b\\OUT.EXE", "A.OBJ"],
              ["link", "-o", "a/b/OUT.EXE", "A.OBJ"], none, ("", "")),
@@ -244,6 +248,11 @@ def of_windows(own):
             ("the device NUL", "omf", ["link", "-o", "NUL", "A.OBJ"], ["link", "-o", "/dev/null", "A.OBJ"], one,
              ("", "")),
             ("*.OBJ", "omf", [*LINK, "*.OBJ"], [*LINK, "A.OBJ", "B.OBJ"], {**one, "B.OBJ": EMPTY}, ("", "")),
+            ("*.OBJ by the order of names", "omf", [*LINK, "*.OBJ"], [*LINK, *sorted(letters)],
+             {name: letters[name] for name in sorted(letters, reverse=True)}, ("", "")),
+            ("more than 2,000 files by *.OBJ", "omf", [*LINK, "*.OBJ"], [*LINK, *sorted(many)], many, ("", "")),
+            ("more than 64 KB of names by *.OBJ", "omf", [*LINK, far.replace("/", "\\") + "*.OBJ"],
+             [*LINK, *sorted(far_many)], far_many, ("", "")),
             ("a folder's ?.OBJ", "omf", [*LINK, "a\\?.OBJ"], [*LINK, "a/X.OBJ"], {"a/X.OBJ": HELLO}, ("", "")),
             ("a drive in LIB", "doslink", by_library, by_library, folders, ("{folder}\\lib", "{folder}/lib")),
             ("two folders with drives in LIB", "doslink", by_library, by_library, folders,
@@ -274,6 +283,14 @@ def large():
     """A module of 24 MB: a segment of 1,000 bytes, and what it holds, again and again."""
     front = record(0x80, b"\1A") + record(0x96, b"\0\4CODE") + record(0x98, b"\x28\xE8\3\2\2\1")
     return front + record(0xA0, b"\1\0\0" + bytes(1000)) * 24_000 + record(0x8A, b"\0")
+
+
+def module_of_bytes(length):
+    """A module of one segment with so many bytes, at most a thousand."""
+    content = bytes(at * at // 7 % 256 for at in range(length))
+    return b"".join((
+        record(0x80, b"\1A"), record(0x96, b"\0\4CODE"), record(0x98, b"\x28" + length.to_bytes(2, "little") + b"\2\2\1"),
+        record(0xA0, b"\1\0\0" + content), record(0x8A, b"\0")))
 
 
 def archive(members):
