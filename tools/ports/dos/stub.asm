@@ -221,7 +221,15 @@ set_base: mov   [di + 2], ax
         ror     eax, 16
         ret
 
-fail:   mov     ah, 9
+; ends with the text at DX, up to a `$`, on standard error
+fail:   mov     cx, -1
+        mov     bx, dx
+.each:  inc     cx
+        inc     bx
+        cmp     byte [bx - 1], "$"
+        jne     .each
+        mov     bx, 2
+        mov     ah, 40h
         int     21h
         mov     ax, 4C03h
         int     21h

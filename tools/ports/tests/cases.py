@@ -288,8 +288,9 @@ def large():
 def module_of_bytes(length):
     """A module of one segment with so many bytes, at most a thousand."""
     content = bytes(at * at // 7 % 256 for at in range(length))
+    segment = b"\x28" + length.to_bytes(2, "little") + b"\2\2\1"
     return b"".join((
-        record(0x80, b"\1A"), record(0x96, b"\0\4CODE"), record(0x98, b"\x28" + length.to_bytes(2, "little") + b"\2\2\1"),
+        record(0x80, b"\1A"), record(0x96, b"\0\4CODE"), record(0x98, segment),
         record(0xA0, b"\1\0\0" + content), record(0x8A, b"\0")))
 
 

@@ -9,6 +9,7 @@ What DOS can't have, as names beyond 8.3 or more than 126 characters of words, i
 and stands in the room's list of such.
 """
 
+import collections
 import fcntl
 import os
 import re
@@ -45,21 +46,12 @@ class Ended(Exception):
 def tail_of(words):
     """The bytes of a command line, as COMMAND.COM leaves them: a word with a space or of no letters is in quotes."""
     words = [os.fsencode(word) for word in words]
-    if any(set(word) & set(b'"\r\n\t') or not (word.isascii() or is_no_text(word)) for word in words):
+    if any(set(word) & set(b'"\r\n\t') for word in words):
         raise NotInDos("letters of a word")
     text = b"".join(b' "%b"' % word if b" " in word or not word else b" " + word for word in words)
     if len(text) > MOST_WORDS:
         raise NotInDos(f"more than {MOST_WORDS} characters of words")
     return text
-
-
-def is_no_text(word):
-    """Whether a word isn't in UTF-8."""
-    try:
-        word.decode()
-    except UnicodeDecodeError:
-        return True
-    return False
 
 
 class Room:
@@ -111,6 +103,14 @@ class Room:
             raise Ended(f"{program} {words} ended by {way}, {status}")
         printed = (self.drive / "OUT").read_bytes() if output == OUTPUT else b""
         return status, printed, (self.drive / "ERR").read_bytes()
+
+
+def take_others(folder):
+    """How many runs were none of DOS, by what it hasn't, since this was asked the last time."""
+    others = folder / OTHERS
+    reasons = collections.Counter(others.read_text().splitlines() if others.exists() else ())
+    others.unlink(missing_ok=True)
+    return reasons
 
 
 def files_in(folder):

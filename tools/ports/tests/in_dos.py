@@ -66,14 +66,20 @@ def has(case):
 
 
 def test(programs, outcome, check, folder):
-    """Tests what is of DOS alone, each in a room of its own in a folder. `outcome` runs a case by the programs that were
-    proved, and `check` notes a title, whether it holds, and what is told where it doesn't."""
+    """Tests what is of DOS alone, each in a room of its own in a folder. `outcome` runs a case by the programs that
+    were proved, and `check` notes a title, whether it holds, and what is told where it doesn't."""
     if "omf" not in programs:
         return
     for number, (title, settings, lines, told) in enumerate(REFUSED):
         with Started(folder / f"refused{number}", programs, settings, lines) as room:
             ended = room.run("C:\\OMF.EXE", ["help"])
-            check(f"{title}: it says so", ended in ((3, told, b""), (3, b"", told)), f"{ended}")
+            check(f"{title}: it says so", ended == (3, b"", told), f"{ended}")
+    with Started(folder / "letters", programs) as room:
+        # as code page 437 has them, which isn't UTF-8, and as UTF-8 has them
+        for word in (b"\x8e\x99.OBJ", "é.OBJ".encode()):
+            wanted = outcome(cases.Case("", "omf", ["show", word]))
+            ended = room.run("C:\\OMF.EXE", ["show", word])
+            check(f"{word}", ended == (wanted.status, wanted.output, wanted.error), f"{ended} for {wanted}")
     test_full_disk(programs, outcome, check, folder)
     test_order(programs, outcome, check, folder)
 

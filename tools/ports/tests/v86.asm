@@ -1,5 +1,5 @@
-; Has DOS run in virtual 8086 mode from here on, as under EMM386, by DOSBox's interface of such a driver (VCPI): this goes
-; to protected mode, from where the interface leads back to that mode.
+; Has DOS run in virtual 8086 mode from here on, as under EMM386, by DOSBox's interface of such a driver (VCPI): this
+; goes to protected mode, from where the interface leads back to that mode.
         cpu 386
         org 100h
         mov     ax, cs
