@@ -82,7 +82,7 @@ class Room:
         (self.drive / "IN").write_bytes(given)
         job = b"".join(text.encode("ascii").ljust(0x80, b"\0") for text in (folder, program, output))
         job += (bytes([len(words)]) + words + b"\r").ljust(0x80, b"\0")
-        job += b"".join(f"{name}={value}".encode("ascii") + b"\0" for name, value in variables.items()) + b"\0\0"
+        job += b"".join(os.fsencode(f"{name}={value}") + b"\0" for name, value in variables.items()) + b"\0\0"
         (self.drive / "JOB.NEW").write_bytes(job)
         (self.drive / "JOB.NEW").rename(self.drive / "JOB")
         os.kill(int(self.process.read_text()), signal.SIGCONT)
