@@ -126,19 +126,25 @@ def check_names(paths):
         raise NotInDos("names beyond 8.3")
 
 
+def spelled(name, told):
+    """A name that DOS has in capital letters, as a text has it, or else with no more than its first part so."""
+    for part in (name, name.partition(".")[0]):
+        found = re.search(rf"(?<!\w){re.escape(part)}", told, re.IGNORECASE)
+        if found:
+            return found[0] + name[len(part):]
+    return name
+
+
 def spell(folder, before, words):
-    """Gives what is new in a folder, of which DOS has the name in capital letters, the path of an older file, or else
-    the name as a word or a file of words has it, or else small letters where all older files are of such."""
+    """Gives what is new in a folder the path of an older file, or else the name as words or files of words have it."""
     older = {path.upper(): path for path in before}
     texts = [path.read_bytes().decode("latin-1") for path in (folder / each for each in before)
              if path.is_file() and path.stat().st_size < MOST_TEXT]
     told = " ".join([*words, *texts])
     for path in sorted(files_in(folder) - before):
         place = folder / path
-        found = re.search(rf"(?<!\w){re.escape(place.name)}", told, re.IGNORECASE)
-        usual = place.name.lower() if all(each == each.lower() for each in before) else place.name
         place.rename(folder / older[path.upper()] if path.upper() in older else
-                     place.with_name(found[0] if found else usual))
+                     place.with_name(spelled(place.name, told)))
 
 
 def fails():
