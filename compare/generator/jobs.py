@@ -591,8 +591,8 @@ class JobMaker:
         members = [foreign(self.random), foreign(self.random), module_of_publics([b"y"])]
         table, rest = archive_of_symbols(form, members, [b"one", b"two", b"three"], offered)
         self.files["0.obj"] = module_of_external(b"x", 0x8C)
-        self.files["lib"], self.folders = ARCHIVE + with_header(*table) + rest, []
-        self.give("0.obj", "lib")
+        self.files["arc"], self.folders = ARCHIVE + with_header(*table) + rest, []
+        self.give("0.obj", "arc")
         return self.asked()
 
     def make_written(self, turn):
