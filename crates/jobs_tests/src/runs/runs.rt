@@ -80,8 +80,9 @@ fn put_others<'a>(files: &mut Vec<(&'a str, &'a [u8])>) -> Result<(), AllocError
     ])
 }
 
-/// Puts further modules and libraries behind files.
-fn put_further<'a>(files: &mut Vec<(&'a str, &'a [u8])>) -> Result<(), AllocError> {
+/// Puts the modules and libraries of the world behind files.
+fn put_modules<'a>(files: &mut Vec<(&'a str, &'a [u8])>) -> Result<(), AllocError> {
+    files.extend_from_slice(&MODULES)?;
     files.extend_from_slice(&FURTHER_MODULES)?;
     files.extend_from_slice(&FORM_MODULES)?;
     files.extend_from_slice(&FORM_LINES)?;
@@ -96,8 +97,8 @@ fn run_row(alloc: Global, row: &str, path: &str) -> Result<Done, AllocError> {
 
 /// The same with what stands in front of the words.
 fn run_with(alloc: Global, front: Front<'_>, row: &str, path: &str) -> Result<Done, AllocError> {
-    let mut files = Vec::from_slice(alloc, &MODULES)?;
-    put_further(&mut files)?;
+    let mut files = Vec::new(alloc);
+    put_modules(&mut files)?;
     put_others(&mut files)?;
     files.extend_from_slice(front.files)?;
     let out = Page::new(alloc, path, b"old", ROOM)?;
