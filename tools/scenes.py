@@ -217,6 +217,11 @@ SHOWN = {
             "the names link and tlink aren't there: crates/jobs_tests tries lines by them"),
         'doslink: line 1, column 6: "/z": unknown option': Lines((
             Said("doslink --as link 'MAIN /z;'", 2, {"MAIN.OBJ": EMPTY}),)),
+        'doslink: TLINK.CFG: line 2, column 1: "/z": unknown option': Lines((
+            Said("doslink --as tlink 'MAIN;'", 2, {"MAIN.OBJ": EMPTY, "TLINK.CFG": b"/c\n/z\n"}),
+            Said("LINK='/NOI /z' doslink --as link 'MAIN;'", 2, {"MAIN.OBJ": EMPTY}))),
+        'doslink: directives: "_go" is missing: record 15 (0000000F), wanted by "directives"': Lines((
+            Said("wlink file MAIN.OBJ option start=_go", 1, {"MAIN.OBJ": EMPTY}),)),
         "modules": Printed("doslink -o X.EXE -m X.MAP HELLO.OBJ && cat X.MAP", {
             "HELLO.OBJ": "examples/hello/HELLO.OBJ"}),
         "HELLO.OBJ": Printed("doslink -v HELLO.OBJ CLIB.LIB", {"HELLO.OBJ": HELLO, "CLIB.LIB": CLIB}),
