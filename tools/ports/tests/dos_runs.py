@@ -27,7 +27,7 @@ MOST_WORDS = 126  # characters of a command line, with the space before its firs
 MOST_TEXT = 4096  # bytes of a file of words
 SECONDS = 600  # of one run, where others work on the machine
 NAME = re.compile(r"[A-Z0-9!#$%&'()@^_`{}~-]{1,8}(\.[A-Z0-9!#$%&'()@^_`{}~-]{1,3})?")
-LONG = re.compile(r"[\w ]+(\.[\w ]+){2,}")  # a word that is a name with more than one point
+LONG = re.compile(r"[\w ]+(\.[\w ]+){2,}|\w* [\w ]*\.\w+")  # a name with two points, or with a space
 OUTPUT, CLOSED = "C:\\OUT", ""  # what a program's output goes to
 # in a room: the programs' drive C, those that were proved, and the list of what they did
 DRIVE, PROVED, OTHERS = "c", "proved", "others.txt"
