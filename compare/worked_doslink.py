@@ -456,7 +456,8 @@ FRONTS = [
     ("one that is wrong", "link", "@wrong", ["a"], 'LINK: line 3, column 4: "/z": unknown option'),
     ("a wrong option of LINK", "link", "/NOI /z", ["a;"], 'LINK: line 1, column 6: "/z": unknown option'),
     ("one behind LINK", "link", "/NOI", ["a", "/z;"], 'line 1, column 3: "/z": unknown option'),
-    ("a quote that LINK doesn't close", "link", '/NOI "', ['a";'], 'LINK: line 1, column 6: "\\"": a quote isn\'t closed'),
+    ("a quote that LINK doesn't close", "link", '/NOI "', ['a";'],
+     'LINK: line 1, column 6: "\\"": a quote isn\'t closed'),
     ("a call", "link", "C:\\BIN\\doslink --as link", ["a;"], {"inputs": given(["a"])}),
     ("another one", "link", "run C:\\BIN\\Link.exe", ["a;"], {"inputs": given(["a"])}),
     ("no call", "link", "doslink", ["a;"], {"inputs": given(["doslink", "a"])}),
@@ -470,7 +471,8 @@ FRONTS = [
     ("a wrong option of TLINK.CFG", "tlink", b"/x\r\n /z", ["a"], 'TLINK.CFG: line 2, column 2: "/z": unknown option'),
     ("an object in TLINK.CFG", "tlink", b"/x c0", ["a"], 'TLINK.CFG: line 1, column 4: "c0": an option is expected'),
     ("a comma in TLINK.CFG", "tlink", b"/x,", ["a"], 'TLINK.CFG: line 1, column 3: ",": an option is expected'),
-    ("a response file in TLINK.CFG", "tlink", b"@objs", ["a"], 'TLINK.CFG: line 1, column 1: "@objs": an option is expected'),
+    ("a response file in TLINK.CFG", "tlink", b"@objs", ["a"],
+     'TLINK.CFG: line 1, column 1: "@objs": an option is expected'),
     ("a warning of TLINK.CFG", "tlink", b"/x\n/v", ["a"], {
         "inputs": given(["a"]), "warnings": [("TLINK.CFG: line 2, column 1", "no data for debuggers is written")]}),
 ]

@@ -168,7 +168,8 @@ WRONG_LINES = [
     "option stack", "option stack=0", "option stack=65537", "option stack=65k", "option stack=x",
     "option stack=-1", "path a", "libfile a", "alias a", "alias a=b=c", "alias {a=b}", "alias a=b c=d", "alias a=",
     "option start", "option sta=x", "reference", "reference a=b", "reference {a", "re a", "al",
-    "option start=" + 256 * "n", "alias n=" + 256 * "n", "reference n," + 256 * "n", "file {a", "file {a}, b", "name x a",
+    "option start=" + 256 * "n", "alias n=" + 256 * "n", "reference n," + 256 * "n", "file {a", "file {a}, b",
+    "name x a",
     "output raw start=1", "op no", "debug quiet", "file\na,\n b c"]
 # the shortest words of directives
 SHORTEST = {
@@ -968,7 +969,8 @@ class JobMaker:
 
     def make_odd_front(self, language, front):
         """A line with something in front of it that is wrong, or seems so."""
-        line = self.random.choice(["OBJECT,out", "OBJECT", "/c- OBJECT/x-", ",out", "OBJECT,tlink.cfg", "OBJECT,,TLINK.CFG;"])
+        line = self.random.choice([
+            "OBJECT,out", "OBJECT", "/c- OBJECT/x-", ",out", "OBJECT,tlink.cfg", "OBJECT,,TLINK.CFG;"])
         self.put_front(language, front.replace("OBJECT", "0"))
         self.files["tail"] = b"0 /e\r\n"
         return self.make_odd_line(line, language)

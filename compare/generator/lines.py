@@ -61,25 +61,32 @@ LINES_OF_TLINK = [
     "OBJECT /Lsub:/v,,,x", "OBJECT /Lx/c\\d,,,y", "OBJECT,,, /Lx;c:\\tc/m l", "OBJECT -La/j", "OBJECT /c/La/m",
     "OBJECT /Lc:\\tc\\lib/c;", "OBJECT /jx/Lc:\\tc,,,l", "OBJECT /Lx/q,,,l", "OBJECT /Lx,,,l"]
 # the environment's LINK that is a call of a linker
-CALLS = ["doslink --as link", "/usr/bin/doslink --as LINK /q", "link", "C:\\BIN\\LINK.EXE /q", "run ./link\t/q", "a:Link",
+CALLS = ["doslink --as link", "/usr/bin/doslink --as LINK /q", "link", "C:\\BIN\\LINK.EXE /q", "run ./link\t/q",
+         "a:Link",
          '"C:\\My Bin\\LINK.EXE" /q']
 # what stands in front of a line that is wrong, or seems so; `OBJECT` is that of the job
 ODD_FRONTS = {
     LINK: [
-        *CALLS, "/NOI /NOLOGO /CO", "\t/NOI\n/CO ", "/z", "/NOI /z", "/NOI\n /z", "OBJECT", "OBJECT /NOI", "OBJECT;", "OBJECT,",
+        *CALLS, "/NOI /NOLOGO /CO", "\t/NOI\n/CO ", "/z", "/NOI /z", "/NOI\n /z", "OBJECT", "OBJECT /NOI", "OBJECT;",
+        "OBJECT,",
         "OBJECT,out", "OBJECT,,list,x.lib", "OBJECT\n", "OBJECT+", "+", ",", ";", "OBJECT nowhere", "@nowhere", "@tail",
-        "/NOI @tail", '"OBJECT"', '"', '"OBJECT" "', "/HIGH", "/ST:0", "/ST:64 /CO /CO", "linker", "doslink", "/NOD:link",
+        "/NOI @tail", '"OBJECT"', '"', '"OBJECT" "', "/HIGH", "/ST:0", "/ST:64 /CO /CO", "linker", "doslink",
+        "/NOD:link",
         "--As", "--asx", "link.obj", "(a+b)", "con", "sub\\a", "SUB/A /E", "/PM /CO /W /INC", "\u00e9 /z"],
     TLINK: [
-        "/c /x", "/x\r\n/c", "-x\n\n-c/v", ";", "/x;/c;", "; /x ;\n;", "/Lsub;x.lib\n/n", "/La;b /Lsub", "/v /f\n/y /jobj\n /v",
-        "OBJECT", "/x OBJECT", "OBJECT/x", "/x @tail", ",", "/x,", "+", "/x +\n/c", '"OBJECT"', '"', '/x "', "/z", "/x\n/z",
-        "/x\n\n /c /z", "/La/c", "/Lc:\\a/c", "/home/x", "./x", "/i", "/i /i-", "/i-", "/o", "/Twe", "/t", "/l /s", "/x-",
+        "/c /x", "/x\r\n/c", "-x\n\n-c/v", ";", "/x;/c;", "; /x ;\n;", "/Lsub;x.lib\n/n", "/La;b /Lsub",
+        "/v /f\n/y /jobj\n /v",
+        "OBJECT", "/x OBJECT", "OBJECT/x", "/x @tail", ",", "/x,", "+", "/x +\n/c", '"OBJECT"', '"', '/x "', "/z",
+        "/x\n/z",
+        "/x\n\n /c /z", "/La/c", "/Lc:\\a/c", "/home/x", "./x", "/i", "/i /i-", "/i-", "/o", "/Twe", "/t", "/l /s",
+        "/x-",
         "\u00e9", "/x \u00e9 /z"],
 }
 # the names of TLINK.CFG, and what it may be that is no text of options, or isn't the file that is meant
 CONFIGURATIONS = ["TLINK.CFG", "TLINK.CFG", "tlink.cfg", "Tlink.Cfg"]
 ODD_CONFIGURATIONS = [
-    {"TLINK.CFG": b""}, {"TLINK.CFG": b"/x\xE9"}, {"tlink.cfg": b"\x1A\xE9"}, {"TLINK.CFG/x": b"/z"}, {"tlink.cfg/x": b""},
+    {"TLINK.CFG": b""}, {"TLINK.CFG": b"/x\xE9"}, {"tlink.cfg": b"\x1A\xE9"}, {"TLINK.CFG/x": b"/z"},
+    {"tlink.cfg/x": b""},
     {"tlink.cfg": b"/z", "Tlink.cfg": b"/z"}, {"tlink.cfg": b"/z", "TLINK.CFG": b"/x\n"}, {"sub/TLINK.CFG": b"/z"},
     {"TLINK.CFG": b"\x1A/z"}, {"tlink.cf": b"/z", "tlink.cfgs": b"/z", "xtlink.cfg": b"/z", "tlink": b"/z"},
     {"LINK": b"/z", "LINK.CFG": b"/z"}]
