@@ -29,6 +29,8 @@ ENDINGS = ["", ".LIB", ".lib"]
 TYPE, BODY, DUPLICATE, NO_PROGRAM = 5, 6, 25, 67
 # endings of files of other forms, and the form that each is
 OTHER_FORMS = {"com": "com", "sys": "sys", "bin": "bin", "img": "bin"}
+# standard output as OUT or MAP
+STANDARD_OUTPUT = "-"
 MARKS = [*ordering.BEGIN_MARKS, *ordering.END_MARKS]
 # the statuses where the job is at fault, and where what is asked for is wrong
 INPUT, WRONG_WORDS, NO_DEVICE = 1, 2, 3
@@ -162,6 +164,7 @@ class Linking:
         if not self.job.inputs:
             raise Stop(WRONG_WORDS, faults.WORDS, ["no file is named to be linked"])
         self.check_form()
+        self.check_output()
         self.read_given()
         self.search()
         while self.job.has_default_libraries and self.add_default_libraries():
@@ -275,6 +278,13 @@ class Linking:
         if self.job.form is None and kind is not None and "." in last_part(out):
             raise Stop(WRONG_WORDS, faults.OTHER_FORM, [
                 f"{out}: without a form an EXE file is written: say --form {kind}, or --form exe"])
+
+    def check_output(self):
+        """What is linked is told on standard output: then neither the program nor the map is written there."""
+        for path, what in ((self.job.out, "program"), (self.job.map, "map")):
+            if self.job.is_verbose and path == STANDARD_OUTPUT:
+                raise Stop(WRONG_WORDS, faults.WRITTEN_TWICE, [
+                    f"{path}: it would be the {what} and the list of what is linked"])
 
     def places(self):
         """The paths of the program and of the map, or None.

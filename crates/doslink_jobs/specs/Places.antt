@@ -1,5 +1,5 @@
 -- Where the program and its map are written.
-use Rattle.std.specs.Prelude.{List, [], ◌∷◌, ◌++◌, bytes_eq, codes, None, Some, if◌then◌else◌}
+use Rattle.std.specs.Prelude.{Bool, false, List, [], ◌∷◌, ◌++◌, bytes_eq, codes, None, Some, if◌then◌else◌}
 use Rattle.std.specs.declared.option.Option.{Option}
 use Rattle.std.specs.Option.{option_map_or, option_or}
 use Rattle.std.specs.Path.{rsplit_once}
@@ -70,3 +70,12 @@ map_beside out (Some Beside) = Some (with_extension out (codes ".MAP"))
 -- the path of the map, where one is asked for
 abbrev pub map_path : Job → Option Text
 map_path job = map_beside (out_path job) job.map
+
+-- a path that is no file, but standard output
+abbrev pub is_output : Text → Bool
+is_output path = bytes_eq path (codes "-")
+
+-- so is that of a map
+abbrev pub is_map_output : MapFile → Bool
+is_map_output (At path) = is_output path.now
+is_map_output Beside = false

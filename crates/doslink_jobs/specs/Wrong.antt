@@ -11,7 +11,7 @@ use Rattle.doslink_files.specs.Standing.{BeginsAsInput, is_one_of, is_one_place,
 use Rattle.doslink_words.specs.declared.job.Job.{Job}
 use Rattle.doslink_words.specs.Keywords.{is_keyword}
 use Rattle.doslink_jobs.specs.Jobs.{EndsWith, IsDone}
-use Rattle.doslink_jobs.specs.Places.{extension_of, map_path, out_path}
+use Rattle.doslink_jobs.specs.Places.{extension_of, is_map_output, is_output, map_path, out_path}
 use Rattle.doslink_jobs.specs.Refusals.{IsRefusedJob}
 
 -- ---- what a job names
@@ -31,9 +31,15 @@ abbrev pub asks_other_form : Job → Bool
 asks_other_form job =
     is_none job.form && option_map_or (λ out. is_other_form (extension_of out.now)) job.out false
 
--- something is named to be linked, and no such program
+-- what is linked is to be told on standard output, and the program or its map is to be written there
+abbrev pub mixes_output : Job → Bool
+mixes_output job =
+    job.verbose && (option_map_or (λ out. is_output out.now) job.out false || option_map_or is_map_output job.map false)
+
+-- something is named to be linked, no such program, and one thing at most for standard output
 abbrev pub IsNamedWell : Job → Type 0
-IsNamedWell job = (job.inputs.items ≢ []) × (asks_other_form job ≡ false)
+IsNamedWell job =
+    (job.inputs.items ≢ []) × (asks_other_form job ≡ false) × (mixes_output job ≡ false)
 
 -- ---- where it would be written
 
@@ -54,13 +60,13 @@ module _ (told : Text → Option (List ℕ)) (looks : Option (Text → Option Lo
   WritesOver is_read out map =
       IsOver is_read out ⊎ ((path : Text) × (map ≡ Some path) × IsMapOver is_read out path)
 
-  -- Nothing is named to be linked, the program is given the extension of a form that isn't said, or what would be
-  -- written would stand in the place of something else. Which files are those that were read isn't said: where one of
-  -- them would be written over, some regular file stands there.
+  -- Nothing is named to be linked, the program is given the extension of a form that isn't said, standard output is to
+  -- hold two things, or what would be written would stand in the place of something else. Which files are those that
+  -- were read isn't said: where one of them would be written over, some regular file stands there.
   abbrev pub IsWrongJob : Job → Type 0
   IsWrongJob job =
-      NamesNothing job ⊎ ((asks_other_form job ≡ true) ⊎ ((is_read : FileId → Bool)
-      × WritesOver is_read (out_path job) (map_path job)))
+      NamesNothing job ⊎ ((asks_other_form job ≡ true) ⊎ ((mixes_output job ≡ true) ⊎ ((is_read : FileId → Bool)
+      × WritesOver is_read (out_path job) (map_path job))))
 
 -- a program and its map at these paths would be two files
 abbrev pub AreApart : (looks : Option (Text → Option Looked)) → (out : Text) → (map : Option Text) → Type 0

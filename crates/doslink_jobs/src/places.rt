@@ -1,6 +1,6 @@
 //! Where the program and its map are written.
 ghost use Rattle.std.specs.Prelude.{◌≡◌, IfErr, IfOk, IfSome, MatchResult, false, is_some, string_bytes, true};
-ghost use Rattle.std.specs.Option.{option_map, option_or};
+ghost use Rattle.std.specs.Option.{option_map, option_map_or, option_or};
 ghost use Rattle.doslink_jobs.specs.Places as spec;
 ghost use Rattle.doslink_files.specs.Standing.{has_file, is_one_place as is_place};
 ghost use Rattle.doslink_jobs.specs.Wrong as wrong;
@@ -155,6 +155,62 @@ pub(crate) fn check_form<A: Allocator + Copy>(
         return Err(stop_at_path(out, why, lines));
     }
     Ok(())
+}
+
+/// Whether a path is no file, but standard output.
+fn is_output(path: &str) -> bool
+    ensures { result ≡ spec.is_output path.now }
+{
+    path == "-"
+}
+
+/// Whether the program is to be written to standard output.
+fn out_is_output(out: Option<&str>) -> bool
+    ensures { result ≡ option_map_or (λ path. spec.is_output path.now) out.entry false }
+{
+    match out {
+        Some(path) => is_output(path),
+        None => false,
+    }
+}
+
+/// Whether the map is to be written to standard output.
+fn map_is_output(map: Option<MapFile<'_>>) -> bool
+    ensures { result ≡ option_map_or spec.is_map_output map.entry false }
+{
+    match map {
+        Some(MapFile::At(path)) => is_output(path),
+        Some(MapFile::Beside) | None => false,
+    }
+}
+
+/// What is told where the program or its map would stand on standard output beside the list of what is linked.
+fn mixed_output(job: &Job<'_>) -> Option<&'static str>
+    ensures { is_some result ≡ wrong.mixes_output job.now }
+{
+    if !job.verbose {
+        None
+    } else if out_is_output(job.out) {
+        Some("it would be the program and the list of what is linked")
+    } else if map_is_output(job.map) {
+        Some("it would be the map and the list of what is linked")
+    } else {
+        None
+    }
+}
+
+/// Stops where the list of what is linked is asked for, and the program or its map on standard output too.
+pub(crate) fn check_output<A: Allocator + Copy>(
+    job: &Job<'_>,
+    lines: &mut Vec<u8, A>,
+) -> Result<(), Halt>
+    ensures { MatchResult result (λ done. wrong.mixes_output job.now ≡ false)
+        (λ why. OnHalt why ⊥ (wrong.mixes_output job.now ≡ true)) }
+{
+    match mixed_output(job) {
+        Some(why) => Err(stop_at_path("-", why, lines)),
+        None => Ok(()),
+    }
 }
 
 /// Stops where a path leads to one of the files that were read, or to a module or a library.

@@ -15,7 +15,7 @@ ghost use Rattle.doslink_jobs.specs.Places.{map_path, out_path};
 ghost use Rattle.doslink_jobs.specs.Refusals.{IsRefusedJob, IsRefusedOf};
 ghost use Rattle.doslink_jobs.specs.Written.{IsWritten};
 ghost use Rattle.doslink_jobs.specs.Wrong.{AreApart, EndsJob, IsNamedWell, IsWrongJob, NamesNothing, WritesOver};
-ghost use Rattle.doslink_jobs.specs.Wrong.{asks_other_form};
+ghost use Rattle.doslink_jobs.specs.Wrong.{asks_other_form, mixes_output};
 ghost use Rattle.doslink_jobs.specs.inside.Inputs.{IsLinkedWith, IsRefusedWith};
 ghost use Rattle.doslink_jobs.specs.inside.Stops as stops;
 ghost use Rattle.doslink_jobs.specs.inside.Stops.{OnHalt, OnInput, told_text};
@@ -24,7 +24,7 @@ use crate::communals::variables_of;
 use crate::gathering::{Gathered, gather};
 use crate::inputs::{inputs_of, options_of};
 use crate::linking::write_program;
-use crate::places::{Places, check_form, places_of};
+use crate::places::{Places, check_form, check_output, places_of};
 use crate::stop::{Halt, Stop};
 use crate::taking::{Taken, check_names, tell_taken};
 use crate::words::Besides;
@@ -140,16 +140,19 @@ fn link_gathered<W: World + Copy, O: Write + Drop, A: Allocator + Copy>(
     Ok(())
 }
 
-/// Stops where a job names nothing that could be linked, or the program by the extension of a form that it doesn't say.
+/// Stops where a job names nothing that could be linked, or the program by the extension of a form that it doesn't say,
+/// or asks for two things on standard output.
 fn check_job<A: Allocator + Copy>(job: &Job<'_>, lines: &mut Vec<u8, A>) -> Result<(), Halt>
     ensures { MatchResult result (λ done. IsNamedWell job.now)
-        (λ why. OnHalt why ⊥ (NamesNothing job.now ⊎ (asks_other_form job.now ≡ true))) }
+        (λ why. OnHalt why ⊥
+        (NamesNothing job.now ⊎ ((asks_other_form job.now ≡ true) ⊎ (mixes_output job.now ≡ true)))) }
 {
     if job.inputs.is_empty() {
         lines.extend_from_slice(b"doslink: no file is named to be linked\n")?;
         return Err(Halt::Words);
     }
-    check_form(job, lines)
+    check_form(job, lines)?;
+    check_output(job, lines)
 }
 
 /// Does a job. What it tells is appended to the lines.
@@ -177,9 +180,10 @@ fn do_job<W: World + Copy, O: Write + Drop, A: Allocator + Copy>(
 
 /// Does a job, with the memory of this allocator, and hands out the exit status: 0 where the program is written, 1
 /// where an input is at fault, 2 where nothing is named to be linked, OUT has the extension of another form than .EXE
-/// and none is said, or what would be written is one of the files that are read, a module or a library, or the map the
-/// program, 3 where a file, a device or memory failed. What went wrong is told on standard error. Default libraries are
-/// looked up in `besides.folders` too, behind those of the job.
+/// and none is said, standard output would hold the list of what is linked and the program or its map, or what would
+/// be written is one of the files that are read, a module or a library, or the map the program, 3 where a file, a
+/// device or memory failed. What went wrong is told on standard error. Default libraries are looked up in
+/// `besides.folders` too, behind those of the job.
 pub fn run_job<W: World + Copy, O: Write + Drop, E: Sink, A: Allocator + Copy>(
     alloc: A,
     world: W,

@@ -6,7 +6,8 @@ use Rattle.doslink_jobs.proofs.running.do_job.Goals as goal
 pub returns-in_err-check_job : goal.returns-in_err-check_job
 returns-in_err-check_job g c =
     halt-exit _ c.from_residual.result _ c.from_residual.ensures.1 (λ none. absurd none)
-    (⊎_elim (λ none. inl none) (λ other. inr (inl other))) c.in_err-check_job.ensures
+    (⊎_elim (λ none. inl none) (⊎_elim (λ other. inr (inl other)) (λ mixed. inr (inr (inl mixed)))))
+    c.in_err-check_job.ensures
 
 pub returns-in_err-gathered : goal.returns-in_err-gathered
 returns-in_err-gathered g c =
@@ -19,4 +20,4 @@ returns g c =
     halts-weaker c.link_gathered.result
     (λ done (apart, linked). (c.in_ok-check_job.ensures, apart, (rounds, are, linked)))
     (λ refused. (c.in_ok-check_job.ensures, (rounds, are, inr refused)))
-    (λ over. inr (inr (has_file c.in_ok-gathered.gathered.read, over))) (c.link_gathered.ensures rounds searched)
+    (λ over. inr (inr (inr (has_file c.in_ok-gathered.gathered.read, over)))) (c.link_gathered.ensures rounds searched)
