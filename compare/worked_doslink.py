@@ -1336,7 +1336,7 @@ def check_order():
 def check_directives():
     for text, wanted in SPLIT:
         assert directives.split_words(text) == wanted, text
-    without = vars(Job(packs_far_data=True, has_null_bytes=False))
+    without = vars(Job(packs_far_data=True, has_null_bytes=False, by_directives=True))
     for title, text, wanted in DIRECTIVES:
         try:
             job = vars(directives.read_directives(directives.lines_of(text)))

@@ -72,6 +72,8 @@ class Job:
     stack: Optional[Stack] = None
     # None is an EXE file that nobody asked for
     form: Optional[Form] = None
+    # whether directives ask for it
+    by_directives: bool = False
     is_verbose: bool = False
     is_quiet: bool = False
     # the map is asked for, by no name of its own
@@ -486,7 +488,7 @@ def spoken(words, files):
 
 def read_directives(lines):
     """The job of directives, or the first that is at fault; but a quote that isn't closed is told first."""
-    job = Job(packs_far_data=True, has_null_bytes=False)
+    job = Job(packs_far_data=True, has_null_bytes=False, by_directives=True)
     tokens, place = [], 0
     for line in lines:
         tokens += tokens_of(line)

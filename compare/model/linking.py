@@ -10,7 +10,7 @@ from os.path import normpath
 from typing import Optional
 
 from model import (
-    communal, directives, faults, foreign, forms, image, libraries, line_jobs, link_map, local,
+    communal, directives, faults, foreign, forms, image, libraries, line_jobs, lines, link_map, local,
     lowering, module, naming, ordering, printing, search, stack)
 from model.commands import Answer, Output
 from model.faults import Fault, escaped, printed_name
@@ -27,8 +27,13 @@ IS_REACHED = "is far and reached by its offset alone: declare it near (NASM: com
 # what is put behind the name of a library that has no dot, in turn
 ENDINGS = ["", ".LIB", ".lib"]
 TYPE, BODY, DUPLICATE, NO_PROGRAM = 5, 6, 25, 67
-# endings of files of other forms, and the form that each is
-OTHER_FORMS = {"com": "com", "sys": "sys", "bin": "bin", "img": "bin"}
+# endings of files of other forms, and what says each: an option, or directives
+OTHER_FORMS = {
+    "com": ("--form com", "format dos com"), "sys": ("--form sys", "output raw"),
+    "bin": ("--form bin", "output raw"), "img": ("--form bin", "output raw")}
+EXE_FORM = ("--form exe", "format dos exe")
+# the option that says it in a line
+COM_OPTION = {lines.LINK: "/T", lines.TLINK: "/t"}
 # standard output as OUT or MAP
 STANDARD_OUTPUT = "-"
 MARKS = [*ordering.BEGIN_MARKS, *ordering.END_MARKS]
@@ -75,6 +80,12 @@ def library_modules(path, content):
 def last_part(path):
     """What stands behind the folders of a path."""
     return re.split(r"[/\\:]", path)[-1]
+
+
+def other_form(path):
+    """What says the form of which a path has the ending: none of one that has another, or of no path."""
+    last = last_part(path or "")
+    return OTHER_FORMS.get(last.rpartition(".")[2].lower()) if "." in last else None
 
 
 def with_ending(path, ending):
@@ -273,11 +284,11 @@ class Linking:
 
     def check_form(self):
         """Where no form is said the program's name may not be that of another than an .EXE."""
-        out = self.job.out or ""
-        kind = OTHER_FORMS.get(last_part(out).rpartition(".")[2].lower())
-        if self.job.form is None and kind is not None and "." in last_part(out):
+        says = other_form(self.job.out)
+        if self.job.form is None and says is not None:
+            own, exe = (words[self.job.by_directives] for words in (says, EXE_FORM))
             raise Stop(WRONG_WORDS, faults.OTHER_FORM, [
-                f"{out}: without a form an EXE file is written: say --form {kind}, or --form exe"])
+                f"{self.job.out}: without a form an EXE file is written: say {own}, or {exe}"])
 
     def check_output(self):
         """What is linked is told on standard output: then neither the program nor the map is written there."""
@@ -657,7 +668,8 @@ def link_by_response(path, files, job_of, folders=(), can_be_made=always):
 def link_by_line(language, words, files, folders=(), can_be_made=always, variable=""):
     """The answer to the words of LINK or TLINK, whose names of files are those of DOS, and to the environment's LINK.
 
-    What is left out is told before all else, and then what the map hasn't.
+    What is left out is told before all else, then that an EXE file has the name of another form, and what the map
+    hasn't.
     """
     files = DosFiles(files)
     try:
@@ -670,6 +682,8 @@ def link_by_line(language, words, files, folders=(), can_be_made=always, variabl
     first = next((each.name for each in job.inputs if not each.is_library), "")
     warnings = [f"warning: {place}: {what}" for place, what in job.warnings]
     lacks = [f"warning: the map {what}" for what in job.map_lacks]
+    if job.form.kind == "exe" and other_form(job.out) is not None:
+        lacks.insert(0, f"warning: {job.out}: an EXE file is written: {COM_OPTION[language]} makes a .COM file")
     answer = link(
         whole_names(job, first), files, folders, lambda path: files.can_be_made(path, can_be_made), spoken_files)
     answer.files = {files.meant(path): content for path, content in answer.files.items()}

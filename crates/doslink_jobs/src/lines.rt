@@ -1,5 +1,5 @@
 //! The lines of LINK and TLINK, as jobs that are done.
-ghost use Rattle.std.specs.Prelude.{◌≡◌, ◌-◌, ◌^◌, ◌<◌, is_some, not};
+ghost use Rattle.std.specs.Prelude.{◌≡◌, ◌-◌, ◌^◌, ◌<◌, ◌++◌, OnOk, is_some, not};
 ghost use Rattle.omf_files.specs.Files.{sink_failures};
 ghost use Rattle.doslink_words.specs.Responses as responses;
 ghost use Rattle.doslink_words.specs.Tokens.{texts};
@@ -9,14 +9,17 @@ ghost use Rattle.doslink_jobs.specs.Jobs.{EndsWith, Tells};
 ghost use Rattle.doslink_jobs.specs.Lines as spec;
 ghost use Rattle.doslink_jobs.specs.Runs as runs;
 ghost use Rattle.doslink_jobs.specs.Runs.{EndsBy, RunsLine, RunsLinker, RunsLines, RunsMade, RunsTyped, RunsWhole};
+ghost use Rattle.doslink_jobs.specs.inside.Warnings as warned;
 
 use crate::fronts::parts_of;
 use crate::limit::Limit;
 use crate::line_names::{names_of, with_names};
 use crate::line_text::{Read, line_of};
+use crate::places::is_of_other_form;
 use crate::running::{finish, run_lines};
+use crate::warnings::has_header;
 use crate::words::{Besides, Environment, out_of_memory, print_help, wrong_words};
-use doslink_words::text_asked;
+use doslink_words::{Job, text_asked};
 use makefile_words::{
     FaultKind, Idle, IdleAt, Language, LineFault, MakefileJob, Settings, parse_line,
 };
@@ -149,7 +152,61 @@ fn push_warning(
     Ok(())
 }
 
-// Appends a line for each of the first warnings, and how many more there are; and those of what the map hasn't.
+// The option that makes a .COM file.
+fn com_option(linker: Language) -> &'static [u8]
+    ensures { result.now ≡ warned.com_option linker }
+{
+    match linker {
+        Language::Link => b"/T",
+        Language::Tlink => b"/t",
+    }
+}
+
+// Appends the line of an EXE file by this name.
+fn push_form_line(linker: Language, out: &str, lines: &mut Vec<u8>) -> Result<(), AllocError>
+    ensures { OnOk result (lines.new.items ≡ lines.old.items ++ warned.form_line linker out.now) }
+{
+    lines.extend_from_slice(b"doslink: warning: ")?;
+    lines.extend_from_slice(out.as_bytes())?;
+    lines.extend_from_slice(b": an EXE file is written: ")?;
+    lines.extend_from_slice(com_option(linker))?;
+    lines.extend_from_slice(b" makes a .COM file\n")
+}
+
+// Whether the file that a job writes at a path has a header, and the name of one without.
+fn is_misnamed(job: &Job<'_>, out: &str) -> bool
+    ensures { result ≡ warned.is_misnamed job.now out.now }
+{
+    has_header(job) && is_of_other_form(out)
+}
+
+// Appends a line where this is so.
+fn push_misnamed(
+    job: &Job<'_>,
+    linker: Language,
+    out: &str,
+    lines: &mut Vec<u8>,
+) -> Result<(), AllocError>
+    ensures { OnOk result (lines.new.items ≡ lines.old.items ++ warned.misnamed_warning job.now linker out.now) }
+{
+    if !is_misnamed(job, out) {
+        return Ok(());
+    }
+    push_form_line(linker, out, lines)
+}
+
+// The same of the path that a job names.
+fn push_form_warning(job: &Job<'_>, linker: Language, lines: &mut Vec<u8>) -> Result<(), AllocError>
+    ensures { OnOk result (lines.new.items ≡ lines.old.items ++ warned.form_warning job.now linker) }
+{
+    match job.out {
+        Some(out) => push_misnamed(job, linker, out, lines),
+        None => Ok(()),
+    }
+}
+
+// Appends a line for each of the first warnings, and how many more there are; one of a name that is of another form;
+// and those of what the map hasn't.
 fn push_warnings(
     alloc: Global,
     made: &MakefileJob<'_>,
@@ -163,6 +220,7 @@ fn push_warnings(
         }
     }
     warnings.append_to(lines)?;
+    push_form_warning(&made.job, parts.linker, lines)?;
     let has_map = made.job.map.is_some();
     if has_map && made.settings.line_numbers {
         lines.extend_from_slice(b"doslink: warning: the map has no line numbers\n")?;
@@ -311,6 +369,7 @@ fn run_typed<W: World + Copy, O: Write + Drop, E: Sink>(
             let besides = Besides {
                 folders: environment.folders,
                 read: &read.ids,
+                directives: false,
             };
             let parts = LineParts {
                 linker,

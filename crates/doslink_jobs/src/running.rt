@@ -142,7 +142,11 @@ fn link_gathered<W: World + Copy, O: Write + Drop, A: Allocator + Copy>(
 
 /// Stops where a job names nothing that could be linked, or the program by the extension of a form that it doesn't say,
 /// or asks for two things on standard output.
-fn check_job<A: Allocator + Copy>(job: &Job<'_>, lines: &mut Vec<u8, A>) -> Result<(), Halt>
+fn check_job<A: Allocator + Copy>(
+    job: &Job<'_>,
+    directives: bool,
+    lines: &mut Vec<u8, A>,
+) -> Result<(), Halt>
     ensures { MatchResult result (λ done. IsNamedWell job.now)
         (λ why. OnHalt why ⊥
         (NamesNothing job.now ⊎ ((asks_other_form job.now ≡ true) ⊎ (mixes_output job.now ≡ true)))) }
@@ -151,7 +155,7 @@ fn check_job<A: Allocator + Copy>(job: &Job<'_>, lines: &mut Vec<u8, A>) -> Resu
         lines.extend_from_slice(b"doslink: no file is named to be linked\n")?;
         return Err(Halt::Words);
     }
-    check_form(job, lines)?;
+    check_form(job, directives, lines)?;
     check_output(job, lines)
 }
 
@@ -172,7 +176,7 @@ fn do_job<W: World + Copy, O: Write + Drop, A: Allocator + Copy>(
         (IsNamedWell job.now × IsRefusedJob A (W.bytes world) (texts besides.now.folders.now) job.now)
         (IsWrongJob (W.bytes world) (W.looks world) job.now)) }
 {
-    check_job(job, lines)?;
+    check_job(job, besides.directives, lines)?;
     let arena = Bump::new(alloc);
     let gathered = gather(alloc, &world, &arena, job, besides, lines)?;
     link_gathered(alloc, world, job, &gathered, output, lines)

@@ -129,7 +129,7 @@ fn warn_of_code<A: Allocator + Copy>(
 }
 
 /// Whether the file has a header, which says where the program starts and where its stack is.
-fn has_header(job: &Job<'_>) -> bool
+pub(crate) fn has_header(job: &Job<'_>) -> bool
     ensures { result ≡ spec.has_header job.now.form }
 {
     matches!(job.form, None | Some(Form::Exe | Form::LimitedExe { .. }))

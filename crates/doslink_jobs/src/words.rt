@@ -38,6 +38,8 @@ pub struct Besides<'b> {
     pub folders: &'b [&'b str],
     /// The files that its words or directives were read of.
     pub read: &'b [FileId],
+    /// Whether its words are directives, in which it is told then what to say.
+    pub directives: bool,
 }
 
 /// What a run takes of the environment.
@@ -170,6 +172,7 @@ fn run_parsed<W: World + Copy, O: Write + Drop, E: Sink>(
     let besides = Besides {
         folders,
         read: &spoken.read,
+        directives: true,
     };
     let job = &directives.job;
     run_lines(alloc, world, job, &besides, lines, output, errors)
@@ -390,6 +393,7 @@ fn run_response<W: World + Copy, O: Write + Drop, E: Sink>(
             let besides = Besides {
                 folders,
                 read: &read,
+                directives: false,
             };
             run_list(alloc, world, text.as_str(), &besides, output, errors)
         }
@@ -425,7 +429,11 @@ fn run_command<W: World + Copy, O: Write + Drop, E: Sink>(
     match only_response(words) {
         Some(path) => run_response(alloc, world, path, folders, output, errors),
         None => {
-            let besides = Besides { folders, read: &[] };
+            let besides = Besides {
+                folders,
+                read: &[],
+                directives: false,
+            };
             run_plain(alloc, world, words, &besides, output, errors)
         }
     }

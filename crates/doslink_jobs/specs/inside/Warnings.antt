@@ -1,9 +1,9 @@
 -- The warnings of a program that was linked and can't be run as it is meant (docs/DOSLINK.md, "Faults and statuses").
 use Rattle.std.specs.Prelude.{ℕ, ◌-◌, nat_lt, Bool, true, false, if◌then◌else◌, is_some, length, List, [], ◌++◌}
-use Rattle.std.specs.Prelude.{slice_get, take, Some, None}
+use Rattle.std.specs.Prelude.{slice_get, take, Some, None, ◌&&◌, ◌∷◌, codes}
 use Rattle.std.specs.declared.option.Option.{Option}
 use Rattle.std.specs.List.{flat_map, list_any}
-use Rattle.std.specs.Option.{unwrap_or}
+use Rattle.std.specs.Option.{option_map_or, unwrap_or}
 use Rattle.omf_communal.specs.Deciding.{Variable}
 use Rattle.omf_communal.specs.Far.{Reached, far_by_offset}
 use Rattle.omf_module.specs.Module.{Module}
@@ -13,7 +13,11 @@ use Rattle.doslink_telling.specs.Warnings.{no_code_line, no_stack_line, no_start
 use Rattle.doslink_words.specs.declared.job.Form.{Form}
 use Rattle.doslink_words.specs.declared.job.Form.TheVariants.{Exe, LimitedExe}
 use Rattle.doslink_words.specs.declared.job.Job.{Job}
+use Rattle.makefile_words.specs.declared.tokens.Language.{Language as Linker}
+use Rattle.makefile_words.specs.declared.tokens.Language.TheVariants.{Link, Tlink}
 use Rattle.doslink_jobs.specs.Jobs.{names_of}
+use Rattle.doslink_jobs.specs.Places.{extension_of}
+use Rattle.doslink_jobs.specs.Wrong.{is_other_form}
 
 -- a module says where the program starts
 abbrev pub has_start : Module → Bool
@@ -71,7 +75,31 @@ abbrev pub reached_warnings : Job → List Module → List Variable → (words :
 reached_warnings job modules vs words =
     told_lines (reached_warning words) (far_by_offset (names_of job.ignore_case) vs modules) job.verbose
 
--- ---- all of them
+-- ---- an EXE file that a line of LINK or TLINK gives the name of another form
+
+-- the option that makes a .COM file
+abbrev pub com_option : Linker → List ℕ
+com_option Link = codes "/T"
+com_option Tlink = codes "/t"
+
+-- the line of a name
+abbrev pub form_line : Linker → (out : List ℕ) → List ℕ
+form_line linker out =
+    codes "doslink: warning: " ++ (out ++ (codes ": an EXE file is written: "
+    ++ (com_option linker ++ (codes " makes a .COM file" ++ 10 ∷ []))))
+
+-- a file with a header, whose name has the extension of one without
+abbrev pub is_misnamed : Job → (out : List ℕ) → Bool
+is_misnamed job out = has_header job.form && is_other_form (extension_of out)
+
+-- that of a name, and that of the one that a line's job gives
+abbrev pub misnamed_warning : Job → Linker → (out : List ℕ) → List ℕ
+misnamed_warning job linker out = if is_misnamed job out then form_line linker out else []
+
+abbrev pub form_warning : Job → Linker → List ℕ
+form_warning job linker = option_map_or (λ out. misnamed_warning job linker out.now) job.out []
+
+-- ---- all of them, of what was linked
 
 abbrev pub program_warnings : Job → List Module → List Variable → (words : List (List ℕ)) → List ℕ
 program_warnings job modules vs words = lacking_warnings job.form modules ++ reached_warnings job modules vs words

@@ -53,6 +53,13 @@ link /CO F /E;|0||doslink: warning: line 1, column 1: no data for debuggers is w
 tlink F /l|0||doslink: warning: the map has no line numbers~
 tlink F /s|0||doslink: warning: the map tells of no module's parts of segments~
 tlink /x F /l /s|0||
+link F,P.COM;|0||doslink: warning: P.COM: an EXE file is written: /T makes a .COM file~
+link F,p.sys /CP:1;|0||doslink: warning: p.sys: an EXE file is written: /T makes a .COM file~
+tlink /x F,p.com|0||doslink: warning: p.com: an EXE file is written: /t makes a .COM file~
+tlink /x F,P.BIN|0||doslink: warning: P.BIN: an EXE file is written: /t makes a .COM file~
+tlink /x F,P.IMG|0||doslink: warning: P.IMG: an EXE file is written: /t makes a .COM file~
+tlink /x/t F,P.COM|1||doslink: link: 70 OtherStart~
+link F,COM;|0||
 tlink /t RELOC|1||doslink: link: 68 Relocated~
 link RELOC /T;|1||doslink: link: 68 Relocated~
 link F,F.OBJ;|2||doslink: F.OBJ: it is read and would be written~

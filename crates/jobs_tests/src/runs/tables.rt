@@ -216,6 +216,17 @@ doslink -o A.COM A.OBJ F.OBJ|2||doslink: A.COM: without a form an EXE file is wr
 doslink -o a.sys A.OBJ F.OBJ|2||doslink: a.sys: without a form an EXE file is written: say --form sys, or --form exe~
 doslink -o A.bin A.OBJ F.OBJ|2||doslink: A.bin: without a form an EXE file is written: say --form bin, or --form exe~
 doslink -o A.IMG A.OBJ F.OBJ|2||doslink: A.IMG: without a form an EXE file is written: say --form bin, or --form exe~
+wlink name A.COM file A.OBJ,F.OBJ|2||doslink: A.COM: without a form an EXE file is written: say format dos com, or format dos exe~
+wlink name a.sys file A.OBJ,F.OBJ|2||doslink: a.sys: without a form an EXE file is written: say output raw, or format dos exe~
+wlink name A.bin file A.OBJ,F.OBJ|2||doslink: A.bin: without a form an EXE file is written: say output raw, or format dos exe~
+wlink name A.IMG file A.OBJ,F.OBJ|2||doslink: A.IMG: without a form an EXE file is written: say output raw, or format dos exe~
+wlink name A.COM format dos exe file A.OBJ,F.OBJ|0||
+doslink -v -o - A.OBJ F.OBJ|2||doslink: -: it would be the program and the list of what is linked~
+doslink -v -m - A.OBJ F.OBJ|2||doslink: -: it would be the map and the list of what is linked~
+doslink -v -o - -m - A.OBJ F.OBJ|2||doslink: -: it would be the program and the list of what is linked~
+doslink -o - -m - A.OBJ F.OBJ|2||doslink: -: it would be the program and its map~
+doslink -o - A.OBJ F.OBJ|0||
+doslink -m - A.OBJ F.OBJ|0||
 doslink -o LINK.EXE A.OBJ F.OBJ|2||doslink: LINK.EXE: it is read and would be written~
 doslink -m D.OBJ A.OBJ F.OBJ|2||doslink: D.OBJ: it is a module or a library and would be written~
 doslink OUTSIDE.OBJ|1||doslink: OUTSIDE.OBJ: 11 SegmentIndex at record 17~
