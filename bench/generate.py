@@ -36,12 +36,20 @@ PAGE = 512
 # bytes of a name that all members of an archive share
 LONG_NAME = 200_000
 
+# how many files of directives a line may have
+FILES_OF_DIRECTIVES = 200
+# names of which a hasher of 64 bits with this first state takes the first eight bytes for its state, so that nothing of
+# the others is left in a product
+FIRST_STATE, LENGTH_OF_NAME = 0x243F_6A88_85A3_08D3, 16
+
 # types of the records that define names and use them, for all modules or for their own
 PUBDEF, LPUBDEF = 0x90, 0xB6
 EXTDEF, LEXTDEF = 0x8C, 0xB4
 
 # the types of comments and of aliases, and the class of a comment that gives weak externals their defaults
 COMENT, ALIAS, WKEXT = 0x88, 0xC6, 0xA8
+# the type of those that declare communal variables
+COMDEF = 0xB0
 # the class of a comment that names a default library
 LIBRARY = 0x9F
 
@@ -80,7 +88,7 @@ class Combination(IntEnum):
 class Inputs:
     """The modules of a link, and what the program that they make must have; its file has all of the size, or
     the written bytes where it has fewer. Beside them stand files of other names, and further words, or in the place of
-    all words those of a line of TLINK, by which the program is OUT.EXE."""
+    all words those by which another linker is called, and the program is OUT.EXE."""
 
     modules: list
     size: int
@@ -105,8 +113,8 @@ def index(number):
 
 
 def name(text):
-    """A name behind its length."""
-    encoded = text.encode()
+    """A name, a text or bytes, behind its length."""
+    encoded = text if isinstance(text, bytes) else text.encode()
     return bytes([len(encoded)]) + encoded
 
 
@@ -425,6 +433,26 @@ def bytes_behind_a_module(count):
     """A module, and as many zeros behind the record that ends it."""
     main = renaming_module("_main", ["_main"])
     return Inputs([module + bytes(count) for module in main.modules], main.size, main.relocations)
+
+
+def repeated_directives(count):
+    """A module, and a file of as many directives, which is named as often as files of directives may be."""
+    files = {
+        "m.obj": part_module(0), "first.lnk": b"name OUT.EXE file m.obj option quiet\n",
+        "more.lnk": b"option cache\n" * count}
+    words = ("--as", "wlink", "@first.lnk", *["@more.lnk"] * (FILES_OF_DIRECTIVES - 1))
+    return Inputs([], 16, 0, files=files, line=words)
+
+
+def names_of_one_hash(count):
+    """Communal variables whose names a hasher of the kit takes for one, where it is fed each as a whole."""
+    front = (FIRST_STATE + LENGTH_OF_NAME).to_bytes(8, "little")
+    declared = [front + number.to_bytes(8, "little") for number in range(count)]
+    records = b"".join(
+        record(COMDEF, b"".join(name(text) + b"\0\x62\1" for text in some))
+        for some in pieces(declared, NAMES_IN_RECORD))
+    main = header("one") + names("CODE", "CODE") + segment(16) + data(1, 0, filler(16, 0)) + records + main_end()
+    return Inputs([main], 16 + count, 0, written=16)
 
 
 def part_module(number):

@@ -18,6 +18,9 @@ NUMBER = re.compile(r"(?:0[xX]([0-9a-fA-F]+)|([0-9]+))([kKmM]?)")
 LONGEST_STACK = 65_536
 # the bytes of a name in a module, at most
 LONGEST_NAME = 255
+# how many response files a line has at most
+MOST_FILES = 200
+TOO_MANY = f"a line has at most {MOST_FILES} response files"
 # the end of the memory that a real-mode address reaches
 MEMORY_END = 0x100000
 # a name between quotes of either kind, a word, or a comma, an equals sign or a brace
@@ -476,8 +479,14 @@ def text_of(path, files):
 
 
 def spoken(words, files):
-    """The lines that words give: those of a file where a word begins with `@`, else its own."""
+    """The lines that words give: those of a file where a word begins with `@`, else its own.
+
+    They name so many files at most.
+    """
     lines = []
+    behind = [word[1:] for word in words if word.startswith("@")][MOST_FILES:]
+    if behind:
+        raise DirectiveFault(0, f"{behind[0]}: {TOO_MANY}")
     for word in words:
         if word.startswith("@"):
             lines += lines_of(text_of(word[1:], files), word[1:])

@@ -4,7 +4,7 @@ both ask for."""
 import re
 
 from model import line_options, lines, ordering
-from model.directives import SPACE, Form, Input, Job, Stack, text_of as text_of_path
+from model.directives import MOST_FILES, SPACE, TOO_MANY, Form, Input, Job, Stack, text_of as text_of_path
 
 # what is told of a word that can't be followed
 KINDS = {
@@ -38,8 +38,7 @@ FRONTS = {lines.TLINK: "TLINK.CFG", lines.LINK: "LINK"}
 # what parts the folders of a linker that a variable calls
 BETWEEN_FOLDERS = re.compile(r"[\\/:]")
 TOO_DEEP = "response files name one another more than 8 deep"
-TOO_MANY = "a line has at most 200 response files"
-MOST_DEEP, MOST_FILES = 8, 200
+MOST_DEEP = 8
 
 
 def quoted(text):

@@ -12,6 +12,7 @@ ghost use Rattle.doslink_jobs.specs.inside.Idle.{GiveLines};
 ghost use Rattle.doslink_jobs.specs.inside.Stops.{OnHalt};
 
 use crate::limit::{push_rest, told_count};
+use crate::line_text::check_count;
 use crate::stop::{Halt, stop_unread};
 use doslink_files::read_file;
 use doslink_telling::push_path_line;
@@ -116,6 +117,20 @@ pub(crate) struct Spoken<'w> {
     pub read: Vec<FileId>,
 }
 
+/// Stops where words name more response files than a line may have.
+fn check_responses(words: &[&str], lines: &mut Vec<u8>) -> Result<(), Halt>
+    ensures { MatchResult result (λ done. Unit {0}) (λ why. OnHalt why ⊥ (Unit {0})) }
+{
+    let mut count: usize = 0;
+    for word in words {
+        if let Some(path) = response_path(word) {
+            check_count(path, count, lines)?;
+            count = count.saturating_add(1);
+        }
+    }
+    Ok(())
+}
+
 /// The directives that words give: those of the files that words with `@` name, and other words as they stand, each
 /// with a line end behind it.
 pub(crate) fn directives_of<'w, W: World>(
@@ -130,6 +145,7 @@ pub(crate) fn directives_of<'w, W: World>(
     ensures lines { IfOk result (λ spoken. (spoken.words.now ≡ words.now)
         × GiveLines (W.bytes world.now) (texts words.now) (string_bytes spoken.text) spoken.counts.items) }
 {
+    check_responses(words, lines)?;
     let mut text = String::new(alloc);
     let mut counts = Vec::new(alloc);
     let mut read = Vec::new(alloc);

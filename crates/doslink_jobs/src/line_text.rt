@@ -137,20 +137,15 @@ fn without_line_end(text: &str) -> &str
     }
 }
 
-// Stops where a line has too many response files.
-fn check_count(path: &str, read: &mut Read) -> Result<(), Halt>
+/// Stops at the path of a response file where a line has so many before it that it may have no more.
+pub(crate) fn check_count(path: &str, count: usize, lines: &mut Vec<u8>) -> Result<(), Halt>
     ensures { MatchResult result (λ done. Unit {0}) (λ why. OnHalt why ⊥ (Unit {0})) }
 {
-    if MOST_FILES <= read.count {
-        push_path_line(
-            &mut read.lines,
-            path,
-            "a line has at most 200 response files",
-        )?;
-        return Err(Halt::Words);
+    if count < MOST_FILES {
+        return Ok(());
     }
-    read.count = read.count.saturating_add(1);
-    Ok(())
+    push_path_line(lines, path, "a line has at most 200 response files")?;
+    Err(Halt::Words)
 }
 
 // Appends what a response file says.
@@ -165,7 +160,8 @@ fn push_file<W: World>(
         × (string_bytes text.new ≡ string_bytes text.old ++ part))
         (λ why. OnHalt why ⊥ (Unit {0})) }
 {
-    check_count(path, read)?;
+    check_count(path, read.count, &mut read.lines)?;
+    read.count = read.count.saturating_add(1);
     let file = response_text(alloc, world, path, &mut read.ids, &mut read.lines)?;
     text.push_str(without_line_end(up_to_end(file.as_str())))?;
     Ok(())

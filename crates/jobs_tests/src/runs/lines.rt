@@ -3,7 +3,7 @@ use super::forms::EXE_OF_F;
 use super::modules::OFFERS;
 
 /// Response files, and a module in a folder.
-pub(crate) const LINE_FILES: [(&str, &[u8]); 9] = [
+pub(crate) const LINE_FILES: [(&str, &[u8]); 10] = [
     ("OBJ/UNO.OBJ", &OFFERS),
     ("LINK.RSP", b"A+\r\nF /NOI\r\nP.EXE\r\n"),
     ("OBJS", b"A +F\n"),
@@ -13,6 +13,7 @@ pub(crate) const LINE_FILES: [(&str, &[u8]); 9] = [
     ("DEEP", b"F @DEEP"),
     ("DEEPER", b"@OBJS,P.EXE"),
     ("LINES2", b"F\nP.EXE\n/z\n"),
+    ("IDLE", b"sort global\n"),
     ("TWICE", b"@MANY @MANY @MANY @MANY @MANY @MANY @MANY @MANY"),
 ];
 

@@ -310,6 +310,29 @@ fn limited_runs_tell_so_many_lines(rt: HostRuntime) -> Result<(), Fail> {
     Ok(())
 }
 
+/// What a run of directives does in which a file of them is named so many times.
+fn run_repeated(alloc: Global, times: usize) -> Result<Done, AllocError> {
+    let mut words = String::from_str(alloc, "wlink file F.OBJ option quiet")?;
+    for _ in 0..times {
+        words.push_str(" @IDLE")?;
+    }
+    run_row(alloc, words.as_str(), "")
+}
+
+#[test]
+fn directives_have_so_many_files_at_most(rt: HostRuntime) -> Result<(), Fail> {
+    let done = run_repeated(rt.alloc(), 200)?;
+    assert_eq!(rt; (done.status, count_lines(&done.errors)), (0, 0));
+    let done = run_repeated(rt.alloc(), 201)?;
+    let told = String::from_utf8_lossy(rt.alloc(), &done.errors)?;
+    assert_eq!(rt; done.status, 2);
+    assert_eq!(rt;
+        told.as_str(),
+        "doslink: IDLE: a line has at most 200 response files\n"
+    );
+    Ok(())
+}
+
 #[test]
 fn warned_runs_tell_these_lines(rt: HostRuntime) -> Result<(), Fail> {
     let wrong = first_other(rt.alloc(), WARNED_RUNS, true)?;
