@@ -644,6 +644,37 @@ EIGHTEEN = header("3200 0100 0100 0200 0100" + MOST + NO_REGISTERS) + "00000100"
 
 # title, what is asked for, the folders of LIB, and the bytes of OUT or the lines on standard error,
 # and the lines that tell the modules
+# modules that reach the far variable `far` by its offset alone, each of which is told once
+REACHED = [
+    ("by an alias",
+     "80050003722E63759607000004434F444544980700280300020101328C050002616C00A0B009000366617200610102A7"
+     "C6080002616C0366617227A00700010000B80000A09C0500C4015601438A02000074"),
+    ("by a weak external",
+     "80050003722E63759607000004434F444544980700280300020101328C0400017700F8B009000366617200610102A788"
+     "050080A8010248A00700010000B80000A09C0500C4015601438A02000074"),
+    ("its own",
+     "80050003722E63759607000004434F44454498070028030002010132B8090003666172006101029FA00700010000B800"
+     "00A09C0500C4015601438A02000074"),
+]
+
+# directives, and what is told of them; a file of them that is named too often
+SPOKEN_FILES = {**FILES, "idle": b"sort global"}
+SPOKEN = [
+    (["file", "m.obj", "name", "p.com"],
+     "doslink: p.com: without a form an EXE file is written: say format dos com, or format dos exe\n"),
+    (["file", "m.obj", "name", "p.IMG"],
+     "doslink: p.IMG: without a form an EXE file is written: say output raw, or format dos exe\n"),
+    (["file", "absolute.obj", "option", "quiet", *200 * ["@idle"]], ""),
+    (["file", "absolute.obj", "option", "quiet", *200 * ["@idle"], "@more"],
+     "doslink: more: a line has at most 200 response files\n"),
+]
+# lines that write an EXE file by the name of another form
+NAMED_BY_LINES = [
+    ("link", ["absolute.obj,p.com;"], "doslink: warning: p.com: an EXE file is written: /T makes a .COM file\n"),
+    ("tlink", ["/x", "absolute.obj,p.Bin"], "doslink: warning: p.Bin: an EXE file is written: /t makes a .COM file\n"),
+    ("tlink", ["/x", "absolute.obj,com"], ""),
+]
+
 LINKS = [
     ("a module of a library", {"inputs": given(["m.obj"], ["x.lib"])}, [], PROGRAM,
      'm.obj\nx.lib(X) for "x"\n'),
@@ -1580,6 +1611,16 @@ def check_links():
         assert answer.output == told.encode(), title
     answer = linking.link(Job(given(["absolute.obj"]), "out", is_quiet=True), FILES)
     assert answer.error.decode().splitlines() == LACKS, answer.error
+    for title, content in REACHED:
+        answer = linking.link(Job(given(["far.obj"]), "out"), {"far.obj": bytes.fromhex(content)})
+        wanted = f'doslink: warning: "far" of far.obj {linking.IS_REACHED}\n'
+        assert without_lacks(answer.error.decode()) == wanted, title
+    for words, wanted in SPOKEN:
+        answer = linking.link_by_directives(words, SPOKEN_FILES)
+        assert without_lacks(answer.error.decode()) == wanted, words
+    for language, words, wanted in NAMED_BY_LINES:
+        answer = linking.link_by_line(language, words, PlacedFiles(FILES))
+        assert without_lacks(answer.error.decode()) == wanted, words
     for asked, wanted in OUTS:
         assert linking.Linking(Job(**asked), {}, [], None, None).places()[0] == wanted, asked
     job = Job(given(["m.obj"], ["x.lib"]), "out", "map", order=ordering.DOSSEG)

@@ -213,12 +213,21 @@ def target_names(one, locations):
         if fixup.location in locations and fixup.reference.target.method == Method.EXTERNAL]
 
 
+def is_own_far(one, public):
+    """Whether a public is a far variable that is local to its module."""
+    return public.is_local and public.segment != 0 and public.group == 0 and (
+        one.segments[public.segment - 1].class_name == FAR_NAME)
+
+
 def reached_by_offset(one, found, key):
-    """The names of the externals of a module that are far variables and that it reaches by their
-    offsets alone: no fix-up has their frame."""
+    """The names of the externals of a module that are far variables, those of the program or its own, and that it
+    reaches by their offsets alone: no fix-up has their frame. Two externals may mean one of them."""
     far = {key(each.name) for each in found if each.extent.is_far}
+    own_far = {key(each.name) for each in one.publics if is_own_far(one, each)}
     by_offset = set(map(key, target_names(one, OFFSETS)))
     by_base = set(map(key, target_names(one, BASES)))
-    return [
-        each.name for each in one.externals
-        if not each.is_local and key(each.name) in far & by_offset - by_base]
+    reached = {}
+    for each in one.externals:
+        if key(each.name) in (own_far if each.is_local else far) & by_offset - by_base:
+            reached.setdefault(key(each.name), each.name)
+    return list(reached.values())

@@ -1,16 +1,19 @@
 -- The modules of a program, one more with its index.
-use Rattle.std.proofs.Common.{◌≡◌, ℕ, ◌+◌, ◌<◌, Bool, true, false, cond, not, ◌&&◌, List, [], ◌∷◌, ◌++◌, length, filter}
+use Rattle.std.proofs.Common.{◌≡◌, ℕ, ◌+◌, ◌<◌, Bool, true, false, cond, if◌then◌else◌, not, ◌&&◌, ◌||◌, List, [], ◌∷◌, ◌++◌, length, filter}
 use Rattle.std.proofs.Common.{map, take, get_or, slice_get, Option, Some, None, refl, ap, ap₂, sym, ◌∙◌, append-nil}
 use Rattle.std.proofs.Common.{append_assoc, arith, add-one, length-take}
 use Rattle.std.proofs.lemmas.List.{map-append, take_more}
 use Rattle.std.proofs.lemmas.List.Elements.{filter-append, filter_map-append}
 use Rattle.std.proofs.lemmas.Grind.{flat_map-append}
 use Rattle.std.specs.Borrow.{Bor}
-use Rattle.std.specs.List.{cons_option, enumerate_from, filter_map, flat_map}
+use Rattle.std.specs.List.{cons_option, enumerate_from, filter_map, flat_map, list_any}
 use Rattle.omf_module.specs.Module.{ExternalSymbol}
 use Rattle.omf_place.proofs.Walks.{take-push}
+use Rattle.omf_place.specs.Names.{agrees}
+use Rattle.omf_place.specs.declared.names.Names.{Names}
+use Rattle.omf_communal.specs.Far.{firsts}
 use Rattle.omf_communal.specs.Modules.{bytes_of}
-use Rattle.omf_communal.proofs.Listing.{enumerate-push}
+use Rattle.omf_communal.proofs.Listing.{enumerate-push, map_more}
 
 pub reach-turn : {X Y : Type 0} (f : ℕ × X → List Y) (xs : List X) (i : ℕ) (x : X) (old new : List Y) → i < length xs →
     x ≡ get_or xs i x → old ≡ flat_map f (enumerate_from 0 (take i xs)) → new ≡ old ++ f (i, x) →
@@ -59,33 +62,75 @@ module _ {X : Type 0} (f : X → Option (List ℕ)) (xs : List X) (i : ℕ) (d :
       (sym
       (longer ∙ ap (λ o. filter_map f (take i xs) ++ cons_option o []) gives ∙ append-nil (filter_map f (take i xs))))
 
--- an external more of those that pass a test
-module _ (p : ExternalSymbol → Bool) (xs : List ExternalSymbol) (i : ℕ) (x : ExternalSymbol)
-    (e : slice_get xs i ≡ Some x) where
-  filtered : filter p (take (i + 1) xs) ≡ filter p (take i xs) ++ cond (p x) (x ∷ []) []
-  filtered = ap (filter p) (take_one xs i x e) ∙ filter-append p (take i xs) (x ∷ [])
+-- a name more of what passes a test
+module _ {X : Type 0} (named : X → List ℕ) (p : X → Bool) (xs : List X) (i : ℕ) (x : X) (e : slice_get xs i ≡ Some x)
+  where
+    filtered : filter p (take (i + 1) xs) ≡ filter p (take i xs) ++ cond (p x) (x ∷ []) []
+    filtered = ap (filter p) (take_one xs i x e) ∙ filter-append p (take i xs) (x ∷ [])
 
-  pub external-in : (n : Bor (List ℕ)) (old new : List (Bor (List ℕ))) → n.now ≡ x.name → p x ≡ true →
-      bytes_of old ≡ map (λ (y : ExternalSymbol). y.name) (filter p (take i xs)) → new ≡ old ++ n ∷ [] →
-      bytes_of new ≡ map (λ (y : ExternalSymbol). y.name) (filter p (take (i + 1) xs))
-  external-in n old new named t was is =
-      ap bytes_of is ∙ map-append (λ (b : Bor (List ℕ)). b.now) old (n ∷ []) ∙ ap₂ (λ ys y. ys ++ y ∷ []) was named
-      ∙ sym
-      (ap (map (λ (y : ExternalSymbol). y.name))
-      (filtered ∙ ap (λ b. filter p (take i xs) ++ cond b (x ∷ []) []) t)
-      ∙ map-append (λ (y : ExternalSymbol). y.name) (filter p (take i xs)) (x ∷ []))
+    pub named-in : (n : Bor (List ℕ)) (old new : List (Bor (List ℕ))) → n.now ≡ named x → p x ≡ true →
+        bytes_of old ≡ map named (filter p (take i xs)) → new ≡ old ++ n ∷ [] →
+        bytes_of new ≡ map named (filter p (take (i + 1) xs))
+    named-in n old new same t was is =
+        ap bytes_of is ∙ map-append (λ (b : Bor (List ℕ)). b.now) old (n ∷ []) ∙ ap₂ (λ ys y. ys ++ y ∷ []) was same
+        ∙ sym
+        (ap (map named) (filtered ∙ ap (λ b. filter p (take i xs) ++ cond b (x ∷ []) []) t)
+        ∙ map-append named (filter p (take i xs)) (x ∷ []))
 
-  pub external-out : (old : List (Bor (List ℕ))) → p x ≡ false →
-      bytes_of old ≡ map (λ (y : ExternalSymbol). y.name) (filter p (take i xs)) →
-      bytes_of old ≡ map (λ (y : ExternalSymbol). y.name) (filter p (take (i + 1) xs))
-  external-out old t was =
-      was ∙ ap (map (λ (y : ExternalSymbol). y.name))
-      (sym
-      (filtered ∙ ap (λ b. filter p (take i xs) ++ cond b (x ∷ []) []) t ∙ append-nil (filter p (take i xs))))
+    pub named-out : (old : List (Bor (List ℕ))) → p x ≡ false → bytes_of old ≡ map named (filter p (take i xs)) →
+        bytes_of old ≡ map named (filter p (take (i + 1) xs))
+    named-out old t was =
+        was ∙ ap (map named)
+        (sym
+        (filtered ∙ ap (λ b. filter p (take i xs) ++ cond b (x ∷ []) []) t ∙ append-nil (filter p (take i xs))))
 
 -- the same tests
-pub same-test : (local f o b g p c : Bool) → f ≡ g → o ≡ p → b ≡ c
-    → (not local && (f && (o && not b))) ≡ (not local && (g && (p && not c)))
-same-test local f o b g p c one two three =
-    ap (λ x. not local && (x && (o && not b))) one ∙ ap (λ x. not local && (g && (x && not b))) two
-    ∙ ap (λ x. not local && (g && (p && not x))) three
+pub same-test : (f o b g p c : Bool) → f ≡ g → o ≡ p → b ≡ c → (f && (o && not b)) ≡ (g && (p && not c))
+same-test f o b g p c one two three =
+    ap (λ x. x && (o && not b)) one ∙ ap (λ x. g && (x && not b)) two ∙ ap (λ x. g && (p && not x)) three
+
+-- of one list or the other
+pub chosen : {X : Type 0} (first l f : Bool) (t : X → Bool) (ls fs : List X) → l ≡ list_any t ls → f ≡ list_any t fs
+    → (if first then l else f) ≡ list_any t (if first then ls else fs)
+chosen true l f t ls fs one two = one
+chosen false l f t ls fs one two = two
+
+-- ---- of names that agree the first
+
+left_out : (seen same : Bool) (x : List ℕ) (f : List (List ℕ) → List (List ℕ)) → f [] ≡ []
+    → f (x ∷ []) ≡ cond (not same) (x ∷ []) [] → f (cond seen [] (x ∷ [])) ≡ cond (same || seen) [] (x ∷ [])
+left_out true true x f none one = none
+left_out true false x f none one = none
+left_out false true x f none one = one
+left_out false false x f none one = one
+
+module _ (names : Names) where
+  -- one more, which is new or agrees with one of those before
+  firsts-push : (ns : List (List ℕ)) (x : List ℕ)
+      → firsts names (ns ++ x ∷ []) ≡ firsts names ns ++ cond (list_any (agrees names x) ns) [] (x ∷ [])
+  firsts-push [] x = refl
+  firsts-push (n ∷ ns) x =
+      let test : List ℕ → Bool = λ other. not (agrees names other n) in
+      ap (λ vs. n ∷ filter test vs) (firsts-push ns x)
+      ∙ ap (λ vs. n ∷ vs) (filter-append test (firsts names ns) (cond (list_any (agrees names x) ns) [] (x ∷ [])))
+      ∙ ap (λ vs. n ∷ (filter test (firsts names ns) ++ vs))
+      (left_out (list_any (agrees names x) ns) (agrees names x n) x (filter test) refl refl)
+
+  module _ (list : List (Bor (List ℕ))) (i : ℕ) (d : Bor (List ℕ)) (h : i < length list) where
+    grown : (seen : Bool) → list_any (agrees names (get_or list i d).now) (bytes_of (take i list)) ≡ seen →
+        firsts names (bytes_of (take (i + 1) list))
+        ≡ firsts names (bytes_of (take i list)) ++ cond seen [] ((get_or list i d).now ∷ [])
+    grown seen is =
+        ap (firsts names) (map_more (λ (b : Bor (List ℕ)). b.now) list i d h)
+        ∙ firsts-push (bytes_of (take i list)) (get_or list i d).now
+        ∙ ap (λ s. firsts names (bytes_of (take i list)) ++ cond s [] ((get_or list i d).now ∷ [])) is
+
+    -- it is one of those before, or not
+    pub first-next : (seen : Bool) (old new : List (Bor (List ℕ))) → bytes_of old ≡ firsts names (bytes_of (take i list))
+        → seen ≡ list_any (agrees names (get_or list i d).now) (bytes_of (take i list))
+        → new ≡ cond seen old (old ++ get_or list i d ∷ []) → bytes_of new ≡ firsts names (bytes_of (take (i + 1) list))
+    first-next true old new was seen is =
+        ap bytes_of is ∙ was ∙ sym (grown true (sym seen) ∙ append-nil (firsts names (bytes_of (take i list))))
+    first-next false old new was seen is =
+        ap bytes_of is ∙ map-append (λ (b : Bor (List ℕ)). b.now) old (get_or list i d ∷ [])
+        ∙ ap (λ ns. ns ++ (get_or list i d).now ∷ []) was ∙ sym (grown false (sym seen))

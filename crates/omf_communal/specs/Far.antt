@@ -1,11 +1,13 @@
 -- The far communal variables that modules reach by their offsets alone (TIS OMF 1.1, FIXUPP, the location). A far
 -- variable has segments of its own, and so a frame that no other segment has: whoever reaches it loads that frame, by a
 -- base or a pointer to its name.
-use Rattle.std.specs.Prelude.{ℕ, ◌-◌, Bool, true, false, not, ◌&&◌, if◌then◌else◌, List, filter, map, slice_get}
-use Rattle.std.specs.Prelude.{None}
+use Rattle.std.specs.Prelude.{ℕ, ◌-◌, ◌==◌, Bool, true, false, not, ◌&&◌, if◌then◌else◌, List, [], ◌∷◌, filter, map, slice_get}
+use Rattle.std.specs.Prelude.{None, bytes_eq, codes}
 use Rattle.std.specs.declared.option.Option.{Option}
 use Rattle.std.specs.List.{enumerate_from, filter_map, flat_map, list_any}
-use Rattle.std.specs.Option.{option_map}
+use Rattle.std.specs.Option.{option_map, option_map_or}
+use Rattle.omf_record.specs.declared.externals.PublicBase.{PublicBase}
+use Rattle.omf_record.specs.declared.externals.PublicBase.TheVariants.{AtFrame, InSegment}
 use Rattle.omf_record.specs.declared.fixups.Location.{Location}
 use Rattle.omf_record.specs.declared.fixups.Location.TheVariants as at
 use Rattle.omf_record.specs.declared.fixups.TargetMethod.{TargetMethod}
@@ -53,15 +55,34 @@ is_far (Far count size) = true
 abbrev pub far_names : List Variable → List (List ℕ)
 far_names vs = map (λ v. v.name) (filter (λ v. is_far v.extent) vs)
 
+-- a segment of far variables
+abbrev pub is_far_segment : says.Segment → Bool
+is_far_segment s = bytes_eq s.class (codes "FAR_BSS")
+
+-- a place in such a segment, and in no group; segments count from 1
+abbrev pub is_far_base : says.Module → PublicBase → Bool
+is_far_base m (InSegment group segment) =
+    group == 0 && option_map_or is_far_segment (slice_get m.segments (segment - 1)) false
+is_far_base m (AtFrame group frame) = false
+
+-- a local public there
+abbrev pub is_far_local : says.Module → says.PublicSymbol → Bool
+is_far_local m p = p.local && is_far_base m p.base
+
+-- the names of the far variables that are local to a module: it has them as publics then
+abbrev pub local_far_names : says.Module → List (List ℕ)
+local_far_names m = map (λ p. p.name) (filter (is_far_local m) m.publics)
+
 -- one of these names is this one
 abbrev pub is_among : Names → List (List ℕ) → (name : List ℕ) → Bool
 is_among names list name = list_any (agrees names name) list
 
--- an external of a module that isn't local has a far variable's name, some fix-up at an offset refers to that, and none
--- at a base or a pointer does
+-- an external of a module has a far variable's name, of one that is local to it where the external is, some fix-up at
+-- an offset refers to that, and none at a base or a pointer does
 abbrev pub is_reached : Names → (far : List (List ℕ)) → says.Module → says.ExternalSymbol → Bool
-is_reached names far m e = not e.local && (is_among names far e.name && (is_among names (names_at is_offset m) e.name
-    && not (is_among names (names_at is_base m) e.name)))
+is_reached names far m e =
+    is_among names (if e.local then local_far_names m else far) e.name
+    && (is_among names (names_at is_offset m) e.name && not (is_among names (names_at is_base m) e.name))
 
 -- such a name, and the module's place in the program
 pub record Reached : Type 0 where
@@ -75,13 +96,18 @@ reached_said r = record { «module» = r.«module»; name = r.name.now }
 abbrev pub reached_names : Names → (far : List (List ℕ)) → says.Module → List (List ℕ)
 reached_names names far m = map (λ e. e.name) (filter (is_reached names far m) m.externals)
 
+-- of names that agree the first: a module may have two externals of one meaning
+abbrev pub firsts : Names → List (List ℕ) → List (List ℕ)
+firsts names [] = []
+firsts names (name ∷ list) = name ∷ filter (λ other. not (agrees names other name)) (firsts names list)
+
 -- those of the module with an index
 abbrev pub reached_at : (index : ℕ) → (name : List ℕ) → Reached
 reached_at index name = record { «module» = index; name = name }
 
 abbrev pub reached_in : Names → (far : List (List ℕ)) → ℕ × says.Module → List Reached
-reached_in names far p = map (reached_at p.0) (reached_names names far p.1)
+reached_in names far p = map (reached_at p.0) (firsts names (reached_names names far p.1))
 
--- those of a program with these variables, in order of modules and of their externals
+-- those of a program with these variables, each once, in order of modules and of their externals
 abbrev pub far_by_offset : Names → List Variable → List says.Module → List Reached
 far_by_offset names vs program = flat_map (reached_in names (far_names vs)) (enumerate_from 0 program)

@@ -1,11 +1,12 @@
 //! The far communal variables that modules reach by their offsets alone.
 
-ghost use Rattle.std.specs.Prelude.{◌≡◌, ◌++◌, ◌&&◌, ℕ, List, IfOk, OnOk, map, not};
+ghost use Rattle.std.specs.Prelude.{◌≡◌, ◌++◌, ◌&&◌, ◌-◌, ℕ, List, IfOk, OnOk, false, if◌then◌else◌, map, not};
+ghost use Rattle.std.specs.Prelude.{◌∷◌, [], cond, slice_get, true};
 ghost use Rattle.std.specs.Borrow.{Bor};
 ghost use Rattle.std.specs.List.{filter_map, list_any};
-ghost use Rattle.std.specs.Option.{option_map};
+ghost use Rattle.std.specs.Option.{option_map, option_map_or};
 ghost use Rattle.indexmap.specs.IndexSet.{contains};
-ghost use Rattle.omf_module.specs.Seen.{external_seen};
+ghost use Rattle.omf_module.specs.Seen.{external_seen, public_seen};
 ghost use Rattle.omf_place.specs.Names.{agrees};
 ghost use Rattle.omf_communal.specs.Deciding.{variable_said};
 ghost use Rattle.omf_communal.specs.Far as reach;
@@ -14,11 +15,12 @@ ghost use Rattle.omf_communal.specs.inside.Keys.{key_of, same_key};
 ghost use Rattle.omf_communal.specs.inside.Sought as seek;
 
 use crate::declarations::{Extent, Variable};
+use crate::key::Key;
 use crate::modules::{NameSet, insert_offered, is_offered};
 use indexmap::IndexSet;
-use omf_module::{ExternalSymbol, Module, ResolvedFixup};
+use omf_module::{ExternalSymbol, Module, PublicSymbol, ResolvedFixup};
 use omf_place::Names;
-use omf_record::{Location, TargetMethod};
+use omf_record::{Location, PublicBase, TargetMethod};
 use std::alloc::{AllocError, Allocator};
 
 /// A far communal variable that a module reaches by its offset alone.
@@ -144,12 +146,78 @@ fn far_names<'a, A: Allocator + Copy>(
     Ok(names)
 }
 
+/// Whether a segment, counted from 1, is one of far variables.
+fn is_far_segment<A: Allocator + Copy>(from: &Module<A>, number: usize) -> bool
+    ensures { result ≡ option_map_or reach.is_far_segment (slice_get from.now.segments (number - 1)) false }
+{
+    let index = number.saturating_sub(1);
+    if index < from.segment_count() {
+        from.segment(index).class == b"FAR_BSS".as_slice()
+    } else {
+        false
+    }
+}
+
+/// Whether a public stands in a segment of far variables, and in no group.
+fn is_far_base<A: Allocator + Copy>(from: &Module<A>, base: PublicBase) -> bool
+    ensures { result ≡ reach.is_far_base from.now base }
+{
+    match base {
+        PublicBase::InSegment { group, segment } => {
+            group == 0 && is_far_segment(from, usize::from(segment))
+        }
+        PublicBase::AtFrame { .. } => false,
+    }
+}
+
+/// Whether a public is a far variable that is local to its module.
+fn is_far_local<A: Allocator + Copy>(from: &Module<A>, symbol: PublicSymbol<'_>) -> bool
+    ensures { result ≡ reach.is_far_local from.now (public_seen symbol.entry) }
+{
+    symbol.local && is_far_base(from, symbol.base)
+}
+
+/// The names of the far variables that are local to a module.
+fn local_far_names<'m, A: Allocator + Copy>(
+    alloc: A,
+    from: &'m Module<A>,
+) -> Result<Vec<&'m [u8], A>, AllocError>
+    ensures { IfOk result (λ v. bytes_of v.items ≡ reach.local_far_names from.now) }
+{
+    let mut names = Vec::new(alloc);
+    for index in 0..from.public_symbol_count() {
+        let symbol = from.public_symbol(index);
+        if is_far_local(from, symbol) {
+            names.push(symbol.name)?;
+        }
+    }
+    Ok(names)
+}
+
 /// The names of far variables, and those that the fix-ups of a module refer to.
 #[derive(Clone, Copy)]
 pub(crate) struct NameSets<'s, 'm, A: Allocator + Copy> {
     far: &'s NameSet<'m, A>,
+    local_far: &'s NameSet<'m, A>,
     by_offset: &'s NameSet<'m, A>,
     by_base: &'s NameSet<'m, A>,
+}
+
+/// Whether an external is a far variable, one that is local to its module where it is.
+fn is_far<'m, A: Allocator + Copy>(
+    sets: NameSets<'_, 'm, A>,
+    names: Names,
+    external: ExternalSymbol<'m>,
+) -> bool
+    ensures { result ≡ (if external.entry.local
+        then contains same_key sets.entry.local_far.now (key_of names external.entry.name)
+        else contains same_key sets.entry.far.now (key_of names external.entry.name)) }
+{
+    if external.local {
+        is_offered(sets.local_far, names, external.name)
+    } else {
+        is_offered(sets.far, names, external.name)
+    }
 }
 
 /// Whether an external is a far variable that its module reaches by the offset alone.
@@ -158,13 +226,13 @@ fn is_reached<'m, A: Allocator + Copy>(
     names: Names,
     external: ExternalSymbol<'m>,
 ) -> bool
-    ensures { result ≡ (not external.entry.local
-        && (contains same_key sets.entry.far.now (key_of names external.entry.name)
+    ensures { result ≡ ((if external.entry.local
+        then contains same_key sets.entry.local_far.now (key_of names external.entry.name)
+        else contains same_key sets.entry.far.now (key_of names external.entry.name))
         && (contains same_key sets.entry.by_offset.now (key_of names external.entry.name)
-        && not (contains same_key sets.entry.by_base.now (key_of names external.entry.name))))) }
+        && not (contains same_key sets.entry.by_base.now (key_of names external.entry.name)))) }
 {
-    !external.local
-        && is_offered(sets.far, names, external.name)
+    is_far(sets, names, external)
         && is_offered(sets.by_offset, names, external.name)
         && !is_offered(sets.by_base, names, external.name)
 }
@@ -185,8 +253,11 @@ fn reached_in<'m, A: Allocator + Copy>(
     let bases = names_at(alloc, from, Sought::Base)?;
     let by_offset = name_set(alloc, names, &offsets)?;
     let by_base = name_set(alloc, names, &bases)?;
+    let locals = local_far_names(alloc, from)?;
+    let local_far = name_set(alloc, names, &locals)?;
     let sets = NameSets {
         far,
+        local_far: &local_far,
         by_offset: &by_offset,
         by_base: &by_base,
     };
@@ -198,6 +269,42 @@ fn reached_in<'m, A: Allocator + Copy>(
         }
     }
     Ok(reached)
+}
+
+/// Appends a name, unless one that agrees with it was met before.
+fn push_first<'m, A: Allocator + Copy>(
+    met: &mut NameSet<'m, A>,
+    firsts: &mut Vec<&'m [u8], A>,
+    names: Names,
+    name: &'m [u8],
+) -> Result<(), AllocError>
+    ensures met { OnOk result ((q : Bor (List ℕ)) → contains same_key met.new (key_of names q)
+        ≡ cond (same_key (key_of names name.entry) (key_of names q)) true
+        (contains same_key met.old (key_of names q))) }
+    ensures firsts { OnOk result (firsts.new.items ≡ cond (contains same_key met.old (key_of names name.entry))
+        firsts.old.items (firsts.old.items ++ name.entry ∷ [])) }
+{
+    if !met.insert(Key::new(names, name))? {
+        return Ok(());
+    }
+    firsts.push(name)?;
+    Ok(())
+}
+
+/// The first of those of some names that agree.
+fn firsts<'m, A: Allocator + Copy>(
+    alloc: A,
+    names: Names,
+    list: &[&'m [u8]],
+) -> Result<Vec<&'m [u8], A>, AllocError>
+    ensures { IfOk result (λ v. bytes_of v.items ≡ reach.firsts names (bytes_of list.now)) }
+{
+    let mut met = IndexSet::new(alloc);
+    let mut firsts = Vec::new(alloc);
+    for name in list {
+        push_first(&mut met, &mut firsts, names, name)?;
+    }
+    Ok(firsts)
 }
 
 /// Appends such names of the module with this index.
@@ -215,8 +322,9 @@ fn push_reached<'m, A: Allocator + Copy>(
     Ok(())
 }
 
-/// The far ones of a program's variables that its modules reach by their offsets alone, in order of modules and of
-/// their external names. Such a module has a fix-up at an offset of the name, and none at a base or a pointer.
+/// The far ones of a program's variables, and those that are local to a module, that its modules reach by their offsets
+/// alone, each once, in order of modules and of their external names. Such a module has a fix-up at an offset of the
+/// name, and none at a base or a pointer.
 pub fn far_by_offset<'m, A: Allocator + Copy>(
     alloc: A,
     names: Names,
@@ -231,7 +339,8 @@ pub fn far_by_offset<'m, A: Allocator + Copy>(
     let mut all = Vec::new(alloc);
     for (index, from) in modules.iter().enumerate() {
         let reached = reached_in(alloc, names, from, &far)?;
-        push_reached(&mut all, index, &reached)?;
+        let once = firsts(alloc, names, &reached)?;
+        push_reached(&mut all, index, &once)?;
     }
     Ok(all)
 }

@@ -317,6 +317,11 @@ doslink --stack 64 STARTED.OBJ|0||
 doslink --stack 64 A.OBJ F.OBJ|0||doslink: warning: no module has a start~
 wlink @CUT32|0||doslink: warning: the stack is cut to 32 bytes~
 wlink @UNCUT|0||
+doslink ALFAR.OBJ STARTED.OBJ|0||doslink: warning: \"far\" of ALFAR.OBJ is far and reached by its offset alone: declare it near (NASM: common NAME:near SIZE)~
+doslink OWNFAR.OBJ STARTED.OBJ|0||doslink: warning: \"far\" of OWNFAR.OBJ is far and reached by its offset alone: declare it near (NASM: common NAME:near SIZE)~
+doslink LFAR.OBJ STARTED.OBJ|0||
+doslink LOCAL.OBJ STARTED.OBJ|0||
+doslink WEAKFAR.OBJ STARTED.OBJ|0||doslink: warning: \"far\" of WEAKFAR.OBJ is far and reached by its offset alone: declare it near (NASM: common NAME:near SIZE)~
 doslink SPACE.OBJ|0||\
 doslink: warning: no module has a start~doslink: warning: no module has a stack~doslink: warning: no module has a byte of code~
 ";

@@ -145,7 +145,7 @@ pub(crate) const ARCHIVES: [(&str, &[u8]); 7] = [
 ];
 
 /// Further ones.
-pub(crate) const FURTHER_MODULES: [(&str, &[u8]); 56] = [
+pub(crate) const FURTHER_MODULES: [(&str, &[u8]); 59] = [
     ("PATCHED2.OBJ", &PATCHED_BY_NAME),
     ("LINSYM.OBJ", &LINSYM),
     ("B9.OBJ", &BESIDE_LCOMDEF),
@@ -202,4 +202,7 @@ pub(crate) const FURTHER_MODULES: [(&str, &[u8]); 56] = [
     ("OVER1000000.OBJ", &OVER_1000000),
     ("OVER1000000000.OBJ", &OVER_1000000000),
     ("HUGE.OBJ", &HUGE),
+    ("ALFAR.OBJ", &super::declaring::FAR_BY_ALIAS),
+    ("WEAKFAR.OBJ", &super::declaring::FAR_BY_WEAK),
+    ("OWNFAR.OBJ", &super::declaring::LOCAL_FAR_OFFSET),
 ];

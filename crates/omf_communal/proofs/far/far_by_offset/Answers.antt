@@ -1,6 +1,6 @@
 use Rattle.std.proofs.Common.{◌≡◌, ◌∙◌, ◌++◌, ap, map}
 use Rattle.omf_communal.specs.Deciding.{variable_said}
-use Rattle.omf_communal.specs.Far.{far_names, reached_at, reached_in, reached_names, reached_said}
+use Rattle.omf_communal.specs.Far.{far_names, firsts, reached_at, reached_in, reached_names, reached_said}
 use Rattle.omf_communal.specs.Modules.{bytes_of}
 use Rattle.omf_communal.proofs.Reaching.{reach-turn}
 use Rattle.omf_communal.proofs.far.far_by_offset.Goals as goal
@@ -17,5 +17,7 @@ loop-index-preserved g c =
     c.index-modules-index.is c.loop-index.invariant
     (c.in_ok-push_reached.ensures
     ∙ ap (λ ns. old ++ map (reached_at i) ns)
+    (ap bytes_of c.deref-in-loop-index-2.ensures.value ∙ c.in_ok-once.ensures
+    ∙ ap (firsts c.args.names)
     (ap bytes_of c.deref-in-loop-index.ensures.value ∙ c.in_ok-reached.ensures list c.in_ok-far-2.ensures
-    ∙ ap (λ l. reached_names c.args.names l m) is))
+    ∙ ap (λ l. reached_names c.args.names l m) is)))
