@@ -1,7 +1,7 @@
 //! Libraries that are looked up in folders.
 ghost use Rattle.std.specs.Prelude.{◌≡◌, ℕ, List, [], ◌∷◌, IfOk, OnOk, map, string_bytes};
 ghost use Rattle.std.specs.List.{Contains};
-ghost use Rattle.doslink_files.specs.Files.{IsFound, IsFoundNew};
+ghost use Rattle.doslink_files.specs.Files.{IsFound, IsFoundNew, IsRegularNew};
 ghost use Rattle.doslink_files.specs.inside.Looking.{ArePathsOf, IsReadNew};
 ghost use Rattle.doslink_files.specs.Paths as spec;
 
@@ -92,7 +92,8 @@ fn read_regular<W: World, A: Allocator + Copy>(
     path: &str,
     known: &BTreeSet<FileId, A>,
 ) -> Result<Found<A>, ReadFault>
-    ensures { IfOk result (IsReadNew (W.bytes world.now) path.now) }
+    ensures read { IfOk result (IsReadNew (W.bytes world.now) path.now) }
+    ensures regular { IfOk result (IsRegularNew (W.looks world.now)) }
 {
     let looked = match world.look(path) {
         Ok(looked) => looked,
@@ -118,7 +119,8 @@ pub fn find_default<W: World, A: Allocator + Copy>(
     name: &str,
     known: &BTreeSet<FileId, A>,
 ) -> Result<Found<A>, ReadFault>
-    ensures { IfOk result (IsFoundNew (W.bytes world.now) (map (λ f. f.now) folders.now) name.now) }
+    ensures found { IfOk result (IsFoundNew (W.bytes world.now) (map (λ f. f.now) folders.now) name.now) }
+    ensures regular { IfOk result (IsRegularNew (W.looks world.now)) }
 {
     let mut why = ReadFault::Absent;
     let paths = library_paths(alloc, folders, name)?;

@@ -7,4 +7,4 @@ pub returns-in-Ok : goal.returns-in-Ok
 returns-in-Ok g c =
     let told = g.W.World.bytes c.args.world.now in
     let same : c.in-Ok.name.now ≡ c.args.library.now.name.now = search rules in
-    subst (λ n. IfOk c.find_default.result (IsFoundNew told (texts c.args.folders.now) n)) same c.find_default.ensures
+    subst (λ n. IfOk c.find_default.result (IsFoundNew told (texts c.args.folders.now) n)) same c.find_default.ensures.found
