@@ -357,6 +357,10 @@ DIRECTIVES = [
         ("line 2", "no file of symbols is written"), ("line 3", "the map is not sorted"),
         ("line 4", "no message is left out")]}),
     ("folders", "libpath my/lib,other", {"folders": ["my/lib", "other"]}),
+    ("folders of modules", "path my/obj;other\np 'a b;c' file d",
+     {"object_folders": ["my/obj", "other", "a b", "c"], "inputs": given(["d"])}),
+    ("one that is none", "path ;a;", {"object_folders": ["", "a", ""]}),
+    ("a list of them", "path a,b", "line 1: wrong operands: path a,b"),
     ("line ends of DOS", "file a.o\r\nfile b.o\r\n", {"inputs": given(["a.o", "b.o"])}),
     ("white space", " \tfile\ta.o ", {"inputs": given(["a.o"])}),
     ("a quote that isn't closed", 'file "a.o', "line 1: a quote isn't closed: file \"a.o"),
@@ -426,7 +430,7 @@ DIRECTIVES = [
     ("where a directive begins", "option quiet,\n map\n, symfile sort",
      {"is_quiet": True, "maps_to_out": True, "warnings": [
          ("line 1", "no file of symbols is written"), ("line 3", "the map is not sorted")]}),
-    ("one that isn't taken", "name x path here", "line 1: unknown directive: path here"),
+    ("one that isn't taken", "name x libfile here", "line 1: unknown directive: libfile here"),
     ("a quote in a later line", "foo\n'a", "line 2: a quote isn't closed: 'a"),
     ("a system behind a system", "system dos com", "line 1: no other program is written than one for DOS: system dos com"),
     ("no file", "file", "line 1: wrong operands: file"),
@@ -498,6 +502,8 @@ LINES = [
         "inputs": given(["a"]), "has_default_libraries": False, "left_out": ["x"]}),
     ("folders", "tlink", ["/x", "/Lc;d", "a/n"], {
         "inputs": given(["a"]), "folders": ["c", "d"], "has_default_libraries": False}),
+    ("folders of objects", "tlink", ["/x", "/jc;d", "a/n"], {
+        "inputs": given(["a"]), "object_folders": ["c", "d"], "has_default_libraries": False}),
     ("an option without effect", "link", ["a", "/CO;"], {
         "inputs": given(["a"]), "warnings": [("line 1, column 3", "no data for debuggers is written")]}),
     ("no line numbers", "tlink", ["/l", "a"], {
@@ -706,6 +712,14 @@ LINKS = [
      PROGRAM, 'm.obj\nf/L(X) for "x"\n'),
     ("an ending", {"inputs": given(["m.obj"], ["L"]), "folders": ["g/"]}, [], PROGRAM,
      'm.obj\ng/L.LIB(X) for "x"\n'),
+    ("a module in a folder", {"inputs": given(["m.obj", "Y"]), "object_folders": ["g", "f"]}, [], PROGRAM,
+     "m.obj\nf/Y\n"),
+    ("a library among the files in a folder", {"inputs": given(["m.obj", "L.LIB"]), "object_folders": ["g", "f"]}, [],
+     PROGRAM, 'm.obj\ng/L.LIB(X) for "x"\n'),
+    ("libraries aren't looked for there", {"inputs": given(["m.obj"], ["L"]), "object_folders": ["g", "f"]}, [],
+     "doslink: L: 1 Device at record 0: no such file\n", ""),
+    ("nor modules where libraries are", {"inputs": given(["m.obj", "Y"]), "folders": ["f"]}, [],
+     "doslink: Y: 1 Device at record 0: no such file\n", ""),
     ("LIB is for default libraries", {"inputs": given(["m.obj"], ["L"])}, ["g"],
      "doslink: L: 1 Device at record 0: no such file\n", ""),
     ("a default library of this folder", {"inputs": given(["t.obj"])}, ["f"],

@@ -28,6 +28,7 @@ from model.records import Location
 
 OUT, MAP, RESPONSE, NO_FOLDER = "out.exe", "out.map", "response", "missing/"
 FOLDER, OTHER_FOLDER, LAST_FOLDER = "parts", "more/", "last"
+OBJECT_FOLDER, OLD_FOLDER = "objs", "old/"
 MOST_PARTS, MANY_EVERY = 16_383, 500
 # alignments, lengths, combinations and names of far data, which fits in a frame or not, and whether it
 # is in a group; an absolute one has no alignment
@@ -166,7 +167,8 @@ WRONG_LINES = [
     "order clname CODE clname", "order clname CODE name A", "sort 'a", "option quiet,", '"a" b',
     ", file a", "file a b", "libpath", "option map=,quiet", 'option "map"', "name",
     "option stack", "option stack=0", "option stack=65537", "option stack=65k", "option stack=x",
-    "option stack=-1", "path a", "libfile a", "alias a", "alias a=b=c", "alias {a=b}", "alias a=b c=d", "alias a=",
+    "option stack=-1", "path", "path a,b", "libfile a",
+    "alias a", "alias a=b=c", "alias {a=b}", "alias a=b c=d", "alias a=",
     "option start", "option sta=x", "reference", "reference a=b", "reference {a", "re a", "al",
     "option start=" + 256 * "n", "alias n=" + 256 * "n", "reference n," + 256 * "n", "file {a", "file {a}, b",
     "name x a",
@@ -174,7 +176,8 @@ WRONG_LINES = [
 # the shortest words of directives
 SHORTEST = {
     "file": "f", "library": "l", "libpath": "libp", "name": "n", "format": "form", "system": "sys", "output": "out",
-    "option": "op", "order": "ord", "debug": "d", "sort": "sor", "disable": "disa", "reference": "ref", "alias": "a"}
+    "option": "op", "order": "ord", "debug": "d", "sort": "sor", "disable": "disa", "reference": "ref", "alias": "a",
+    "path": "p"}
 
 
 @dataclass
@@ -908,6 +911,8 @@ class JobMaker:
         kind = "exe" if job.form is None else job.form.kind
         if self.happens(0.15):
             self.move_inputs()
+        if language == TLINK and self.happens(0.2):
+            self.move_to_folders()
         if self.happens(0.3):
             self.put_other_cases()
         job.form, job.keeps_debug, job.is_verbose = Form(kinds.get(kind, kind)), False, self.happens(0.5)
@@ -934,6 +939,20 @@ class JobMaker:
                 self.files.update({front + path: self.files.pop(path) for path in paths})
                 for each in self.job.inputs:
                     each.name = front + name if each.name == name else each.name
+
+    def move_to_folders(self):
+        """Some of what is linked stands in folders of modules, or has another file there."""
+        job = self.job
+        job.object_folders = self.random.choice([
+            [OBJECT_FOLDER], [OBJECT_FOLDER, OLD_FOLDER], [OLD_FOLDER, OBJECT_FOLDER], ["", OBJECT_FOLDER], [FOLDER]])
+        for name in dict.fromkeys(each.name for each in job.inputs if not each.is_library or self.happens(0.05)):
+            paths = [path for path in (name + ending for ending in ENDINGS) if path in self.files]
+            for path in paths if self.happens(0.6) else []:
+                places = [each.rstrip("/") + "/" + path for each in (OBJECT_FOLDER, OLD_FOLDER)]
+                self.random.shuffle(places)
+                self.files[places[0]] = self.files[path] if self.happens(0.2) else self.files.pop(path)
+                if self.happens(0.2):
+                    self.files[places[1]] = module_of_publics([b"twin"])
 
     def put_other_cases(self):
         """Files, and folders of LIB, are called otherwise by case; some are there twice, and so is what is written."""
@@ -1132,6 +1151,8 @@ class JobMaker:
             job.stack.cuts = True
         if self.happens(0.02):
             job.inputs = [each for each in job.inputs if each.is_library]
+        if self.happens(0.2):
+            self.move_to_folders()
         lines = self.joined(list(map(self.in_any_case, self.lines())))
         if self.happens(0.8):
             self.files[RESPONSE] = self.text_of_lines(lines)
@@ -1191,6 +1212,7 @@ class JobMaker:
         lines = self.merged(lines, self.lists("reference", job.references))
         lines = self.merged(lines, self.alias_lines())
         lines = self.merged(lines, self.lists("libpath", job.folders))
+        lines = self.merged(lines, self.path_lines())
         return self.merged(lines, self.given_lines())
 
     def naming_lines(self):
@@ -1207,6 +1229,13 @@ class JobMaker:
         if aliases and self.happens(0.5):
             return [f"alias {self.random.choice([',', ' , ']).join(aliases)}"]
         return [f"alias {each}" for each in aliases]
+
+    def path_lines(self):
+        """A line of each folder of modules, or one of all."""
+        folders = self.job.object_folders
+        if folders and self.happens(0.5):
+            folders = [";".join(folders)]
+        return [f"path {self.quoted(each)}" for each in folders if each]
 
     def given_lines(self):
         """The lines of what is linked, in its order."""

@@ -235,6 +235,7 @@ class LineSpeller:
         options += [self.random.choice(["t", "Tdc"])] if job.form.kind == "com" else []
         options += ["x"] if job.map is None and self.happens(0.7) else []
         options += ["L" + ";".join(self.folders)] if self.folders else []
+        options += ["j" + ";".join(map(self.spelling, job.object_folders))] if job.object_folders else []
         return [self.option(each, len(each)) for each in options]
 
     def number(self, value):

@@ -65,6 +65,8 @@ class Job:
     out: Optional[str] = None
     map: Optional[str] = None
     folders: list = field(default_factory=list)
+    # the folders of modules
+    object_folders: list = field(default_factory=list)
     ignores_case: bool = False
     order: object = None
     has_default_libraries: bool = True
@@ -254,6 +256,11 @@ def read_folders(job, tokens, line):
     job.folders += names(tokens)
 
 
+def read_object_folders(job, tokens, line):
+    """Folders of modules, with semicolons between them."""
+    job.object_folders += name(tokens).split(";")
+
+
 def read_name(job, tokens, line):
     job.out = name(tokens)
 
@@ -388,12 +395,13 @@ READERS = {
     "file": read_files, "library": read_libraries, "libpath": read_folders, "name": read_name,
     "format": read_format, "system": read_system, "output": read_output, "option": read_options,
     "order": read_order, "debug": leave_out, "sort": leave_out, "disable": leave_out,
-    "reference": read_references, "alias": read_aliases,
+    "reference": read_references, "alias": read_aliases, "path": read_object_folders,
 }
 # the directives, and how many letters of each there are at least
 DIRECTIVES = {
     "file": 1, "library": 1, "libpath": 4, "name": 1, "format": 4, "system": 3, "output": 3,
     "option": 2, "order": 3, "debug": 1, "sort": 3, "disable": 4, "reference": 3, "alias": 1,
+    "path": 1,
 }
 # those whose operands are a list, and those with none but words of their own
 LISTS = ("file", "library", "libpath", "reference")

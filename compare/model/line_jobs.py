@@ -27,7 +27,6 @@ KINDS = {
 IDLE = {
     line_options.DEBUG: "no data for debuggers is written",
     line_options.PACKING: "the program isn't packed: it runs the same",
-    line_options.OBJECT_FOLDERS: "objects are looked for where their names say",
     line_options.NOTHING: "the option has no effect",
 }
 ALL_BYTES = "/i isn't followed: segments without data take no bytes of the file"
@@ -150,7 +149,7 @@ def job_of(language, text, front=""):
         inputs=[Input(name, is_library) for name, is_library in said.inputs],
         out=said.out, map=map_name or None, maps_to_out=map_name == "", map_form=language,
         map_lacks=[what for is_asked, what in lacks if is_asked and map_name is not None],
-        folders=said.folders, ignores_case=not said.case_counts,
+        folders=said.folders, object_folders=said.object_folders, ignores_case=not said.case_counts,
         order=ordering.DOSSEG if said.order else None,
         has_default_libraries=said.has_default_libraries, left_out=said.left_out,
         has_null_bytes=language == lines.LINK and said.order != "dosseg-nonulls",

@@ -10,7 +10,7 @@ import re
 UNKNOWN_OPTION, WRONG_VALUE, REFUSED = "UnknownOption", "WrongValue", "Refused"
 OVERLAYS, NOT_DOS = "Overlays", "NotDos"
 # what becomes of an option that is taken with a warning
-DEBUG, PACKING, OBJECT_FOLDERS, NOTHING = "Debug", "Packing", "ObjectFolders", "Nothing"
+DEBUG, PACKING, NOTHING = "Debug", "Packing", "Nothing"
 MOST_STACK, MOST_PARAGRAPHS = 65_536, 65_535
 
 
@@ -173,9 +173,13 @@ def add_folders(said, value, place):
     said.folders += value.split(";")
 
 
+def add_object_folders(said, value, place):
+    said.object_folders += value.split(";")
+
+
 # what goes by its beginning, in this order; the value is what the brackets have
 TLINK_BEGUN = [
-    ("L(.+)", add_folders), ("j(.+)", warns(OBJECT_FOLDERS)), ("[AP]=.*", nothing),
+    ("L(.+)", add_folders), ("j(.+)", add_object_folders), ("[AP]=.*", nothing),
     ("O.*", warns(PACKING)), ("y.*", warns(NOTHING)),
     ("T.*", refuses(NOT_DOS)), ("R.*", refuses(REFUSED)),
 ]

@@ -45,6 +45,7 @@ class Said:
     out: Optional[str] = None
     map: Optional[str] = None
     folders: list = field(default_factory=list)
+    object_folders: list = field(default_factory=list)
     # libraries that aren't searched where only modules name them
     left_out: list = field(default_factory=list)
     # pairs of a place and what has no effect there

@@ -117,16 +117,21 @@ def in_folder(folder, name):
     return folder + ("/" if folder and folder[-1] not in "/\\:" else "") + name
 
 
-def file_paths(name):
+def paths_of(name, endings, folders):
+    """Where a file may be: here, or in the first folder that has it, with one of some endings."""
+    return [in_folder(folder, name + ending) for folder in ["", *folders] for ending in endings]
+
+
+def file_paths(name, folders):
     """Where one of FILES may be: its path may have one of two endings that its name hasn't."""
     endings = ["", ".OBJ", ".obj"] if "." not in last_part(name) else [""]
-    return [name + ending for ending in endings]
+    return paths_of(name, endings, folders)
 
 
 def library_paths(name, folders):
-    """Where a library may be: here, or in the first folder that has it."""
+    """The same of a library."""
     endings = [""] if "." in last_part(name) else ENDINGS
-    return [in_folder(folder, name + ending) for folder in ["", *folders] for ending in endings]
+    return paths_of(name, endings, folders)
 
 
 def why_unread(paths, files):
@@ -195,11 +200,11 @@ class Linking:
     def read_given(self):
         """Files and libraries in the order in which they are named.
 
-        Each has to be there; a file may be there by another ending. All that aren't are told.
+        Each has to be there; a file may be there by another ending, and in a folder. All that aren't are told.
         """
         lines = []
         for each in self.job.inputs:
-            paths = library_paths(each.name, self.job.folders) if each.is_library else file_paths(each.name)
+            paths = self.paths_of_input(each)
             path = self.found(paths)
             if path is None:
                 lines.append(f"{each.name}: 1 Device at record 0: {why_unread(paths, self.files)}")
@@ -210,6 +215,12 @@ class Linking:
         if naming.says_names(self.job):
             self.says_names = len(self.inputs)
             self.inputs.append((naming.DIRECTIVES, naming.names_module(self.job)))
+
+    def paths_of_input(self, given):
+        """Where what is named may be: a library in folders of its own, and a file in those of objects."""
+        if given.is_library:
+            return library_paths(given.name, self.job.folders)
+        return file_paths(given.name, self.job.object_folders)
 
     def read_paths(self):
         """The paths of the files that are read."""

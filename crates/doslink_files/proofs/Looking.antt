@@ -1,89 +1,93 @@
 -- Paths that are looked up, and files that were read, one behind the other.
-use Rattle.std.proofs.Common.{All, ◌≡◌, ◌≢◌, ℕ, suc, ◌+◌, ◌<◌, List, String, [], ◌∷◌, ◌++◌, length, map, take, get_or}
-use Rattle.std.proofs.Common.{arith}
+use Rattle.std.proofs.Common.{◌≡◌, ◌≢◌, ℕ, ◌+◌, ◌<◌, List, String, [], ◌∷◌, ◌++◌, length, map, take, get_or}
+use Rattle.std.proofs.Common.{append_assoc, arith}
 use Rattle.std.proofs.Common.{Result, Ok, Err, Some, None, IfOk, IfSome, IsTrue, ap, sym, subst, ◌∙◌, string_bytes}
-use Rattle.std.proofs.lemmas.List.{get_or-map, length-map, map-append, take_more}
-use Rattle.std.proofs.lemmas.List.Elements.{All-contains, All-map}
+use Rattle.std.proofs.lemmas.List.{flat_map_more, get_or-map, length-map, map-append, map_more, take_more}
 use Rattle.std.proofs.Math.Seq.{take-append_seam}
 use Rattle.std.specs.declared.option.Option.{Option}
 use Rattle.std.specs.Borrow.{Bor}
 use Rattle.std.specs.Io.KnownBytes.{Consumes}
-use Rattle.std.specs.List.{Contains}
+use Rattle.std.specs.List.{Contains, flat_map}
 use Rattle.doslink_files.specs.declared.reading.Sought.{Sought}
 use Rattle.doslink_files.specs.declared.lookup.Found.{Found}
 use Rattle.doslink_files.specs.declared.lookup.Found.TheVariants.{New, Known}
 use Rattle.doslink_files.specs.declared.reading.InputFile.{InputFile}
-use Rattle.doslink_files.specs.Files.{AreSought, IsFileOf, IsFoundNew, IsObjectPath, IsPathIn, IsPathOf}
+use Rattle.doslink_files.specs.Files.{AreSought, IsFileOf, IsFoundNew, IsObjectPath, IsPathOf}
 use Rattle.doslink_files.specs.inside.Looking.{IsReadNew}
 use Rattle.doslink_files.specs.Files.{IsModulesPart, IsSought, contents, sought_name}
 use Rattle.doslink_files.specs.Paths as spec
 use Rattle.doslink_files.specs.Standing as spec-front
 use Rattle.doslink_files.specs.Standing.{BeginsAsInput}
 
--- one of some names
-pub named-at : (names : List (Bor (List ℕ))) (i : ℕ) (d : Bor (List ℕ)) → i < length names
-    → Contains (map (λ n. n.now) names) (get_or names i d).now
-named-at names i d h =
-    let there : i < length (map (λ (n : Bor (List ℕ)). n.now) names) = omega (arith, length-map names (λ n. n.now)) in
-    (i, there, get_or-map (λ n. n.now) names i d (get_or names i d).now h)
-
--- a folder is this one or one of the others
-pub folder-in : (folders : List (Bor (List ℕ))) (i : ℕ) (d : Bor (List ℕ)) → i < length folders
-    → Contains ([] ∷ map (λ f. f.now) folders) (get_or folders i d).now
-folder-in folders i d h =
-    let there : suc i < suc (length (map (λ (f : Bor (List ℕ)). f.now) folders)) =
-    omega (arith, length-map folders (λ f. f.now)) in
-    (suc i, there, get_or-map (λ n. n.now) folders i d (get_or folders i d).now h)
-
--- the path of the library with the next of the extensions
-pub path-with : (extensions : List (Bor (List ℕ))) (i : ℕ) (d : Bor (List ℕ)) (folder name path : List ℕ)
-    → i < length extensions → map (λ e. e.now) extensions ≡ spec.extensions name
-    → path ≡ spec.in_folder folder (name ++ (get_or extensions i d).now) → IsPathIn folder name path
-path-with extensions i d folder name path h all is =
+-- one more path of a folder, with the next of the extensions
+pub path-more : {A : Type 0} (before old new : List (String A)) (path : String A) (extensions : List (Bor (List ℕ)))
+    (i : ℕ) (d : Bor (List ℕ)) (name folder : List ℕ) → i < length extensions → new ≡ old ++ path ∷ []
+    → string_bytes path ≡ spec.in_folder folder (name ++ (get_or extensions i d).now)
+    → map string_bytes old
+    ≡ map string_bytes before ++ spec.paths_in (map (λ e. e.now) (take i extensions)) name folder
+    → map string_bytes new
+    ≡ map string_bytes before ++ spec.paths_in (map (λ e. e.now) (take (i + 1) extensions)) name folder
+path-more before old new path extensions i d name folder h pushed is so-far =
+    let made = λ (e : List ℕ). spec.in_folder folder (name ++ e) in
+    let front = map (λ (e : Bor (List ℕ)). e.now) (take i extensions) in
     let extension = (get_or extensions i d).now in
-    (extension, subst (λ (es : List (List ℕ)). Contains es extension) all (named-at extensions i d h), is)
+    let all : map made (map (λ (e : Bor (List ℕ)). e.now) (take (i + 1) extensions))
+    ≡ map made front ++ made extension ∷ [] =
+    ap (map made) (map_more (λ e. e.now) extensions i d h) ∙ map-append made front (extension ∷ []) in
+    ap (map string_bytes) pushed ∙ map-append string_bytes old (path ∷ [])
+    ∙ ap (λ p. map string_bytes old ++ p ∷ []) is ∙ ap (λ ps. ps ++ made extension ∷ []) so-far
+    ∙ append_assoc (map string_bytes before) (map made front) (made extension ∷ [])
+    ∙ ap (λ ps. map string_bytes before ++ ps) (sym all)
 
--- the path of the module with the next of the extensions
-pub object-with : (extensions : List (Bor (List ℕ))) (i : ℕ) (d : Bor (List ℕ)) (path found : List ℕ)
-    → i < length extensions → map (λ e. e.now) extensions ≡ spec.object_extensions path
-    → found ≡ path ++ (get_or extensions i d).now → IsObjectPath path found
-object-with extensions i d path found h all is =
-    let extension = (get_or extensions i d).now in
-    (extension, subst (λ (es : List (List ℕ)). Contains es extension) all (named-at extensions i d h), is)
+-- the paths of one more folder
+pub paths-more : (extensions : List (List ℕ)) (name : List ℕ) (folders : List (Bor (List ℕ))) (i : ℕ)
+    (d : Bor (List ℕ)) (old new : List (List ℕ)) → i < length folders
+    → old ≡ spec.paths_of extensions (map (λ f. f.now) (take i folders)) name
+    → new ≡ old ++ spec.paths_in extensions name (get_or folders i d).now
+    → new ≡ spec.paths_of extensions (map (λ f. f.now) (take (i + 1) folders)) name
+paths-more extensions name folders i d old new h so-far pushed =
+    let made = spec.paths_in extensions name in
+    let folder = (get_or folders i d).now in
+    pushed ∙ ap (λ ps. ps ++ made folder) so-far
+    ∙ flat_map_more made [] ([] ∷ map (λ (f : Bor (List ℕ)). f.now) (take i folders)) folder
+    ∙ ap (λ fs. flat_map made ([] ∷ fs)) (sym (map_more (λ f. f.now) folders i d h))
 
--- what holds of all paths holds of one of them
-pub one-of-paths : {A : Type 0} (holds : List ℕ → Type 0) (paths : List (String A)) (path : List ℕ)
-    → All (λ p. holds (string_bytes p)) paths → Contains (map string_bytes paths) path → holds path
-one-of-paths holds paths path all among =
-    All-contains holds (map string_bytes paths) path (All-map holds string_bytes paths all) among
+-- one of some paths
+pub path-at : {A : Type 0} (paths : List (String A)) (i : ℕ) (d : String A) (all : List (List ℕ)) → i < length paths
+    → map string_bytes paths ≡ all → Contains all (string_bytes (get_or paths i d))
+path-at paths i d all h are =
+    let there : i < length (map string_bytes paths) = omega (arith, h, length-map paths string_bytes) in
+    subst (λ ps. Contains ps (string_bytes (get_or paths i d))) are
+    (i, there, get_or-map string_bytes paths i d (string_bytes (get_or paths i d)) h)
 
 -- one more that was read
-pub AreSought-push : (told : List ℕ → Option (List ℕ)) (folders : List (List ℕ)) (sought : List Sought)
-    (files : List (List ℕ)) (one : Sought) (bytes : List ℕ) → AreSought told folders sought files
-    → IsSought told folders one bytes → AreSought told folders (sought ++ one ∷ []) (files ++ bytes ∷ [])
-AreSought-push told folders [] [] one bytes are is = (is, tt)
-AreSought-push told folders [] (x ∷ xs) one bytes are is = absurd are
-AreSought-push told folders (s ∷ ss) [] one bytes are is = absurd are
-AreSought-push told folders (s ∷ ss) (x ∷ xs) one bytes are is =
-    (are.0, AreSought-push told folders ss xs one bytes are.1 is)
+pub AreSought-push : (told : List ℕ → Option (List ℕ)) (objects libraries : List (List ℕ)) (sought : List Sought)
+    (files : List (List ℕ)) (one : Sought) (bytes : List ℕ) → AreSought told objects libraries sought files
+    → IsSought told objects libraries one bytes
+    → AreSought told objects libraries (sought ++ one ∷ []) (files ++ bytes ∷ [])
+AreSought-push told objects libraries [] [] one bytes are is = (is, tt)
+AreSought-push told objects libraries [] (x ∷ xs) one bytes are is = absurd are
+AreSought-push told objects libraries (s ∷ ss) [] one bytes are is = absurd are
+AreSought-push told objects libraries (s ∷ ss) (x ∷ xs) one bytes are is =
+    (are.0, AreSought-push told objects libraries ss xs one bytes are.1 is)
 
--- what a look-up found among some paths stands at one of which this holds
-pub first-of : {A E : Type 0} (told : List ℕ → Option (List ℕ)) (holds : List ℕ → Type 0) (paths : List (String A))
-    (found : Result (InputFile A) E) → All (λ p. holds (string_bytes p)) paths
-    → IfOk found (λ file. Contains (map string_bytes paths) (string_bytes file.path))
+-- what a look-up found among some paths stands at one of them
+pub first-of : {A E : Type 0} (told : List ℕ → Option (List ℕ)) (paths all : List (List ℕ))
+    (found : Result (InputFile A) E) → paths ≡ all → IfOk found (λ file. Contains paths (string_bytes file.path))
     → IfOk found (λ file. IsModulesPart (told (string_bytes file.path)) file.bytes.items)
-    → IfOk found (λ file. holds (string_bytes file.path)
+    → IfOk found (λ file. Contains all (string_bytes file.path)
     × IsModulesPart (told (string_bytes file.path)) file.bytes.items)
-first-of told holds paths (Ok file) all among is = (one-of-paths holds paths (string_bytes file.path) all among, is)
-first-of told holds paths (Err fault) all among is = tt
+first-of told paths all (Ok file) are among is = (subst (λ ps. Contains ps (string_bytes file.path)) are among, is)
+first-of told paths all (Err fault) are among is = tt
 
 -- and a module that is named by a path
-pub named-of : {A E : Type 0} (told : List ℕ → Option (List ℕ)) (path : List ℕ) (found : Result (InputFile A) E)
-    → IfOk found (λ file. IsObjectPath path (string_bytes file.path)
+pub named-of : {A E : Type 0} (told : List ℕ → Option (List ℕ)) (folders : List (List ℕ)) (path : List ℕ)
+    (found : Result (InputFile A) E)
+    → IfOk found (λ file. IsObjectPath folders path (string_bytes file.path)
     × IsModulesPart (told (string_bytes file.path)) file.bytes.items)
-    → IfOk found (λ file. IsFileOf told path file.bytes.items)
-named-of told path (Ok file) is = (string_bytes file.path, is.0, is.1)
-named-of told path (Err fault) is = tt
+    → IfOk found (λ file. IsFileOf told folders path file.bytes.items)
+named-of told folders path (Ok file) is = (string_bytes file.path, is.0, is.1)
+named-of told folders path (Err fault) is = tt
 
 -- a file at one of the paths of a library is that library
 pub found-new : {A : Type 0} (told : List ℕ → Option (List ℕ)) (folders : List (List ℕ)) (name path : List ℕ)
@@ -93,17 +97,17 @@ found-new told folders name path (New file) stands is =
 found-new told folders name path Known stands is = tt
 
 -- one more file, where none is unread
-pub sought-next : {A : Type 0} (told : List ℕ → Option (List ℕ)) (folders : List (List ℕ)) (sought : List Sought)
-    (i : ℕ)
-    (d : Sought) (old new : List (InputFile A)) (file : InputFile A) → i < length sought → new ≡ old ++ file ∷ []
-    → AreSought told folders (take i sought) (contents old)
-    → IsSought told folders (get_or sought i d) file.bytes.items
-    → AreSought told folders (take (i + 1) sought) (contents new)
-sought-next told folders sought i d old new file h pushed are is =
-    subst (λ (ss : List Sought). AreSought told folders ss (contents new)) (sym (take_more sought i d h))
-    (subst (AreSought told folders (take i sought ++ get_or sought i d ∷ []))
+pub sought-next : {A : Type 0} (told : List ℕ → Option (List ℕ)) (objects libraries : List (List ℕ))
+    (sought : List Sought) (i : ℕ) (d : Sought) (old new : List (InputFile A)) (file : InputFile A)
+    → i < length sought → new ≡ old ++ file ∷ [] → AreSought told objects libraries (take i sought) (contents old)
+    → IsSought told objects libraries (get_or sought i d) file.bytes.items
+    → AreSought told objects libraries (take (i + 1) sought) (contents new)
+sought-next told objects libraries sought i d old new file h pushed are is =
+    subst (λ (ss : List Sought). AreSought told objects libraries ss (contents new)) (sym (take_more sought i d h))
+    (subst (AreSought told objects libraries (take i sought ++ get_or sought i d ∷ []))
     (sym (ap contents pushed ∙ map-append (λ f. f.bytes.items) old (file ∷ [])))
-    (AreSought-push told folders (take i sought) (contents old) (get_or sought i d) file.bytes.items are is))
+    (AreSought-push told objects libraries (take i sought) (contents old) (get_or sought i d) file.bytes.items are
+    is))
 
 -- the name of one that is sought
 pub sought-at : (sought : List Sought) (i : ℕ) (d : Sought) → i < length sought

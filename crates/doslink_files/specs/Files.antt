@@ -1,6 +1,6 @@
 -- The files of a link, which are read, and libraries, which are looked up. `told` are the bytes of files by their paths,
 -- where the world tells them.
-use Rattle.std.specs.Prelude.{All, ◌≡◌, ◌≢◌, ℕ, List, [], ◌∷◌, ◌++◌, map, string_bytes, Some, None, IfSome, true}
+use Rattle.std.specs.Prelude.{All, ◌≡◌, ◌≢◌, ℕ, List, [], ◌∷◌, map, string_bytes, Some, None}
 use Rattle.std.specs.declared.option.Option.{Option}
 use Rattle.std.specs.List.{Contains}
 use Rattle.omf_files.specs.declared.world.Looked.{Looked}
@@ -12,8 +12,7 @@ use Rattle.doslink_files.specs.declared.lookup.Found.TheVariants.{New, Known}
 use Rattle.doslink_files.specs.declared.reading.InputFile.{InputFile}
 use Rattle.doslink_files.specs.declared.reading.Sought.{Sought}
 use Rattle.doslink_files.specs.declared.reading.Sought.TheVariants.{File, Library}
-use Rattle.doslink_files.specs.Paths.{extensions, in_folder, object_extensions}
-use Rattle.doslink_files.specs.Standing.{stands_regular}
+use Rattle.doslink_files.specs.Paths.{extensions, object_extensions, paths_of}
 
 -- the bytes of files
 abbrev pub contents : {A : Type 0} → List (InputFile A) → List (List ℕ)
@@ -35,14 +34,9 @@ Each holds [] [] = Unit {0}
 Each holds (name ∷ names) (bytes ∷ files) = holds name bytes × Each holds names files
 Each holds _ _ = ⊥
 
--- a library of this name is looked up in a folder at this path: that of a file there of this name, or with an extension
-abbrev pub IsPathIn : (folder name path : List ℕ) → Type 0
-IsPathIn folder name path =
-    (extension : List ℕ) × Contains (extensions name) extension × (path ≡ in_folder folder (name ++ extension))
-
--- the same in this folder and in the others
+-- a library of this name is looked up at this path, in this folder and in the others
 abbrev pub IsPathOf : (folders : List (List ℕ)) → (name path : List ℕ) → Type 0
-IsPathOf folders name path = (folder : List ℕ) × Contains ([] ∷ folders) folder × IsPathIn folder name path
+IsPathOf folders name path = Contains (paths_of (extensions name) folders name) path
 
 -- this is the path of the library of this name, looked up in this folder and in the others, and these are its bytes, up
 -- to the end of its modules
@@ -55,31 +49,28 @@ abbrev pub IsFoundNew : {A : Type 0} → (told : List ℕ → Option (List ℕ))
 IsFoundNew told folders name (New file) = IsFound told folders name (string_bytes file.path) file.bytes.items
 IsFoundNew told folders name Known = Unit {0}
 
--- what is found that is new is a regular file, where it is told what stands at its path
-abbrev pub IsRegularNew : {A : Type 0} → (looks : Option (List ℕ → Option Looked)) → Found A → Type 0
-IsRegularNew looks (New file) = IfSome looks (λ look. stands_regular look (string_bytes file.path) ≡ true)
-IsRegularNew looks Known = Unit {0}
-
--- a module that is named by a path is looked up at this one: that one, or with an extension
-abbrev pub IsObjectPath : (path found : List ℕ) → Type 0
-IsObjectPath path found = (extension : List ℕ) × Contains (object_extensions path) extension × (found ≡ path ++ extension)
+-- a module that is named by a path is looked up at this one, in this folder and in the others
+abbrev pub IsObjectPath : (folders : List (List ℕ)) → (path found : List ℕ) → Type 0
+IsObjectPath folders path found = Contains (paths_of (object_extensions path) folders path) found
 
 -- these are the bytes of the module that is named by a path, up to its end
-abbrev pub IsFileOf : (told : List ℕ → Option (List ℕ)) → (path bytes : List ℕ) → Type 0
-IsFileOf told path bytes = (found : List ℕ) × IsObjectPath path found × IsModulesPart (told found) bytes
+abbrev pub IsFileOf : (told : List ℕ → Option (List ℕ)) → (folders : List (List ℕ)) → (path bytes : List ℕ) → Type 0
+IsFileOf told folders path bytes = (found : List ℕ) × IsObjectPath folders path found × IsModulesPart (told found) bytes
 
--- these are the bytes of what is wanted: of the module at a path, or of the library of a name
-abbrev pub IsSought : (told : List ℕ → Option (List ℕ)) → (folders : List (List ℕ)) → Sought → (bytes : List ℕ) → Type 0
-IsSought told folders (File path) bytes = IsFileOf told path.now bytes
-IsSought told folders (Library name) bytes = (path : List ℕ) × IsFound told folders name.now path bytes
+-- these are the bytes of what is wanted: of the module at a path, looked up in the folders of objects, or of the
+-- library of a name, looked up in those of libraries
+abbrev pub IsSought : (told : List ℕ → Option (List ℕ)) → (objects libraries : List (List ℕ)) → Sought
+    → (bytes : List ℕ) → Type 0
+IsSought told objects libraries (File path) bytes = IsFileOf told objects path.now bytes
+IsSought told objects libraries (Library name) bytes = (path : List ℕ) × IsFound told libraries name.now path bytes
 
 -- the same of all that is wanted, in its order
-abbrev pub AreSought : (told : List ℕ → Option (List ℕ)) → (folders : List (List ℕ)) → List Sought
+abbrev pub AreSought : (told : List ℕ → Option (List ℕ)) → (objects libraries : List (List ℕ)) → List Sought
     → (files : List (List ℕ)) → Type 0
-AreSought told folders [] [] = Unit {0}
-AreSought told folders (one ∷ sought) (bytes ∷ files) =
-    IsSought told folders one bytes × AreSought told folders sought files
-AreSought told folders _ _ = ⊥
+AreSought told objects libraries [] [] = Unit {0}
+AreSought told objects libraries (one ∷ sought) (bytes ∷ files) =
+    IsSought told objects libraries one bytes × AreSought told objects libraries sought files
+AreSought told objects libraries _ _ = ⊥
 
 -- the path or the name of what is wanted
 abbrev pub sought_name : Sought → List ℕ

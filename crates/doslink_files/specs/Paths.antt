@@ -1,7 +1,7 @@
 -- Paths of files, made of others.
-use Rattle.std.specs.Prelude.{ℕ, ◌==◌, ◌||◌, ◌-◌, Bool, not, List, [], ◌∷◌, ◌++◌, codes, length, slice_index}
+use Rattle.std.specs.Prelude.{ℕ, ◌==◌, ◌||◌, ◌-◌, Bool, not, List, [], ◌∷◌, ◌++◌, codes, length, map, slice_index}
 use Rattle.std.specs.Prelude.{if◌then◌else◌}
-use Rattle.std.specs.List.{list_any}
+use Rattle.std.specs.List.{flat_map, list_any}
 
 -- a byte stands between the parts of a path: `/`, `\` or `:`
 abbrev pub is_separator : ℕ → Bool
@@ -37,3 +37,11 @@ extensions name = if has_extension name then [] ∷ [] else [] ∷ codes ".LIB" 
 -- what is put behind the path of a module
 abbrev pub object_extensions : (path : List ℕ) → List (List ℕ)
 object_extensions path = if has_extension path then [] ∷ [] else [] ∷ codes ".OBJ" ∷ codes ".obj" ∷ []
+
+-- the paths at which a file of this name is looked up in a folder: with each of some extensions behind it
+abbrev pub paths_in : (extensions : List (List ℕ)) → (name folder : List ℕ) → List (List ℕ)
+paths_in extensions name folder = map (λ extension. in_folder folder (name ++ extension)) extensions
+
+-- the same in this folder, and then in each of the others, in their order
+abbrev pub paths_of : (extensions folders : List (List ℕ)) → (name : List ℕ) → List (List ℕ)
+paths_of extensions folders name = flat_map (paths_in extensions name) ([] ∷ folders)

@@ -13,6 +13,6 @@ mod writing;
 pub use fault::{FilesFault, ReadFault, Unread};
 pub use lookup::{Found, find_default, find_library};
 pub use paths::{has_extension, last_part};
-pub use reading::{InputFile, Sought, read_file, read_sought};
+pub use reading::{Folders, InputFile, Sought, read_file, read_sought};
 pub use standing::{begins_as_input, is_one_of, is_one_place, stands_as_input};
 pub use writing::put_file;

@@ -1,15 +1,14 @@
 //! Libraries that are looked up in folders.
-ghost use Rattle.std.specs.Prelude.{◌≡◌, ℕ, List, [], ◌∷◌, IfOk, OnOk, map, string_bytes};
-ghost use Rattle.std.specs.List.{Contains};
-ghost use Rattle.doslink_files.specs.Files.{IsFound, IsFoundNew, IsRegularNew};
-ghost use Rattle.doslink_files.specs.inside.Looking.{ArePathsOf, IsReadNew};
+ghost use Rattle.std.specs.Prelude.{◌≡◌, IfOk, map, string_bytes};
+ghost use Rattle.doslink_files.specs.Files.{IsFound, IsFoundNew};
+ghost use Rattle.doslink_files.specs.inside.Looking.{IsReadNew};
 ghost use Rattle.doslink_files.specs.Paths as spec;
 
 use crate::fault::ReadFault;
-use crate::paths::{has_extension, path_in};
+use crate::paths::{has_extension, paths_of};
 use crate::reading::{InputFile, passed_over, read_first, read_input};
 use omf_files::{FileId, PlaceKind, World};
-use std::alloc::{AllocError, Allocator};
+use std::alloc::Allocator;
 use std::collections::BTreeSet;
 
 /// What is put behind a library's name, in turn.
@@ -21,39 +20,6 @@ fn extensions(name: &str) -> &'static [&'static str]
     } else {
         &["", ".LIB", ".lib"]
     }
-}
-
-/// Appends the paths at which the library of this name may stand in a folder.
-fn push_paths<A: Allocator + Copy>(
-    alloc: A,
-    folder: &str,
-    name: &str,
-    paths: &mut Vec<String<A>, A>,
-) -> Result<(), AllocError>
-    ensures { OnOk result ((folders : List (List ℕ)) → Contains ([] ∷ folders) folder.now
-        → ArePathsOf folders name.now paths.old.items → ArePathsOf folders name.now paths.new.items) }
-{
-    for extension in extensions(name) {
-        paths.push(path_in(alloc, folder, name, extension)?)?;
-    }
-    Ok(())
-}
-
-/// The paths at which the library of this name may stand: in this folder, and then in each of the others, in their
-/// order.
-fn library_paths<A: Allocator + Copy>(
-    alloc: A,
-    folders: &[&str],
-    name: &str,
-) -> Result<Vec<String<A>, A>, AllocError>
-    ensures { IfOk result (λ paths. ArePathsOf (map (λ f. f.now) folders.now) name.now paths.items) }
-{
-    let mut paths = Vec::new(alloc);
-    push_paths(alloc, "", name, &mut paths)?;
-    for folder in folders {
-        push_paths(alloc, folder, name, &mut paths)?;
-    }
-    Ok(paths)
 }
 
 /// The library of this name, looked up in this folder, and then in each of the others, in their order: the first file
@@ -72,7 +38,7 @@ pub fn find_library<W: World, A: Allocator + Copy>(
     ensures { IfOk result (λ file. IsFound (W.bytes world.now) (map (λ f. f.now) folders.now) name.now
         (string_bytes file.path) file.bytes.items) }
 {
-    let paths = library_paths(alloc, folders, name)?;
+    let paths = paths_of(alloc, folders, name, extensions(name))?;
     read_first(alloc, world, &paths)
 }
 
@@ -123,7 +89,7 @@ pub fn find_default<W: World, A: Allocator + Copy>(
     ensures regular { IfOk result (IsRegularNew (W.looks world.now)) }
 {
     let mut why = ReadFault::Absent;
-    let paths = library_paths(alloc, folders, name)?;
+    let paths = paths_of(alloc, folders, name, extensions(name))?;
     for path in &paths {
         match read_regular(alloc, world, path.as_str(), known) {
             Ok(found) => return Ok(found),

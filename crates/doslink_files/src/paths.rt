@@ -1,5 +1,5 @@
 //! Paths of files, made of others.
-ghost use Rattle.std.specs.Prelude.{◌≡◌, ◌++◌, IfOk, string_bytes};
+ghost use Rattle.std.specs.Prelude.{◌≡◌, ◌++◌, IfOk, OnOk, map, string_bytes};
 ghost use Rattle.doslink_files.specs.Paths as spec;
 
 use std::alloc::{AllocError, Allocator};
@@ -42,7 +42,7 @@ fn joint(folder: &[u8]) -> &'static str
 }
 
 /// The path of a file in a folder; in this one, where the folder is empty. The name is given in two parts.
-pub(crate) fn path_in<A: Allocator + Copy>(
+fn path_in<A: Allocator + Copy>(
     alloc: A,
     folder: &str,
     name: &str,
@@ -57,15 +57,38 @@ pub(crate) fn path_in<A: Allocator + Copy>(
     Ok(made)
 }
 
-/// A path with something behind it.
-pub(crate) fn joined<A: Allocator + Copy>(
+/// Appends the paths at which a file of this name is looked up in a folder: with each of these extensions behind it.
+fn push_paths<A: Allocator + Copy>(
     alloc: A,
-    path: &str,
-    extension: &str,
-) -> Result<String<A>, AllocError>
-    ensures { IfOk result (λ s. string_bytes s ≡ path.now ++ extension.now) }
+    folder: &str,
+    name: &str,
+    extensions: &[&str],
+    paths: &mut Vec<String<A>, A>,
+) -> Result<(), AllocError>
+    ensures { OnOk result (map string_bytes paths.new.items ≡ map string_bytes paths.old.items
+        ++ spec.paths_in (map (λ e. e.now) extensions.now) name.now folder.now) }
 {
-    let mut made = String::from_str(alloc, path)?;
-    made.push_str(extension)?;
-    Ok(made)
+    for extension in extensions {
+        paths.push(path_in(alloc, folder, name, extension)?)?;
+    }
+    Ok(())
+}
+
+/// The paths at which a file of this name is looked up, in their order: in this folder, and then in each of the others,
+/// with each of these extensions behind it.
+pub(crate) fn paths_of<A: Allocator + Copy>(
+    alloc: A,
+    folders: &[&str],
+    name: &str,
+    extensions: &[&str],
+) -> Result<Vec<String<A>, A>, AllocError>
+    ensures { IfOk result (λ paths. map string_bytes paths.items
+        ≡ spec.paths_of (map (λ e. e.now) extensions.now) (map (λ f. f.now) folders.now) name.now) }
+{
+    let mut paths = Vec::new(alloc);
+    push_paths(alloc, "", name, extensions, &mut paths)?;
+    for folder in folders {
+        push_paths(alloc, folder, name, extensions, &mut paths)?;
+    }
+    Ok(paths)
 }

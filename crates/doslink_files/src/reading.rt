@@ -1,14 +1,14 @@
 //! Files that are read into memory.
-ghost use Rattle.std.specs.Prelude.{All, ◌≡◌, IfErr, IfOk, map, string_bytes};
+ghost use Rattle.std.specs.Prelude.{◌≡◌, IfErr, IfOk, map, string_bytes};
 ghost use Rattle.std.specs.List.{Contains};
-ghost use Rattle.doslink_files.specs.Files.{AreSought, AreUnread, IsFileOf, IsModulesPart, IsObjectPath, IsSought};
+ghost use Rattle.doslink_files.specs.Files.{AreSought, AreUnread, IsFileOf, IsModulesPart, IsSought};
 ghost use Rattle.doslink_files.specs.Files.{IsTold, contents, sought_name};
 ghost use Rattle.doslink_files.specs.Paths as spec;
 
 use crate::fault::{FilesFault, ReadFault, Unread};
 use crate::lookup::find_library;
 use crate::modules::read_modules;
-use crate::paths::{has_extension, joined};
+use crate::paths::{has_extension, paths_of};
 use omf_files::{FileId, World};
 use std::alloc::{AllocError, Allocator, Global};
 use std::io::Read;
@@ -31,6 +31,15 @@ pub enum Sought<'a> {
     File(&'a str),
     /// The library of a name, which is looked up in folders.
     Library(&'a str),
+}
+
+/// The folders in which files are looked up where they aren't found by their names alone.
+#[derive(Clone, Copy, Debug)]
+pub struct Folders<'f> {
+    /// Those of modules, in their order.
+    pub objects: &'f [&'f str],
+    /// Those of libraries.
+    pub libraries: &'f [&'f str],
 }
 
 impl<'a> Sought<'a> {
@@ -132,17 +141,6 @@ fn object_extensions(path: &str) -> &'static [&'static str]
     }
 }
 
-/// The paths at which a module may stand that is named by this one.
-fn object_paths<A: Allocator + Copy>(alloc: A, path: &str) -> Result<Vec<String<A>, A>, AllocError>
-    ensures { IfOk result (λ paths. All (λ p. IsObjectPath path.now (string_bytes p)) paths.items) }
-{
-    let mut paths = Vec::new(alloc);
-    for extension in object_extensions(path) {
-        paths.push(joined(alloc, path, extension)?)?;
-    }
-    Ok(paths)
-}
-
 /// Why a look-up found nothing so far, where it goes on behind a file that isn't read.
 ///
 /// # Errors
@@ -179,19 +177,22 @@ pub(crate) fn read_first<W: World, A: Allocator + Copy>(
     Err(why)
 }
 
-/// The module that is named by a path: the file there, or, where the path's last part has no dot, at the path with
-/// `.OBJ` or `.obj` behind it, the first that can be opened. A folder is passed over.
+/// The module that is named by a path, looked up at it, and then in each of these folders, in their order: the first
+/// file that can be opened, of the path as it stands and, where its last part has no dot, with `.OBJ` or `.obj` behind
+/// it. A folder of such a name is passed over.
 ///
 /// # Errors
 /// As those of `read_first`.
-fn read_module_file<W: World, A: Allocator + Copy>(
+fn find_module<W: World, A: Allocator + Copy>(
     alloc: A,
     world: &W,
+    folders: &[&str],
     path: &str,
 ) -> Result<InputFile<A>, ReadFault>
-    ensures { IfOk result (λ file. IsFileOf (W.bytes world.now) path.now file.bytes.items) }
+    ensures { IfOk result (λ file. IsFileOf (W.bytes world.now) (map (λ f. f.now) folders.now) path.now
+        file.bytes.items) }
 {
-    let paths = object_paths(alloc, path)?;
+    let paths = paths_of(alloc, folders, path, object_extensions(path))?;
     read_first(alloc, world, &paths)
 }
 
@@ -199,32 +200,32 @@ fn read_module_file<W: World, A: Allocator + Copy>(
 fn read_one<W: World, A: Allocator + Copy>(
     alloc: A,
     world: &W,
-    folders: &[&str],
+    folders: Folders<'_>,
     sought: Sought<'_>,
 ) -> Result<InputFile<A>, ReadFault>
-    ensures { IfOk result (λ file. IsSought (W.bytes world.now) (map (λ f. f.now) folders.now) sought.entry
-        file.bytes.items) }
+    ensures { IfOk result (λ file. IsSought (W.bytes world.now) (map (λ f. f.now) folders.entry.objects.now)
+        (map (λ f. f.now) folders.entry.libraries.now) sought.entry file.bytes.items) }
 {
     match sought {
-        Sought::File(path) => read_module_file(alloc, world, path),
-        Sought::Library(name) => find_library(alloc, world, folders, name),
+        Sought::File(path) => find_module(alloc, world, folders.objects, path),
+        Sought::Library(name) => find_library(alloc, world, folders.libraries, name),
     }
 }
 
-/// Files that are wanted, one for each, in their order. Where a path's last part has no dot, and no file that can be
-/// opened stands there, it is that of the file with `.OBJ` or `.obj` behind it. Libraries are looked up as
-/// `find_library` does.
+/// Files that are wanted, one for each, in their order. A module is looked up at its path, and then in each of the
+/// folders of modules: the first file that can be opened, of the path as it stands and, where its last part has no dot,
+/// with `.OBJ` or `.obj` behind it. Libraries are looked up as `find_library` does, in the folders of libraries.
 ///
 /// # Errors
 /// All that can't be found or read, and why; or want of memory.
 pub fn read_sought<'a, W: World, A: Allocator + Copy>(
     alloc: A,
     world: &W,
-    folders: &[&str],
+    folders: Folders<'_>,
     sought: &[Sought<'a>],
 ) -> Result<Vec<InputFile<A>, A>, FilesFault<'a, A>>
-    ensures told { IfOk result (λ files. AreSought (W.bytes world.now) (map (λ f. f.now) folders.now) sought.now
-        (contents files.items)) }
+    ensures told { IfOk result (λ files. AreSought (W.bytes world.now) (map (λ f. f.now) folders.entry.objects.now)
+        (map (λ f. f.now) folders.entry.libraries.now) sought.now (contents files.items)) }
     ensures unread { IfErr result (AreUnread (map sought_name sought.now)) }
 {
     let mut files = Vec::new(alloc);

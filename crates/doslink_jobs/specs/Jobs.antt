@@ -127,7 +127,8 @@ sought_of (input.Library name) = sought.Library name
 -- names
 abbrev pub AreGiven : (told : Text → Option (List ℕ)) → Job → (given : List (List ℕ)) → Type 0
 AreGiven told job given =
-    (files : List (List ℕ)) × AreSought told (texts job.folders.items) (map sought_of job.inputs.items) files
+    (files : List (List ℕ))
+    × AreSought told (texts job.object_folders.items) (texts job.folders.items) (map sought_of job.inputs.items) files
     × (given ≡ files ++ names_files job)
 
 -- one of these modules names this default library

@@ -27,7 +27,7 @@ use crate::names::push_names_file;
 use crate::stop::{Stop, stop_after, stop_at_files, stop_unread};
 use crate::words::{Besides, is_named};
 use bumpalo::Bump;
-use doslink_files::{Found, InputFile, ReadFault, Sought, find_default, read_sought};
+use doslink_files::{Folders, Found, InputFile, ReadFault, Sought, find_default, read_sought};
 use doslink_stock::{Handed, Stock, StockFault};
 use doslink_telling::{module_word, push_absent_line, push_stock_fault};
 use doslink_words::{Input, Job};
@@ -90,13 +90,17 @@ fn given_files<W: World, A: Allocator + Copy>(
     job: &Job<'_>,
     lines: &mut Vec<u8, A>,
 ) -> Result<Vec<InputFile<A>, A>, Stop>
-    ensures files { MatchResult result (λ files. AreSought (W.bytes world.now) (texts job.now.folders.items)
-        (map done.sought_of job.now.inputs.items) (contents files.items))
+    ensures files { MatchResult result (λ files. AreSought (W.bytes world.now) (texts job.now.object_folders.items)
+        (texts job.now.folders.items) (map done.sought_of job.now.inputs.items) (contents files.items))
         (λ stop. OnInput stop ⊥) }
     ensures kept { OnOk result (lines.new.items ≡ lines.old.items) }
 {
     let sought = all_sought(alloc, &job.inputs)?;
-    match read_sought(alloc, world, &job.folders, &sought) {
+    let folders = Folders {
+        objects: &job.object_folders,
+        libraries: &job.folders,
+    };
+    match read_sought(alloc, world, folders, &sought) {
         Ok(files) => Ok(files),
         Err(fault) => Err(stop_at_files(alloc, lines, fault, job.verbose)),
     }

@@ -54,7 +54,7 @@ and in the environment's LINK or in TLINK.CFG, which are read in front of the li
   link   /NOI case counts, /M a map with publics, /ST:N the stack's bytes, /DO the order
          DOSSEG, /NOD[:LIB] no default libraries, or not that one, /T a .COM file
   tlink  /c case counts, /x no map, /m a map with publics, /n no default libraries,
-         /t a .COM file, /L FOLDERS of libraries
+         /t a .COM file, /L FOLDERS of libraries, /j FOLDERS of objects
 docs/DOSLINK.md has them all. `doslink --help` tells of the words of doslink.
 ";
 
@@ -133,7 +133,6 @@ fn idle_text(idle: Idle) -> &'static str {
     match idle {
         Idle::Debug => "no data for debuggers is written",
         Idle::Packing => "the program isn't packed: it runs the same",
-        Idle::ObjectFolders => "objects are looked for where their names say",
         Idle::Nothing => "the option has no effect",
     }
 }

@@ -1,6 +1,6 @@
 -- What the directives of a text mean: its tokens in their order, where a line's end is a blank.
-use Rattle.std.specs.Prelude.{◌≡◌, ℕ, zero, suc, ◌&&◌, ⊤, Bool, true, false, List, [], ◌∷◌, ◌++◌, codes, map, take}
-use Rattle.std.specs.Prelude.{Option, Some, None, Result, Ok, Err, if◌then◌else◌, length, nat_le}
+use Rattle.std.specs.Prelude.{◌≡◌, ℕ, zero, suc, ◌==◌, ◌&&◌, ⊤, Bool, true, false, List, [], ◌∷◌, ◌++◌, codes, map}
+use Rattle.std.specs.Prelude.{take, Option, Some, None, Result, Ok, Err, if◌then◌else◌, length, nat_le}
 use Rattle.std.specs.Option.{option_and_then, option_map_or}
 use Rattle.std.specs.List.{list_all, slice_split}
 use Rattle.std.specs.Str.Lines.{lines}
@@ -260,6 +260,11 @@ abbrev pub with_aliases : (had : List (Text × Text)) → List (List Piece) → 
 with_aliases had [] = Ok had
 with_aliases had (part ∷ more) = and_then (alias_of part) (λ alias. with_aliases (had ++ (alias ∷ [])) more)
 
+-- `path A[;B..]`: modules are looked up in these folders too
+abbrev pub path_meaning : List Piece → Said → Line Said
+path_meaning operands said = and_then (one_name operands) (λ name.
+    Ok (record said { object_folders = said.object_folders ++ slice_split (λ byte. byte == 59) name }))
+
 -- what a directive means
 abbrev pub directive_meaning : (line : ℕ) → Directive → List Piece → Said → Line Said
 directive_meaning line directive.File operands said =
@@ -281,6 +286,7 @@ directive_meaning line directive.Disable operands said = warned line warning.Dis
 directive_meaning line directive.Reference operands said = reference_meaning operands said
 directive_meaning line directive.Alias operands said =
     and_then (with_aliases said.aliases (parts operands)) (λ aliases. Ok (record said { aliases = aliases }))
+directive_meaning line directive.Path operands said = path_meaning operands said
 
 -- the directive that a token names
 abbrev pub directive_of : Piece → Line Directive

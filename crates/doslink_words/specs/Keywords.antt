@@ -38,7 +38,8 @@ directive_named word =
     else (if is_short word (codes "output") 3 then Some directive.Output
     else (if is_short word (codes "reference") 3 then Some directive.Reference
     else (if is_short word (codes "alias") 1 then Some directive.Alias
-    else None)))))))))))))
+    else (if is_short word (codes "path") 1 then Some directive.Path
+    else None))))))))))))))
 
 -- whether a word goes on with `debug`, and with `sort`
 abbrev pub is_debug_word : Text → Bool

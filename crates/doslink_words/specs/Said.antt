@@ -47,6 +47,7 @@ pub record Said : Type 0 where
   pub map : Option SaidMap
   pub map_form : MapForm
   pub folders : List Text
+  pub object_folders : List Text
   pub ignore_case : Bool
   pub order : SaidOrder
   pub null_bytes : Bool
@@ -71,6 +72,7 @@ nothing = record {
   map = None;
   map_form = map_form.Omf;
   folders = [];
+  object_folders = [];
   ignore_case = false;
   order = Meeting;
   null_bytes = false;
@@ -126,6 +128,7 @@ said_of directives = record {
   map = option_map map_of directives.job.map;
   map_form = directives.job.map_form;
   folders = texts directives.job.folders.items;
+  object_folders = texts directives.job.object_folders.items;
   ignore_case = directives.job.ignore_case;
   order = order_of directives.job.order;
   null_bytes = directives.job.null_bytes;

@@ -188,6 +188,7 @@ pub record IsJobOf (words : List Text) (rows : List Row) (job : Job) : Type 0 wh
   pub map : option_map map_of job.map ≡ option_map At (first_of (codes "MAP") rows)
   pub map_form : job.map_form ≡ map_form_asked (first_of (codes "NAME") rows)
   pub folders : texts job.folders.items ≡ values_of (codes "FOLDER") rows
+  pub object_folders : job.object_folders.items ≡ []
   pub ignore_case : IsFlag (codes "ignore-case") rows job.ignore_case
   pub order : order_of job.order ≡ order_asked (first_of (codes "ORDER") rows)
   pub null_bytes : job.null_bytes ≡ nulls_asked (first_of (codes "ORDER") rows) job.form

@@ -1,5 +1,6 @@
 //! The directives of a text.
-ghost use Rattle.std.specs.Prelude.{◌≡◌, ◌≤◌, Err, IfOk, Ok, drop, length};
+ghost use Rattle.std.specs.Prelude.{◌≡◌, ◌==◌, ◌≤◌, Err, IfOk, Ok, drop, length};
+ghost use Rattle.std.specs.List.{slice_split};
 ghost use Rattle.std.specs.Option.{option_map_or};
 ghost use Rattle.std.specs.Str.Lines.{lines};
 ghost use Rattle.doslink_words.specs.Directives as spec;
@@ -177,6 +178,26 @@ fn follow_library<'a>(
     Ok(put_libraries(&mut directives.job.inputs, &names)?)
 }
 
+// What `;` parts.
+fn folders_in<'a>(alloc: Global, text: &'a str) -> Result<Vec<&'a str>, AllocError>
+    ensures { IfOk result (λ folders. texts folders.items ≡ slice_split (λ byte. byte == 59) text.now) }
+{
+    text.split(';').collect(alloc)
+}
+
+// Follows `path`.
+fn follow_path<'a>(
+    alloc: Global,
+    directives: &mut Directives<'a>,
+    operands: &[Placed<'a>],
+) -> Result<(), LineFault>
+    ensures { Follows result (spec.path_meaning (operands_of operands.now) (said_of directives.old))
+        (said_of directives.new) }
+{
+    let folders = folders_in(alloc, one_name(operands)?)?;
+    Ok(directives.job.object_folders.extend_from_slice(&folders)?)
+}
+
 // Follows a directive.
 fn follow_directive<'a>(
     alloc: Global,
@@ -203,6 +224,7 @@ fn follow_directive<'a>(
         Directive::Disable => warn(directives, line, WarningKind::Disable),
         Directive::Reference => follow_reference(alloc, directives, operands),
         Directive::Alias => put_aliases(&mut directives.job.aliases, operands),
+        Directive::Path => follow_path(alloc, directives, operands),
     }
 }
 
@@ -314,6 +336,8 @@ fn follow_lines<'a>(
 ///
 /// - `file A[,B..]` (`f`), `library A[,B..]` (`l`), `libpath A[,B..]` (`libp`): modules, libraries and folders, in
 ///   order. A list may stand between braces, with white space or commas between its names.
+/// - `path A[;B..]` (`p`): folders in which modules are looked up that can't be opened where their names say, in order;
+///   several add up.
 /// - `name FILE` (`n`): the program. Of several the last counts, as of orders and of options that exclude each other.
 /// - `format dos [exe|com]` (`form`), `system dos|com` (`sys`): the form of the program's file; of other systems it is
 ///   a fault.

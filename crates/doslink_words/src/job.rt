@@ -17,6 +17,9 @@ pub struct Job<'a> {
     pub map_form: MapForm,
     /// The folders in which libraries are looked up, in their order.
     pub folders: Vec<&'a str>,
+    /// The folders in which files that are named by a path are looked up where nothing can be opened at that path, in
+    /// their order.
+    pub object_folders: Vec<&'a str>,
     /// Whether names of publics and externals agree without regard to case.
     pub ignore_case: bool,
     /// The order of segments.
@@ -172,6 +175,7 @@ impl<'a> Directives<'a> {
             map: None,
             map_form: MapForm::Omf,
             folders: Vec::new(alloc),
+            object_folders: Vec::new(alloc),
             ignore_case: false,
             order: Order::Meeting,
             null_bytes: false,

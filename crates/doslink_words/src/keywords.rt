@@ -13,6 +13,8 @@ pub(crate) enum Directive {
     Library,
     /// `libpath`: folders of libraries.
     Folder,
+    /// `path`: folders of modules.
+    Path,
     /// `name`: the program.
     Name,
     /// `format`: the form of the program's file.
@@ -125,6 +127,8 @@ pub(crate) fn directive_named(word: &str) -> Option<Directive>
         Some(Directive::Reference)
     } else if is_short(word, "alias", 1) {
         Some(Directive::Alias)
+    } else if is_short(word, "path", 1) {
+        Some(Directive::Path)
     } else {
         None
     }

@@ -19,6 +19,7 @@ Directives stand in FILE and in words, one behind the other:
   file A[,B..]           modules and libraries to link, in their order (f)
   library A[,B..]        libraries to search (l)
   libpath A[,B..]        folders to look for libraries in (libp)
+  path A[;B..]           folders to look for modules in that aren't at their names (p)
   name FILE              the program to write (n)
   format dos [exe|com]   the form of the program's file; format dos says none
   system dos|com         the same (sys)

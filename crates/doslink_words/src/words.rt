@@ -27,9 +27,9 @@ use thiserror::Error;
 /// What stands at the end of help.
 const NOTES: &str = "\
 `doslink @FILE` takes its words from a file, at white space or in double quotes. Under the name\n\
-`wlink`, or behind `--as wlink`, FILE has directives (file, library, libpath, name, format, option,\n\
-order, reference, alias). Under the names `link` and `tlink`, or behind `--as link` and `--as tlink`,\n\
-the words are a line of that linker: `doslink --as link --help`.\n\n\
+`wlink`, or behind `--as wlink`, FILE has directives (file, library, libpath, path, name, format,\n\
+option, order, reference, alias). Under the names `link` and `tlink`, or behind `--as link` and\n\
+`--as tlink`, the words are a line of that linker: `doslink --as link --help`.\n\n\
 Exit status: 0 all is done, 1 an input is at fault, 2 wrong arguments, 3 a file or\n\
 device failed or out of memory. A fault is one line on standard error; docs/FAULTS.md\n\
 and the man page say what to do about each.";
@@ -382,6 +382,7 @@ fn job_of<'a>(alloc: Global, words: &[&str], values: &ArgMatches<'a>) -> Result<
         map: map_asked(values.get_str("MAP")),
         map_form: map_form_asked(values.get_str("NAME")),
         folders: values_of(alloc, values, "FOLDER")?,
+        object_folders: Vec::new(alloc),
         ignore_case: values.get_flag("ignore-case"),
         order: order_asked(alloc, values.get_str("ORDER"))?,
         null_bytes: nulls_asked(values.get_str("ORDER"), form),

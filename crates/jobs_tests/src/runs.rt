@@ -17,6 +17,8 @@ mod lengths;
 #[cfg(test)]
 mod lines;
 #[cfg(test)]
+mod looking;
+#[cfg(test)]
 mod modules;
 #[cfg(test)]
 mod naming;

@@ -70,6 +70,7 @@ pub record IsJobOf (language : Language) (said : SaidLine) (made : MakefileJob) 
   pub map : option_map map_of made.job.map ≡ map_asked said.settings said.map
   pub map_form : made.job.map_form ≡ map_form_of language
   pub folders : texts made.job.folders.items ≡ said.folders
+  pub object_folders : texts made.job.object_folders.items ≡ said.object_folders
   pub ignore_case : made.job.ignore_case ≡ not said.settings.case_counts
   pub order : order_of made.job.order ≡ order_asked said.settings.order
   pub null_bytes : made.job.null_bytes ≡ nulls_asked language said.settings.form said.settings.order

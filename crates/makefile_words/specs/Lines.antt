@@ -1,7 +1,7 @@
 -- What a line means: `objects, program, map, libraries, definitions;`, with options anywhere.
 use Rattle.std.specs.Prelude.{ℕ, ◌+◌, ◌-◌, ◌==◌, ◌&&◌, ◌||◌, Bool, true, false, nat_le, nat_lt, List, [], ◌∷◌, ◌++◌}
 use Rattle.std.specs.Prelude.{length, take, codes, Option, Some, None, Result, Ok, Err, if◌then◌else◌, is_some, slice_index, unwrap_or}
-use Rattle.std.specs.Option.{option_map_or}
+use Rattle.std.specs.Option.{option_map_or, option_or}
 use Rattle.std.specs.List.{before_first, after_first, position_or_len, slice_split}
 use Rattle.clap.specs.Lexer.{strip_byte}
 use Rattle.clap.specs.Words.{Text}
@@ -34,6 +34,7 @@ pub record SaidLine : Type 0 where
   pub out : Option Text
   pub map : Option Text
   pub folders : List Text
+  pub object_folders : List Text
   pub left_out : List Text
   pub warnings : List IdleAt
   pub settings : Settings
@@ -70,6 +71,7 @@ nothing_said language = record {
   out = None;
   map = None;
   folders = [];
+  object_folders = [];
   left_out = [];
   warnings = [];
   settings = no_settings language;
@@ -94,14 +96,19 @@ changed (setting.Order order) s = record s { order = order }
 changed (setting.Stack bytes) s = record s { stack = Some bytes }
 changed (setting.MostExtra paragraphs) s = record s { most_extra = Some paragraphs }
 changed setting.Folders s = s
+changed setting.ObjectFolders s = s
 changed setting.LeavesOut s = s
 changed setting.Silent s = s
 changed (setting.Warned idle) s = s
 changed (setting.Refused kind) s = s
 
--- the value of `LFOLDERS`
+-- the value of `LFOLDERS`, and of `jFOLDERS`: what stands behind the letter
 abbrev pub folders_text : Text → Text
-folders_text option = unwrap_or (strip_byte 76 option) option
+folders_text option = unwrap_or (option_or (strip_byte 76 option) (strip_byte 106 option)) option
+
+-- the folders that are such a value: `;` parts them
+abbrev pub folders_in : Text → List Text
+folders_in option = slice_split (λ byte. byte == 59) (folders_text option)
 
 -- the value of `NODEFAULTLIBRARYSEARCH:LIB`
 abbrev pub library_text : Text → Text
@@ -111,7 +118,9 @@ library_text option =
 -- what an option says, where it asks for this
 abbrev pub setting_meaning : (place : ℕ) → Setting → (option : Text) → SaidLine → Result SaidLine FaultKind
 setting_meaning place setting.Folders option said =
-    Ok (record said { folders = said.folders ++ slice_split (λ byte. byte == 59) (folders_text option) })
+    Ok (record said { folders = said.folders ++ folders_in option })
+setting_meaning place setting.ObjectFolders option said =
+    Ok (record said { object_folders = said.object_folders ++ folders_in option })
 setting_meaning place setting.LeavesOut option said =
     Ok (record said { left_out = said.left_out ++ (library_text option ∷ []) })
 setting_meaning place (setting.Warned idle) option said =

@@ -77,7 +77,7 @@ numbered option = if has_number 65 option || has_number 80 option then Some sett
 abbrev pub begun : Text → Option Setting
 begun option =
     if has_value 76 option then Some setting.Folders
-    else (if has_value 106 option then Some (setting.Warned idle.ObjectFolders)
+    else (if has_value 106 option then Some setting.ObjectFolders
     else (if begins 79 option then Some (setting.Warned idle.Packing)
     else (if begins 121 option then Some (setting.Warned idle.Nothing)
     else (if begins 84 option then Some (setting.Refused fault.NotDos)

@@ -101,6 +101,7 @@ pub(crate) fn job_of<'a>(alloc: Global, language: Language, line: Line<'a>) -> M
         map: map_asked(settings, line.map),
         map_form: map_form_of(language),
         folders: line.folders,
+        object_folders: line.object_folders,
         ignore_case: !settings.case_counts,
         order: order_asked(settings.order),
         null_bytes: nulls_asked(language, settings.form, settings.order),

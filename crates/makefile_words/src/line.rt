@@ -54,6 +54,8 @@ pub(crate) struct Line<'a> {
     pub map: Option<&'a str>,
     /// The folders in which libraries are looked up.
     pub folders: Vec<&'a str>,
+    /// The folders in which objects are looked up that aren't where their names say.
+    pub object_folders: Vec<&'a str>,
     /// The libraries that are left out where a module names them.
     pub left_out: Vec<&'a str>,
     /// What has no effect.
@@ -156,6 +158,7 @@ impl<'a> Line<'a> {
             out: None,
             map: None,
             folders: Vec::new(alloc),
+            object_folders: Vec::new(alloc),
             left_out: Vec::new(alloc),
             warnings: Vec::new(alloc),
             settings,

@@ -16,17 +16,24 @@ use crate::tokens::Language;
 use std::alloc::{AllocError, AllocFailed, Global};
 
 // What follows a first `L`.
-fn after_letter(option: &str) -> Option<&str>
+fn after_libraries(option: &str) -> Option<&str>
     ensures { option_map (λ rest. rest.now) result ≡ strip_byte 76 option.now }
 {
     option.strip_prefix('L')
 }
 
-// The value of `LFOLDERS`.
+// What follows a first `j`.
+fn after_objects(option: &str) -> Option<&str>
+    ensures { option_map (λ rest. rest.now) result ≡ strip_byte 106 option.now }
+{
+    option.strip_prefix('j')
+}
+
+// The value of `LFOLDERS`, and of `jFOLDERS`.
 fn folders_text(option: &str) -> &str
     ensures { result.now ≡ spec.folders_text option.now }
 {
-    match after_letter(option) {
+    match after_libraries(option).or(after_objects(option)) {
         Some(folders) => folders,
         None => option,
     }
@@ -73,6 +80,10 @@ fn follow_setting<'a>(
         Setting::Folders => {
             let folders = folders_in(alloc, folders_text(option))?;
             put_texts(&mut line.folders, &folders)?;
+        }
+        Setting::ObjectFolders => {
+            let folders = folders_in(alloc, folders_text(option))?;
+            put_texts(&mut line.object_folders, &folders)?;
         }
         Setting::LeavesOut => line.left_out.push(library_text(option))?,
         Setting::Warned(idle) => line.warnings.push(IdleAt { place, idle })?,

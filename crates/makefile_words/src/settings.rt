@@ -51,8 +51,6 @@ pub enum Idle {
     Debug,
     /// The program is to be made smaller or faster: it runs the same without.
     Packing,
-    /// Folders for objects: objects are looked for where their names say.
-    ObjectFolders,
     /// An option that changes nothing here.
     Nothing,
 }
@@ -86,6 +84,8 @@ pub(crate) enum Setting {
     MostExtra(u16),
     /// That libraries are looked for in the folders of its value, which `;` parts.
     Folders,
+    /// That objects are looked for in the folders of its value too, which `;` parts.
+    ObjectFolders,
     /// That the library of its value is left out where a module names it.
     LeavesOut,
     /// Nothing.

@@ -54,7 +54,7 @@ fn begun(option: &[u8]) -> Option<Setting>
 {
     match option {
         [b'L', _, ..] => Some(Setting::Folders),
-        [b'j', _, ..] => Some(Setting::Warned(Idle::ObjectFolders)),
+        [b'j', _, ..] => Some(Setting::ObjectFolders),
         [b'O', ..] => Some(Setting::Warned(Idle::Packing)),
         [b'y', ..] => Some(Setting::Warned(Idle::Nothing)),
         [b'T', ..] => Some(Setting::Refused(FaultKind::NotDos)),

@@ -1,13 +1,9 @@
--- Paths that are looked up, and what was read at one.
-use Rattle.std.specs.Prelude.{All, ◌≡◌, ℕ, List, String, string_bytes}
+-- What was read at a path that is looked up.
+use Rattle.std.specs.Prelude.{◌≡◌, ℕ, List, string_bytes}
 use Rattle.std.specs.declared.option.Option.{Option}
 use Rattle.doslink_files.specs.declared.lookup.Found.{Found}
 use Rattle.doslink_files.specs.declared.lookup.Found.TheVariants.{New, Known}
-use Rattle.doslink_files.specs.Files.{IsModulesPart, IsPathOf}
-
--- a library of this name is looked up at all these paths
-abbrev pub ArePathsOf : {A : Type 0} → (folders : List (List ℕ)) → (name : List ℕ) → List (String A) → Type 0
-ArePathsOf folders name paths = All (λ path. IsPathOf folders name (string_bytes path)) paths
+use Rattle.doslink_files.specs.Files.{IsModulesPart}
 
 -- this is the file at the path, up to the end of its modules, where it is new
 abbrev pub IsReadNew : {A : Type 0} → (told : List ℕ → Option (List ℕ)) → (path : List ℕ) → Found A → Type 0

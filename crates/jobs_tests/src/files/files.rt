@@ -2,8 +2,8 @@
 
 use desk::{Count, Desk, Page};
 use doslink_files::{
-    FilesFault, Found, InputFile, ReadFault, Sought, begins_as_input, find_default, is_one_of,
-    is_one_place, read_sought, stands_as_input,
+    FilesFault, Folders, Found, InputFile, ReadFault, Sought, begins_as_input, find_default,
+    is_one_of, is_one_place, read_sought, stands_as_input,
 };
 use omf_files::{FileId, World};
 use rows::same;
@@ -12,13 +12,20 @@ use std::collections::BTreeSet;
 use std::test::*;
 
 /// The files of the world: each holds its own name, but for those that begin as a module or a library does.
-const FILES: [(&str, &[u8]); 9] = [
+const FILES: [(&str, &[u8]); 16] = [
     ("A.OBJ", b"A.OBJ"),
     ("MAIN.OBJ", b"MAIN.OBJ"),
     ("small.obj", b"small.obj"),
     ("RUN.LIB", b"RUN.LIB"),
     ("LIBS/MATH.LIB", b"LIBS/MATH.LIB"),
     ("MORE/MATH.LIB", b"MORE/MATH.LIB"),
+    ("OBJS/A.OBJ", b"OBJS/A.OBJ"),
+    ("OBJS/PART.OBJ", b"OBJS/PART.OBJ"),
+    ("OLD/PART.OBJ", b"OLD/PART.OBJ"),
+    ("OBJS/unit.obj", b"OBJS/unit.obj"),
+    ("OLD/unit", b"OLD/unit"),
+    ("OLD/TIGHT.OBJ", b"OLD/TIGHT.OBJ"),
+    ("OBJS/ONLY.LIB", b"OBJS/ONLY.LIB"),
     ("M.MAP", &[0x80, 0x03, 0x00, 0x01, 0x41, 0x3B]),
     ("L.MAP", &[0xF0, 0x0D, 0x00, 0, 0, 0, 0, 0, 0, 0]),
     ("T.MAP", b"segments\n"),
@@ -33,7 +40,7 @@ fn desk_of<'p>(page: &'p Page<'p>, count: &'p Count) -> Desk<'static, 'p> {
         files: &FILES,
         folders: &[".", "DIR", "MAIN", "sub/"],
         devices: &["ZERO", "ZERO.LIB"],
-        locked: &["SHUT.OBJ", "LIBS/SHUT.LIB"],
+        locked: &["SHUT.OBJ", "LIBS/SHUT.LIB", "TIGHT.OBJ", "OBJS/KEPT.OBJ"],
         links: &LINKS,
         out: page,
         map: page,
@@ -50,6 +57,12 @@ fn sought_of(word: &str) -> Sought<'_> {
     }
 }
 
+/// The folders in which they are looked up.
+const FOLDERS: Folders<'static> = Folders {
+    objects: &["OBJS", "OLD"],
+    libraries: &["LIBS", "MORE"],
+};
+
 /// What words find: each file's path, or what isn't read and why.
 fn told(alloc: Global, desk: &Desk<'_, '_>, line: &str) -> Result<String, Fail> {
     let sought = line
@@ -57,7 +70,7 @@ fn told(alloc: Global, desk: &Desk<'_, '_>, line: &str) -> Result<String, Fail> 
         .map(sought_of)
         .collect::<Vec<Sought<'_>>>(alloc)?;
     let mut text = String::new(alloc);
-    match read_sought(alloc, desk, &["LIBS", "MORE"], &sought) {
+    match read_sought(alloc, desk, FOLDERS, &sought) {
         Ok(files) => {
             for file in &files {
                 write!(text, "{} {}\n", file.path, str::from_utf8(&file.bytes)?)?;
@@ -92,6 +105,24 @@ SHUT.OBJ: no permission
 NONE: no such file
 SHUT: no permission
 B: no such file
+
+PART.OBJ PART unit TIGHT small
+= OBJS/PART.OBJ OBJS/PART.OBJ
+OBJS/PART.OBJ OBJS/PART.OBJ
+OBJS/unit.obj OBJS/unit.obj
+OLD/TIGHT.OBJ OLD/TIGHT.OBJ
+small.obj small.obj
+
+ONLY.LIB -lOBJS/ONLY
+= OBJS/ONLY.LIB OBJS/ONLY.LIB
+OBJS/ONLY.LIB OBJS/ONLY.LIB
+
+-lONLY -lPART.OBJ MATH.LIB KEPT OBJS/B
+= ONLY: no such file
+PART.OBJ: no such file
+MATH.LIB: no such file
+KEPT: no permission
+OBJS/B: no such file
 
 MAIN.LIB
 = MAIN.LIB: no such file";

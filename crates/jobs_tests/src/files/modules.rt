@@ -1,7 +1,7 @@
 //! Files that go on behind their modules.
 
 use desk::Pen;
-use doslink_files::{FilesFault, Sought, read_sought};
+use doslink_files::{FilesFault, Folders, Sought, read_sought};
 use omf_files::{Looked, World};
 use rows::{bytes_of, put_record, same};
 use std::alloc::{AllocError, Global};
@@ -80,10 +80,16 @@ impl<'a> World for Shelf<'a> {
     }
 }
 
+/// No folders beside this one.
+const NO_FOLDERS: Folders<'static> = Folders {
+    objects: &[],
+    libraries: &[],
+};
+
 /// What is read of a file: how many of its own bytes and of the zeros behind them, or why it isn't read.
 fn told(alloc: Global, bytes: &[u8], behind: Behind) -> Result<String, Fail> {
     let shelf = Shelf { bytes, behind };
-    match read_sought(alloc, &shelf, &[], &[Sought::File("A.OBJ")]) {
+    match read_sought(alloc, &shelf, NO_FOLDERS, &[Sought::File("A.OBJ")]) {
         Ok(files) => {
             let Some(file) = files.first() else {
                 return Ok(String::from_str(alloc, "no file")?);

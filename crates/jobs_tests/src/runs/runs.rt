@@ -2,6 +2,7 @@
 use super::forms::{FORM_LINES, FORM_MODULES, FORM_RUNS, FORMED};
 use super::fronts::{CONFIGURED, FRONTED, Front};
 use super::lines::{LINE_FILES, LINE_RUNS, LINED, MAPPED};
+use super::looking::{LOOKED, LOOKED_FILES, LOOKING_RUNS};
 use super::modules::LIBRARY;
 use super::naming::{NAMED_FILES, NAMED_PROGRAMS, NAMING_RUNS};
 use super::tables::{
@@ -87,6 +88,7 @@ fn put_modules<'a>(files: &mut Vec<(&'a str, &'a [u8])>) -> Result<(), AllocErro
     files.extend_from_slice(&FORM_MODULES)?;
     files.extend_from_slice(&FORM_LINES)?;
     files.extend_from_slice(&LINE_FILES)?;
+    files.extend_from_slice(&LOOKED_FILES)?;
     files.extend_from_slice(&ARCHIVES)
 }
 
@@ -227,6 +229,17 @@ fn naming_runs_write_these_files(rt: HostRuntime) -> Result<(), Fail> {
         let done = run_row(rt.alloc(), row, path)?;
         assert!(rt; done.out.as_slice() == *program, "{row}");
         assert!(rt; done.map.as_slice() == map.as_bytes(), "{row}");
+    }
+    Ok(())
+}
+
+#[test]
+fn looking_runs_tell_these_lines(rt: HostRuntime) -> Result<(), Fail> {
+    let wrong = first_wrong(rt.alloc(), LOOKING_RUNS)?;
+    assert_eq!(rt; wrong, None);
+    for (row, path, bytes) in &LOOKED {
+        let done = run_row(rt.alloc(), row, path)?;
+        assert!(rt; done.out.ends_with(bytes), "{row}");
     }
     Ok(())
 }

@@ -17,6 +17,7 @@ line_of line = record {
   out = option_map (λ name. name.now) line.out;
   map = option_map (λ name. name.now) line.map;
   folders = texts line.folders.items;
+  object_folders = texts line.object_folders.items;
   left_out = texts line.left_out.items;
   warnings = line.warnings.items;
   settings = line.settings;

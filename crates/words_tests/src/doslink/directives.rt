@@ -31,7 +31,7 @@ format dos
 order clname CODE clname FAR_DATA clname BEGDATA segment _NULL segment _AFTERNULL clname DATA clname BSS clname STACK clname HEAP
 name hello.exe
 =>
-Ok(Directives { job: Job { inputs: [File("rtl/large/prt0l.o"), Library("hello.a"), Library("rtl/large/system.a")], out: Some("hello.exe"), map: None, map_form: Omf, folders: [], ignore_case: false, order: Listed([Class("CODE"), Class("FAR_DATA"), Class("BEGDATA"), Segment("_NULL"), Segment("_AFTERNULL"), Class("DATA"), Class("BSS"), Class("STACK"), Class("HEAP")]), null_bytes: false, stack: None, form: None, default_libraries: true, left_out: [], keep_debug: false, packs_far_data: true, verbose: false, quiet: true, start: None, references: [], aliases: [] }, warnings: [] })
+Ok(Directives { job: Job { inputs: [File("rtl/large/prt0l.o"), Library("hello.a"), Library("rtl/large/system.a")], out: Some("hello.exe"), map: None, map_form: Omf, folders: [], object_folders: [], ignore_case: false, order: Listed([Class("CODE"), Class("FAR_DATA"), Class("BEGDATA"), Segment("_NULL"), Segment("_AFTERNULL"), Class("DATA"), Class("BSS"), Class("STACK"), Class("HEAP")]), null_bytes: false, stack: None, form: None, default_libraries: true, left_out: [], keep_debug: false, packs_far_data: true, verbose: false, quiet: true, start: None, references: [], aliases: [] }, warnings: [] })
 
 
 # a comment with "a quote
@@ -48,7 +48,18 @@ file e
 libpath e
 library f
 =>
-inputs: [Library("c"), Library("d"), File("e"), Library("f")], out: None, map: None, map_form: Omf, folders: ["a", "b", "e"], ignore_case: false,
+inputs: [Library("c"), Library("d"), File("e"), Library("f")], out: None, map: None, map_form: Omf, folders: ["a", "b", "e"], object_folders: [], ignore_case: false,
+
+
+path obj
+=>
+folders: [], object_folders: ["obj"], ignore_case: false
+
+
+PATH \obj;c:\old;..
+file a p 'my obj;x' pa "y;" libpath z
+=>
+inputs: [File("a")], out: None, map: None, map_form: Omf, folders: ["z"], object_folders: ["\\obj", "c:\\old", "..", "my obj", "x", "y", ""], ignore_case: false
 
 
 option map
@@ -58,7 +69,7 @@ map: Some(Beside)
 
 op quiet, map = "a b.map", dosseg, NODEFAULTLIBS
 =>
-map: Some(At("a b.map")), map_form: Omf, folders: [], ignore_case: false, order: Dosseg, null_bytes: false, stack: None, form: None, default_libraries: false, left_out: [], keep_debug: false, packs_far_data: true, verbose: false, quiet: true
+map: Some(At("a b.map")), map_form: Omf, folders: [], object_folders: [], ignore_case: false, order: Dosseg, null_bytes: false, stack: None, form: None, default_libraries: false, left_out: [], keep_debug: false, packs_far_data: true, verbose: false, quiet: true
 
 
 option ignorecase
@@ -76,7 +87,7 @@ name b.exe
 option dosseg
 order clname A
 =>
-out: Some("b.exe"), map: None, map_form: Omf, folders: [], ignore_case: false, order: Listed([Class("A")])
+out: Some("b.exe"), map: None, map_form: Omf, folders: [], object_folders: [], ignore_case: false, order: Listed([Class("A")])
 
 
 option stack=4096
@@ -205,6 +216,26 @@ kind: WrongOperands
 name a,b
 =>
 kind: WrongOperands
+
+
+path
+=>
+kind: WrongOperands
+
+
+path a,b
+=>
+kind: WrongOperands
+
+
+path {a b}
+=>
+kind: WrongOperands
+
+
+path a; b
+=>
+text: "b", kind: UnknownDirective
 
 
 option

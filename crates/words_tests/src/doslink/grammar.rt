@@ -16,7 +16,7 @@ inputs: [File("main"), File("util")], out: Some("x"), map: None
 
 sys com n x f a l b libp c op q, m=x.map, st=2k, dos form dos exe out raw
 =>
-inputs: [File("a"), Library("b")], out: Some("x"), map: Some(At("x.map")), map_form: Omf, folders: ["c"], ignore_case: false, order: Dosseg, null_bytes: false, stack: Some(Stack { bytes: 2048, cuts: true }), form: Some(Raw { paragraph: 0, from: 0 })
+inputs: [File("a"), Library("b")], out: Some("x"), map: Some(At("x.map")), map_form: Omf, folders: ["c"], object_folders: [], ignore_case: false, order: Dosseg, null_bytes: false, stack: Some(Stack { bytes: 2048, cuts: true }), form: Some(Raw { paragraph: 0, from: 0 })
 
 
 name
@@ -68,9 +68,9 @@ output raw offset=31k format dos name y
 out: Some("y")
 
 
-name x path here
+name x libfile here
 =>
-Err(Line { line: 1, text: "path here", kind: UnknownDirective })
+Err(Line { line: 1, text: "libfile here", kind: UnknownDirective })
 
 
 file a

@@ -21,7 +21,7 @@ fn hold<R: Abort>(rt: &R, alloc: Global, table: &str) {
 #[test]
 fn reads_words(rt: HostRuntime) {
     let table = r#"doslink A.OBJ =>
-Ok(Job { inputs: [File("A.OBJ")], out: None, map: None, map_form: Omf, folders: [], ignore_case: false, order: Meeting, null_bytes: true, stack: None, form: None, default_libraries: true, left_out: [], keep_debug: false, packs_far_data: false, verbose: false, quiet: false, start: None, references: [], aliases: [] })
+Ok(Job { inputs: [File("A.OBJ")], out: None, map: None, map_form: Omf, folders: [], object_folders: [], ignore_case: false, order: Meeting, null_bytes: true, stack: None, form: None, default_libraries: true, left_out: [], keep_debug: false, packs_far_data: false, verbose: false, quiet: false, start: None, references: [], aliases: [] })
 
 doslink -o P -m M A B =>
 inputs: [File("A"), File("B")], out: Some("P"), map: Some(At("M")), map_form: Omf, folders: []

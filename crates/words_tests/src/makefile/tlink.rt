@@ -22,11 +22,11 @@ pub(crate) fn hold_in<R: Abort>(rt: &R, alloc: Global, language: Language, table
 fn reads_fields(rt: HostRuntime) {
     let table = r#"main
 =>
-Ok(MakefileJob { job: Job { inputs: [File("main")], out: None, map: Some(Beside), map_form: Tlink, folders: [], ignore_case: true, order: Meeting, null_bytes: false, stack: None, form: Some(Exe), default_libraries: true, left_out: [], keep_debug: false, packs_far_data: false, verbose: false, quiet: false, start: None, references: [], aliases: [] }, settings: Settings { case_counts: false, no_defaults: false, no_map: false, makes_map: true, publics: false, line_numbers: false, detailed: false, writes_all: false, verbose: false, form: Exe, order: Meeting, stack: None, most_extra: None }, warnings: [] })
+Ok(MakefileJob { job: Job { inputs: [File("main")], out: None, map: Some(Beside), map_form: Tlink, folders: [], object_folders: [], ignore_case: true, order: Meeting, null_bytes: false, stack: None, form: Some(Exe), default_libraries: true, left_out: [], keep_debug: false, packs_far_data: false, verbose: false, quiet: false, start: None, references: [], aliases: [] }, settings: Settings { case_counts: false, no_defaults: false, no_map: false, makes_map: true, publics: false, line_numbers: false, detailed: false, writes_all: false, verbose: false, form: Exe, order: Meeting, stack: None, most_extra: None }, warnings: [] })
 ---
 /c /x c0s main util, prog.exe, prog.map, emu maths cs
 =>
-inputs: [File("c0s"), File("main"), File("util"), Library("emu"), Library("maths"), Library("cs")], out: Some("prog.exe"), map: None, map_form: Tlink, folders: [], ignore_case: false,
+inputs: [File("c0s"), File("main"), File("util"), Library("emu"), Library("maths"), Library("cs")], out: Some("prog.exe"), map: None, map_form: Tlink, folders: [], object_folders: [], ignore_case: false,
 ---
 c0s+main+util,prog,prog,cs
 =>
@@ -106,11 +106,11 @@ inputs: [File("main")], out: None, map: None
 ---
 main/x/c,prog
 =>
-inputs: [File("main")], out: Some("prog"), map: None, map_form: Tlink, folders: [], ignore_case: false
+inputs: [File("main")], out: Some("prog"), map: None, map_form: Tlink, folders: [], object_folders: [], ignore_case: false
 ---
 -x -c main
 =>
-inputs: [File("main")], out: None, map: None, map_form: Tlink, folders: [], ignore_case: false
+inputs: [File("main")], out: None, map: None, map_form: Tlink, folders: [], object_folders: [], ignore_case: false
 ---
 /x/c/n main
 =>
@@ -126,7 +126,7 @@ publics: true, line_numbers: true, detailed: true, writes_all: true
 ---
 /m- /c- /x- main
 =>
-map: Some(Beside), map_form: Tlink, folders: [], ignore_case: true
+map: Some(Beside), map_form: Tlink, folders: [], object_folders: [], ignore_case: true
 ---
 /c /c- /c main
 =>
@@ -134,7 +134,7 @@ ignore_case: false
 ---
 main,prog/x,list,cs/n
 =>
-inputs: [File("main"), Library("cs")], out: Some("prog"), map: None, map_form: Tlink, folders: [], ignore_case: true, order: Meeting, null_bytes: false, stack: None, form: Some(Exe), default_libraries: false
+inputs: [File("main"), Library("cs")], out: Some("prog"), map: None, map_form: Tlink, folders: [], object_folders: [], ignore_case: true, order: Meeting, null_bytes: false, stack: None, form: Some(Exe), default_libraries: false
 ---
 /t main,prog.com
 =>
@@ -162,15 +162,15 @@ folders: ["/usr/tc/lib", "more/"]
 ---
 -La/usr/c main
 =>
-folders: ["a/usr/c"], ignore_case: true
+folders: ["a/usr/c"], object_folders: [], ignore_case: true
 ---
 /Lc:\tc\lib/c main
 =>
-folders: ["c:\\tc\\lib"], ignore_case: false
+folders: ["c:\\tc\\lib"], object_folders: [], ignore_case: false
 ---
 -L..\lib;b/c/x main
 =>
-inputs: [File("main")], out: None, map: None, map_form: Tlink, folders: ["..\\lib", "b"], ignore_case: false
+inputs: [File("main")], out: None, map: None, map_form: Tlink, folders: ["..\\lib", "b"], object_folders: [], ignore_case: false
 ---
 obj/job.obj lib/LIBC.LIB src/yacc.obj,,,lib/TC.LIB
 =>
@@ -178,15 +178,15 @@ inputs: [File("obj/job.obj"), File("lib/LIBC.LIB"), File("src/yacc.obj"), Librar
 ---
 src/Readme/Tdc/P=1/c
 =>
-inputs: [File("src/Readme")], out: None, map: Some(Beside), map_form: Tlink, folders: [], ignore_case: false
+inputs: [File("src/Readme")], out: None, map: Some(Beside), map_form: Tlink, folders: [], object_folders: [], ignore_case: false
 ---
 main/La/c
 =>
-inputs: [File("main/La")], out: None, map: Some(Beside), map_form: Tlink, folders: [], ignore_case: false
+inputs: [File("main/La")], out: None, map: Some(Beside), map_form: Tlink, folders: [], object_folders: [], ignore_case: false
 ---
 /c/La;b main
 =>
-inputs: [File("main")], out: None, map: Some(Beside), map_form: Tlink, folders: ["a", "b"], ignore_case: false
+inputs: [File("main")], out: None, map: Some(Beside), map_form: Tlink, folders: ["a", "b"], object_folders: [], ignore_case: false
 ---
 /v /3 main
 =>
@@ -196,9 +196,25 @@ warnings: [IdleAt { place: 0, idle: Debug }]
 =>
 warnings: []
 ---
-/f main /jobjs /Ol /yx
+/f main /Ol /yx
 =>
-warnings: [IdleAt { place: 0, idle: Packing }, IdleAt { place: 8, idle: ObjectFolders }, IdleAt { place: 15, idle: Packing }, IdleAt { place: 19, idle: Nothing }]
+warnings: [IdleAt { place: 0, idle: Packing }, IdleAt { place: 8, idle: Packing }, IdleAt { place: 12, idle: Nothing }]
+---
+/jobjs main
+=>
+folders: [], object_folders: ["objs"], ignore_case: true
+---
+/Llib;x -j..\obj;c:\old main,,,more/ /j/usr/obj /j
+=>
+folders: ["lib", "x", "more/"], object_folders: ["..\\obj", "c:\\old", "/usr/obj"], ignore_case: true
+---
+/jL;jx main
+=>
+folders: [], object_folders: ["L", "jx"], ignore_case: true
+---
+/jc:\obj/c main
+=>
+folders: [], object_folders: ["c:\\obj"], ignore_case: false
 ---
 /c/m/s main,prog,,cs /x
 =>
@@ -223,7 +239,7 @@ main +
 util
 prog
 =>
-inputs: [File("c0s"), File("main"), File("util")], out: Some("prog"), map: None, map_form: Tlink, folders: [], ignore_case: false
+inputs: [File("c0s"), File("main"), File("util")], out: Some("prog"), map: None, map_form: Tlink, folders: [], object_folders: [], ignore_case: false
 ---
 main
 
@@ -368,7 +384,7 @@ fn reads_tlink_cfg(rt: HostRuntime) {
 :
 c0s main,prog
 =>
-inputs: [File("c0s"), File("main")], out: Some("prog"), map: None, map_form: Tlink, folders: ["c:\\tc\\lib", "d:\\lib"], ignore_case: false
+inputs: [File("c0s"), File("main")], out: Some("prog"), map: None, map_form: Tlink, folders: ["c:\\tc\\lib", "d:\\lib"], object_folders: [], ignore_case: false
 ---
 /c /x -n
 
@@ -382,13 +398,13 @@ publics: true, line_numbers: false, detailed: false, writes_all: false, verbose:
 :
 /c- main /x- /Tde
 =>
-inputs: [File("main")], out: None, map: Some(Beside), map_form: Tlink, folders: [], ignore_case: true, order: Meeting, null_bytes: false, stack: None, form: Some(Exe)
+inputs: [File("main")], out: None, map: Some(Beside), map_form: Tlink, folders: [], object_folders: [], ignore_case: true, order: Meeting, null_bytes: false, stack: None, form: Some(Exe)
 ---
 /x- /c-
 :
 main /x/c
 =>
-map: None, map_form: Tlink, folders: [], ignore_case: false
+map: None, map_form: Tlink, folders: [], object_folders: [], ignore_case: false
 ---
 /La /Lb
 :
@@ -401,7 +417,7 @@ folders: ["a", "b", "c", "d/"]
 :
 main
 =>
-inputs: [File("main")], out: None, map: None, map_form: Tlink, folders: [], ignore_case: false
+inputs: [File("main")], out: None, map: None, map_form: Tlink, folders: [], object_folders: [], ignore_case: false
 ---
 
 :

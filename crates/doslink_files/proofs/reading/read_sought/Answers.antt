@@ -10,13 +10,14 @@ use Rattle.doslink_files.proofs.reading.read_sought.Goals.{in-Ok+in_ok-push-in-O
 
 pub loop-each-preserved : goal.loop-each-preserved
 loop-each-preserved g c =
-    let folders = map (λ f. f.now) c.args.folders.now in
+    let objects = map (λ f. f.now) c.args.folders.objects.now in
+    let libraries = map (λ f. f.now) c.args.folders.libraries.now in
     let told = g.W.World.bytes c.args.world.now in
     let named : Unread → Type 0 = λ one. Contains (map sought_name c.args.sought.now) one.name.now in
     elim c.match-read_one.branch [
       | in-Ok+in_ok-push-in-Ok w ↦ record {
-        told = λ none. sought-next told folders c.args.sought.now c.loop-each.each-index _ c.loop-each.files.items
-            c.match-read_one.files.items w.in-Ok.file c.loop-each-test.true
+        told = λ none. sought-next told objects libraries c.args.sought.now c.loop-each.each-index _
+            c.loop-each.files.items c.match-read_one.files.items w.in-Ok.file c.loop-each-test.true
             (ap (λ v. v.items) w.files-is ∙ w.in_ok-push-in-Ok.ensures.items)
             (c.loop-each.invariant.told (ap (λ v. v.items) (sym w.unread-is) ∙ none)) w.in-Ok.ensures;
         unread = subst (λ v. All named v.items) (sym w.unread-is) c.loop-each.invariant.unread;
@@ -32,8 +33,9 @@ loop-each-preserved g c =
 
 pub returns-then-is_empty-clause-told : goal.returns-then-is_empty-clause-told
 returns-then-is_empty-clause-told g c =
-    let folders = map (λ f. f.now) c.args.folders.now in
+    let objects = map (λ f. f.now) c.args.folders.objects.now in
+    let libraries = map (λ f. f.now) c.args.folders.libraries.now in
     let told = g.W.World.bytes c.args.world.now in
-    subst (λ sought. AreSought told folders sought (contents c.loop-each.files.items))
+    subst (λ sought. AreSought told objects libraries sought (contents c.loop-each.files.items))
     (take_all c.loop-each.each-index c.args.sought.now (omega arith)) (c.loop-each.invariant.told
     (nil_from_length c.loop-each.unread.items (let empty = c.if-is_empty.true in search rules)))

@@ -8,6 +8,10 @@ pub returns-in-Ok-clause-files : goal.returns-in-Ok-clause-files
 returns-in-Ok-clause-files g c =
     let told = g.W.World.bytes c.args.world.now in
     let files = contents c.in-Ok.files.items in
-    subst (λ s. AreSought told (texts c.args.job.now.folders.items) s files)
-    (c.deref-3.ensures.value ∙ c.in_ok-sought.ensures ∙ ap (map sought_of) c.deref.ensures.value)
-    (subst (λ fs. AreSought told (texts fs) c.deref-3.result.now files) c.deref-2.ensures.value c.in-Ok.ensures.told)
+    let job = c.args.job.now in
+    subst (λ s. AreSought told (texts job.object_folders.items) (texts job.folders.items) s files)
+    (c.deref-4.ensures.value ∙ c.in_ok-sought.ensures ∙ ap (map sought_of) c.deref.ensures.value)
+    (subst (λ fs. AreSought told (texts job.object_folders.items) (texts fs) c.deref-4.result.now files)
+    c.deref-3.ensures.value
+    (subst (λ fs. AreSought told (texts fs) (texts c.deref-3.result.now) c.deref-4.result.now files)
+    c.deref-2.ensures.value c.in-Ok.ensures.told))

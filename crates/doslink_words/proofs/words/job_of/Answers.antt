@@ -34,7 +34,8 @@ returns c =
       default_libraries =
           contrary_flag f (codes "no-default-libs") c.get_flag-2.result c.get_flag-2.ensures.value
           c.get_flag-2.ensures.other c.get_flag-2.ensures.none;
-      left_out = c.new.ensures.items;
+      object_folders = c.new.ensures.items;
+      left_out = c.new-2.ensures.items;
       keep_debug =
           flag_of f (codes "keep-debug") c.get_flag-3.result c.get_flag-3.ensures.value c.get_flag-3.ensures.other
           c.get_flag-3.ensures.none;
@@ -44,6 +45,6 @@ returns c =
           c.get_flag-4.ensures.none;
       quiet = refl;
       start = refl;
-      references = c.new-2.ensures.items;
-      aliases = c.new-3.ensures.items;
+      references = c.new-3.ensures.items;
+      aliases = c.new-4.ensures.items;
     }

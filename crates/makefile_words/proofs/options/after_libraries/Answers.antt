@@ -1,7 +1,7 @@
 use Rattle.std.proofs.Common.{arith}
 use Rattle.std.proofs.lemmas.Str.Pattern.{strip_prefix_char}
 use Rattle.clap.proofs.LexerLemmas.{strip_byte-from}
-use Rattle.makefile_words.proofs.options.after_letter.Goals as goal
+use Rattle.makefile_words.proofs.options.after_libraries.Goals as goal
 
 pub returns : goal.returns
 returns c =

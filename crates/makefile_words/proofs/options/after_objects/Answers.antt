@@ -1,0 +1,9 @@
+use Rattle.std.proofs.Common.{arith}
+use Rattle.std.proofs.lemmas.Str.Pattern.{strip_prefix_char}
+use Rattle.clap.proofs.LexerLemmas.{strip_byte-from}
+use Rattle.makefile_words.proofs.options.after_objects.Goals as goal
+
+pub returns : goal.returns
+returns c =
+    strip_byte-from 106 c.args.option.now c.strip_prefix.result
+    (strip_prefix_char 106 c.args.option.now c.strip_prefix.result c.strip_prefix.ensures.cases (omega arith))
