@@ -1558,8 +1558,7 @@ NAMES_OF_LINES = [
     Change("/CPARMAXALLOC is passed over", "line_jobs.py", 'Form("exe", most_extra=said.most_extra)', 'Form("exe")'),
     Change("the most extra paragraphs may be fewer than the least", "program_file.py", "max(most_extra, least_extra)", "most_extra"),
     Change("the most extra paragraphs are the least", "program_file.py", "max(most_extra, least_extra)", "least_extra"),
-    Change("that a map has no line numbers isn't told", "line_jobs.py", '(said.has_lines, "has no line numbers"), ', ""),
-    Change("that a map has no parts of segments isn't told", "line_jobs.py", ', (said.is_detailed, "tells of no module\'s parts of segments")]', "]"),
+    Change("that a map has no parts of segments isn't told", "line_jobs.py", '(said.is_detailed, "tells of no module\'s parts of segments")', ""),
     Change("what a map has not is told without a map", "line_jobs.py", "if is_asked and map_name is not None]", "if is_asked]"),
 ]
 
@@ -1588,6 +1587,17 @@ MAPS = [
     Change("an absolute public isn't marked", "link_map.py", 'b"   " if meaning.address.is_relocatable else b"Abs"', 'b"   "'),
     Change("the start is that of the stack", "link_map.py",
            "(registers.code, registers.instruction)", "(registers.stack, registers.stack_pointer)"),
+    Change("maps have no line numbers", "linking.py", "        if self.job.map_has_lines:\n", "        if False:\n"),
+    Change("maps have line numbers always", "linking.py", "        if self.job.map_has_lines:\n", "        if True:\n"),
+    Change("lines are of another module", "line_numbers.py", "in enumerate(zip(words, contents)):", "in enumerate(zip(words, contents[::-1])):"),
+    Change("lines are of another file", "line_numbers.py", "in enumerate(zip(words, contents)):", "in enumerate(zip(words[::-1], contents)):"),
+    Change("lines of all segments are of each", "line_numbers.py",
+           "isinstance(record, records.LineNumbers) and record.segment == segment:", "isinstance(record, records.LineNumbers):"),
+    Change("lines of the last segment are left out", "line_numbers.py",
+           "range(1, len(program.modules[owner].segments) + 1)", "range(1, len(program.modules[owner].segments))"),
+    Change("five lines stand in a row", "line_numbers.py", "LINES_IN_A_ROW = 4", "LINES_IN_A_ROW = 5"),
+    Change("a line has its segment's frame", "line_numbers.py", "group = record.group if record.group <= len(groups) else 0", "group = 0"),
+    Change("a segment without lines has a heading", "line_numbers.py", "            if lines:\n", "            if True:\n"),
 ]
 
 # of a program that takes these

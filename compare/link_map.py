@@ -12,6 +12,8 @@ ENTRY = "\nProgram entry point at "
 ROW = re.compile(r" ([0-9A-F]{5})H ([0-9A-F]{5})H ([0-9A-F]{5})H (.*)")
 GROUP = re.compile(r" ([0-9A-F]{4}):0   (.*)")
 PUBLIC = re.compile(r" ([0-9A-F]{4}):([0-9A-F]{4})  (Abs|   )  (.*)")
+LINES = re.compile(r"\nLine numbers for (.*) segment (.*)\n\n")
+LINE = re.compile(r" *([0-9]+) ([0-9A-F]{4}):([0-9A-F]{4})")
 
 
 @dataclass(frozen=True)
@@ -49,6 +51,8 @@ class LinkMap:
     groups: list = None
     by_name: list = field(default_factory=list)
     by_value: list = field(default_factory=list)
+    # of a file with its module's name, and a segment: each line with its frame and offset
+    lines: dict = field(default_factory=dict)
     entry: tuple = (0, 0)
 
 
@@ -75,6 +79,7 @@ def public(frame, offset, mark, name):
 def read(text):
     """What a map says."""
     front, by_name, by_value, entry = re.split("|".join((BY_NAME, BY_VALUE, ENTRY)), text)
+    by_value, *numbers = LINES.split(by_value)
     said = LinkMap()
     front, is_link, groups = front.partition(GROUPS)
     if is_link:
@@ -86,6 +91,9 @@ def read(text):
     said.segments = [row(*each, width) for each in lines_of(rows if is_link else rows.removeprefix("\n"), ROW)]
     said.by_name = [public(*each) for each in lines_of(by_name, PUBLIC)]
     said.by_value = [public(*each) for each in lines_of(by_value, PUBLIC)]
+    for file, segment, lines in zip(numbers[0::3], numbers[1::3], numbers[2::3]):
+        found = LINE.findall(lines)
+        said.lines[file, segment] = [(int(number), int(frame, 16), int(offset, 16)) for number, frame, offset in found]
     code, instruction = entry.removesuffix("\n").split(":")
     said.entry = int(code, 16), int(instruction, 16)
     return said

@@ -506,8 +506,11 @@ LINES = [
         "inputs": given(["a"]), "object_folders": ["c", "d"], "has_default_libraries": False}),
     ("an option without effect", "link", ["a", "/CO;"], {
         "inputs": given(["a"]), "warnings": [("line 1, column 3", "no data for debuggers is written")]}),
-    ("no line numbers", "tlink", ["/l", "a"], {
-        "inputs": given(["a"]), "maps_to_out": True, "map_lacks": ["has no line numbers"]}),
+    ("line numbers", "tlink", ["/l", "a"], {
+        "inputs": given(["a"]), "maps_to_out": True, "map_has_lines": True}),
+    ("no parts of segments", "tlink", ["/s", "a"], {
+        "inputs": given(["a"]), "maps_to_out": True,
+        "map_lacks": ["tells of no module's parts of segments"]}),
     ("paths", "tlink", ["/x", "/home/x/a.obj", "./b/x", "c/x"], {"inputs": given(["/home/x/a.obj", "./b/x", "c"])}),
     ("an unknown option", "link", ["@wrong"], 'line 3, column 4: "/z": unknown option'),
     ("no object", "link", [",p;"], "an object is expected"),

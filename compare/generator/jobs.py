@@ -1037,13 +1037,16 @@ class JobMaker:
         words = ["/NOD:" + self.random.choice(["slibce", "SLIBCE.LIB", "other", "slibce.lib", "SLIB"])]
         return self.by_line(LINK, words)
 
-    def make_map(self, form):
-        """A map in a form, of publics in groups, of absolute ones and of any."""
-        self.folders, self.plan.wants_marks = [], 0.9
+    def make_map(self, form, option=None):
+        """A map in a form, of publics in groups, of absolute ones and of any; or that of a line with an option, with line
+        numbers."""
+        self.folders, self.plan.wants_marks, self.plan.has_lines = [], 0.9, 0.2 if option is None else 0.9
         self.add_some_objects()
         names = [width * b"N" for width in (17, 18, 19, 22, 23, 40)]
         self.files["long.obj"] = module_of_lengths(names, 2, [0, 1, 2, 0, 1, 2], False)
         self.give("long.obj")
+        if option is not None:
+            return self.by_line(form, [option])
         self.job.map_form = form
         return self.case(self.words(), "doslink")
 
@@ -1352,7 +1355,8 @@ MADE_BY_LINES = [
         (language, deep) for deep in (7, 8, 9, 3) for language in (LINK, TLINK)])),
     (40, 19, in_turn(JobMaker.make_many_files, [(LINK, 200), (TLINK, 201), (TLINK, 200), (LINK, 201)])),
     (40, 39, in_turn(JobMaker.make_default_left_out, ["slibce.lib", "SLIBCE.LIB", "SLIBCE"])),
-    (20, 15, in_turn(JobMaker.make_map, ["link", "tlink", "link", "omf"])),
+    (20, 15, in_turn(JobMaker.make_map, [
+        ("link",), (LINK, "/LI"), ("tlink",), (TLINK, "/l"), ("omf",), (LINK, "/LINENUM"), (TLINK, "/l/m")])),
 ]
 
 

@@ -62,6 +62,7 @@ class Plan:
     has_aliases: float
     has_defaults: float
     has_local_defaults: bool = False
+    has_lines: float = 0.2
     ignores_case: bool = False
     libraries: list = field(default_factory=list)
     # names of communal variables, and those that some module declares
@@ -135,7 +136,7 @@ class ObjectMaker:
             steps.append(self.define_defaults)
         if self.plan.has_local_defaults:
             steps.append(self.define_local_default)
-        if self.happens(0.2):
+        if self.happens(self.plan.has_lines):
             steps.append(self.add_lines)
         if self.happens(0.05):
             steps.append(self.add_communal_externals)
@@ -325,9 +326,15 @@ class ObjectMaker:
                 self.externals = 0
 
     def add_lines(self):
-        """Numbers of lines, with the offset of each."""
-        lines = [(line, 2 * line) for line in range(self.random.randrange(3))]
-        self.add(records.LineNumbers(0, 1, lines))
+        """Numbers of lines, with the offset of each: of any segment and by any group, rarely of none that is there."""
+        for _ in range(self.random.choice([1, 1, 2, 3])):
+            known = len(self.lengths) + (2 if self.happens(0.05) else 0)
+            segment = self.random.randrange(0 if self.happens(0.02) else 1, known + 1)
+            group = self.random.choice([0, 0, self.group, 1]) if self.happens(0.5) else 0
+            first = self.random.choice([1, 9, 99, 9_998, 65_520])
+            count = self.random.choice([0, 1, 2, 3, 4, 5, 8, 9])
+            offsets = [self.random.choice([2 * number, 0, 0xFFFF]) for number in range(count)]
+            self.add(records.LineNumbers(group, segment, [(first + number, offset) for number, offset in enumerate(offsets)]))
 
     def counted(self, name):
         return records.name(name)

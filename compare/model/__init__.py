@@ -28,6 +28,7 @@ The model spends no thought on speed.
 | `line_jobs` | the job of such a line, with what response files say |
 | `places` | files by their paths, and by names of DOS |
 | `link_map` | maps in the forms of LINK and TLINK |
+| `line_numbers` | the line numbers in these |
 | `linking` | what `doslink` answers and writes |
 
 An `owner` is the number of an input, and of its module, from 0 on. A `place` is how many bytes come

@@ -85,6 +85,8 @@ class Job:
     maps_to_out: bool = False
     # "omf", "link" or "tlink"
     map_form: str = "omf"
+    # whether a map in one of the last two forms has line numbers
+    map_has_lines: bool = False
     # what is asked for and the map hasn't
     map_lacks: list = field(default_factory=list)
     # default libraries that aren't searched

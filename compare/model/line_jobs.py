@@ -144,10 +144,11 @@ def job_of(language, text, front=""):
     # a .COM file has no header that could ask for memory
     form = Form("com") if said.form == "com" else Form("exe", most_extra=said.most_extra)
     map_name = lines.map_of(said)
-    lacks = [(said.has_lines, "has no line numbers"), (said.is_detailed, "tells of no module's parts of segments")]
+    lacks = [(said.is_detailed, "tells of no module's parts of segments")]
     return Job(
         inputs=[Input(name, is_library) for name, is_library in said.inputs],
         out=said.out, map=map_name or None, maps_to_out=map_name == "", map_form=language,
+        map_has_lines=said.has_lines,
         map_lacks=[what for is_asked, what in lacks if is_asked and map_name is not None],
         folders=said.folders, object_folders=said.object_folders, ignores_case=not said.case_counts,
         order=ordering.DOSSEG if said.order else None,

@@ -7,8 +7,8 @@ FRAME_REACH = 65_536
 PARAGRAPH = 16
 
 
-def map_of(program, form):
-    """Its parts, each but the first behind an empty line of its own."""
+def map_of(program, form, line_numbers=()):
+    """Its parts, each but the first behind an empty line of its own; the lines of line numbers are given."""
     publics = listed_publics(program.layout)
     registers = program.registers
     lines = [b"", *lines_of_segments(program.layout, form)]
@@ -16,6 +16,7 @@ def map_of(program, form):
         lines += [b"", b" Origin   Group", *lines_of_groups(program.layout)]
     lines += lines_of_publics(b"Name", sorted(publics, key=lambda each: each[3]))
     lines += lines_of_publics(b"Value", sorted(publics, key=lambda each: each[:2]))
+    lines += line_numbers
     lines += [b"", b"Program entry point at %04X:%04X" % (registers.code, registers.instruction)]
     return b"".join(line + b"\n" for line in lines)
 

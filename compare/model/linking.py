@@ -10,8 +10,8 @@ from os.path import normpath
 from typing import Optional
 
 from model import (
-    communal, directives, faults, foreign, forms, image, libraries, line_jobs, lines, link_map, local,
-    lowering, module, naming, ordering, printing, search, stack)
+    communal, directives, faults, foreign, forms, image, libraries, line_jobs, line_numbers, link_map,
+    local, lowering, module, naming, ordering, printing, search, stack)
 from model.commands import Answer, Output
 from model.faults import Fault, escaped, printed_name
 from model.names import Names, wanting_places
@@ -230,7 +230,11 @@ class Linking:
         """The map in its form; that of `omf` has the modules behind it."""
         if self.job.map_form == "omf":
             return printing.map_of(program) + self.table_of(program)
-        return link_map.map_of(program, self.job.map_form)
+        lines = []
+        if self.job.map_has_lines:
+            words = [each.word for each in self.handed]
+            lines = line_numbers.paragraphs(program, words, self.contents)
+        return link_map.map_of(program, self.job.map_form, lines)
 
     def found(self, paths):
         """The first path at which a file is, or None."""

@@ -219,12 +219,7 @@ fn push_warnings(
         }
     }
     warnings.append_to(lines)?;
-    push_form_warning(&made.job, parts.linker, lines)?;
-    let has_map = made.job.map.is_some();
-    if has_map && made.settings.line_numbers {
-        lines.extend_from_slice(b"doslink: warning: the map has no line numbers\n")?;
-    }
-    if has_map && made.settings.detailed {
+    if made.job.map.is_some() && made.settings.detailed {
         lines.extend_from_slice(
             b"doslink: warning: the map tells of no module's parts of segments\n",
         )?;

@@ -5,7 +5,7 @@ ghost use Rattle.omf_place.specs.Bounded.{IsBounded};
 ghost use Rattle.doslink_files.specs.Written.{StandsAt};
 ghost use Rattle.doslink_link.specs.Linking.{bytes_of};
 ghost use Rattle.doslink_words.specs.declared.job.MapForm.TheVariants.{Omf};
-ghost use Rattle.link_map.specs.Map.{link_map_text};
+ghost use Rattle.link_map.specs.Map.{link_map_text, numbered_map_text};
 ghost use Rattle.doslink_jobs.specs.Maps as spec;
 ghost use Rattle.doslink_jobs.specs.Written.{AreWritten};
 ghost use Rattle.doslink_jobs.specs.inside.Stops.{OnInput};
@@ -16,7 +16,9 @@ use doslink_files::put_file;
 use doslink_link::{Linked, Page};
 use doslink_telling::{push_fault, table};
 use doslink_words::{Job, MapForm};
-use link_map::{LinkedProgram, MapFault, MapForm as LinkerForm, write_link_map};
+use link_map::{
+    LinkedProgram, MapFault, MapForm as LinkerForm, Sources, write_link_map, write_numbered_map,
+};
 use omf_commands::{Report, write_map};
 use omf_faults::LinkFault;
 use omf_files::World;
@@ -67,7 +69,38 @@ fn linker_map<A: Allocator + Copy>(
     }
 }
 
-/// The map of what was linked, in a form. The modules' bytes and the words for them are told in that of `omf` alone.
+/// The map of what was linked in the form of LINK or of TLINK, with the line numbers of the inputs, whose words name
+/// their files.
+fn numbered_map<A: Allocator + Copy>(
+    alloc: A,
+    form: LinkerForm,
+    report: &Report<A>,
+    inputs: &[&[u8]],
+    words: &[&[u8]],
+) -> Result<Vec<u8, A>, AllocError>
+    requires { IsBounded report.now.modules.items report.now.layout }
+    ensures { IfOk result (λ text. text.items ≡ numbered_map_text form report.now.modules.items report.now.layout
+        report.now.program (bytes_of inputs.now) (bytes_of words.now)) }
+{
+    let linked = LinkedProgram {
+        modules: &report.modules,
+        layout: &report.layout,
+        program: &report.program,
+    };
+    let sources = Sources {
+        inputs,
+        files: words,
+    };
+    let mut page = Page::new(alloc);
+    match write_numbered_map(alloc, &mut page, form, &linked, sources) {
+        Ok(()) => Ok(page.bytes),
+        // there was no memory, for the map or for the page
+        Err(MapFault::Memory | MapFault::Device) => Err(AllocError),
+    }
+}
+
+/// The map of what was linked, in a form. The modules' bytes and the words for them are told in that of `omf`, and
+/// where line numbers are.
 pub fn map_bytes<A: Allocator + Copy>(
     alloc: A,
     form: MapForm,
@@ -82,7 +115,9 @@ pub fn map_bytes<A: Allocator + Copy>(
     match form {
         MapForm::Omf => omf_map(alloc, report, inputs, words),
         MapForm::Link => linker_map(alloc, LinkerForm::Link, report),
+        MapForm::NumberedLink => numbered_map(alloc, LinkerForm::Link, report, inputs, words),
         MapForm::Tlink => linker_map(alloc, LinkerForm::Tlink, report),
+        MapForm::NumberedTlink => numbered_map(alloc, LinkerForm::Tlink, report, inputs, words),
     }
 }
 

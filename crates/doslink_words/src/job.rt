@@ -108,8 +108,12 @@ pub enum MapForm {
     Omf,
     /// That of Microsoft's LINK: start, stop, length, name and class of segments, and publics twice.
     Link,
+    /// That of LINK, with the line numbers of the modules.
+    NumberedLink,
     /// That of Borland's TLINK.
     Tlink,
+    /// That of TLINK, with the line numbers of the modules.
+    NumberedTlink,
 }
 
 /// The order in which segments stand.

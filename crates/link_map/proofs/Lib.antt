@@ -3,3 +3,5 @@ pub mod Orders
 pub mod Stable
 pub mod Lines
 pub mod Puts
+mod Texts
+mod BySegment

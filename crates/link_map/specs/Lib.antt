@@ -1,5 +1,6 @@
 pub mod Ordered
 pub mod Public
 pub mod Publics
+pub mod Numbers
 pub mod Map
 pub mod inside

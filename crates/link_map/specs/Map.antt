@@ -1,5 +1,5 @@
 -- The map of a linked program in the form of Microsoft's LINK, or of Borland's TLINK: segments in order of address,
--- groups, publics by name and by value, and where the program starts. Debuggers and disassemblers read it. What is out
+-- groups, publics by name and by value, line numbers where they are asked for, and where the program starts. Debuggers and disassemblers read it. What is out
 -- of range in a table has no line.
 use Rattle.std.specs.Prelude.{◌≡◌, ℕ, ◌+◌, ◌-◌, ◌==◌, if◌then◌else◌, List, [], ◌∷◌, ◌++◌, slice_get, length, replicate}
 use Rattle.std.specs.Prelude.{codes, Some, None, Err}
@@ -15,6 +15,7 @@ use Rattle.omf_place.specs.Layout.{Layout}
 use Rattle.omf_image.specs.declared.start.Registers.{Registers}
 use Rattle.omf_image.specs.Program.{Program}
 use Rattle.omf_text.specs.Printing.{hexadecimal}
+use Rattle.link_map.specs.Numbers.{number_lines}
 use Rattle.link_map.specs.Ordered.{ordered}
 use Rattle.link_map.specs.Public.{Public, by_name, by_value, public_line}
 use Rattle.link_map.specs.Publics.{publics}
@@ -99,6 +100,12 @@ start_line registers =
 abbrev pub link_map_text : MapForm → List Module → Layout → Program → List ℕ
 link_map_text form modules layout program = segment_lines form modules layout
     ++ (group_lines form modules layout ++ (public_lines modules layout ++ start_line program.registers))
+
+-- the same with the line numbers of the modules, which these inputs begin with, whose files are those: behind the publics
+abbrev pub numbered_map_text : MapForm → List Module → Layout → Program → (inputs files : List (List ℕ)) → List ℕ
+numbered_map_text form modules layout program inputs files = segment_lines form modules layout
+    ++ (group_lines form modules layout ++ (public_lines modules layout
+    ++ (number_lines modules layout inputs files ++ start_line program.registers)))
 
 -- what an answer says: a text was written, or a front of it; or there was no memory, and the sink is as it was
 abbrev pub WritesMap : {K X : Type 0} → (written : K → Option (List ℕ)) → (failures : K → ℕ) → (old new : K)

@@ -3,13 +3,16 @@ ghost use Rattle.std.specs.Prelude.{◌≡◌, ◌+◌, ◌-◌, ◌^◌, ◌<�
 ghost use Rattle.std.specs.List.{flat_map};
 ghost use Rattle.omf_frame.specs.Device.{Writes};
 ghost use Rattle.omf_module.specs.Seen.{group_seen, segment_seen};
+ghost use Rattle.omf_place.specs.Bounded.{IsBounded};
 ghost use Rattle.link_map.specs.Map as spec;
-ghost use Rattle.link_map.specs.Map.{WritesMap, link_map_text};
+ghost use Rattle.link_map.specs.Map.{WritesMap, link_map_text, numbered_map_text};
+ghost use Rattle.link_map.specs.Numbers.{bytes_of};
 ghost use Rattle.link_map.specs.inside.Listed.{all_seen};
 ghost use Rattle.link_map.specs.inside.Texts.{map_with};
 
 use crate::fault::MapFault;
 use crate::form::MapForm;
+use crate::numbers::{Sources, program_numbers};
 use crate::public::{ListedPublic, put_publics};
 use crate::publics::{Orders, in_orders};
 use omf_frame::{IoFault, Sink, put_all};
@@ -265,21 +268,23 @@ fn put_start<K: Sink>(sink: &mut K, registers: Registers) -> Result<(), IoFault>
     put_pieces(sink, pieces.as_slice())
 }
 
-/// Writes the whole map, with the publics in both orders.
+/// Writes the whole map, with the publics in both orders, and with these line numbers.
 fn put_lines<K: Sink, A: Allocator + Copy, B: Allocator + Copy>(
     sink: &mut K,
     form: MapForm,
     linked: &LinkedProgram<'_, A>,
     orders: &Orders<'_, B>,
+    numbers: &[u8],
 ) -> Result<(), IoFault>
     requires { K.failures sink.old < 2 ^ 64 - 1 }
     ensures { Writes K.written K.failures sink.old sink.new
         (map_with form linked.now.modules.now linked.now.layout.now linked.now.program.now
-        (all_seen orders.now.by_name.items) (all_seen orders.now.by_value.items)) result }
+        (all_seen orders.now.by_name.items) (all_seen orders.now.by_value.items) numbers.now) result }
 {
     put_segments(sink, form, linked.modules, linked.layout)?;
     put_groups(sink, form, linked.modules, linked.layout)?;
     put_orders(sink, &orders.by_name, &orders.by_value)?;
+    put_all(sink, numbers)?;
     put_start(sink, linked.program.registers())
 }
 
@@ -300,6 +305,31 @@ pub fn write_link_map<K: Sink, A: Allocator + Copy, B: Allocator + Copy>(
         (link_map_text form linked.now.modules.now linked.now.layout.now linked.now.program.now) result }
 {
     let orders = in_orders(alloc, linked.modules, linked.layout)?;
-    put_lines(sink, form, linked, &orders)?;
+    put_lines(sink, form, linked, &orders, b"")?;
+    Ok(())
+}
+
+/// Writes the same map with the line numbers of the modules behind the publics: of each module in order of inputs, and
+/// of each of its segments that has any. A line is listed where a public of its group and its segment would be, with
+/// its offset.
+///
+/// # Errors
+/// There was no memory for the orders of the publics or for the lines, and nothing was written; or the sink failed.
+pub fn write_numbered_map<K: Sink, A: Allocator + Copy, B: Allocator + Copy>(
+    alloc: B,
+    sink: &mut K,
+    form: MapForm,
+    linked: &LinkedProgram<'_, A>,
+    sources: Sources<'_>,
+) -> Result<(), MapFault>
+    requires working { K.failures sink.old < 2 ^ 64 - 1 }
+    requires bounded { IsBounded linked.now.modules.now linked.now.layout.now }
+    ensures { WritesMap K.written K.failures sink.old sink.new
+        (numbered_map_text form linked.now.modules.now linked.now.layout.now linked.now.program.now
+        (bytes_of sources.entry.inputs.now) (bytes_of sources.entry.files.now)) result }
+{
+    let orders = in_orders(alloc, linked.modules, linked.layout)?;
+    let numbers = program_numbers(alloc, linked.modules, linked.layout, sources)?;
+    put_lines(sink, form, linked, &orders, &numbers)?;
     Ok(())
 }

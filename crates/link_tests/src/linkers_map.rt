@@ -2,3 +2,5 @@
 
 #[cfg(test)]
 mod maps;
+#[cfg(test)]
+mod numbers;

@@ -37,10 +37,10 @@ order_asked ordering.Meeting = Meeting
 order_asked ordering.Dosseg = Dosseg
 order_asked ordering.WithoutNulls = Dosseg
 
--- the form of the map is the linker's own
-abbrev pub map_form_of : Language → MapForm
-map_form_of Tlink = map_form.Tlink
-map_form_of Link = map_form.Link
+-- the form of the map is the linker's own, with line numbers or without
+abbrev pub map_form_of : Language → (line_numbers : Bool) → MapForm
+map_form_of Tlink line_numbers = if line_numbers then map_form.NumberedTlink else map_form.Tlink
+map_form_of Link line_numbers = if line_numbers then map_form.NumberedLink else map_form.Link
 
 -- whether an order is one without null bytes
 abbrev pub is_without_nulls : Ordering → Bool
@@ -68,7 +68,7 @@ pub record IsJobOf (language : Language) (said : SaidLine) (made : MakefileJob) 
   pub inputs : inputs_of made.job.inputs.items ≡ said.inputs
   pub out : option_map (λ name. name.now) made.job.out ≡ said.out
   pub map : option_map map_of made.job.map ≡ map_asked said.settings said.map
-  pub map_form : made.job.map_form ≡ map_form_of language
+  pub map_form : made.job.map_form ≡ map_form_of language said.settings.line_numbers
   pub folders : texts made.job.folders.items ≡ said.folders
   pub object_folders : texts made.job.object_folders.items ≡ said.object_folders
   pub ignore_case : made.job.ignore_case ≡ not said.settings.case_counts

@@ -50,13 +50,15 @@ fn order_asked<'a>(ordering: Ordering) -> Order<'a>
     }
 }
 
-// The form of the map.
-fn map_form_of(language: Language) -> MapForm
-    ensures { result ≡ spec.map_form_of language }
+// The form of the map, with line numbers or without.
+fn map_form_of(language: Language, line_numbers: bool) -> MapForm
+    ensures { result ≡ spec.map_form_of language line_numbers }
 {
-    match language {
-        Language::Tlink => MapForm::Tlink,
-        Language::Link => MapForm::Link,
+    match (language, line_numbers) {
+        (Language::Tlink, false) => MapForm::Tlink,
+        (Language::Tlink, true) => MapForm::NumberedTlink,
+        (Language::Link, false) => MapForm::Link,
+        (Language::Link, true) => MapForm::NumberedLink,
     }
 }
 
@@ -99,7 +101,7 @@ pub(crate) fn job_of<'a>(alloc: Global, language: Language, line: Line<'a>) -> M
         inputs: line.inputs,
         out: line.out,
         map: map_asked(settings, line.map),
-        map_form: map_form_of(language),
+        map_form: map_form_of(language, settings.line_numbers),
         folders: line.folders,
         object_folders: line.object_folders,
         ignore_case: !settings.case_counts,

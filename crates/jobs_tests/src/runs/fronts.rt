@@ -141,8 +141,8 @@ pub(crate) const CONFIGURED: [(&[u8], &str); 18] = [
     ),
     (b"/i", "tlink /x /i- F|0||"),
     (
-        b"/l",
-        "tlink F|0||doslink: warning: the map has no line numbers~",
+        b"/s",
+        "tlink F|0||doslink: warning: the map tells of no module's parts of segments~",
     ),
     (
         b"/x",

@@ -5,6 +5,7 @@ use super::modules::OFFERS;
 /// Response files, and a module in a folder.
 pub(crate) const LINE_FILES: [(&str, &[u8]); 10] = [
     ("OBJ/UNO.OBJ", &OFFERS),
+    ("NUMBERED.OBJ", &NUMBERED),
     ("LINK.RSP", b"A+\r\nF /NOI\r\nP.EXE\r\n"),
     ("OBJS", b"A +F\n"),
     ("LIBRARIES", b"RUN\n"),
@@ -51,7 +52,7 @@ link /CP:1 F;|0||
 link /CP:0xFFFF F;|0||
 tlink /i F|2||doslink: /i isn't followed: segments without data take no bytes of the file~
 link /CO F /E;|0||doslink: warning: line 1, column 1: no data for debuggers is written~doslink: warning: line 1, column 7: the program isn't packed: it runs the same~
-tlink F /l|0||doslink: warning: the map has no line numbers~
+tlink F /l|0||
 tlink F /s|0||doslink: warning: the map tells of no module's parts of segments~
 tlink /x F /l /s|0||
 link F,P.COM;|0||doslink: warning: P.COM: an EXE file is written: /T makes a .COM file~
@@ -67,7 +68,7 @@ link F,F.OBJ;|2||doslink: F.OBJ: it is read and would be written~
 ";
 
 /// Runs of lines, the path at which each writes, and all that it writes there.
-pub(crate) const LINED: [(&str, &str, &[u8]); 18] = [
+pub(crate) const LINED: [(&str, &str, &[u8]); 21] = [
     ("link F;", "F.EXE", &EXE_OF_F),
     ("link OBJ/UNO;", "UNO.EXE", &EXE_OF_F),
     ("link OBJ/UNO,OBJ/DUO;", "OBJ/DUO.EXE", &EXE_OF_F),
@@ -95,12 +96,84 @@ pub(crate) const LINED: [(&str, &str, &[u8]); 18] = [
     // as many paragraphs behind the image as are asked for, and never fewer than the program needs
     ("link F,P /CP:0;", "P.EXE", &EXE_OF_F_WITH_1),
     ("link F,P /CP:1;", "P.EXE", &EXE_OF_F_WITH_1),
+    // line numbers in the map, whose offsets had 32 bits
+    (
+        "link NUMBERED,P /LI;",
+        "P.MAP",
+        b"
+ Start  Stop   Length Name                   Class
+ 00000H 00001H 00002H _TEXT                  _TEXT
+
+ Origin   Group
+
+  Address         Publics by Name
+
+
+  Address         Publics by Value
+
+
+Line numbers for NUMBERED.OBJ(n.c) segment _TEXT
+
+    12 0000:0000    13 0000:0001
+
+Program entry point at 0000:0000
+",
+    ),
+    (
+        "tlink NUMBERED,P /l",
+        "P.MAP",
+        b"
+ Start  Stop   Length Name               Class
+
+ 00000H 00001H 00002H _TEXT              _TEXT
+
+  Address         Publics by Name
+
+
+  Address         Publics by Value
+
+
+Line numbers for NUMBERED.OBJ(n.c) segment _TEXT
+
+    12 0000:0000    13 0000:0001
+
+Program entry point at 0000:0000
+",
+    ),
+    (
+        "tlink NUMBERED,P",
+        "P.MAP",
+        b"
+ Start  Stop   Length Name               Class
+
+ 00000H 00001H 00002H _TEXT              _TEXT
+
+  Address         Publics by Name
+
+
+  Address         Publics by Value
+
+
+Program entry point at 0000:0000
+",
+    ),
     ("link F,P /CP:0x102;", "P.EXE", &EXE_OF_F_WITH_258),
     (
         "link COMED,,,RUN /T /CP:1;",
         "COMED.COM",
         &[0xE8, 0x00, 0x00, 0x90, 0x90],
     ),
+];
+
+/// A module of two bytes of code with a line number each, in a record of 32 bits.
+const NUMBERED: [u8; 61] = [
+    0x80, 0x05, 0x00, 0x03, 0x6E, 0x2E, 0x63, 0x00, //
+    0x96, 0x08, 0x00, 0x00, 0x05, 0x5F, 0x54, 0x45, 0x58, 0x54, 0x00, //
+    0x98, 0x07, 0x00, 0x28, 0x02, 0x00, 0x02, 0x02, 0x01, 0x00, //
+    0xA0, 0x06, 0x00, 0x01, 0x00, 0x00, 0x90, 0x90, 0x00, //
+    0x95, 0x0F, 0x00, 0x00, 0x01, 0x0C, 0x00, 0x00, 0x00, 0x00, 0x00, 0x0D, 0x00, 0x01, 0x00, 0x00,
+    0x00, 0x00, //
+    0x8A, 0x02, 0x00, 0x00, 0x00, //
 ];
 
 /// The program of `F`, which needs a paragraph behind its image, and asks for no more.

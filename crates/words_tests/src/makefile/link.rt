@@ -137,7 +137,7 @@ publics: true
 ---
 /LI main;
 =>
-map: Some(Beside), map_form: Link, folders: []
+map: Some(Beside), map_form: NumberedLink, folders: []
 ---
 /T main,prog.com;
 =>

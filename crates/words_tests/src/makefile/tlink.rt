@@ -124,6 +124,14 @@ inputs: [File("src/main")]
 =>
 publics: true, line_numbers: true, detailed: true, writes_all: true
 ---
+/l main
+=>
+map: Some(Beside), map_form: NumberedTlink, folders: []
+---
+/l /l- main
+=>
+map: Some(Beside), map_form: Tlink, folders: []
+---
 /m- /c- /x- main
 =>
 map: Some(Beside), map_form: Tlink, folders: [], object_folders: [], ignore_case: true

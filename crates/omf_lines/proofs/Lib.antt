@@ -1,0 +1,3 @@
+mod Slices
+mod Kept
+mod Said

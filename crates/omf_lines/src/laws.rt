@@ -1,0 +1,15 @@
+//! A law of the definitions: the contract of a function that does nothing.
+ghost use Rattle.std.specs.Prelude.{◌≡◌, ℕ, List, map};
+ghost use Rattle.omf_frame.specs.Frame.{Frame};
+ghost use Rattle.omf_record.specs.Body.{Body};
+ghost use Rattle.omf_record.specs.Record.{Linnum};
+ghost use Rattle.omf_record.specs.declared.externals.Line.{Line};
+ghost use Rattle.omf_lines.specs.Lines.{line_of, lines_in};
+
+/// The lines of a record of line numbers are those that its body says.
+#[tactic(auto, using(crate::proofs::Said::lines_said))]
+pub fn lines_are_said()
+    ensures { (f : Frame) (group segment : ℕ) (lines : List Line) → f.kind ≡ 0x94
+        → Body (Linnum group segment lines) f.body
+        → lines_in f ≡ map (λ line. line_of group segment (line.number, line.offset)) lines }
+{}
