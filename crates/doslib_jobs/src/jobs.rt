@@ -1,0 +1,154 @@
+//! What each subcommand does with files and the two streams, and the status that it ends with.
+ghost use Rattle.std.specs.Prelude.{◌≡◌, ◌-◌, ◌^◌, ◌<◌};
+ghost use Rattle.omf_files.specs.Files.{sink_bytes, sink_failures};
+ghost use Rattle.doslib_jobs.specs.Jobs.{Answers, Ends, EndsRefused, Prints, Runs, Tells, exit_status};
+ghost use Rattle.doslib_jobs.specs.Jobs.{stopped_line, told_lines};
+ghost use Rattle.doslib_jobs.specs.declared.fault.Stopped.TheVariants as stopped;
+ghost use Rattle.doslib_jobs.specs.inside.Running.{outcome_said};
+ghost use Rattle.doslib_words.specs.Words.{texts};
+
+use crate::fault::Stopped;
+use crate::listing::list_files;
+use crate::outcome::{FAILED, Outcome};
+use doslib_words::{Job, WordsFault, parse_words};
+use omf_files::{BufferedSink, World};
+use omf_frame::{Sink, put_all};
+use std::alloc::{Allocator, Global};
+use std::io::Write;
+
+/// The exit status of wrong words.
+const WRONG_WORDS: u8 = 2;
+
+/// Does what the words after the program's name ask for, and hands out the exit status.
+pub fn run_words<W: World + Copy, O: Write + Drop, E: Sink>(
+    alloc: Global,
+    world: W,
+    words: &[&str],
+    output: &mut BufferedSink<O>,
+    errors: &mut E,
+) -> u8
+    requires output { sink_failures output.old ≡ 0 }
+    requires errors { E.failures errors.old < 2 ^ 64 - 1 }
+    ensures { Runs (W.bytes world) (texts words.now) (sink_bytes O.contents output.old)
+        (sink_bytes O.contents output.new) (Tells E.written E.failures errors.old errors.new) result }
+{
+    match parse_words(alloc, words) {
+        Ok(job) => run_job(alloc, world, &job, output, errors),
+        Err(fault) => answer_words(alloc, &fault, output, errors),
+    }
+}
+
+/// Says why the words are no job, and hands out the exit status.
+fn answer_words<O: Write + Drop, E: Sink>(
+    alloc: Global,
+    fault: &WordsFault,
+    output: &mut BufferedSink<O>,
+    errors: &mut E,
+) -> u8
+    requires output { sink_failures output.old ≡ 0 }
+    requires errors { E.failures errors.old < 2 ^ 64 - 1 }
+    ensures { EndsRefused fault.now (sink_bytes O.contents output.old) (sink_bytes O.contents output.new)
+        (Tells E.written E.failures errors.old errors.new) result }
+{
+    match fault {
+        WordsFault::Help(text) => {
+            let answer = print_text(alloc, text.as_str(), output);
+            finish(&answer, errors)
+        }
+        WordsFault::Wrong(text) => wrong_words(text.as_str(), errors),
+        WordsFault::Memory => out_of_memory(errors),
+    }
+}
+
+/// Does a job, with the memory of this allocator, and hands out the exit status.
+pub fn run_job<W: World + Copy, O: Write + Drop, E: Sink, A: Allocator + Copy>(
+    alloc: A,
+    world: W,
+    job: &Job<'_>,
+    output: &mut BufferedSink<O, A>,
+    errors: &mut E,
+) -> u8
+    requires output { sink_failures output.old ≡ 0 }
+    requires errors { E.failures errors.old < 2 ^ 64 - 1 }
+    ensures { Ends (Answers (W.bytes world) job.now (sink_bytes O.contents output.old)
+        (sink_bytes O.contents output.new)) (Tells E.written E.failures errors.old errors.new) result }
+{
+    let answer = answer_job(alloc, world, job, output);
+    finish(&answer, errors)
+}
+
+/// Does a job.
+fn answer_job<W: World + Copy, O: Write + Drop, A: Allocator + Copy>(
+    alloc: A,
+    world: W,
+    job: &Job<'_>,
+    output: &mut BufferedSink<O, A>,
+) -> Result<Outcome<A>, Stopped>
+    requires { sink_failures output.old ≡ 0 }
+    ensures { Answers (W.bytes world) job.now (sink_bytes O.contents output.old) (sink_bytes O.contents output.new)
+        (outcome_said result) }
+{
+    match job {
+        Job::List { files } => {
+            let outcome = list_files(alloc, world, files, output)?;
+            output.flush()?;
+            Ok(outcome)
+        }
+    }
+}
+
+/// Writes a text to standard output.
+fn print_text<O: Write + Drop>(
+    alloc: Global,
+    text: &str,
+    output: &mut BufferedSink<O>,
+) -> Result<Outcome<Global>, Stopped>
+    requires { sink_failures output.old ≡ 0 }
+    ensures { Prints text.now (sink_bytes O.contents output.old) (sink_bytes O.contents output.new)
+        (outcome_said result) }
+{
+    put_all(output, text.as_bytes())?;
+    output.flush()?;
+    Ok(Outcome::new(alloc))
+}
+
+/// Says that there was no memory, and hands out the exit status.
+pub fn out_of_memory<E: Sink>(errors: &mut E) -> u8
+    requires { E.failures errors.old < 2 ^ 64 - 1 }
+    ensures line { Tells E.written E.failures errors.old errors.new (stopped_line stopped.Memory) }
+    ensures status { result ≡ 3 }
+{
+    // where standard error fails, the status alone tells it
+    let _ = put_all(errors, Stopped::Memory.line().as_bytes());
+    FAILED
+}
+
+/// Says why the words are refused, and hands out the exit status.
+pub fn wrong_words<E: Sink>(text: &str, errors: &mut E) -> u8
+    requires { E.failures errors.old < 2 ^ 64 - 1 }
+    ensures text { Tells E.written E.failures errors.old errors.new text.now }
+    ensures status { result ≡ 2 }
+{
+    // where standard error fails, the status alone tells it
+    let _ = put_all(errors, text.as_bytes());
+    WRONG_WORDS
+}
+
+/// Writes the lines of faults to standard error, or why the run stopped, and hands out the exit status.
+fn finish<E: Sink, A: Allocator + Copy>(answer: &Result<Outcome<A>, Stopped>, errors: &mut E) -> u8
+    requires { E.failures errors.old < 2 ^ 64 - 1 }
+    ensures line { Tells E.written E.failures errors.old errors.new (told_lines (outcome_said answer.now)) }
+    ensures status { result ≡ exit_status (outcome_said answer.now) }
+{
+    match answer {
+        Ok(outcome) => {
+            // where standard error fails, the status alone tells it
+            let _ = put_all(errors, &outcome.lines);
+            outcome.status
+        }
+        Err(why) => {
+            let _ = put_all(errors, why.line().as_bytes());
+            FAILED
+        }
+    }
+}

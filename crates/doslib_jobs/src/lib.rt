@@ -1,0 +1,12 @@
+//! What the words of the command line of `doslib` ask for, done with files and the two streams, and the status that it
+//! ends with.
+#![tactic(auto)]
+
+mod fault;
+mod jobs;
+mod listing;
+mod outcome;
+mod reading;
+
+pub use fault::Stopped;
+pub use jobs::{out_of_memory, run_job, run_words, wrong_words};

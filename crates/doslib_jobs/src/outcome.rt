@@ -1,0 +1,86 @@
+//! What a job comes to.
+
+ghost use Rattle.std.specs.Prelude.{◌≡◌, ◌++◌, [], OnOk, map, max};
+ghost use Rattle.omf_library.specs.Members.{plain_member};
+ghost use Rattle.doslib_text.specs.Faults.{faults_text};
+ghost use Rattle.doslib_jobs.specs.Reading.{faults_status, unread_line};
+
+use crate::reading::push_unread;
+use doslib_text::push_faults;
+use doslink_files::ReadFault;
+use omf_library::{FormatFault, Member};
+use std::alloc::{AllocError, Allocator};
+
+/// The exit status where a file is at fault.
+pub(crate) const AT_FAULT: u8 = 1;
+
+/// The exit status where a device or memory failed.
+pub(crate) const FAILED: u8 = 3;
+
+/// What a job came to.
+#[derive(Drop)]
+pub struct Outcome<A: Allocator> {
+    /// A line for each fault.
+    pub(crate) lines: Vec<u8, A>,
+    /// 0; 1 where a file is at fault, and 3 where one can't be read.
+    pub(crate) status: u8,
+}
+
+impl<A: Allocator + Copy> Outcome<A> {
+    /// No file was at fault.
+    pub(crate) fn new(alloc: A) -> Outcome<A>
+        ensures lines { result.lines.items ≡ [] }
+        ensures status { result.status ≡ 0 }
+    {
+        Outcome {
+            lines: Vec::new(alloc),
+            status: 0,
+        }
+    }
+
+    /// Gives it a status, where it has none that is greater.
+    pub(crate) fn raise(&mut self, status: u8)
+        ensures lines { self.new.lines.items ≡ self.old.lines.items }
+        ensures status { self.new.status ≡ max self.old.status status }
+    {
+        if self.status < status {
+            self.status = status;
+        }
+    }
+
+    /// Adds the faults of a file at a path, by its members and its own.
+    pub(crate) fn add_faults(
+        &mut self,
+        alloc: A,
+        path: &str,
+        members: &[Member<'_>],
+        fault: Option<(usize, FormatFault)>,
+    ) -> Result<(), AllocError>
+        ensures lines { OnOk result (self.new.lines.items
+            ≡ self.old.lines.items ++ faults_text path.now (map plain_member members.now) fault) }
+        ensures status { OnOk result (self.new.status
+            ≡ max self.old.status (faults_status (faults_text path.now (map plain_member members.now) fault))) }
+    {
+        let before = self.lines.len();
+        push_faults(alloc, &mut self.lines, path, members, fault)?;
+        if self.lines.len() > before {
+            self.raise(AT_FAULT);
+        }
+        Ok(())
+    }
+
+    /// Adds that a file at a path isn't read, and why.
+    pub(crate) fn add_unread(
+        &mut self,
+        alloc: A,
+        path: &str,
+        fault: ReadFault,
+    ) -> Result<(), AllocError>
+        ensures lines { OnOk result (self.new.lines.items ≡ self.old.lines.items ++ unread_line path.now fault) }
+        ensures status { OnOk result (self.new.status ≡ max self.old.status 3) }
+    {
+        push_unread(alloc, &mut self.lines, path, fault)?;
+        self.raise(FAILED);
+        Ok(())
+    }
+}

@@ -1,0 +1,42 @@
+//! The lines of files that aren't read.
+
+ghost use Rattle.std.specs.Prelude.{◌≡◌, ◌++◌, OnOk};
+ghost use Rattle.doslib_jobs.specs.Reading as spec;
+
+use doslib_text::{Part, push_parts};
+use doslink_files::ReadFault;
+use std::alloc::{AllocError, Allocator};
+
+/// Why a file isn't read.
+fn unread_text(fault: ReadFault) -> &'static str
+    ensures { result.now ≡ spec.unread_text fault }
+{
+    match fault {
+        ReadFault::Memory => "out of memory",
+        ReadFault::Absent => "no such file",
+        ReadFault::Folder => "it is a folder",
+        ReadFault::Forbidden => "no permission",
+        ReadFault::Special => "it is no regular file",
+        ReadFault::Unopened(_) => "it can't be opened",
+        ReadFault::Device(_) => "it can't be read",
+    }
+}
+
+/// Appends the line of a file that isn't read, and why.
+pub(crate) fn push_unread<A: Allocator + Copy>(
+    alloc: A,
+    lines: &mut Vec<u8, A>,
+    path: &str,
+    fault: ReadFault,
+) -> Result<(), AllocError>
+    ensures { OnOk result (lines.new.items ≡ lines.old.items ++ spec.unread_line path.now fault) }
+{
+    let parts = [
+        Part::Text("doslib: "),
+        Part::Text(path),
+        Part::Text(": 1 Device: "),
+        Part::Text(unread_text(fault)),
+        Part::Text("\n"),
+    ];
+    push_parts(alloc, lines, parts.as_slice())
+}

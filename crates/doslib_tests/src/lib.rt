@@ -1,0 +1,11 @@
+//! What `doslib` prints of files, and its runs over a world in memory.
+#![tactic(auto)]
+
+#[cfg(test)]
+mod files;
+#[cfg(test)]
+mod growths;
+#[cfg(test)]
+mod list;
+#[cfg(test)]
+mod runs;

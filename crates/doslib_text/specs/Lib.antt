@@ -1,0 +1,5 @@
+pub mod Lines
+pub mod Parts
+pub mod Faults
+pub mod Listing
+pub mod inside

@@ -1,0 +1,6 @@
+-- Bytes that are held.
+use Rattle.std.specs.Prelude.{List, Vec}
+
+-- the items of a vector
+abbrev pub items_of : {T A : Type 0} → Vec T A → List T
+items_of v = v.items

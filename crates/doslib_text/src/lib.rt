@@ -1,0 +1,12 @@
+//! What `doslib` prints of files: of libraries and archives their members, and of a damaged file what of it is whole.
+#![tactic(auto)]
+
+mod fault;
+mod lines;
+mod listing;
+mod parts;
+
+pub use fault::push_faults;
+pub use lines::{Part, push_parts};
+pub use listing::push_list;
+pub use parts::{Whole, module_end};

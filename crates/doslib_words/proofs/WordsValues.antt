@@ -1,0 +1,80 @@
+-- What the values of the subcommand that the command enters give.
+use Rattle.std.proofs.Common.{◌≡◌, ◌&&◌, ◌||◌, Bool, List, [], Some}
+use Rattle.std.proofs.Common.{IsSome, codes, is_some, false, true, refl, sym, subst, true≢false}
+use Rattle.std.specs.Prelude.{IsSomeAnd}
+use Rattle.std.specs.List.{list_any}
+use Rattle.std.specs.Str.{bytes_eq}
+use Rattle.std.proofs.lemmas.Bool.{both_ways, false_from_ne_true}
+use Rattle.std.proofs.lemmas.Slice.Eq.{bytes_eq-Decides}
+use Rattle.clap.specs.Words.{Row, Text, built, fault_of, first_of, is_simple, is_simple_and_free, subcommand_of}
+use Rattle.clap.proofs.OnLiterals.{clap_on_literals}
+use Rattle.command_line.proofs.Parses.{simple_from_free}
+use Rattle.command_line.proofs.Required.{enters_one, is_entered, required_given, wants_values}
+use Rattle.command_line.proofs.Taken.{is_settled_app, takes_where_no_fault}
+use Rattle.doslib_words.specs.declared.words.Job.{Job}
+use Rattle.doslib_words.specs.Words.{IsJobFor, IsJobOf, doslib_command}
+use Rattle.doslib_words.specs.inside.Words.{IsEntered}
+
+-- ---- the values that a subcommand asks for
+
+one_there : (a : Bool) → ((a && true) || false) ≡ true → a ≡ true
+one_there true e = refl
+one_there false e = e
+
+pub list_values : (name : Text) (rows : List Row) → IsEntered name rows → name ≡ codes "list"
+    → IsSome (first_of (codes "FILES") rows)
+unfolding IsEntered clap_on_literals
+list_values name rows entered is =
+    one_there (is_some (first_of (codes "FILES") rows)) (subst (λ n. IsEntered n rows) is entered)
+
+differs : (x name : Text) → (name ≡ x → ⊥) → bytes_eq x name ≡ false
+differs x name other = false_from_ne_true _ (λ e. other (sym ((bytes_eq-Decides x name).0 e)))
+
+pub one_of_all : (name : Text) (rows : List Row) → IsEntered name rows → (name ≡ codes "list" → ⊥) → ⊥
+unfolding IsEntered
+one_of_all name rows entered list =
+    let none : false ≡ true = rw (differs (codes "list") name list) at entered in
+    absurd (true≢false (sym none))
+
+-- ---- the command
+
+pub doslib_is_free : is_simple_and_free doslib_command ≡ true
+unfolding doslib_command clap_on_literals
+doslib_is_free = refl
+
+pub doslib_is_simple : is_simple doslib_command ≡ true
+doslib_is_simple = simple_from_free doslib_command doslib_is_free
+
+doslib_is_settled : is_settled_app (built doslib_command) ≡ true
+unfolding doslib_command clap_on_literals
+doslib_is_settled = refl
+
+doslib_wants_values : wants_values (built doslib_command) ≡ true
+unfolding doslib_command clap_on_literals
+doslib_wants_values = refl
+
+-- the built command has the subcommand `help` beside its own
+own_subcommand : (name : Text) (rows : List Row) → bytes_eq (codes "help") name ≡ false
+    → list_any (is_entered name rows) (built doslib_command).subs ≡ true → IsEntered name rows
+unfolding doslib_command IsEntered clap_on_literals
+own_subcommand name rows other any = rw other at any
+
+pub entered_here : (words : List Text) (name : Text) (rows : List Row) → fault_of doslib_command words ≡ []
+    → subcommand_of doslib_command words ≡ Some (name, rows) → IsEntered name rows
+entered_here words name rows e met =
+    let law = required_given doslib_command words name rows doslib_wants_values e met in
+    own_subcommand name rows
+    (differs (codes "help") name (λ is. both_ways _ law.0 ((bytes_eq-Decides name (codes "help")).1 is))) law.1
+
+pub one_entered : (words : List Text) → fault_of doslib_command words ≡ []
+    → IsSome (subcommand_of doslib_command words)
+one_entered words e = enters_one doslib_command words doslib_wants_values e
+
+pub job_for : (words : List Text) (name : Text) (rows : List Row) (job : Job) → fault_of doslib_command words ≡ []
+    → subcommand_of doslib_command words ≡ Some (name, rows) → IsJobOf name rows job
+    → IsJobFor words job
+unfolding IsJobFor
+job_for words name rows job e met fits = (
+  takes_where_no_fault doslib_command words doslib_is_simple doslib_is_settled e,
+  subst (λ o. IsSomeAnd o (λ p. IsJobOf p.0 p.1 job)) (sym met) fits,
+)

@@ -1,0 +1,6 @@
+use Rattle.doslib_words.specs.Words.{doslib_command}
+use Rattle.doslib_words.proofs.words.doslib_command.Goals as goal
+
+pub returns : goal.returns
+unfolding doslib_command
+returns c = c.with_command.ensures.app _ _ c.bare_command.ensures.app c.files_command-list.ensures.app

@@ -1,0 +1,12 @@
+-- What the command line says on the way to a job.
+use Rattle.std.specs.Prelude.{◌≡◌, ◌&&◌, ◌||◌, true, not, List, [], ◌∷◌, codes, is_some}
+use Rattle.std.specs.List.{list_all, list_any}
+use Rattle.std.specs.Str.{bytes_eq}
+use Rattle.clap.specs.Words.{Row, Text, first_of}
+use Rattle.doslib_words.specs.Words.{files_command}
+
+-- one of the subcommands has this name, and each argument that it asks for has a value in the rows
+unfoldable pub IsEntered : Text → List Row → Type 0
+IsEntered name rows =
+    list_any (λ s. bytes_eq s.name name && list_all (λ a. not a.required || is_some (first_of a.id rows)) s.rules)
+    ((files_command (codes "list")).top ∷ []) ≡ true

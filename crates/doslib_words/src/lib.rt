@@ -1,0 +1,6 @@
+//! The words of the command line of `doslib`, and the jobs that they ask for.
+#![tactic(auto)]
+
+mod words;
+
+pub use words::{Job, WordsFault, parse_words};

@@ -1,0 +1,181 @@
+//! The words of the command line.
+ghost use Rattle.std.specs.Prelude.{◌≡◌, IfErr, IfOk, IsSome, Some, codes, false, true};
+ghost use Rattle.clap.specs.Words.{App, app_of, first_of, found_of, is_simple, kind_of, rows_of, rule_of, takes};
+ghost use Rattle.clap.specs.Words.{with_subcommand};
+ghost use Rattle.clap.specs.declared.Command.{out-Command as fields_of};
+ghost use Rattle.clap.specs.declared.error.ErrorKind.TheVariants.{OutOfMemory};
+ghost use Rattle.command_line.specs.Rules.{files_rule};
+ghost use Rattle.doslib_words.specs.declared.words.WordsFault.TheVariants.{Memory};
+ghost use Rattle.doslib_words.specs.Words as spec;
+ghost use Rattle.doslib_words.specs.Words.{IsJobFor, IsJobOf, texts};
+ghost use Rattle.doslib_words.specs.inside.Words.{IsEntered};
+
+use clap::builder::ValueRange;
+use clap::error::ErrorKind;
+use clap::{Arg, ArgMatches, Command};
+use command_line::{VERSION, with_arg};
+use std::alloc::{AllocError, Global};
+use thiserror::Error;
+
+/// What stands at the end of help.
+const STATUSES: &str = "\
+Exit status: 0 all is done, 1 a file is at fault, 2 wrong arguments, 3 a file or device\n\
+failed or out of memory. A fault is one line on standard error.";
+
+/// What the words ask for: a subcommand with its values.
+#[derive(Debug, Drop)]
+pub enum Job<'a> {
+    /// List the members of files.
+    List {
+        /// The paths of the files, in their order.
+        files: Vec<&'a str>,
+    },
+}
+
+/// Why the words are no job.
+#[derive(Debug, Drop, Error)]
+pub enum WordsFault {
+    /// They ask for help, which is this text.
+    #[error("{0}")]
+    Help(String),
+    /// They are wrong, and this text says why.
+    #[error("{0}")]
+    Wrong(String),
+    /// There was no memory.
+    #[error("out of memory")]
+    Memory,
+}
+
+impl From<AllocError> for WordsFault {
+    ghost from_gives = { λ _ e. e ≡ Memory };
+
+    fn from(_error: AllocError) -> WordsFault {
+        WordsFault::Memory
+    }
+}
+
+/// The files that are told of, one or more.
+fn files<'a>(alloc: Global) -> Arg<'a>
+    ensures rule { rule_of result ≡ files_rule }
+    ensures local { result.global ≡ false }
+{
+    Arg::new(alloc, "FILES")
+        .required(true)
+        .num_args(ValueRange::from(1..))
+        .help("Object modules, libraries (.LIB) and Unix archives of modules")
+}
+
+/// A subcommand that takes files.
+fn files_command<'a>(
+    alloc: Global,
+    name: &'a str,
+    about: &'a str,
+) -> Result<Command<'a>, AllocError>
+    ensures app { IfOk result (λ c. app_of c ≡ spec.files_command name.entry.now) }
+    ensures local { IfOk result (λ c. (fields_of c).has_globals ≡ false) }
+{
+    let command = Command::new(alloc, name).about(about).after_help(STATUSES);
+    with_arg(Ok(command), files(alloc))
+}
+
+/// The command with one subcommand more, where both could be made.
+fn with_command<'a>(
+    above: Result<Command<'a>, AllocError>,
+    command: Result<Command<'a>, AllocError>,
+) -> Result<Command<'a>, AllocError>
+    requires local { IfOk command (λ c. (fields_of c).has_globals ≡ false) }
+    requires above { IfOk above (λ a. (fields_of a).has_globals ≡ false) }
+    ensures app { (outer inner : App) → IfOk above.entry (λ a. app_of a ≡ outer)
+        → IfOk command.entry (λ c. app_of c ≡ inner) → IfOk result (λ c. app_of c ≡ with_subcommand outer inner.top) }
+    ensures local { IfOk result (λ c. (fields_of c).has_globals ≡ false) }
+{
+    above?.subcommand(command?)
+}
+
+/// The command `doslib` before it has its subcommands.
+fn bare_command<'a>(alloc: Global) -> Result<Command<'a>, AllocError>
+    ensures app { IfOk result (λ c. app_of c ≡ spec.bare_command) }
+    ensures local { IfOk result (λ c. (fields_of c).has_globals ≡ false) }
+{
+    Command::new(alloc, "doslib")
+        .about("Tells what object modules, libraries and archives hold")
+        .after_help(STATUSES)
+        .version(VERSION)
+        .no_binary_name(true)
+        .subcommand_required(true)
+        .arg_required_else_help(true)
+        .bin_name("doslib")
+}
+
+/// The command `doslib`.
+fn doslib_command<'a>(alloc: Global) -> Result<Command<'a>, AllocError>
+    ensures { IfOk result (λ c. app_of c ≡ spec.doslib_command) }
+{
+    let list = files_command(
+        alloc,
+        "list",
+        "Lists the members of files, with the names that each offers and wants",
+    );
+    with_command(bare_command(alloc), list)
+}
+
+/// What the parser says of the words.
+fn refusal(alloc: Global, error: &clap::Error) -> WordsFault
+    ensures { kind_of error.now ≡ OutOfMemory → result ≡ WordsFault.Memory }
+{
+    if error.kind() == ErrorKind::OutOfMemory {
+        return WordsFault::Memory;
+    }
+    match error.to_string(alloc) {
+        Err(_) => WordsFault::Memory,
+        Ok(text) if error.use_stderr() => WordsFault::Wrong(text),
+        Ok(text) => WordsFault::Help(text),
+    }
+}
+
+/// The files of a subcommand, by its values.
+fn files_of<'a>(alloc: Global, values: &ArgMatches<'a>) -> Result<Vec<&'a str>, WordsFault>
+    requires { IsSome (first_of (codes "FILES") (rows_of (found_of values.now))) }
+    ensures ok { IfOk result (λ files. spec.AreFiles (rows_of (found_of values.now)) files.items) }
+    ensures err { IfErr result (λ e. e ≡ WordsFault.Memory) }
+{
+    let files = values.get_strs("FILES").unwrap();
+    match Vec::from_slice(alloc, files) {
+        Ok(files) => Ok(files),
+        Err(_) => Err(WordsFault::Memory),
+    }
+}
+
+/// The job of a subcommand that the command entered, by its values.
+fn job_of<'a>(alloc: Global, name: &str, values: &ArgMatches<'a>) -> Result<Job<'a>, WordsFault>
+    requires { IsEntered name.now (rows_of (found_of values.now)) }
+    ensures ok { IfOk result (IsJobOf name.now (rows_of (found_of values.now))) }
+    ensures err { IfErr result (λ e. e ≡ WordsFault.Memory) }
+{
+    match name {
+        "list" => Ok(Job::List {
+            files: files_of(alloc, values)?,
+        }),
+        _ => unreachable!(),
+    }
+}
+
+/// The job that the words after the program's name ask for. Words that the command takes are refused for want of memory
+/// alone.
+pub fn parse_words<'a>(alloc: Global, words: &'a [&'a str]) -> Result<Job<'a>, WordsFault>
+    ensures job { IfOk result (IsJobFor (texts words.entry.now)) }
+    ensures refused { takes spec.doslib_command (texts words.entry.now) ≡ true
+        → IfErr result (λ e. e ≡ WordsFault.Memory) }
+    // What the command takes, and its matches, are those that the parser promises of simple commands.
+    ensures simple { is_simple spec.doslib_command ≡ true }
+{
+    let Ok(command) = doslib_command(alloc) else {
+        return Err(WordsFault::Memory);
+    };
+    let matches = match command.try_get_matches_from(words) {
+        Ok(matches) => matches,
+        Err(error) => return Err(refusal(alloc, &error)),
+    };
+    let (name, values) = matches.subcommand().unwrap();
+    job_of(alloc, name, values)
+}
