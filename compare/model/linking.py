@@ -10,7 +10,7 @@ from os.path import normpath
 from typing import Optional
 
 from model import (
-    communal, directives, faults, foreign, forms, image, libraries, line_jobs, line_numbers, link_map,
+    communal, directives, faults, foreign, forms, image, libraries, line_jobs, line_numbers, lines, link_map,
     local, lowering, module, naming, ordering, printing, search, stack)
 from model.commands import Answer, Output
 from model.faults import Fault, escaped, printed_name

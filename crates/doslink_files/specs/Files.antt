@@ -1,6 +1,6 @@
 -- The files of a link, which are read, and libraries, which are looked up. `told` are the bytes of files by their paths,
 -- where the world tells them.
-use Rattle.std.specs.Prelude.{All, ◌≡◌, ◌≢◌, ℕ, List, [], ◌∷◌, map, string_bytes, Some, None}
+use Rattle.std.specs.Prelude.{All, ◌≡◌, ◌≢◌, ℕ, List, [], ◌∷◌, map, string_bytes, Some, None, IfSome, true}
 use Rattle.std.specs.declared.option.Option.{Option}
 use Rattle.std.specs.List.{Contains}
 use Rattle.omf_files.specs.declared.world.Looked.{Looked}
@@ -13,6 +13,7 @@ use Rattle.doslink_files.specs.declared.reading.InputFile.{InputFile}
 use Rattle.doslink_files.specs.declared.reading.Sought.{Sought}
 use Rattle.doslink_files.specs.declared.reading.Sought.TheVariants.{File, Library}
 use Rattle.doslink_files.specs.Paths.{extensions, object_extensions, paths_of}
+use Rattle.doslink_files.specs.Standing.{stands_regular}
 
 -- the bytes of files
 abbrev pub contents : {A : Type 0} → List (InputFile A) → List (List ℕ)
@@ -48,6 +49,11 @@ abbrev pub IsFoundNew : {A : Type 0} → (told : List ℕ → Option (List ℕ))
     → Found A → Type 0
 IsFoundNew told folders name (New file) = IsFound told folders name (string_bytes file.path) file.bytes.items
 IsFoundNew told folders name Known = Unit {0}
+
+-- what is found that is new is a regular file, where it is told what stands at its path
+abbrev pub IsRegularNew : {A : Type 0} → (looks : Option (List ℕ → Option Looked)) → Found A → Type 0
+IsRegularNew looks (New file) = IfSome looks (λ look. stands_regular look (string_bytes file.path) ≡ true)
+IsRegularNew looks Known = Unit {0}
 
 -- a module that is named by a path is looked up at this one, in this folder and in the others
 abbrev pub IsObjectPath : (folders : List (List ℕ)) → (path found : List ℕ) → Type 0

@@ -1,6 +1,6 @@
 //! Libraries that are looked up in folders.
 ghost use Rattle.std.specs.Prelude.{◌≡◌, IfOk, map, string_bytes};
-ghost use Rattle.doslink_files.specs.Files.{IsFound, IsFoundNew};
+ghost use Rattle.doslink_files.specs.Files.{IsFound, IsFoundNew, IsRegularNew};
 ghost use Rattle.doslink_files.specs.inside.Looking.{IsReadNew};
 ghost use Rattle.doslink_files.specs.Paths as spec;
 

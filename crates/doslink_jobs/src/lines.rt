@@ -219,6 +219,7 @@ fn push_warnings(
         }
     }
     warnings.append_to(lines)?;
+    push_form_warning(&made.job, parts.linker, lines)?;
     if made.job.map.is_some() && made.settings.detailed {
         lines.extend_from_slice(
             b"doslink: warning: the map tells of no module's parts of segments\n",
