@@ -3,7 +3,7 @@ use super::forms::EXE_OF_F;
 use super::modules::OFFERS;
 
 /// Response files, and a module in a folder.
-pub(crate) const LINE_FILES: [(&str, &[u8]); 10] = [
+pub(crate) const LINE_FILES: [(&str, &[u8]); 11] = [
     ("OBJ/UNO.OBJ", &OFFERS),
     ("NUMBERED.OBJ", &NUMBERED),
     ("LINK.RSP", b"A+\r\nF /NOI\r\nP.EXE\r\n"),
@@ -68,7 +68,7 @@ link F,F.OBJ;|2||doslink: F.OBJ: it is read and would be written~
 ";
 
 /// Runs of lines, the path at which each writes, and all that it writes there.
-pub(crate) const LINED: [(&str, &str, &[u8]); 21] = [
+pub(crate) const LINED: [(&str, &str, &[u8]); 18] = [
     ("link F;", "F.EXE", &EXE_OF_F),
     ("link OBJ/UNO;", "UNO.EXE", &EXE_OF_F),
     ("link OBJ/UNO,OBJ/DUO;", "OBJ/DUO.EXE", &EXE_OF_F),
@@ -96,11 +96,20 @@ pub(crate) const LINED: [(&str, &str, &[u8]); 21] = [
     // as many paragraphs behind the image as are asked for, and never fewer than the program needs
     ("link F,P /CP:0;", "P.EXE", &EXE_OF_F_WITH_1),
     ("link F,P /CP:1;", "P.EXE", &EXE_OF_F_WITH_1),
-    // line numbers in the map, whose offsets had 32 bits
+    ("link F,P /CP:0x102;", "P.EXE", &EXE_OF_F_WITH_258),
+    (
+        "link COMED,,,RUN /T /CP:1;",
+        "COMED.COM",
+        &[0xE8, 0x00, 0x00, 0x90, 0x90],
+    ),
+];
+
+/// Runs of lines that write the program at `P.EXE`, and the map of each at `P.MAP`: with line numbers, whose offsets have
+/// 32 bits in the module, where the line asks for them.
+pub(crate) const LINE_MAPS: [(&str, &str); 3] = [
     (
         "link NUMBERED,P /LI;",
-        "P.MAP",
-        b"
+        "
  Start  Stop   Length Name                   Class
  00000H 00001H 00002H _TEXT                  _TEXT
 
@@ -121,8 +130,7 @@ Program entry point at 0000:0000
     ),
     (
         "tlink NUMBERED,P /l",
-        "P.MAP",
-        b"
+        "
  Start  Stop   Length Name               Class
 
  00000H 00001H 00002H _TEXT              _TEXT
@@ -142,8 +150,7 @@ Program entry point at 0000:0000
     ),
     (
         "tlink NUMBERED,P",
-        "P.MAP",
-        b"
+        "
  Start  Stop   Length Name               Class
 
  00000H 00001H 00002H _TEXT              _TEXT
@@ -156,12 +163,6 @@ Program entry point at 0000:0000
 
 Program entry point at 0000:0000
 ",
-    ),
-    ("link F,P /CP:0x102;", "P.EXE", &EXE_OF_F_WITH_258),
-    (
-        "link COMED,,,RUN /T /CP:1;",
-        "COMED.COM",
-        &[0xE8, 0x00, 0x00, 0x90, 0x90],
     ),
 ];
 

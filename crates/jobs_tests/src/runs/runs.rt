@@ -1,7 +1,7 @@
 //! Runs over a world in memory.
 use super::forms::{FORM_LINES, FORM_MODULES, FORM_RUNS, FORMED};
 use super::fronts::{CONFIGURED, FRONTED, Front};
-use super::lines::{LINE_FILES, LINE_RUNS, LINED, MAPPED};
+use super::lines::{LINE_FILES, LINE_MAPS, LINE_RUNS, LINED, MAPPED};
 use super::looking::{LOOKED, LOOKED_FILES, LOOKING_RUNS};
 use super::modules::LIBRARY;
 use super::naming::{NAMED_FILES, NAMED_PROGRAMS, NAMING_RUNS};
@@ -430,6 +430,15 @@ fn lines_write_these_files(rt: HostRuntime) -> Result<(), Fail> {
     for (row, path, bytes) in &LINED {
         let done = run_row(rt.alloc(), row, path)?;
         assert!(rt; done.out.as_slice() == *bytes, "{row}");
+    }
+    Ok(())
+}
+
+#[test]
+fn lines_write_these_maps(rt: HostRuntime) -> Result<(), Fail> {
+    for (row, map) in &LINE_MAPS {
+        let done = run_row(rt.alloc(), row, "P.EXE")?;
+        assert!(rt; done.map.as_slice() == map.as_bytes(), "{row}");
     }
     Ok(())
 }

@@ -7,10 +7,10 @@ use Rattle.omf_place.specs.Layout.{Layout, places_of}
 use Rattle.link_map.specs.Public.{listed_frame}
 
 -- each segment and each GRPDEF of the module that is the input with this index has a place
-pub record HasPlaces (layout : Layout) (input : ℕ) (m : Module) : Type 0 where
-  pub input : input < length layout.modules
-  pub segments : length (places_of layout input).segments ≡ length m.segments
-  pub groups : length (places_of layout input).groups ≡ length m.groups
+pub record HasPlaces (layout : Layout) (index : ℕ) (m : Module) : Type 0 where
+  pub input : index < length layout.modules
+  pub segments : length (places_of layout index).segments ≡ length m.segments
+  pub groups : length (places_of layout index).groups ≡ length m.groups
 
 -- the frame that an address is listed with
 abbrev pub framed : (address : ℕ) → Option ℕ → ℕ
