@@ -651,8 +651,6 @@ LIMITED_ABOVE = header("2300 0100 0000 0200 0300 0401" + NO_REGISTERS) + NO_TABL
 SIX = header("2600 0100 0000 0200 0100" + MOST + NO_REGISTERS) + NO_TABLE
 EIGHTEEN = header("3200 0100 0100 0200 0100" + MOST + NO_REGISTERS) + "00000100"
 
-# title, what is asked for, the folders of LIB, and the bytes of OUT or the lines on standard error,
-# and the lines that tell the modules
 # modules that reach the far variable `far` by its offset alone, each of which is told once
 REACHED = [
     ("by an alias",
@@ -684,6 +682,8 @@ NAMED_BY_LINES = [
     ("tlink", ["/x", "absolute.obj,com"], ""),
 ]
 
+# title, what is asked for, the folders of LIB, and the bytes of OUT or the lines on standard error,
+# and the lines that tell the modules
 LINKS = [
     ("a module of a library", {"inputs": given(["m.obj"], ["x.lib"])}, [], PROGRAM,
      'm.obj\nx.lib(X) for "x"\n'),

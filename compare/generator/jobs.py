@@ -75,6 +75,9 @@ LOCAL_EVERY, LOCAL = 50, [
 # one job in so many has default libraries behind each other, one a public in two cases, and one
 # libraries alone
 CHAIN_EVERY, TWICE_EVERY, ALONE_EVERY = 250, 250, 250
+# one has what is linked told where the program or the map is written, and one as many files of directives as there
+# may be, or one more
+MIXED_EVERY, FILES_EVERY = 250, 250
 # one job in so many has a segment of no alignment, which is lowered or not; one a number of no form
 AMISS_EVERY, NO_NUMBER_EVERY = 200, 250
 # one has an offset, of 32 bits or 16, with a sum of the most or one more
@@ -729,6 +732,19 @@ class JobMaker:
         self.add_some_objects()
         return self.by_directives()
 
+    def make_mixed(self, out, map_name):
+        """What is linked is told on standard output, and the program or its map is to be written there."""
+        self.folders = []
+        self.add_some_objects()
+        self.job.out, self.job.map, self.job.is_verbose, self.job.form = out, map_name, True, None
+        return self.case(self.words(), "doslink")
+
+    def make_many_responses(self, count):
+        """As many files of directives as there may be, or one more."""
+        self.files["0.obj"], self.folders = module_of_publics([b"x"]), []
+        self.files["r"] = b"debug all\n"
+        return self.case(["file 0.obj name out.exe", *["@r"] * count], "wlink")
+
     def add_some_objects(self):
         """Three of FILES, with a library for the names that they want, and a map."""
         for number in range(3):
@@ -1038,8 +1054,8 @@ class JobMaker:
         return self.by_line(LINK, words)
 
     def make_map(self, form, option=None):
-        """A map in a form, of publics in groups, of absolute ones and of any; or that of a line with an option, with line
-        numbers."""
+        """A map in a form, of publics in groups, of absolute ones and of any; or, with line numbers, that of a line with
+        an option."""
         self.folders, self.plan.wants_marks, self.plan.has_lines = [], 0.9, 0.2 if option is None else 0.9
         self.add_some_objects()
         names = [width * b"N" for width in (17, 18, 19, 22, 23, 40)]
@@ -1333,6 +1349,8 @@ MADE = [
     (FORMS_EVERY, 7, in_turn(JobMaker.make_form, FORMS)),
     (LENGTHS_EVERY, 9, in_turn(JobMaker.make_lengths, LENGTHS)),
     (AMISS_EVERY, 11, in_turn(JobMaker.make_amiss)),
+    (MIXED_EVERY, 4, in_turn(JobMaker.make_mixed, [("-", None), (OUT, "-"), ("-", "-")])),
+    (FILES_EVERY, 30, in_turn(JobMaker.make_many_responses, [201, 200])),
 ]
 
 

@@ -334,7 +334,7 @@ class ObjectMaker:
             first = self.random.choice([1, 9, 99, 9_998, 65_520])
             count = self.random.choice([0, 1, 2, 3, 4, 5, 8, 9])
             offsets = [self.random.choice([2 * number, 0, 0xFFFF]) for number in range(count)]
-            self.add(records.LineNumbers(group, segment, [(first + number, offset) for number, offset in enumerate(offsets)]))
+            self.add(records.LineNumbers(group, segment, list(enumerate(offsets, first))))
 
     def counted(self, name):
         return records.name(name)
