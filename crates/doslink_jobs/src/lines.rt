@@ -51,10 +51,12 @@ given. .OBJ, .EXE (.COM), .MAP and .LIB are put behind a name that has no extens
 NUL is no map, and a library's name that ends in \\, / or : a folder of libraries.
 @FILE stands for what FILE says. A name with blanks stands in \". Options stand anywhere,
 and in the environment's LINK or in TLINK.CFG, which are read in front of the line:
-  link   /NOI case counts, /M a map with publics, /ST:N the stack's bytes, /DO the order
-         DOSSEG, /NOD[:LIB] no default libraries, or not that one, /T a .COM file
-  tlink  /c case counts, /x no map, /m a map with publics, /n no default libraries,
-         /t a .COM file, /L FOLDERS of libraries, /j FOLDERS of objects
+  link   /NOI case counts, /M a map with publics, /LI one with line numbers too, /ST:N the
+         stack's bytes, /DO the order DOSSEG, /NOD[:LIB] no default libraries, or not that
+         one, /T a .COM file
+  tlink  /c case counts, /x no map, /m a map with publics, /l one with line numbers too,
+         /n no default libraries, /t a .COM file, /L FOLDERS of libraries, /j FOLDERS of
+         objects
 docs/DOSLINK.md has them all. `doslink --help` tells of the words of doslink.
 ";
 

@@ -1,6 +1,6 @@
 -- The map of a linked program in the form of Microsoft's LINK, or of Borland's TLINK: segments in order of address,
--- groups, publics by name and by value, line numbers where they are asked for, and where the program starts. Debuggers and disassemblers read it. What is out
--- of range in a table has no line.
+-- groups, publics by name and by value, line numbers where they are asked for, and where the program starts. Debuggers
+-- and disassemblers read it. What is out of range in a table has no line.
 use Rattle.std.specs.Prelude.{◌≡◌, ℕ, ◌+◌, ◌-◌, ◌==◌, if◌then◌else◌, List, [], ◌∷◌, ◌++◌, slice_get, length, replicate}
 use Rattle.std.specs.Prelude.{codes, Some, None, Err}
 use Rattle.std.specs.declared.option.Option.{Option}
@@ -101,7 +101,8 @@ abbrev pub link_map_text : MapForm → List Module → Layout → Program → Li
 link_map_text form modules layout program = segment_lines form modules layout
     ++ (group_lines form modules layout ++ (public_lines modules layout ++ start_line program.registers))
 
--- the same with the line numbers of the modules, which these inputs begin with, whose files are those: behind the publics
+-- the same with the line numbers of the modules, which these inputs begin with, whose files are those, behind the
+-- publics
 abbrev pub numbered_map_text : MapForm → List Module → Layout → Program → (inputs files : List (List ℕ)) → List ℕ
 numbered_map_text form modules layout program inputs files = segment_lines form modules layout
     ++ (group_lines form modules layout ++ (public_lines modules layout

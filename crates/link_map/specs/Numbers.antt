@@ -1,4 +1,5 @@
--- The line numbers of a program, as the map lists them: those of each segment of a module behind a heading of their own.
+-- The line numbers of a program, as the map lists them: those of each segment of a module, behind a heading of their
+-- own.
 use Rattle.std.specs.Prelude.{ℕ, zero, suc, ◌+◌, ◌%◌, ◌==◌, ◌||◌, if◌then◌else◌, List, [], ◌∷◌, ◌++◌, get_or, length}
 use Rattle.std.specs.Prelude.{codes, decimal, filter, map, slice_get}
 use Rattle.std.specs.declared.option.Option.{Option}

@@ -69,9 +69,9 @@ Line numbers for c.lib(b)(b.c) segment _TEXT
 Program entry point at 0000:0000
 ",
     ),
-    // lines of a segment by its group, by its own frame, by a group without members and by one that isn't there; places
-    // that their group doesn't reach, and that their own frame just reaches; an absolute segment, by its own frame and by
-    // a group; and lines of segments that aren't there
+    // lines of a segment by its group, by its own frame, by a group without members and by one that isn't there;
+    // places that their group doesn't reach, and that their own frame just reaches; an absolute segment, by its own
+    // frame and by a group; and lines of segments that aren't there
     (
         MapForm::Tlink,
         "\
