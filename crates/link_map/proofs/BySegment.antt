@@ -6,7 +6,7 @@ use Rattle.std.specs.Prelude.{◌==◌, ◌*◌}
 use Rattle.std.specs.List.{enumerate_from, flat_map}
 use Rattle.omf_lines.specs.Lines.{is_of}
 use Rattle.omf_lines.specs.declared.line.Line.{Line}
-use Rattle.omf_module.specs.Module.{Module, Segment}
+use Rattle.omf_module.specs.Module.{Module}
 use Rattle.omf_place.specs.Layout.{Layout, ModulePlaces, places_of, segment_position}
 use Rattle.omf_place.specs.declared.layout.Position.{Position}
 use Rattle.omf_place.specs.declared.layout.Position.TheVariants.{Relocatable}

@@ -5,7 +5,7 @@ ghost use Rattle.std.specs.Option.{unwrap_or};
 ghost use Rattle.omf_lines.specs.Sorted.{Rise};
 ghost use Rattle.omf_module.specs.Module.{Segment};
 ghost use Rattle.omf_place.specs.Bounded.{IsBounded};
-ghost use Rattle.omf_place.specs.Layout.{places_of};
+ghost use Rattle.omf_place.specs.Layout.{places_of, segment_position};
 ghost use Rattle.link_map.specs.Numbers as spec;
 ghost use Rattle.link_map.specs.Public.{listed_frame};
 ghost use Rattle.link_map.specs.inside.Numbers.{HasPlaces, framed};
@@ -222,15 +222,15 @@ fn push_segment<A: Allocator + Copy, B: Allocator + Copy>(
     text: &mut Vec<u8, A>,
     input: &NumberedInput<'_, A, B>,
     index: usize,
+    lines: &[Line],
 ) -> Result<(), AllocError>
     requires placed { HasPlaces input.now.layout.now input.now.input input.now.from.now }
-    requires rising { Rise input.now.numbered.now.lines.items }
     requires within { index < length input.now.from.now.segments }
     ensures { (segment : Segment) → slice_get input.now.from.now.segments index ≡ Some segment
-        → OnOk result (text.new.items ≡ text.old.items ++ spec.lines_in_segment input.now.layout.now input.now.file.now
-        input.now.numbered.now.name.now input.now.numbered.now.lines.items input.now.input (index, segment)) }
+        → OnOk result (text.new.items ≡ text.old.items ++ spec.segment_numbers
+        (places_of input.now.layout.now input.now.input) (segment_position input.now.layout.now input.now.input index)
+        (spec.numbers_heading input.now.file.now input.now.numbered.now.name.now segment.name) lines.now) }
 {
-    let lines = lines_of_segment(&input.numbered.lines, index + 1);
     if lines.is_empty() {
         return Ok(());
     }
@@ -252,7 +252,8 @@ fn push_segments<A: Allocator + Copy, B: Allocator + Copy>(
         (input.now.input, input.now.from.now)) }
 {
     for index in 0..input.from.segment_count() {
-        push_segment(text, input, index)?;
+        let lines = lines_of_segment(&input.numbered.lines, index + 1);
+        push_segment(text, input, index, lines)?;
     }
     Ok(())
 }

@@ -1,7 +1,8 @@
-use Rattle.std.proofs.Common.{◌≡◌, ◌<◌, ◌++◌, ◌∙◌, [], Some, ap, ap₂, arith, filter, slice_get, subst, sym}
+use Rattle.std.proofs.Common.{ℕ, List, ◌<◌, ◌++◌, ◌∙◌, [], Some, ap, ap₂, arith, filter, slice_get, subst, sym}
 use Rattle.std.proofs.lemmas.Option.{slice_get-get_or}
 use Rattle.std.specs.Option.{unwrap_or}
 use Rattle.omf_lines.specs.Lines.{is_of, module_lines, module_name}
+use Rattle.omf_module.specs.Module.{Module}
 use Rattle.link_map.specs.Numbers.{bytes_of, lines_in_segments, module_numbers}
 use Rattle.link_map.proofs.BySegment.{sorted-text}
 use Rattle.link_map.proofs.Texts.{each-done, each-more}
@@ -12,7 +13,7 @@ loop-input-preserved g c =
     let layout = c.args.layout.now in
     let files = bytes_of c.args.sources.files.now in
     let inputs = bytes_of c.args.sources.inputs.now in
-    let text = λ p. module_numbers layout (unwrap_or (slice_get files p.0) []) (unwrap_or (slice_get inputs p.0) []) p in
+    let text : ℕ × Module → List ℕ = λ p. module_numbers layout (unwrap_or (slice_get files p.0) []) (unwrap_or (slice_get inputs p.0) []) p in
     let old = c.loop-input.text.items in
     let i = c.loop-input.input in
     let from = c.index-modules-input.result in

@@ -10,14 +10,13 @@ loop-index-preserved g c =
     let text = line_text places c.args.position (length c.args.lines.now) in
     let old = c.loop-index.text.items in
     let i = c.loop-index.index in
-    let line = c.index-lines-index.result in
-    each-more text c.args.lines.now i line old c.extend_from_slice.new.self.items _ c.loop-index-test.true
+    each-more text c.args.lines.now i _ old c.extend_from_slice.new.self.items _ c.loop-index-test.true
     (c.in_ok-extend_from_slice.ensures.items
     ∙ ap (λ t. t ++ c.row_end.result.now) c.in_ok-push_number.ensures
     ∙ append_assoc old _ c.row_end.result.now
     ∙ ap₂ (λ a b. old ++ (a ++ b))
-    (ap₂ (number_text line.number) c.line_place.ensures.frame c.line_place.ensures.offset) c.row_end.ensures
-    ∙ ap (λ l. old ++ text (i, l)) c.index-lines-index.is) c.loop-index.invariant
+    (ap₂ (number_text _) c.line_place.ensures.frame c.line_place.ensures.offset) c.row_end.ensures)
+    c.loop-index.invariant
 
 pub returns : goal.returns
 returns g c =
