@@ -1,6 +1,6 @@
 -- Default libraries that are looked up, one behind the other and in rounds.
 use Rattle.std.proofs.Common.{◌≡◌, ℕ, ◌+◌, ◌<◌, All, List, [], ◌∷◌, ◌++◌, length, map, take, get_or, refl, sym, subst}
-use Rattle.std.proofs.Common.{ap, ap₂, ◌∙◌}
+use Rattle.std.proofs.Common.{ap, ◌∙◌}
 use Rattle.std.proofs.Common.{append-nil, append_assoc, arith, ◌&&◌, Bool, true, false, if◌then◌else◌, not, ◌==◌}
 use Rattle.std.proofs.Common.{true≢false, zero, suc, Err, Ok, OnOk, Result}
 use Rattle.std.specs.Result.{is_err}

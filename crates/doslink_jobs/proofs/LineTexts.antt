@@ -1,5 +1,5 @@
 -- The text of a line, word by word and token by token.
-use Rattle.std.proofs.Common.{◌≡◌, ◌≢◌, ℕ, suc, Some, None, MatchOption, ◌+◌, ◌<◌, List, [], ◌∷◌, ◌++◌, length, take}
+use Rattle.std.proofs.Common.{◌≡◌, ℕ, suc, ◌+◌, ◌<◌, List, [], ◌∷◌, ◌++◌, length, take}
 use Rattle.std.proofs.Common.{get_or}
 use Rattle.std.proofs.Common.{append-nil, append_assoc, refl, sym, subst, ap, ◌∙◌}
 use Rattle.std.proofs.lemmas.List.{map-append, take_more}

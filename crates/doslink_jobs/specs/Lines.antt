@@ -1,7 +1,7 @@
 -- A line of LINK or TLINK: its text, with what response files say in the places of their words, and its job, whose
 -- names are whole. `told` are the bytes of files by their paths, where the world tells them.
 use Rattle.std.specs.Prelude.{◌≡◌, ◌≢◌, ◌⊎◌, ◌==◌, ◌&&◌, ◌||◌, ℕ, zero, suc, Bool, not, List, [], ◌∷◌, ◌++◌, codes}
-use Rattle.std.specs.Prelude.{None, Some, MatchOption, if◌then◌else◌, true}
+use Rattle.std.specs.Prelude.{None, Some, MatchOption, if◌then◌else◌}
 use Rattle.std.specs.declared.option.Option.{Option}
 use Rattle.std.specs.Char.{is_ascii_whitespace}
 use Rattle.std.specs.List.{before_first, flat_map, list_any}

@@ -1,6 +1,6 @@
 -- The warnings of directives that have no effect (docs/DOSLINK.md, "Directives of wlink").
 use Rattle.std.specs.Prelude.{◌≡◌, ◌+◌, ◌-◌, ◌==◌, ℕ, count_by, if◌then◌else◌, nat_le, List, [], ◌∷◌, ◌++◌, codes}
-use Rattle.std.specs.Prelude.{decimal, map, Some, None}
+use Rattle.std.specs.Prelude.{decimal, map, None}
 use Rattle.std.specs.declared.option.Option.{Option}
 use Rattle.std.specs.List.{concat, flat_map}
 use Rattle.std.specs.Option.{option_map_or}

@@ -36,5 +36,5 @@ returns-clause-lines g c = (
 
 pub returns-in_err-push_part-clause-text : goal.returns-in_err-push_part-clause-text
 returns-in_err-push_part-clause-text g c =
-    halt-exit _ c.from_residual.result _ c.from_residual.ensures.1
+    halt-exit _ c.from_residual-in_err-push_part.result _ c.from_residual-in_err-push_part.ensures.1
     (λ none. absurd none) (λ wrong. wrong) c.in_err-push_part.ensures

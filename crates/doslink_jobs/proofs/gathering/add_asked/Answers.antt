@@ -1,4 +1,4 @@
-use Rattle.std.proofs.Common.{◌≡◌, ◌++◌, ◌∷◌, [], append-nil, false, if◌then◌else◌, true≢false, MatchResult, OnOk, ap}
+use Rattle.std.proofs.Common.{◌≡◌, ◌++◌, ◌∷◌, [], false, true≢false, MatchResult, OnOk, ap}
 use Rattle.std.proofs.Common.{map, refl, subst, sym, ◌∙◌}
 use Rattle.doslink_words.specs.Tokens.{texts}
 use Rattle.doslink_jobs.specs.Jobs.{names_of}

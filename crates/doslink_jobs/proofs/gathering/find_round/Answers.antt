@@ -3,7 +3,7 @@ use Rattle.std.proofs.lemmas.List.Elements.{All-get_or, All-nil}
 use Rattle.doslink_files.specs.Files.{contents}
 use Rattle.doslink_words.specs.Tokens.{texts}
 use Rattle.doslink_jobs.specs.Jobs.{IsAskedBy, IsDefault}
-use Rattle.doslink_jobs.specs.inside.Absent.{AreLookedUp, Outcome, library_said, outcome_of}
+use Rattle.doslink_jobs.specs.inside.Absent.{AreLookedUp, library_said, outcome_of}
 use Rattle.doslink_jobs.specs.inside.Absent.{Absent}
 use Rattle.doslink_jobs.proofs.Absent.{found-outcome, looked-more, looked-none, none-absent}
 use Rattle.doslink_jobs.proofs.gathering.find_round.Goals as goal

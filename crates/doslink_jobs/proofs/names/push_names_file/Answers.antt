@@ -1,5 +1,4 @@
-use Rattle.std.proofs.Common.{◌++◌, ◌∷◌, [], ap, append-nil, if◌then◌else◌, not, sym, ◌∙◌}
-use Rattle.std.proofs.lemmas.Bool.{not-true}
+use Rattle.std.proofs.Common.{◌++◌, ◌∷◌, [], ap, append-nil, if◌then◌else◌, sym, ◌∙◌}
 use Rattle.std.proofs.lemmas.List.{map-append}
 use Rattle.doslink_files.specs.Files.{contents}
 use Rattle.doslink_jobs.specs.Names.{names_bytes}

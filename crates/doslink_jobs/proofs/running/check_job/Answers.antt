@@ -10,7 +10,7 @@ returns-then-is_empty g c =
 
 pub returns-in_err-check_form : goal.returns-in_err-check_form
 returns-in_err-check_form g c =
-    halt-exit _ c.from_residual.result _ c.from_residual.ensures.1 (λ none. none) (λ other. inr (inl other))
+    halt-exit _ c.from_residual-in_err-check_form.result _ c.from_residual-in_err-check_form.ensures.1 (λ none. none) (λ other. inr (inl other))
     c.in_err-check_form.ensures
 
 pub returns : goal.returns

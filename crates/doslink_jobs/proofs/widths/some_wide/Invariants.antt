@@ -1,4 +1,4 @@
-use Rattle.std.proofs.Common.{◌≡◌, ◌-◌, ◌≤◌, drop, length, map}
+use Rattle.std.proofs.Common.{◌≡◌, ◌-◌, drop, length, map}
 use Rattle.omf_frame.specs.Lending.{plain_frame}
 use Rattle.doslink_jobs.specs.inside.Widths as spec
 use Rattle.doslink_jobs.proofs.widths.some_wide.Given as goal

@@ -1,4 +1,4 @@
-use Rattle.std.proofs.Common.{◌≡◌, ◌++◌, ◌-◌, ◌∙◌, ℕ, List, Bor, OnOk, [], if◌then◌else◌, ap, append-nil, length, map}
+use Rattle.std.proofs.Common.{◌≡◌, ◌++◌, ◌-◌, ◌∙◌, ℕ, List, Bor, OnOk, [], if◌then◌else◌, ap, length, map}
 use Rattle.std.proofs.Common.{subst}
 use Rattle.std.proofs.Common.{sym, take}
 use Rattle.std.specs.List.{flat_map, take-map}
