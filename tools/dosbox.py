@@ -18,7 +18,6 @@ call run.bat
 exit
 """
 TAKEN = 100  # kilobytes that LOADFIX takes before it runs a program, which is then loaded above them
-AROUND = (f"{TAKEN} kb allocated.\r\n".encode(), f"{TAKEN} kb freed.\r\n".encode())  # what LOADFIX prints
 
 
 def begin(folder, lines, others=None, settings=""):
@@ -44,15 +43,16 @@ def run(folder, lines, seconds, others=None, settings=""):
     return (folder / "ENDED.TXT").exists()
 
 
-def at_two_addresses(program):
+def at_two_addresses(program, taken=TAKEN):
     """Lines that run a program twice, the second time loaded above what LOADFIX takes, into LOW.TXT and HIGH.TXT."""
-    return [f"{program} > LOW.TXT", f"loadfix -{TAKEN} {program} > HIGH.TXT"]
+    return [f"{program} > LOW.TXT", f"loadfix -{taken} {program} > HIGH.TXT"]
 
 
-def differences(folder, wanted):
+def differences(folder, wanted, taken=TAKEN):
     """What a program that was run at two addresses printed in place of its text."""
     problems = []
-    for file, around in (("LOW.TXT", (b"", b"")), ("HIGH.TXT", AROUND)):
+    of_loadfix = f"{taken} kb allocated.\r\n".encode(), f"{taken} kb freed.\r\n".encode()
+    for file, around in (("LOW.TXT", (b"", b"")), ("HIGH.TXT", of_loadfix)):
         path = folder / file
         printed = path.read_bytes() if path.exists() else b""
         if printed != around[0] + wanted + around[1]:

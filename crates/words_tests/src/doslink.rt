@@ -5,6 +5,8 @@ mod directives;
 #[cfg(test)]
 mod grammar;
 #[cfg(test)]
+mod makefiles;
+#[cfg(test)]
 mod responses;
 #[cfg(test)]
 mod words;

@@ -3,4 +3,8 @@
 #[cfg(test)]
 mod link;
 #[cfg(test)]
+mod link_makefiles;
+#[cfg(test)]
 mod tlink;
+#[cfg(test)]
+mod tlink_makefiles;

@@ -12,7 +12,7 @@ fn answer(alloc: Global, text: &str) -> Result<String, AllocError> {
 }
 
 /// The answer to each row of a table has the part that stands below its text.
-fn hold<R: Abort>(rt: &R, alloc: Global, table: &str) {
+pub(crate) fn hold<R: Abort>(rt: &R, alloc: Global, table: &str) {
     for row in table.split("\n\n\n") {
         let (text, part) = row.split_once("\n=>\n").unwrap_or((row, "no part"));
         let printed = answer(alloc, text).expect(rt, "text");
