@@ -18,8 +18,14 @@ KINDS = {
     lines.NO_OPTION: "an option is expected",
     lines.TWO_WAYS: "a blank is expected between options, and folders without one of an option's name",
     line_options.UNKNOWN_OPTION: "unknown option",
-    line_options.WRONG_VALUE: "the option's value is no number that it takes",
+    **{line_options.wrong_value(each): "a number from {} to {} is expected behind `:`".format(*each)
+       for each in (line_options.OF_STACKS, line_options.OF_PARAGRAPHS, line_options.OF_ALL)},
+    line_options.NO_VALUE_EXPECTED: "no value is expected behind the option",
+    line_options.NO_NOEXE: "NOEXE is expected behind `:`",
+    line_options.SHORT_FOR_SEVERAL: "more of the option's name is expected: it is short for several",
+    line_options.NO_FOLDERS: "folders are expected right behind the letter",
     line_options.OVERLAYS: "overlays aren't made",
+    line_options.P_CODE: "p-code isn't linked",
     line_options.NOT_DOS: "no other program is written than one for DOS",
     line_options.REFUSED: "the option would change the program, and isn't followed",
 }

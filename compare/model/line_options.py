@@ -7,11 +7,18 @@ is said so far, a `Said` of lines.py; one that can't be followed is a Wrong.
 import re
 
 # why a word can't be followed
-UNKNOWN_OPTION, WRONG_VALUE, REFUSED = "UnknownOption", "WrongValue", "Refused"
-OVERLAYS, NOT_DOS = "Overlays", "NotDos"
+UNKNOWN_OPTION, REFUSED = "UnknownOption", "Refused"
+SHORT_FOR_SEVERAL, NO_VALUE_EXPECTED, NO_NOEXE, NO_FOLDERS = "ShortForSeveral", "NoValue", "NoNoExe", "NoFolders"
+OVERLAYS, NOT_DOS, P_CODE = "Overlays", "NotDos", "PCode"
 # what becomes of an option that is taken with a warning
 DEBUG, PACKING, NOTHING = "Debug", "Packing", "Nothing"
-MOST_STACK, MOST_PARAGRAPHS = 65_536, 65_535
+# the numbers that are expected of options
+OF_STACKS, OF_PARAGRAPHS, OF_ALL = (1, 65_536), (0, 65_535), (0, 1_048_576)
+
+
+def wrong_value(expected):
+    """That another number is expected than what stands there, or any at all."""
+    return "WrongValue {{ least: {}, most: {} }}".format(*expected)
 
 
 class Wrong(Exception):
@@ -56,33 +63,39 @@ LINK_NAMES = re.compile(r"(\w+)(?:\[(\w+)\])?")
 
 
 def number(text):
-    """Decimal, octal behind 0, hexadecimal behind 0x."""
+    """Decimal, octal behind 0, hexadecimal behind 0x; None where it is none."""
     if re.fullmatch("0[xX][0-9a-fA-F]+", text):
         return int(text[2:], 16)
     if re.fullmatch("0[0-7]*", text):
         return int(text, 8)
     if re.fullmatch("[1-9][0-9]*", text):
         return int(text)
-    raise Wrong(WRONG_VALUE)
+    return None
 
 
-def within(text, least, most):
+def within(text, expected):
     value = number(text)
-    if not least <= value <= most:
-        raise Wrong(WRONG_VALUE)
+    if value is None or not expected[0] <= value <= expected[1]:
+        raise Wrong(wrong_value(expected))
     return value
 
 
 def set_stack(said, value, place):
-    said.stack = within(value, 1, MOST_STACK)
+    said.stack = within(value, OF_STACKS)
 
 
 def set_most_extra(said, value, place):
-    said.most_extra = within(value, 0, MOST_PARAGRAPHS)
+    said.most_extra = within(value, OF_PARAGRAPHS)
 
 
 def any_number(said, value, place):
-    number(value)
+    within(value, OF_ALL)
+
+
+def no_program_of_faults(said, value, place):
+    """Where there is a fault no program is written, which is all that can be asked for."""
+    if value.upper() != "NOEXE":
+        raise Wrong(NO_NOEXE)
 
 
 def leave_out_defaults(said, value, place):
@@ -104,7 +117,7 @@ def map_of_publics(said, value, place):
         said.warnings.append((place, NOTHING))
         return
     if value is not None:
-        number(value)
+        within(value, OF_ALL)
     said.has_publics = True
 
 
@@ -128,6 +141,8 @@ LINK = [
     ("PACKC[ODE]", NO_VALUE, warns(PACKING)), ("PACKC[ODE]", VALUE, warns(NOTHING)),
     ("PACKD[ATA]", NO_VALUE, warns(PACKING)), ("PACKD[ATA]", VALUE, warns(NOTHING)),
     ("NOP[ACKCODE]", NO_VALUE, nothing),
+    ("PACKF[UNCTIONS]", NO_VALUE, warns(NOTHING)), ("NOPACKF[UNCTIONS]", NO_VALUE, nothing),
+    ("PC[ODE]", NO_VALUE, refuses(P_CODE)), ("ON[ERROR]", VALUE, no_program_of_faults),
     ("LI[NENUMBERS]", NO_VALUE, sets(has_lines=True)),
     ("M[AP]", EITHER, map_of_publics),
     ("NOD[EFAULTLIBRARYSEARCH]", EITHER, leave_out_defaults),
@@ -150,6 +165,27 @@ def link_option(text):
     return None
 
 
+# what is expected behind the names that take a value
+EXPECTED = {
+    "ST[ACK]": wrong_value(OF_STACKS), "CP[ARMAXALLOC]": wrong_value(OF_PARAGRAPHS),
+    "SE[GMENTS]": wrong_value(OF_ALL), "ON[ERROR]": NO_NOEXE,
+}
+
+
+def link_fault(text):
+    """Why a text is no option of LINK: a name that takes no value, or has to have one, or that is cut too short."""
+    word = text.partition(":")[0]
+    if link_option(word) is not None:
+        return NO_VALUE_EXPECTED
+    names = [(names, *LINK_NAMES.fullmatch(names).groups()) for names, _, _ in LINK]
+    for each, short, rest in names:
+        if each in EXPECTED and is_front(word, short + rest, len(short)):
+            return EXPECTED[each]
+    # /H is short for /HELP too, which stands alone
+    several = {short + rest for _, short, rest in names} | {"HELP"}
+    return SHORT_FOR_SEVERAL if sum(is_front(word, each, 1) for each in several) > 1 else UNKNOWN_OPTION
+
+
 # ---- TLINK
 
 # what `-` behind them switches off, and what is asked for then
@@ -164,9 +200,10 @@ TLINK_FLAGS = {
     "t": (sets(form="com"), sets(form="exe")),
     "v": (warns(DEBUG), nothing), "f": (warns(PACKING), nothing),
     "o": (refuses(OVERLAYS), nothing),
-    **{each: (nothing, nothing) for each in ["d", "e", "3", "C", "E", "k", "j", "P"]},
+    "d": (warns(NOTHING), nothing), "M": (warns(NOTHING), nothing),
+    **{each: (nothing, nothing) for each in ["e", "3", "C", "E", "k", "j", "P"]},
 }
-TLINK_WORDS = {"Tdc": sets(form="com"), "Tde": sets(form="exe"), "yc": nothing, "ye": nothing}
+TLINK_WORDS = {"Tdc": sets(form="com"), "Tde": sets(form="exe"), "Td": sets(form="exe"), "yc": nothing, "ye": nothing}
 
 
 def add_folders(said, value, place):
@@ -220,4 +257,10 @@ def takes_folders(language, text):
     return language == "tlink" and text[:1] in ("L", "j")
 
 
+def tlink_fault(text):
+    return NO_FOLDERS if text == "L" else UNKNOWN_OPTION
+
+
 OPTION = {"link": link_option, "tlink": tlink_option}
+# why a text is none
+FAULT = {"link": link_fault, "tlink": tlink_fault}

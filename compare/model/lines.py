@@ -9,7 +9,7 @@ import re
 from dataclasses import dataclass, field
 from typing import Optional
 
-from model.line_options import OPTION, OVERLAYS, UNKNOWN_OPTION, Wrong, has_free_value, takes_folders
+from model.line_options import FAULT, OPTION, OVERLAYS, Wrong, has_free_value, takes_folders
 
 LINK, TLINK = "link", "tlink"
 NO_OBJECT, SECOND_NAME, TOO_MANY_FIELDS = "NoObject", "SecondName", "TooManyFields"
@@ -20,8 +20,10 @@ END_OF_TEXT = "\x1A"
 # blanks, and what else parts words
 BLANKS, MARKS = " \t\f\r", "+,;\n"
 NO_FILE = "nul"
+# the console: a map there is written to standard output
+CONSOLE, STANDARD_OUTPUT = "con", "-"
 # what can't be written
-DEVICES = re.compile("con|prn|aux|(?:lpt|com)[1-9]")
+DEVICES = re.compile("prn|aux|(?:lpt|com)[1-9]")
 # what parts folders of DOS, and stands behind a drive there
 OF_DOS = re.compile(r"[\\:]")
 
@@ -170,7 +172,7 @@ def cut_begun(language, word):
         return None, [word[1:]]
     if word[0] == "/" and len(options) > 1:
         return word, []
-    raise Wrong(UNKNOWN_OPTION)
+    raise Wrong(FAULT[language](word[1:]))
 
 
 def base(name):
@@ -286,7 +288,7 @@ class Reader:
         if self.said.out is not None:
             raise Wrong(SECOND_NAME)
         refuse_device(name)
-        if base(name) == NO_FILE:
+        if base(name) in (NO_FILE, CONSOLE):
             raise Wrong(DEVICE)
         self.said.out = name
 
@@ -320,5 +322,5 @@ def map_of(said):
     if said.has_no_map or said.map is not None and base(said.map) == NO_FILE:
         return None
     if said.map is not None:
-        return said.map
+        return STANDARD_OUTPUT if base(said.map) == CONSOLE else said.map
     return "" if said.makes_map or said.has_publics or said.has_lines else None

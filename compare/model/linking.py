@@ -102,9 +102,16 @@ def whole_names(job, first):
     """A job of a line whose program and map have their names: the program that of the first object, in this folder,
     where it has none."""
     extension = forms.EXTENSIONS[job.form.kind]
-    job.out = with_ending(last_part(first), extension) if job.out is None else with_extension(job.out, extension)
-    job.map = job.map and with_extension(job.map, line_jobs.MAP)
+    unsaid = with_ending(last_part(first), extension)
+    job.out = unsaid if job.out is None else whole_path(job.out, unsaid, extension)
+    if job.map and job.map != STANDARD_OUTPUT:
+        job.map = whole_path(job.map, with_ending(last_part(job.out), line_jobs.MAP), line_jobs.MAP)
     return job
+
+
+def whole_path(path, name, extension):
+    """A path that is said, where this name stands in a folder alone."""
+    return with_extension(path, extension) if last_part(path) else path + name
 
 
 def nowhere(path):

@@ -7,6 +7,7 @@ use Rattle.std.specs.Char.{is_ascii_whitespace}
 use Rattle.std.specs.List.{before_first, flat_map, list_any}
 use Rattle.std.specs.Option.{option_map, option_map_or}
 use Rattle.std.specs.Path.{rsplit_once}
+use Rattle.std.specs.Str.{bytes_eq}
 use Rattle.clap.specs.Words.{Text}
 use Rattle.doslink_files.specs.Files.{IsTold}
 use Rattle.doslink_files.specs.Paths.{has_extension}
@@ -17,7 +18,7 @@ use Rattle.makefile_words.specs.Tokens.{LineEnd}
 use Rattle.makefile_words.specs.Tokens.{text_of, tokens}
 use Rattle.makefile_words.specs.declared.settings.Settings.{Settings}
 use Rattle.makefile_words.specs.declared.tokens.Language.{Language}
-use Rattle.doslink_jobs.specs.Places.{extension_for, first_file, path_after}
+use Rattle.doslink_jobs.specs.Places.{extension_for, first_file, is_output, path_after, with_extension}
 use Rattle.doslink_jobs.specs.Responses.{response_path}
 
 -- ---- its text
@@ -107,19 +108,31 @@ base_name path = behind_last 58 (behind_last 92 (behind_last 47 path))
 abbrev pub with_default : (path extension : Text) → Text
 with_default path extension = if has_extension path then path else path ++ extension
 
--- the program's name, with the extension of its form: the one that is said, or the first object's, in this folder
+-- a path that is said, with an extension where it has none; in a folder alone, as `OBJ\`, stands this name
+abbrev pub whole_path : (path name extension : Text) → Text
+whole_path path name extension =
+    if bytes_eq (base_name path) [] then path ++ name else with_default path extension
+
+-- the name of the first object, with the extension of the program's form
+abbrev pub default_out : Job → Text
+default_out job = path_after (option_map base_name (first_file job.inputs.items)) (extension_for job.form)
+
+-- the program's path: the one that is said, or the first object's name, in this folder
 abbrev pub line_out : Job → Text
 line_out job =
-    option_map_or (λ out. with_default out.now (extension_for job.form)) job.out
-    (path_after (option_map base_name (first_file job.inputs.items)) (extension_for job.form))
+    option_map_or (λ out. whole_path out.now (default_out job) (extension_for job.form)) job.out (default_out job)
 
--- the map's name, with its extension
-abbrev pub line_map : SaidMap → SaidMap
-line_map Beside = Beside
-line_map (At path) = At (with_default path (codes ".MAP"))
+-- the path of a map that is said, and is a file; in a folder alone it has the program's name
+abbrev pub whole_map : (path out : Text) → Text
+whole_map path out = whole_path path (with_extension (base_name out) (codes ".MAP")) (codes ".MAP")
+
+-- the map's path, which stays where it is standard output
+abbrev pub line_map : (out : Text) → SaidMap → SaidMap
+line_map out Beside = Beside
+line_map out (At path) = At (if is_output path then path else whole_map path out)
 
 -- a job with the names of its program and its map whole
 pub record IsWhole (job whole : Job) : Type 0 where
   pub out : option_map (λ out. out.now) whole.out ≡ Some (line_out job)
-  pub map : option_map map_of whole.map ≡ option_map line_map (option_map map_of job.map)
+  pub map : option_map map_of whole.map ≡ option_map (line_map (line_out job)) (option_map map_of job.map)
   pub others : whole ≡ record job { out = whole.out; map = whole.map }

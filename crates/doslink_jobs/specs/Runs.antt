@@ -21,6 +21,7 @@ use Rattle.doslink_jobs.specs.declared.words.Language.{Language}
 use Rattle.doslink_jobs.specs.declared.words.Language.TheVariants as language
 use Rattle.makefile_words.specs.Jobs as jobs
 use Rattle.makefile_words.specs.Lines as lines
+use Rattle.makefile_words.specs.Link.{is_short}
 use Rattle.makefile_words.specs.declared.job.MakefileJob.{MakefileJob}
 use Rattle.makefile_words.specs.declared.tokens.Language.{Language as Linker}
 use Rattle.makefile_words.specs.declared.tokens.Language.TheVariants as linkers
@@ -76,9 +77,13 @@ abbrev pub spoken : Language → List Text → Language × List Text
 spoken language words =
     option_map_or (λ asked. (unwrap_or (language_named asked.0) language, asked.1)) (as_asked words) (language, words)
 
--- `/?` alone asks a linker that takes a line for the same as `--help`
+-- whether a word asks a linker that takes a line for help: `/?`, or `/HELP`, which may be shortened to `/HE`
+abbrev pub asks_line_help : Text → Bool
+asks_line_help word = bytes_eq word (codes "/?") || is_short word (codes "/HELP") 3
+
+-- such a word alone is the same as `--help`
 abbrev pub line_asked : List Text → List Text
-line_asked (word ∷ []) = if bytes_eq word (codes "/?") then codes "--help" ∷ [] else word ∷ []
+line_asked (word ∷ []) = if asks_line_help word then codes "--help" ∷ [] else word ∷ []
 line_asked words = words
 
 -- what a word gives of directives: the text of the response file that it names, and else the word itself

@@ -1,12 +1,12 @@
 //! The names that a line's job writes, made whole.
 ghost use Rattle.std.specs.Prelude.{◌≡◌, IfOk, string_bytes};
 ghost use Rattle.std.specs.Option.{option_map};
-ghost use Rattle.doslink_words.specs.Said.{map_of};
+ghost use Rattle.doslink_words.specs.Said.{At, map_of};
 ghost use Rattle.doslink_jobs.specs.Lines as spec;
 ghost use Rattle.doslink_jobs.specs.inside.Lines.{AreNamesOf, named_map};
 
-use crate::paths::behind_last;
-use crate::places::{extension_for, first_file, path_after};
+use crate::paths::{behind_last, with_extension};
+use crate::places::{extension_for, first_file, is_output, path_after};
 use doslink_files::has_extension;
 use doslink_words::{Job, MapFile};
 use std::alloc::{AllocError, Global};
@@ -38,14 +38,34 @@ fn with_default(alloc: Global, path: &str, extension: &str) -> Result<String, Al
     Ok(made)
 }
 
-// The program's name: the one that is said, or the first object's, in this folder.
+// A path that is said: with an extension where it has none, and this name in a folder alone.
+fn whole_path(alloc: Global, path: &str, name: &str, extension: &str) -> Result<String, AllocError>
+    ensures { IfOk result (λ made. string_bytes made ≡ spec.whole_path path.now name.now extension.now) }
+{
+    if base_name(path) != "" {
+        return with_default(alloc, path, extension);
+    }
+    let mut made = String::from_str(alloc, path)?;
+    made.push_str(name)?;
+    Ok(made)
+}
+
+// The name of the first object, with the extension of the program's form.
+fn default_out(alloc: Global, job: &Job<'_>) -> Result<String, AllocError>
+    ensures { IfOk result (λ out. string_bytes out ≡ spec.default_out job.now) }
+{
+    let name = base_of(first_file(&job.inputs));
+    path_after(alloc, name, extension_for(job.form))
+}
+
+// The program's path: the one that is said, or the first object's name, in this folder.
 fn out_of(alloc: Global, job: &Job<'_>) -> Result<String, AllocError>
     ensures { IfOk result (λ out. string_bytes out ≡ spec.line_out job.now) }
 {
-    let extension = extension_for(job.form);
+    let name = default_out(alloc, job)?;
     match job.out {
-        Some(out) => with_default(alloc, out, extension),
-        None => path_after(alloc, base_of(first_file(&job.inputs)), extension),
+        Some(out) => whole_path(alloc, out, name.as_str(), extension_for(job.form)),
+        None => Ok(name),
     }
 }
 
@@ -56,13 +76,28 @@ fn base_of(path: Option<&str>) -> Option<&str>
     Some(base_name(path?))
 }
 
-// The map's name, where one is named.
-fn map_name(alloc: Global, map: Option<MapFile<'_>>) -> Result<Option<String>, AllocError>
+// The path of a map that is said, of a program at this path.
+fn map_at(alloc: Global, path: &str, out: &str) -> Result<String, AllocError>
+    ensures { IfOk result (λ made. At (string_bytes made) ≡ spec.line_map out.now (At path.now)) }
+{
+    if is_output(path) {
+        return String::from_str(alloc, path);
+    }
+    let name = with_extension(alloc, base_name(out), ".MAP")?;
+    whole_path(alloc, path, name.as_str(), ".MAP")
+}
+
+// The map's path, where one is said.
+fn map_name(
+    alloc: Global,
+    map: Option<MapFile<'_>>,
+    out: &str,
+) -> Result<Option<String>, AllocError>
     ensures { IfOk result (λ name. named_map map.entry (option_map string_bytes name)
-        ≡ option_map spec.line_map (option_map map_of map.entry)) }
+        ≡ option_map (spec.line_map out.now) (option_map map_of map.entry)) }
 {
     match map {
-        Some(MapFile::At(name)) => Ok(Some(with_default(alloc, name, ".MAP")?)),
+        Some(MapFile::At(path)) => Ok(Some(map_at(alloc, path, out)?)),
         Some(MapFile::Beside) | None => Ok(None),
     }
 }
@@ -72,7 +107,7 @@ pub(crate) fn names_of(alloc: Global, job: &Job<'_>) -> Result<Names, AllocError
     ensures { IfOk result (AreNamesOf job.now) }
 {
     let out = out_of(alloc, job)?;
-    let map = map_name(alloc, job.map)?;
+    let map = map_name(alloc, job.map, out.as_str())?;
     Ok(Names { out, map })
 }
 

@@ -21,7 +21,7 @@ use crate::warnings::has_header;
 use crate::words::{Besides, Environment, out_of_memory, print_help, wrong_words};
 use doslink_words::{Job, text_asked};
 use makefile_words::{
-    FaultKind, Idle, IdleAt, Language, LineFault, MakefileJob, Settings, parse_line,
+    FaultKind, Idle, IdleAt, Language, LineFault, MakefileJob, Settings, is_short, parse_line,
 };
 use omf_files::{BufferedSink, World};
 use omf_frame::Sink;
@@ -48,7 +48,8 @@ Usage: link OBJECTS[,PROGRAM[,MAP[,LIBRARIES[,DEFINITIONS]]]][;]
 
 Blanks or + stand between the names of a field, and ; behind the last field that is
 given. .OBJ, .EXE (.COM), .MAP and .LIB are put behind a name that has no extension.
-NUL is no map, and a library's name that ends in \\, / or : a folder of libraries.
+NUL is no map and CON one on standard output; a library's name that ends in \\, / or :
+is a folder of libraries.
 @FILE stands for what FILE says. A name with blanks stands in \". Options stand anywhere,
 and in the environment's LINK or in TLINK.CFG, which are read in front of the line:
   link   /NOI case counts, /M a map with publics, /LI one with line numbers too, /ST:N the
@@ -60,12 +61,20 @@ and in the environment's LINK or in TLINK.CFG, which are read in front of the li
 docs/DOSLINK.md has them all. `doslink --help` tells of the words of doslink.
 ";
 
-// `--help` for `/?` alone.
+// Whether a word asks for help as an option of LINK does: `/?`, or `/HELP`, which may be shortened.
+fn asks_line_help(word: &str) -> bool
+    ensures { result ≡ runs.asks_line_help word.now }
+{
+    let word = word.as_bytes();
+    word == b"/?".as_slice() || is_short(word, b"/HELP", 3)
+}
+
+// `--help` for such a word alone.
 fn line_asked<'a>(words: &'a [&'a str]) -> &'a [&'a str]
     ensures { texts result.now ≡ runs.line_asked (texts words.now) }
 {
     match words {
-        [word] if word.as_bytes() == b"/?".as_slice() => &["--help"],
+        [word] if asks_line_help(word) => &["--help"],
         _ => words,
     }
 }

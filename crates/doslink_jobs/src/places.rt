@@ -201,7 +201,7 @@ pub(crate) fn check_form<A: Allocator + Copy>(
 }
 
 /// Whether a path is no file, but standard output.
-fn is_output(path: &str) -> bool
+pub(crate) fn is_output(path: &str) -> bool
     ensures { result ≡ spec.is_output path.now }
 {
     path == "-"

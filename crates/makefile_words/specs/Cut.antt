@@ -8,17 +8,22 @@ use Rattle.std.specs.Path.{rsplit_once}
 use Rattle.clap.specs.Lexer.{strip_byte}
 use Rattle.clap.specs.Words.{Text}
 use Rattle.makefile_words.specs.declared.faults.FaultKind.{FaultKind}
-use Rattle.makefile_words.specs.declared.faults.FaultKind.TheVariants.{TwoWays, UnknownOption}
+use Rattle.makefile_words.specs.declared.faults.FaultKind.TheVariants.{TwoWays}
 use Rattle.makefile_words.specs.declared.settings.Setting.{Setting}
 use Rattle.makefile_words.specs.declared.tokens.Language.{Language}
 use Rattle.makefile_words.specs.declared.tokens.Language.TheVariants.{Tlink, Link}
-use Rattle.makefile_words.specs.Link.{link_option}
-use Rattle.makefile_words.specs.Tlink.{closed_option, tlink_option}
+use Rattle.makefile_words.specs.Link.{link_fault, link_option}
+use Rattle.makefile_words.specs.Tlink.{closed_option, tlink_fault, tlink_option}
 
 -- what an option asks for, none where there is no such option
 abbrev pub option_named : Language → Text → Option Setting
 option_named Tlink option = tlink_option option
 option_named Link option = link_option option
+
+-- what is wrong with a text that is no option
+abbrev pub option_fault : Language → Text → FaultKind
+option_fault Tlink option = tlink_fault option
+option_fault Link option = link_fault option
 
 -- whether there is such an option
 abbrev pub is_option : Language → Text → Bool
@@ -121,7 +126,7 @@ abbrev pub begun : Language → (word options : Text) → (is_path : Bool) → R
 begun language word options is_path =
     if is_both language options then Err TwoWays
     else (if is_all_options language options then Ok (record { name = None; options = Some options })
-    else (if is_path then Ok (record { name = Some word; options = None }) else Err UnknownOption))
+    else (if is_path then Ok (record { name = Some word; options = None }) else Err (option_fault language options)))
 
 -- a word that isn't dotted
 abbrev pub undotted : Language → Text → Result SaidCut FaultKind

@@ -1,5 +1,6 @@
 -- The job that a line's words ask for.
-use Rattle.std.specs.Prelude.{◌≡◌, ◌||◌, ⊤, not, [], Bool, true, false, ℕ, Option, Some, None, Result, Ok, Err, if◌then◌else◌}
+use Rattle.std.specs.Prelude.{◌≡◌, ◌||◌, ⊤, not, [], Bool, true, false, ℕ, codes}
+use Rattle.std.specs.Prelude.{Option, Some, None, Result, Ok, Err, if◌then◌else◌}
 use Rattle.std.specs.Option.{option_map}
 use Rattle.clap.specs.Words.{Text}
 use Rattle.doslink_words.specs.Said.{SaidMap, SaidOrder, At, Beside, Dosseg, Meeting, inputs_of, map_of, order_of}
@@ -9,7 +10,7 @@ use Rattle.doslink_words.specs.declared.job.Form.TheVariants.{Exe, LimitedExe, C
 use Rattle.doslink_words.specs.declared.job.MapForm.{MapForm}
 use Rattle.doslink_words.specs.declared.job.MapForm.TheVariants as map_form
 use Rattle.doslink_words.specs.declared.job.Stack.{Stack}
-use Rattle.makefile_words.specs.Lines.{SaidLine, WrongWord, is_null}
+use Rattle.makefile_words.specs.Lines.{SaidLine, WrongWord, is_console, is_null}
 use Rattle.makefile_words.specs.declared.faults.LineFault.{LineFault}
 use Rattle.makefile_words.specs.declared.faults.LineFault.TheVariants as line_fault
 use Rattle.makefile_words.specs.declared.job.MakefileJob.{MakefileJob}
@@ -23,10 +24,11 @@ use Rattle.makefile_words.specs.declared.tokens.Language.TheVariants.{Tlink, Lin
 abbrev pub map_beside : Settings → Option SaidMap
 map_beside s = if s.makes_map || s.publics || s.line_numbers then Some Beside else None
 
--- a map of this name, which is none where that is NUL
+-- a map of this name, which is none where that is NUL, and on standard output where it is CON
 abbrev pub map_named : Settings → Option Text → Option SaidMap
 map_named s None = map_beside s
-map_named s (Some name) = if is_null name then None else Some (At name)
+map_named s (Some name) =
+    if is_null name then None else (if is_console name then Some (At (codes "-")) else Some (At name))
 
 -- the map, where one is made
 abbrev pub map_asked : Settings → Option Text → Option SaidMap

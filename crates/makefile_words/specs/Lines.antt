@@ -9,7 +9,7 @@ use Rattle.doslink_words.specs.Directives.{and_then}
 use Rattle.doslink_words.specs.Keywords.{is_keyword}
 use Rattle.doslink_words.specs.Said.{SaidInput, File, Library}
 use Rattle.doslink_words.specs.declared.job.Form.TheVariants.{Exe}
-use Rattle.makefile_words.specs.Cut.{SaidCut, cut, option_named, options_in}
+use Rattle.makefile_words.specs.Cut.{SaidCut, cut, option_fault, option_named, options_in}
 use Rattle.makefile_words.specs.Link.{is_colon}
 use Rattle.makefile_words.specs.Tokens.{PlacedPiece, Piece, Word, Quoted, Unclosed, Blank, Plus, Comma, Semicolon, LineEnd}
 use Rattle.makefile_words.specs.Tokens.{text_of, tokens, tokens_ending}
@@ -132,7 +132,7 @@ setting_meaning place what option said = Ok (record said { settings = changed wh
 abbrev pub option_meaning : (place : ℕ) → Language → Text → SaidLine → Result SaidLine FaultKind
 option_meaning place language option said =
     option_map_or (λ what. setting_meaning place what option said) (option_named language option)
-    (Err fault.UnknownOption)
+    (Err (option_fault language option))
 
 -- what options say, one behind the other
 abbrev pub with_options : (place : ℕ) → Language → List Text → SaidLine → Result SaidLine FaultKind
@@ -166,11 +166,14 @@ is_port text =
     && (nat_le 49 (slice_index text (length text - 1)) && nat_le (slice_index text (length text - 1)) 57
     && (is_keyword (take (length text - 1) text) (codes "lpt") || is_keyword (take (length text - 1) text) (codes "com")))
 
--- the devices that are no files to write, with any extension
+-- `CON`: the console
+abbrev pub is_console : Text → Bool
+is_console name = is_device name (codes "con")
+
+-- the other devices, which are no files to write, with any extension
 abbrev pub is_refused : Text → Bool
 is_refused name =
-    is_device name (codes "con") || is_device name (codes "prn") || is_device name (codes "aux")
-    || is_port (before_first is_dot name)
+    is_device name (codes "prn") || is_device name (codes "aux") || is_port (before_first is_dot name)
 
 -- whether a name ends with a byte that stands behind folders: a backslash, `/` or `:`
 abbrev pub is_folder : Text → Bool
@@ -193,7 +196,8 @@ object_meaning name said =
 abbrev pub program_meaning : Text → SaidLine → Result SaidLine FaultKind
 program_meaning name said =
     if is_some said.out then Err fault.SecondName
-    else (if is_null name || is_refused name then Err fault.Device else Ok (record said { out = Some name }))
+    else (if is_null name || (is_console name || is_refused name) then Err fault.Device
+    else Ok (record said { out = Some name }))
 
 -- the map's name, of which there is one
 abbrev pub map_meaning : Text → SaidLine → Result SaidLine FaultKind

@@ -5,6 +5,7 @@ use Rattle.std.specs.Option.{option_or}
 use Rattle.std.specs.Str.{bytes_eq}
 use Rattle.clap.specs.Words.{Text}
 use Rattle.doslink_words.specs.declared.job.Form.TheVariants as form
+use Rattle.makefile_words.specs.declared.faults.FaultKind.{FaultKind}
 use Rattle.makefile_words.specs.declared.faults.FaultKind.TheVariants as fault
 use Rattle.makefile_words.specs.declared.settings.Idle.TheVariants as idle
 use Rattle.makefile_words.specs.declared.settings.Setting.{Setting}
@@ -29,7 +30,6 @@ flags on =
     ∷ (codes "n", setting.NoDefaults on)  -- no default libraries
     ∷ (codes "s", setting.Detailed on)  -- a detailed map of segments
     ∷ (codes "x", setting.NoMap on)  -- no map
-    ∷ (codes "d", setting.Silent)  -- warn of names that two libraries define: that is an error here
     ∷ (codes "e", setting.Silent)  -- no extended dictionary: none is read
     ∷ (codes "3", setting.Silent)  -- records of 32 bits: they are read
     ∷ (codes "C", setting.Silent)  -- case of exports and imports: there are none
@@ -44,12 +44,17 @@ abbrev pub words : List Row
 words =
     (codes "t", setting.Form form.Com)  -- a .COM file
     ∷ (codes "Tdc", setting.Form form.Com)  -- a .COM file for DOS
+    ∷ (codes "Td", setting.Form form.Exe)  -- a file for DOS
     ∷ (codes "t-", setting.Form form.Exe)
     ∷ (codes "Tde", setting.Form form.Exe)  -- an .EXE file for DOS
     ∷ (codes "v", setting.Warned idle.Debug)  -- debugging data
+    ∷ (codes "d", setting.Warned idle.Nothing)  -- warn of names that two libraries define
+    ∷ (codes "M", setting.Warned idle.Nothing)  -- names of the map as C++ has them
     ∷ (codes "f", setting.Warned idle.Packing)  -- far calls stay far
     ∷ (codes "o", setting.Refused fault.Overlays)  -- overlays
     ∷ (codes "v-", setting.Silent)
+    ∷ (codes "d-", setting.Silent)
+    ∷ (codes "M-", setting.Silent)
     ∷ (codes "f-", setting.Silent)
     ∷ (codes "o-", setting.Silent)
     ∷ (codes "yc", setting.Silent)  -- expanded memory for TLINK itself: none
@@ -100,3 +105,7 @@ closed_option option =
 -- what an option asks for, none where there is no such option
 unfoldable pub tlink_option : Text → Option Setting
 tlink_option option = option_or (closed_option option) (begun option)
+
+-- what is wrong with a text that is no option
+abbrev pub tlink_fault : Text → FaultKind
+tlink_fault option = if bytes_eq option (codes "L") then fault.NoFolders else fault.UnknownOption

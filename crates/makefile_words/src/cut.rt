@@ -9,9 +9,9 @@ ghost use Rattle.makefile_words.specs.inside.Follows.{Gives, HasBehind, cut_of};
 ghost use Rattle.doslink_words.specs.Tokens.{texts};
 
 use crate::faults::{FaultKind, WordFault};
-use crate::link::link_option;
+use crate::link::{link_fault, link_option};
 use crate::settings::Setting;
-use crate::tlink::{closed_option, tlink_option};
+use crate::tlink::{closed_option, tlink_fault, tlink_option};
 use crate::tokens::Language;
 use std::alloc::{AllocError, Global};
 
@@ -31,6 +31,16 @@ pub(crate) fn option_named(language: Language, option: &str) -> Option<Setting>
     match language {
         Language::Tlink => tlink_option(option.as_bytes()),
         Language::Link => link_option(option),
+    }
+}
+
+/// What is wrong with a text that is no option.
+pub(crate) fn option_fault(language: Language, option: &str) -> FaultKind
+    ensures { result ≡ spec.option_fault language option.now }
+{
+    match language {
+        Language::Tlink => tlink_fault(option.as_bytes()),
+        Language::Link => link_fault(option),
     }
 }
 
@@ -263,7 +273,7 @@ fn begun<'a>(
             options: None,
         });
     }
-    Err(WordFault::Wrong(FaultKind::UnknownOption))
+    Err(WordFault::Wrong(option_fault(language, options)))
 }
 
 // What a word is that begins as a name.

@@ -60,9 +60,26 @@ pub enum FaultKind {
     /// A word that may be folders of TLINK's `/L` or `/j`, and options as well.
     #[error("a blank is expected between options, and folders without one of an option's name")]
     TwoWays,
-    /// An option's value is no number, or out of its range.
-    #[error("the option's value is no number that it takes")]
-    WrongValue,
+    /// An option's value isn't there, is no number, or is out of its range.
+    #[error("a number from {least} to {most} is expected behind `:`")]
+    WrongValue {
+        /// The least number.
+        least: u32,
+        /// The greatest one.
+        most: u32,
+    },
+    /// An option has a value that takes none.
+    #[error("no value is expected behind the option")]
+    NoValue,
+    /// LINK's `/ONERROR` without the one value that it takes.
+    #[error("NOEXE is expected behind `:`")]
+    NoNoExe,
+    /// A name of LINK that is cut too short.
+    #[error("more of the option's name is expected: it is short for several")]
+    ShortForSeveral,
+    /// TLINK's `/L` without folders.
+    #[error("folders are expected right behind the letter")]
+    NoFolders,
     /// A file that has still to be read in the place of the word.
     #[error("a response file stands in the place of a name")]
     Response,
@@ -75,6 +92,9 @@ pub enum FaultKind {
     /// Overlays are asked for.
     #[error("overlays aren't made")]
     Overlays,
+    /// Modules of p-code are asked for.
+    #[error("p-code isn't linked")]
+    PCode,
     /// An option for programs that aren't of DOS.
     #[error("no other program is written than one for DOS")]
     NotDos,

@@ -6,7 +6,7 @@ ghost use Rattle.makefile_words.specs.Jobs as spec;
 ghost use Rattle.makefile_words.specs.inside.Lines.{line_of};
 
 use crate::line::{IdleAt, Line};
-use crate::names::is_null;
+use crate::names::{is_console, is_null};
 use crate::settings::{Ordering, Settings};
 use crate::tokens::Language;
 use doslink_words::{Form, Job, MapFile, MapForm, Order, Stack};
@@ -32,6 +32,7 @@ fn map_asked<'a>(settings: Settings, name: Option<&'a str>) -> Option<MapFile<'a
     }
     match name {
         Some(name) if is_null(name) => None,
+        Some(name) if is_console(name) => Some(MapFile::At("-")),
         Some(name) => Some(MapFile::At(name)),
         None if settings.makes_map || settings.publics || settings.line_numbers => {
             Some(MapFile::Beside)

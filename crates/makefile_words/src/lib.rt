@@ -17,5 +17,6 @@ pub use faults::{FaultKind, LineFault};
 pub use job::MakefileJob;
 pub use line::IdleAt;
 pub use lines::parse_line;
+pub use link::is_short;
 pub use settings::{Idle, Ordering, Settings};
 pub use tokens::{Language, Placed, Token, tokens_of};

@@ -14,6 +14,24 @@ const GREATEST: u32 = 1_048_576;
 /// The longest stack, in bytes: a segment's most bytes.
 const LONGEST: u32 = 65_536;
 
+/// What is expected of a stack's bytes.
+const STACK_EXPECTED: FaultKind = FaultKind::WrongValue {
+    least: 1,
+    most: LONGEST,
+};
+
+/// What is expected of extra paragraphs.
+const EXTRA_EXPECTED: FaultKind = FaultKind::WrongValue {
+    least: 0,
+    most: 65_535,
+};
+
+/// What is expected of a number that says nothing here.
+const NUMBER_EXPECTED: FaultKind = FaultKind::WrongValue {
+    least: 0,
+    most: GREATEST,
+};
+
 /// What the value of an option says.
 #[derive(Clone, Copy)]
 pub(crate) enum Valued {
@@ -27,6 +45,8 @@ pub(crate) enum Valued {
     Map,
     /// A library that is left out.
     Library,
+    /// What is done where there is a fault.
+    OnError,
     /// Nothing, of which a warning is told.
     Idle,
 }
@@ -64,9 +84,9 @@ fn number(text: &[u8]) -> Option<u32>
     }
 }
 
-// Whether a word is a name, or the front of one that has this many letters at least.
+/// Whether a word is a name, or the front of one that has this many letters at least.
 #[tactic(auto, unfolding(crate::specs::Link::is_short))]
-fn is_short(word: &[u8], name: &[u8], least: usize) -> bool
+pub fn is_short(word: &[u8], name: &[u8], least: usize) -> bool
     ensures { result ≡ spec.is_short word.now name.now least }
 {
     let size = word.len();
@@ -178,13 +198,28 @@ fn idle_named(word: &[u8]) -> Option<Setting>
     }
 }
 
+// What an option of functions and of p-code asks for.
+fn function_named(word: &[u8]) -> Option<Setting>
+    ensures { result ≡ spec.short_named word.now spec.function_named }
+{
+    if is_short(word, b"PACKFUNCTIONS", 5) {
+        Some(Setting::Warned(Idle::Nothing))
+    } else if is_short(word, b"NOPACKFUNCTIONS", 7) {
+        Some(Setting::Silent)
+    } else if is_short(word, b"PCODE", 2) {
+        Some(Setting::Refused(FaultKind::PCode))
+    } else {
+        None
+    }
+}
+
 // What the stack's option asks for.
 fn stack_asked(value: &[u8]) -> Setting
     ensures { result ≡ spec.stack_asked (spec.number value.now) }
 {
     match number(value) {
         Some(bytes) if 1 <= bytes && bytes <= LONGEST => Setting::Stack(bytes),
-        _ => Setting::Refused(FaultKind::WrongValue),
+        _ => Setting::Refused(STACK_EXPECTED),
     }
 }
 
@@ -195,9 +230,9 @@ fn extra_asked(value: &[u8]) -> Setting
     match number(value) {
         Some(paragraphs) => match u16::try_from(paragraphs) {
             Ok(paragraphs) => Setting::MostExtra(paragraphs),
-            Err(_) => Setting::Refused(FaultKind::WrongValue),
+            Err(_) => Setting::Refused(EXTRA_EXPECTED),
         },
-        None => Setting::Refused(FaultKind::WrongValue),
+        None => Setting::Refused(EXTRA_EXPECTED),
     }
 }
 
@@ -207,7 +242,7 @@ fn number_asked(value: &[u8], asked: Setting) -> Setting
 {
     match number(value) {
         Some(_) => asked,
-        None => Setting::Refused(FaultKind::WrongValue),
+        None => Setting::Refused(NUMBER_EXPECTED),
     }
 }
 
@@ -219,6 +254,17 @@ fn map_asked(value: &[u8]) -> Setting
         Setting::Warned(Idle::Nothing)
     } else {
         number_asked(value, Setting::Publics(true))
+    }
+}
+
+// What the option of faults asks for: no program where there is one, which is so.
+fn on_error_asked(value: &[u8]) -> Setting
+    ensures { result ≡ spec.on_error_asked value.now }
+{
+    if is_short(value, b"NOEXE", 5) {
+        Setting::Silent
+    } else {
+        Setting::Refused(FaultKind::NoNoExe)
     }
 }
 
@@ -249,6 +295,8 @@ fn valued_named(name: &[u8]) -> Option<Valued>
         Some(Valued::Map)
     } else if is_short(name, b"NODEFAULTLIBRARYSEARCH", 3) {
         Some(Valued::Library)
+    } else if is_short(name, b"ONERROR", 2) {
+        Some(Valued::OnError)
     } else if is_idle(name) {
         Some(Valued::Idle)
     } else {
@@ -266,6 +314,7 @@ fn value_asked(valued: Valued, value: &[u8]) -> Setting
         Valued::Number => number_asked(value, Setting::Silent),
         Valued::Map => map_asked(value),
         Valued::Library => Setting::LeavesOut,
+        Valued::OnError => on_error_asked(value),
         Valued::Idle => Setting::Warned(Idle::Nothing),
     }
 }
@@ -288,6 +337,7 @@ fn plain_named(word: &[u8]) -> Option<Setting>
         .or(next_named(word))
         .or(last_named(word))
         .or(idle_named(word))
+        .or(function_named(word))
 }
 
 /// What an option of LINK asks for, none where there is no such option.
@@ -298,5 +348,75 @@ pub(crate) fn link_option(option: &str) -> Option<Setting>
     match option.split_once(':') {
         Some((name, value)) => valued_option(name.as_bytes(), value.as_bytes()),
         None => plain_named(option.as_bytes()),
+    }
+}
+
+// What is expected behind a name that takes a value.
+fn value_expected(name: &[u8]) -> Option<FaultKind>
+    ensures { result ≡ spec.short_named name.now spec.value_expected }
+{
+    if is_short(name, b"STACK", 2) {
+        Some(STACK_EXPECTED)
+    } else if is_short(name, b"CPARMAXALLOC", 2) {
+        Some(EXTRA_EXPECTED)
+    } else if is_short(name, b"SEGMENTS", 2) {
+        Some(NUMBER_EXPECTED)
+    } else if is_short(name, b"ONERROR", 2) {
+        Some(FaultKind::NoNoExe)
+    } else {
+        None
+    }
+}
+
+// Whether a text is a front of several names, up to those that begin with I.
+fn is_early_front(text: &[u8]) -> bool
+    ensures { result ≡ spec.is_early_front text.now }
+{
+    is_short(text, b"CODEVIEW", 1)
+        || is_short(text, b"DOSSEG", 1)
+        || is_short(text, b"HIGH", 1)
+        || is_short(text, b"INFORMATION", 1)
+}
+
+// The same of those behind.
+fn is_late_front(text: &[u8]) -> bool
+    ensures { result ≡ spec.is_late_front text.now }
+{
+    is_short(text, b"NODEFAULTLIBRARYSEARCH", 1)
+        || is_short(text, b"OVERLAYINTERRUPT", 1)
+        || is_short(text, b"PACKCODE", 1)
+        || is_short(text, b"PADCODE", 1)
+        || is_short(text, b"SEGMENTS", 1)
+}
+
+// Whether a text is a front of several names, and none that is taken.
+fn is_front_of_several(text: &[u8]) -> bool
+    ensures { result ≡ spec.is_front_of_several text.now }
+{
+    is_early_front(text) || is_late_front(text)
+}
+
+// What is wrong with the name of what is no option.
+fn name_fault(name: &[u8]) -> FaultKind
+    ensures { result ≡ spec.name_fault name.now }
+{
+    if plain_named(name).is_some() {
+        return FaultKind::NoValue;
+    }
+    match value_expected(name) {
+        Some(fault) => fault,
+        None if is_front_of_several(name) => FaultKind::ShortForSeveral,
+        None => FaultKind::UnknownOption,
+    }
+}
+
+/// What is wrong with a text that is no option of LINK.
+#[tactic(auto, unfolding(crate::specs::Link::link_fault))]
+pub(crate) fn link_fault(option: &str) -> FaultKind
+    ensures { result ≡ spec.link_fault option.now }
+{
+    match option.split_once(':') {
+        Some((name, _)) => name_fault(name.as_bytes()),
+        None => name_fault(option.as_bytes()),
     }
 }

@@ -1,11 +1,9 @@
 //! What the names of a line say in their fields.
-ghost use Rattle.std.specs.Prelude.{◌≡◌, Err, Ok, if◌then◌else◌};
+ghost use Rattle.std.specs.Prelude.{◌≡◌};
 ghost use Rattle.std.specs.Option.{option_map};
 ghost use Rattle.std.specs.List.{before_first};
 ghost use Rattle.doslink_words.specs.Keywords.{is_keyword};
 ghost use Rattle.makefile_words.specs.Lines as spec;
-ghost use Rattle.makefile_words.specs.declared.faults.FaultKind.TheVariants.{Definitions};
-ghost use Rattle.makefile_words.specs.declared.faults.WordFault.TheVariants.{Wrong};
 ghost use Rattle.makefile_words.specs.inside.Follows.{Follows};
 ghost use Rattle.makefile_words.specs.inside.Lines.{line_of};
 
@@ -50,12 +48,19 @@ fn is_port(name: &str) -> bool
     }
 }
 
-// Whether a name is a device that is no file to write.
+/// Whether a name is `CON`, with any extension.
+pub(crate) fn is_console(name: &str) -> bool
+    ensures { result ≡ spec.is_console name.now }
+{
+    is(stem(name), "con")
+}
+
+// Whether a name is another device that is no file to write.
 fn is_refused(name: &str) -> bool
     ensures { result ≡ spec.is_refused name.now }
 {
     let name = stem(name);
-    is(name, "con") || is(name, "prn") || is(name, "aux") || is_port(name)
+    is(name, "prn") || is(name, "aux") || is_port(name)
 }
 
 // Whether a name is a folder of libraries.
@@ -96,7 +101,7 @@ fn put_program<'a>(line: &mut Line<'a>, name: &'a str) -> Result<(), WordFault>
     if line.out.is_some() {
         return Err(WordFault::Wrong(FaultKind::SecondName));
     }
-    if is_null(name) || is_refused(name) {
+    if is_null(name) || is_console(name) || is_refused(name) {
         return Err(WordFault::Wrong(FaultKind::Device));
     }
     line.out = Some(name);
@@ -132,17 +137,6 @@ fn put_library<'a>(line: &mut Line<'a>, name: &'a str) -> Result<(), WordFault>
     Ok(())
 }
 
-// Takes a name of definitions, which is to be NUL.
-fn take_definitions(name: &str) -> Result<(), WordFault>
-    ensures { result ≡ (if spec.is_null name.now then Ok tt else Err (Wrong Definitions)) }
-{
-    if is_null(name) {
-        Ok(())
-    } else {
-        Err(WordFault::Wrong(FaultKind::Definitions))
-    }
-}
-
 /// Puts a name into the field that comes next.
 pub(crate) fn put_field<'a>(line: &mut Line<'a>, name: &'a str) -> Result<(), WordFault>
     ensures { Follows result (spec.put_meaning name.now (line_of line.old)) (line_of line.new) }
@@ -153,7 +147,8 @@ pub(crate) fn put_field<'a>(line: &mut Line<'a>, name: &'a str) -> Result<(), Wo
         Field::Program => put_program(line, name),
         Field::MapFile => put_map(line, name),
         Field::Libraries => put_library(line, name),
-        Field::Definitions => take_definitions(name),
+        Field::Definitions if is_null(name) => Ok(()),
+        Field::Definitions => Err(WordFault::Wrong(FaultKind::Definitions)),
         Field::Ended => Err(WordFault::Wrong(FaultKind::BehindEnd)),
     }
 }

@@ -8,8 +8,8 @@ ghost use Rattle.makefile_words.specs.Lines as spec;
 ghost use Rattle.makefile_words.specs.inside.Follows.{Follows};
 ghost use Rattle.makefile_words.specs.inside.Lines.{line_of};
 
-use crate::cut::{option_named, options_in};
-use crate::faults::{FaultKind, WordFault};
+use crate::cut::{option_fault, option_named, options_in};
+use crate::faults::WordFault;
 use crate::line::{IdleAt, Line};
 use crate::settings::Setting;
 use crate::tokens::Language;
@@ -105,7 +105,7 @@ fn follow_option<'a>(
 {
     match option_named(language, option) {
         Some(setting) => follow_setting(line, alloc, place, setting, option),
-        None => Err(WordFault::Wrong(FaultKind::UnknownOption)),
+        None => Err(WordFault::Wrong(option_fault(language, option))),
     }
 }
 

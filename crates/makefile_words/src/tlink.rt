@@ -18,7 +18,7 @@ fn flag_named(name: &[u8], on: bool) -> Option<Setting>
         b"n" => Some(Setting::NoDefaults(on)),
         b"s" => Some(Setting::Detailed(on)),
         b"x" => Some(Setting::NoMap(on)),
-        b"d" | b"e" | b"3" | b"C" | b"E" | b"k" | b"j" | b"P" => Some(Setting::Silent),
+        b"e" | b"3" | b"C" | b"E" | b"k" | b"j" | b"P" => Some(Setting::Silent),
         _ => None,
     }
 }
@@ -29,11 +29,12 @@ fn word_named(word: &[u8]) -> Option<Setting>
 {
     match word {
         b"t" | b"Tdc" => Some(Setting::Form(Form::Com)),
-        b"t-" | b"Tde" => Some(Setting::Form(Form::Exe)),
+        b"Td" | b"t-" | b"Tde" => Some(Setting::Form(Form::Exe)),
         b"v" => Some(Setting::Warned(Idle::Debug)),
+        b"d" | b"M" => Some(Setting::Warned(Idle::Nothing)),
         b"f" => Some(Setting::Warned(Idle::Packing)),
         b"o" => Some(Setting::Refused(FaultKind::Overlays)),
-        b"v-" | b"f-" | b"o-" | b"yc" | b"ye" => Some(Setting::Silent),
+        b"v-" | b"d-" | b"M-" | b"f-" | b"o-" | b"yc" | b"ye" => Some(Setting::Silent),
         _ => None,
     }
 }
@@ -90,4 +91,14 @@ pub(crate) fn tlink_option(option: &[u8]) -> Option<Setting>
     ensures { result ≡ spec.tlink_option option.now }
 {
     closed_option(option).or(begun(option))
+}
+
+/// What is wrong with a text that is no option of TLINK.
+pub(crate) fn tlink_fault(option: &[u8]) -> FaultKind
+    ensures { result ≡ spec.tlink_fault option.now }
+{
+    match option {
+        b"L" => FaultKind::NoFolders,
+        _ => FaultKind::UnknownOption,
+    }
 }

@@ -44,6 +44,14 @@ link @ENDED|0||
 link @DEEP|2||doslink: \"@DEEP\": response files name one another more than 8 deep~
 link @NOFILE|3||doslink: NOFILE: 1 Device at record 0: no such file~
 link @BINARY|2||doslink: BINARY: it is no UTF-8 text~
+link F /ON:NOEXE /NOPACKF;|0||
+link F /PACKF;|0||doslink: warning: line 1, column 3: the option has no effect~
+link F /PCODE;|2||doslink: line 1, column 3: \"/PCODE\": p-code isn't linked~
+tlink /x /Td /d F|0||doslink: warning: line 1, column 8: the option has no effect~
+link F /ST;|2||doslink: line 1, column 3: \"/ST\": a number from 1 to 65536 is expected behind `:`~
+link F /NO;|2||doslink: line 1, column 3: \"/NO\": more of the option's name is expected: it is short for several~
+link F /NOI:1;|2||doslink: line 1, column 3: \"/NOI:1\": no value is expected behind the option~
+tlink F /L|2||doslink: line 1, column 3: \"/L\": folders are expected right behind the letter~
 link F /z;|2||doslink: line 1, column 3: \"/z\": unknown option~
 link @LINES2|2||doslink: line 3, column 1: \"/z\": unknown option~
 link F;G|2||doslink: line 1, column 3: \"G\": nothing is expected behind `;`~
@@ -64,15 +72,22 @@ tlink /x/t F,P.COM|1||doslink: link: 70 OtherStart~
 link F,COM;|0||
 tlink /t RELOC|1||doslink: link: 68 Relocated~
 link RELOC /T;|1||doslink: link: 68 Relocated~
+link F,P,CON;|0||
+link F,P,con /INF;|2||doslink: -: it would be the map and the list of what is linked~
+link F,con;|2||doslink: line 1, column 3: \"con\": a file is expected, and no device~
 link F,F.OBJ;|2||doslink: F.OBJ: it is read and would be written~
 ";
 
 /// Runs of lines, the path at which each writes, and all that it writes there.
-pub(crate) const LINED: [(&str, &str, &[u8]); 18] = [
+pub(crate) const LINED: [(&str, &str, &[u8]); 21] = [
     ("link F;", "F.EXE", &EXE_OF_F),
     ("link OBJ/UNO;", "UNO.EXE", &EXE_OF_F),
     ("link OBJ/UNO,OBJ/DUO;", "OBJ/DUO.EXE", &EXE_OF_F),
     ("link F,P.X;", "P.X", &EXE_OF_F),
+    // a folder alone has the program of the first object's name
+    ("link OBJ/UNO,DIR/;", "DIR/UNO.EXE", &EXE_OF_F),
+    ("tlink /x F,DIR\\", "DIR\\F.EXE", &EXE_OF_F),
+    ("link F,\"\";", "F.EXE", &EXE_OF_F),
     ("link F.OBJ+,P;", "P.EXE", &EXE_OF_F),
     ("tlink /x OBJ/UNO", "UNO.EXE", &EXE_OF_F),
     ("tlink /x F,P", "P.EXE", &EXE_OF_F),
@@ -192,7 +207,10 @@ const EXE_OF_F_WITH_258: [u8; 33] = [
 ];
 
 /// Runs of lines, the path of the program of each, and whether it writes a map at `P.MAP`.
-pub(crate) const MAPPED: [(&str, &str, bool); 10] = [
+pub(crate) const MAPPED: [(&str, &str, bool); 12] = [
+    // a folder alone has the map of the program's name, and no name at all is one in this folder
+    ("link F,P,DIR/;", "P.EXE", false),
+    ("link F,DIR/P,\"\";", "DIR/P.EXE", true),
     ("tlink F,P", "P.EXE", true),
     ("tlink /x F,P", "P.EXE", false),
     ("tlink F,P,nul", "P.EXE", false),

@@ -28,6 +28,22 @@ main,prog,nul,slibce;
 =>
 out: Some("prog"), map: None
 ---
+main,prog,con;
+=>
+out: Some("prog"), map: Some(At("-"))
+---
+main,,Con.map;
+=>
+out: None, map: Some(At("-"))
+---
+main,,console;
+=>
+map: Some(At("console"))
+---
+main,,con /M /LI;
+=>
+map: Some(At("-")), map_form: NumberedLink
+---
 main,prog
 =>
 inputs: [File("main")], out: Some("prog"), map: None
@@ -167,6 +183,14 @@ warnings: [IdleAt { place: 0, idle: Debug }, IdleAt { place: 4, idle: Packing },
 =>
 warnings: []
 ---
+/ON:NOEXE /onerror:noexe /NOPACKF /NOPACKFUNCTIONS main;
+=>
+warnings: []
+---
+/PACKF main /packfunctions;
+=>
+warnings: [IdleAt { place: 0, idle: Nothing }, IdleAt { place: 12, idle: Nothing }]
+---
 /O:63 /AL:16 /PADC:2 /PM:VIO /W /M:FULL main;
 =>
 warnings: [IdleAt { place: 0, idle: Nothing }, IdleAt { place: 6, idle: Nothing }, IdleAt { place: 13, idle: Nothing }, IdleAt { place: 21, idle: Nothing }, IdleAt { place: 29, idle: Nothing }, IdleAt { place: 32, idle: Nothing }]
@@ -193,31 +217,91 @@ Err(Word { place: 5, word: "/STACKS", kind: UnknownOption })
 ---
 main /NO;
 =>
-kind: UnknownOption
+kind: ShortForSeveral
 ---
 main /S:4;
+=>
+kind: ShortForSeveral
+---
+/H main;
+=>
+kind: ShortForSeveral
+---
+/O main;
+=>
+kind: ShortForSeveral
+---
+/PACK main;
+=>
+kind: ShortForSeveral
+---
+/PAD main;
+=>
+kind: ShortForSeveral
+---
+/L main;
+=>
+kind: UnknownOption
+---
+/ main;
+=>
+kind: UnknownOption
+---
+/NOI:1 main;
+=>
+kind: NoValue
+---
+/HE main;
 =>
 kind: UnknownOption
 ---
 main /ST:0;
 =>
-Err(Word { place: 5, word: "/ST:0", kind: WrongValue })
+Err(Word { place: 5, word: "/ST:0", kind: WrongValue { least: 1, most: 65536 } })
 ---
 main /ST:65537;
 =>
-kind: WrongValue
+kind: WrongValue { least: 1, most: 65536 }
 ---
 main /ST:089;
 =>
-kind: WrongValue
+kind: WrongValue { least: 1, most: 65536 }
 ---
 main /ST:;
 =>
-kind: WrongValue
+kind: WrongValue { least: 1, most: 65536 }
+---
+main /ST;
+=>
+kind: WrongValue { least: 1, most: 65536 }
 ---
 /CP:65536 main;
 =>
-kind: WrongValue
+kind: WrongValue { least: 0, most: 65535 }
+---
+-cparm main;
+=>
+kind: WrongValue { least: 0, most: 65535 }
+---
+/SE main;
+=>
+kind: WrongValue { least: 0, most: 1048576 }
+---
+/SE:1048577 main;
+=>
+kind: WrongValue { least: 0, most: 1048576 }
+---
+/M:x main;
+=>
+kind: WrongValue { least: 0, most: 1048576 }
+---
+/ON main;
+=>
+kind: NoNoExe
+---
+src/st;
+=>
+inputs: [File("src/st")]
 ---
 /DS main;
 =>
@@ -226,6 +310,22 @@ Err(Word { place: 0, word: "/DS", kind: Refused })
 /HIGH main;
 =>
 kind: Refused
+---
+/PC main;
+=>
+Err(Word { place: 0, word: "/PC", kind: PCode })
+---
+main /PCODE;
+=>
+kind: PCode
+---
+/ON:ERROR main;
+=>
+kind: NoNoExe
+---
+/ON:NOEX main;
+=>
+kind: NoNoExe
 ---
 /OLD main;
 =>

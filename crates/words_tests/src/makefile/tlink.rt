@@ -156,6 +156,10 @@ form: Some(Com), default_libraries: true
 =>
 form: Some(Exe), default_libraries: true
 ---
+/t /Td main
+=>
+form: Some(Exe), default_libraries: true
+---
 /t/t- main
 =>
 form: Some(Exe), default_libraries: true
@@ -200,9 +204,13 @@ inputs: [File("main")], out: None, map: Some(Beside), map_form: Tlink, folders: 
 =>
 warnings: [IdleAt { place: 0, idle: Debug }]
 ---
-/d /e /C /E /k /P /P=4096 /A=16 /yc /ye /v- main
+/e /C /E /k /P /P=4096 /A=16 /yc /ye /v- /d- /M- main
 =>
 warnings: []
+---
+/d main /M
+=>
+warnings: [IdleAt { place: 0, idle: Nothing }, IdleAt { place: 8, idle: Nothing }]
 ---
 /f main /Ol /yx
 =>
@@ -356,7 +364,7 @@ Err(Word { place: 5, word: "/Rk", kind: Refused })
 ---
 /L main
 =>
-kind: UnknownOption
+kind: NoFolders
 ---
 /La/c main
 =>
