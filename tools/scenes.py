@@ -229,7 +229,7 @@ SHOWN = {
             Said("doslink HELLO.OBJ -l CLIB", 0, {"HELLO.OBJ": FOR_MICROSOFT, "CLIB.LIB": CLIB}),)),
         "doslink: warning: 32-bit segments of HELLO.OBJ are linked as 16-bit ones": Lines((
             Said("doslink HELLO.OBJ", 0, {"HELLO.OBJ": WIDE_SEGMENT}),)),
-        "doslink: HELLO.LNK: line 3: no other program is written than one for DOS: format windows": Lines((
+        'doslink: HELLO.LNK: line 3: "windows": no other program is written than one for DOS': Lines((
             Said("wlink @HELLO.LNK", 2, {"A.OBJ": EMPTY, "HELLO.LNK": b"file A.OBJ\nname A.EXE\nformat windows\n"}),
             Said("wlink @HELLO.LNK", 0, {
                 "A.OBJ": EMPTY, "HELLO.LNK": b"file A.OBJ\nname A.EXE\nformat dos\nsort global\n"}))),

@@ -3,6 +3,7 @@
 Directives are those that compilers write for `wlink`. One stands behind the other, and a line's end is a blank.
 """
 
+import itertools
 import re
 from dataclasses import dataclass, field
 from typing import Optional
@@ -117,12 +118,21 @@ class DirectiveFault(Exception):
         self.text = text
 
 
-class Refused(Exception):
-    """This directive is at fault."""
+WRONG = "wrong operands"
 
-    def __init__(self, text="wrong operands"):
+
+class Refused(Exception):
+    """This directive is at fault, by its own word where no token behind it is named."""
+
+    def __init__(self, text=WRONG, at=None):
         super().__init__(text)
-        self.text = text
+        self.text, self.at = text, at
+
+
+def quoted(text):
+    """A text between quotes, with a backslash in front of one and of a quote."""
+    escaped = text.replace("\\", "\\\\").replace('"', '\\"').replace("\t", "\\t")
+    return f'"{escaped}"'
 
 
 def pieces(pattern, text):
@@ -146,24 +156,23 @@ def split_words(text):
 class Token:
     """A word, what stands between quotes, or one of the signs `,`, `=`, `{` and `}`.
 
-    It stands in a line, which goes on from it on as `rest`.
+    It stands in a line.
     """
 
     kind: str
     text: str
     line: object = None
-    rest: str = ""
 
     def is_word(self, *words):
         """Whether it is one of some words, in small letters or capitals."""
         return self.kind == "word" and self.text.lower() in words
 
 
-def token(match, line, rest):
-    quoted, sign, word = match.groups()
-    if quoted is not None:
-        return Token("quoted", quoted[1:-1], line, rest)
-    return Token("word", word, line, rest) if sign is None else Token(sign, sign, line, rest)
+def token(match, line):
+    between, sign, word = match.groups()
+    if between is not None:
+        return Token("quoted", between[1:-1], line)
+    return Token("word", word, line) if sign is None else Token(sign, sign, line)
 
 
 def tokens_of(line):
@@ -175,8 +184,8 @@ def tokens_of(line):
             return found
         match = TOKEN.match(line.text, place)
         if match is None:
-            raise DirectiveFault(line.number, f"{line.place()}: a quote isn't closed: {line.text}")
-        found.append(token(match, line, rest))
+            raise DirectiveFault(line.number, f"{line.place()}: {quoted(line.text)}: a quote isn't closed")
+        found.append(token(match, line))
         place = match.end()
 
 
@@ -231,18 +240,23 @@ def parts(tokens):
 
 
 def name(tokens):
-    """The one name that there is."""
-    if len(tokens) != 1 or tokens[0].kind not in ("word", "quoted"):
-        raise Refused
+    """The one name that there is: a second token is one too many."""
+    if len(tokens) != 1:
+        raise Refused(at=tokens[1] if tokens else None)
+    if tokens[0].kind not in ("word", "quoted"):
+        raise Refused(at=tokens[0])
     return tokens[0].text
 
 
 def names(tokens):
     """Names with commas between them, or all between braces, where commas say nothing."""
     if tokens and tokens[0].kind == "{":
-        if len(tokens) == 1 or tokens[-1].kind != "}":
-            raise Refused
-        return [name([each]) for each in tokens[1:-1] if each.kind != ","]
+        inside = list(itertools.takewhile(lambda each: each.kind != "}", tokens[1:]))
+        found = [name([each]) for each in inside if each.kind != ","]
+        behind = tokens[len(inside) + 2:]
+        if behind or len(tokens) == len(inside) + 1:
+            raise Refused(at=behind[0] if behind else None)
+        return found
     return list(map(name, parts(tokens)))
 
 
@@ -283,61 +297,96 @@ def read_aliases(job, tokens, line):
     """Names with equals signs behind them, and what they mean, with commas between such."""
     for alias in parts(tokens):
         if len(alias) != 3 or alias[1].kind != "=":
-            raise Refused
-        job.aliases.append(tuple(name_of_module(name([each])) for each in alias[::2]))
+            raise Refused(at=alias[1] if len(alias) == 3 else None)
+        job.aliases.append(tuple(short_name(each) for each in alias[::2]))
+
+
+def short_name(each):
+    """The name that a token is, which a module can have."""
+    try:
+        return name_of_module(name([each]))
+    except Refused:
+        raise Refused(at=each) from None
 
 
 def read_format(job, tokens, line):
     """A program of DOS: an .EXE or a .COM file, where that is said."""
-    if len(tokens) not in (1, 2) or not tokens[0].is_word("dos"):
+    taken = one_of(tokens[:1], "dos") + one_of(tokens[1:2], "exe", "com")
+    nothing_behind(tokens, 2)
+    if not taken:
         raise Refused(NOT_DOS)
-    kinds = [kind for kind in ("exe", "com") if tokens[1:] and tokens[1].is_word(kind)]
-    if tokens[1:] and not kinds:
-        raise Refused(NOT_DOS)
-    job.form = Form(kinds[0]) if kinds else None
+    job.form = Form(taken[1]) if taken[1:] else None
+
+
+def one_of(tokens, *words):
+    """The word that is taken of some, by the one token that is looked at; none where there is none."""
+    if tokens and not tokens[0].is_word(*words):
+        raise Refused(NOT_DOS, tokens[0])
+    return [each.text.lower() for each in tokens]
+
+
+def nothing_behind(tokens, most):
+    """There are no more tokens than so many."""
+    if tokens[most:]:
+        raise Refused(at=tokens[most])
 
 
 def read_system(job, tokens, line):
     """The same by the system's name: `dos` says no form."""
-    if len(tokens) != 1 or not (tokens[0].is_word("dos") or tokens[0].is_word("com")):
+    taken = one_of(tokens[:1], "dos", "com")
+    nothing_behind(tokens, 1)
+    if not taken:
         raise Refused(NOT_DOS)
     job.form = Form("com") if tokens[0].is_word("com") else None
 
 
 def read_output(job, tokens, line):
     """A raw image at paragraph 0, which may begin behind the program's first bytes."""
-    kinds = [each.kind for each in tokens]
     if not tokens or not tokens[0].is_word("raw"):
-        raise Refused
+        raise Refused(at=tokens[0] if tokens else None)
     start = 0
     if tokens[1:]:
-        if kinds[1:] not in (["word", "=", "word"], ["word", "=", "quoted"]) or not tokens[1].is_word("offset"):
+        if len(tokens) != 4:
             raise Refused
-        start = address(tokens[3].text)
+        _, offset, mark, value = tokens
+        if not offset.is_word("offset") or mark.kind != "=":
+            raise Refused(at=offset)
+        name([value])
+        start = address(value)
     job.form = Form("bin", start=start)
 
 
-def address(text):
+def address(value):
     """A number up to the end of memory: decimal, or hexadecimal behind 0x; of kilobytes with k."""
-    found = NUMBER.fullmatch(text)
+    found = NUMBER.fullmatch(value.text)
     if found is None or found[3] in ("m", "M"):
-        raise Refused
+        raise Refused(at=value)
     number = int(found[1], 16) if found[1] else int(found[2])
     if number > MEMORY_END:
-        raise Refused
+        raise Refused(at=value)
     return number * (1024 if found[3] else 1)
 
 
 def read_options(job, tokens, line):
     """Options with commas between them, each a word, or one with an equals sign and a value."""
     for option in parts(tokens):
-        kinds = [each.kind for each in option]
-        if kinds == ["word"]:
-            read_option(job, keyword(option[0].text, OPTIONS), None, line)
-        elif kinds in (["word", "=", "word"], ["word", "=", "quoted"]):
-            read_option(job, keyword(option[0].text, OPTIONS), option[2].text, line)
-        else:
-            raise Refused
+        try:
+            read_part(job, option, line)
+        except Refused as refused:
+            # by its first word, where no other is wrong
+            raise Refused(refused.text, refused.at or next(iter(option), None)) from None
+
+
+def read_part(job, option, line):
+    """A word, or one with an equals sign and a value."""
+    if len(option) == 3 and option[1].kind != "=":
+        raise Refused(at=option[1])
+    if len(option) not in (1, 3):
+        raise Refused
+    value = name([option[2]]) if option[2:] else None
+    if option[0].kind != "word":
+        raise Refused
+    read_option(job, keyword(option[0].text, OPTIONS), value, line)
 
 
 def read_option(job, word, value, line):
@@ -375,10 +424,12 @@ def stack_length(text):
 
 def read_order(job, tokens, line):
     """A list of classes, each with the segments that come first in it."""
-    if not tokens or len(tokens) % 2 or not tokens[0].is_word("clname"):
-        raise Refused
+    if not tokens or not tokens[0].is_word("clname"):
+        raise Refused(at=tokens[0] if tokens else None)
     job.order = [
         order_item(word, name([its_name])) for word, its_name in zip(tokens[::2], tokens[1::2])]
+    if len(tokens) % 2:
+        raise Refused(at=tokens[-1])
 
 
 def order_item(word, its_name):
@@ -386,7 +437,7 @@ def order_item(word, its_name):
         return ordering.Class(its_name.encode())
     if word.is_word("segment"):
         return ordering.Named(its_name.encode())
-    raise Refused
+    raise Refused(at=word)
 
 
 def leave_out(job, tokens, line):
@@ -515,7 +566,7 @@ def read_directives(lines):
         try:
             place = read_directive(job, tokens, place)
         except Refused as refused:
-            first = tokens[place]
+            wrong = refused.at or tokens[place]
             raise DirectiveFault(
-                first.line.number, f"{first.line.place()}: {refused.text}: {first.rest}") from None
+                wrong.line.number, f"{wrong.line.place()}: {quoted(wrong.text)}: {refused.text}") from None
     return job

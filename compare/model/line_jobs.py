@@ -4,7 +4,7 @@ both ask for."""
 import re
 
 from model import line_options, lines, ordering
-from model.directives import MOST_FILES, SPACE, TOO_MANY, Form, Input, Job, Stack, text_of as text_of_path
+from model.directives import MOST_FILES, SPACE, TOO_MANY, Form, Input, Job, Stack, quoted, text_of as text_of_path
 
 # what is told of a word that can't be followed
 KINDS = {
@@ -44,12 +44,6 @@ FRONTS = {lines.TLINK: "TLINK.CFG", lines.LINK: "LINK"}
 BETWEEN_FOLDERS = re.compile(r"[\\/:]")
 TOO_DEEP = "response files name one another more than 8 deep"
 MOST_DEEP = 8
-
-
-def quoted(text):
-    """A text between quotes, with a backslash in front of one and of a quote."""
-    escaped = text.replace("\\", "\\\\").replace('"', '\\"').replace("\t", "\\t")
-    return f'"{escaped}"'
 
 
 class LineRefused(Exception):

@@ -114,6 +114,14 @@ def whole_path(path, name, extension):
     return with_extension(path, extension) if last_part(path) else path + name
 
 
+def named_whole(job):
+    """A job of directives whose program has its name: one that is said has an extension, unless it is no file."""
+    if job.out not in (None, STANDARD_OUTPUT):
+        kind = "exe" if job.form is None else job.form.kind
+        job.out = with_extension(job.out, forms.EXTENSIONS[kind].lower())
+    return job
+
+
 def nowhere(path):
     """No path is one of a folder, or means two names of one."""
     return False
@@ -663,7 +671,7 @@ def link_by_directives(words, files, folders=(), can_be_made=always):
     """
     try:
         spoken = directives.spoken(words, files)
-        job = directives.read_directives(spoken)
+        job = named_whole(directives.read_directives(spoken))
     except directives.DirectiveFault as fault:
         return Answer(WRONG_WORDS, error=told([fault.text]).encode(), fault=faults.WORDS)
     except directives.Unread as unread:

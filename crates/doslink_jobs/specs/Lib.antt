@@ -7,6 +7,7 @@ pub mod Lines
 pub mod Locals
 pub mod Maps
 pub mod Meant
+pub mod Named
 pub mod Names
 pub mod Orders
 pub mod Overflow

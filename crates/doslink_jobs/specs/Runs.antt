@@ -27,6 +27,7 @@ use Rattle.makefile_words.specs.declared.tokens.Language.{Language as Linker}
 use Rattle.makefile_words.specs.declared.tokens.Language.TheVariants as linkers
 use Rattle.doslink_jobs.specs.Jobs.{EndsWith, IsDone}
 use Rattle.doslink_jobs.specs.Lines.{IsSpoken, IsWhole, are_followed, line_of}
+use Rattle.doslink_jobs.specs.Named.{IsNamed}
 use Rattle.doslink_jobs.specs.Refusals.{IsRefusedJob}
 pub use Rattle.doslink_jobs.specs.Responses.{response_path}
 
@@ -112,9 +113,13 @@ module _ (told : Text → Option (List ℕ)) (Does : Job → Type 0) (Helps : Li
   abbrev pub RunsResponse : (path : Text) → Type 0
   RunsResponse path = (text : Text) × IsTold (told path) text × RunsList text
 
-  -- it holds of the job that the directives ask for
+  -- it holds of a job with the name of its program whole
+  abbrev pub RunsNamed : Job → Type 0
+  RunsNamed job = (whole : Job) × IsNamed job whole × Does whole
+
+  -- the same of the job that the directives ask for
   abbrev pub RunsText : (text : Text) → Type 0
-  RunsText text = (directives : Directives) × Means (Ok directives) (meaning text) × Does directives.job
+  RunsText text = (directives : Directives) × Means (Ok directives) (meaning text) × RunsNamed directives.job
 
   -- the same of the directives that words give
   abbrev pub RunsGiven : (words : List Text) → Type 0

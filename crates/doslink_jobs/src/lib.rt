@@ -3,6 +3,7 @@
 
 mod aliases;
 mod communals;
+mod directive_names;
 mod directives;
 mod faults;
 mod faulty;

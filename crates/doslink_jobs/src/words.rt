@@ -11,9 +11,9 @@ ghost use Rattle.doslink_jobs.specs.Fronts.{IsFront};
 ghost use Rattle.doslink_jobs.specs.Jobs.{EndsWith, Tells};
 ghost use Rattle.doslink_jobs.specs.Runs as spec;
 ghost use Rattle.doslink_jobs.specs.Runs.{EndsBy, Runs, RunsCommand, RunsDirectives, RunsGiven, RunsList, RunsResponse};
-ghost use Rattle.doslink_jobs.specs.Runs.{RunsSpoken, RunsText, RunsWords};
-ghost use Rattle.doslink_jobs.specs.Wrong.{EndsJob};
+ghost use Rattle.doslink_jobs.specs.Runs.{RunsNamed, RunsSpoken, RunsText, RunsWords};
 
+use crate::directive_names::{name_of, with_name};
 use crate::directives::{
     Spoken, directive_line, directives_of, push_warnings, response_path, response_text,
 };
@@ -150,11 +150,11 @@ pub fn library_folders<'a>(alloc: Global, list: &'a str) -> Result<Vec<&'a str>,
     Ok(folders)
 }
 
-/// Does the job of directives, and hands out the exit status.
+/// Does the job of directives, with the name of its program whole, and hands out the exit status.
 fn run_parsed<W: World + Copy, O: Write + Drop, E: Sink>(
     alloc: Global,
     world: W,
-    directives: &Directives<'_>,
+    directives: Directives<'_>,
     spoken: &Spoken<'_>,
     folders: &[&str],
     output: &mut BufferedSink<O>,
@@ -162,11 +162,12 @@ fn run_parsed<W: World + Copy, O: Write + Drop, E: Sink>(
 ) -> u8
     requires output { sink_failures output.old ≡ 0 }
     requires errors { E.failures errors.old < 2 ^ 64 - 1 }
-    ensures { EndsJob Global (W.bytes world) (W.looks world) (StandsAt (W.blank world) (W.Puts world))
-        (texts folders.now) directives.now.job (Tells E.written E.failures errors.old errors.new) result }
+    ensures { EndsBy Global (W.bytes world) (StandsAt (W.blank world) (W.Puts world)) (texts folders.now)
+        (λ does helps. RunsNamed (W.bytes world) does helps directives.entry.job)
+        (Tells E.written E.failures errors.old errors.new) result }
 {
     let mut lines = Vec::new(alloc);
-    if push_warnings(directives, spoken, &mut lines).is_err() {
+    if push_warnings(&directives, spoken, &mut lines).is_err() {
         return out_of_memory(errors);
     }
     let besides = Besides {
@@ -174,8 +175,13 @@ fn run_parsed<W: World + Copy, O: Write + Drop, E: Sink>(
         read: &spoken.read,
         directives: true,
     };
-    let job = &directives.job;
-    run_lines(alloc, world, job, &besides, lines, output, errors)
+    match name_of(alloc, &directives.job) {
+        Ok(name) => {
+            let job = with_name(directives.job, &name);
+            run_lines(alloc, world, &job, &besides, lines, output, errors)
+        }
+        Err(AllocError) => out_of_memory(errors),
+    }
 }
 
 /// Does what directives ask for, and hands out the exit status.
@@ -194,7 +200,7 @@ fn run_spoken<W: World + Copy, O: Write + Drop, E: Sink>(
         (Tells E.written E.failures errors.old errors.new) result }
 {
     match parse_directives(alloc, spoken.text.as_str()) {
-        Ok(directives) => run_parsed(alloc, world, &directives, spoken, folders, output, errors),
+        Ok(directives) => run_parsed(alloc, world, directives, spoken, folders, output, errors),
         Err(fault) => refuse_directives(alloc, &fault, spoken, errors),
     }
 }

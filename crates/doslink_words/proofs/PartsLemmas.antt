@@ -12,64 +12,62 @@ use Rattle.std.proofs.lemmas.List.Sums.{prefix_len-le-length, prefix_len_passes}
 use Rattle.std.specs.Str.Lines.{lines}
 use Rattle.clap.specs.Words.{Text}
 use Rattle.doslink_words.specs.declared.faults.DirectiveFault.{DirectiveFault}
-use Rattle.doslink_words.specs.declared.faults.DirectiveFaultKind.{DirectiveFaultKind}
 use Rattle.doslink_words.specs.declared.faults.DirectiveFaultKind.TheVariants.{UnclosedQuote, WrongOperands}
 use Rattle.doslink_words.specs.declared.faults.LineFault.{LineFault}
 use Rattle.doslink_words.specs.declared.keywords.Directive.{Directive}
 use Rattle.doslink_words.specs.declared.faults.LineFault.TheVariants.{Memory, Wrong}
 use Rattle.doslink_words.specs.declared.faults.DirectiveFault.TheVariants as directive_fault
 use Rattle.doslink_words.specs.declared.tokens.Placed.{Placed}
-use Rattle.doslink_words.specs.Directives.{and_then, is_comma, one_name, option_meaning, option_of, parts, with_names}
+use Rattle.doslink_words.specs.Directives.{Mistake, and_then, count_of, is_comma_at, own, part_meaning, one_name, option_meaning, option_of, parts, with_names}
 use Rattle.doslink_words.specs.Directives.{alias_of, with_aliases, with_options, offset_meaning, order_item, at_place, first_meaning}
 use Rattle.doslink_words.specs.Directives.{directive_meaning, directive_of, meaning, tokens_meaning, with_items}
 use Rattle.doslink_words.specs.Directives.{Means}
-use Rattle.doslink_words.specs.Operands.{operand_count}
 use Rattle.doslink_words.specs.Places.{FaultyLine, PlacedPiece, placed, with_lines}
 use Rattle.doslink_words.specs.Said.{Said, SaidItem, nothing}
 use Rattle.doslink_words.specs.Tokens.{Piece, Comma, texts}
-use Rattle.doslink_words.specs.inside.Faults.{IsFault, IsFaultAt, Says}
-use Rattle.doslink_words.specs.inside.Follows.{Counts, Follows}
+use Rattle.doslink_words.specs.inside.Faults.{IsFault, IsFaultAt, IsFaultOf, Says}
+use Rattle.doslink_words.specs.inside.Follows.{Counts, Follows, mistake_of}
 use Rattle.doslink_words.specs.inside.Parts.{aliased, line_tokens, lines_meaning, listed, named, optioned}
 use Rattle.doslink_words.specs.inside.Tokens.{all_placed, operand_of, operands, placed_of}
 use Rattle.std.specs.Option.{option_map_or}
 
 -- how many tokens stand before the first comma
-abbrev pub part_len : List Piece → ℕ
-part_len = position_or_len is_comma
+abbrev pub part_len : List PlacedPiece → ℕ
+part_len = position_or_len is_comma_at
 
 -- one behind the other
-and_then_again : {A B C : Type 0} (r : Result A DirectiveFaultKind) (f : A → Result B DirectiveFaultKind)
-    (next : B → Result C DirectiveFaultKind) → and_then r (λ a. and_then (f a) next) ≡ and_then (and_then r f) next
+and_then_again : {A B C : Type 0} (r : Result A Mistake) (f : A → Result B Mistake)
+    (next : B → Result C Mistake) → and_then r (λ a. and_then (f a) next) ≡ and_then (and_then r f) next
 and_then_again (Ok a) f next = refl
 and_then_again (Err kind) f next = refl
 
 -- what is at fault is so with all that would have followed
-then_fault : {A B : Type 0} (meant : Result A DirectiveFaultKind) (next : A → Result B DirectiveFaultKind) (after : A)
-    (last : B) (r : Result Unit LineFault) (f : LineFault) (whole : Result B DirectiveFaultKind)
+then_fault : {A B : Type 0} (meant : Result A Mistake) (next : A → Result B Mistake) (after : A)
+    (last : B) (r : Result Unit LineFault) (f : LineFault) (whole : Result B Mistake)
     → Follows (Err f) meant after → r ≡ Err f → whole ≡ and_then meant next → Follows r whole last
 then_fault meant next after last r Memory whole follows e same = rw e tt
-then_fault meant next after last r (Wrong kind) whole follows e same = rw e (same ∙ ap (λ m. and_then m next) follows)
+then_fault meant next after last r (Wrong what) whole follows e same = rw e (same ∙ ap (λ m. and_then m next) follows)
 
 -- a part of operands: where it begins, and where it ends
 pub record IsPart (ops : List Placed) (start end : ℕ) : Type 0 where
   pub within : start ≤ length ops
-  pub ends : end ≡ start + part_len (drop start (operands ops))
+  pub ends : end ≡ start + part_len (drop start (all_placed ops))
 
 -- the tokens of a part, and those from its first one on
-abbrev pub part_of : List Placed → (start end : ℕ) → List Piece
-part_of ops start end = operands (take (end - start) (drop start ops))
+abbrev pub part_of : List Placed → (start end : ℕ) → List PlacedPiece
+part_of ops start end = all_placed (take (end - start) (drop start ops))
 
-abbrev pub from : List Placed → (start : ℕ) → List Piece
-from ops start = drop start (operands ops)
+abbrev pub from : List Placed → (start : ℕ) → List PlacedPiece
+from ops start = drop start (all_placed ops)
 
 module _ (ops : List Placed) (start end : ℕ) (here : IsPart ops start end) where
   from_len : length (from ops start) ≡ length ops - start
-  from_len = length-drop start (operands ops) ∙ ap (λ (n : ℕ). n - start) (length-map ops operand_of)
+  from_len = length-drop start (all_placed ops) ∙ ap (λ (n : ℕ). n - start) (length-map ops placed_of)
 
   part_is : part_of ops start end ≡ take (part_len (from ops start)) (from ops start)
   part_is =
       let long : end - start ≡ part_len (from ops start) = omega (arith, here.ends) in
-      sym (ap (take (end - start)) (drop-map operand_of start ops) ∙ take-map operand_of (end - start) (drop start ops))
+      sym (ap (take (end - start)) (drop-map placed_of start ops) ∙ take-map placed_of (end - start) (drop start ops))
       ∙ ap (λ (n : ℕ). take n (from ops start)) long
 
   -- what commas separate from a part on, where it is the last, where a comma stands behind it, and in both cases
@@ -77,23 +75,23 @@ module _ (ops : List Placed) (start end : ℕ) (here : IsPart ops start end) whe
   parts_none last =
       let rest = from ops start in
       let whole : part_len rest ≡ length rest = omega (arith, here.ends, here.within, last, from_len) in
-      slice_split_none is_comma rest
-      (λ k d lt. not-true _ (prefix_len_passes (λ p. not (is_comma p)) rest k d (omega (arith, whole, lt))))
-      ∙ ap (λ (p : List Piece). p ∷ []) (sym (part_is ∙ take_all (part_len rest) rest (omega (arith, whole))))
+      slice_split_none is_comma_at rest
+      (λ k d lt. not-true _ (prefix_len_passes (λ p. not (is_comma_at p)) rest k d (omega (arith, whole, lt))))
+      ∙ ap (λ (p : List PlacedPiece). p ∷ []) (sym (part_is ∙ take_all (part_len rest) rest (omega (arith, whole))))
 
   parts_more : end < length ops → parts (from ops start) ≡ part_of ops start end ∷ parts (from ops (end + 1))
   parts_more more =
       let rest = from ops start in
       let inside : part_len rest < length rest = omega (arith, here.ends, here.within, more, from_len) in
       let behind : start + (part_len rest + 1) ≡ end + 1 = omega (arith, here.ends) in
-      slice_split_first is_comma rest Comma inside
-      ∙ (ap (λ (p : List Piece). p ∷ parts (drop (part_len rest + 1) rest)) (sym part_is)
-      ∙ ap (λ (ps : List Piece). part_of ops start end ∷ parts ps)
-      (drop-drop (part_len rest + 1) start (operands ops) ∙ ap (from ops) behind))
+      slice_split_first is_comma_at rest (record { piece = Comma; line = 0 }) inside
+      ∙ (ap (λ (p : List PlacedPiece). p ∷ parts (drop (part_len rest + 1) rest)) (sym part_is)
+      ∙ ap (λ (ps : List PlacedPiece). part_of ops start end ∷ parts ps)
+      (drop-drop (part_len rest + 1) start (all_placed ops) ∙ ap (from ops) behind))
 
-  parts_any : (more : List (List Piece)) × (parts (from ops start) ≡ part_of ops start end ∷ more)
+  parts_any : (more : List (List PlacedPiece)) × (parts (from ops start) ≡ part_of ops start end ∷ more)
   parts_any =
-      let few = prefix_len-le-length (λ p. not (is_comma p)) (from ops start) in
+      let few = prefix_len-le-length (λ p. not (is_comma_at p)) (from ops start) in
       elim (cases_lt end (length ops)) [
         | inl inside ↦ (parts (from ops (end + 1)), parts_more inside)
         | inr past ↦ ([], parts_none (omega (arith, here.ends, here.within, past, few, from_len)))
@@ -101,14 +99,14 @@ module _ (ops : List Placed) (start end : ℕ) (here : IsPart ops start end) whe
 
   -- ---- names
 
-  names_step : (had : List Text) (more : List (List Piece)) → parts (from ops start) ≡ part_of ops start end ∷ more
+  names_step : (had : List Text) (more : List (List PlacedPiece)) → parts (from ops start) ≡ part_of ops start end ∷ more
       → with_names had (parts (from ops start)) ≡ and_then (named had (part_of ops start end)) (λ h. with_names h more)
   names_step had more are =
       ap (with_names had) are
       ∙ and_then_again (one_name (part_of ops start end)) (λ name. Ok (had ++ (name ∷ []))) (λ h. with_names h more)
 
   pub names_fault : (had after last : List Text) (r : Result Unit LineFault) (f : LineFault)
-      (whole : Result (List Text) DirectiveFaultKind) → Follows (Err f) (named had (part_of ops start end)) after
+      (whole : Result (List Text) Mistake) → Follows (Err f) (named had (part_of ops start end)) after
       → r ≡ Err f → whole ≡ with_names had (parts (from ops start)) → Follows r whole last
   names_fault had after last r f whole follows e same =
       then_fault (named had (part_of ops start end)) (λ h. with_names h parts_any.0) after last r f whole follows e
@@ -118,18 +116,18 @@ module _ (ops : List Placed) (start end : ℕ) (here : IsPart ops start end) whe
       → with_names had (parts (from ops start)) ≡ with_names next (parts (from ops (end + 1)))
   names_more had next more is =
       names_step had _ (parts_more more)
-      ∙ ap (λ (m : Result (List Text) DirectiveFaultKind). and_then m (λ h. with_names h (parts (from ops (end + 1)))))
+      ∙ ap (λ (m : Result (List Text) Mistake). and_then m (λ h. with_names h (parts (from ops (end + 1)))))
       is
 
   pub names_end : (had next : List Text) → end ≡ length ops → named had (part_of ops start end) ≡ Ok next
       → with_names had (parts (from ops start)) ≡ Ok next
   names_end had next last is =
       names_step had [] (parts_none last)
-      ∙ ap (λ (m : Result (List Text) DirectiveFaultKind). and_then m (λ h. with_names h [])) is
+      ∙ ap (λ (m : Result (List Text) Mistake). and_then m (λ h. with_names h [])) is
 
   -- ---- aliases
 
-  aliases_step : (had : List (Text × Text)) (more : List (List Piece))
+  aliases_step : (had : List (Text × Text)) (more : List (List PlacedPiece))
       → parts (from ops start) ≡ part_of ops start end ∷ more
       → with_aliases had (parts (from ops start))
       ≡ and_then (aliased had (part_of ops start end)) (λ h. with_aliases h more)
@@ -139,7 +137,7 @@ module _ (ops : List Placed) (start end : ℕ) (here : IsPart ops start end) whe
       (λ h. with_aliases h more)
 
   pub aliases_fault : (had after last : List (Text × Text)) (r : Result Unit LineFault) (f : LineFault)
-      (whole : Result (List (Text × Text)) DirectiveFaultKind)
+      (whole : Result (List (Text × Text)) Mistake)
       → Follows (Err f) (aliased had (part_of ops start end)) after
       → r ≡ Err f → whole ≡ with_aliases had (parts (from ops start)) → Follows r whole last
   aliases_fault had after last r f whole follows e same =
@@ -151,94 +149,92 @@ module _ (ops : List Placed) (start end : ℕ) (here : IsPart ops start end) whe
       → with_aliases had (parts (from ops start)) ≡ with_aliases next (parts (from ops (end + 1)))
   aliases_more had next more is =
       aliases_step had _ (parts_more more)
-      ∙ ap (λ (m : Result (List (Text × Text)) DirectiveFaultKind).
+      ∙ ap (λ (m : Result (List (Text × Text)) Mistake).
       and_then m (λ h. with_aliases h (parts (from ops (end + 1))))) is
 
   pub aliases_end : (had next : List (Text × Text)) → end ≡ length ops
       → aliased had (part_of ops start end) ≡ Ok next → with_aliases had (parts (from ops start)) ≡ Ok next
   aliases_end had next last is =
       aliases_step had [] (parts_none last)
-      ∙ ap (λ (m : Result (List (Text × Text)) DirectiveFaultKind). and_then m (λ h. with_aliases h [])) is
+      ∙ ap (λ (m : Result (List (Text × Text)) Mistake). and_then m (λ h. with_aliases h [])) is
 
   -- ---- options
 
-  options_step : (line : ℕ) (said : Said) (more : List (List Piece))
+  options_step : (line : ℕ) (said : Said) (more : List (List PlacedPiece))
       → parts (from ops start) ≡ part_of ops start end ∷ more
       → with_options line (parts (from ops start)) said
-      ≡ and_then (optioned line said (part_of ops start end)) (with_options line more)
+      ≡ and_then (part_meaning line said (part_of ops start end)) (with_options line more)
   options_step line said more are =
-      ap (λ (ps : List (List Piece)). with_options line ps said) are
-      ∙ and_then_again (option_of (part_of ops start end)) (λ o. option_meaning line o.0 o.1 said)
-      (with_options line more)
+      ap (λ (ps : List (List PlacedPiece)). with_options line ps said) are
 
   pub options_fault : (line : ℕ) (said after last : Said) (r : Result Unit LineFault) (f : LineFault)
-      (whole : Result Said DirectiveFaultKind) → Follows (Err f) (optioned line said (part_of ops start end)) after
+      (whole : Result Said Mistake) → Follows (Err f) (part_meaning line said (part_of ops start end)) after
       → r ≡ Err f → whole ≡ with_options line (parts (from ops start)) said → Follows r whole last
   options_fault line said after last r f whole follows e same =
-      then_fault (optioned line said (part_of ops start end)) (with_options line parts_any.0) after last r f whole
+      then_fault (part_meaning line said (part_of ops start end)) (with_options line parts_any.0) after last r f whole
       follows
       e (same ∙ options_step line said parts_any.0 parts_any.1)
 
   pub options_more : (line : ℕ) (said next : Said) → end < length ops
-      → optioned line said (part_of ops start end) ≡ Ok next
+      → part_meaning line said (part_of ops start end) ≡ Ok next
       → with_options line (parts (from ops start)) said ≡ with_options line (parts (from ops (end + 1))) next
   options_more line said next more is =
       options_step line said _ (parts_more more)
-      ∙ ap (λ (m : Result Said DirectiveFaultKind). and_then m (with_options line (parts (from ops (end + 1))))) is
+      ∙ ap (λ (m : Result Said Mistake). and_then m (with_options line (parts (from ops (end + 1))))) is
 
   pub options_end : (line : ℕ) (said next : Said) → end ≡ length ops
-      → optioned line said (part_of ops start end) ≡ Ok next
+      → part_meaning line said (part_of ops start end) ≡ Ok next
       → with_options line (parts (from ops start)) said ≡ Ok next
   options_end line said next last is =
       options_step line said [] (parts_none last)
-      ∙ ap (λ (m : Result Said DirectiveFaultKind). and_then m (with_options line [])) is
+      ∙ ap (λ (m : Result Said Mistake). and_then m (with_options line [])) is
 
 -- where a part ends: at a comma, behind a token that is none, and behind the last
 module _ (ops : List Placed) (end : ℕ) where
   comma_at : (d : Placed) → end < length ops
-      → is_comma (get_or (operands ops) end (operand_of d)) ≡ is_comma (operand_of (get_or ops end d))
-  comma_at d inside = ap is_comma (get_or-map operand_of ops end d (operand_of d) inside)
+      → is_comma_at (get_or (all_placed ops) end (placed_of d)) ≡ is_comma_at (placed_of (get_or ops end d))
+  comma_at d inside = ap is_comma_at (get_or-map placed_of ops end d (placed_of d) inside)
 
-  inside_all : end < length ops → end < length (operands ops)
-  inside_all inside = omega (arith, length-map ops operand_of)
+  inside_all : end < length ops → end < length (all_placed ops)
+  inside_all inside = omega (arith, length-map ops placed_of)
 
-  pub ends_here : (d : Placed) (r : Bool) → end < length ops → r ≡ is_comma (operand_of (get_or ops end d)) → r ≡ true
-      → part_len (drop end (operands ops)) ≡ 0
+  pub ends_here : (d : Placed) (r : Bool) → end < length ops → r ≡ is_comma_at (placed_of (get_or ops end d)) → r ≡ true
+      → part_len (drop end (all_placed ops)) ≡ 0
   ends_here d r inside is e =
-      prefix_len-drop_no (λ p. not (is_comma p)) (operands ops) end (operand_of d) (inside_all inside)
+      prefix_len-drop_no (λ p. not (is_comma_at p)) (all_placed ops) end (placed_of d) (inside_all inside)
       (ap not (comma_at d inside ∙ (sym is ∙ e)))
 
-  pub goes_on : (d : Placed) (r : Bool) → end < length ops → r ≡ is_comma (operand_of (get_or ops end d)) → r ≡ false
-      → part_len (drop end (operands ops)) ≡ 1 + part_len (drop (end + 1) (operands ops))
+  pub goes_on : (d : Placed) (r : Bool) → end < length ops → r ≡ is_comma_at (placed_of (get_or ops end d)) → r ≡ false
+      → part_len (drop end (all_placed ops)) ≡ 1 + part_len (drop (end + 1) (all_placed ops))
   goes_on d r inside is e =
-      prefix_len-drop_yes (λ p. not (is_comma p)) (operands ops) end (operand_of d) (inside_all inside)
+      prefix_len-drop_yes (λ p. not (is_comma_at p)) (all_placed ops) end (placed_of d) (inside_all inside)
       (ap not (comma_at d inside ∙ (sym is ∙ e)))
 
 -- ---- the items of an order
 
 items_step : (had : List SaidItem) (before middle after : List Placed) (k n : Placed) → before ≡ k ∷ middle
     → middle ≡ n ∷ after
-    → with_items had (operands before)
-    ≡ and_then (listed had (operand_of k) (operand_of n)) (λ h. with_items h (operands after))
+    → with_items had (all_placed before)
+    ≡ and_then (listed had (placed_of k) (placed_of n)) (λ h. with_items h (all_placed after))
 items_step had before middle after k n one two =
-    ap (λ (ts : List Placed). with_items had (operands ts)) (one ∙ ap (λ (ts : List Placed). k ∷ ts) two)
-    ∙ and_then_again (order_item (operand_of k) (operand_of n)) (λ item. Ok (had ++ (item ∷ [])))
-    (λ h. with_items h (operands after))
+    ap (λ (ts : List Placed). with_items had (all_placed ts)) (one ∙ ap (λ (ts : List Placed). k ∷ ts) two)
+    ∙ and_then_again (order_item (placed_of k) (placed_of n)) (λ item. Ok (had ++ (item ∷ [])))
+    (λ h. with_items h (all_placed after))
 
 pub items_more : (had next : List SaidItem) (before middle after : List Placed) (k n : Placed) → before ≡ k ∷ middle
-    → middle ≡ n ∷ after → listed had (operand_of k) (operand_of n) ≡ Ok next
-    → with_items had (operands before) ≡ with_items next (operands after)
+    → middle ≡ n ∷ after → listed had (placed_of k) (placed_of n) ≡ Ok next
+    → with_items had (all_placed before) ≡ with_items next (all_placed after)
 items_more had next before middle after k n one two is =
     items_step had before middle after k n one two
-    ∙ ap (λ (m : Result (List SaidItem) DirectiveFaultKind). and_then m (λ h. with_items h (operands after))) is
+    ∙ ap (λ (m : Result (List SaidItem) Mistake). and_then m (λ h. with_items h (all_placed after))) is
 
 pub items_fault : (had new last : List SaidItem) (before middle after : List Placed) (k n : Placed)
-    (r : Result Unit LineFault) (f : LineFault) (whole : Result (List SaidItem) DirectiveFaultKind)
+    (r : Result Unit LineFault) (f : LineFault) (whole : Result (List SaidItem) Mistake)
     → before ≡ k ∷ middle
-    → middle ≡ n ∷ after → Follows (Err f) (listed had (operand_of k) (operand_of n)) new → r ≡ Err f
-    → whole ≡ with_items had (operands before) → Follows r whole last
+    → middle ≡ n ∷ after → Follows (Err f) (listed had (placed_of k) (placed_of n)) new → r ≡ Err f
+    → whole ≡ with_items had (all_placed before) → Follows r whole last
 items_fault had new last before middle after k n r f whole one two follows e same =
-    then_fault (listed had (operand_of k) (operand_of n)) (λ h. with_items h (operands after)) new last r f whole follows e
+    then_fault (listed had (placed_of k) (placed_of n)) (λ h. with_items h (all_placed after)) new last r f whole follows e
     (same ∙ items_step had before middle after k n one two)
 
 -- ---- lines
@@ -249,7 +245,7 @@ pub lines_step : (had next : List PlacedPiece) (line : ℕ) (text : Text) (more 
     → with_lines line (text ∷ more) had ≡ with_lines (line + 1) more next
 lines_step had next line text more is = go (placed (line + 1) text) is
   where
-    go : (o : Option (List PlacedPiece)) → option_map_or (λ ts. Ok (had ++ ts)) o (Err UnclosedQuote) ≡ Ok next
+    go : (o : Option (List PlacedPiece)) → option_map_or (λ ts. Ok (had ++ ts)) o (Err (own UnclosedQuote)) ≡ Ok next
         → option_map_or (λ ts. with_lines (line + 1) more (had ++ ts)) o
         (Err (record { line = line + 1; text = text; kind = UnclosedQuote })) ≡ with_lines (line + 1) more next
     go None e = cc
@@ -257,18 +253,18 @@ lines_step had next line text more is = go (placed (line + 1) text) is
         let same : had ++ ts ≡ next = search e in
         ap (with_lines (line + 1) more) same
 
-lines_unclosed : (had : List PlacedPiece) (line : ℕ) (text : Text) (more : List Text) (what : DirectiveFaultKind)
+lines_unclosed : (had : List PlacedPiece) (line : ℕ) (text : Text) (more : List Text) (what : Mistake)
     → line_tokens had (line + 1) text ≡ Err what
-    → with_lines line (text ∷ more) had ≡ Err (record { line = line + 1; text = text; kind = what })
+    → with_lines line (text ∷ more) had ≡ Err (record { line = line + 1; text = text; kind = what.kind })
 lines_unclosed had line text more what is = go (placed (line + 1) text) is
   where
-    go : (o : Option (List PlacedPiece)) → option_map_or (λ ts. Ok (had ++ ts)) o (Err UnclosedQuote) ≡ Err what
+    go : (o : Option (List PlacedPiece)) → option_map_or (λ ts. Ok (had ++ ts)) o (Err (own UnclosedQuote)) ≡ Err what
         → option_map_or (λ ts. with_lines (line + 1) more (had ++ ts)) o
         (Err (record { line = line + 1; text = text; kind = UnclosedQuote }))
-        ≡ Err (record { line = line + 1; text = text; kind = what })
+        ≡ Err (record { line = line + 1; text = text; kind = what.kind })
     go None e =
-        let same : UnclosedQuote ≡ what = search e in
-        ap (λ k. Err (record { line = line + 1; text = text; kind = k })) same
+        let same : own UnclosedQuote ≡ what = search e in
+        ap (λ (m : Mistake). Err (record { line = line + 1; text = text; kind = m.kind })) same
     go (Some ts) e = cc
 
 pub lines_more : (had next : List PlacedPiece) (all : List Text) (i : ℕ) (text : Text) → i < length all
@@ -279,13 +275,13 @@ lines_more had next all i text inside here means =
     ∙ (ap (λ (t : Text). with_lines i (t ∷ drop (i + 1) all) had) here
     ∙ lines_step had next i text (drop (i + 1) all) means)
 
-pub lines_fault : (had : List PlacedPiece) (all : List Text) (i : ℕ) (text : Text) (kind : DirectiveFaultKind)
-    → i < length all → get_or all i text ≡ text → line_tokens had (i + 1) text ≡ Err kind
-    → with_lines i (drop i all) had ≡ Err (record { line = i + 1; text = text; kind = kind })
-lines_fault had all i text kind inside here means =
+pub lines_fault : (had : List PlacedPiece) (all : List Text) (i : ℕ) (text : Text) (what : Mistake)
+    → i < length all → get_or all i text ≡ text → line_tokens had (i + 1) text ≡ Err what
+    → with_lines i (drop i all) had ≡ Err (record { line = i + 1; text = text; kind = what.kind })
+lines_fault had all i text what inside here means =
     at_drop_more (λ (ls : List Text). with_lines i ls had) all i text inside
     ∙ (ap (λ (t : Text). with_lines i (t ∷ drop (i + 1) all) had) here
-    ∙ lines_unclosed had i text (drop (i + 1) all) kind means)
+    ∙ lines_unclosed had i text (drop (i + 1) all) what means)
 
 -- ---- faults
 
@@ -300,8 +296,8 @@ pub lines_stop : (had after : List PlacedPiece) (all : List Text) (i : ℕ) (tex
     → Follows (Err f) (line_tokens had (i + 1) text) after → IsFaultAt (i + 1) text f fault
     → whole ≡ with_lines i (drop i all) had → IsFault fault whole
 lines_stop had after all i text Memory fault whole inside here follows fits is = rw fits tt
-lines_stop had after all i text (Wrong kind) fault whole inside here follows fits is =
-    says_fault fault _ whole fits (is ∙ lines_fault had all i text kind inside here follows)
+lines_stop had after all i text (Wrong what) fault whole inside here follows fits is =
+    says_fault fault _ whole fits (is ∙ lines_fault had all i text (mistake_of what) inside here follows)
 
 -- a line that is read at its place
 pub line_here : (ls : List (Bor Text)) (i : ℕ) (d : Bor Text) → i < length ls
@@ -317,27 +313,24 @@ skipped zero more said h = refl
 skipped (suc count) [] said h = absurd (omega (arith, h))
 skipped (suc count) (token ∷ more) said h = skipped count more said (omega (arith, h))
 
-pieces_same : (ts : List Placed) → map (λ t. t.piece) (all_placed ts) ≡ operands ts
+pub pieces_same : (ts : List Placed) → map (λ t. t.piece) (all_placed ts) ≡ operands ts
 pieces_same [] = refl
 pieces_same (t ∷ ts) = ap (λ ps. operand_of t ∷ ps) (pieces_same ts)
 
 tokens_step : (said : Said) (rest behind : List Placed) (first : Placed) → rest ≡ first ∷ behind
     → tokens_meaning 0 (all_placed rest) said
-    ≡ and_then (at_place (placed_of first) (first_meaning (placed_of first) (operands behind) said))
+    ≡ and_then (at_place (placed_of first) (first_meaning (placed_of first) (all_placed behind) said))
     (λ next. tokens_meaning next.0 (all_placed behind) next.1)
 tokens_step said rest behind first is =
     ap (λ (ts : List Placed). tokens_meaning 0 (all_placed ts) said) is
-    ∙ ap (λ (ps : List Piece).
-    and_then (at_place (placed_of first) (first_meaning (placed_of first) ps said))
-    (λ next. tokens_meaning next.0 (all_placed behind) next.1)) (pieces_same behind)
 
 pub tokens_more : (said next : Said) (rest behind after : List Placed) (first : Placed) (count : ℕ) → rest ≡ first ∷ behind
     → count ≤ length behind → after ≡ drop count behind
-    → first_meaning (placed_of first) (operands behind) said ≡ Ok (count, next)
+    → first_meaning (placed_of first) (all_placed behind) said ≡ Ok (count, next)
     → tokens_meaning 0 (all_placed rest) said ≡ tokens_meaning 0 (all_placed after) next
 tokens_more said next rest behind after first count is within left means =
     tokens_step said rest behind first is
-    ∙ (ap (λ (m : Result (ℕ × Said) DirectiveFaultKind).
+    ∙ (ap (λ (m : Result (ℕ × Said) Mistake).
     and_then (at_place (placed_of first) m) (λ next. tokens_meaning next.0 (all_placed behind) next.1)) means
     ∙ (skipped count (all_placed behind) next (omega (arith, within, length-map behind placed_of))
     ∙ (ap (λ (ts : List PlacedPiece). tokens_meaning 0 ts next) (drop-map placed_of count behind)
@@ -354,44 +347,44 @@ taken_apart (t ∷ ts) d h =
 
 pub tokens_stop : (said after : Said) (rest behind : List Placed) (first : Placed) (f : LineFault)
     (fault : DirectiveFault) (whole : Result Said FaultyLine) → rest ≡ first ∷ behind
-    → Counts (Err f) (first_meaning (placed_of first) (operands behind) said) after
-    → IsFaultAt first.line first.text.now f fault → whole ≡ tokens_meaning 0 (all_placed rest) said
+    → Counts (Err f) (first_meaning (placed_of first) (all_placed behind) said) after
+    → IsFaultOf (placed_of first) f fault → whole ≡ tokens_meaning 0 (all_placed rest) said
     → IsFault fault whole
 tokens_stop said after rest behind first Memory fault whole is counts fits same = rw fits tt
-tokens_stop said after rest behind first (Wrong kind) fault whole is counts fits same =
+tokens_stop said after rest behind first (Wrong what) fault whole is counts fits same =
     says_fault fault _ whole fits
     (same ∙ (tokens_step said rest behind first is
-    ∙ ap (λ (m : Result (ℕ × Said) DirectiveFaultKind).
+    ∙ ap (λ (m : Result (ℕ × Said) Mistake).
     and_then (at_place (placed_of first) m) (λ next. tokens_meaning next.0 (all_placed behind) next.1)) counts))
 
 -- what a directive means with its operands, or what is wrong with them
-module _ (first : PlacedPiece) (behind ops : List Piece) (said after : Said) (d : Directive) (count : ℕ)
-    (named : directive_of first.piece ≡ Ok d) (counted : count ≡ operand_count d behind) (are : ops ≡ take count behind)
+module _ (first : PlacedPiece) (behind ops : List PlacedPiece) (said after : Said) (d : Directive) (count : ℕ)
+    (named : directive_of first.piece ≡ Ok d) (counted : count ≡ count_of d behind) (are : ops ≡ take count behind)
   where
     first_step : first_meaning first behind said
         ≡ and_then (directive_meaning first.line d ops said) (λ after. Ok (count, after))
     first_step =
-        ap (λ (m : Result Directive DirectiveFaultKind). and_then m (λ d.
-        and_then (directive_meaning first.line d (take (operand_count d behind) behind) said)
-        (λ after. Ok (operand_count d behind, after)))) named
+        ap (λ (m : Result Directive Mistake). and_then m (λ d.
+        and_then (directive_meaning first.line d (take (count_of d behind) behind) said)
+        (λ after. Ok (count_of d behind, after)))) named
         ∙ (ap (λ (n : ℕ). and_then (directive_meaning first.line d (take n behind) said) (λ after. Ok (n, after)))
         (sym counted)
-        ∙ ap (λ (ops : List Piece). and_then (directive_meaning first.line d ops said) (λ after. Ok (count, after)))
+        ∙ ap (λ (ops : List PlacedPiece). and_then (directive_meaning first.line d ops said) (λ after. Ok (count, after)))
         (sym are))
 
     pub first_fault : (r : Result ℕ LineFault) (f : LineFault)
         → Follows (Err f) (directive_meaning first.line d ops said) after → r ≡ Err f
         → Counts r (first_meaning first behind said) after
     first_fault r Memory follows e = rw e tt
-    first_fault r (Wrong kind) follows e =
+    first_fault r (Wrong what) follows e =
         rw e
         (first_step
-        ∙ ap (λ (m : Result Said DirectiveFaultKind). and_then m (λ after. Ok (count, after))) follows)
+        ∙ ap (λ (m : Result Said Mistake). and_then m (λ after. Ok (count, after))) follows)
 
     pub first_done : directive_meaning first.line d ops said ≡ Ok after
         → first_meaning first behind said ≡ Ok (count, after)
     first_done means =
-        first_step ∙ ap (λ (m : Result Said DirectiveFaultKind). and_then m (λ after. Ok (count, after))) means
+        first_step ∙ ap (λ (m : Result Said Mistake). and_then m (λ after. Ok (count, after))) means
 
 -- ---- a text
 
@@ -411,13 +404,13 @@ module _ (text : Text) (ls : List Text) (said : Said) (are : ls ≡ lines text) 
 
 -- ---- where no offset is
 
-pub no_offset_short : (tokens : List Piece) → length tokens < 3 → Err WrongOperands ≡ offset_meaning tokens
+pub no_offset_short : (tokens : List PlacedPiece) → length tokens < 3 → offset_meaning tokens ≡ Err (own WrongOperands)
 no_offset_short [] h = refl
 no_offset_short (a ∷ []) h = refl
 no_offset_short (a ∷ b ∷ []) h = refl
 no_offset_short (a ∷ b ∷ c ∷ more) h = absurd (omega (arith, h))
 
-pub no_offset_long : (tokens : List Piece) → 4 ≤ length tokens → Err WrongOperands ≡ offset_meaning tokens
+pub no_offset_long : (tokens : List PlacedPiece) → 4 ≤ length tokens → offset_meaning tokens ≡ Err (own WrongOperands)
 no_offset_long [] h = refl
 no_offset_long (a ∷ []) h = refl
 no_offset_long (a ∷ b ∷ []) h = refl

@@ -22,13 +22,13 @@ with_front-push had p None = refl
 with_front-push had p (Some more) = ap (λ ps. Some ps) (sym (append_assoc had (p ∷ []) more))
 
 -- a token at the front of what is left
-abbrev pub placed_at : (line : ℕ) → (front : Text) → Piece → PlacedPiece
-placed_at line front piece = record { piece = piece; line = line; text = front }
+abbrev pub placed_at : (line : ℕ) → Piece → PlacedPiece
+placed_at line piece = record { piece = piece; line = line }
 
 -- the tokens of what is left, which begins with no white space
 abbrev tokens_at : (bound line : ℕ) → (front : Text) → Option (List PlacedPiece)
 tokens_at bound line front =
-    option_and_then (λ p. option_map (λ more. placed_at line front p.0 ∷ more) (placed_below bound line p.1))
+    option_and_then (λ p. option_map (λ more. placed_at line p.0 ∷ more) (placed_below bound line p.1))
     (token Directives front)
 
 abbrev tokens_of : (nothing : Bool) → (bound line : ℕ) → (front : Text) → Option (List PlacedPiece)
@@ -57,12 +57,12 @@ here_at bound line had rest front r is says =
 pub left-more : (line : ℕ) (text : Text) (first had : List PlacedPiece) (rest front : Text) (p : Piece) (next : Text)
     (r : Bool) → IsLeft line text first had rest → front ≡ after_space rest → r ≡ says_nothing front → r ≡ false
     → token Directives front ≡ Some (p, next) → length next < length front
-    → IsLeft line text first (had ++ (placed_at line front p ∷ [])) next
+    → IsLeft line text first (had ++ (placed_at line p ∷ [])) next
 left-more line text first had rest front p next r left is says e met shorter = go left.bound left.few left.same
   where
     go : (bound : ℕ) → length rest ≤ bound
         → with_front first (placed line text) ≡ with_front had (placed_below (suc bound) line rest)
-        → IsLeft line text first (had ++ (placed_at line front p ∷ [])) next
+        → IsLeft line text first (had ++ (placed_at line p ∷ [])) next
     go zero few same = absurd (omega (arith, few, shorter, shorter_front rest front is))
     go (suc less) few same = record {
       bound = less;
@@ -73,6 +73,6 @@ left-more line text first had rest front p next r left is says e met shorter = g
           ∙ (ap (λ (b : Bool). with_front had (tokens_of b (suc less) line front)) e
           ∙ (ap (λ (t : Option (Piece × Text)).
           with_front had (option_and_then (λ p.
-          option_map (λ more. placed_at line front p.0 ∷ more) (placed_below (suc less) line p.1)) t)) met
-          ∙ with_front-push had (placed_at line front p) (placed_below (suc less) line next))));
+          option_map (λ more. placed_at line p.0 ∷ more) (placed_below (suc less) line p.1)) t)) met
+          ∙ with_front-push had (placed_at line p) (placed_below (suc less) line next))));
     }

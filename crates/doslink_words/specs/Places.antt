@@ -8,11 +8,10 @@ use Rattle.doslink_words.specs.declared.faults.DirectiveFaultKind.TheVariants as
 use Rattle.doslink_words.specs.declared.tokens.Syntax.TheVariants.{Directives}
 use Rattle.doslink_words.specs.Tokens.{Piece, after_space, token}
 
--- a token, the number of its line, and the line from it on
+-- a token, and the number of its line
 pub record PlacedPiece : Type 0 where
   pub piece : Piece
   pub line : ℕ
-  pub text : Text
 
 -- whether a text says nothing that begins with no white space: it is empty, or a comment
 abbrev pub says_nothing : Text → Bool
@@ -24,7 +23,7 @@ placed_below zero line text = None
 placed_below (suc bound) line text =
     if says_nothing (after_space text) then Some []
     else option_and_then (λ p.
-    option_map (λ more. record { piece = p.0; line = line; text = after_space text } ∷ more)
+    option_map (λ more. record { piece = p.0; line = line } ∷ more)
     (placed_below bound line p.1))
     (token Directives (after_space text))
 
@@ -32,7 +31,7 @@ placed_below (suc bound) line text =
 unfoldable pub placed : (line : ℕ) → Text → Option (List PlacedPiece)
 placed line text = placed_below (length text + 1) line text
 
--- a place that is at fault: the number of a line, the line or what of it is at fault, and what is wrong with it
+-- a place that is at fault: the number of a line, the line or the word of it that is at fault, and what is wrong with it
 pub record FaultyLine : Type 0 where
   pub line : ℕ
   pub text : Text

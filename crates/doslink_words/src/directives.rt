@@ -1,22 +1,23 @@
 //! The directives of a text.
-ghost use Rattle.std.specs.Prelude.{◌≡◌, ◌==◌, ◌≤◌, Err, IfOk, Ok, drop, length};
+ghost use Rattle.std.specs.Prelude.{◌≡◌, ◌==◌, ◌≤◌, ◌∷◌, [], Err, IfOk, Ok, drop, length};
 ghost use Rattle.std.specs.List.{slice_split};
 ghost use Rattle.std.specs.Option.{option_map_or};
 ghost use Rattle.std.specs.Str.Lines.{lines};
 ghost use Rattle.doslink_words.specs.Directives as spec;
 ghost use Rattle.doslink_words.specs.Places.{with_lines};
 ghost use Rattle.doslink_words.specs.Said.{said_of};
-ghost use Rattle.doslink_words.specs.declared.faults.DirectiveFaultKind.TheVariants.{WrongOperands};
 ghost use Rattle.doslink_words.specs.declared.keywords.Directive.TheVariants as directive;
 ghost use Rattle.doslink_words.specs.Sizes.{size};
 ghost use Rattle.doslink_words.specs.Tokens.{texts};
 ghost use Rattle.doslink_words.specs.inside.Parts.{lines_meaning};
-ghost use Rattle.doslink_words.specs.inside.Tokens.{all_placed, operands as operands_of, piece_of, placed_of};
+ghost use Rattle.doslink_words.specs.inside.Tokens.{all_placed, piece_of, placed_of};
 ghost use Rattle.doslink_words.specs.Directives.{Means};
-ghost use Rattle.doslink_words.specs.inside.Follows.{Counts, Follows, Gives};
-ghost use Rattle.doslink_words.specs.inside.Faults.{Ends, IsFaultAt};
+ghost use Rattle.doslink_words.specs.inside.Follows.{Counts, Follows, Gives, form_said};
+ghost use Rattle.doslink_words.specs.inside.Faults.{Ends, IsFaultAt, IsFaultOf, Says};
 
-use crate::faults::{DirectiveFault, DirectiveFaultKind, LineFault};
+use crate::faults::{
+    DirectiveFault, DirectiveFaultKind, LineFault, WrongWord, not_dos, own, wrong,
+};
 use crate::grammar::operand_count;
 use crate::job::{Directives, Form, Order, WarningKind};
 use crate::keywords::{Directive, directive_named};
@@ -29,37 +30,67 @@ use crate::tokens::{Placed, Token, put_tokens};
 use std::alloc::{AllocError, Global};
 
 // The form that `format dos` asks for by a word behind it.
-fn kind_of(kind: Token) -> Result<Option<Form>, DirectiveFaultKind>
-    ensures { result ≡ spec.kind_meaning (piece_of kind.entry) }
+fn kind_of<'a>(kind: Placed<'a>) -> Result<Option<Form>, WrongWord<'a>>
+    ensures { Gives (λ form. form) result (spec.kind_meaning (placed_of kind.entry)) }
 {
-    if kind.is_word("exe") {
+    if kind.token.is_word("exe") {
         Ok(Some(Form::Exe))
-    } else if kind.is_word("com") {
+    } else if kind.token.is_word("com") {
         Ok(Some(Form::Com))
     } else {
-        Err(DirectiveFaultKind::NotDos)
+        Err(not_dos(kind))
+    }
+}
+
+// The form that stands behind `dos`.
+fn behind_dos<'a>(operands: &[Placed<'a>]) -> Result<Option<Form>, WrongWord<'a>>
+    ensures { Gives (λ form. form) result (spec.behind_dos (all_placed operands.now)) }
+{
+    match operands {
+        [] => Ok(None),
+        [kind] => kind_of(*kind),
+        [kind, other, ..] => {
+            kind_of(*kind)?;
+            Err(wrong(*other))
+        }
     }
 }
 
 // The form that `format` asks for.
-fn format_of(operands: &[Placed]) -> Result<Option<Form>, DirectiveFaultKind>
-    ensures { result ≡ spec.format_meaning (operands_of operands.now) }
+fn format_of<'a>(operands: &[Placed<'a>]) -> Result<Option<Form>, WrongWord<'a>>
+    ensures { Gives (λ form. form) result (spec.format_meaning (all_placed operands.now)) }
 {
     match operands {
-        [system] if system.token.is_word("dos") => Ok(None),
-        [system, kind] if system.token.is_word("dos") => kind_of(kind.token),
-        _ => Err(DirectiveFaultKind::NotDos),
+        [] => Err(own(DirectiveFaultKind::NotDos)),
+        [system, more @ ..] if system.token.is_word("dos") => behind_dos(more),
+        [system, ..] => Err(not_dos(*system)),
+    }
+}
+
+// The form of a system.
+fn system_named<'a>(system: Placed<'a>) -> Result<Option<Form>, WrongWord<'a>>
+    ensures { Gives (λ form. form) result (spec.system_named (placed_of system.entry)) }
+{
+    if system.token.is_word("dos") {
+        Ok(None)
+    } else if system.token.is_word("com") {
+        Ok(Some(Form::Com))
+    } else {
+        Err(not_dos(system))
     }
 }
 
 // The form that `system` asks for.
-fn system_of(operands: &[Placed]) -> Result<Option<Form>, DirectiveFaultKind>
-    ensures { result ≡ spec.system_meaning (operands_of operands.now) }
+fn system_of<'a>(operands: &[Placed<'a>]) -> Result<Option<Form>, WrongWord<'a>>
+    ensures { Gives (λ form. form) result (spec.system_meaning (all_placed operands.now)) }
 {
     match operands {
-        [system] if system.token.is_word("dos") => Ok(None),
-        [system] if system.token.is_word("com") => Ok(Some(Form::Com)),
-        _ => Err(DirectiveFaultKind::NotDos),
+        [] => Err(own(DirectiveFaultKind::NotDos)),
+        [system] => system_named(*system),
+        [system, other, ..] => {
+            system_named(*system)?;
+            Err(wrong(*other))
+        }
     }
 }
 
@@ -71,45 +102,62 @@ fn raw_from(from: u32) -> Option<Form>
 }
 
 // The raw image that begins at the address that a token writes.
-fn raw_at(value: Token) -> Result<Option<Form>, DirectiveFaultKind>
-    ensures { result ≡ spec.and_then (spec.name_of (piece_of value.entry))
-        (λ text. option_map_or (λ n. Ok (spec.raw_from n)) (size text) (Err WrongOperands)) }
+fn raw_at<'a>(value: Placed<'a>) -> Result<Option<Form>, WrongWord<'a>>
+    ensures { Gives (λ form. form) result (spec.and_then (spec.name_of (placed_of value.entry))
+        (λ text. option_map_or (λ n. Ok (spec.raw_from n)) (size text) (Err (spec.wrong (placed_of value.entry))))) }
 {
     match size(value.name()?.as_bytes()) {
         Some(from) => Ok(raw_from(from)),
-        None => Err(DirectiveFaultKind::WrongOperands),
+        None => Err(wrong(value)),
+    }
+}
+
+// The raw image that three operands `offset=N` ask for.
+fn offset_at<'a>(
+    name: Placed<'a>,
+    mark: Placed<'a>,
+    value: Placed<'a>,
+) -> Result<Option<Form>, WrongWord<'a>>
+    ensures { Gives (λ form. form) result
+        (spec.offset_meaning (placed_of name.entry ∷ (placed_of mark.entry ∷ (placed_of value.entry ∷ [])))) }
+{
+    if name.token.is_word("offset") && mark.token.is_equals() {
+        raw_at(value)
+    } else {
+        Err(wrong(name))
     }
 }
 
 // The raw image that `offset=N` asks for.
-fn offset_of(operands: &[Placed]) -> Result<Option<Form>, DirectiveFaultKind>
-    ensures { result ≡ spec.offset_meaning (operands_of operands.now) }
+fn offset_of<'a>(operands: &[Placed<'a>]) -> Result<Option<Form>, WrongWord<'a>>
+    ensures { Gives (λ form. form) result (spec.offset_meaning (all_placed operands.now)) }
 {
     match operands {
-        [name, mark, value] if name.token.is_word("offset") && mark.token.is_equals() => raw_at(
-            value.token,
-        ),
-        _ => Err(DirectiveFaultKind::WrongOperands),
+        [name, mark, value] => offset_at(*name, *mark, *value),
+        [_, _, _, _, ..] => Err(own(DirectiveFaultKind::WrongOperands)),
+        _ => Err(own(DirectiveFaultKind::WrongOperands)),
     }
 }
 
 // The form that `output` asks for.
-fn output_of(operands: &[Placed]) -> Result<Option<Form>, DirectiveFaultKind>
-    ensures { result ≡ spec.output_meaning (operands_of operands.now) }
+fn output_of<'a>(operands: &[Placed<'a>]) -> Result<Option<Form>, WrongWord<'a>>
+    ensures { Gives (λ form. form) result (spec.output_meaning (all_placed operands.now)) }
 {
     match operands {
+        [] => Err(own(DirectiveFaultKind::WrongOperands)),
         [what] if what.token.is_word("raw") => Ok(raw_from(0)),
         [what, more @ ..] if what.token.is_word("raw") => offset_of(more),
-        _ => Err(DirectiveFaultKind::WrongOperands),
+        [what, ..] => Err(wrong(*what)),
     }
 }
 
 // Follows a line that says a form, or none.
-fn follow_form(
-    directives: &mut Directives,
-    form: Result<Option<Form>, DirectiveFaultKind>,
-) -> Result<(), LineFault>
-    ensures { Follows result (spec.form_meaning form (said_of directives.old)) (said_of directives.new) }
+fn follow_form<'a>(
+    directives: &mut Directives<'a>,
+    form: Result<Option<Form>, WrongWord<'a>>,
+) -> Result<(), LineFault<'a>>
+    ensures { Follows result (spec.form_meaning (form_said form.entry) (said_of directives.old))
+        (said_of directives.new) }
 {
     directives.job.form = form?;
     Ok(())
@@ -119,9 +167,9 @@ fn follow_form(
 fn follow_name<'a>(
     directives: &mut Directives<'a>,
     operands: &[Placed<'a>],
-) -> Result<(), LineFault>
+) -> Result<(), LineFault<'a>>
     ensures { Follows result
-        (spec.directive_meaning 0 directive.Name (operands_of operands.now) (said_of directives.old))
+        (spec.directive_meaning 0 directive.Name (all_placed operands.now) (said_of directives.old))
         (said_of directives.new) }
 {
     directives.job.out = Some(one_name(operands)?);
@@ -133,8 +181,8 @@ fn follow_order<'a>(
     alloc: Global,
     directives: &mut Directives<'a>,
     operands: &[Placed<'a>],
-) -> Result<(), LineFault>
-    ensures { Follows result (spec.order_meaning (operands_of operands.now) (said_of directives.old))
+) -> Result<(), LineFault<'a>>
+    ensures { Follows result (spec.order_meaning (all_placed operands.now) (said_of directives.old))
         (said_of directives.new) }
 {
     match operands {
@@ -144,7 +192,8 @@ fn follow_order<'a>(
             directives.job.order = Order::Listed(items);
             Ok(())
         }
-        _ => Err(LineFault::Wrong(DirectiveFaultKind::WrongOperands)),
+        [] => Err(LineFault::Wrong(own(DirectiveFaultKind::WrongOperands))),
+        [first, ..] => Err(LineFault::Wrong(wrong(*first))),
     }
 }
 
@@ -153,9 +202,9 @@ fn follow_file<'a>(
     alloc: Global,
     directives: &mut Directives<'a>,
     operands: &[Placed<'a>],
-) -> Result<(), LineFault>
+) -> Result<(), LineFault<'a>>
     ensures { Follows result
-        (spec.directive_meaning 0 directive.File (operands_of operands.now) (said_of directives.old))
+        (spec.directive_meaning 0 directive.File (all_placed operands.now) (said_of directives.old))
         (said_of directives.new) }
 {
     let mut names = Vec::new(alloc);
@@ -168,9 +217,9 @@ fn follow_library<'a>(
     alloc: Global,
     directives: &mut Directives<'a>,
     operands: &[Placed<'a>],
-) -> Result<(), LineFault>
+) -> Result<(), LineFault<'a>>
     ensures { Follows result
-        (spec.directive_meaning 0 directive.Library (operands_of operands.now) (said_of directives.old))
+        (spec.directive_meaning 0 directive.Library (all_placed operands.now) (said_of directives.old))
         (said_of directives.new) }
 {
     let mut names = Vec::new(alloc);
@@ -190,8 +239,8 @@ fn follow_path<'a>(
     alloc: Global,
     directives: &mut Directives<'a>,
     operands: &[Placed<'a>],
-) -> Result<(), LineFault>
-    ensures { Follows result (spec.path_meaning (operands_of operands.now) (said_of directives.old))
+) -> Result<(), LineFault<'a>>
+    ensures { Follows result (spec.path_meaning (all_placed operands.now) (said_of directives.old))
         (said_of directives.new) }
 {
     let folders = folders_in(alloc, one_name(operands)?)?;
@@ -205,8 +254,8 @@ fn follow_directive<'a>(
     line: usize,
     directive: Directive,
     operands: &[Placed<'a>],
-) -> Result<(), LineFault>
-    ensures { Follows result (spec.directive_meaning line directive (operands_of operands.now) (said_of directives.old))
+) -> Result<(), LineFault<'a>>
+    ensures { Follows result (spec.directive_meaning line directive (all_placed operands.now) (said_of directives.old))
         (said_of directives.new) }
 {
     match directive {
@@ -229,12 +278,15 @@ fn follow_directive<'a>(
 }
 
 // The directive that a token names.
-fn directive_of(first: Token) -> Result<Directive, DirectiveFaultKind>
-    ensures { result ≡ spec.directive_of (piece_of first.entry) }
+fn directive_of<'a>(first: Token<'a>) -> Result<Directive, WrongWord<'a>>
+    ensures { Gives (λ directive. directive) result (spec.directive_of (piece_of first.entry)) }
 {
     match first {
-        Token::Word(word) => directive_named(word).ok_or(DirectiveFaultKind::UnknownDirective),
-        _ => Err(DirectiveFaultKind::UnknownDirective),
+        Token::Word(word) => match directive_named(word) {
+            Some(directive) => Ok(directive),
+            None => Err(own(DirectiveFaultKind::UnknownDirective)),
+        },
+        _ => Err(own(DirectiveFaultKind::UnknownDirective)),
     }
 }
 
@@ -244,9 +296,9 @@ fn follow_first<'a>(
     directives: &mut Directives<'a>,
     first: Placed<'a>,
     behind: &[Placed<'a>],
-) -> Result<usize, LineFault>
+) -> Result<usize, LineFault<'a>>
     ensures meant { Counts result
-        (spec.first_meaning (placed_of first.entry) (operands_of behind.now) (said_of directives.old))
+        (spec.first_meaning (placed_of first.entry) (all_placed behind.now) (said_of directives.old))
         (said_of directives.new) }
     ensures within { IfOk result (λ count. count ≤ length behind.now) }
 {
@@ -263,13 +315,44 @@ fn lines_of<'a>(alloc: Global, text: &'a str) -> Result<Vec<&'a str>, AllocError
     text.lines().collect(alloc)
 }
 
-// The fault of a line, or of what of it is told.
-fn fault_at<'a>(line: usize, text: &'a str, fault: LineFault) -> DirectiveFault<'a>
-    ensures { IsFaultAt line text.now fault result }
+// The fault of a line.
+fn fault_at<'a>(line: usize, text: &'a str, fault: LineFault<'a>) -> DirectiveFault<'a>
+    ensures { IsFaultAt line text.now fault.entry result }
 {
     match fault {
         LineFault::Memory => DirectiveFault::Memory,
-        LineFault::Wrong(kind) => DirectiveFault::Line { line, text, kind },
+        LineFault::Wrong(what) => DirectiveFault::Line {
+            line,
+            text,
+            kind: what.kind,
+        },
+    }
+}
+
+// The fault of a word.
+fn word_fault<'a>(word: Placed<'a>, kind: DirectiveFaultKind) -> DirectiveFault<'a>
+    ensures { Says result (spec.faulty_word (placed_of word.entry) kind) }
+{
+    DirectiveFault::Line {
+        line: word.line,
+        text: word.token.text(),
+        kind,
+    }
+}
+
+// The fault of a directive, by its own word where no other is wrong.
+fn fault_of<'a>(first: Placed<'a>, fault: LineFault<'a>) -> DirectiveFault<'a>
+    ensures { IsFaultOf (placed_of first.entry) fault.entry result }
+{
+    match fault {
+        LineFault::Memory => DirectiveFault::Memory,
+        LineFault::Wrong(WrongWord { kind, word: None }) => word_fault(first, kind),
+        LineFault::Wrong(
+            WrongWord {
+                kind,
+                word: Some(word),
+            },
+        ) => word_fault(word, kind),
     }
 }
 
@@ -308,7 +391,7 @@ fn follow_tokens<'a>(
     'tokens: while let [first, behind @ ..] = rest {
         match follow_first(alloc, directives, *first, behind) {
             Ok(count) => rest = left_behind(behind, count),
-            Err(fault) => return Err(fault_at(first.line, first.text, fault)),
+            Err(fault) => return Err(fault_of(*first, fault)),
         }
     }
     Ok(())

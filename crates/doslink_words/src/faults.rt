@@ -1,8 +1,12 @@
 //! What a text can be at fault with.
 ghost use Rattle.std.specs.Prelude.{◌≡◌};
+ghost use Rattle.doslink_words.specs.Directives as spec;
 ghost use Rattle.doslink_words.specs.declared.faults.LineFault.TheVariants as line_fault;
 ghost use Rattle.doslink_words.specs.declared.faults.SplitFault.TheVariants as split_fault;
+ghost use Rattle.doslink_words.specs.inside.Follows.{mistake_of};
+ghost use Rattle.doslink_words.specs.inside.Tokens.{placed_of};
 
+use crate::tokens::Placed;
 use std::alloc::{AllocError, AllocFailed};
 use thiserror::Error;
 
@@ -39,12 +43,12 @@ pub enum DirectiveFault<'a> {
     /// There was no memory.
     #[error("out of memory")]
     Memory,
-    /// A directive is at fault, or a line.
-    #[error("line {line}: {kind}: {text}")]
+    /// A word is at fault, or a line.
+    #[error("line {line}: {text:?}: {kind}")]
     Line {
-        /// The number of the line in which it begins, counted from 1.
+        /// The number of its line, counted from 1.
         line: usize,
-        /// The line from the directive on, or the line whose quote isn't closed.
+        /// The word, or the line whose quote isn't closed.
         text: &'a str,
         /// What is wrong with it.
         kind: DirectiveFaultKind,
@@ -71,35 +75,71 @@ pub enum DirectiveFaultKind {
     NotDos,
 }
 
+// What is wrong with a directive.
+#[derive(Clone, Copy)]
+pub(crate) struct WrongWord<'a> {
+    // What it is.
+    pub kind: DirectiveFaultKind,
+    // The first of its operands that is wrong, none where that is its own word or where one lacks.
+    pub word: Option<Placed<'a>>,
+}
+
+// No operand is wrong, but this is.
+pub(crate) fn own<'a>(kind: DirectiveFaultKind) -> WrongWord<'a>
+    ensures { mistake_of result ≡ spec.own kind }
+{
+    WrongWord { kind, word: None }
+}
+
+// An operand is wrong.
+pub(crate) fn wrong<'a>(token: Placed<'a>) -> WrongWord<'a>
+    ensures { mistake_of result ≡ spec.wrong (placed_of token.entry) }
+{
+    WrongWord {
+        kind: DirectiveFaultKind::WrongOperands,
+        word: Some(token),
+    }
+}
+
+// An operand asks for another system.
+pub(crate) fn not_dos<'a>(token: Placed<'a>) -> WrongWord<'a>
+    ensures { mistake_of result ≡ spec.not_dos (placed_of token.entry) }
+{
+    WrongWord {
+        kind: DirectiveFaultKind::NotDos,
+        word: Some(token),
+    }
+}
+
 // Why a directive or a line can't be followed.
 #[derive(Clone, Copy)]
-pub(crate) enum LineFault {
+pub(crate) enum LineFault<'a> {
     // There was no memory.
     Memory,
     // This is wrong with it.
-    Wrong(DirectiveFaultKind),
+    Wrong(WrongWord<'a>),
 }
 
-impl From<AllocError> for LineFault {
+impl<'a> From<AllocError> for LineFault<'a> {
     ghost from_gives = { λ _ e. e ≡ line_fault.Memory };
 
-    fn from(_error: AllocError) -> LineFault {
+    fn from(_error: AllocError) -> LineFault<'a> {
         LineFault::Memory
     }
 }
 
-impl<T: Drop> From<AllocFailed<T>> for LineFault {
+impl<'a, T: Drop> From<AllocFailed<T>> for LineFault<'a> {
     ghost from_gives = { λ _ e. e ≡ line_fault.Memory };
 
-    fn from(_error: AllocFailed<T>) -> LineFault {
+    fn from(_error: AllocFailed<T>) -> LineFault<'a> {
         LineFault::Memory
     }
 }
 
-impl From<DirectiveFaultKind> for LineFault {
-    ghost from_gives = { λ kind e. e ≡ line_fault.Wrong kind };
+impl<'a> From<WrongWord<'a>> for LineFault<'a> {
+    ghost from_gives = { λ w e. e ≡ line_fault.Wrong w };
 
-    fn from(kind: DirectiveFaultKind) -> LineFault {
-        LineFault::Wrong(kind)
+    fn from(what: WrongWord<'a>) -> LineFault<'a> {
+        LineFault::Wrong(what)
     }
 }

@@ -7,12 +7,12 @@ ghost use Rattle.doslink_words.specs.Said.{alias_of as alias_said, aliases_of, s
 ghost use Rattle.doslink_words.specs.Tokens.{texts};
 ghost use Rattle.doslink_words.specs.inside.Follows.{Follows, Gives};
 ghost use Rattle.doslink_words.specs.inside.Parts.{aliased};
-ghost use Rattle.doslink_words.specs.inside.Tokens.{operands as operands_of, piece_of};
+ghost use Rattle.doslink_words.specs.inside.Tokens.{all_placed, placed_of};
 
-use crate::faults::{DirectiveFaultKind, LineFault};
+use crate::faults::{DirectiveFaultKind, LineFault, WrongWord, own, wrong};
 use crate::job::{Alias, Directives};
 use crate::operands::{part_end, put_list};
-use crate::tokens::{Placed, Token};
+use crate::tokens::Placed;
 use std::alloc::Global;
 
 /// The greatest length of a name in a module.
@@ -41,7 +41,7 @@ fn are_names(names: &[&str]) -> bool
 pub(crate) fn follow_start<'a>(
     directives: &mut Directives<'a>,
     value: Option<&'a str>,
-) -> Result<(), LineFault>
+) -> Result<(), LineFault<'a>>
     ensures { Follows result (spec.start_meaning (option_map (λ s. s.now) value.entry) (said_of directives.old))
         (said_of directives.new) }
 {
@@ -50,7 +50,7 @@ pub(crate) fn follow_start<'a>(
             directives.job.start = Some(name);
             Ok(())
         }
-        _ => Err(LineFault::Wrong(DirectiveFaultKind::WrongOperands)),
+        _ => Err(LineFault::Wrong(own(DirectiveFaultKind::WrongOperands))),
     }
 }
 
@@ -59,33 +59,33 @@ pub(crate) fn follow_reference<'a>(
     alloc: Global,
     directives: &mut Directives<'a>,
     operands: &[Placed<'a>],
-) -> Result<(), LineFault>
-    ensures { Follows result (spec.reference_meaning (operands_of operands.now) (said_of directives.old))
+) -> Result<(), LineFault<'a>>
+    ensures { Follows result (spec.reference_meaning (all_placed operands.now) (said_of directives.old))
         (said_of directives.new) }
 {
     let mut names = Vec::new(alloc);
     put_list(&mut names, operands)?;
     if !are_names(&names) {
-        return Err(LineFault::Wrong(DirectiveFaultKind::WrongOperands));
+        return Err(LineFault::Wrong(own(DirectiveFaultKind::WrongOperands)));
     }
     Ok(directives.job.references.extend_from_slice(&names)?)
 }
 
 // The name that a token is, which a module can have.
-fn short_name<'a>(token: Token<'a>) -> Result<&'a str, DirectiveFaultKind>
-    ensures { Gives (λ name. name.now) result (spec.short_name (piece_of token.entry)) }
+fn short_name<'a>(token: Placed<'a>) -> Result<&'a str, WrongWord<'a>>
+    ensures { Gives (λ name. name.now) result (spec.short_name (placed_of token.entry)) }
 {
     let name = token.name()?;
     if is_name(name) {
         Ok(name)
     } else {
-        Err(DirectiveFaultKind::WrongOperands)
+        Err(wrong(token))
     }
 }
 
 // The alias of a name and what it means.
-fn alias_named<'a>(name: Token<'a>, value: Token<'a>) -> Result<Alias<'a>, DirectiveFaultKind>
-    ensures { Gives alias_said result (spec.alias_named (piece_of name.entry) (piece_of value.entry)) }
+fn alias_named<'a>(name: Placed<'a>, value: Placed<'a>) -> Result<Alias<'a>, WrongWord<'a>>
+    ensures { Gives alias_said result (spec.alias_named (placed_of name.entry) (placed_of value.entry)) }
 {
     let name = short_name(name)?;
     let means = short_name(value)?;
@@ -93,18 +93,19 @@ fn alias_named<'a>(name: Token<'a>, value: Token<'a>) -> Result<Alias<'a>, Direc
 }
 
 // The alias that a part `A=B` is.
-fn alias_of<'a>(part: &[Placed<'a>]) -> Result<Alias<'a>, DirectiveFaultKind>
-    ensures { Gives alias_said result (spec.alias_of (operands_of part.now)) }
+fn alias_of<'a>(part: &[Placed<'a>]) -> Result<Alias<'a>, WrongWord<'a>>
+    ensures { Gives alias_said result (spec.alias_of (all_placed part.now)) }
 {
     match part {
-        [name, mark, value] if mark.token.is_equals() => alias_named(name.token, value.token),
-        _ => Err(DirectiveFaultKind::WrongOperands),
+        [name, mark, value] if mark.token.is_equals() => alias_named(*name, *value),
+        [_, mark, _] => Err(wrong(*mark)),
+        _ => Err(own(DirectiveFaultKind::WrongOperands)),
     }
 }
 
 // Appends the alias that a part is.
-fn put_alias<'a>(aliases: &mut Vec<Alias<'a>>, part: &[Placed<'a>]) -> Result<(), LineFault>
-    ensures { Follows result (aliased (aliases_of aliases.old.items) (operands_of part.now))
+fn put_alias<'a>(aliases: &mut Vec<Alias<'a>>, part: &[Placed<'a>]) -> Result<(), LineFault<'a>>
+    ensures { Follows result (aliased (aliases_of aliases.old.items) (all_placed part.now))
         (aliases_of aliases.new.items) }
 {
     let alias = alias_of(part)?;
@@ -116,9 +117,9 @@ fn put_alias<'a>(aliases: &mut Vec<Alias<'a>>, part: &[Placed<'a>]) -> Result<()
 pub(crate) fn put_aliases<'a>(
     aliases: &mut Vec<Alias<'a>>,
     operands: &[Placed<'a>],
-) -> Result<(), LineFault>
+) -> Result<(), LineFault<'a>>
     ensures { Follows result
-        (spec.with_aliases (aliases_of aliases.old.items) (spec.parts (operands_of operands.now)))
+        (spec.with_aliases (aliases_of aliases.old.items) (spec.parts (all_placed operands.now)))
         (aliases_of aliases.new.items) }
 {
     let mut start = 0;

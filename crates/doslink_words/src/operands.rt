@@ -3,29 +3,30 @@ ghost use Rattle.std.specs.Prelude.{◌≡◌, ◌+◌, ◌≤◌, drop, length}
 ghost use Rattle.std.specs.List.{position_or_len};
 ghost use Rattle.doslink_words.specs.Directives as spec;
 ghost use Rattle.doslink_words.specs.Tokens.{texts};
-ghost use Rattle.doslink_words.specs.inside.Tokens.{operands as operands_of, piece_of};
+ghost use Rattle.doslink_words.specs.inside.Tokens.{all_placed, placed_of};
 ghost use Rattle.doslink_words.specs.Said.{item_of, items_of};
 ghost use Rattle.doslink_words.specs.inside.Follows.{Follows, Gives};
 ghost use Rattle.doslink_words.specs.inside.Parts.{listed, named};
 
-use crate::faults::{DirectiveFaultKind, LineFault};
+use crate::faults::{DirectiveFaultKind, LineFault, WrongWord, own, wrong};
 use crate::job::OrderItem;
-use crate::tokens::{Placed, Token};
+use crate::tokens::Placed;
 
 /// The name that is the only operand.
-pub(crate) fn one_name<'a>(operands: &[Placed<'a>]) -> Result<&'a str, DirectiveFaultKind>
-    ensures { Gives (λ name. name.now) result (spec.one_name (operands_of operands.now)) }
+pub(crate) fn one_name<'a>(operands: &[Placed<'a>]) -> Result<&'a str, WrongWord<'a>>
+    ensures { Gives (λ name. name.now) result (spec.one_name (all_placed operands.now)) }
 {
     match operands {
-        [operand] => operand.token.name(),
-        _ => Err(DirectiveFaultKind::WrongOperands),
+        [] => Err(own(DirectiveFaultKind::WrongOperands)),
+        [operand] => operand.name(),
+        [_, other, ..] => Err(wrong(*other)),
     }
 }
 
 /// Where the part ends that begins at an operand: at the next comma, or behind the last operand.
 pub(crate) fn part_end(operands: &[Placed], start: usize) -> usize
     requires { start ≤ length operands.now }
-    ensures end { result ≡ start + position_or_len spec.is_comma (drop start (operands_of operands.now)) }
+    ensures end { result ≡ start + position_or_len spec.is_comma_at (drop start (all_placed operands.now)) }
     ensures start { start ≤ result }
     ensures within { result ≤ length operands.now }
 {
@@ -40,8 +41,8 @@ pub(crate) fn part_end(operands: &[Placed], start: usize) -> usize
 }
 
 // Appends the name that is the only operand.
-fn put_name<'a>(names: &mut Vec<&'a str>, operands: &[Placed<'a>]) -> Result<(), LineFault>
-    ensures { Follows result (named (texts names.old.items) (operands_of operands.now)) (texts names.new.items) }
+fn put_name<'a>(names: &mut Vec<&'a str>, operands: &[Placed<'a>]) -> Result<(), LineFault<'a>>
+    ensures { Follows result (named (texts names.old.items) (all_placed operands.now)) (texts names.new.items) }
 {
     let name = one_name(operands)?;
     names.push(name)?;
@@ -49,8 +50,8 @@ fn put_name<'a>(names: &mut Vec<&'a str>, operands: &[Placed<'a>]) -> Result<(),
 }
 
 // Appends the names of operands `A[,B..]`.
-fn put_names<'a>(names: &mut Vec<&'a str>, operands: &[Placed<'a>]) -> Result<(), LineFault>
-    ensures { Follows result (spec.with_names (texts names.old.items) (spec.parts (operands_of operands.now)))
+fn put_names<'a>(names: &mut Vec<&'a str>, operands: &[Placed<'a>]) -> Result<(), LineFault<'a>>
+    ensures { Follows result (spec.with_names (texts names.old.items) (spec.parts (all_placed operands.now)))
         (texts names.new.items) }
 {
     let mut start = 0;
@@ -66,11 +67,11 @@ fn put_names<'a>(names: &mut Vec<&'a str>, operands: &[Placed<'a>]) -> Result<()
 }
 
 // Appends the name that a token between braces is, where it is no comma.
-fn put_between<'a>(names: &mut Vec<&'a str>, token: Token<'a>) -> Result<(), LineFault>
-    ensures { Follows result (spec.with_between (texts names.old.items) (piece_of token.entry))
+fn put_between<'a>(names: &mut Vec<&'a str>, token: Placed<'a>) -> Result<(), LineFault<'a>>
+    ensures { Follows result (spec.with_between (texts names.old.items) (placed_of token.entry))
         (texts names.new.items) }
 {
-    if !token.is_comma() {
+    if !token.token.is_comma() {
         let name = token.name()?;
         names.push(name)?;
     }
@@ -78,30 +79,30 @@ fn put_between<'a>(names: &mut Vec<&'a str>, token: Token<'a>) -> Result<(), Lin
 }
 
 // Appends the names of `A B ..}`.
-fn put_braced<'a>(names: &mut Vec<&'a str>, operands: &[Placed<'a>]) -> Result<(), LineFault>
-    ensures { Follows result (spec.with_braced (texts names.old.items) (operands_of operands.now))
+fn put_braced<'a>(names: &mut Vec<&'a str>, operands: &[Placed<'a>]) -> Result<(), LineFault<'a>>
+    ensures { Follows result (spec.with_braced (texts names.old.items) (all_placed operands.now))
         (texts names.new.items) }
 {
     let mut rest = operands;
     'tokens: while let [first, more @ ..] = rest {
         if first.token.is_close() {
-            if more.is_empty() {
-                return Ok(());
-            }
-            return Err(LineFault::Wrong(DirectiveFaultKind::WrongOperands));
+            return match more {
+                [] => Ok(()),
+                [other, ..] => Err(LineFault::Wrong(wrong(*other))),
+            };
         }
-        put_between(names, first.token)?;
+        put_between(names, *first)?;
         rest = more;
     }
-    Err(LineFault::Wrong(DirectiveFaultKind::WrongOperands))
+    Err(LineFault::Wrong(own(DirectiveFaultKind::WrongOperands)))
 }
 
 /// Appends the names of a list, `A[,B..]` or `{A B ..}`.
 pub(crate) fn put_list<'a>(
     names: &mut Vec<&'a str>,
     operands: &[Placed<'a>],
-) -> Result<(), LineFault>
-    ensures { Follows result (spec.with_list (texts names.old.items) (operands_of operands.now))
+) -> Result<(), LineFault<'a>>
+    ensures { Follows result (spec.with_list (texts names.old.items) (all_placed operands.now))
         (texts names.new.items) }
 {
     match operands {
@@ -111,26 +112,26 @@ pub(crate) fn put_list<'a>(
 }
 
 // The item of an order that a keyword and a name are.
-fn order_item<'a>(keyword: Token<'a>, name: Token<'a>) -> Result<OrderItem<'a>, DirectiveFaultKind>
-    ensures { Gives item_of result (spec.order_item (piece_of keyword.entry) (piece_of name.entry)) }
+fn order_item<'a>(keyword: Placed<'a>, name: Placed<'a>) -> Result<OrderItem<'a>, WrongWord<'a>>
+    ensures { Gives item_of result (spec.order_item (placed_of keyword.entry) (placed_of name.entry)) }
 {
     let name = name.name()?;
-    if keyword.is_word("clname") {
+    if keyword.token.is_word("clname") {
         Ok(OrderItem::Class(name))
-    } else if keyword.is_word("segment") {
+    } else if keyword.token.is_word("segment") {
         Ok(OrderItem::Segment(name))
     } else {
-        Err(DirectiveFaultKind::WrongOperands)
+        Err(wrong(keyword))
     }
 }
 
 // Appends the item of an order that a keyword and a name are.
 fn put_item<'a>(
     items: &mut Vec<OrderItem<'a>>,
-    keyword: Token<'a>,
-    name: Token<'a>,
-) -> Result<(), LineFault>
-    ensures { Follows result (listed (items_of items.old.items) (piece_of keyword.entry) (piece_of name.entry))
+    keyword: Placed<'a>,
+    name: Placed<'a>,
+) -> Result<(), LineFault<'a>>
+    ensures { Follows result (listed (items_of items.old.items) (placed_of keyword.entry) (placed_of name.entry))
         (items_of items.new.items) }
 {
     let item = order_item(keyword, name)?;
@@ -142,16 +143,16 @@ fn put_item<'a>(
 pub(crate) fn put_items<'a>(
     items: &mut Vec<OrderItem<'a>>,
     operands: &[Placed<'a>],
-) -> Result<(), LineFault>
-    ensures { Follows result (spec.with_items (items_of items.old.items) (operands_of operands.now))
+) -> Result<(), LineFault<'a>>
+    ensures { Follows result (spec.with_items (items_of items.old.items) (all_placed operands.now))
         (items_of items.new.items) }
 {
     let mut tokens = operands.iter();
     while let Some(keyword) = tokens.next() {
         let Some(name) = tokens.next() else {
-            return Err(LineFault::Wrong(DirectiveFaultKind::WrongOperands));
+            return Err(LineFault::Wrong(wrong(*keyword)));
         };
-        put_item(items, keyword.token, name.token)?;
+        put_item(items, *keyword, *name)?;
     }
     Ok(())
 }

@@ -8,10 +8,10 @@ ghost use Rattle.doslink_words.specs.Places as places;
 ghost use Rattle.doslink_words.specs.inside.Follows.{Follows, Gives};
 ghost use Rattle.doslink_words.specs.inside.Parts.{line_tokens};
 ghost use Rattle.doslink_words.specs.Tokens.{after_space, texts};
-ghost use Rattle.doslink_words.specs.inside.Tokens.{all_placed, piece_of, pieces, said, said_mark};
+ghost use Rattle.doslink_words.specs.inside.Tokens.{all_placed, piece_of, pieces, placed_of, said, said_mark};
 ghost use Rattle.doslink_words.specs.declared.faults.SplitFault.TheVariants.{Memory, UnclosedQuote};
 
-use crate::faults::{DirectiveFaultKind, LineFault, SplitFault};
+use crate::faults::{DirectiveFaultKind, LineFault, SplitFault, WrongWord, own, wrong};
 use crate::keywords::is;
 use std::alloc::{AllocError, Global};
 
@@ -48,8 +48,28 @@ pub(crate) struct Placed<'a> {
     pub token: Token<'a>,
     /// The number of its line, counted from 1.
     pub line: usize,
-    /// The line from the token on.
-    pub text: &'a str,
+}
+
+impl<'a> Placed<'a> {
+    // The name that it is.
+    pub(crate) fn name(self) -> Result<&'a str, WrongWord<'a>>
+        ensures { Gives (λ name. name.now) result (directives.name_of (placed_of self.entry)) }
+    {
+        match self.token {
+            Token::Word(text) | Token::Quoted(text) => Ok(text),
+            _ => Err(wrong(self)),
+        }
+    }
+
+    // The word without quotes that it is.
+    pub(crate) fn word(self) -> Result<&'a str, WrongWord<'a>>
+        ensures { Gives (λ name. name.now) result (directives.word_of (placed_of self.entry)) }
+    {
+        match self.token {
+            Token::Word(text) => Ok(text),
+            _ => Err(wrong(self)),
+        }
+    }
 }
 
 impl<'a> Token<'a> {
@@ -63,26 +83,6 @@ impl<'a> Token<'a> {
             Token::Equals => "=",
             Token::Open => "{",
             Token::Close => "}",
-        }
-    }
-
-    // The name that it is.
-    pub(crate) fn name(self) -> Result<&'a str, DirectiveFaultKind>
-        ensures { Gives (λ name. name.now) result (directives.name_of (piece_of self.entry)) }
-    {
-        match self {
-            Token::Word(text) | Token::Quoted(text) => Ok(text),
-            _ => Err(DirectiveFaultKind::WrongOperands),
-        }
-    }
-
-    // The word without quotes that it is.
-    pub(crate) fn word(self) -> Result<&'a str, DirectiveFaultKind>
-        ensures { Gives (λ name. name.now) result (directives.word_of (piece_of self.entry)) }
-    {
-        match self {
-            Token::Word(text) => Ok(text),
-            _ => Err(DirectiveFaultKind::WrongOperands),
         }
     }
 
@@ -270,7 +270,7 @@ pub(crate) fn put_tokens<'a>(
     tokens: &mut Vec<Placed<'a>>,
     line: usize,
     text: &'a str,
-) -> Result<(), LineFault>
+) -> Result<(), LineFault<'a>>
     ensures { Follows result (line_tokens (all_placed tokens.old.items) line text.now)
         (all_placed tokens.new.items) }
 {
@@ -281,13 +281,9 @@ pub(crate) fn put_tokens<'a>(
             return Ok(());
         }
         let Some((token, after)) = next_token(Syntax::Directives, front) else {
-            return Err(LineFault::Wrong(DirectiveFaultKind::UnclosedQuote));
+            return Err(LineFault::Wrong(own(DirectiveFaultKind::UnclosedQuote)));
         };
-        tokens.push(Placed {
-            token,
-            line,
-            text: front,
-        })?;
+        tokens.push(Placed { token, line })?;
         rest = after;
     }
 }

@@ -30,8 +30,8 @@ LINES = {
     "A name is missing.": ('doslink: A.OBJ: "_x" is missing: record 145 (00000091), wanted by "a.c"',),
     "A warning: a library was not found.": ("doslink: warning: library CLIB of A.OBJ was not found",),
     "A directive or an option, told with line N:": (
-        "doslink: warning: A.LNK: line 12: the map is not sorted", "doslink: A.LNK: line 3: unknown directive: x",
-        "doslink: line 1: a quote isn't closed: name 'x"),
+        "doslink: warning: A.LNK: line 12: the map is not sorted", 'doslink: A.LNK: line 3: "x": unknown directive',
+        "doslink: line 1: \"name 'x\": a quote isn't closed"),
     "It is read and would be written.": ("doslink: A.OBJ: it is read and would be written",),
     "It is a module or a library and would be written.": (
         "doslink: A.OBJ: it is a module or a library and would be written",),

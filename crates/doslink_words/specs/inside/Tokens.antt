@@ -39,7 +39,7 @@ operands = map operand_of
 
 -- the same with it
 abbrev pub placed_of : Placed → PlacedPiece
-placed_of token = record { piece = piece_of token.token; line = token.line; text = token.text.now }
+placed_of token = record { piece = piece_of token.token; line = token.line }
 
 abbrev pub all_placed : List Placed → List PlacedPiece
 all_placed = map placed_of

@@ -25,7 +25,7 @@ doslink: NO.OBJ: 1 Device at record 0: no such file~doslink: NEITHER: 1 Device a
 wlink path OBJ f F.OBJ l DUE.OBJ|3||doslink: DUE.OBJ: 1 Device at record 0: no such file~
 wlink libpath OBJ f DUE|3||doslink: DUE: 1 Device at record 0: no such file~
 wlink path OBJ name OBJ/DUE.OBJ f DUE|2||doslink: OBJ/DUE.OBJ: it is read and would be written~
-wlink path f F.OBJ|2||doslink: line 1: unknown directive: F.OBJ~
+wlink path f F.OBJ|2||doslink: line 1: \"F.OBJ\": unknown directive~
 tlink /x DUE|3||doslink: DUE: 1 Device at record 0: no such file~
 tlink /x /jOBJ DUE|0||
 tlink /x DUE.OBJ -jOBJ/|0||

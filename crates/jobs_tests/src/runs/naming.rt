@@ -16,7 +16,7 @@ wlink f LSTART.OBJ,F.OBJ|1||doslink: LSTART.OBJ: 27 Unresolved at record 24~
 wlink f LSTART.OBJ,F.OBJ op start=f|0||
 wlink f F.OBJ,START.OBJ|1||doslink: START.OBJ: 61 SumAbove16Bits at record 39~
 wlink f F.OBJ,START.OBJ op start=f|0||
-wlink op start|2||doslink: line 1: wrong operands: op~
+wlink op start|2||doslink: line 1: \"start\": wrong operands~
 wlink f F.OBJ ref f|0||
 wlink f D.OBJ ref f,_f l RUN|0||
 wlink f D.OBJ ref {f f2}|1||\
@@ -61,6 +61,19 @@ pub(crate) const NAMED_PROGRAMS: [(&str, &[u8]); 5] = [
         "wlink f CALLS.OBJ,CALLS.OBJ,F.OBJ a f=g l RUN",
         &[0x00, 0xE8, 0x04, 0x00, 0xE8, 0x01, 0x00, 0x90, 0x90],
     ),
+];
+
+/// Runs whose directives name the program, the path at which each writes it, and its end.
+pub(crate) const WHOLE_NAMES: [(&str, &str, &[u8]); 9] = [
+    ("wlink n P f F.OBJ", "P.exe", &[0x00, 0x90]),
+    ("wlink f F.OBJ form dos n sub.dir/P", "sub.dir/P.exe", &[0x00, 0x90]),
+    ("wlink n P form dos exe f F.OBJ", "P.exe", &[0x00, 0x90]),
+    ("wlink n P sys com f NULLS.OBJ", "P.com", &[0xC3]),
+    ("wlink form dos com f NULLS.OBJ n ../P", "../P.com", &[0xC3]),
+    ("wlink n P f F.OBJ out raw", "P.bin", &[0x90]),
+    ("wlink n P. f F.OBJ", "P.", &[0x00, 0x90]),
+    ("wlink n P.COM f F.OBJ form dos exe", "P.COM", &[0x00, 0x90]),
+    ("wlink f F.OBJ", "F.EXE", &[0x00, 0x90]),
 ];
 
 /// A program that starts at its second byte.

@@ -4,7 +4,7 @@ use super::fronts::{CONFIGURED, FRONTED, Front};
 use super::lines::{LINE_FILES, LINE_MAPS, LINE_RUNS, LINED, MAPPED};
 use super::looking::{LOOKED, LOOKED_FILES, LOOKING_RUNS};
 use super::modules::LIBRARY;
-use super::naming::{NAMED_FILES, NAMED_PROGRAMS, NAMING_RUNS};
+use super::naming::{NAMED_FILES, NAMED_PROGRAMS, NAMING_RUNS, WHOLE_NAMES};
 use super::tables::{
     ALIAS_RUNS, COMMUNAL_RUNS, DEFAULT_RUNS, DOUBLED_RUNS, LIMITED_RUNS, LOCAL_DEFAULT_RUNS,
     LONG_RUNS, MISSING_RUNS, REFUSED_RUNS, RUNS, SEARCH_RUNS, SUM_RUNS, SYMBOL_RUNS, WARNED_RUNS,
@@ -229,6 +229,10 @@ fn naming_runs_write_these_files(rt: HostRuntime) -> Result<(), Fail> {
         let done = run_row(rt.alloc(), row, path)?;
         assert!(rt; done.out.as_slice() == *program, "{row}");
         assert!(rt; done.map.as_slice() == map.as_bytes(), "{row}");
+    }
+    for (row, path, bytes) in &WHOLE_NAMES {
+        let done = run_row(rt.alloc(), row, path)?;
+        assert!(rt; done.out.ends_with(bytes), "{row}");
     }
     Ok(())
 }

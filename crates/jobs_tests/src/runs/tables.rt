@@ -26,8 +26,11 @@ doslink @WORDS|0|A.OBJ~RUN.LIB(b.c) for \"f\"~RUN.LIB(c.c) for \"g\"~|
 /bin/WLINK.EXE @LINES|0||doslink: warning: LINES: line 3: the map is not sorted~
 wlink sort @LINES|0||doslink: warning: line 1: the map is not sorted~doslink: warning: LINES: line 3: the map is not sorted~
 wlink @NONE|3||doslink: NONE: 1 Device at record 0: no such file~
-wlink @WRONG|2||doslink: WRONG: line 2: unknown directive: fill F.OBJ~
-wlink @LINES @WRONG|2||doslink: WRONG: line 2: unknown directive: fill F.OBJ~
+wlink @WRONG|2||doslink: WRONG: line 2: \"fill\": unknown directive~
+wlink option undefsok|2||doslink: line 1: \"undefsok\": unknown option~
+wlink op q, undefsok, m f F.OBJ|2||doslink: line 1: \"undefsok\": unknown option~
+wlink out hex f F.OBJ|2||doslink: line 1: \"hex\": wrong operands~
+wlink @LINES @WRONG|2||doslink: WRONG: line 2: \"fill\": unknown directive~
 doslink @BINARY|2||doslink: BINARY: it is no UTF-8 text~
 wlink @BINARY|2||doslink: BINARY: it is no UTF-8 text~
 doslink -o F.OBJ A.OBJ F.OBJ|2||doslink: F.OBJ: it is read and would be written~

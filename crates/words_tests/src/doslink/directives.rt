@@ -174,7 +174,7 @@ fn refuses_by_line(rt: HostRuntime) {
 
 modtrace b
 =>
-Err(Line { line: 3, text: "modtrace b", kind: UnknownDirective })
+Err(Line { line: 3, text: "modtrace", kind: UnknownDirective })
 
 
 'file' a.obj
@@ -195,7 +195,7 @@ Err(Line { line: 2, text: "  file 'a.obj", kind: UnclosedQuote })
 
 file
 =>
-kind: WrongOperands
+text: "file", kind: WrongOperands
 
 
 file a b
@@ -205,32 +205,32 @@ text: "b", kind: UnknownDirective
 
 file a,
 =>
-kind: WrongOperands
+text: "file", kind: WrongOperands
 
 
 file a,,b
 =>
-kind: WrongOperands
+text: "file", kind: WrongOperands
 
 
 name a,b
 =>
-kind: WrongOperands
+text: ",", kind: WrongOperands
 
 
 path
 =>
-kind: WrongOperands
+text: "path", kind: WrongOperands
 
 
 path a,b
 =>
-kind: WrongOperands
+text: ",", kind: WrongOperands
 
 
 path {a b}
 =>
-kind: WrongOperands
+text: "{", kind: WrongOperands
 
 
 path a; b
@@ -240,27 +240,27 @@ text: "b", kind: UnknownDirective
 
 option
 =>
-kind: WrongOperands
+text: "option", kind: WrongOperands
 
 
 option quiet=1
 =>
-kind: WrongOperands
+text: "quiet", kind: WrongOperands
 
 
 option map=
 =>
-kind: WrongOperands
+text: "map", kind: WrongOperands
 
 
 option stack
 =>
-kind: WrongOperands
+text: "stack", kind: WrongOperands
 
 
 option stack=0
 =>
-kind: WrongOperands
+text: "stack", kind: WrongOperands
 
 
 option stack=65537
@@ -300,92 +300,92 @@ kind: WrongOperands
 
 option 'quiet'
 =>
-kind: WrongOperands
+text: "quiet", kind: WrongOperands
 
 
 option start
 =>
-Err(Line { line: 1, text: "option start", kind: WrongOperands })
+Err(Line { line: 1, text: "start", kind: WrongOperands })
 
 
 option start=a=b
 =>
-kind: WrongOperands
+text: "start", kind: WrongOperands
 
 
 reference
 =>
-kind: WrongOperands
+text: "reference", kind: WrongOperands
 
 
 reference a,
 =>
-kind: WrongOperands
+text: "reference", kind: WrongOperands
 
 
 reference {a
 =>
-kind: WrongOperands
+text: "reference", kind: WrongOperands
 
 
 reference a=b
 =>
-kind: WrongOperands
+text: "=", kind: WrongOperands
 
 
 re a
 =>
-text: "re a", kind: UnknownDirective
+text: "re", kind: UnknownDirective
 
 
 alias
 =>
-kind: WrongOperands
+text: "alias", kind: WrongOperands
 
 
 alias a
 =>
-kind: WrongOperands
+text: "alias", kind: WrongOperands
 
 
 alias a=
 =>
-kind: WrongOperands
+text: "alias", kind: WrongOperands
 
 
 alias =a
 =>
-kind: WrongOperands
+text: "alias", kind: WrongOperands
 
 
 alias a=b=c
 =>
-kind: WrongOperands
+text: "alias", kind: WrongOperands
 
 
 alias a=b,
 =>
-kind: WrongOperands
+text: "alias", kind: WrongOperands
 
 
 alias {a=b}
 =>
-kind: WrongOperands
+text: "alias", kind: WrongOperands
 
 
 alias a=b c=d
 =>
-Err(Line { line: 1, text: "c=d", kind: UnknownDirective })
+Err(Line { line: 1, text: "c", kind: UnknownDirective })
 
 
 alias a,b
 =>
-kind: WrongOperands
+text: "alias", kind: WrongOperands
 
 
 option undefsok
 =>
-kind: UnknownOption
+text: "undefsok", kind: UnknownOption
 
 
 format dos com
@@ -444,27 +444,27 @@ form: Some(Com), default_libraries: true
 
 output raw offset=1048577
 =>
-kind: WrongOperands
+text: "1048577", kind: WrongOperands
 
 
 output
 =>
-kind: WrongOperands
+text: "output", kind: WrongOperands
 
 
 output hex
 =>
-kind: WrongOperands
+text: "hex", kind: WrongOperands
 
 
 output raw offset
 =>
-kind: WrongOperands
+text: "output", kind: WrongOperands
 
 
 output raw, offset=1
 =>
-kind: WrongOperands
+text: "output", kind: WrongOperands
 
 
 output raw offset=1 startrec
@@ -474,67 +474,77 @@ text: "startrec", kind: UnknownDirective
 
 output raw offset 1 2
 =>
-kind: WrongOperands
+text: "output", kind: WrongOperands
 
 
 output raw start=1
 =>
-text: "start=1", kind: UnknownDirective
+text: "start", kind: UnknownDirective
 
 
 output raw offset=x
 =>
-kind: WrongOperands
+text: "x", kind: WrongOperands
 
 
 system
 =>
-kind: NotDos
+text: "system", kind: NotDos
 
 
 system os2
 =>
-kind: NotDos
+text: "os2", kind: NotDos
 
 
 system dos com
 =>
-kind: NotDos
+text: "com", kind: WrongOperands
+
+
+system os2 com
+=>
+text: "os2", kind: NotDos
+
+
+format dos exe com
+=>
+text: "com", kind: WrongOperands
 
 
 format dos sys
 =>
-kind: NotDos
+text: "sys", kind: NotDos
 
 
 format com
 =>
-kind: NotDos
+text: "com", kind: NotDos
 
 
 format os2
 =>
-kind: NotDos
+text: "os2", kind: NotDos
 
 
 format
 =>
-kind: NotDos
+text: "format", kind: NotDos
 
 
 order
 =>
-kind: WrongOperands
+text: "order", kind: WrongOperands
 
 
 order segment A
 =>
-kind: WrongOperands
+text: "segment", kind: WrongOperands
 
 
 order clname
 =>
-kind: WrongOperands
+text: "clname", kind: WrongOperands
 
 
 order clname A B
@@ -544,7 +554,7 @@ text: "B", kind: UnknownDirective
 
 order clname A type B
 =>
-text: "type B", kind: UnknownDirective"##;
+text: "type", kind: UnknownDirective"##;
     hold(&rt, rt.alloc(), table);
 }
 

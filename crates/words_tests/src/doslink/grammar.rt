@@ -70,28 +70,41 @@ out: Some("y")
 
 name x libfile here
 =>
-Err(Line { line: 1, text: "libfile here", kind: UnknownDirective })
+Err(Line { line: 1, text: "libfile", kind: UnknownDirective })
 
 
 file a
  b c
 =>
-Err(Line { line: 2, text: "b c", kind: UnknownDirective })
+Err(Line { line: 2, text: "b", kind: UnknownDirective })
 
 
 name x file {a b
 =>
-Err(Line { line: 1, text: "file {a b", kind: WrongOperands })
+Err(Line { line: 1, text: "file", kind: WrongOperands })
 
 
 file {a}, b
 =>
-kind: WrongOperands
+text: ",", kind: WrongOperands
 
 
 file {{a}}
 =>
-kind: WrongOperands
+text: "{", kind: WrongOperands
+
+
+op q, undefsok, m
+=>
+Err(Line { line: 1, text: "undefsok", kind: UnknownOption })
+
+
+option quiet,
+ map=a
+,stack=
+ 65537, symf
+=>
+Err(Line { line: 3, text: "stack", kind: WrongOperands })
 
 
 foo
@@ -102,7 +115,7 @@ Err(Line { line: 2, text: " 'a", kind: UnclosedQuote })
 
 op no
 =>
-kind: UnknownOption
+text: "no", kind: UnknownOption
 
 
 libf a

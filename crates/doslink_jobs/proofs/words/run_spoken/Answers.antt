@@ -3,8 +3,8 @@ use Rattle.std.specs.declared.alloc.Global.{Global}
 use Rattle.doslink_words.specs.Directives.{Means, meaning}
 use Rattle.doslink_words.specs.Tokens.{texts}
 use Rattle.doslink_files.specs.Written.{StandsAt}
-use Rattle.doslink_jobs.specs.Runs.{RunsText}
-use Rattle.doslink_jobs.proofs.Doing.{EndsBy-done, EndsBy-none}
+use Rattle.doslink_jobs.specs.Runs.{RunsNamed, RunsText}
+use Rattle.doslink_jobs.proofs.Doing.{EndsBy-none, EndsBy-weaker}
 use Rattle.doslink_jobs.proofs.words.run_spoken.Goals as goal
 
 pub returns-in-Ok : goal.returns-in-Ok
@@ -12,13 +12,13 @@ returns-in-Ok g c =
     let told = g.W.World.bytes c.args.world in
     let Writes = StandsAt (g.W.World.blank c.args.world) (g.W.World.Puts c.args.world) in
     let directives = c.in-Ok.directives in
-    EndsBy-done Global told (g.W.World.looks c.args.world) Writes (texts c.args.folders.now)
-    (λ does helps. RunsText told does helps (string_bytes c.args.spoken.now.text)) directives.job _
-    c.run_parsed.result
-    (λ does helps done. (
+    EndsBy-weaker Global told Writes (texts c.args.folders.now)
+    (λ does helps. RunsNamed told does helps directives.job)
+    (λ does helps. RunsText told does helps (string_bytes c.args.spoken.now.text)) _ c.run_parsed.result
+    (λ does helps runs. (
       directives,
       subst (λ t. Means (Ok directives) (meaning t)) c.as_str.ensures.value c.in-Ok.ensures,
-      done,
+      runs,
     ))
     c.run_parsed.ensures
 

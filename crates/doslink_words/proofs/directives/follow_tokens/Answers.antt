@@ -12,6 +12,6 @@ tokens-preserved c =
 
 pub returns-in-Err : goal.returns-in-Err
 returns-in-Err c =
-    tokens_stop (said_of c.tokens.directives) _ c.tokens.rest.now _ _ c.in-Err.fault c.fault_at.result _
-    (taken_apart c.tokens.rest.now _ c.in-len1-up.len_at_least) c.in-Err.ensures.meant c.fault_at.ensures
+    tokens_stop (said_of c.tokens.directives) _ c.tokens.rest.now _ _ c.in-Err.fault c.fault_of.result _
+    (taken_apart c.tokens.rest.now _ c.in-len1-up.len_at_least) c.in-Err.ensures.meant c.fault_of.ensures
     c.tokens.invariant

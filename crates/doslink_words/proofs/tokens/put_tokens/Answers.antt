@@ -14,7 +14,7 @@ pub loop-front-preserved : goal.loop-front-preserved
 loop-front-preserved c =
     let put : all_placed c.push.new.self.items
     ≡ all_placed c.loop-front.tokens.items
-    ++ (placed_at c.args.line c.after_space-front.result.now (piece_of c.in-Some.token) ∷ []) =
+    ++ (placed_at c.args.line (piece_of c.in-Some.token) ∷ []) =
     ap all_placed c.in_ok-push.ensures.items ∙ map-append placed_of _ _ in
     record {
       left =

@@ -1,0 +1,65 @@
+//! The name of the program that directives say, made whole.
+ghost use Rattle.std.specs.Prelude.{◌≡◌, IfOk, string_bytes};
+ghost use Rattle.std.specs.Option.{option_map};
+ghost use Rattle.doslink_jobs.specs.Named as spec;
+
+use crate::line_names::with_default;
+use crate::places::is_output;
+use doslink_words::{Form, Job};
+use std::alloc::{AllocError, Global};
+
+// The extension of a file of a form, in small letters.
+fn small_extension(form: Option<Form>) -> &'static str
+    ensures { result.now ≡ spec.small_extension form }
+{
+    match form {
+        None | Some(Form::Exe | Form::LimitedExe { .. }) => ".exe",
+        Some(Form::Com) => ".com",
+        Some(Form::Raw { .. }) => ".bin",
+        Some(Form::Driver) => ".sys",
+    }
+}
+
+// A name that is said of a file of a form.
+fn named_out(alloc: Global, form: Option<Form>, out: &str) -> Result<String, AllocError>
+    ensures { IfOk result (λ made. string_bytes made ≡ spec.named_out form out.now) }
+{
+    if is_output(out) {
+        String::from_str(alloc, out)
+    } else {
+        with_default(alloc, out, small_extension(form))
+    }
+}
+
+/// The name of the program that a job says, with the extension that it takes.
+pub(crate) fn name_of(alloc: Global, job: &Job<'_>) -> Result<Option<String>, AllocError>
+    ensures { IfOk result (λ name. option_map string_bytes name
+        ≡ option_map (λ out. spec.named_out job.now.form out.now) job.now.out) }
+{
+    match job.out {
+        Some(out) => Ok(Some(named_out(alloc, job.form, out)?)),
+        None => Ok(None),
+    }
+}
+
+// The text of a name.
+fn name_text<'n>(name: &'n Option<String>) -> Option<&'n str>
+    ensures { option_map (λ text. text.now) result ≡ option_map string_bytes name.now }
+{
+    match name {
+        Some(name) => Some(name.as_str()),
+        None => None,
+    }
+}
+
+/// A job with this name.
+pub(crate) fn with_name<'n>(job: Job<'n>, name: &'n Option<String>) -> Job<'n>
+    ensures { (option_map string_bytes name.now
+        ≡ option_map (λ out. spec.named_out job.entry.form out.now) job.entry.out)
+        → spec.IsNamed job.entry result }
+{
+    Job {
+        out: name_text(name),
+        ..job
+    }
+}
