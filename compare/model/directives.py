@@ -21,6 +21,8 @@ LONGEST_STACK = 65_536
 LONGEST_NAME = 255
 # how many response files a line has at most
 MOST_FILES = 200
+# what is put behind the path of a file of directives, and what such a file ends at
+ENDING, END = ".lnk", "\x1a"
 TOO_MANY = f"a line has at most {MOST_FILES} response files"
 # the end of the memory that a real-mode address reaches
 MEMORY_END = 0x100000
@@ -539,8 +541,16 @@ def text_of(path, files):
         raise Unread(path, True) from None
 
 
+def path_of(word, files):
+    """The path of the file of directives that a word names: with an ending where nothing is there without."""
+    path = word[1:]
+    has_dot = "." in re.split(r"[/\\:]", path)[-1]
+    longer = path + ENDING
+    return longer if not has_dot and files.get(path) is None and files.get(longer) is not None else path
+
+
 def spoken(words, files):
-    """The lines that words give: those of a file where a word begins with `@`, else its own.
+    """The lines that words give: those of a file up to a Ctrl-Z where a word begins with `@`, else its own.
 
     They name so many files at most.
     """
@@ -550,7 +560,7 @@ def spoken(words, files):
         raise DirectiveFault(0, f"{behind[0]}: {TOO_MANY}")
     for word in words:
         if word.startswith("@"):
-            lines += lines_of(text_of(word[1:], files), word[1:])
+            lines += lines_of(text_of(path_of(word, files), files).partition(END)[0], word[1:])
         else:
             lines += lines_of(word)
     return lines

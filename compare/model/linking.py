@@ -612,6 +612,9 @@ class Linking:
 
     def write(self, path, content):
         """Fault 40 is a file that can't be made, or that would take the place of one that was just written."""
+        if path == STANDARD_OUTPUT:
+            self.answer.output += content
+            return
         is_free = self.becomes(path) not in map(self.becomes, self.answer.files)
         try:
             Output(path, is_free and self.can_be_made(path)).write(self.answer, content)
@@ -677,7 +680,7 @@ def link_by_directives(words, files, folders=(), can_be_made=always):
     except directives.Unread as unread:
         return unread_answer(unread, files)
     warnings = [f"warning: {place}: {text}" for place, text in job.warnings]
-    spoken_files = [word[1:] for word in words if word.startswith("@")]
+    spoken_files = [directives.path_of(word, files) for word in words if word.startswith("@")]
     answer = link(job, files, folders, can_be_made, spoken_files)
     if not job.is_quiet:
         answer.error = told(told_at_most(warnings, False)).encode() + answer.error

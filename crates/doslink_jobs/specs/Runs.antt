@@ -3,7 +3,7 @@ use Rattle.std.specs.Prelude.{◌≡◌, ◌⊎◌, ◌==◌, ◌||◌, ◌&&◌
 use Rattle.std.specs.Prelude.{if◌then◌else◌}
 use Rattle.std.specs.Prelude.{Ok, None, Some, MatchOption}
 use Rattle.std.specs.declared.option.Option.{Option}
-use Rattle.std.specs.List.{flat_map, slice_split}
+use Rattle.std.specs.List.{before_first, flat_map, slice_split}
 use Rattle.std.specs.Option.{option_map_or, unwrap_or}
 use Rattle.std.specs.Str.{bytes_eq}
 use Rattle.std.specs.Char.{is_ascii_alphabetic}
@@ -16,7 +16,7 @@ use Rattle.doslink_words.specs.Tokens.{words}
 use Rattle.doslink_words.specs.Responses.{asks_text, response_words}
 use Rattle.doslink_words.specs.Words.{AreTaken, IsJobFor}
 use Rattle.doslink_files.specs.Files.{Each, IsTold}
-use Rattle.doslink_files.specs.Paths.{last_part}
+use Rattle.doslink_files.specs.Paths.{has_extension, last_part}
 use Rattle.doslink_jobs.specs.declared.words.Language.{Language}
 use Rattle.doslink_jobs.specs.declared.words.Language.TheVariants as language
 use Rattle.makefile_words.specs.Jobs as jobs
@@ -26,7 +26,7 @@ use Rattle.makefile_words.specs.declared.job.MakefileJob.{MakefileJob}
 use Rattle.makefile_words.specs.declared.tokens.Language.{Language as Linker}
 use Rattle.makefile_words.specs.declared.tokens.Language.TheVariants as linkers
 use Rattle.doslink_jobs.specs.Jobs.{EndsWith, IsDone}
-use Rattle.doslink_jobs.specs.Lines.{IsSpoken, IsWhole, are_followed, line_of}
+use Rattle.doslink_jobs.specs.Lines.{IsSpoken, IsWhole, are_followed, is_end, line_of}
 use Rattle.doslink_jobs.specs.Named.{IsNamed}
 use Rattle.doslink_jobs.specs.Refusals.{IsRefusedJob}
 pub use Rattle.doslink_jobs.specs.Responses.{response_path}
@@ -87,9 +87,18 @@ abbrev pub line_asked : List Text → List Text
 line_asked (word ∷ []) = if asks_line_help word then codes "--help" ∷ [] else word ∷ []
 line_asked words = words
 
--- what a word gives of directives: the text of the response file that it names, and else the word itself
+-- a file of directives is at the path that is said or, where that has no extension, at it with `.lnk`
+abbrev pub IsDirectivePath : (path found : Text) → Type 0
+IsDirectivePath path found = (found ≡ path) ⊎ ((has_extension path ≡ false) × (found ≡ path ++ codes ".lnk"))
+
+-- these are the directives of the file of a path: its text up to a Ctrl-Z
+abbrev pub AreDirectives : (told : Text → Option (List ℕ)) → (path part : Text) → Type 0
+AreDirectives told path part =
+    (found text : Text) × IsDirectivePath path found × IsTold (told found) text × (part ≡ before_first is_end text)
+
+-- what a word gives of directives: those of the file that it names, and else the word itself
 abbrev pub IsPart : (told : Text → Option (List ℕ)) → (word part : Text) → Type 0
-IsPart told word part = MatchOption (response_path word) (part ≡ word) (λ path. IsTold (told path) part)
+IsPart told word part = MatchOption (response_path word) (part ≡ word) (λ path. AreDirectives told path part)
 
 -- the text of directives that words give, each part a line of its own at least
 abbrev pub IsTextOf : (told : Text → Option (List ℕ)) → (words : List Text) → (text : Text) → Type 0

@@ -12,13 +12,13 @@ ghost use Rattle.doslink_jobs.specs.inside.Idle.{GiveLines};
 ghost use Rattle.doslink_jobs.specs.inside.Stops.{OnHalt};
 
 use crate::limit::{push_rest, told_count};
-use crate::line_text::check_count;
+use crate::line_text::{check_count, up_to_end};
 use crate::stop::{Halt, stop_unread};
-use doslink_files::read_file;
+use doslink_files::{has_extension, read_file};
 use doslink_telling::push_path_line;
 use doslink_words::{DirectiveFault, Directives, Warning, WarningKind};
 use itoa::Buffer;
-use omf_files::{FileId, World};
+use omf_files::{FileId, PlaceKind, World};
 use std::alloc::{AllocError, Global};
 
 /// The path of the response file that a word names: what stands behind `@`.
@@ -73,6 +73,51 @@ pub(crate) fn response_text<W: World>(
     Ok(text)
 }
 
+/// Whether a file is at a path, which is no folder.
+fn is_file<W: World>(world: &W, path: &str) -> bool {
+    match world.look(path) {
+        Ok(looked) => !matches!(looked.kind, PlaceKind::Folder),
+        Err(_) => false,
+    }
+}
+
+/// The path of a file of directives: the one that is said or, where its last part has no dot, that with `.lnk` behind
+/// it, if a file is there and none at the path itself.
+fn directives_path<W: World>(alloc: Global, world: &W, path: &str) -> Result<String, AllocError>
+    ensures { IfOk result (λ found. spec.IsDirectivePath path.now (string_bytes found)) }
+{
+    let said = String::from_str(alloc, path)?;
+    if has_extension(path.as_bytes()) || is_file(world, path) {
+        return Ok(said);
+    }
+    let mut longer = String::from_str(alloc, path)?;
+    longer.push_str(".lnk")?;
+    if is_file(world, longer.as_str()) {
+        Ok(longer)
+    } else {
+        Ok(said)
+    }
+}
+
+/// Appends the directives of a file, up to a Ctrl-Z, and which file it is.
+fn push_directives<W: World>(
+    alloc: Global,
+    world: &W,
+    path: &str,
+    text: &mut String,
+    read: &mut Vec<FileId>,
+    lines: &mut Vec<u8>,
+) -> Result<(), Halt>
+    ensures { MatchResult result (λ done. (part : List ℕ) × spec.AreDirectives (W.bytes world.now) path.now part
+        × (string_bytes text.new ≡ string_bytes text.old ++ part))
+        (λ why. OnHalt why ⊥ (Unit {0})) }
+{
+    let found = directives_path(alloc, world, path)?;
+    let file = response_text(alloc, world, found.as_str(), read, lines)?;
+    text.push_str(up_to_end(file.as_str()))?;
+    Ok(())
+}
+
 /// Appends what a word gives of directives, and a line end.
 fn push_part<W: World>(
     alloc: Global,
@@ -87,7 +132,7 @@ fn push_part<W: World>(
         (λ why. OnHalt why ⊥ (Unit {0})) }
 {
     match response_path(word) {
-        Some(path) => push_response(alloc, world, path, text, read, lines)?,
+        Some(path) => push_directives(alloc, world, path, text, read, lines)?,
         None => text.push_str(word)?,
     }
     text.push_str("\n")?;

@@ -42,6 +42,33 @@ wlink f CALLS.OBJ,F.OBJ a x=f ref x|0||
 wlink f CALLS.OBJ,F.OBJ a x=f op start=x|0||
 ";
 
+/// Files of directives: one that ends at a Ctrl-Z, ones with an extension, and one that has it and another that hasn't.
+pub(crate) const DIRECTIVE_FILES: [(&str, &[u8]); 6] = [
+    ("STOPPED", b"file F.OBJ\nname A.EXE\n\x1Afill 'x\n"),
+    ("LONGER.lnk", b"file F.OBJ\r\nname A.EXE\r\n\x1A"),
+    ("EITHER", b"fill F.OBJ"),
+    ("EITHER.lnk", b"file F.OBJ"),
+    ("OBJ.lnk", b"file F.OBJ"),
+    ("BADLY.lnk", b"file F.OBJ\nfill x"),
+];
+
+/// Runs of them.
+pub(crate) const DIRECTIVE_RUNS: &str = "\
+wlink @STOPPED|0||
+wlink @STOPPED sort|0||doslink: warning: line 1: the map is not sorted~
+wlink @STOPPED @WRONG|2||doslink: WRONG: line 2: \"fill\": unknown directive~
+wlink @LONGER|0||
+wlink @LONGER.lnk|0||
+wlink @LONGER @STOPPED|1||doslink: link: 25 DuplicatePublic \"f\" in F.OBJ and F.OBJ~
+wlink @EITHER|2||doslink: EITHER: line 1: \"fill\": unknown directive~
+wlink @EITHER.lnk|0||
+wlink @OBJ|0||
+wlink @BADLY|2||doslink: BADLY: line 2: \"fill\": unknown directive~
+wlink @LONGER.x|3||doslink: LONGER.x: 1 Device at record 0: no such file~
+wlink @NEITHER|3||doslink: NEITHER: 1 Device at record 0: no such file~
+wlink @LONGER n LONGER.lnk|2||doslink: LONGER.lnk: it is read and would be written~
+";
+
 /// Runs, and the end of the file that each writes.
 pub(crate) const NAMED_PROGRAMS: [(&str, &[u8]); 5] = [
     // a library's member that is wanted

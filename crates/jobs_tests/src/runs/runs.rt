@@ -4,7 +4,9 @@ use super::fronts::{CONFIGURED, FRONTED, Front};
 use super::lines::{LINE_FILES, LINE_MAPS, LINE_RUNS, LINED, MAPPED};
 use super::looking::{LOOKED, LOOKED_FILES, LOOKING_RUNS};
 use super::modules::LIBRARY;
-use super::naming::{NAMED_FILES, NAMED_PROGRAMS, NAMING_RUNS, WHOLE_NAMES};
+use super::naming::{
+    DIRECTIVE_FILES, DIRECTIVE_RUNS, NAMED_FILES, NAMED_PROGRAMS, NAMING_RUNS, WHOLE_NAMES,
+};
 use super::tables::{
     ALIAS_RUNS, COMMUNAL_RUNS, DEFAULT_RUNS, DOUBLED_RUNS, LIMITED_RUNS, LOCAL_DEFAULT_RUNS,
     LONG_RUNS, MISSING_RUNS, REFUSED_RUNS, RUNS, SEARCH_RUNS, SUM_RUNS, SYMBOL_RUNS, WARNED_RUNS,
@@ -89,6 +91,7 @@ fn put_modules<'a>(files: &mut Vec<(&'a str, &'a [u8])>) -> Result<(), AllocErro
     files.extend_from_slice(&FORM_LINES)?;
     files.extend_from_slice(&LINE_FILES)?;
     files.extend_from_slice(&LOOKED_FILES)?;
+    files.extend_from_slice(&DIRECTIVE_FILES)?;
     files.extend_from_slice(&ARCHIVES)
 }
 
@@ -215,6 +218,13 @@ fn alias_runs_tell_these_lines(rt: HostRuntime) -> Result<(), Fail> {
 #[test]
 fn naming_runs_tell_these_lines(rt: HostRuntime) -> Result<(), Fail> {
     let wrong = first_wrong(rt.alloc(), NAMING_RUNS)?;
+    assert_eq!(rt; wrong, None);
+    Ok(())
+}
+
+#[test]
+fn directive_runs_tell_these_lines(rt: HostRuntime) -> Result<(), Fail> {
+    let wrong = first_wrong(rt.alloc(), DIRECTIVE_RUNS)?;
     assert_eq!(rt; wrong, None);
     Ok(())
 }
