@@ -18,8 +18,9 @@ use Rattle.doslink_words.specs.declared.keywords.Directive.{Directive}
 use Rattle.doslink_words.specs.declared.faults.LineFault.TheVariants.{Memory, Wrong}
 use Rattle.doslink_words.specs.declared.faults.DirectiveFault.TheVariants as directive_fault
 use Rattle.doslink_words.specs.declared.tokens.Placed.{Placed}
-use Rattle.doslink_words.specs.Directives.{Mistake, and_then, count_of, is_comma_at, own, part_meaning, one_name, option_meaning, option_of, parts, with_names}
-use Rattle.doslink_words.specs.Directives.{alias_of, with_aliases, with_options, offset_meaning, order_item, at_place, first_meaning}
+use Rattle.doslink_words.specs.Directives.{Mistake, and_then, count_of, is_comma_at, one_name, own, part_meaning, parts}
+use Rattle.doslink_words.specs.Directives.{alias_of, at_place, first_meaning, offset_meaning, order_item}
+use Rattle.doslink_words.specs.Directives.{with_aliases, with_names, with_options}
 use Rattle.doslink_words.specs.Directives.{directive_meaning, directive_of, meaning, tokens_meaning, with_items}
 use Rattle.doslink_words.specs.Directives.{Means}
 use Rattle.doslink_words.specs.Places.{FaultyLine, PlacedPiece, placed, with_lines}
@@ -99,7 +100,8 @@ module _ (ops : List Placed) (start end : ℕ) (here : IsPart ops start end) whe
 
   -- ---- names
 
-  names_step : (had : List Text) (more : List (List PlacedPiece)) → parts (from ops start) ≡ part_of ops start end ∷ more
+  names_step : (had : List Text) (more : List (List PlacedPiece))
+      → parts (from ops start) ≡ part_of ops start end ∷ more
       → with_names had (parts (from ops start)) ≡ and_then (named had (part_of ops start end)) (λ h. with_names h more)
   names_step had more are =
       ap (with_names had) are
@@ -234,7 +236,8 @@ pub items_fault : (had new last : List SaidItem) (before middle after : List Pla
     → middle ≡ n ∷ after → Follows (Err f) (listed had (placed_of k) (placed_of n)) new → r ≡ Err f
     → whole ≡ with_items had (all_placed before) → Follows r whole last
 items_fault had new last before middle after k n r f whole one two follows e same =
-    then_fault (listed had (placed_of k) (placed_of n)) (λ h. with_items h (all_placed after)) new last r f whole follows e
+    then_fault (listed had (placed_of k) (placed_of n)) (λ h. with_items h (all_placed after)) new last r f whole
+    follows e
     (same ∙ items_step had before middle after k n one two)
 
 -- ---- lines
@@ -369,7 +372,8 @@ module _ (first : PlacedPiece) (behind ops : List PlacedPiece) (said after : Sai
         (λ after. Ok (count_of d behind, after)))) named
         ∙ (ap (λ (n : ℕ). and_then (directive_meaning first.line d (take n behind) said) (λ after. Ok (n, after)))
         (sym counted)
-        ∙ ap (λ (ops : List PlacedPiece). and_then (directive_meaning first.line d ops said) (λ after. Ok (count, after)))
+        ∙ ap (λ (ops : List PlacedPiece).
+        and_then (directive_meaning first.line d ops said) (λ after. Ok (count, after)))
         (sym are))
 
     pub first_fault : (r : Result ℕ LineFault) (f : LineFault)

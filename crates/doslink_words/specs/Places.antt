@@ -31,7 +31,7 @@ placed_below (suc bound) line text =
 unfoldable pub placed : (line : ℕ) → Text → Option (List PlacedPiece)
 placed line text = placed_below (length text + 1) line text
 
--- a place that is at fault: the number of a line, the line or the word of it that is at fault, and what is wrong with it
+-- a place that is at fault: the number of a line, the line or the word of it that is at fault, and what is wrong
 pub record FaultyLine : Type 0 where
   pub line : ℕ
   pub text : Text

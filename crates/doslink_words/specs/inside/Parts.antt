@@ -2,9 +2,8 @@
 use Rattle.std.specs.Prelude.{◌≡◌, ℕ, List, [], ◌∷◌, ◌++◌, Result, Ok, Err}
 use Rattle.std.specs.Option.{option_map_or, option_or}
 use Rattle.clap.specs.Words.{Text}
-use Rattle.doslink_words.specs.Directives.{Line, alias_of, and_then, one_name, option_meaning, option_of, order_item, own}
-use Rattle.doslink_words.specs.Directives.{first_of}
-use Rattle.doslink_words.specs.Directives.{tokens_meaning}
+use Rattle.doslink_words.specs.Directives.{Line, alias_of, and_then, one_name, option_meaning, option_of, order_item}
+use Rattle.doslink_words.specs.Directives.{first_of, own, tokens_meaning}
 use Rattle.doslink_words.specs.declared.faults.DirectiveFaultKind.TheVariants.{UnclosedQuote}
 use Rattle.doslink_words.specs.declared.faults.LineFault.{LineFault}
 use Rattle.doslink_words.specs.declared.faults.LineFault.TheVariants.{Memory, Wrong}

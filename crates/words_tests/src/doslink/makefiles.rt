@@ -199,7 +199,7 @@ inputs: [File("a:test.obj")], out: Some("b:\\test"), map: Some(At("b:\\test.map"
 fn refuses_commands(rt: HostRuntime) {
     let table = r##"system dos4g name main file main,util option stack=64k
 =>
-Err(Line { line: 1, text: "system dos4g name main file main,util option stack=64k", kind: NotDos })
+Err(Line { line: 1, text: "dos4g", kind: NotDos })
 
 
 name main format os2 le file main option stack=8k

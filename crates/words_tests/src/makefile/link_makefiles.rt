@@ -186,7 +186,7 @@ Err(Word { place: 3, word: "/STACK=4096", kind: UnknownOption })
 ---
 /STACK 4096 main,prog;
 =>
-Err(Word { place: 0, word: "/STACK", kind: UnknownOption })
+Err(Word { place: 0, word: "/STACK", kind: WrongValue { least: 1, most: 65536 } })
 ---
 /NOI main,prog,list two,slibce;
 =>
