@@ -204,32 +204,32 @@ Err(Line { line: 1, text: "dos4g", kind: NotDos })
 
 name main format os2 le file main option stack=8k
 =>
-Err(Line { line: 1, text: "format os2 le file main option stack=8k", kind: NotDos })
+Err(Line { line: 1, text: "os2", kind: NotDos })
 
 
 name app system windows file app library windows,clibs option stack=16k
 =>
-Err(Line { line: 1, text: "system windows file app library windows,clibs option stack=16k", kind: NotDos })
+Err(Line { line: 1, text: "windows", kind: NotDos })
 
 
 system dos name x option q, heapsize=4k file x
 =>
-Err(Line { line: 1, text: "option q, heapsize=4k file x", kind: UnknownOption })
+Err(Line { line: 1, text: "heapsize", kind: UnknownOption })
 
 
 system dos name x file main import _GetVersion kernel.1
 =>
-Err(Line { line: 1, text: "import _GetVersion kernel.1", kind: UnknownDirective })
+Err(Line { line: 1, text: "import", kind: UnknownDirective })
 
 
 system dos file main util name x
 =>
-Err(Line { line: 1, text: "util name x", kind: UnknownDirective })
+Err(Line { line: 1, text: "util", kind: UnknownDirective })
 
 
 sys dos op st=128k n x f main
 =>
-Err(Line { line: 1, text: "op st=128k n x f main", kind: WrongOperands })
+Err(Line { line: 1, text: "st", kind: WrongOperands })
 
 
 sys dos f main, n x
@@ -239,17 +239,17 @@ Err(Line { line: 1, text: "x", kind: UnknownDirective })
 
 sys dos f {main util n x op q
 =>
-Err(Line { line: 1, text: "f {main util n x op q", kind: WrongOperands })
+Err(Line { line: 1, text: "f", kind: WrongOperands })
 
 
 system dos file root begin section file a section file b end name x
 =>
-Err(Line { line: 1, text: "begin section file a section file b end name x", kind: UnknownDirective })
+Err(Line { line: 1, text: "begin", kind: UnknownDirective })
 
 
 output hex name rom.hex file rom
 =>
-Err(Line { line: 1, text: "output hex name rom.hex file rom", kind: WrongOperands })
+Err(Line { line: 1, text: "hex", kind: WrongOperands })
 
 
 file main.obj

@@ -194,7 +194,7 @@ Err(Word { place: 20, word: "two", kind: SecondName })
 ---
 /CP:70000 main,prog;
 =>
-Err(Word { place: 0, word: "/CP:70000", kind: WrongValue })
+Err(Word { place: 0, word: "/CP:70000", kind: WrongValue { least: 0, most: 65535 } })
 ---
 /CO main,prog,nul,slibce,,;
 =>
