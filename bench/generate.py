@@ -247,6 +247,11 @@ def library_of_callers(count):
     return Inputs([main, library(members)], called.size, called.relocations)
 
 
+def library_of_names(count):
+    """A library of a number of members, each of which offers a name and wants those of five others."""
+    return library(calling_modules(count + 2).modules[1:-1])
+
+
 def aliases(pairs):
     """Names with those that they stand for."""
     return b"".join(

@@ -1,6 +1,6 @@
-# What ./omf, ./doslink, ./install, release/make, tools/package and the gate know of this repository's programs: which
-# sources each is made of, where the released one stands and where the one that was built. Read by any POSIX shell that
-# knows `local` (bash, dash, busybox) with the repository's folder in `top`.
+# What ./omf, ./doslink, ./doslib, ./install, release/make, tools/package and the gate know of this repository's
+# programs: which sources each is made of, where the released one stands and where the one that was built. Read by any
+# POSIX shell that knows `local` (bash, dash, busybox) with the repository's folder in `top`.
 # shellcheck shell=dash
 
 unpacked=$top/out/released
@@ -12,11 +12,27 @@ linkers='link tlink wlink'
 # Where programs are unpacked if the repository's folder can't be written to: a folder that this user alone may change.
 set_aside=${TMPDIR:-/tmp}/omf-released-$(id -u)
 
-# The programs that crates.txt has: programs
-programs() {
-    for each in omf doslink; do
+# Those of some programs that crates.txt has: which_are_there NAMES
+which_are_there() {
+    local each
+    for each in "$@"; do
         ! grep -q "^$each:" "$top/crates.txt" || echo "$each"
     done
+}
+
+# The programs of which ports are made: programs
+programs() {
+    which_are_there omf doslink
+}
+
+# These, and those of which no port is made yet: all_programs
+all_programs() {
+    which_are_there omf doslink doslib
+}
+
+# Whether ports of a program are made: is_ported PROGRAM
+is_ported() {
+    programs | grep -qx "$1"
 }
 
 # The crates that a program stands on, and itself: crates_of PROGRAM

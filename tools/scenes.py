@@ -120,6 +120,11 @@ SOURCES = {"PRINT.ASM": PRINT_ASM, "PUT.ASM": PUT_ASM, "MAIN.ASM": MAIN_ASM}
 # names that are missing: one that is like another, and many of them
 MISSES = placed(b"main.c", {145: externals(b"_prinft")})
 WANTS_PRINT = module(b"main.c", externals(b"print"), uses(1))
+# members that doslib tells of, and one that has a wrong closing byte in its record at 1060
+TOLD = library(
+    512, filled(module(b"puts", publics(b"_puts"), externals(b"_write")), 345),
+    filled(module(b"printf", publics(b"_printf"), near(b"_errno", 2), externals(b"_puts"), comment(0x9F, b"EMU")), 1024))
+CUT_IN_TWO = TOLD[:1024] + module(b"sprintf", publics(b"_sprintf")[:-1] + b"\1")
 # the table of symbols of an archive: one name, whose member's header stands behind the table's 14 bytes
 OF_ELF = archive(
     member(b"/", struct.pack(">2I", 1, 8 + 60 + 14) + b"print\0"), member(b"print.o/", b"\x7FELF\1\1\1" + bytes(9)))
@@ -222,6 +227,8 @@ SHOWN = {
             Said("LINK='/NOI /z' doslink --as link 'MAIN;'", 2, {"MAIN.OBJ": EMPTY}))),
         'doslink: directives: "_go" is missing: record 15 (0000000F), wanted by "directives"': Lines((
             Said("wlink file MAIN.OBJ option start=_go", 1, {"MAIN.OBJ": EMPTY}),)),
+        'wlink path "OBJ;../SHARED/OBJ" file MAIN,UTIL name MAIN.EXE': Run({
+            "OBJ/MAIN.OBJ": START_UP, "../SHARED/OBJ/UTIL.OBJ": module(b"util", publics(b"_main"))}),
         "modules": Printed("doslink -o X.EXE -m X.MAP HELLO.OBJ && cat X.MAP", {
             "HELLO.OBJ": "examples/hello/HELLO.OBJ"}),
         "HELLO.OBJ": Printed("doslink -v HELLO.OBJ CLIB.LIB", {"HELLO.OBJ": HELLO, "CLIB.LIB": CLIB}),
@@ -266,6 +273,12 @@ SHOWN = {
             Said("wlink @LINES", 0, {
                 "MAIN.OBJ": stack_of(8192), "LINES": b"file MAIN.OBJ\nname MAIN.EXE\noption stack=4096\n"}),
             Said("doslink A.OBJ", 0, {"A.OBJ": FAR_X}))),
+    },
+    "docs/DOSLIB.md": {
+        "$ ./doslib list examples/letters/COUNT.OBJ": Run(),
+        'library "CLIB.LIB" members 2': Printed("doslib list CLIB.LIB", {"CLIB.LIB": TOLD}),
+        "doslib: CLIB.LIB: 45 Closing at place 1060": Lines((
+            Said("doslib list CLIB.LIB", 1, {"CLIB.LIB": CUT_IN_TWO}), Said("doslib list NONE.LIB", 3))),
     },
     "docs/LIBRARIES.md": {
         "doslink -o HELLO.EXE HELLO.OBJ -l CLIB.LIB": Run({"HELLO.OBJ": HELLO, "CLIB.LIB": CLIB}),

@@ -1,4 +1,4 @@
-"""A model of the rules of docs/FORMATS.md, and of those of docs/DOSLINK.md.
+"""A model of the rules of docs/FORMATS.md, and of those of docs/DOSLINK.md and docs/DOSLIB.md.
 
 The linker is proved to keep its contracts. Whether those contracts say what docs/FORMATS.md says,
 and whether that page can be followed by someone who has nothing else, no proof tells. So the rules
@@ -30,6 +30,7 @@ The model spends no thought on speed.
 | `link_map` | maps in the forms of LINK and TLINK |
 | `line_numbers` | the line numbers in these |
 | `linking` | what `doslink` answers and writes |
+| `listing` | what `doslib list` prints, by docs/DOSLIB.md, with its own reading of files and names |
 
 An `owner` is the number of an input, and of its module, from 0 on. A `place` is how many bytes come
 before a record. Left out are devices that fail while they are read or written, and want of memory.

@@ -1,0 +1,48 @@
+"""Answers of `doslib list` that were written out by hand, from docs/DOSLIB.md and docs/FORMATS.md alone.
+
+The model must give them.
+"""
+
+from model import listing
+
+A = "80 0300 0141 3B  8A 0200 00 74"
+PAGE_16 = "F0 0D00" + "AA" * 13
+# a module that wants x and y of which x is weak, offers p and q by PUBDEF and ALIAS, and has a variable and a library
+NAMED = (
+    "80 0300 014D 00  8C 0700 0178 00 0179 00 00  90 0900 00 01 0170 0000 00 00 00"
+    "  88 0500 00 A8 01 02 00  C6 0500 0171 017A 00  B0 0700 0176 00 62 02 00 00  88 0600 00 9F 4C 49 42 00"
+    "  8A 0200 00 00")
+
+
+def bytes_of_header(name, size):
+    return name.ljust(16) + b"0".ljust(12) + 2 * b"0".ljust(6) + b"644".ljust(8) + b"%-10d`\n" % size
+
+
+# title, the bytes of a file F, what is printed, and the lines of its faults behind the path
+FILES = [
+    ("a module", bytes.fromhex(A), ['module "F" members 1', '  00000000      11 "A"'], []),
+    ("with bytes behind it", bytes.fromhex(A + "0000"), ['module "F" members 1', '  00000000      13 "A"'], []),
+    ("no bytes", b"", ['module "F" members 1', '  00000000       0 ""'], ["44 Truncated at place 0"]),
+    ("no end", bytes.fromhex(A[:16]), ['module "F" members 1', '  00000000       6 "A"'], ["44 Truncated at place 6"]),
+    ("a library", bytes.fromhex(PAGE_16 + A + "AA" * 5 + "F1"),
+     ['library "F" members 1', '  00000010      11 "A"'], []),
+    ("a library without its end", bytes.fromhex(PAGE_16 + A + "AA" * 5),
+     ['library "F" members 1', '  00000010      11 "A"'], ["44 Truncated at place 32"]),
+    ("a wrong page", bytes.fromhex("F0 0E00" + "AA" * 14), ['library "F" members 0'], ["42 PageSize at place 0"]),
+    ("an archive", b"!<arch>\n" + bytes_of_header(b"a.o/", 11) + bytes.fromhex(A) + b"\n" + b"x",
+     ['archive "F" members 1', '  00000044      11 "a.o"'], ["46 Header at place 80"]),
+]
+NAMES = ['offers "q"', 'communal "v"', 'wants "y"', 'library "LIB"']
+
+
+def check():
+    """Raises an AssertionError where the model gives another answer."""
+    for title, content, output, errors in FILES:
+        answer = listing.list_files([("F", content)])
+        assert answer.output.decode().splitlines() == output, title
+        assert answer.error.decode().splitlines() == [f"doslib: F: {each}" for each in errors], title
+        assert answer.status == (1 if errors else 0), title
+    found = listing.list_files([("F", bytes.fromhex(NAMED))]).output.decode().splitlines()[2:]
+    assert [line.strip() for line in found] == ['offers "p"', *NAMES], found
+    both = listing.list_files([("F", bytes.fromhex(A[:16])), ("G", "no such file")])
+    assert (both.status, both.error.decode().splitlines()[1:]) == (3, ["doslib: G: 1 Device: no such file"])
