@@ -93,7 +93,11 @@ pub(crate) const NAMED_PROGRAMS: [(&str, &[u8]); 5] = [
 /// Runs whose directives name the program, the path at which each writes it, and its end.
 pub(crate) const WHOLE_NAMES: [(&str, &str, &[u8]); 9] = [
     ("wlink n P f F.OBJ", "P.exe", &[0x00, 0x90]),
-    ("wlink f F.OBJ form dos n sub.dir/P", "sub.dir/P.exe", &[0x00, 0x90]),
+    (
+        "wlink f F.OBJ form dos n sub.dir/P",
+        "sub.dir/P.exe",
+        &[0x00, 0x90],
+    ),
     ("wlink n P form dos exe f F.OBJ", "P.exe", &[0x00, 0x90]),
     ("wlink n P sys com f NULLS.OBJ", "P.com", &[0xC3]),
     ("wlink form dos com f NULLS.OBJ n ../P", "../P.com", &[0xC3]),
