@@ -8,14 +8,14 @@ from generator.communals import (
     LOCATIONS, NO_NUMBERS, Declared, at_limit, module_of_communals, module_of_local_variables,
     module_of_no_number)
 from generator.lines import (
-    BEHIND_TEXT, CALLS, CONFIGURATIONS, LINES_OF_TLINK, LINK, ODD_CONFIGURATIONS, ODD_FRONTS, ODD_LINES, OTHER_OPTIONS,
-    TLINK, WRONG_WORDS, LineSpeller, in_another_case)
+    BEHIND_TEXT, CALLS, CONFIGURATIONS, LINES_OF_TLINK, LINK, MARKED_LINES, MARKED_LINES_OF_TLINK, ODD_CONFIGURATIONS,
+    ODD_FRONTS, ODD_LINES, OTHER_OPTIONS, TLINK, WRONG_WORDS, LineSpeller, in_another_case)
 from generator.libraries import (
     ARCHIVE, SMALL_PAGES, SYMBOL_TABLES, archive, archive_of_symbols, archive_with_symbols, damaged,
     foreign, library, with_header)
 from generator.objects import (
     CLASSES, LAZY, MARKS, NAMES, SEGMENTS, TITLES, WEAK, ObjectMaker, any_plan, module_of_alias,
-    module_of_code, module_of_cut_public, module_of_default, module_of_external,
+    module_of_code, module_of_cut_public, module_of_default, module_of_edge, module_of_external,
     module_of_far_data, module_of_flat, module_of_form, module_of_lengths, module_of_links,
     module_of_local_defaults, module_of_long_aliases, module_of_long_externals,
     module_of_many_parts, module_of_marks, module_of_no_alignment, module_of_publics,
@@ -98,6 +98,21 @@ LENGTHS_EVERY, LENGTHS = 50, [
 # one job in so many has stacks of these lengths, and asks for one of about their sum
 STACKS_EVERY, STACKS = 20, [
     [], [1], [33], [3, 5], [16, 0, 17], [0x8000, 0x7FFF, 1], [7, 9, 11], [0x10000]]
+# one job in so many is a raw image of more than a kilobyte, from an address on that is written so
+OFFSETS_EVERY, OFFSETS = 25, [
+    "1k", "1K", "0x1k", "0X1K", "1024", "0x400", "0X3fF", "1025", "0x0k", "100000h", "0x100000", "1048576",
+    "1048577", "0x100001", "1024k", "1025k", "1m", "0M", "1kk"]
+# one has publics that differ by case alone, and lines that say whether it counts
+CASES_EVERY, CASE_LINES = 25, [
+    "option nocaseignore", "option noignorecase", "option nocaseexact", "option caseexact", "option caseignore",
+    "option ignorecase", "op nocaseexact, nocaseignore", "option NoIgnoreCase, NoCaseExact", "op c"]
+# one names no program: forms, and whether directives ask for them
+UNNAMED_EVERY, UNNAMED = 50, [
+    ("sys", False), ("bin", False), ("bin", True), ("com", True), ("com", False), ("exe", True)]
+# and one words that end behind a sign
+ENDED_EVERY = 25
+# publics that are so far above their frame, and the type of the record in front of them
+EDGES = [(65_535, 0x80), (65_536, 0x82), (65_534, 0x80), (65_537, 0x80)]
 # one job in so many is a .COM program, or isn't for these reasons
 FORMS_EVERY, FORMS = 12, [
     [], ["word"], ["stack"], ["start"], ["below"], ["whole"], ["whole", "bss"], ["bss"], ["frame"], ["empty"],
@@ -156,11 +171,30 @@ MEMBER_NAMES = [b"printf.o", b"exit.o", b"system.o", b"a_long_name_of_a_member.o
 DEFAULT_LIBRARIES = [b"SLIBCE", b"runtime.a", b"GRAPH.LIB", b"em87", b"slibce"]
 LINES_OF_NOTHING = [
     "", "# made by hand", "debug dwarf", "option quiet", "DEBUG line", "  ", "op quiet",
-    "option quiet, nodefaultlibs"]
+    "option quiet, nodefaultlibs", "option nod", "OP NoDefaultLibs", "debug novell", "d no",
+    "debug codeview all, li, lo", "debug watcom onlyexports", "debug dw", "debug novell only", "d c w al ty lo li",
+    "op q", "alias %s=x" % (255 * "n"), "libpath {x, y}", "libp {z}", "path x", "reference {}", "libpath {}"]
 LEFT_OUT = [
     "option symfile", "sort global", "disable 1014", "option symfile=out.sym", "op CACHE",
     "option quiet,verbose", "option map, showdead", "OPTION NoFarCalls", "sort glob alpha disable 1, 2",
-    "d watcom lines, types\noption quiet,\n symf", "op v # option verbose"]
+    "d watcom lines, types\noption quiet,\n symf", "op v # option verbose", "option artificial", "op art, stat",
+    "option cache=x", "option farcalls", "op maxe=3", "op sho, verb", "option nocache", "option noc=1", "sort gl alp",
+    "sort alphabetical"]
+# words of directives and no others, which end behind a sign, or leave out the default library
+ENDED_WORDS = [
+    ["file 0.obj name o.exe format dos ="], ["file", "0.obj", "format dos ,"], ["file 0.obj", "system dos ="],
+    ["name o.exe file 0.obj,"], ["file 0.obj option"], ["file 0.obj option quiet,"], ["file 0.obj output raw ="],
+    ["file 0.obj output raw offset"], ["file 0.obj output raw offset ="], ["file 0.obj", "order"], ["file 0.obj sort"],
+    ["file 0.obj debug"], ["file 0.obj disable"], ["file 0.obj alias x ="], ["file {0.obj"], ["file 0.obj }"],
+    ["file 0.obj name o.exe op dos, nod"], ["file 0.obj name o.exe option nodefaultlibs"], ["file 0.obj option map"]]
+# lines that ask for something else than the rest, or say it once more
+OTHER_LINES = [
+    "name two.exe", "option nocaseignore", "option noignorecase", "option nocaseexact",
+    "option caseignore,nocaseignore", "option ignorecase, noignorecase", "op caseexact,nocaseexact",
+    "option start=" + 255 * "n", "reference " + 255 * "n", "reference " + 127 * "\u00e9" + "n", "reference {a, b}",
+    "option stack=2K", "option stack=0x1k", "system dos\nformat dos com", 'option map="list"', "library nowhere",
+    "library {nowhere, 0.obj}", "libpath {last, more}", "option start='n'", "option st=0X10", "op dos", "op m=list",
+    "op star=n"]
 WRONG_LINES = [
     "format dos sys", "system os2", "output", "output hex", "output raw offset", "output raw offset=x",
     "output raw offset=1048577", "output raw 0", "system",
@@ -174,7 +208,9 @@ WRONG_LINES = [
     "alias a", "alias a=b=c", "alias {a=b}", "alias a=b c=d", "alias a=",
     "option start", "option sta=x", "reference", "reference a=b", "reference {a", "re a", "al",
     "option start=" + 256 * "n", "alias n=" + 256 * "n", "reference n," + 256 * "n", "file {a", "file {a}, b",
-    "name x a",
+    "name x a", "system dos exe", "system com com", "reference " + 128 * "\u00e9", "format 'dos'", 'format dos "com"',
+    'order "clname" CODE', 'order clname CODE "segment" _TEXT', "'option' quiet", 'debug dwarf "all"', "output 'raw'",
+    "output raw 'offset'=1", "system 'com'", "for dos", "sy dos", "ou raw", "so alpha", "dis 1", "option sym",
     "output raw start=1", "op no", "debug quiet", "file\na,\n b c"]
 # the shortest words of directives
 SHORTEST = {
@@ -212,8 +248,9 @@ class JobMaker:
         self.files = {}
         self.job = Job(out=OUT)
         self.job.ignores_case = self.happens(0.3)
-        # directives that have to be among the others
+        # directives that have to be among the others, and the address of a raw image as they write it
         self.required_lines = []
+        self.offset = None
         self.names = self.some_names()
         self.left = list(self.names)
         self.plan = any_plan(random, self.names)
@@ -539,7 +576,29 @@ class JobMaker:
         if kind != "bin":
             return Form(kind)
         paragraph = self.random.choice([0, 0, 1, 0x7C0, 0xFFFF])
-        return Form("bin", paragraph, self.random.choice([0, 0, 1, 0x100, 0x101, 0x100000]))
+        return Form("bin", paragraph, self.random.choice([0, 0, 1, 0x100, 0x101, 0x400, 0x100000]))
+
+    def make_offset(self, offset):
+        """A raw image from an address on."""
+        self.files["0.obj"], self.folders = module_of_form(0, 1200, 0x100, ()), []
+        self.give("0.obj")
+        self.job.form, self.offset = Form("bin", start=1), offset
+        return self.by_directives()
+
+    def make_case_lines(self, line):
+        """Two publics that differ by case alone, where directives say that it counts, or that it doesn't."""
+        for number, name in enumerate([b"x", b"X"]):
+            self.files[f"{number}.obj"] = module_of_publics([name])
+            self.give(f"{number}.obj")
+        self.folders, self.required_lines = [], [line]
+        return self.by_directives()
+
+    def make_unnamed(self, kind, by_directives):
+        """A program of a form that no name is said of."""
+        self.files["0.obj"], self.folders = module_of_form(0, 3, 0x100, ()), []
+        self.give("0.obj")
+        self.job.out, self.job.form = None, Form(kind)
+        return self.by_directives() if by_directives else self.case(self.words(), "doslink")
 
     def make_lengths(self, combination, lengths, is_grouped):
         """Two modules of segments of these lengths, behind one of another length or not."""
@@ -724,6 +783,11 @@ class JobMaker:
         self.folders, self.required_lines = [], [line]
         self.add_some_objects()
         return self.by_directives()
+
+    def make_ended(self, *words):
+        """Words of directives, of which the last one ends behind a sign; a default library isn't there."""
+        self.files["0.obj"], self.folders = module_of_links([b"x"], [], b"NOWHERE"), []
+        return self.case(list(words), "wlink")
 
     def make_quiet(self):
         """Directives that ask for faults alone, where a default library isn't there."""
@@ -1015,13 +1079,13 @@ class JobMaker:
         self.files.update(files)
         return self.make_odd_line("OBJECT,out", TLINK)
 
-    def make_cases(self, language, counts):
-        """Two publics that differ by case alone, where that counts or not."""
+    def make_cases(self, language, counts, more=()):
+        """Two publics that differ by case alone, where that counts or not, and more words."""
         for number, name in enumerate([b"x", b"X"]):
             self.files[f"{number}.obj"] = module_of_publics([name])
             self.give(f"{number}.obj")
         self.folders, self.job.ignores_case = [], not counts
-        return self.by_line(language)
+        return self.by_line(language, more)
 
     def make_null_bytes(self, language, order):
         """Code in the order of DOSSEG, which has null bytes or not, where that is asked for or a module asks."""
@@ -1043,6 +1107,22 @@ class JobMaker:
         self.files["0.obj"], self.folders = module_of_publics([b"x"]), []
         self.files["r"] = b"/e \n"
         return self.case([*["@r"] * count, "0,out"], language)
+
+    def make_default_switched(self, option):
+        """A default library, and options of TLINK that leave out such or don't."""
+        self.files["0.obj"] = module_of_links([], [], b"SLIBCE")
+        self.files["slibce.lib"] = b"x"
+        self.give("0.obj")
+        self.folders = []
+        return self.by_line(TLINK, [option])
+
+    def make_edge(self, language, edge, option):
+        """A map of publics at the edge of their frames, and of a local one; at times with line numbers."""
+        for number in range(self.random.choice([1, 2])):
+            self.files[f"{number}.obj"] = module_of_edge(b"E%d" % number, *edge)
+            self.give(f"{number}.obj")
+        self.folders, self.job.map = [], MAP
+        return self.by_line(language, [option])
 
     def make_default_left_out(self, library):
         """A default library, and an option that leaves out this one or another one."""
@@ -1126,12 +1206,12 @@ class JobMaker:
         elif form.kind == "exe":
             lines = ["format dos exe"]
         elif form.kind == "com":
-            lines = ["format dos com", "system com"]
+            lines = ["format dos com", "system com", "format dos com", "format DOS COM", "system Com"]
         else:
             form.paragraph = 0
+            offset = self.offset or self.size(form.start)
             lines = ["output raw"] if form.start == 0 else []
-            lines += [f"output raw offset={self.number(form.start)}"]
-            lines += [f"output raw offset = '{self.number(form.start)}'"]
+            lines += [f"output raw offset={offset}", f"output raw offset = '{offset}'"]
         line = self.random.choice(lines)
         if self.happens(0.3):
             # the last one counts
@@ -1226,6 +1306,7 @@ class JobMaker:
         lines += self.random.sample(LINES_OF_NOTHING, self.random.randrange(3))
         lines += self.form_lines()
         lines += [self.random.choice(LEFT_OUT)] if self.happens(0.2) else []
+        lines += [self.random.choice(OTHER_LINES)] if self.happens(0.05) else []
         lines += [self.random.choice(WRONG_LINES)] if self.happens(0.1) else []
         self.random.shuffle(lines)
         lines = self.merged(lines, self.lists("reference", job.references))
@@ -1265,7 +1346,8 @@ class JobMaker:
 
     def size(self, length):
         """A number of bytes in one of its forms."""
-        kilobytes = [f"{length // 1024}k"] if length % 1024 == 0 else []
+        count = length // 1024
+        kilobytes = [f"{count}k", f"{count}K", f"0x{count:x}k"] if length % 1024 == 0 else []
         return self.random.choice([self.number(length), *kilobytes])
 
     def lists(self, directive, names):
@@ -1312,7 +1394,7 @@ MADE = [
     (LONG_EVERY, 3, in_turn(JobMaker.make_long_externals, [
         (make_module, length) for make_module in (module_of_long_externals, module_of_long_aliases)
         for length in LONG_BODIES])),
-    (WRONG_EVERY, 8, in_turn(JobMaker.make_wrong, WRONG_LINES)),
+    (WRONG_EVERY, 8, in_turn(JobMaker.make_wrong, WRONG_LINES[:60])),
     (QUIET_EVERY, 20, in_turn(JobMaker.make_quiet)),
     (ALIASES_EVERY, 14, in_turn(JobMaker.make_aliases)),
     (NAMING_EVERY, 17, in_turn(JobMaker.make_naming)),
@@ -1346,22 +1428,40 @@ MADE = [
     (START_EVERY, 41, in_turn(JobMaker.make_start, [
         (*start, total) for start in STARTS for total in SUMS])),
     (STACKS_EVERY, 5, in_turn(JobMaker.make_stacks, STACKS)),
+    (WRONG_EVERY, 19, in_turn(JobMaker.make_wrong, WRONG_LINES[60:])),
     (FORMS_EVERY, 7, in_turn(JobMaker.make_form, FORMS)),
     (LENGTHS_EVERY, 9, in_turn(JobMaker.make_lengths, LENGTHS)),
     (AMISS_EVERY, 11, in_turn(JobMaker.make_amiss)),
     (MIXED_EVERY, 4, in_turn(JobMaker.make_mixed, [("-", None), (OUT, "-"), ("-", "-")])),
     (FILES_EVERY, 30, in_turn(JobMaker.make_many_responses, [201, 200])),
+    (OFFSETS_EVERY, 0, in_turn(JobMaker.make_offset, [(each,) for each in OFFSETS])),
+    (CASES_EVERY, 15, in_turn(JobMaker.make_case_lines, CASE_LINES)),
+    (UNNAMED_EVERY, 34, in_turn(JobMaker.make_unnamed, UNNAMED)),
+    (ENDED_EVERY, 22, in_turn(JobMaker.make_ended, [tuple(words) for words in ENDED_WORDS])),
+    (WRONG_EVERY, 24, in_turn(JobMaker.make_wrong, OTHER_LINES)),
 ]
 
+
+def made(maker, make, *given):
+    """What makes a job, and what it is given, as one case of some."""
+    return make(maker, *given)
+
+
+# what stands in a line, of which each third takes turns of its own
+IN_LINES = [
+    *[(JobMaker.make_line_options, language, option)
+      for language in (LINK, TLINK) for option in [*OTHER_OPTIONS[language], *WRONG_WORDS[language]]],
+    *[(JobMaker.make_odd_line, line) for line in MARKED_LINES],
+    *[(JobMaker.make_odd_line, line, TLINK) for line in MARKED_LINES_OF_TLINK],
+    *[(JobMaker.make_odd_configuration, files) for files in ODD_CONFIGURATIONS],
+    *[(JobMaker.make_default_switched, option) for option in ("/n/n-", "/n-/n", "/n", "/n-")],
+    (JobMaker.make_cases, TLINK, False, ["/c/c-"]), (JobMaker.make_edge, TLINK, EDGES[0], "/l/l-")]
 
 # Where lines are asked for, half of the jobs are of these: by half of its number.
 MADE_BY_LINES = [
     (8, 4, in_turn(JobMaker.make_odd_front, [
         (language, front) for language in (LINK, TLINK) for front in ODD_FRONTS[language]])),
-    (40, 2, in_turn(JobMaker.make_odd_configuration, ODD_CONFIGURATIONS)),
-    (2, 0, in_turn(JobMaker.make_line_options, [
-        (language, option) for language in (LINK, TLINK)
-        for option in [*OTHER_OPTIONS[language], *WRONG_WORDS[language]]])),
+    *[(8, behind, in_turn(made, IN_LINES[part::3])) for part, behind in enumerate((0, 2, 6))],
     (4, 1, in_turn(JobMaker.make_odd_line, [(line,) for line in ODD_LINES] + [
         (line, TLINK) for line in LINES_OF_TLINK])),
     (40, 3, in_turn(JobMaker.make_cases, [
@@ -1369,7 +1469,9 @@ MADE_BY_LINES = [
     (40, 23, in_turn(JobMaker.make_stacks, [(lengths, True) for lengths in STACKS])),
     (20, 7, in_turn(JobMaker.make_null_bytes, [
         (language, order) for language in (LINK, LINK, TLINK) for order in (ordering.DOSSEG, None)])),
-    (20, 11, in_turn(JobMaker.make_deep, [
+    (40, 31, in_turn(JobMaker.make_edge, [
+        (language, edge, option) for edge in EDGES for language, option in ((LINK, "/LI/M"), (TLINK, "/l/m"))])),
+    (40, 11, in_turn(JobMaker.make_deep, [
         (language, deep) for deep in (7, 8, 9, 3) for language in (LINK, TLINK)])),
     (40, 19, in_turn(JobMaker.make_many_files, [(LINK, 200), (TLINK, 201), (TLINK, 200), (LINK, 201)])),
     (40, 39, in_turn(JobMaker.make_default_left_out, ["slibce.lib", "SLIBCE.LIB", "SLIBCE"])),

@@ -8,9 +8,10 @@ OTHER_OPTIONS = {
         ("BATCH", 1), ("NOLOGO", 3), ("PAUSE", 3), ("CODEVIEW", 2), ("OVERLAYINTERRUPT:63", 1),
         ("PADCODE:2", 4), ("PADDATA", 4), ("ALIGNMENT:16", 1), ("ALIGNMENT", 1), ("PMTYPE:VIO", 2),
         ("WARNFIXUP", 1), ("INCREMENTAL", 3), ("EXEPACK", 1), ("FARCALLTRANSLATION", 1),
-        ("NOFARCALLTRANSLATION", 3), ("PACKCODE", 5), ("PACKCODE:512", 5), ("PACKDATA", 5), ("NOPACKCODE", 3),
-        ("NOEXTDICTIONARY", 3), ("SEGMENTS:0x100", 2), ("MAP:FULL", 1), ("MAP:ADDRESS", 1), ("LINENUMBERS", 2),
-        ("CPARMAXALLOC:1", 2), ("CPARMAXALLOC:0", 2), ("CPARMAXALLOC:0xFFFF", 2), ("CPARMAXALLOC:020", 2),
+        ("NOFARCALLTRANSLATION", 3), ("PACKCODE", 5), ("PACKCODE:512", 5), ("PACKDATA", 5), ("PACKDATA:512", 5),
+        ("NOPACKCODE", 3), ("NOEXTDICTIONARY", 3), ("SEGMENTS:0x100", 2), ("SEGMENTS:0X100", 2), ("MAP:FULL", 1),
+        ("MAP:ADDRESS", 1), ("MAP:f", 1), ("MAP:a", 1), ("LINENUMBERS", 2), ("PMTYPE", 2), ("CPARMAXALLOC:1", 2),
+        ("CPARMAXALLOC:0", 2), ("CPARMAXALLOC:0xFFFF", 2), ("CPARMAXALLOC:0XA", 2), ("CPARMAXALLOC:020", 2),
         ("MAP:200", 1), ("NONULLSDOSSEG", 3), ("NODEFAULTLIBRARYSEARCH:slibce", 3),
         ("NODEFAULTLIBRARYSEARCH:Runtime.A", 3)],
     TLINK: [(each, len(each)) for each in [
@@ -22,10 +23,12 @@ WRONG_WORDS = {
     LINK: [
         "/X", "/NO", "/ST:0", "/ST:65537", "/ST:089", "/ST:", "/ST:4k", "/CP:65536", "/CP:x", "/DS", "/HIGH", "/OLD",
         "/Q", "/NOG", "/DY", "(a+b)", '"a', "/NOI:1", "/SE:x", "/SE", "/M:x", "/STACKS", "-x", "@nowhere", "/", "/PACK",
-        "/S:4", "/C", "/nowhere/x.obj", "-nowhere/x.obj"],
+        "/S:4", "/C", "/nowhere/x.obj", "-nowhere/x.obj", "/D", "/L", "/IN", "/O", "/PAD", "/PA", "/DYNAMIC", "/OL",
+        "/M:", "/SE:0x", "/F:1", "/A:", "/NOD:", "/PAUSE:1", "/HI"],
     TLINK: [
         "/q", "-q", "/o", "/Twe", "/R", "/Rk", "/L", "/A", "(a+b)", '"a', "/cx", "@nowhere", "-", "/tx", "/M", "/X",
-        "/nowhere/x.obj", "-c/q", "/La/c", "-ja/Tdc", "/La;b/v-", "/j/c"],
+        "/nowhere/x.obj", "-c/q", "/La/c", "-ja/Tdc", "/La;b/v-", "/j/c", "/Tdx", "/4", "/A5", "/i", "/s-", "/-",
+        "/P4"],
 }
 # lines that are wrong, or seem so; `OBJECT` is that of the job, and behind `~` all is one word
 ODD_LINES = [
@@ -60,9 +63,19 @@ LINES_OF_TLINK = [
     "OBJECT,nowhere/Table", "OBJECT /Lc:\\tc\\lib/c", "OBJECT -jc:\\obj/Tdc", "OBJECT /Lsub\\more/v,,,x",
     "OBJECT /Lsub:/v,,,x", "OBJECT /Lx/c\\d,,,y", "OBJECT,,, /Lx;c:\\tc/m l", "OBJECT -La/j", "OBJECT /c/La/m",
     "OBJECT /Lc:\\tc\\lib/c;", "OBJECT /jx/Lc:\\tc,,,l", "OBJECT /Lx/q,,,l", "OBJECT /Lx,,,l"]
+# lines by which marks, blanks and options that are switched off show; of each linker, and of TLINK alone
+MARKED_LINES = [
+    "OBJECT+,\nlist", "OBJECT +,out,\nnul", "OBJECT\f/e\f,\fout", "OBJECT\t,\tout\t", "OBJECT\tsub\\a,out",
+    '0"sub\\a",out', 'OBJECT"', 'OBJECT,out"list"', "OBJECT+sub\\a,out,list", "OBJECT,out,list/m", "OBJECT,,,,nul",
+    "OBJECT,,,,NUL.DEF", "OBJECT,prn.x", "OBJECT,,con.map", "OBJECT,out,,\\+x", "OBJECT,aux,list", "OBJECT,out,lpt1",
+    "OBJECT,out\f;", "~\f0\f", "OBJECT,out\r,list\r", "~0\f/e", 'OBJECT;"a\tb"', "OBJECT;a\\b"]
+MARKED_LINES_OF_TLINK = [
+    "OBJECT,out,list/s/s-", "OBJECT,out,list/s", "OBJECT,out/i/i-", "OBJECT/o-", "OBJECT,out/t/t-", "com/t-/t,out",
+    "OBJECT,out/m/m-", "OBJECT,out/l/l-", "OBJECT/v/v-", "OBJECT/f/f-", "OBJECT /Lx/y,,,l", "OBJECT /Lsub/more/x",
+    "OBJECT -Lx/,,,l", "OBJECT/s-/s,out,list", "OBJECT,out,nul/s"]
 # the environment's LINK that is a call of a linker
 CALLS = ["doslink --as link", "/usr/bin/doslink --as LINK /q", "link", "C:\\BIN\\LINK.EXE /q", "run ./link\t/q",
-         "a:Link",
+         "a:Link", "doslink --as tlink /q",
          '"C:\\My Bin\\LINK.EXE" /q']
 # what stands in front of a line that is wrong, or seems so; `OBJECT` is that of the job
 ODD_FRONTS = {

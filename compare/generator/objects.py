@@ -763,6 +763,29 @@ def module_of_form(below, length, start, amiss):
     return b"".join([*found, spelling.framed(0x8A, end_of)])
 
 
+def module_of_edge(name, distance, header):
+    """A module of this name with publics at a distance from their frame, below it, and without one, and a local one.
+
+    It has lines of three segments, which are of a group or of none; its first record is of this type.
+    """
+    spelling, first = records.Spelling(), 0xFFF0
+    title = records.name(name)
+    made = [
+        records.NameList([b"", b"CODE", b"LOW", b"REST", b"HIGH", b"LOWS" + name, b"HIGHS" + name, b"NONE"]),
+        records.SegmentDefinition(3, 0, 16, 3, 2, 1), records.SegmentDefinition(3, 0, first - 16, 4, 2, 1),
+        records.SegmentDefinition(3, 0, 0x40, 5, 2, 1), records.GroupDefinition(6, [1]),
+        records.GroupDefinition(7, [3]), records.GroupDefinition(8, []),
+        records.PublicNames(1, 3, None, [PublicName(b"at_" + name, distance - first, 0)]),
+        records.PublicNames(2, 1, None, [PublicName(b"below_" + name, 9, 0)]),
+        records.PublicNames(3, 1, None, [PublicName(b"no_" + name, 10, 0)]),
+        records.LocalPublicNames(0, 1, None, [PublicName(b"own_" + name, 3, 0)]),
+        records.Data(1, 0, bytes(16)), records.Data(3, 0, bytes(4)),
+        records.LineNumbers(1, 3, [(65_535, distance - first), (7, 2), (12, 10), (345, 0x3F), (6_789, 0)]),
+        records.LineNumbers(3, 1, [(10, 11)]), records.LineNumbers(0, 2, [(1, 0xFF), (2, 0xABC)]),
+        records.ModuleEnd(False, None)]
+    return spelling.framed(header, title) + b"".join(map(spelling.record, made))
+
+
 def module_of_no_alignment(kind):
     """A module with a 32-bit segment, and one by this type of record whose alignment is none."""
     spelling = records.Spelling()
