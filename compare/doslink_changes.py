@@ -1757,6 +1757,8 @@ OPTIONS_OF_LINES = [
     Change("a number by 0x has small letters", "line_options.py", '"0[xX][0-9a-fA-F]+"', '"0[xX][0-9a-f]+"'),
     *[Change(f"TLINK has no option {letter}", "line_options.py", f'"{letter}", ', "") for letter in "e3CEkj"],
     Change("TLINK has no option d", "line_options.py", '"d": (warns(NOTHING), nothing), ', ""),
+    Change("TLINK has no option M", "line_options.py", ' "M": (warns(NOTHING), nothing),', ""),
+    Change("/M of TLINK isn't told", "line_options.py", '"M": (warns(NOTHING), nothing)', '"M": (nothing, nothing)'),
     Change("TLINK has no option P", "line_options.py", ', "P"]', "]"),
     Change("/v isn't told", "line_options.py", '"v": (warns(DEBUG), nothing)', '"v": (nothing, nothing)'),
     Change("/v- is told", "line_options.py", '"v": (warns(DEBUG), nothing)', '"v": (warns(DEBUG), warns(DEBUG))'),

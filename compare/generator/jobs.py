@@ -109,8 +109,8 @@ CASES_EVERY, CASE_LINES = 25, [
 # one names no program: forms, and whether directives ask for them
 UNNAMED_EVERY, UNNAMED = 50, [
     ("sys", False), ("bin", False), ("bin", True), ("com", True), ("com", False), ("exe", True)]
-# and one words that end behind a sign
-ENDED_EVERY = 25
+# one words that end behind a sign, and one files of directives by their names, and names without an extension
+ENDED_EVERY, SPOKEN_EVERY = 25, 25
 # publics that are so far above their frame, and the type of the record in front of them
 EDGES = [(65_535, 0x80), (65_536, 0x82), (65_534, 0x80), (65_537, 0x80)]
 # one job in so many is a .COM program, or isn't for these reasons
@@ -187,6 +187,19 @@ ENDED_WORDS = [
     ["file 0.obj output raw offset"], ["file 0.obj output raw offset ="], ["file 0.obj", "order"], ["file 0.obj sort"],
     ["file 0.obj debug"], ["file 0.obj disable"], ["file 0.obj alias x ="], ["file {0.obj"], ["file 0.obj }"],
     ["file 0.obj name o.exe op dos, nod"], ["file 0.obj name o.exe option nodefaultlibs"], ["file 0.obj option map"]]
+# files of directives, of which some are called otherwise than a word says, or have a Ctrl-Z
+SPOKEN_FILES = {
+    "ending.lnk": b"file 0.obj name o.exe\n", "both": b"file 0.obj name o.exe\n", "both.lnk": b"file 0.obj name p.exe\n",
+    "dot.x.lnk": b"file 0.obj name o.exe\n", "a.b/ending.lnk": b"file 0.obj name o.exe\n", "folder/x": b"name p",
+    "folder.lnk": b"file 0.obj name o.exe\n", "ended": b"file 0.obj name o.exe\n\x1Aname p.exe\n\x1A",
+    "ended.lnk": b"", "cut": b"file 0.obj\x1A 'x", "none": b"\x1Aname p.exe"}
+# words that name these, or a program without an extension
+SPOKEN_WORDS = [
+    ["@ending"], ["@both"], ["@dot.x"], ["@a.b/ending"], ["@ended"], ["@cut", "name o.exe"], ["@none", "@ending"],
+    ["@ending.lnk"], ["@both.lnk"], ["@ending", "name ending.lnk"], ["@folder"], ["@a.b\\ending"], ["@nowhere"],
+    ["file com", "name o"], ["file com", "name o system com"], ["file com name a.b/o format dos com"],
+    ["file com name o format dos exe"], ["file com name O output raw"], ["file com name - system com"],
+    ["file com name -"], ["file com name o.x"], ["file com name o."]]
 # lines that ask for something else than the rest, or say it once more
 OTHER_LINES = [
     "name two.exe", "option nocaseignore", "option noignorecase", "option nocaseexact",
@@ -787,6 +800,13 @@ class JobMaker:
     def make_ended(self, *words):
         """Words of directives, of which the last one ends behind a sign; a default library isn't there."""
         self.files["0.obj"], self.folders = module_of_links([b"x"], [], b"NOWHERE"), []
+        return self.case(list(words), "wlink")
+
+    def make_spoken(self, *words):
+        """Words of directives beside files of such; a module that may be a .COM program."""
+        self.files["0.obj"], self.folders = module_of_links([b"x"], [], b"NOWHERE"), []
+        self.files["com.obj"] = module_of_form(0, 3, 0x100, ())
+        self.files.update(SPOKEN_FILES)
         return self.case(list(words), "wlink")
 
     def make_quiet(self):
@@ -1439,6 +1459,7 @@ MADE = [
     (UNNAMED_EVERY, 34, in_turn(JobMaker.make_unnamed, UNNAMED)),
     (ENDED_EVERY, 22, in_turn(JobMaker.make_ended, [tuple(words) for words in ENDED_WORDS])),
     (WRONG_EVERY, 24, in_turn(JobMaker.make_wrong, OTHER_LINES)),
+    (SPOKEN_EVERY, 11, in_turn(JobMaker.make_spoken, [tuple(words) for words in SPOKEN_WORDS])),
 ]
 
 

@@ -13,18 +13,21 @@ OTHER_OPTIONS = {
         ("MAP:ADDRESS", 1), ("MAP:f", 1), ("MAP:a", 1), ("LINENUMBERS", 2), ("PMTYPE", 2), ("CPARMAXALLOC:1", 2),
         ("CPARMAXALLOC:0", 2), ("CPARMAXALLOC:0xFFFF", 2), ("CPARMAXALLOC:0XA", 2), ("CPARMAXALLOC:020", 2),
         ("MAP:200", 1), ("NONULLSDOSSEG", 3), ("NODEFAULTLIBRARYSEARCH:slibce", 3),
-        ("NODEFAULTLIBRARYSEARCH:Runtime.A", 3)],
+        ("NODEFAULTLIBRARYSEARCH:Runtime.A", 3), ("PACKFUNCTIONS", 5), ("NOPACKFUNCTIONS", 7), ("ONERROR:NOEXE", 2),
+        ("ONERROR:noexe", 2)],
     TLINK: [(each, len(each)) for each in [
         "c-", "d", "e", "3", "C", "E", "k", "j", "P", "P=4096", "A=16", "yc", "ye", "yex", "yx", "v", "v-", "f", "f-",
         "O", "Ol", "i", "i-", "m", "m-", "l", "s", "x", "x-", "jobjs", "jone;two", "n-", "t-", "Tde", "o-", "yc-", "d-",
-        "Lc:\\tc\\lib/c-", "jc:\\obj/e", "Lone\\two/v", "Ld:/d", "Lone;d:/m/Ltwo", "Lone/two", "Lc:\\tc/lib/m"]],
+        "Lc:\\tc\\lib/c-", "jc:\\obj/e", "Lone\\two/v", "Ld:/d", "Lone;d:/m/Ltwo", "Lone/two", "Lc:\\tc/lib/m",
+        "Td", "M"]],
 }
 WRONG_WORDS = {
     LINK: [
         "/X", "/NO", "/ST:0", "/ST:65537", "/ST:089", "/ST:", "/ST:4k", "/CP:65536", "/CP:x", "/DS", "/HIGH", "/OLD",
         "/Q", "/NOG", "/DY", "(a+b)", '"a', "/NOI:1", "/SE:x", "/SE", "/M:x", "/STACKS", "-x", "@nowhere", "/", "/PACK",
         "/S:4", "/C", "/nowhere/x.obj", "-nowhere/x.obj", "/D", "/L", "/IN", "/O", "/PAD", "/PA", "/DYNAMIC", "/OL",
-        "/M:", "/SE:0x", "/F:1", "/A:", "/NOD:", "/PAUSE:1", "/HI"],
+        "/M:", "/SE:0x", "/F:1", "/A:", "/NOD:", "/PAUSE:1", "/HI",
+        "/PC", "/PCODE:1", "/ON", "/ON:x", "/ONERROR:NOEXE2", "/PACKF:1", "/NOP:1"],
     TLINK: [
         "/q", "-q", "/o", "/Twe", "/R", "/Rk", "/L", "/A", "(a+b)", '"a', "/cx", "@nowhere", "-", "/tx", "/M", "/X",
         "/nowhere/x.obj", "-c/q", "/La/c", "-ja/Tdc", "/La;b/v-", "/j/c", "/Tdx", "/4", "/A5", "/i", "/s-", "/-",
@@ -68,7 +71,8 @@ MARKED_LINES = [
     "OBJECT+,\nlist", "OBJECT +,out,\nnul", "OBJECT\f/e\f,\fout", "OBJECT\t,\tout\t", "OBJECT\tsub\\a,out",
     '0"sub\\a",out', 'OBJECT"', 'OBJECT,out"list"', "OBJECT+sub\\a,out,list", "OBJECT,out,list/m", "OBJECT,,,,nul",
     "OBJECT,,,,NUL.DEF", "OBJECT,prn.x", "OBJECT,,con.map", "OBJECT,out,,\\+x", "OBJECT,aux,list", "OBJECT,out,lpt1",
-    "OBJECT,out\f;", "~\f0\f", "OBJECT,out\r,list\r", "~0\f/e", 'OBJECT;"a\tb"', "OBJECT;a\\b"]
+    "OBJECT,out\f;", "~\f0\f", "OBJECT,out\r,list\r", "~0\f/e", 'OBJECT;"a\tb"', "OBJECT;a\\b",
+    'OBJECT,sub/prog,"lib/"', "OBJECT,sub\\prog,lib\\"]
 MARKED_LINES_OF_TLINK = [
     "OBJECT,out,list/s/s-", "OBJECT,out,list/s", "OBJECT,out/i/i-", "OBJECT/o-", "OBJECT,out/t/t-", "com/t-/t,out",
     "OBJECT,out/m/m-", "OBJECT,out/l/l-", "OBJECT/v/v-", "OBJECT/f/f-", "OBJECT /Lx/y,,,l", "OBJECT /Lsub/more/x",

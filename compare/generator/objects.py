@@ -778,6 +778,7 @@ def module_of_edge(name, distance, header):
         records.PublicNames(1, 3, None, [PublicName(b"at_" + name, distance - first, 0)]),
         records.PublicNames(2, 1, None, [PublicName(b"below_" + name, 9, 0)]),
         records.PublicNames(3, 1, None, [PublicName(b"no_" + name, 10, 0)]),
+        records.PublicNames(3, 2, None, [PublicName(b"free_" + name, 20, 0)]),
         records.LocalPublicNames(0, 1, None, [PublicName(b"own_" + name, 3, 0)]),
         records.Data(1, 0, bytes(16)), records.Data(3, 0, bytes(4)),
         records.LineNumbers(1, 3, [(65_535, distance - first), (7, 2), (12, 10), (345, 0x3F), (6_789, 0)]),
