@@ -117,6 +117,8 @@ EDGES = [(65_535, 0x80), (65_536, 0x82), (65_534, 0x80), (65_537, 0x80)]
 FORMS_EVERY, FORMS = 12, [
     [], ["word"], ["stack"], ["start"], ["below"], ["whole"], ["whole", "bss"], ["bss"], ["frame"], ["empty"],
     ["word", "stack", "start", "below"], ["stack", "start"], ["start", "below"]]
+# and one a driver with these
+DRIVERS_EVERY, DRIVERS = 50, [["stack"], ["word"], ["below"], [], ["stack", "word"]]
 # of a stack that is asked for
 STACK_LENGTHS = [1, 2, 0x10, 0x80, 0x100, 0x101, 0x400, 0x1000, 0x8000, 0xFFFF, 0x10000]
 # one job in so many has a group FLAT, and what names it; one code in a private segment or in DGROUP
@@ -151,7 +153,7 @@ WRITTEN = [
     b"\xF0\x0E\0\0", b"\xF0\x0D", b"!<arch>\n", b"!<thin>\n", b"MZ"]
 OTHER_OUTS = [
     "out.com", "OUT.SYS", "a.Bin", "out.img", "com", "out.com.exe", "./0.obj", "././/0.obj",
-    RESPONSE, "./" + OUT]
+    RESPONSE, "./" + OUT, "sys"]
 # one has about so many lines of a kind as are told
 LINES_EVERY, LINE_COUNTS = 25, [20, 21, 22]
 # paths whose last names begin as options of TLINK do
@@ -192,14 +194,17 @@ SPOKEN_FILES = {
     "ending.lnk": b"file 0.obj name o.exe\n", "both": b"file 0.obj name o.exe\n", "both.lnk": b"file 0.obj name p.exe\n",
     "dot.x.lnk": b"file 0.obj name o.exe\n", "a.b/ending.lnk": b"file 0.obj name o.exe\n", "folder/x": b"name p",
     "folder.lnk": b"file 0.obj name o.exe\n", "ended": b"file 0.obj name o.exe\n\x1Aname p.exe\n\x1A",
-    "ended.lnk": b"", "cut": b"file 0.obj\x1A 'x", "none": b"\x1Aname p.exe"}
+    "ended.lnk": b"", "cut": b"file 0.obj\x1A 'x", "none": b"\x1Aname p.exe",
+    "crlf": b"file 0.obj\r\nname 'o\r\n"}
 # words that name these, or a program without an extension
 SPOKEN_WORDS = [
     ["@ending"], ["@both"], ["@dot.x"], ["@a.b/ending"], ["@ended"], ["@cut", "name o.exe"], ["@none", "@ending"],
-    ["@ending.lnk"], ["@both.lnk"], ["@ending", "name ending.lnk"], ["@folder"], ["@a.b\\ending"], ["@nowhere"],
-    ["file com", "name o"], ["file com", "name o system com"], ["file com name a.b/o format dos com"],
+    ["file com name a.b/o format dos com"], ["@both.lnk"],
+    ["@ending", "name ending.lnk"], ["@folder"], ["@a.b\\ending"], ["@crlf"],
+    ["file com", "name o"], ["file com", "name o system com"], ["@ending.lnk"],
     ["file com name o format dos exe"], ["file com name O output raw"], ["file com name - system com"],
-    ["file com name -"], ["file com name o.x"], ["file com name o."]]
+    ["file com name -"], ["file com name o.x"], ["file com name o."], ["file 0.obj", "system"], ["file 0.obj", "format"],
+    ["file 0.obj", "name"], ["file com", "name o.com"]]
 # lines that ask for something else than the rest, or say it once more
 OTHER_LINES = [
     "name two.exe", "option nocaseignore", "option noignorecase", "option nocaseexact",
@@ -583,6 +588,13 @@ class JobMaker:
         # where a raw image begins is said by directives alone
         return self.by_directives() if form.kind == "bin" and self.happens(0.3) else self.asked()
 
+    def make_driver(self, amiss):
+        """A driver that would be no .COM program, or that has a relocation."""
+        self.files["0.obj"], self.folders = module_of_form(int("below" in amiss), 3, 0x100, amiss), []
+        self.give("0.obj")
+        self.job.form, self.job.out = Form("sys"), "o.sys"
+        return self.case(self.words(), "doslink")
+
     def a_form(self):
         """Some form, mostly one without a header."""
         kind = self.random.choice(["exe", "com", "com", "com", "bin", "bin", "sys"])
@@ -682,7 +694,7 @@ class JobMaker:
         path = THERE if turn % 2 else OTHER_OUTS[number % len(OTHER_OUTS)]
         if turn % 2:
             self.files[THERE] = WRITTEN[number % len(WRITTEN)]
-        if self.happens(0.5):
+        if self.happens(0.5) or path in ("com", "sys"):
             self.job.out = path
         else:
             self.job.map = path
@@ -1459,7 +1471,8 @@ MADE = [
     (UNNAMED_EVERY, 34, in_turn(JobMaker.make_unnamed, UNNAMED)),
     (ENDED_EVERY, 22, in_turn(JobMaker.make_ended, [tuple(words) for words in ENDED_WORDS])),
     (WRONG_EVERY, 24, in_turn(JobMaker.make_wrong, OTHER_LINES)),
-    (SPOKEN_EVERY, 11, in_turn(JobMaker.make_spoken, [tuple(words) for words in SPOKEN_WORDS])),
+    (DRIVERS_EVERY, 4, in_turn(JobMaker.make_driver, DRIVERS)),
+    (SPOKEN_EVERY, 2, in_turn(JobMaker.make_spoken, [tuple(words) for words in SPOKEN_WORDS])),
 ]
 
 
