@@ -98,9 +98,9 @@ LENGTHS_EVERY, LENGTHS = 50, [
 # one job in so many has stacks of these lengths, and asks for one of about their sum
 STACKS_EVERY, STACKS = 20, [
     [], [1], [33], [3, 5], [16, 0, 17], [0x8000, 0x7FFF, 1], [7, 9, 11], [0x10000]]
-# one job in so many is a raw image of more than a kilobyte, from an address on that is written so
+# one job in so many is a raw image of data behind a kilobyte, from an address on that is written so
 OFFSETS_EVERY, OFFSETS = 25, [
-    "1k", "1K", "0x1k", "0X1K", "1024", "0x400", "0X3fF", "1025", "0x0k", "100000h", "0x100000", "1048576",
+    "1k", "1K", "0x1k", "0X1K", "1024", "0x400", "0X3fF", "1025", "1026", "0x0k", "100000h", "0x100000", "1048576",
     "1048577", "0x100001", "1024k", "1025k", "1m", "0M", "1kk"]
 # one has publics that differ by case alone, and lines that say whether it counts
 CASES_EVERY, CASE_LINES = 25, [
@@ -604,8 +604,8 @@ class JobMaker:
         return Form("bin", paragraph, self.random.choice([0, 0, 1, 0x100, 0x101, 0x400, 0x100000]))
 
     def make_offset(self, offset):
-        """A raw image from an address on."""
-        self.files["0.obj"], self.folders = module_of_form(0, 1200, 0x100, ()), []
+        """A raw image from an address on, of data from 401H on."""
+        self.files["0.obj"], self.folders = module_of_form(-0x301, 1200, 0x100, ()), []
         self.give("0.obj")
         self.job.form, self.offset = Form("bin", start=1), offset
         return self.by_directives()

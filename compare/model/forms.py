@@ -18,6 +18,11 @@ def kind_of(form):
     return "exe" if form is None else form.kind
 
 
+def has_below(program, start):
+    """Whether data covers an address below one."""
+    return any(laid.content and laid.address < start for laid in program.laid)
+
+
 def com_faults(program):
     """What keeps a program from being a .COM file, by its number."""
     start = program.registers.code, program.registers.instruction
@@ -25,7 +30,7 @@ def com_faults(program):
         (RELOCATED, bool(program.relocations)),
         (STACK_SEGMENT, any(each.kind == "stack" for each in program.layout.combined)),
         (OTHER_START, start != (0, COM_START)),
-        (DATA_BELOW, any(laid.content and laid.address < COM_START for laid in program.laid)),
+        (DATA_BELOW, has_below(program, COM_START)),
         (TOO_LONG, program.layout.size > SEGMENT)]
     return [number for number, stands in tests if stands]
 
@@ -37,6 +42,9 @@ def written_file(program, form):
         is_limited = form is not None and form.most_extra is not None
         return program_file.written_file(program, form.most_extra if is_limited else program_file.MOST_EXTRA)
     if kind == "bin":
+        # a file that begins behind data would lack it
+        if has_below(program, form.start):
+            raise Fault(DATA_BELOW)
         return program.image(form.paragraph)[form.start:]
     found = com_faults(program)
     found = [number for number in found if kind == "com" or number == RELOCATED]

@@ -9,8 +9,8 @@ use Rattle.omf_image.specs.Program.{IsProgram}
 use Rattle.omf_image.specs.Words.{word_at}
 use Rattle.omf_commands.specs.Linking.{HoldsAtEachParagraph}
 use Rattle.omf_commands.specs.declared.linking.Report.{Report}
-use Rattle.flat_file.specs.Forms.{bin_bytes, com_bytes, com_fault, sys_bytes}
-use Rattle.flat_file.specs.Laws.{BinIsLocated, ComLoadsAsWritten, IsLocatedCom, IsLocatedFrom, SysIsLocated}
+use Rattle.flat_file.specs.Forms.{bin_bytes, com_bytes, com_fault, raw_fault, sys_bytes}
+use Rattle.flat_file.specs.Laws.{BinIsLocated, ComLoadsAsWritten, IsLocatedCom, IsLocatedFrom, RawIsWhole, SysIsLocated}
 use Rattle.flat_file.specs.Com.{LoadedCom, loading}
 use Rattle.flat_file.specs.Writing.{WritesForm}
 use Rattle.flat_file.specs.declared.fault.FlatFault.{FlatFault}
@@ -110,14 +110,16 @@ module _ {A : Type 0} (names : Names) (modules : List Module) (report : Report A
     formed_com form same law r made =
         subst (λ f. Forms items (Some f) names modules report r) (sym same) (as_com law r made)
 
-    pub as_raw : (paragraph from : ℕ) → BinIsLocated → (r : Result V FlatFault)
-        → Makes items None (bin_bytes paragraph from report.program) r
+    pub as_raw : (paragraph from : ℕ) → BinIsLocated → RawIsWhole → (r : Result V FlatFault)
+        → Makes items (raw_fault from report.layout report.modules.items) (bin_bytes paragraph from report.program) r
         → Forms items (Some (Raw paragraph from)) names modules report r
-    as_raw paragraph from law (Ok made) (none, same) =
-        is_formed (Some (Raw paragraph from)) (items made) refl
+    as_raw paragraph from law whole (Ok made) (none, same) =
+        let of = linked.reported.linked.program in
+        is_formed (Some (Raw paragraph from)) (items made) none
         (subst (IsLocatedFrom paragraph from report.layout modules) (sym same)
-        (law report.layout modules report.program linked.reported.linked.program is paragraph from))
-    as_raw paragraph from law (Err e) wrong =
+        (law report.layout modules report.program of is paragraph from),
+        whole report.layout modules report.program of is from (of_modules (Some (Raw paragraph from)) None none))
+    as_raw paragraph from law whole (Err e) wrong =
         is_refused items (Some (Raw paragraph from)) (bin_bytes paragraph from report.program) e wrong
 
     pub as_driver : SysIsLocated → (r : Result V FlatFault)

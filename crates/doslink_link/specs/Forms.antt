@@ -10,8 +10,8 @@ use Rattle.omf_commands.specs.declared.linking.Report.{Report}
 use Rattle.omf_commands.specs.Linking.{HoldsAtEachParagraph, IsLinked, IsReport}
 use Rattle.flat_file.specs.Com.{LoadedCom, loading}
 use Rattle.flat_file.specs.Covered.{memory_len}
-use Rattle.flat_file.specs.Forms.{com_fault, sys_fault}
-use Rattle.flat_file.specs.Laws.{IsLocatedCom, IsLocatedFrom}
+use Rattle.flat_file.specs.Forms.{com_fault, raw_fault, sys_fault}
+use Rattle.flat_file.specs.Laws.{IsLocatedCom, IsLocatedFrom, IsWholeFrom}
 use Rattle.flat_file.specs.declared.fault.FlatFault.{FlatFault}
 use Rattle.flat_file.specs.declared.fault.FlatFault.TheVariants as flat
 use Rattle.flat_file.specs.declared.fault.FormFault.{FormFault}
@@ -36,26 +36,26 @@ IsLimited paragraphs names modules report file =
     (exe : List ℕ) × IsLinkedAs names modules report exe × (file ≡ limited paragraphs exe)
     × HoldsAtEachParagraph names modules file
 
--- what keeps the program of modules from being a file of a form: nothing of an EXE file and of a raw image
+-- what keeps the program of modules from being a file of a form: nothing of an EXE file
 abbrev pub form_fault : Option Form → Layout → List Module → Program → Option FormFault
 form_fault None layout modules program = None
 form_fault (Some Exe) layout modules program = None
 form_fault (Some (LimitedExe paragraphs)) layout modules program = None
 form_fault (Some Com) layout modules program = com_fault layout modules program
-form_fault (Some (Raw paragraph from)) layout modules program = None
+form_fault (Some (Raw paragraph from)) layout modules program = raw_fault from layout modules
 form_fault (Some Driver) layout modules program = sys_fault program
 
 -- This file is that of linked modules in a form: where none is said, and of an EXE file, the one that holds the program
 -- at each paragraph, with a limit of the memory behind its image or without; a .COM file that DOS loads as the located
--- program; a raw image, byte for byte the program located at its paragraph; a driver, byte for byte the program located
--- at any.
+-- program; a raw image, byte for byte the program located at its paragraph, with all that data covers; a driver, byte
+-- for byte the program located at any.
 abbrev pub HasForm : {A : Type 0} → Option Form → Names → List Module → Report A → (file : List ℕ) → Type 0
 HasForm None names modules report file = IsLinkedAs names modules report file
 HasForm (Some Exe) names modules report file = IsLinkedAs names modules report file
 HasForm (Some (LimitedExe paragraphs)) names modules report file = IsLimited paragraphs names modules report file
 HasForm (Some Com) names modules report file = LoadsAtEachPsp report.layout modules file
 HasForm (Some (Raw paragraph from)) names modules report file =
-    IsLocatedFrom paragraph from report.layout modules file
+    IsLocatedFrom paragraph from report.layout modules file × IsWholeFrom from report.layout modules
 HasForm (Some Driver) names modules report file =
     (paragraph : ℕ) → IsLocatedFrom paragraph 0 report.layout modules file
 

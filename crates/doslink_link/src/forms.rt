@@ -3,7 +3,7 @@ ghost use Rattle.std.specs.Prelude.{◌≡◌, ◌≤◌, IfOk, List, None, Some
 ghost use Rattle.omf_module.specs.Module.{Module};
 ghost use Rattle.omf_place.specs.declared.names.Names.{Names};
 ghost use Rattle.omf_place.specs.Bounded.{IsBounded};
-ghost use Rattle.flat_file.specs.Forms.{bin_bytes, com_bytes, com_fault, sys_bytes, sys_fault};
+ghost use Rattle.flat_file.specs.Forms.{bin_bytes, com_bytes, com_fault, raw_fault, sys_bytes, sys_fault};
 ghost use Rattle.doslink_link.specs.Forms.{Forms, limited};
 ghost use Rattle.doslink_link.specs.Linking.{IsLinkedAs};
 ghost use Rattle.doslink_link.specs.inside.Making.{Makes};
@@ -12,11 +12,10 @@ use crate::linking::Linked;
 use crate::page::Page;
 use doslink_words::Form;
 use flat_file::{
-    FlatFault, bin_is_located, com_loads_as_written, sys_is_located, write_bin, write_com,
+    FlatFault, bin_is_located, com_loads_as_written, sys_is_located, write_com, write_raw,
     write_sys,
 };
 use omf_commands::Report;
-use omf_frame::IoFault;
 use omf_image::Program;
 use std::alloc::Allocator;
 
@@ -42,19 +41,28 @@ fn com_file<A: Allocator + Copy>(alloc: A, report: &Report<A>) -> Result<Vec<u8,
     }
 }
 
-/// The bytes of a program at a paragraph, from an address on.
+/// The bytes of what was linked at a paragraph, from an address on.
 fn raw_file<A: Allocator + Copy>(
     alloc: A,
-    program: &Program<A>,
+    report: &Report<A>,
     paragraph: u16,
     from: u32,
 ) -> Result<Vec<u8, A>, FlatFault>
-    ensures { Makes (λ file. file.items) None (bin_bytes paragraph from program.now) result }
+    requires { IsBounded report.now.modules.items report.now.layout }
+    ensures { Makes (λ file. file.items) (raw_fault from report.now.layout report.now.modules.items)
+        (bin_bytes paragraph from report.now.program) result }
 {
     let mut page = Page::new(alloc);
-    match write_bin(program, paragraph, from, &mut page) {
+    match write_raw(
+        &report.modules,
+        &report.layout,
+        &report.program,
+        paragraph,
+        from,
+        &mut page,
+    ) {
         Ok(()) => Ok(page.bytes),
-        Err(IoFault) => Err(FlatFault::Device),
+        Err(fault) => Err(fault),
     }
 }
 
@@ -103,7 +111,7 @@ fn file_in<A: Allocator + Copy>(
         Form::Exe => Ok(exe),
         Form::LimitedExe { paragraphs } => Ok(limited_file(exe, paragraphs)),
         Form::Com => com_file(alloc, report),
-        Form::Raw { paragraph, from } => raw_file(alloc, &report.program, paragraph, from),
+        Form::Raw { paragraph, from } => raw_file(alloc, report, paragraph, from),
         Form::Driver => driver_file(alloc, &report.program),
     }
 }

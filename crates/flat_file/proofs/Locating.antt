@@ -1,9 +1,9 @@
 -- What stands in a file of each form, at the address of a program's byte.
-use Rattle.std.proofs.Common.{◌≡◌, ℕ, zero, suc, ◌+◌, ◌-◌, ◌*◌, ◌%◌, ◌≤◌, ◌<◌, ◌==◌, ◌&&◌, Bool, true, false, not}
+use Rattle.std.proofs.Common.{◌≡◌, ℕ, zero, suc, ◌+◌, ◌-◌, ◌*◌, ◌%◌, ◌≤◌, ◌<◌, ◌==◌, ◌&&◌, Bool, true, false, not, min}
 use Rattle.std.proofs.Common.{List, [], ◌∷◌}
 use Rattle.std.proofs.Common.{take, drop, length, get_or, slice_get, Option, Some, None, Ok, refl, ap, ◌∙◌, sym, subst, arith}
 use Rattle.std.specs.Bool.{then_some}
-use Rattle.flat_file.specs.declared.fault.FormFault.TheVariants.{Relocated}
+use Rattle.flat_file.specs.declared.fault.FormFault.TheVariants.{DataBelow, Relocated}
 use Rattle.std.specs.Prelude.{nat_lt, is_some, IsTrue}
 use Rattle.std.proofs.lemmas.Bool.{and_parts, eqb-true, ltb-false, true≢false}
 use Rattle.std.proofs.lemmas.List.{get_or-drop, get_or-take, length-drop, length-take}
@@ -18,9 +18,9 @@ use Rattle.omf_image.specs.Records.{entries, program_byte, written}
 use Rattle.omf_image.specs.Registers.{registers, stack, stack_of}
 use Rattle.omf_image.specs.Words.{add_words}
 use Rattle.flat_file.specs.Covered.{is_covered, first_covered, memory_len}
-use Rattle.flat_file.specs.Forms.{bin_bytes, com_bytes, com_fault, sys_bytes, sys_fault, has_relocations}
+use Rattle.flat_file.specs.Forms.{bin_bytes, com_bytes, com_fault, raw_fault, sys_bytes, sys_fault, has_relocations}
 use Rattle.flat_file.specs.Com.{loaded, loading}
-use Rattle.flat_file.specs.Laws.{IsLocatedCom, IsLocatedFrom}
+use Rattle.flat_file.specs.Laws.{IsLocatedCom, IsLocatedFrom, IsWholeFrom}
 use Rattle.flat_file.proofs.Moving.{length-add_words}
 use Rattle.flat_file.proofs.Covering.{around}
 use Rattle.flat_file.proofs.Choosing.{NoneOf, none_of}
@@ -37,6 +37,10 @@ not_there (Some c) h = absurd (true≢false h)
 unrelocated : (b : Bool) → then_some b Relocated ≡ None → b ≡ false
 unrelocated true h = cc
 unrelocated false h = refl
+
+none_below : (b : Bool) → then_some b DataBelow ≡ None → b ≡ false
+none_below true h = cc
+none_below false h = refl
 
 slice_get-take : {X : Type 0} (n : ℕ) (xs : List X) (i : ℕ) → i < n → slice_get (take n xs) i ≡ slice_get xs i
 slice_get-take zero xs i h = absurd (omega (arith, h))
@@ -91,6 +95,17 @@ module _ (layout : Layout) (modules : List Module) (p : Program) (of : IsProgram
           size = omega (arith, n, m, long, within, w);
           bytes = λ a low high. byte_at P from a low (omega (arith, w, high));
         }
+
+    -- no data lies below the begin of a raw image, since all of it lies in memory
+    pub raw_is_whole : (from : ℕ) → raw_fault from layout modules ≡ None → IsWholeFrom from layout modules
+    raw_is_whole from none a covered =
+        let ends = lies_around a covered in
+        let least = min from memory_len in
+        let first =
+        ltb-false (first_covered layout modules) least (none_below (nat_lt (first_covered layout modules) least) none) in
+        let within = is.written in
+        let short = is.short in
+        omega (arith, first, ends.0, ends.1, within, short)
 
     pub sys_is_located : sys_fault p ≡ None → (P : ℕ) → IsLocatedFrom P 0 layout modules (sys_bytes p)
     sys_is_located none P =

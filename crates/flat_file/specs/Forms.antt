@@ -1,6 +1,6 @@
 -- The forms of a program's file beside the EXE file: bytes of the program and no header. What stands at an address of
 -- the program depends on the paragraph that it is loaded at, where its words are relocated.
-use Rattle.std.specs.Prelude.{ℕ, Bool, ◌==◌, ◌&&◌, not, nat_lt, is_some, List, [], ◌∷◌, take, drop, length, Option}
+use Rattle.std.specs.Prelude.{ℕ, Bool, ◌==◌, ◌&&◌, not, nat_lt, min, is_some, List, [], ◌∷◌, take, drop, length, Option}
 use Rattle.std.specs.Bool.{then_some}
 use Rattle.omf_module.specs.Before.{first}
 use Rattle.omf_module.specs.Module.{Module}
@@ -10,7 +10,7 @@ use Rattle.omf_image.specs.Registers.{stack}
 use Rattle.omf_image.specs.Words.{add_words}
 use Rattle.flat_file.specs.declared.fault.FormFault.{FormFault}
 use Rattle.flat_file.specs.declared.fault.FormFault.TheVariants.{Relocated, StackSegment, OtherStart, DataBelow, TooLong}
-use Rattle.flat_file.specs.Covered.{first_covered}
+use Rattle.flat_file.specs.Covered.{first_covered, memory_len}
 
 -- .BIN: the program at a paragraph, from an address on to the end of its written part
 abbrev pub bin_bytes : (paragraph from : ℕ) → Program → List ℕ
@@ -39,6 +39,11 @@ com_fault layout modules program =
     ∷ then_some (not (program.registers.cs == 0 && program.registers.ip == 256)) OtherStart
     ∷ then_some (nat_lt (first_covered layout modules) 256) DataBelow
     ∷ then_some (nat_lt 65536 (length program.image)) TooLong ∷ [])
+
+-- what keeps the program of modules from being a raw image from an address on: data below that, which the file would
+-- lack
+abbrev pub raw_fault : (from : ℕ) → Layout → List Module → Option FormFault
+raw_fault from layout modules = then_some (nat_lt (first_covered layout modules) (min from memory_len)) DataBelow
 
 -- what keeps it from being a driver: a relocated word
 abbrev pub sys_fault : Program → Option FormFault

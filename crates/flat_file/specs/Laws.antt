@@ -7,7 +7,7 @@ use Rattle.omf_image.specs.Program.{Program, IsProgram}
 use Rattle.omf_image.specs.Records.{program_byte, written}
 use Rattle.omf_image.specs.Registers.{registers}
 use Rattle.flat_file.specs.Covered.{is_covered, first_covered, memory_len}
-use Rattle.flat_file.specs.Forms.{bin_bytes, com_bytes, com_fault, sys_bytes, sys_fault}
+use Rattle.flat_file.specs.Forms.{bin_bytes, com_bytes, com_fault, raw_fault, sys_bytes, sys_fault}
 use Rattle.flat_file.specs.Com.{LoadedCom, loading}
 
 -- what data covers begins at the first address that it covers, and lies in the written part
@@ -30,6 +30,16 @@ BinIsLocated =
     (layout : Layout) (modules : List Module) (program : Program) → IsProgramOf layout modules program
     → IsProgram program → (paragraph from : ℕ)
     → IsLocatedFrom paragraph from layout modules (bin_bytes paragraph from program)
+
+-- data covers no address below one, so a file from there on has all that it covers
+abbrev pub IsWholeFrom : (from : ℕ) → Layout → List Module → Type 0
+IsWholeFrom from layout modules = (address : ℕ) → IsTrue (is_covered layout modules address) → from ≤ address
+
+-- so it is of a raw image that nothing keeps from being one
+abbrev pub RawIsWhole : Type 0
+RawIsWhole =
+    (layout : Layout) (modules : List Module) (program : Program) → IsProgramOf layout modules program
+    → IsProgram program → (from : ℕ) → raw_fault from layout modules ≡ None → IsWholeFrom from layout modules
 
 -- a driver's file is the located program at each paragraph
 abbrev pub SysIsLocated : Type 0

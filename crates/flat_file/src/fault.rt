@@ -4,7 +4,7 @@ ghost use Rattle.flat_file.specs.Labels.{form_label};
 
 use thiserror::Error;
 
-/// What keeps a program from being a .COM or .SYS file.
+/// What keeps a program from being a .COM or .SYS file, or a raw image.
 #[derive(Clone, Copy, Debug, PartialEq, Eq, Error)]
 pub enum FormFault {
     /// 68: a word holds a segment address, to which the loader of an EXE file adds the paragraph.
@@ -16,8 +16,8 @@ pub enum FormFault {
     /// 70: it doesn't start at 100H of its first frame.
     #[error("it doesn't start at 100H of its first frame")]
     OtherStart,
-    /// 71: data stands below 100H, where DOS has the program segment prefix.
-    #[error("data stands below 100H")]
+    /// 71: data stands below the file's first address: of a .COM file 100H, where DOS has the program segment prefix.
+    #[error("data stands below the file's first address")]
     DataBelow,
     /// 72: it has more than 65,280 bytes from 100H on, those at its end that no data covers among them.
     #[error("it has more than 65,280 bytes from 100H on")]

@@ -1,5 +1,5 @@
 //! What a file of each form is, of the program that modules stand for.
-ghost use Rattle.flat_file.specs.Laws.{BinIsLocated, ComLoadsAsWritten, CoversWritten, SysIsLocated};
+ghost use Rattle.flat_file.specs.Laws.{BinIsLocated, ComLoadsAsWritten, CoversWritten, RawIsWhole, SysIsLocated};
 
 /// What DOS makes of the .COM file of a program, wherever its segment fits: at each address of its written part the byte
 /// of the located program at the paragraph of the program segment prefix, but for the last word of the segment, which
@@ -9,10 +9,11 @@ pub fn com_loads_as_written()
 {}
 
 /// A .BIN file at a paragraph is, byte for byte, the located program there; from the first address that data covers on
-/// it has all that data covers.
+/// it has all that data covers, and so it has from any address on from which it isn't refused.
 pub fn bin_is_located()
     ensures bytes { BinIsLocated }
     ensures covered { CoversWritten }
+    ensures whole { RawIsWhole }
 {}
 
 /// A driver's file is the located program at each paragraph.

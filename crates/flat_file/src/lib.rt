@@ -7,6 +7,7 @@ mod covered;
 mod fault;
 mod laws;
 mod loading;
+mod raw;
 mod stack;
 mod sys;
 
@@ -16,4 +17,5 @@ pub use covered::first_covered;
 pub use fault::{FlatFault, FormFault};
 pub use laws::{bin_is_located, com_loads_as_written, sys_is_located};
 pub use loading::{ComFault, LoadedCom, load_com};
+pub use raw::write_raw;
 pub use sys::write_sys;

@@ -79,6 +79,10 @@ doslink --form sys COMSTACK.OBJ|0||
 doslink --form com BEGUN.OBJ|1||doslink: link: 70 OtherStart~
 doslink --form com F.OBJ|1||doslink: link: 70 OtherStart~
 doslink --form com BELOW.OBJ|1||doslink: link: 71 DataBelow~
+wlink file BELOW.OBJ output raw offset=0x100 name q|1||doslink: link: 71 DataBelow~
+wlink file BELOW.OBJ output raw offset=0xFF name q|0||
+wlink file F.OBJ output raw offset=0x7C00 name q|1||doslink: link: 71 DataBelow~
+wlink file F.OBJ output raw name q|0||
 doslink --form com OVER.OBJ|1||doslink: link: 72 TooLong~
 doslink --form bin OVER.OBJ|0||
 doslink --form com COMED.OBJ|1||doslink: COMED.OBJ: \"f\" is missing: record 28 (0000001C), wanted by \"o.c\"~
@@ -87,7 +91,7 @@ doslink --form exe -o P.COM COMED.OBJ -l RUN|0||doslink: warning: no module has 
 ";
 
 /// Runs with a form, the path at which each writes, and all that it writes there.
-pub(crate) const FORMED: [(&str, &str, &[u8]); 12] = [
+pub(crate) const FORMED: [(&str, &str, &[u8]); 14] = [
     // three modules, two of them of a library
     (
         "doslink --form com COMED.OBJ -l RUN",
@@ -116,6 +120,16 @@ pub(crate) const FORMED: [(&str, &str, &[u8]); 12] = [
     ),
     ("wlink @RAWLINES", "P.BIN", &[0xB8, 0x00, 0x00]),
     ("wlink @WHOLELINES", "P.BIN", &[0x90]),
+    (
+        "wlink file BELOW.OBJ output raw offset=255 name P.BIN",
+        "P.BIN",
+        &[0x00, 0xC3],
+    ),
+    (
+        "wlink file BELOW.OBJ output raw offset=256 name P.COM",
+        "P.COM",
+        b"old",
+    ),
 ];
 
 /// The EXE file of `F.OBJ`.

@@ -1,6 +1,6 @@
 //! The files of programs in each form, and why there is none.
 
-use super::said::{push_bin, run};
+use super::said::{push_bin, run, run_raw};
 use omf_image::{Program, build};
 use omf_place::{Names, place};
 use rows::{read_modules, read_row, same};
@@ -177,6 +177,48 @@ A0 01 00 00 00 00
 A0 01 00 00 00 00
 8A C1 50 01 00 01
 = com: 71 DataBelow; sys: 00*2; 07C0 from 0: 00*2",
+    )
+}
+
+/// No data is left out below the address that a raw image begins at: it is refused.
+#[test]
+fn raw_images(rt: HostRuntime) -> Result<(), Fail> {
+    run_raw(
+        rt.alloc(),
+        "\
+# memory without data may lie below
+98 28 04 7C 02 01 01
+A0 01 00 7C 4B 45 50 54
+= 0: 00*31744 4B 45 50 54; 7BFF: 00 4B 45 50 54; 7C00: 4B 45 50 54; 7C01: 71 DataBelow; 100001: 71 DataBelow
+
+# data at 0, and at 7C00H
+98 28 04 7C 02 01 01
+A0 01 00 00 4C 4F 53 54
+A0 01 00 7C 4B 45 50 54
+= 0: 4C 4F 53 54 00*31740 4B 45 50 54; 7BFF: 71 DataBelow; 7C00: 71 DataBelow; 7C01: 71 DataBelow; 100001: 71 DataBelow
+
+# all of it below
+98 28 04 00 02 01 01
+A0 01 00 00 4C 4F 53 54
+= 0: 4C 4F 53 54; 7BFF: 71 DataBelow; 7C00: 71 DataBelow; 7C01: 71 DataBelow; 100001: 71 DataBelow
+
+# a byte 00 is data
+98 28 04 7C 02 01 01
+A0 01 FF 7B 00
+= 0: 00*31744; 7BFF: 00; 7C00: 71 DataBelow; 7C01: 71 DataBelow; 100001: 71 DataBelow
+
+# data of a second module
+98 28 00 7C 02 01 01
+--
+98 28 01 00 02 01 01
+A0 01 00 00 C3
+= 0: 00*31744 C3; 7BFF: 00 C3; 7C00: C3; 7C01: 71 DataBelow; 100001: 71 DataBelow
+
+# memory alone, and data that is repeated no time
+98 28 04 7C 02 01 01
+A2 01 00 00 00 00 00 00 01 41
+= 0:; 7BFF:; 7C00:; 7C01:; 100001:",
+        &[0, 0x7BFF, 0x7C00, 0x7C01, 0x10_0001],
     )
 }
 

@@ -2,7 +2,7 @@
 
 ghost use Rattle.omf_place.specs.Bounded.{IsBounded};
 
-use flat_file::{FlatFault, first_covered, write_bin, write_com, write_sys};
+use flat_file::{FlatFault, first_covered, write_bin, write_com, write_raw, write_sys};
 use omf_frame::{IoFault, MemSink};
 use omf_image::{Program, build};
 use omf_module::Module;
@@ -110,36 +110,96 @@ fn forms<A: Allocator + Copy>(
     Ok(text)
 }
 
-fn built(alloc: Global, modules: &[Module], layout: &Layout) -> Result<String, AllocError>
+/// Appends the raw image at paragraph 0 from an address on, or the fault.
+fn push_raw<A: Allocator + Copy>(
+    alloc: Global,
+    text: &mut String,
+    modules: &[Module<A>],
+    layout: &Layout<A>,
+    program: &Program<A>,
+    from: u32,
+) -> Result<(), AllocError>
+    requires { IsBounded modules.now layout.now }
+{
+    let mut bytes = room(alloc, ROOM)?;
+    let mut sink = MemSink::over(&mut bytes, PIECE);
+    let answer = write_raw(modules, layout, program, 0, from, &mut sink);
+    if !text.is_empty() {
+        text.push_str("; ")?;
+    }
+    write!(text, "{from:X}:")?;
+    push_answer(text, answer, sink.written())
+}
+
+/// The raw images of a program from each of these addresses on.
+fn raws<A: Allocator + Copy>(
+    alloc: Global,
+    modules: &[Module<A>],
+    layout: &Layout<A>,
+    program: &Program<A>,
+    addresses: &[u32],
+) -> Result<String, AllocError>
+    requires { IsBounded modules.now layout.now }
+{
+    let mut text = String::new(alloc);
+    for from in addresses {
+        push_raw(alloc, &mut text, modules, layout, program, *from)?;
+    }
+    Ok(text)
+}
+
+fn built(
+    alloc: Global,
+    modules: &[Module],
+    layout: &Layout,
+    addresses: &[u32],
+) -> Result<String, AllocError>
     requires { IsBounded modules.now layout.now }
 {
     match build(alloc, modules, layout) {
-        Ok(program) => forms(alloc, modules, layout, &program),
+        Ok(program) => {
+            if addresses.is_empty() {
+                forms(alloc, modules, layout, &program)
+            } else {
+                raws(alloc, modules, layout, &program, addresses)
+            }
+        }
         Err(fault) => format!(in alloc; "{fault}"),
     }
 }
 
-fn placed(alloc: Global, modules: &[Module]) -> Result<String, AllocError> {
+fn placed(alloc: Global, modules: &[Module], addresses: &[u32]) -> Result<String, AllocError> {
     match place(alloc, modules, Names::Exact) {
-        Ok(layout) => built(alloc, modules, &layout),
+        Ok(layout) => built(alloc, modules, &layout, addresses),
         Err(fault) => format!(in alloc; "{fault}"),
     }
 }
 
 /// What is said of the program that inputs give, or why they give none.
-fn outcome(alloc: Global, inputs: &[Vec<u8>]) -> Result<String, AllocError> {
+fn outcome(alloc: Global, inputs: &[Vec<u8>], addresses: &[u32]) -> Result<String, AllocError> {
     match read_modules(alloc, inputs) {
-        Ok(modules) => placed(alloc, &modules),
+        Ok(modules) => placed(alloc, &modules, addresses),
         Err(fault) => format!(in alloc; "{fault}"),
     }
 }
 
-/// The inputs of each row of a table give what is wanted of them.
-pub fn run(alloc: Global, table: &str) -> Result<(), Fail> {
+/// The inputs of each row of a table give what is wanted of them: each form, or the raw images from addresses on where
+/// some are given.
+fn run_of(alloc: Global, table: &str, addresses: &[u32]) -> Result<(), Fail> {
     for row in table.split("\n\n") {
         let row = read_row(alloc, row)?;
-        let said = outcome(alloc, &row.inputs)?;
+        let said = outcome(alloc, &row.inputs, addresses)?;
         same(said.as_str(), row.wanted)?;
     }
     Ok(())
+}
+
+/// The inputs of each row of a table give the files that are wanted of them.
+pub fn run(alloc: Global, table: &str) -> Result<(), Fail> {
+    run_of(alloc, table, &[])
+}
+
+/// The inputs of each row of a table give the raw images that are wanted of them, from these addresses on.
+pub fn run_raw(alloc: Global, table: &str, addresses: &[u32]) -> Result<(), Fail> {
+    run_of(alloc, table, addresses)
 }

@@ -20,7 +20,8 @@ pub returns-in-Raw : goal.returns-in-Raw
 returns-in-Raw g c names modules linked =
     subst (λ f. Forms (λ file. file.items) (Some f) names modules c.args.report.now c.raw_file.result) (sym c.in-Raw.is)
     (as_raw names modules c.args.report.now c.args.exe.items linked c.size-size.ensures.limits (λ file. file.items)
-    c.in-Raw.paragraph c.in-Raw.from c.bin_is_located.ensures.bytes c.raw_file.result c.raw_file.ensures)
+    c.in-Raw.paragraph c.in-Raw.from c.bin_is_located.ensures.bytes c.bin_is_located.ensures.whole c.raw_file.result
+    c.raw_file.ensures)
 
 pub returns-in-Driver : goal.returns-in-Driver
 returns-in-Driver g c names modules linked =

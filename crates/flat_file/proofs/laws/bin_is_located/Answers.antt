@@ -7,3 +7,6 @@ returns-clause-bytes c = λ layout modules p of is P from. locating.bin_is_locat
 
 pub returns-clause-covered : goal.returns-clause-covered
 returns-clause-covered c = λ layout modules p of a h. lies_around layout modules p of a h
+
+pub returns-clause-whole : goal.returns-clause-whole
+returns-clause-whole c = λ layout modules p of is from none. locating.raw_is_whole layout modules p of is from none
