@@ -34,8 +34,8 @@ OTHER_FORMS = {
 EXE_FORM = ("--form exe", "format dos exe")
 # the option that says it in a line
 COM_OPTION = {lines.LINK: "/T", lines.TLINK: "/t"}
-# standard output as OUT or MAP
-STANDARD_OUTPUT = "-"
+# standard output as OUT or MAP, and a path that leads to it
+STANDARD_OUTPUT, OUTPUT_PATH = "-", "/dev/stdout"
 MARKS = [*ordering.BEGIN_MARKS, *ordering.END_MARKS]
 # the statuses where the job is at fault, and where what is asked for is wrong
 INPUT, WRONG_WORDS, NO_DEVICE = 1, 2, 3
@@ -158,6 +158,11 @@ def why_unread(paths, files):
         if is_folder(path):
             return "it is a folder"
     return "no such file"
+
+
+def looked_path(path):
+    """The path that is looked at for what stands at one that is written."""
+    return OUTPUT_PATH if path == STANDARD_OUTPUT else path
 
 
 class Linking:
@@ -331,7 +336,7 @@ class Linking:
         """The paths of the program and of the map, or None.
 
         Neither may be a file that is read, however it is spelled, nor one that begins as a module or
-        a library does, nor both one.
+        a library does, nor both one. So it is with the list of what is linked, on standard output.
         """
         out = self.job.out
         if out is None:
@@ -342,18 +347,27 @@ class Linking:
         self.check_place(out)
         if map_path is not None:
             self.check_place(map_path)
-            if self.place(map_path) == self.place(out):
-                raise Stop(WRONG_WORDS, faults.WRITTEN_TWICE, [
-                    f"{map_path}: it would be the program and its map"])
+            self.check_apart(map_path, out, "the program and its map")
+        if self.job.is_verbose:
+            self.check_place(STANDARD_OUTPUT)
+            for path, what in ((out, "program"), (map_path, "map")):
+                if path is not None:
+                    self.check_apart(path, STANDARD_OUTPUT, f"the {what} and the list of what is linked")
         return out, map_path
+
+    def check_apart(self, path, other, what):
+        """What is written to two paths is written to two files."""
+        if self.place(looked_path(path)) == self.place(looked_path(other)):
+            raise Stop(WRONG_WORDS, faults.WRITTEN_TWICE, [f"{path}: it would be {what}"])
 
     def check_place(self, path):
         """A file that is written is none that is read, and no module or library at all."""
         read = [*self.also_read, *self.read_paths()]
-        if self.place(path) in map(self.place, read):
+        looked = looked_path(path)
+        if self.place(looked) in map(self.place, read):
             raise Stop(WRONG_WORDS, faults.READ_AND_WRITTEN, [
                 f"{path}: it is read and would be written"])
-        if libraries.begins_as_input(self.files.get(path) or b""):
+        if libraries.begins_as_input(self.files.get(looked) or b""):
             raise Stop(WRONG_WORDS, faults.MODULE_WRITTEN, [
                 f"{path}: it is a module or a library and would be written"])
 

@@ -75,6 +75,10 @@ map_path job = map_beside (out_path job) job.map
 abbrev pub is_output : Text → Bool
 is_output path = bytes_eq path (codes "-")
 
+-- the path that is looked at for what stands at a path that is written: standard output is what /dev/stdout leads to
+abbrev pub looked_path : Text → Text
+looked_path path = if is_output path then codes "/dev/stdout" else path
+
 -- so is that of a map
 abbrev pub is_map_output : MapFile → Bool
 is_map_output (At path) = is_output path.now

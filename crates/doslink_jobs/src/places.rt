@@ -1,8 +1,8 @@
 //! Where the program and its map are written.
-ghost use Rattle.std.specs.Prelude.{◌≡◌, IfErr, IfOk, IfSome, MatchResult, false, is_some, string_bytes, true};
+ghost use Rattle.std.specs.Prelude.{◌≡◌, IfErr, IfOk, MatchResult, false, is_some, string_bytes, true};
 ghost use Rattle.std.specs.Option.{option_map, option_map_or, option_or};
 ghost use Rattle.doslink_jobs.specs.Places as spec;
-ghost use Rattle.doslink_files.specs.Standing.{has_file, is_one_place as is_place};
+ghost use Rattle.doslink_files.specs.Standing.{has_file};
 ghost use Rattle.doslink_jobs.specs.Wrong as wrong;
 ghost use Rattle.doslink_jobs.specs.inside.Stops.{IsWords, OnHalt};
 
@@ -256,6 +256,13 @@ pub(crate) fn check_output<A: Allocator + Copy>(
     }
 }
 
+/// The path that is looked at for what stands at a path that is written: that which leads to standard output, for it.
+fn looked_path(path: &str) -> &str
+    ensures { result.now ≡ spec.looked_path path.now }
+{
+    if is_output(path) { "/dev/stdout" } else { path }
+}
+
 /// Stops where a path leads to one of the files that were read, or to a module or a library.
 fn check_place<W: World, A: Allocator + Copy>(
     world: &W,
@@ -266,11 +273,31 @@ fn check_place<W: World, A: Allocator + Copy>(
     ensures { IfErr result (λ why. OnHalt why ⊥
         (wrong.IsOver (W.bytes world.now) (W.looks world.now) (has_file read.now) path.now)) }
 {
-    if is_one_of(world, path, read) {
+    let looked = looked_path(path);
+    if is_one_of(world, looked, read) {
         return Err(stop_at_path(path, "it is read and would be written", lines));
     }
-    if stands_as_input(world, path) {
+    if stands_as_input(world, looked) {
         let why = "it is a module or a library and would be written";
+        return Err(stop_at_path(path, why, lines));
+    }
+    Ok(())
+}
+
+/// Stops, and tells why, where what is written to two paths would be one file.
+fn check_apart<W: World, A: Allocator + Copy>(
+    world: &W,
+    path: &str,
+    other: &str,
+    why: &str,
+    lines: &mut Vec<u8, A>,
+) -> Result<(), Halt>
+    ensures { MatchResult result (λ done. wrong.AreTwo (W.looks world.now) path.now other.now)
+        (λ halt. OnHalt halt ⊥ (wrong.AreOne (W.looks world.now) path.now other.now)) }
+{
+    let first = looked_path(path);
+    let second = looked_path(other);
+    if is_one_place(world, first, second) {
         return Err(stop_at_path(path, why, lines));
     }
     Ok(())
@@ -284,29 +311,26 @@ fn check_map<W: World, A: Allocator + Copy>(
     read: &BTreeSet<FileId, A>,
     lines: &mut Vec<u8, A>,
 ) -> Result<(), Halt>
-    ensures { MatchResult result
-        (λ done. IfSome (W.looks world.now) (λ look. is_place look map.now out.now ≡ false))
+    ensures { MatchResult result (λ done. wrong.AreTwo (W.looks world.now) map.now out.now)
         (λ why. OnHalt why ⊥
         (wrong.IsMapOver (W.bytes world.now) (W.looks world.now) (has_file read.now) out.now map.now)) }
 {
     check_place(world, map, read, lines)?;
-    if is_one_place(world, map, out) {
-        return Err(stop_at_path(map, "it would be the program and its map", lines));
-    }
-    Ok(())
+    let why = "it would be the program and its map";
+    check_apart(world, map, out, why, lines)
 }
 
-/// Stops where what would be written would stand in the place of something else, or the map in that of the program.
-fn check_places<W: World, A: Allocator + Copy>(
+/// Stops where the program or its map would stand in the place of something else, or the map in that of the program.
+fn check_files<W: World, A: Allocator + Copy>(
     world: &W,
     places: &Places<A>,
     read: &BTreeSet<FileId, A>,
     lines: &mut Vec<u8, A>,
 ) -> Result<(), Halt>
     ensures { MatchResult result
-        (λ done. wrong.AreApart (W.looks world.now) (string_bytes places.now.out)
+        (λ done. wrong.FilesApart (W.looks world.now) (string_bytes places.now.out)
         (option_map string_bytes places.now.map))
-        (λ why. OnHalt why ⊥ (wrong.WritesOver (W.bytes world.now) (W.looks world.now) (has_file read.now)
+        (λ why. OnHalt why ⊥ (wrong.FilesOver (W.bytes world.now) (W.looks world.now) (has_file read.now)
         (string_bytes places.now.out) (option_map string_bytes places.now.map))) }
 {
     let out = places.out.as_str();
@@ -317,8 +341,69 @@ fn check_places<W: World, A: Allocator + Copy>(
     }
 }
 
-/// The paths of what a job writes. None of them may be one of the files that were read, or a module or a library, and
-/// the map not the program.
+/// Stops where the list of what is linked would be one file with the program or with its map.
+fn check_list_apart<W: World, A: Allocator + Copy>(
+    world: &W,
+    places: &Places<A>,
+    lines: &mut Vec<u8, A>,
+) -> Result<(), Halt>
+    ensures { MatchResult result
+        (λ done. wrong.IsListApart (W.looks world.now) (string_bytes places.now.out)
+        (option_map string_bytes places.now.map))
+        (λ why. OnHalt why ⊥ (wrong.IsListOne (W.looks world.now)
+        (string_bytes places.now.out) (option_map string_bytes places.now.map))) }
+{
+    let program = "it would be the program and the list of what is linked";
+    check_apart(world, places.out.as_str(), "-", program, lines)?;
+    match &places.map {
+        Some(map) => {
+            let why = "it would be the map and the list of what is linked";
+            check_apart(world, map.as_str(), "-", why, lines)
+        }
+        None => Ok(()),
+    }
+}
+
+/// Stops where the list of what is linked would stand in the place of something else, or of the program or its map.
+fn check_list<W: World, A: Allocator + Copy>(
+    world: &W,
+    places: &Places<A>,
+    read: &BTreeSet<FileId, A>,
+    lines: &mut Vec<u8, A>,
+) -> Result<(), Halt>
+    ensures { MatchResult result
+        (λ done. wrong.IsListApart (W.looks world.now) (string_bytes places.now.out)
+        (option_map string_bytes places.now.map))
+        (λ why. OnHalt why ⊥ (wrong.IsListOver (W.bytes world.now) (W.looks world.now) (has_file read.now)
+        (string_bytes places.now.out) (option_map string_bytes places.now.map))) }
+{
+    check_place(world, "-", read, lines)?;
+    check_list_apart(world, places, lines)
+}
+
+/// Stops where what would be written would stand in the place of something else, or two of them in one file.
+fn check_places<W: World, A: Allocator + Copy>(
+    world: &W,
+    places: &Places<A>,
+    lists: bool,
+    read: &BTreeSet<FileId, A>,
+    lines: &mut Vec<u8, A>,
+) -> Result<(), Halt>
+    ensures { MatchResult result
+        (λ done. wrong.AreApart (W.looks world.now) lists (string_bytes places.now.out)
+        (option_map string_bytes places.now.map))
+        (λ why. OnHalt why ⊥ (wrong.WritesOver (W.bytes world.now) (W.looks world.now) (has_file read.now) lists
+        (string_bytes places.now.out) (option_map string_bytes places.now.map))) }
+{
+    check_files(world, places, read, lines)?;
+    if lists {
+        return check_list(world, places, read, lines);
+    }
+    Ok(())
+}
+
+/// The paths of what a job writes. None of them may be one of the files that were read, or a module or a library, nor
+/// two of them one, with the list of what is linked where that is asked for.
 pub(crate) fn places_of<W: World, A: Allocator + Copy>(
     alloc: A,
     world: &W,
@@ -328,13 +413,13 @@ pub(crate) fn places_of<W: World, A: Allocator + Copy>(
 ) -> Result<Places<A>, Halt>
     ensures { MatchResult result (λ places. (string_bytes places.out ≡ spec.out_path job.now)
         × (option_map string_bytes places.map ≡ spec.map_path job.now)
-        × wrong.AreApart (W.looks world.now) (spec.out_path job.now) (spec.map_path job.now))
+        × wrong.AreApart (W.looks world.now) job.now.verbose (spec.out_path job.now) (spec.map_path job.now))
         (λ why. OnHalt why ⊥ (wrong.WritesOver (W.bytes world.now) (W.looks world.now) (has_file read.now)
-        (spec.out_path job.now) (spec.map_path job.now))) }
+        job.now.verbose (spec.out_path job.now) (spec.map_path job.now))) }
 {
     let out = out_path(alloc, job)?;
     let map = map_path(alloc, job.map, out.as_str())?;
     let places = Places { out, map };
-    check_places(world, &places, read, lines)?;
+    check_places(world, &places, job.verbose, read, lines)?;
     Ok(places)
 }

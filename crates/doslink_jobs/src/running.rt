@@ -126,13 +126,13 @@ fn link_gathered<W: World + Copy, O: Write + Drop, A: Allocator + Copy>(
     requires { sink_failures output.old ≡ 0 }
     ensures { (rounds : List (List (List ℕ))) → Searched (names_of job.now.ignore_case) rounds gathered.now.stock
         → MatchResult result
-        (λ done. AreApart (W.looks world) (out_path job.now) (map_path job.now) × IsLinkOf A job.now
+        (λ done. AreApart (W.looks world) job.now.verbose (out_path job.now) (map_path job.now) × IsLinkOf A job.now
         (IsWritten A job.now (StandsAt (W.blank world) (W.Puts world)) (out_path job.now) (map_path job.now)
         (names_of job.now.ignore_case))
         (Takes (names_of job.now.ignore_case) rounds))
         (λ why. OnHalt why (IsRefusedOf A job.now (Takes (names_of job.now.ignore_case) rounds))
-        (WritesOver (W.bytes world) (W.looks world) (has_file gathered.now.read) (out_path job.now)
-        (map_path job.now))) }
+        (WritesOver (W.bytes world) (W.looks world) (has_file gathered.now.read) job.now.verbose
+        (out_path job.now) (map_path job.now))) }
 {
     let places = places_of(alloc, &world, job, &gathered.read, lines)?;
     let handed = gathered.stock.handed(alloc)?;
@@ -170,7 +170,7 @@ fn do_job<W: World + Copy, O: Write + Drop, A: Allocator + Copy>(
 ) -> Result<(), Halt>
     requires { sink_failures output.old ≡ 0 }
     ensures { MatchResult result
-        (λ done. IsNamedWell job.now × AreApart (W.looks world) (out_path job.now) (map_path job.now)
+        (λ done. IsNamedWell job.now × AreApart (W.looks world) job.now.verbose (out_path job.now) (map_path job.now)
         × IsDone A (W.bytes world) (StandsAt (W.blank world) (W.Puts world)) (texts besides.now.folders.now) job.now)
         (λ why. OnHalt why
         (IsNamedWell job.now × IsRefusedJob A (W.bytes world) (texts besides.now.folders.now) job.now)

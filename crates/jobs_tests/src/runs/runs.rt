@@ -66,6 +66,7 @@ fn told_of(alloc: Global, words: &str, done: Done, lacking: bool) -> Result<Vec<
 /// Puts the texts of the world behind its modules, and what is made of others.
 fn put_others<'a>(files: &mut Vec<(&'a str, &'a [u8])>) -> Result<(), AllocError> {
     files.extend_from_slice(&[
+        ("OUTPUT", b""),
         ("WRONG", WRONG.as_bytes()),
         ("CUT.LIB", &LIBRARY.as_slice()[..CUT]),
         ("WORDS", RESPONSE.as_bytes()),
@@ -121,6 +122,7 @@ fn run_with(alloc: Global, front: Front<'_>, row: &str, path: &str) -> Result<Do
             ("./HAS.LIB", "HAS.LIB"),
             ("LINK.EXE", "F.OBJ"),
             ("LINKED.CFG", "TLINK.CFG"),
+            ("/dev/stdout", "OUTPUT"),
         ],
         out: &out,
         map: &map,

@@ -230,6 +230,15 @@ doslink -v -o - -m - A.OBJ F.OBJ|2||doslink: -: it would be the program and the 
 doslink -o - -m - A.OBJ F.OBJ|2||doslink: -: it would be the program and its map~
 doslink -o - A.OBJ F.OBJ|0||
 doslink -m - A.OBJ F.OBJ|0||
+doslink -o /dev/stdout -m - A.OBJ F.OBJ|2||doslink: -: it would be the program and its map~
+doslink -o OUTPUT -m - A.OBJ F.OBJ|2||doslink: -: it would be the program and its map~
+doslink -o - -m OUTPUT A.OBJ F.OBJ|2||doslink: OUTPUT: it would be the program and its map~
+doslink -v -o /dev/stdout A.OBJ F.OBJ|2||doslink: /dev/stdout: it would be the program and the list of what is linked~
+doslink -v -o OUTPUT A.OBJ F.OBJ|2||doslink: OUTPUT: it would be the program and the list of what is linked~
+doslink -v -m OUTPUT A.OBJ F.OBJ|2||doslink: OUTPUT: it would be the map and the list of what is linked~
+doslink -o - A.OBJ F.OBJ @OUTPUT|2||doslink: -: it is read and would be written~
+doslink -m - A.OBJ F.OBJ @OUTPUT|2||doslink: -: it is read and would be written~
+doslink -v A.OBJ F.OBJ @OUTPUT|2||doslink: -: it is read and would be written~
 doslink -o LINK.EXE A.OBJ F.OBJ|2||doslink: LINK.EXE: it is read and would be written~
 doslink -m D.OBJ A.OBJ F.OBJ|2||doslink: D.OBJ: it is a module or a library and would be written~
 doslink OUTSIDE.OBJ|1||doslink: OUTSIDE.OBJ: 11 SegmentIndex at record 17~
