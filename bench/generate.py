@@ -405,6 +405,15 @@ def absent_libraries(count):
     return Inputs(main.modules, main.size, main.relocations)
 
 
+def left_out_libraries(count):
+    """A module that names libraries, of which none is there, and a line of LINK that leaves each out by its name."""
+    texts = [f"ABSENT{number}" for number in range(count)]
+    main = renaming_module("_main", ["_main"], naming_libraries(texts))
+    line = "main.obj" + "".join(f" /NOD:{text}" for text in texts) + ",OUT.EXE,NUL;\n"
+    files = {"main.obj": main.modules[0], "left.rsp": line.encode()}
+    return Inputs([], main.size, main.relocations, files=files, line=("--as", "link", "@left.rsp"))
+
+
 def spellings_of_this_folder(count):
     """Paths that lead to the folder that a program runs in, no two alike and each as long as the others."""
     return ["".join("./" if number >> bit & 1 else ".//" for bit in range(13)) for number in range(count)]

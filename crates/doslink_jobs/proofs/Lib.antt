@@ -25,4 +25,5 @@ mod Splitting
 mod Warning
 pub mod Stacked
 pub mod Starting
+pub mod Stems
 pub mod Texts

@@ -18,7 +18,7 @@ ghost use Rattle.doslink_jobs.specs.Refusals.{HasFaultyLibrary};
 ghost use Rattle.doslink_jobs.specs.inside.Absent.{AreAbsentBehind, AreAbsentTold, AreLookedUp, absent_warning};
 ghost use Rattle.doslink_jobs.specs.inside.Absent.{absent_warnings, library_said, new_bytes, outcome_of};
 ghost use Rattle.doslink_jobs.specs.inside.Gathering.{AddsFaulty, AddsRounds, AreAsked, AreAskedBy, AreNamed, Holds};
-ghost use Rattle.doslink_jobs.specs.inside.Gathering.{IsFaultyJob, IsGathered};
+ghost use Rattle.doslink_jobs.specs.inside.Gathering.{AreStemsOf, IsFaultyJob, IsGathered, folded_stem};
 ghost use Rattle.doslink_jobs.specs.inside.Stops.{OnInput};
 
 use crate::inputs::options_of;
@@ -57,6 +57,9 @@ struct DefaultLibrary<'f, A: Allocator + Copy> {
     name: &'f [u8],
     word: Vec<u8, A>,
 }
+
+/// What libraries are told from others by.
+type Stems<A> = BTreeSet<Vec<u8, A>, A>;
 
 /// What a job names, as it is sought.
 fn sought_of<'a>(input: &Input<'a>) -> Sought<'a>
@@ -353,28 +356,56 @@ fn library_stem(name: &[u8]) -> &[u8]
     }
 }
 
-/// Whether a library is one of those that are left out, by its name: without regard to case, with `.LIB` or without.
-fn is_left_out(left_out: &[&str], name: &[u8]) -> bool
-    ensures { result ≡ done.is_left_out (texts left_out.now) name.now }
+/// The stem of a library in small letters: what of its name tells it from others.
+fn folded_stem<A: Allocator + Copy>(alloc: A, name: &[u8]) -> Result<Vec<u8, A>, AllocError>
+    ensures { IfOk result (λ stem. stem.items ≡ folded_stem name.now) }
 {
-    for other in left_out {
-        if is_named(library_stem(other.as_bytes()), library_stem(name)) {
-            return true;
-        }
+    let mut stem = Vec::from_slice(alloc, library_stem(name))?;
+    stem.as_mut_slice().make_ascii_lowercase();
+    Ok(stem)
+}
+
+/// What these names of libraries are told from others by.
+fn stems_of<A: Allocator + Copy>(alloc: A, names: &[&str]) -> Result<Stems<A>, AllocError>
+    ensures { IfOk result (AreStemsOf (texts names.now)) }
+{
+    let mut stems = BTreeSet::new(alloc);
+    for name in names {
+        let stem = folded_stem(alloc, name.as_bytes())?;
+        stems.insert(stem)?;
     }
-    false
+    Ok(stems)
+}
+
+/// Whether a library is one of those that are left out, by its name: without regard to case, with `.LIB` or without.
+fn is_left_out<A: Allocator + Copy>(
+    alloc: A,
+    left_out: &Stems<A>,
+    name: &[u8],
+) -> Result<bool, AllocError>
+    ensures { IfOk result (λ out. (names : List Text) → AreStemsOf names left_out.now
+        → out ≡ done.is_left_out names name.now) }
+{
+    let stem = folded_stem(alloc, name)?;
+    Ok(left_out.contains(&stem))
 }
 
 /// Those of these default libraries that aren't left out.
 fn without<'f, A: Allocator + Copy>(
-    mut libraries: Vec<DefaultLibrary<'f, A>, A>,
-    left_out: &[&str],
-) -> Vec<DefaultLibrary<'f, A>, A>
-    ensures { result.items
-        ≡ filter (λ l. not (done.is_left_out (texts left_out.now) l.name.now)) libraries.entry.items }
+    alloc: A,
+    libraries: Vec<DefaultLibrary<'f, A>, A>,
+    left_out: &Stems<A>,
+) -> Result<Vec<DefaultLibrary<'f, A>, A>, AllocError>
+    ensures { IfOk result (λ kept. (names : List Text) → AreStemsOf names left_out.now → kept.items
+        ≡ filter (λ l. not (done.is_left_out names l.name.now)) libraries.entry.items) }
 {
-    libraries.retain(|library| !is_left_out(left_out, library.name));
-    libraries
+    let mut kept = Vec::new(alloc);
+    for library in libraries {
+        if !is_left_out(alloc, left_out, library.name)? {
+            kept.push(library)?;
+        }
+    }
+    Ok(kept)
 }
 
 /// The default libraries that modules name which were taken behind so many, each once, but for those that are left
@@ -383,15 +414,16 @@ fn asked_now<'f, A: Allocator + Copy>(
     alloc: A,
     gathered: &Gathered<'f, A>,
     before: usize,
-    left_out: &[&str],
+    left_out: &Stems<A>,
     asked: &mut BTreeSet<&'f [u8], A>,
 ) -> Result<(Vec<DefaultLibrary<'f, A>, A>, usize), AllocError>
-    ensures { IfOk result (λ r. (names : agreeing.Names) (rounds : List (List (List ℕ)))
-        → Searched names rounds gathered.now.stock → AreAskedBy (texts left_out.now) names rounds r.0.items) }
+    ensures { IfOk result (λ r. (out : List Text) (names : agreeing.Names) (rounds : List (List (List ℕ)))
+        → AreStemsOf out left_out.now → Searched names rounds gathered.now.stock
+        → AreAskedBy out names rounds r.0.items) }
 {
     let taken = gathered.stock.handed_from(alloc, before)?;
     let named = names_of(alloc, &gathered.paths, &taken, asked)?;
-    let libraries = without(named, left_out);
+    let libraries = without(alloc, named, left_out)?;
     Ok((libraries, before.saturating_add(taken.len())))
 }
 
@@ -426,10 +458,11 @@ fn add_defaults<'f, W: World, A: Allocator + Copy>(
         names before gathered.new (map library_said absent.old.items) (map library_said absent.new.items)) }
     ensures kept { OnOk result (lines.new.items ≡ lines.old.items) }
 {
+    let left_out = stems_of(alloc, how.left_out)?;
     let mut asked = BTreeSet::new(alloc);
     let mut before = 0;
     'rounds: for _ in 0..MOST_ROUNDS {
-        let (libraries, now) = asked_now(alloc, gathered, before, how.left_out, &mut asked)?;
+        let (libraries, now) = asked_now(alloc, gathered, before, &left_out, &mut asked)?;
         let known = &mut gathered.read;
         let round = find_round(alloc, world, how.folders, &libraries, known, absent, lines)?;
         if round.is_empty() {

@@ -1,5 +1,7 @@
 -- The rounds in which the files of a job are searched, as they are gathered.
-use Rattle.std.specs.Prelude.{◌≡◌, ℕ, All, List, ◌++◌}
+use Rattle.std.specs.Prelude.{◌≡◌, ℕ, All, List, Vec, ◌++◌, map}
+use Rattle.std.specs.Char.{to_ascii_lowercase}
+use Rattle.std.specs.BTreeSet.{BTreeSet}
 use Rattle.std.specs.declared.option.Option.{Option}
 use Rattle.clap.specs.Words.{Text}
 use Rattle.omf_place.specs.declared.names.Names.{Names}
@@ -7,11 +9,20 @@ use Rattle.doslink_link.specs.Linking.{bytes_of}
 use Rattle.doslink_stock.specs.Files.{Held}
 use Rattle.doslink_stock.specs.Search.{Takes, all_files}
 use Rattle.doslink_stock.specs.Searched.{Searched}
+use Rattle.doslink_telling.specs.inside.Tables.{IsSetOf}
 use Rattle.doslink_words.specs.declared.job.Job.{Job}
 use Rattle.doslink_jobs.specs.declared.gathering.DefaultLibrary.{DefaultLibrary}
 use Rattle.doslink_jobs.specs.declared.gathering.Gathered.{Gathered}
-use Rattle.doslink_jobs.specs.Jobs.{AreFilesOf, AreRounds, IsAskedBy, IsNamedBy, names_of}
+use Rattle.doslink_jobs.specs.Jobs.{AreFilesOf, AreRounds, IsAskedBy, IsNamedBy, library_stem, names_of}
 use Rattle.doslink_jobs.specs.Refusals.{HasFaultyLibrary}
+
+-- what of a library's name tells it from others: its stem in small letters
+abbrev pub folded_stem : (name : Text) → Text
+folded_stem name = map to_ascii_lowercase (library_stem name)
+
+-- a set has this of each of these names
+abbrev pub AreStemsOf : {A : Type 0} → (names : List Text) → BTreeSet (Vec ℕ A) → Type 0
+AreStemsOf names stems = IsSetOf (map folded_stem names) stems
 
 -- modules name each of these default libraries
 abbrev pub AreNamed : {A : Type 0} → (modules : List Held) → List (DefaultLibrary A) → Type 0

@@ -30,10 +30,11 @@ rounds-preserved g c =
     let told = g.W.World.bytes c.args.world.now in
     let folders = texts c.args.how.folders.now in
     let left_out = texts c.args.how.left_out.now in
+    let stems = c.in_ok-left_out.ensures in
     let files = contents c.in_ok-round.round.items in record {
       files = λ names before holds.
           let (more, are, held) = c.rounds.invariant.files names before holds in
-          let (modules, takes, asked) = c.in_ok-libraries.ensures names (before ++ more) held.0 in
+          let (modules, takes, asked) = c.in_ok-libraries.ensures left_out names (before ++ more) stems held.0 in
           let defaults = c.in_ok-round.ensures.files left_out modules
           (subst (AreAsked left_out modules) (sym c.deref.ensures.value) asked) in (
             more ++ files ∷ [],
@@ -45,7 +46,7 @@ rounds-preserved g c =
           let was = c.rounds.invariant.absent names before holds in
           let rounds = all_rounds before was.lookups in
           let looked = c.in_ok-round.ensures.absent in
-          let (modules, takes, asked) = c.in_ok-libraries.ensures names rounds was.holds.0 in
+          let (modules, takes, asked) = c.in_ok-libraries.ensures left_out names rounds stems was.holds.0 in
           let full : 0 < vec_len c.in_ok-round.round = some-length _ _ c.is_empty.ensures c.if-is_empty.false in
           let some : 0 < length files = omega
           (arith, length-contents c.in_ok-round.round.items, c.in_ok-round.round.ok.0) in
@@ -69,11 +70,12 @@ returns-then-is_empty-clause-absent g c =
     let told = g.W.World.bytes c.args.world.now in
     let folders = texts c.args.how.folders.now in
     let left_out = texts c.args.how.left_out.now in
+    let stems = c.in_ok-left_out.ensures in
     let files = contents c.in_ok-round.round.items in
     let was = c.rounds.invariant.absent names before holds in
     let rounds = all_rounds before was.lookups in
     let looked = c.in_ok-round.ensures.absent in
-    let (modules, takes, asked) = c.in_ok-libraries.ensures names rounds was.holds.0 in
+    let (modules, takes, asked) = c.in_ok-libraries.ensures left_out names rounds stems was.holds.0 in
     let empty : vec_len c.in_ok-round.round ≡ 0 = eqb-true _ 0 (sym c.is_empty.ensures ∙ c.if-is_empty.true) in
     let none : length files ≡ 0 = omega (arith, length-contents c.in_ok-round.round.items, c.in_ok-round.round.ok.0) in
     record {
@@ -94,8 +96,9 @@ returns-in_err-add_round-clause-files g c =
     let told = g.W.World.bytes c.args.world.now in
     let folders = texts c.args.how.folders.now in
     let left_out = texts c.args.how.left_out.now in
+    let stems = c.in_ok-left_out.ensures in
     let (more, are, held) = c.rounds.invariant.files names before holds in
-    let (modules, takes, asked) = c.in_ok-libraries.ensures names (before ++ more) held.0 in
+    let (modules, takes, asked) = c.in_ok-libraries.ensures left_out names (before ++ more) stems held.0 in
     let files = contents c.in_ok-round.round.items in
     let defaults = c.in_ok-round.ensures.files left_out modules
     (subst (AreAsked left_out modules) (sym c.deref.ensures.value) asked) in
